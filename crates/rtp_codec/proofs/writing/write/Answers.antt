@@ -1,0 +1,5 @@
+use Rattle.std.proofs.Common.{append_assoc, refl}
+use Rattle.rtp_codec.proofs.writing.write.Goals as goal
+
+pub returns-clause-ok : goal.returns-clause-ok
+returns-clause-ok g c = simp (c.append-2.ensures.items, c.append_numbers.ensures.items, c.append.ensures.items, c.in_ok-reserve.ensures.items, c.fixed_header.ensures, append_assoc) refl

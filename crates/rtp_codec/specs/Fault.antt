@@ -1,0 +1,52 @@
+-- Why a datagram is no RTP packet: the cases, and which is told (RFC 3550 section 5.1).
+use Rattle.std.specs.Prelude.{ℕ, ◌+◌, ◌-◌, ◌*◌, ◌/◌, ◌%◌, ◌==◌, nat_lt, Bool, not, ◌&&◌, ◌||◌, if◌then◌else◌, List, length, take, drop, slice_index, Option, Some, None}
+use Rattle.std.specs.Int.{w16, from_be_bytes}
+use Rattle.rtp_codec.specs.declared.fault.RtpFault.{RtpFault}
+use Rattle.rtp_codec.specs.declared.fault.RtpFault.TheVariants.{Short, Version, Csrc, Extension, Padding}
+
+-- the fields of the first octet: the version, P, X and the number of contributing sources
+abbrev pub version : List ℕ → ℕ
+version octets = slice_index octets 0 / 64
+
+abbrev pub is_padded : List ℕ → Bool
+is_padded octets = slice_index octets 0 / 32 % 2 == 1
+
+abbrev pub is_extended : List ℕ → Bool
+is_extended octets = slice_index octets 0 / 16 % 2 == 1
+
+abbrev pub csrc_count : List ℕ → ℕ
+csrc_count octets = slice_index octets 0 % 16
+
+-- what follows the contributing sources
+abbrev pub behind_csrcs : List ℕ → List ℕ
+behind_csrcs octets = drop (12 + 4 * csrc_count octets) octets
+
+-- how many octets a header extension has that begins here: four, and the words that the second two of them count
+abbrev pub extension_size : List ℕ → ℕ
+extension_size octets = 4 + 4 * from_be_bytes w16 (take 2 (drop 2 octets))
+
+-- an extension is due, and its four octets or its words aren't there
+abbrev pub lacks_extension : Bool → List ℕ → Bool
+lacks_extension extended octets = extended && (nat_lt (length octets) 4 || nat_lt (length octets) (extension_size octets))
+
+-- what follows the extension, if there is one
+abbrev pub behind_extension : Bool → List ℕ → List ℕ
+behind_extension extended octets = if extended then drop (extension_size octets) octets else octets
+
+-- the last octet, which counts the padding
+abbrev pub last_octet : List ℕ → ℕ
+last_octet octets = slice_index octets (length octets - 1)
+
+-- padding is due, and the count isn't 1 to the number of octets left
+abbrev pub lacks_padding : Bool → List ℕ → Bool
+lacks_padding padded octets = padded && (last_octet octets == 0 || nat_lt (length octets) (last_octet octets))
+
+-- the first fault, in the order of the parts of a packet
+unfoldable pub first_fault : List ℕ → Option RtpFault
+first_fault octets =
+    if nat_lt (length octets) 12 then Some Short else
+    if not (version octets == 2) then Some Version else
+    if nat_lt (length octets) (12 + 4 * csrc_count octets) then Some Csrc else
+    if lacks_extension (is_extended octets) (behind_csrcs octets) then Some Extension else
+    if lacks_padding (is_padded octets) (behind_extension (is_extended octets) (behind_csrcs octets)) then Some Padding else
+    None

@@ -1,0 +1,5 @@
+pub mod Class
+pub mod Fault
+pub mod Packet
+pub mod Sequence
+pub mod View

@@ -1,0 +1,9 @@
+//! Addresses.
+
+/// An IPv4 address and a UDP port.
+#[derive(Clone, Copy, Debug, PartialEq, Eq)]
+pub struct Address {
+    /// The four octets in network order.
+    pub ip: [u8; 4],
+    pub port: u16,
+}

@@ -1,0 +1,115 @@
+//! Writing RTP packets.
+
+ghost use Rattle.std.specs.Prelude.{◌≡◌, ℕ, List, ◌+◌, ◌*◌, ◌<◌, ◌≤◌, ◌++◌, length, false, OnOk, OnErr, vec_len, vec_capacity, map};
+ghost use Rattle.std.specs.List.{flat_map};
+ghost use Rattle.std.specs.Int.{w32, to_be_bytes};
+ghost use Rattle.rtp_codec.specs.Packet.{written, fixed_header, plain, IsPacket, FitsHeader, number_octets, size};
+ghost use Rattle.rtp_codec.specs.declared.writing.Header.{Header};
+
+use std::alloc::{AllocError, Allocator};
+
+/// The fixed part of an RTP packet's header (RFC 3550 section 5.1), but for the counts that
+/// follow from the packet.
+#[derive(Clone, Copy, Debug, PartialEq, Eq)]
+pub struct Header {
+    pub marker: bool,
+    /// The payload type, at most 127.
+    pub pt: u8,
+    /// The sequence number.
+    pub seq: u16,
+    /// The RTP timestamp, in units of the payload's clock.
+    pub ts: u32,
+    /// The synchronisation source.
+    pub ssrc: u32,
+}
+
+/// The octets of the fixed header of a packet with this many contributing sources:
+///
+/// ```text
+///  0                   1                   2                   3
+///  0 1 2 3 4 5 6 7 8 9 0 1 2 3 4 5 6 7 8 9 0 1 2 3 4 5 6 7 8 9 0 1
+/// +-+-+-+-+-+-+-+-+-+-+-+-+-+-+-+-+-+-+-+-+-+-+-+-+-+-+-+-+-+-+-+-+
+/// |V=2|P|X|  CC   |M|     PT      |       sequence number         |
+/// +-+-+-+-+-+-+-+-+-+-+-+-+-+-+-+-+-+-+-+-+-+-+-+-+-+-+-+-+-+-+-+-+
+/// |                           timestamp                           |
+/// +-+-+-+-+-+-+-+-+-+-+-+-+-+-+-+-+-+-+-+-+-+-+-+-+-+-+-+-+-+-+-+-+
+/// |                             SSRC                              |
+/// +-+-+-+-+-+-+-+-+-+-+-+-+-+-+-+-+-+-+-+-+-+-+-+-+-+-+-+-+-+-+-+-+
+/// ```
+fn fixed_header(header: &Header, csrc_count: u8) -> [u8; 12]
+    requires pt { header.now.pt ≤ 127 }
+    requires csrcs { csrc_count ≤ 15 }
+    ensures { result ≡ fixed_header false false header.now csrc_count }
+{
+    let pt = header.pt;
+    let [s0, s1] = header.seq.to_be_bytes();
+    let [t0, t1, t2, t3] = header.ts.to_be_bytes();
+    let [x0, x1, x2, x3] = header.ssrc.to_be_bytes();
+    let second = if header.marker { 128 + pt } else { pt };
+    [
+        128 + csrc_count,
+        second,
+        s0,
+        s1,
+        t0,
+        t1,
+        t2,
+        t3,
+        x0,
+        x1,
+        x2,
+        x3,
+    ]
+}
+
+/// Appends octets. There is room for them.
+fn append<A: Allocator>(octets: &[u8], out: &mut Vec<u8, A>)
+    requires { vec_len out.old + length octets.now ≤ vec_capacity out.old }
+    ensures items { out.new.items ≡ out.old.items ++ octets.now }
+    ensures len { vec_len out.new ≡ vec_len out.old + length octets.now }
+    ensures capacity { vec_capacity out.old ≤ vec_capacity out.new }
+{
+    let _ = out.extend_from_slice(octets);
+}
+
+/// Appends 32-bit numbers in network order. There is room for them.
+fn append_numbers<A: Allocator>(numbers: &[u32], out: &mut Vec<u8, A>)
+    requires { vec_len out.old + 4 * length numbers.now ≤ vec_capacity out.old }
+    ensures items { out.new.items ≡ out.old.items ++ number_octets numbers.now }
+    ensures len { vec_len out.new ≡ vec_len out.old + 4 * length numbers.now }
+    ensures capacity { vec_capacity out.old ≤ vec_capacity out.new }
+{
+    for number in numbers {
+        append(&number.to_be_bytes(), out);
+    }
+}
+
+/// Appends the packet with these contributing sources and this payload, without padding and
+/// without a header extension (RFC 3550 section 5.1).
+///
+/// Where memory runs out, `out` stays as it was.
+pub fn write<A: Allocator>(
+    header: &Header,
+    csrcs: &[u32],
+    payload: &[u8],
+    out: &mut Vec<u8, A>,
+) -> Result<(), AllocError>
+    requires pt { header.now.pt ≤ 127 }
+    requires csrcs { length csrcs.now ≤ 15 }
+    ensures ok { OnOk result (out.new.items ≡ out.old.items ++ written header.now csrcs.now payload.now) }
+    ensures err { OnErr result (out.new.items ≡ out.old.items) }
+    // Memory is wanted only where the packet has no room.
+    ensures full { OnErr result (vec_capacity out.old < vec_len out.old + size csrcs.now payload.now) }
+{
+    let octets = 12 + 4 * csrcs.len() + payload.len();
+    out.reserve(octets)?;
+    append(&fixed_header(header, csrcs.len() as u8), out);
+    append_numbers(csrcs, out);
+    append(payload, out);
+    Ok(())
+}
+
+/// What `write` appends is the packet of its parts, so `read` reads it back as them.
+pub fn written_is_packet()
+    ensures { (header : Header) (csrcs payload : List ℕ) → FitsHeader header → length csrcs ≤ 15 → IsPacket (plain header csrcs payload) (written header csrcs payload) }
+{}
