@@ -1,0 +1,11 @@
+pub mod ReasonLemmas
+pub mod Compounds
+pub mod Descriptions
+pub mod Faults
+pub mod Framing
+pub mod Lists
+pub mod Words
+pub mod Packing
+pub mod WrittenLemmas
+pub mod Unique
+pub mod RoundTrip

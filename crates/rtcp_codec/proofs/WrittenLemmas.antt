@@ -1,0 +1,27 @@
+-- The written form of packets, one behind another.
+use Rattle.std.proofs.Common.{◌≡◌, ◌+◌, List, ◌∷◌, ◌++◌, length, ap, ◌∙◌, length-append, arith, inl, inr, subst, sym}
+use Rattle.std.proofs.lemmas.List.Concat.{flat_map-cons}
+use Rattle.std.specs.List.{AllByRecursion}
+use Rattle.rtcp_codec.specs.Description.{filled}
+use Rattle.rtcp_codec.specs.Packet.{Packet, fields, written_packet}
+use Rattle.rtcp_codec.specs.Compound.{written}
+use Rattle.rtcp_codec.specs.WriteFault.{IsWritable, HasPacketFault, IsFirstFault}
+use Rattle.rtcp_codec.specs.declared.fault.WriteFault.{WriteFault}
+
+pub written_left : (l : List Packet) (p : Packet) (ps : List Packet) → l ≡ p ∷ ps → written l ≡ written_packet p ++ written ps
+written_left l p ps e = ap written e ∙ flat_map-cons written_packet p ps
+
+pub written_length : (l : List Packet) (p : Packet) (ps : List Packet) → l ≡ p ∷ ps → length (written l) ≡ (4 + length (filled (fields p))) + length (written ps)
+written_length l p ps e = ap length (written_left l p ps e) ∙ length-append (written_packet p) (written ps) ∙ omega arith
+
+pub all_left : (l : List Packet) (p : Packet) (ps : List Packet) → l ≡ p ∷ ps → IsWritable p → AllByRecursion IsWritable ps → AllByRecursion IsWritable l
+all_left l p ps e h k = subst (AllByRecursion IsWritable) (sym e) (h, k)
+
+pub first_left : (l : List Packet) (p : Packet) (ps : List Packet) → l ≡ p ∷ ps → AllByRecursion IsWritable l → IsWritable p × AllByRecursion IsWritable ps
+first_left l p ps e h = subst (AllByRecursion IsWritable) e h
+
+pub fault_left : (f : WriteFault) (l : List Packet) (p : Packet) (ps : List Packet) → l ≡ p ∷ ps → IsFirstFault f p → HasPacketFault f l
+fault_left f l p ps e h = subst (HasPacketFault f) (sym e) (inl h)
+
+pub fault_behind : (f : WriteFault) (l : List Packet) (p : Packet) (ps : List Packet) → l ≡ p ∷ ps → IsWritable p → HasPacketFault f ps → HasPacketFault f l
+fault_behind f l p ps e h k = subst (HasPacketFault f) (sym e) (inr (h, k))

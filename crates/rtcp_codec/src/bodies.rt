@@ -1,0 +1,310 @@
+//! Reading the bodies of packets.
+
+ghost use Rattle.std.specs.Prelude.{◌≡◌, ℕ, ◌+◌, ◌-◌, ◌*◌, ◌%◌, ◌^◌, ◌<◌, ◌≤◌, ◌++◌, ◌⊎◌, ℤ, List, [], ◌∷◌, length, IfOk, IfErr, IfSome, IfNone};
+ghost use Rattle.std.specs.List.{flat_map, AllByRecursion};
+ghost use Rattle.std.specs.Int.{w32, to_be_bytes};
+ghost use Rattle.rtcp_codec.specs.declared.kind.Kind.TheVariants as kinds;
+ghost use Rattle.rtcp_codec.specs.declared.fault.RtcpFault.TheVariants as faults;
+ghost use Rattle.rtcp_codec.specs.Kind.{kind_of};
+ghost use Rattle.rtcp_codec.specs.Packet.{Begin, IsOf};
+ghost use Rattle.rtcp_codec.specs.Compound.{IsWholeBody, IsWholeReason};
+ghost use Rattle.rtcp_codec.specs.Nack.{word_octets, FitsWord};
+ghost use Rattle.rtcp_codec.specs.Report.{block_octets, FitsBlock, octets_24, twos_complement, FitsLost};
+ghost use Rattle.rtcp_codec.specs.View.{packet_of};
+ghost use Rattle.rtp_codec.specs.Packet.{number_octets};
+
+use crate::chunks::chunks_from;
+use crate::fault::RtcpFault;
+use crate::fields::{u16_from, u32_from, u64_from};
+use crate::kind::{Kind, kind_of};
+use crate::nack::{Nack, NackWord};
+use crate::packet::{App, Bye, Other, Pli, Rtcp};
+use crate::report::{ReceiverReport, ReportBlock, SenderReport};
+use std::alloc::{AllocError, Allocator};
+
+/// A signed number of 24 bits in two's complement at the front, and what follows it.
+fn lost_from(octets: &[u8]) -> (i32, &[u8])
+    requires { 3 ≤ length octets.now }
+    ensures parts { octets.now ≡ octets_24 (twos_complement result.0) ++ result.1.now }
+    ensures fits { FitsLost result.0 }
+    ensures left { length octets.now ≡ 3 + length result.1.now }
+{
+    let (front, rest) = octets.split_at(3);
+    let bits = i32::from(front[0]) * 65536 + i32::from(front[1]) * 256 + i32::from(front[2]);
+    let lost = if front[0] < 128 {
+        bits
+    } else {
+        bits - 16_777_216
+    };
+    (lost, rest)
+}
+
+/// The report block at the front, and what follows it:
+///
+/// ```text
+///  0                   1                   2                   3
+///  0 1 2 3 4 5 6 7 8 9 0 1 2 3 4 5 6 7 8 9 0 1 2 3 4 5 6 7 8 9 0 1
+/// +-+-+-+-+-+-+-+-+-+-+-+-+-+-+-+-+-+-+-+-+-+-+-+-+-+-+-+-+-+-+-+-+
+/// |                             SSRC                              |
+/// +-+-+-+-+-+-+-+-+-+-+-+-+-+-+-+-+-+-+-+-+-+-+-+-+-+-+-+-+-+-+-+-+
+/// | fraction lost |       cumulative number of packets lost       |
+/// +-+-+-+-+-+-+-+-+-+-+-+-+-+-+-+-+-+-+-+-+-+-+-+-+-+-+-+-+-+-+-+-+
+/// |           extended highest sequence number received           |
+/// +-+-+-+-+-+-+-+-+-+-+-+-+-+-+-+-+-+-+-+-+-+-+-+-+-+-+-+-+-+-+-+-+
+/// |                      interarrival jitter                      |
+/// +-+-+-+-+-+-+-+-+-+-+-+-+-+-+-+-+-+-+-+-+-+-+-+-+-+-+-+-+-+-+-+-+
+/// |                         last SR (LSR)                         |
+/// +-+-+-+-+-+-+-+-+-+-+-+-+-+-+-+-+-+-+-+-+-+-+-+-+-+-+-+-+-+-+-+-+
+/// |                   delay since last SR (DLSR)                  |
+/// +-+-+-+-+-+-+-+-+-+-+-+-+-+-+-+-+-+-+-+-+-+-+-+-+-+-+-+-+-+-+-+-+
+/// ```
+fn block_from(octets: &[u8]) -> (ReportBlock, &[u8])
+    requires { 24 ≤ length octets.now }
+    ensures parts { octets.now ≡ block_octets result.0 ++ result.1.now }
+    ensures fits { FitsBlock result.0 }
+    ensures left { length octets.now ≡ 24 + length result.1.now }
+{
+    let (ssrc, rest) = u32_from(octets);
+    let (fraction, rest) = (rest[0], &rest[1..]);
+    let (lost, rest) = lost_from(rest);
+    let (highest, rest) = u32_from(rest);
+    let (jitter, rest) = u32_from(rest);
+    let (lsr, rest) = u32_from(rest);
+    let (dlsr, rest) = u32_from(rest);
+    let block = ReportBlock {
+        ssrc,
+        fraction,
+        lost,
+        highest,
+        jitter,
+        lsr,
+        dlsr,
+    };
+    (block, rest)
+}
+
+/// So many report blocks at the front.
+fn blocks_from<A: Allocator>(
+    alloc: A,
+    count: u8,
+    octets: &[u8],
+) -> Result<Vec<ReportBlock, A>, AllocError>
+    requires { 24 * count ≤ length octets.now }
+    ensures count { IfOk result (λ v. length v.items ≡ count) }
+    ensures fits { IfOk result (λ v. AllByRecursion FitsBlock v.items) }
+    ensures parts { IfOk result (λ v. Begin (flat_map block_octets v.items) octets.now) }
+{
+    let mut blocks = Vec::with_capacity(alloc, usize::from(count))?;
+    let mut rest = octets;
+    for _ in 0..count {
+        let (block, after) = block_from(rest);
+        blocks.push(block)?;
+        rest = after;
+    }
+    Ok(blocks)
+}
+
+/// The sender report that this body is.
+fn sender_from<A: Allocator>(alloc: A, count: u8, body: &[u8]) -> Result<Rtcp<A>, RtcpFault>
+    ensures ok { IfOk result (λ p. IsOf 200 count body.now (packet_of p)) }
+    ensures err { IfErr result (λ f. (f ≡ faults.OutOfMemory) ⊎ ((f ≡ faults.Body) × (¬ IsWholeBody kinds.Sender count body.now))) }
+{
+    if body.len() < 24 + 24 * usize::from(count) {
+        return Err(RtcpFault::Body);
+    }
+    let (ssrc, rest) = u32_from(body);
+    let (ntp, rest) = u64_from(rest);
+    let (ts, rest) = u32_from(rest);
+    let (packets, rest) = u32_from(rest);
+    let (octets, rest) = u32_from(rest);
+    let blocks = blocks_from(alloc, count, rest)?;
+    Ok(Rtcp::Sender(SenderReport {
+        ssrc,
+        ntp,
+        ts,
+        packets,
+        octets,
+        blocks,
+    }))
+}
+
+/// The receiver report that this body is.
+fn receiver_from<A: Allocator>(alloc: A, count: u8, body: &[u8]) -> Result<Rtcp<A>, RtcpFault>
+    ensures ok { IfOk result (λ p. IsOf 201 count body.now (packet_of p)) }
+    ensures err { IfErr result (λ f. (f ≡ faults.OutOfMemory) ⊎ ((f ≡ faults.Body) × (¬ IsWholeBody kinds.Receiver count body.now))) }
+{
+    if body.len() < 4 + 24 * usize::from(count) {
+        return Err(RtcpFault::Body);
+    }
+    let (ssrc, rest) = u32_from(body);
+    let blocks = blocks_from(alloc, count, rest)?;
+    Ok(Rtcp::Receiver(ReceiverReport { ssrc, blocks }))
+}
+
+/// So many sources at the front, and what follows them.
+fn ssrcs_from<A: Allocator>(
+    alloc: A,
+    count: u8,
+    octets: &[u8],
+) -> Result<(Vec<u32, A>, &[u8]), AllocError>
+    requires { 4 * count ≤ length octets.now }
+    ensures count { IfOk result (λ r. length r.0.items ≡ count) }
+    ensures fits { IfOk result (λ r. AllByRecursion (λ ssrc. ssrc < 2 ^ 32) r.0.items) }
+    ensures parts { IfOk result (λ r. octets.now ≡ number_octets r.0.items ++ r.1.now) }
+{
+    let mut ssrcs = Vec::with_capacity(alloc, usize::from(count))?;
+    let mut rest = octets;
+    for _ in 0..count {
+        let (ssrc, after) = u32_from(rest);
+        ssrcs.push(ssrc)?;
+        rest = after;
+    }
+    Ok((ssrcs, rest))
+}
+
+/// The reason for leaving at the front, if there is any octet.
+fn reason_from<A: Allocator>(alloc: A, octets: &[u8]) -> Result<Option<Vec<u8, A>>, RtcpFault>
+    ensures none { IfOk result (λ r. IfNone r (octets.now ≡ [])) }
+    ensures some { IfOk result (λ r. IfSome r (λ v. Begin (length v.items ∷ v.items) octets.now)) }
+    ensures fits { IfOk result (λ r. IfSome r (λ v. length v.items < 2 ^ 8)) }
+    ensures err { IfErr result (λ f. (f ≡ faults.OutOfMemory) ⊎ ((f ≡ faults.Body) × (¬ IsWholeReason octets.now))) }
+{
+    let [len, text @ ..] = octets else {
+        return Ok(None);
+    };
+    let len = usize::from(*len);
+    if text.len() < len {
+        return Err(RtcpFault::Body);
+    }
+    let (reason, _) = text.split_at(len);
+    Ok(Some(Vec::from_slice(alloc, reason)?))
+}
+
+/// The leave that this body is.
+fn bye_from<A: Allocator + Copy>(alloc: A, count: u8, body: &[u8]) -> Result<Rtcp<A>, RtcpFault>
+    ensures ok { IfOk result (λ p. IsOf 203 count body.now (packet_of p)) }
+    ensures err { IfErr result (λ f. (f ≡ faults.OutOfMemory) ⊎ ((f ≡ faults.Body) × (¬ IsWholeBody kinds.Bye count body.now))) }
+{
+    if body.len() < 4 * usize::from(count) {
+        return Err(RtcpFault::Body);
+    }
+    let (ssrcs, rest) = ssrcs_from(alloc, count, body)?;
+    let reason = reason_from(alloc, rest)?;
+    Ok(Rtcp::Bye(Bye { ssrcs, reason }))
+}
+
+/// The packet of an application that this body is.
+fn app_from<A: Allocator>(alloc: A, subtype: u8, body: &[u8]) -> Result<Rtcp<A>, RtcpFault>
+    ensures ok { IfOk result (λ p. IsOf 204 subtype body.now (packet_of p)) }
+    ensures err { IfErr result (λ f. (f ≡ faults.OutOfMemory) ⊎ ((f ≡ faults.Body) × (¬ IsWholeBody kinds.App subtype body.now))) }
+{
+    if body.len() < 8 {
+        return Err(RtcpFault::Body);
+    }
+    let (ssrc, rest) = u32_from(body);
+    let (name, rest) = rest.split_at(4);
+    let name = [name[0], name[1], name[2], name[3]];
+    let content = Vec::from_slice(alloc, rest)?;
+    Ok(Rtcp::App(App {
+        subtype,
+        ssrc,
+        name,
+        content,
+    }))
+}
+
+/// The word of a NACK at the front, and what follows it.
+fn word_from(octets: &[u8]) -> (NackWord, &[u8])
+    requires { 4 ≤ length octets.now }
+    ensures parts { octets.now ≡ word_octets result.0 ++ result.1.now }
+    ensures fits { FitsWord result.0 }
+    ensures left { length octets.now ≡ 4 + length result.1.now }
+{
+    let (pid, rest) = u16_from(octets);
+    let (blp, rest) = u16_from(rest);
+    (NackWord { pid, blp }, rest)
+}
+
+/// All the words of a NACK.
+fn words_from<A: Allocator>(alloc: A, octets: &[u8]) -> Result<Vec<NackWord, A>, AllocError>
+    requires { length octets.now % 4 ≡ 0 }
+    ensures fits { IfOk result (λ v. AllByRecursion FitsWord v.items) }
+    ensures parts { IfOk result (λ v. octets.now ≡ flat_map word_octets v.items) }
+{
+    let count = octets.len() / 4;
+    let mut words = Vec::with_capacity(alloc, count)?;
+    let mut rest = octets;
+    for _ in 0..count {
+        let (word, after) = word_from(rest);
+        words.push(word)?;
+        rest = after;
+    }
+    Ok(words)
+}
+
+/// The generic NACK that this body is.
+fn nack_from<A: Allocator>(alloc: A, body: &[u8]) -> Result<Rtcp<A>, RtcpFault>
+    requires { length body.now % 4 ≡ 0 }
+    ensures ok { IfOk result (λ p. IsOf 205 1 body.now (packet_of p)) }
+    ensures err { IfErr result (λ f. (f ≡ faults.OutOfMemory) ⊎ ((f ≡ faults.Body) × (¬ IsWholeBody kinds.Nack 1 body.now))) }
+{
+    if body.len() < 12 {
+        return Err(RtcpFault::Body);
+    }
+    let (sender, rest) = u32_from(body);
+    let (media, rest) = u32_from(rest);
+    let words = words_from(alloc, rest)?;
+    Ok(Rtcp::Nack(Nack {
+        sender,
+        media,
+        words,
+    }))
+}
+
+/// The picture loss indication that this body is.
+fn pli_from<A: Allocator>(body: &[u8]) -> Result<Rtcp<A>, RtcpFault>
+    ensures ok { IfOk result (λ p. IsOf 206 1 body.now (packet_of p)) }
+    ensures err { IfErr result (λ f. (f ≡ faults.Body) × (¬ IsWholeBody kinds.Pli 1 body.now)) }
+{
+    if body.len() < 8 {
+        return Err(RtcpFault::Body);
+    }
+    let (sender, rest) = u32_from(body);
+    let (media, _) = u32_from(rest);
+    Ok(Rtcp::Pli(Pli { sender, media }))
+}
+
+/// The source descriptions that this body is.
+fn sdes_from<A: Allocator + Copy>(alloc: A, count: u8, body: &[u8]) -> Result<Rtcp<A>, RtcpFault>
+    requires { length body.now % 4 ≡ 0 }
+    ensures ok { IfOk result (λ p. IsOf 202 count body.now (packet_of p)) }
+    ensures err { IfErr result (λ f. (f ≡ faults.OutOfMemory) ⊎ ((f ≡ faults.Body) × (¬ IsWholeBody kinds.Sdes count body.now))) }
+{
+    Ok(Rtcp::Sdes(chunks_from(alloc, count, body)?))
+}
+
+/// The packet of this type and count, or format, that this body is.
+pub(crate) fn packet_from<A: Allocator + Copy>(
+    alloc: A,
+    pt: u8,
+    count: u8,
+    body: &[u8],
+) -> Result<Rtcp<A>, RtcpFault>
+    requires { length body.now % 4 ≡ 0 }
+    ensures ok { IfOk result (λ p. IsOf pt count body.now (packet_of p)) }
+    ensures err { IfErr result (λ f. (f ≡ faults.OutOfMemory) ⊎ ((f ≡ faults.Body) × (¬ IsWholeBody (kind_of pt count) count body.now))) }
+{
+    match kind_of(pt, count) {
+        Kind::Sender => sender_from(alloc, count, body),
+        Kind::Receiver => receiver_from(alloc, count, body),
+        Kind::Sdes => sdes_from(alloc, count, body),
+        Kind::Bye => bye_from(alloc, count, body),
+        Kind::App => app_from(alloc, count, body),
+        Kind::Nack => nack_from(alloc, body),
+        Kind::Pli => pli_from(body),
+        Kind::Other => {
+            let body = Vec::from_slice(alloc, body)?;
+            Ok(Rtcp::Other(Other { pt, count, body }))
+        }
+    }
+}

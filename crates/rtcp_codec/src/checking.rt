@@ -1,0 +1,280 @@
+//! What can be written.
+
+ghost use Rattle.std.specs.Prelude.{◌≡◌, ℕ, ◌+◌, ◌-◌, ◌*◌, ◌%◌, ◌<◌, ◌≤◌, ◌⊎◌, ⊤, true, false, IfSome, IfNone, IfOk, IfErr, OnOk, IsErrOf, length, map};
+ghost use Rattle.std.specs.Option.{option_map};
+ghost use Rattle.rtcp_codec.specs.declared.fault.WriteFault.TheVariants as write_faults;
+ghost use Rattle.std.specs.List.{flat_map, AllByRecursion};
+ghost use Rattle.rtcp_codec.specs.Compound.{written};
+ghost use Rattle.rtcp_codec.specs.Description.{Item, Chunk, item_octets, chunk_octets, filled};
+ghost use Rattle.rtcp_codec.specs.Packet.{Packet, fields, reason_octets, written_packet};
+ghost use Rattle.rtcp_codec.specs.Report.{FitsLost};
+ghost use Rattle.rtcp_codec.specs.View.{item_of, chunk_of, packet_of, packets_of};
+ghost use Rattle.rtcp_codec.specs.WriteFault.{CountFits, TextsFit, PartsFit, LengthFits, ItemsTold, MeaningFits, IsWritable, AreWritable, BeginsWithReport, IsFirstFault, HasPacketFault, HasWriteFault};
+
+use crate::description::{SdesChunk, SdesItem};
+use crate::fault::WriteFault;
+use crate::kind::{Kind, kind_of};
+use crate::packet::{App, Rtcp};
+use crate::report::ReportBlock;
+use std::alloc::Allocator;
+
+/// The most octets that the body of a packet has: the length of a packet in words, but for the
+/// header's one, has 16 bits.
+const MOST: usize = 4 * 65535;
+
+/// Whether a count can be told: at most 31 blocks, chunks or sources, a subtype or count of at
+/// most 31, some words of a NACK.
+fn has_count<A: Allocator>(packet: &Rtcp<A>) -> bool
+    ensures good { result ≡ true → CountFits (packet_of packet.now) }
+    ensures bad { result ≡ false → ¬ CountFits (packet_of packet.now) }
+{
+    match packet {
+        Rtcp::Sender(report) => report.blocks.len() <= 31,
+        Rtcp::Receiver(report) => report.blocks.len() <= 31,
+        Rtcp::Sdes(chunks) => chunks.len() <= 31,
+        Rtcp::Bye(bye) => bye.ssrcs.len() <= 31,
+        Rtcp::App(app) => app.subtype <= 31,
+        Rtcp::Nack(nack) => !nack.words.is_empty(),
+        Rtcp::Pli(_) => true,
+        Rtcp::Other(other) => other.count <= 31,
+    }
+}
+
+/// How many octets items have, unless a text is over 255 octets or they are too many.
+fn items_size<A: Allocator>(items: &[SdesItem<A>]) -> Option<usize>
+    ensures size { IfSome result (λ n. n ≡ length (flat_map item_octets (map item_of items.now))) }
+    ensures texts { IfSome result (λ n. TextsFit (map item_of items.now)) }
+    ensures none { IfNone result (¬ (TextsFit (map item_of items.now) × (length (flat_map item_octets (map item_of items.now)) ≤ 4 * 65535))) }
+    ensures most { IfSome result (λ n. n ≤ 4 * 65535) }
+{
+    let mut size = 0;
+    for item in items {
+        let len = item.text.len();
+        if len > 255 || size + 2 + len > MOST {
+            return None;
+        }
+        size += 2 + len;
+    }
+    Some(size)
+}
+
+/// How many octets a chunk has with its fill, unless a text is over 255 octets or they are too
+/// many.
+fn chunk_size<A: Allocator>(chunk: &SdesChunk<A>) -> Option<usize>
+    ensures size { IfSome result (λ n. n ≡ length (filled (chunk_octets (chunk_of chunk.now)))) }
+    ensures texts { IfSome result (λ n. TextsFit (chunk_of chunk.now).items) }
+    ensures none { IfNone result (¬ (TextsFit (chunk_of chunk.now).items × (length (filled (chunk_octets (chunk_of chunk.now))) ≤ 4 * 65535))) }
+    ensures most { IfSome result (λ n. n ≤ 4 * 65535 + 8) }
+{
+    let size = items_size(&chunk.items)?;
+    Some((4 + size + 1 + 3) / 4 * 4)
+}
+
+/// How many octets chunks have, unless a text is over 255 octets or they are too many.
+fn chunks_size<A: Allocator>(chunks: &[SdesChunk<A>]) -> Option<usize>
+    ensures size { IfSome result (λ n. n ≡ length (flat_map (λ c. filled (chunk_octets c)) (map chunk_of chunks.now))) }
+    ensures texts { IfSome result (λ n. AllByRecursion (λ c. TextsFit c.items) (map chunk_of chunks.now)) }
+    ensures none { IfNone result (¬ (AllByRecursion (λ c. TextsFit c.items) (map chunk_of chunks.now) × (length (flat_map (λ c. filled (chunk_octets c)) (map chunk_of chunks.now)) ≤ 4 * 65535))) }
+    ensures most { IfSome result (λ n. n ≤ 4 * 65535) }
+{
+    let mut size = 0;
+    for chunk in chunks {
+        let more = chunk_size(chunk)?;
+        if size + more > MOST {
+            return None;
+        }
+        size += more;
+    }
+    Some(size)
+}
+
+/// How many octets a reason has with its length, unless it is over 255 octets.
+fn reason_size<A: Allocator>(reason: &Option<Vec<u8, A>>) -> Option<usize>
+    ensures size { IfSome result (λ n. n ≡ length (reason_octets (option_map (λ v. v.items) reason.now))) }
+    ensures text { IfSome result (λ n. IfSome (option_map (λ v. v.items) reason.now) (λ text. length text ≤ 255)) }
+    ensures none { IfNone result (¬ (IfSome (option_map (λ v. v.items) reason.now) (λ text. length text ≤ 255))) }
+    ensures most { IfSome result (λ n. n ≤ 256) }
+{
+    match reason {
+        None => Some(0),
+        Some(text) if text.len() > 255 => None,
+        Some(text) => Some(1 + text.len()),
+    }
+}
+
+/// How many octets the fields of a packet have, unless a text or reason is over 255 octets, a
+/// content or body isn't whole words, or they are too many.
+#[tactic(auto, using(crate::proofs::Lists::blocks_length, crate::proofs::Lists::words_length, crate::proofs::Lists::numbers_length))]
+fn fields_size<A: Allocator>(packet: &Rtcp<A>) -> Option<usize>
+    requires { CountFits (packet_of packet.now) }
+    ensures size { IfSome result (λ n. n ≡ length (fields (packet_of packet.now))) }
+    ensures parts { IfSome result (λ n. PartsFit (packet_of packet.now)) }
+    ensures none { IfNone result (¬ (PartsFit (packet_of packet.now) × (length (fields (packet_of packet.now)) ≤ 4 * 65535))) }
+    ensures most { IfSome result (λ n. n ≤ 4 * 65535) }
+{
+    match packet {
+        Rtcp::Sender(report) => Some(24 + 24 * report.blocks.len()),
+        Rtcp::Receiver(report) => Some(4 + 24 * report.blocks.len()),
+        Rtcp::Sdes(chunks) => chunks_size(chunks),
+        Rtcp::Bye(bye) => {
+            let reason = reason_size(&bye.reason)?;
+            Some(4 * bye.ssrcs.len() + reason)
+        }
+        Rtcp::App(app) => app_size(app),
+        Rtcp::Nack(nack) => {
+            let count = nack.words.len();
+            if count <= (MOST - 8) / 4 {
+                Some(8 + 4 * count)
+            } else {
+                None
+            }
+        }
+        Rtcp::Pli(_) => Some(8),
+        Rtcp::Other(other) => whole_words(0, &other.body),
+    }
+}
+
+/// How many octets the fields of an application's packet have, unless its content isn't whole
+/// words or is too long.
+fn app_size<A: Allocator>(app: &App<A>) -> Option<usize>
+    ensures size { IfSome result (λ n. n ≡ 4 + (length app.now.name + length app.now.content.items)) }
+    ensures whole { IfSome result (λ n. length app.now.content.items % 4 ≡ 0) }
+    ensures none { IfNone result (¬ ((length app.now.content.items % 4 ≡ 0) × (4 + (length app.now.name + length app.now.content.items) ≤ 4 * 65535))) }
+    ensures most { IfSome result (λ n. n ≤ 4 * 65535) }
+{
+    let name = app.name;
+    whole_words(4 + name.len(), &app.content)
+}
+
+/// How many octets there are behind so many, unless they aren't whole words or are too many.
+fn whole_words(before: usize, octets: &[u8]) -> Option<usize>
+    requires { before ≤ 8 }
+    ensures size { IfSome result (λ n. n ≡ before + length octets.now) }
+    ensures whole { IfSome result (λ n. length octets.now % 4 ≡ 0) }
+    ensures none { IfNone result (¬ ((length octets.now % 4 ≡ 0) × (before + length octets.now ≤ 4 * 65535))) }
+    ensures most { IfSome result (λ n. n ≤ 4 * 65535) }
+{
+    let len = octets.len();
+    if len % 4 == 0 && len <= MOST - before {
+        Some(before + len)
+    } else {
+        None
+    }
+}
+
+/// How many octets the written body has, with its fill.
+fn body_size<A: Allocator>(packet: &Rtcp<A>) -> Option<usize>
+    requires { CountFits (packet_of packet.now) }
+    ensures size { IfSome result (λ n. n ≡ length (filled (fields (packet_of packet.now)))) }
+    ensures fits { IfSome result (λ n. LengthFits (packet_of packet.now)) }
+    ensures none { IfNone result (¬ (LengthFits (packet_of packet.now))) }
+    ensures most { IfSome result (λ n. n ≤ 4 * 65535) }
+{
+    let size = fields_size(packet)?;
+    let filled = (size + 3) / 4 * 4;
+    if filled <= MOST { Some(filled) } else { None }
+}
+
+/// Whether each loss fits 24 bits.
+fn has_losses(blocks: &[ReportBlock]) -> bool
+    ensures good { result ≡ true → AllByRecursion (λ b. FitsLost b.lost) blocks.now }
+    ensures bad { result ≡ false → ¬ (AllByRecursion (λ b. FitsLost b.lost) blocks.now) }
+{
+    for block in blocks {
+        if block.lost < -8_388_608 || block.lost > 8_388_607 {
+            return false;
+        }
+    }
+    true
+}
+
+/// Whether no item is of type 0, which would end the items.
+fn has_items<A: Allocator>(items: &[SdesItem<A>]) -> bool
+    ensures good { result ≡ true → ItemsTold (map item_of items.now) }
+    ensures bad { result ≡ false → ¬ (ItemsTold (map item_of items.now)) }
+{
+    for item in items {
+        if item.kind == 0 {
+            return false;
+        }
+    }
+    true
+}
+
+/// Whether no chunk has an item of type 0.
+fn has_chunks<A: Allocator>(chunks: &[SdesChunk<A>]) -> bool
+    ensures good { result ≡ true → AllByRecursion (λ c. ItemsTold c.items) (map chunk_of chunks.now) }
+    ensures bad { result ≡ false → ¬ (AllByRecursion (λ c. ItemsTold c.items) (map chunk_of chunks.now)) }
+{
+    for chunk in chunks {
+        if !has_items(&chunk.items) {
+            return false;
+        }
+    }
+    true
+}
+
+/// Whether each value means on the wire what it says.
+fn has_meaning<A: Allocator>(packet: &Rtcp<A>) -> bool
+    ensures good { result ≡ true → MeaningFits (packet_of packet.now) }
+    ensures bad { result ≡ false → ¬ (MeaningFits (packet_of packet.now)) }
+{
+    match packet {
+        Rtcp::Sender(report) => has_losses(&report.blocks),
+        Rtcp::Receiver(report) => has_losses(&report.blocks),
+        Rtcp::Sdes(chunks) => has_chunks(chunks),
+        Rtcp::Other(other) => kind_of(other.pt, other.count) == Kind::Other,
+        _ => true,
+    }
+}
+
+/// How many octets the body of the written packet has, or the packet's first fault.
+pub(crate) fn packet_size<A: Allocator>(packet: &Rtcp<A>) -> Result<usize, WriteFault>
+    ensures writable { IfOk result (λ n. IsWritable (packet_of packet.now)) }
+    ensures size { IfOk result (λ n. n ≡ length (filled (fields (packet_of packet.now)))) }
+    ensures most { IfOk result (λ n. n ≤ 4 * 65535) }
+    ensures err { IfErr result (λ f. IsFirstFault f (packet_of packet.now)) }
+{
+    if !has_count(packet) {
+        return Err(WriteFault::Count);
+    }
+    let Some(size) = body_size(packet) else {
+        return Err(WriteFault::TooLong);
+    };
+    if !has_meaning(packet) {
+        return Err(WriteFault::Kind);
+    }
+    Ok(size)
+}
+
+/// Whether a compound may begin so.
+fn begins_with_report<A: Allocator>(packets: &[Rtcp<A>]) -> bool
+    ensures good { result ≡ true → BeginsWithReport (packets_of packets.now) }
+    ensures bad { result ≡ false → ¬ BeginsWithReport (packets_of packets.now) }
+{
+    match packets {
+        [] => false,
+        [first, ..] => matches!(first, Rtcp::Sender(_) | Rtcp::Receiver(_)),
+    }
+}
+
+/// How many octets the written packets have, or the first fault.
+pub(crate) fn compound_size<A: Allocator>(packets: &[Rtcp<A>]) -> Result<usize, WriteFault>
+    ensures writable { IfOk result (λ n. AreWritable (packets_of packets.now)) }
+    ensures size { IfOk result (λ n. n ≡ length (written (packets_of packets.now))) }
+    ensures err { IfErr result (λ f. (f ≡ write_faults.OutOfMemory) ⊎ HasWriteFault f (packets_of packets.now)) }
+{
+    if !begins_with_report(packets) {
+        return Err(WriteFault::First);
+    }
+    let mut total: usize = 0;
+    for packet in packets {
+        let size = packet_size(packet)?;
+        // What can't be counted can't be reserved either.
+        if total > usize::MAX - 4 - size {
+            return Err(WriteFault::OutOfMemory);
+        }
+        total += 4 + size;
+    }
+    Ok(total)
+}

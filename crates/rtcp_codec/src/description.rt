@@ -1,0 +1,19 @@
+//! Source descriptions.
+
+use std::alloc::{Allocator, Global};
+
+/// One item of a source description (SDES, RFC 3550 section 6.5).
+#[derive(Debug, Drop)]
+pub struct SdesItem<A: Allocator = Global> {
+    /// The item's type, 1 for a CNAME, never 0.
+    pub kind: u8,
+    /// At most 255 octets.
+    pub text: Vec<u8, A>,
+}
+
+/// What a source description says of one source.
+#[derive(Debug, Drop)]
+pub struct SdesChunk<A: Allocator = Global> {
+    pub ssrc: u32,
+    pub items: Vec<SdesItem<A>, A>,
+}
