@@ -1,0 +1,12 @@
+//! Edits that can be taken back, and the history of those that were done.
+#![tactic(auto)]
+
+mod fault;
+mod history;
+mod reversible;
+#[cfg(test)]
+mod tests;
+
+pub use self::fault::HistoryFault;
+pub use self::history::{History, LIMIT};
+pub use self::reversible::Reversible;
