@@ -1,0 +1,53 @@
+use Rattle.std.proofs.Common.{sym, ◌∙◌, arith}
+use Rattle.desk_rows.proofs.ExchangeLemmas.{apt_tests, taken_few}
+use Rattle.desk_rows.proofs.exchange.Exchange.is_apt.Goals as goal
+
+pub returns-then-not-can_be_taken : goal.returns-then-not-can_be_taken
+returns-then-not-can_be_taken c =
+    let x = c.args.self.now in
+    let tests = apt_tests x.bridge_ssrc x.members.now x.others.now x.taken_members.now x.taken.now x.old.now x.put_members.now x.put.now x.new.now in
+    let a = c.can_be_taken.ensures in
+    grind (arith, tests, a)
+
+pub overflow_sub-left : goal.overflow_sub-left
+overflow_sub-left c = let x = c.args.self.now in taken_few x.taken_members.now x.members.now (sym c.can_be_taken.ensures ∙ c.if-not-can_be_taken.false)
+
+pub returns-then-not-can_be_put : goal.returns-then-not-can_be_put
+returns-then-not-can_be_put c =
+    let x = c.args.self.now in
+    let tests = apt_tests x.bridge_ssrc x.members.now x.others.now x.taken_members.now x.taken.now x.old.now x.put_members.now x.put.now x.new.now in
+    let a = c.can_be_put.ensures in
+    grind (arith, tests, a)
+
+pub returns-then-not-both_in_order : goal.returns-then-not-both_in_order
+returns-then-not-both_in_order c =
+    let x = c.args.self.now in
+    let tests = apt_tests x.bridge_ssrc x.members.now x.others.now x.taken_members.now x.taken.now x.old.now x.put_members.now x.put.now x.new.now in
+    let a = c.both_in_order.ensures in
+    grind (arith, tests, a)
+
+pub returns-then-not-contains_all : goal.returns-then-not-contains_all
+returns-then-not-contains_all c =
+    let x = c.args.self.now in
+    let tests = apt_tests x.bridge_ssrc x.members.now x.others.now x.taken_members.now x.taken.now x.old.now x.put_members.now x.put.now x.new.now in
+    let a = c.contains_all.ensures in
+    grind (arith, tests, a)
+
+pub returns-then-not-contains_all-2 : goal.returns-then-not-contains_all-2
+returns-then-not-contains_all-2 c =
+    let x = c.args.self.now in
+    let tests = apt_tests x.bridge_ssrc x.members.now x.others.now x.taken_members.now x.taken.now x.old.now x.put_members.now x.put.now x.new.now in
+    let a = c.contains_all-2.ensures in
+    grind (arith, tests, a)
+
+pub returns : goal.returns
+returns c =
+    let x = c.args.self.now in
+    let tests = apt_tests x.bridge_ssrc x.members.now x.others.now x.taken_members.now x.taken.now x.old.now x.put_members.now x.put.now x.new.now in
+    let taking = c.can_be_taken.ensures in
+    let putting = c.can_be_put.ensures in
+    let goes = c.both_in_order.ensures in
+    let there = c.contains_all.ensures in
+    let olds = c.contains_all-2.ensures in
+    let comes = c.both_in_order-2.ensures in
+    grind (arith, tests, taking, putting, goes, there, olds, comes)

@@ -1,0 +1,116 @@
+-- The desk, and what makes it good.
+use Rattle.std.specs.Prelude.{ℕ, Bool, true, false, ◌&&◌, not, List, [], ◌∷◌, ◌++◌, map, filter, count_by, nat_eq, nat_le, Option}
+use Rattle.std.specs.List.{find, list_any, list_all}
+use Rattle.desk_rows.specs.declared.row.Member.{Member}
+use Rattle.desk_rows.specs.declared.row.Row.{Row}
+use Rattle.desk_rows.specs.declared.row.Row.TheVariants as rows
+use Rattle.desk_rows.specs.declared.row.Media.TheVariants.{Audio, Video}
+use Rattle.desk_rows.specs.declared.row.Key.{Key}
+use Rattle.desk_rows.specs.declared.row.Kind.{Kind}
+use Rattle.desk_rows.specs.declared.row.Kind.TheVariants as kinds
+use Rattle.desk_rows.specs.declared.claim.Claim.{Claim}
+use Rattle.desk_rows.specs.declared.claim.Claim.TheVariants as claims
+use Rattle.desk_rows.specs.declared.limits.TheConstants.{MAX_ROOMS, MAX_MEMBERS, MAX_SOURCES, MAX_SLOTS, MAX_ROOM_AUDIO, MAX_INDEX}
+use Rattle.desk_rows.specs.Row.{has_key, names, claims_of, makes, same_media}
+use Rattle.desk_rows.specs.Kinds.{is_of}
+use Rattle.desk_rows.specs.Order.{in_order, is_in}
+
+-- the members of all rooms in joining order, and the set of all other rows, listed in the one order of kinds and keys
+pub record Desk : Type 0 where
+  -- the SSRC under which the bridge itself speaks
+  pub bridge_ssrc : ℕ
+  pub members : List Member
+  pub others : List Row
+
+-- the desk without rows
+abbrev pub blank : ℕ → Desk
+blank bridge_ssrc = record { bridge_ssrc = bridge_ssrc; members = []; others = [] }
+
+-- all rows
+abbrev pub rows_of : Desk → List Row
+rows_of d = map rows.Member d.members ++ d.others
+
+-- the row with this key
+abbrev pub row_at : Desk → Key → Option Row
+row_at d key = find (has_key key) (rows_of d)
+
+-- whether the desk has the row
+abbrev pub holds : Desk → Row → Bool
+holds d r = is_in (rows_of d) r
+
+-- ---- kinds
+
+-- the rows of a kind: members in joining order, all others in the order of their keys
+abbrev pub rows_of_kind : Kind → Desk → List Row
+rows_of_kind kind d = filter (is_of kind) (rows_of d)
+
+-- how many rows of a kind there are
+abbrev pub count_of : Kind → Desk → ℕ
+count_of kind d = count_by (is_of kind) (rows_of d)
+
+-- ---- what makes a desk good
+
+-- what each row names is there
+abbrev pub is_named_there : Desk → Row → Bool
+is_named_there d r = list_all (λ key. list_any (has_key key) (rows_of d)) (names r)
+
+-- the bridge has its SSRC to itself
+abbrev pub is_bridges : Desk → Claim → Bool
+is_bridges d (claims.Ssrc ssrc) = nat_eq ssrc d.bridge_ssrc
+is_bridges d _ = false
+
+-- no other row makes this claim, nor does the bridge
+abbrev pub is_made_once : Desk → Claim → Bool
+is_made_once d claim = nat_eq (count_by (makes claim) (rows_of d)) 1 && not (is_bridges d claim)
+
+-- what a row has to itself it has alone
+abbrev pub is_alone : Desk → Row → Bool
+is_alone d r = list_all (is_made_once d) (claims_of r)
+
+-- the member is in the room
+abbrev pub is_member_in : Desk → ℕ → ℕ → Bool
+is_member_in d member room = list_any (λ m. nat_eq m.member member && nat_eq m.room room) d.members
+
+-- an audio source of a member of the room
+abbrev pub is_audio_in : Desk → ℕ → Row → Bool
+is_audio_in d room (rows.Source s) = same_media s.media Audio && is_member_in d s.member room
+is_audio_in d room _ = false
+
+-- the video source of this SSRC, of a member of the room
+abbrev pub is_video_in : Desk → ℕ → ℕ → Row → Bool
+is_video_in d room ssrc (rows.Source s) = (nat_eq s.ssrc ssrc && same_media s.media Video) && is_member_in d s.member room
+is_video_in d room ssrc _ = false
+
+-- the slot of this SSRC, of a member of the room
+abbrev pub is_slot_in : Desk → ℕ → ℕ → Row → Bool
+is_slot_in d room out_ssrc (rows.Slot s) = nat_eq s.out_ssrc out_ssrc && is_member_in d s.member room
+is_slot_in d room out_ssrc _ = false
+
+-- a room that has both this slot and this video source
+abbrev pub is_room_of_both : Desk → ℕ → ℕ → Row → Bool
+is_room_of_both d out_ssrc source (rows.Room r) = list_any (is_slot_in d r.room out_ssrc) d.others && list_any (is_video_in d r.room source) d.others
+is_room_of_both d out_ssrc source _ = false
+
+-- the rules of each kind: few audio sources in a room; a port; a place among 16; a slot and a video source that are in one room
+abbrev pub obeys : Desk → Row → Bool
+obeys d (rows.Room r) = nat_le (count_by (is_audio_in d r.room) d.others) MAX_ROOM_AUDIO
+obeys d (rows.Member m) = not (nat_eq m.address.port 0)
+obeys d (rows.Source s) = true
+obeys d (rows.Slot s) = nat_le s.index MAX_INDEX
+obeys d (rows.Sub s) = list_any (is_room_of_both d s.out_ssrc s.source) d.others
+
+-- no table is over its limit; subs have the keys of slots, so there are no more of them
+abbrev pub is_within_limits : Desk → Bool
+is_within_limits d =
+    (nat_le (count_of kinds.Room d) MAX_ROOMS && nat_le (count_of kinds.Member d) MAX_MEMBERS)
+    && (nat_le (count_of kinds.Source d) MAX_SOURCES && nat_le (count_of kinds.Slot d) MAX_SLOTS)
+
+-- the other rows are listed in order, and none of them is a member's
+abbrev pub is_listed : Desk → Bool
+is_listed d = in_order d.others && list_all (λ r. not (is_of kinds.Member r)) d.others
+
+-- keys are distinct and nothing else is shared, what is named is there, and the rules and limits hold
+unfoldable pub good : Desk → Bool
+good d =
+    (is_listed d && is_within_limits d)
+    && (list_all (is_named_there d) (rows_of d) && (list_all (is_alone d) (rows_of d) && list_all (obeys d) (rows_of d)))

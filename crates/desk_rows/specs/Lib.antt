@@ -1,0 +1,16 @@
+pub mod Row
+pub mod Kinds
+pub mod Order
+pub mod Desk
+pub mod Edit
+pub mod Equal
+pub mod Places
+pub mod PlaceLaws
+pub mod OrderLaws
+pub mod Exchange
+pub mod Laws
+pub mod Judged
+pub mod Tests
+pub mod AfterEdit
+pub mod Afterwards
+pub mod Exchanges

@@ -1,0 +1,41 @@
+-- The one order of rows: by kind, and within a kind by key.
+use Rattle.std.specs.Prelude.{Bool, true, ◌&&◌, ◌||◌, not, List, [], ◌∷◌, ◌++◌, filter, nat_eq, nat_lt, if◌then◌else◌}
+use Rattle.std.specs.List.{list_any, list_all}
+use Rattle.desk_rows.specs.declared.row.Row.{Row}
+use Rattle.desk_rows.specs.declared.row.Key.{Key}
+use Rattle.desk_rows.specs.Row.{rank, number, key_of, same_row}
+
+-- whether a key stands before another
+abbrev pub key_precedes : Key → Key → Bool
+key_precedes a b = nat_lt (rank a) (rank b) || (nat_eq (rank a) (rank b) && nat_lt (number a) (number b))
+
+abbrev pub precedes : Row → Row → Bool
+precedes a b = key_precedes (key_of a) (key_of b)
+
+-- each row stands before all behind it, so no two have one key
+abbrev pub in_order : List Row → Bool
+in_order [] = true
+in_order (r ∷ rs) = list_all (precedes r) rs && in_order rs
+
+-- the row stands before the first of these, if there is one
+abbrev pub precedes_head : Row → List Row → Bool
+precedes_head r [] = true
+precedes_head r (x ∷ xs) = precedes r x
+
+-- whether the row is among these
+abbrev pub is_in : List Row → Row → Bool
+is_in rs r = list_any (same_row r) rs
+
+-- rows in order with one more
+abbrev pub with_row : Row → List Row → List Row
+with_row r [] = r ∷ []
+with_row r (x ∷ xs) = if precedes r x then r ∷ x ∷ xs else x ∷ with_row r xs
+
+-- rows in order with these too
+abbrev pub with_rows : List Row → List Row → List Row
+with_rows [] xs = xs
+with_rows (r ∷ rs) xs = with_rows rs (with_row r xs)
+
+-- the rows without these
+abbrev pub without_rows : List Row → List Row → List Row
+without_rows rs xs = filter (λ x. not (is_in rs x)) xs

@@ -1,0 +1,38 @@
+-- Member rows with places, taken out of a list and put into one.
+use Rattle.std.specs.Prelude.{ℕ, zero, suc, ◌+◌, Bool, true, false, ◌&&◌, List, [], ◌∷◌, length, nat_le, nat_lt, insert, remove}
+use Rattle.std.specs.List.{list_all}
+use Rattle.desk_rows.specs.Row.{same_member}
+use Rattle.desk_rows.specs.declared.row.Member.{Member}
+use Rattle.desk_rows.specs.declared.edit.Placed.{Placed}
+
+-- without the rows at these places, which are those of the whole list if they rise
+abbrev pub take_at : List Placed → List Member → List Member
+take_at [] xs = xs
+take_at (p ∷ ps) xs = remove (take_at ps xs) p.place
+
+-- with these rows, each at its place in the list that comes out if places rise
+abbrev pub put_at : List Placed → List Member → List Member
+put_at [] xs = xs
+put_at (p ∷ ps) xs = put_at ps (insert xs p.place p.row)
+
+abbrev pub is_at : List Member → ℕ → Member → Bool
+is_at [] i m = false
+is_at (x ∷ xs) zero m = same_member x m
+is_at (x ∷ xs) (suc i) m = is_at xs i m
+
+abbrev pub can_take : List Placed → List Member → Bool
+can_take [] xs = true
+can_take (p ∷ ps) xs = can_take ps xs && is_at (take_at ps xs) p.place p.row
+
+abbrev pub can_put : List Placed → List Member → Bool
+can_put [] xs = true
+can_put (p ∷ ps) xs = nat_le p.place (length xs) && can_put ps (insert xs p.place p.row)
+
+abbrev pub places_rise : List Placed → Bool
+places_rise [] = true
+places_rise (p ∷ ps) = list_all (λ q. nat_lt p.place q.place) ps && places_rise ps
+
+-- a test of places that walks the rows once
+abbrev pub put_within : ℕ → List Placed → Bool
+put_within n [] = true
+put_within n (p ∷ ps) = nat_le p.place n && put_within (n + 1) ps

@@ -1,0 +1,257 @@
+//! The rows of a desk.
+
+ghost use Rattle.std.specs.Prelude.{◌≡◌, ◌++◌, ◌≤◌, true, IfOk, IfNone, length, map, filter, count_by, slice_get, refl};
+ghost use Rattle.std.specs.List.{find};
+ghost use Rattle.desk_rows.specs.declared.row.Row.TheVariants.{Member as MemberRow};
+ghost use Rattle.desk_rows.specs.Row.{has_key};
+ghost use Rattle.desk_rows.specs.Kinds.{is_of};
+ghost use Rattle.desk_rows.specs.Order.{is_in};
+ghost use Rattle.desk_rows.specs.Desk.{blank, good, holds, row_at, rows_of_kind, count_of};
+ghost use Rattle.desk_rows.specs.Edit.{inverse};
+ghost use Rattle.desk_rows.specs.Exchange.{fits, after};
+ghost use Rattle.desk_rows.specs.Laws.{inverse_fits, undoes, stays};
+
+use crate::edit::Edit;
+use crate::exchange::Exchange;
+use crate::limits::{MAX_MEMBERS, MAX_ROOMS, MAX_SLOTS, MAX_SOURCES};
+use crate::ordering::{put_rows, take_rows};
+use crate::places::{put_members, take_members};
+use crate::row::{Key, Kind, Member, Row};
+use std::alloc::{AllocError, Allocator, Global};
+use std::marker::Model;
+use undo_log::Reversible;
+
+/// How many rows there may be beside the members: rooms, sources, slots, and for each slot a sub.
+const MAX_OTHERS: usize = MAX_ROOMS + MAX_SOURCES + MAX_SLOTS + MAX_SLOTS;
+
+/// The rows of a desk, in room that was reserved for all that there may be.
+///
+/// Contracts see the desk: the members in joining order, and the set of all other rows, listed by
+/// kind and key. Each value is a good desk.
+#[derive(Drop)]
+pub struct Rows<A: Allocator + Copy = Global> {
+    bridge_ssrc: u32,
+    members: Vec<Member, A>,
+    others: Vec<Row, A>,
+}
+
+impl<A: Allocator + Copy> Model for Rows<A> {
+    ghost use Rattle.std.specs.Prelude.{◌≡◌, ◌≤◌, true, vec_capacity};
+    ghost use Rattle.desk_rows.specs.Desk.{Desk, good};
+    ghost use Rattle.desk_rows.specs.AfterEdit.{desk_of};
+
+    ghost Value = { Desk };
+
+    ghost view = { λ r. desk_of r.bridge_ssrc r.members.items r.others.items };
+
+    ghost invariant = { λ r.
+        (good (desk_of r.bridge_ssrc r.members.items r.others.items) ≡ true)
+        × (1024 ≤ vec_capacity r.members)
+        × (10304 ≤ vec_capacity r.others) };
+}
+
+impl<A: Allocator + Copy> Rows<A> {
+    ghost use Rattle.desk_rows.specs.Exchanges.{desk_in, edit_in};
+
+    /// The desk without rows, for a bridge that speaks under this SSRC.
+    pub fn new(alloc: A, bridge_ssrc: u32) -> Result<Self, AllocError>
+        ensures { IfOk result (λ rows. rows ≡ blank bridge_ssrc) }
+    {
+        Ok(Self {
+            bridge_ssrc,
+            members: Vec::with_capacity(alloc, MAX_MEMBERS)?,
+            others: Vec::with_capacity(alloc, MAX_OTHERS)?,
+        })
+    }
+
+    /// The desk is good: keys are distinct, what its rows name is there, and rules and limits hold.
+    pub fn known(&self)
+        ensures { good self.now ≡ true }
+    {
+        let _others = &self.others;
+    }
+
+    /// The SSRC under which the bridge itself speaks.
+    pub fn bridge_ssrc(&self) -> u32
+        ensures { result ≡ self.now.bridge_ssrc }
+    {
+        self.bridge_ssrc
+    }
+
+    /// The members of all rooms in joining order.
+    pub fn members(&self) -> &[Member]
+        ensures { result.now ≡ self.now.members }
+    {
+        &self.members
+    }
+
+    /// All other rows, by kind and within a kind by key.
+    pub fn others(&self) -> &[Row]
+        ensures { result.now ≡ self.now.others }
+    {
+        &self.others
+    }
+
+    /// Whether the desk has the row.
+    pub fn holds(&self, row: &Row) -> bool
+        ensures { result ≡ holds self.now row.now }
+    {
+        is_among(&self.members, &self.others, row)
+    }
+
+    /// The row with this key.
+    pub fn find(&self, key: &Key) -> Option<Row>
+        ensures { result ≡ row_at self.now key.now }
+    {
+        row_with(&self.members, &self.others, *key)
+    }
+
+    /// How many rows of the kind there are.
+    pub fn count(&self, kind: Kind) -> usize
+        ensures { result ≡ count_of kind self.now }
+    {
+        count_of_kind(&self.members, &self.others, kind)
+    }
+
+    /// The rows of the kind one by one, members by place and all others by key; none from
+    /// `count` on.
+    pub fn at(&self, kind: Kind, i: usize) -> Option<Row>
+        ensures { result ≡ slice_get (rows_of_kind kind self.now) i }
+    {
+        row_of_kind(&self.members, &self.others, kind, i)
+    }
+
+    fn exchange<'a>(&'a self, edit: &'a Edit<A>) -> Exchange<'a>
+        ensures desk { desk_in result ≡ self.now }
+        ensures edit { edit_in result ≡ edit.now }
+    {
+        Exchange {
+            bridge_ssrc: self.bridge_ssrc,
+            members: &self.members,
+            others: &self.others,
+            taken_members: edit.taken_members(),
+            taken: edit.taken_others(),
+            old: edit.old(),
+            put_members: edit.put_members(),
+            put: edit.put_others(),
+            new: edit.new(),
+        }
+    }
+}
+
+fn is_among(members: &[Member], others: &[Row], row: &Row) -> bool
+    ensures { result ≡ is_in (map MemberRow members.now ++ others.now) row.now }
+{
+    members
+        .iter()
+        .map(|member| Row::Member(*member))
+        .chain(others.iter().copied())
+        .any(|other| row.is_same(&other))
+}
+
+fn row_with(members: &[Member], others: &[Row], key: Key) -> Option<Row>
+    ensures { result ≡ find (has_key key) (map MemberRow members.now ++ others.now) }
+{
+    members
+        .iter()
+        .map(|member| Row::Member(*member))
+        .chain(others.iter().copied())
+        .find(|row| row.has_key(key))
+}
+
+fn count_of_kind(members: &[Member], others: &[Row], kind: Kind) -> usize
+    ensures { result ≡ count_by (is_of kind) (map MemberRow members.now ++ others.now) }
+{
+    members
+        .iter()
+        .map(|member| Row::Member(*member))
+        .chain(others.iter().copied())
+        .filter(|row| row.is_of(kind))
+        .count()
+}
+
+fn member_row(members: &[Member], i: usize) -> Option<Row>
+    ensures row { result ≡ slice_get (map MemberRow members.now) i }
+    ensures past { IfNone result (length members.now ≤ i) }
+{
+    if i >= members.len() {
+        return None;
+    }
+    Some(Row::Member(members[i]))
+}
+
+fn row_of_kind(members: &[Member], others: &[Row], kind: Kind, i: usize) -> Option<Row>
+    ensures { result ≡ slice_get (filter (is_of kind) (map MemberRow members.now ++ others.now)) i }
+{
+    match kind {
+        Kind::Member => match member_row(members, i) {
+            Some(row) => Some(row),
+            None => other_of_kind(others, kind, i - members.len()),
+        },
+        _ => other_of_kind(others, kind, i),
+    }
+}
+
+fn other_of_kind(others: &[Row], kind: Kind, i: usize) -> Option<Row>
+    ensures { result ≡ slice_get (filter (is_of kind) others.now) i }
+{
+    let mut rest = others;
+    let mut left = i;
+    while let Some((row, later)) = rest.split_first() {
+        if row.is_of(kind) {
+            if left == 0 {
+                return Some(*row);
+            }
+            left -= 1;
+        }
+        rest = later;
+    }
+    None
+}
+
+impl<A: Allocator + Copy> Reversible for Rows<A> {
+    type Edit = Edit<A>;
+
+    type Alloc = A;
+
+    ghost can_absorb = { fits };
+
+    ghost after = { after };
+
+    ghost inverse = { inverse };
+
+    fn fits(&self, edit: &Edit<A>) -> bool {
+        self.known();
+        self.exchange(edit).fits()
+    }
+
+    fn absorb(&mut self, edit: &Edit<A>) {
+        if !self.fits(edit) {
+            return;
+        }
+        let (leaving, joining) = (edit.taken_members(), edit.put_members());
+        let (taken, put) = (edit.taken_others(), edit.put_others());
+        let (old, new) = (edit.old(), edit.new());
+        take_members(&mut self.members, leaving);
+        put_members(&mut self.members, joining);
+        take_rows(&mut self.others, taken, old);
+        put_rows(&mut self.others, put);
+        put_rows(&mut self.others, new);
+    }
+
+    fn invert(edit: Edit<A>) -> Edit<A> {
+        edit.inverted()
+    }
+
+    fn copy(alloc: A, edit: &Edit<A>) -> Result<Edit<A>, AllocError> {
+        edit.copy(alloc)
+    }
+
+    ghost inverse_twice = { λ e. refl };
+
+    ghost inverse_fits = { inverse_fits };
+
+    ghost undoes = { undoes };
+
+    ghost stays = { stays };
+}
