@@ -1,0 +1,106 @@
+-- What goes with a row is what depends on it.
+use Rattle.std.proofs.Common.{◌≡◌, ℕ, ◌<◌, ◌≤◌, zero, suc, Bool, true, ◌&&◌, List, [], ◌∷◌, sym, subst, ◌⊎◌, inl, inr, arith}
+use Rattle.std.specs.List.{list_any}
+use Rattle.std.proofs.lemmas.Bool.{and_parts, and_from, or_left, or_right, or_cases}
+use Rattle.desk_rows.specs.declared.row.Row.{Row}
+use Rattle.desk_rows.specs.declared.row.Row.TheVariants as rows
+use Rattle.desk_rows.specs.declared.row.Key.{Key}
+use Rattle.desk_rows.specs.Row.{has_key, names, same_row}
+use Rattle.desk_rows.specs.Equal.{same_row_is}
+use Rattle.desk_rows.specs.Order.{is_in}
+use Rattle.desk_rows.specs.Desk.{Desk, rows_of, holds}
+use Rattle.desk_rows.proofs.Counts.{true_false, witness}
+use Rattle.desk_edit.specs.Depends.{Names, Depends, IsDependent, goes_within, goes_with}
+
+-- a key that passes, where some do
+key_some : (p : Key → Bool) (ks : List Key) → list_any p ks ≡ true → (k : Key) × (p k ≡ true) × ((q : Key → Bool) → q k ≡ true → list_any q ks ≡ true)
+key_some p [] h = absurd (true_false (sym h))
+key_some p (k ∷ ks) h =
+    elim (or_cases (p k) (list_any p ks) h) [
+      | inl e ↦ (k, e, λ q here. or_left _ _ here)
+      | inr e ↦ let w = key_some p ks e in (w.0, w.1, λ q here. or_right _ _ (w.2 q here))
+    ]
+
+row_some : (p : Row → Bool) (rs : List Row) (t : Row) → is_in rs t ≡ true → p t ≡ true → list_any p rs ≡ true
+row_some p [] t h e = absurd (true_false (sym h))
+row_some p (r ∷ rs) t h e =
+    elim (or_cases (same_row t r) (is_in rs t) h) [
+      | inl s ↦ or_left _ _ (subst (λ (x : Row). p x ≡ true) (same_row_is t r s) e)
+      | inr s ↦ or_right _ _ (row_some p rs t s e)
+    ]
+
+pub only_dependent : (n : ℕ) (d : Desk) (key : Key) (r : Row) → goes_within n d key r ≡ true → (has_key key r ≡ true) ⊎ IsDependent d key r
+only_dependent zero d key r h = inl h
+only_dependent (suc n) d key r h =
+    elim (or_cases (has_key key r) (list_any (λ k. list_any (λ s. has_key k s && goes_within n d key s) (rows_of d)) (names r)) h) [
+      | inl own ↦ inl own
+      | inr e ↦
+          let k = key_some (λ k. list_any (λ s. has_key k s && goes_within n d key s) (rows_of d)) (names r) e in
+          let t = witness (λ s. has_key k.0 s && goes_within n d key s) (rows_of d) k.1 in
+          let both = and_parts (has_key k.0 t.0) (goes_within n d key t.0) t.2 in
+          let named : Names r t.0 = k.2 (λ j. has_key j t.0) both.0 in
+          inr (elim (only_dependent n d key t.0 both.1) [
+            | inl own ↦ (t.0, t.1, own, Depends.direct r t.0 named)
+            | inr more ↦ (more.0, more.1, more.2, Depends.through r t.0 more.0 named t.1 more.3)
+          ])
+    ]
+
+one_further : (n : ℕ) (d : Desk) (key : Key) (r t : Row) → Names r t → holds d t ≡ true → goes_within n d key t ≡ true → goes_within (suc n) d key r ≡ true
+one_further n d key r t named held goes =
+    let k = key_some (λ j. has_key j t) (names r) named in
+    or_right (has_key key r) _ (k.2 (λ j. list_any (λ s. has_key j s && goes_within n d key s) (rows_of d))
+    (row_some (λ s. has_key k.0 s && goes_within n d key s) (rows_of d) t held (and_from _ _ k.1 goes)))
+
+own_goes : (n : ℕ) (d : Desk) (key : Key) (s : Row) → has_key key s ≡ true → goes_within n d key s ≡ true
+own_goes zero d key s h = h
+own_goes (suc n) d key s h = or_left _ _ h
+
+-- how many rows there can be below a row
+level : Row → ℕ
+level (rows.Room r) = 0
+level (rows.Member m) = 1
+level (rows.Source s) = 2
+level (rows.Slot s) = 2
+level (rows.Sub s) = 3
+
+three_at_most : (r : Row) → level r ≤ 3
+unfolding level
+three_at_most (rows.Room r) = omega arith
+three_at_most (rows.Member m) = omega arith
+three_at_most (rows.Source s) = omega arith
+three_at_most (rows.Slot s) = omega arith
+three_at_most (rows.Sub s) = omega arith
+
+lower : (r t : Row) → Names r t → level t < level r
+unfolding level
+lower (rows.Room r) t h = absurd (true_false (sym h))
+lower (rows.Member m) (rows.Room t) h = omega arith
+lower (rows.Member m) (rows.Member t) h = absurd (true_false (sym h))
+lower (rows.Member m) (rows.Source t) h = absurd (true_false (sym h))
+lower (rows.Member m) (rows.Slot t) h = absurd (true_false (sym h))
+lower (rows.Member m) (rows.Sub t) h = absurd (true_false (sym h))
+lower (rows.Source s) (rows.Room t) h = omega arith
+lower (rows.Source s) (rows.Member t) h = omega arith
+lower (rows.Source s) (rows.Source t) h = absurd (true_false (sym h))
+lower (rows.Source s) (rows.Slot t) h = absurd (true_false (sym h))
+lower (rows.Source s) (rows.Sub t) h = absurd (true_false (sym h))
+lower (rows.Slot s) (rows.Room t) h = omega arith
+lower (rows.Slot s) (rows.Member t) h = omega arith
+lower (rows.Slot s) (rows.Source t) h = absurd (true_false (sym h))
+lower (rows.Slot s) (rows.Slot t) h = absurd (true_false (sym h))
+lower (rows.Slot s) (rows.Sub t) h = absurd (true_false (sym h))
+lower (rows.Sub s) (rows.Room t) h = omega arith
+lower (rows.Sub s) (rows.Member t) h = omega arith
+lower (rows.Sub s) (rows.Source t) h = omega arith
+lower (rows.Sub s) (rows.Slot t) h = omega arith
+lower (rows.Sub s) (rows.Sub t) h = absurd (true_false (sym h))
+
+within : (n : ℕ) (d : Desk) (key : Key) (r s : Row) → level r ≤ n → holds d s ≡ true → has_key key s ≡ true → Depends d r s → goes_within n d key r ≡ true
+within zero d key r s few held own (Depends.direct _ _ named) = absurd (let less = lower r s named in omega (arith, less, few))
+within zero d key r s few held own (Depends.through _ t _ named there rest) = absurd (let less = lower r t named in omega (arith, less, few))
+within (suc n) d key r s few held own (Depends.direct _ _ named) = one_further n d key r s named held (own_goes n d key s own)
+within (suc n) d key r s few held own (Depends.through _ t _ named there rest) =
+    one_further n d key r t named there (within n d key t s (let less = lower r t named in omega (arith, less, few)) held own rest)
+
+pub dependent_goes : (d : Desk) (key : Key) (r : Row) → IsDependent d key r → goes_with d key r ≡ true
+dependent_goes d key r h = within 3 d key r h.0 (three_at_most r) h.1 h.2 h.3

@@ -1,0 +1,99 @@
+-- An edit fits where the rows that come are sound and those that stay remain so.
+use Rattle.std.proofs.Common.{◌≡◌, ℕ, ◌+◌, ◌-◌, ◌<◌, ◌≤◌, nat_le, nat_eq, nat_lt, Bool, true, false, not, cond, ◌&&◌, ◌||◌, List, [], ◌∷◌, ◌++◌, map, length, filter, refl, sym, ap, ◌∙◌, inl, inr, ◌⊎◌, arith}
+use Rattle.std.specs.Prelude.{count_by}
+use Rattle.std.specs.List.{list_any, list_all}
+use Rattle.std.proofs.lemmas.Bool.{and_parts, and_from, or_cases, or_left, or_right, cases_Bool}
+use borrow.Author.Tests.{eqb-true, eq-eqb}
+use Rattle.desk_rows.specs.declared.row.Row.{Row}
+use Rattle.desk_rows.specs.declared.row.Row.TheVariants.{Room, Member, Source, Slot, Sub}
+use Rattle.desk_rows.specs.declared.row.Key.{Key}
+use Rattle.desk_rows.specs.declared.row.Key.TheVariants as keys
+use Rattle.desk_rows.specs.declared.row.Kind.{Kind}
+use Rattle.desk_rows.specs.declared.row.Kind.TheVariants as kinds
+use Rattle.desk_rows.specs.declared.claim.Claim.{Claim}
+use Rattle.desk_rows.specs.declared.limits.TheConstants.{MAX_ROOMS, MAX_MEMBERS, MAX_SOURCES, MAX_SLOTS, MAX_ROOM_AUDIO}
+use Rattle.desk_rows.specs.Row.{key_of, has_key, names, makes, claims_of}
+use Rattle.desk_rows.specs.Kinds.{is_of}
+use Rattle.desk_rows.specs.Order.{in_order, is_in}
+use Rattle.desk_rows.specs.OrderLaws.{at_each, from_each}
+use Rattle.desk_rows.specs.Edit.{EditOf, outs, ins}
+use Rattle.desk_rows.specs.Desk.{Desk, good, rows_of, count_of, is_within_limits, is_named_there, is_made_once, is_bridges, is_alone, obeys}
+use Rattle.desk_rows.specs.Exchange.{is_apt, exchanged, fits}
+use Rattle.desk_rows.specs.Judged.{takes, puts, keeps_names, all_come, all_stay, is_sound, stays_sound, judged}
+use Rattle.desk_rows.specs.Laws.{Apt, apt_from, Good, good_parts, good_order, fits_from}
+use Rattle.desk_rows.proofs.Counts.{stay_count, go_count, come_count, before_count, after_count, any_count, some_count, count_some, rows_count}
+use Rattle.desk_rows.proofs.Judging.{judged_right}
+
+-- what is to be shown of an edit
+pub record Carries (d : Desk) (e : EditOf) : Type 0 where
+  pub apt : Apt d e
+  pub plain : list_all (λ r. not (is_of kinds.Member r)) (ins e) ≡ true
+  pub within : is_within_limits (exchanged d e) ≡ true
+  pub come : all_come (is_sound (exchanged d e)) e ≡ true
+  pub stay : all_stay (stays_sound d e) d e ≡ true
+
+pub fits_carried : (d : Desk) (e : EditOf) → good d ≡ true → Carries d e → fits d e ≡ true
+unfolding judged
+fits_carried d e g c =
+    fits_from d e record {
+      before = g;
+      apt = c.apt;
+      later = judged_right d e g c.apt ∙ and_from _ _ (and_from _ _ c.plain c.within) (and_from _ _ c.come c.stay);
+    }
+
+-- ---- limits
+
+pub record Within (d : Desk) : Type 0 where
+  pub rooms : count_of kinds.Room d ≤ 64
+  pub members : count_of kinds.Member d ≤ 1024
+  pub sources : count_of kinds.Source d ≤ 2048
+  pub slots : count_of kinds.Slot d ≤ 4096
+
+at_most : (m n : ℕ) → nat_le m n ≡ true → m ≤ n
+at_most m n h = grind (arith, h)
+
+most : (m n : ℕ) → m ≤ n → nat_le m n ≡ true
+most m n h = grind (arith, h)
+
+pub within_parts : (d : Desk) → good d ≡ true → Within d
+within_parts d g =
+    let both = and_parts (nat_le (count_of kinds.Room d) MAX_ROOMS && nat_le (count_of kinds.Member d) MAX_MEMBERS) (nat_le (count_of kinds.Source d) MAX_SOURCES && nat_le (count_of kinds.Slot d) MAX_SLOTS) (good_parts d g).within in
+    let one = and_parts (nat_le (count_of kinds.Room d) MAX_ROOMS) (nat_le (count_of kinds.Member d) MAX_MEMBERS) both.0 in
+    let two = and_parts (nat_le (count_of kinds.Source d) MAX_SOURCES) (nat_le (count_of kinds.Slot d) MAX_SLOTS) both.1 in
+    record { rooms = at_most _ _ one.0; members = at_most _ _ one.1; sources = at_most _ _ two.0; slots = at_most _ _ two.1 }
+
+pub within_from : (d : Desk) → Within d → is_within_limits d ≡ true
+within_from d w = and_from _ _ (and_from _ _ (most _ _ w.rooms) (most _ _ w.members)) (and_from _ _ (most _ _ w.sources) (most _ _ w.slots))
+
+-- no kind has more rows than before and those that come
+pub count_grows : (p : Row → Bool) (d : Desk) (e : EditOf) → good d ≡ true → Apt d e → count_by p (rows_of (exchanged d e)) ≤ count_by p (rows_of d) + come_count p e
+count_grows p d e g a =
+    let before = before_count p d e (good_order d g) a in
+    let later = after_count p d e a in
+    omega (arith, before, later)
+
+-- where nothing of a kind goes, all of it is there still
+pub count_stays : (p : Row → Bool) (d : Desk) (e : EditOf) → good d ≡ true → Apt d e → go_count p e ≡ 0 → count_by p (rows_of (exchanged d e)) ≡ count_by p (rows_of d) + come_count p e
+count_stays p d e g a none =
+    let before = before_count p d e (good_order d g) a in
+    let later = after_count p d e a in
+    omega (arith, before, later, none)
+
+pub any_stays : (p : Row → Bool) (d : Desk) (e : EditOf) → good d ≡ true → Apt d e → go_count p e ≡ 0 → list_any p (rows_of d) ≡ true → list_any p (rows_of (exchanged d e)) ≡ true
+any_stays p d e g a none h =
+    let n = count_stays p d e g a none in
+    let some = some_count p (rows_of d) h in
+    count_some p (rows_of (exchanged d e)) (omega (arith, n, some))
+
+pub none_counts : (p : Row → Bool) (rs : List Row) → list_any p rs ≡ false → count_by p rs ≡ 0
+none_counts p rs h = let e : nat_lt 0 (count_by p rs) ≡ false = sym (any_count p rs) ∙ h in grind (arith, e)
+
+-- ---- soundness
+
+pub sound : (d : Desk) (r : Row) → is_named_there d r ≡ true → is_alone d r ≡ true → obeys d r ≡ true → is_sound d r ≡ true
+unfolding is_sound
+sound d r a b c = and_from _ _ a (and_from _ _ b c)
+
+pub remains_sound : (d : Desk) (e : EditOf) (r : Row) → keeps_names e r ≡ true → obeys (exchanged d e) r ≡ true → stays_sound d e r ≡ true
+unfolding stays_sound
+remains_sound d e r a b = and_from _ _ a b

@@ -1,0 +1,114 @@
+-- A row that is no member's is put.
+use Rattle.std.proofs.Common.{◌≡◌, ℕ, ◌+◌, ◌<◌, ◌≤◌, nat_le, nat_eq, nat_lt, Bool, true, false, not, cond, ◌&&◌, ◌||◌, List, [], ◌∷◌, ◌++◌, map, filter, refl, sym, ap, subst, ◌∙◌, inl, inr, ◌⊎◌, arith}
+use Rattle.std.specs.Prelude.{count_by}
+use Rattle.std.specs.List.{list_any, list_all}
+use Rattle.std.proofs.lemmas.Bool.{and_parts, and_from, or_cases, or_left, or_right, cases_Bool}
+use borrow.Author.Tests.{eqb-true, eq-eqb}
+use Rattle.desk_rows.specs.declared.row.Row.{Row}
+use Rattle.desk_rows.specs.declared.row.Row.TheVariants.{Room, Member, Source, Slot, Sub}
+use Rattle.desk_rows.specs.declared.row.Key.{Key}
+use Rattle.desk_rows.specs.declared.row.Kind.TheVariants as kinds
+use Rattle.desk_rows.specs.declared.claim.Claim.{Claim}
+use Rattle.desk_rows.specs.Row.{key_of, has_key, names, makes, claims_of, same_row}
+use Rattle.desk_rows.specs.Kinds.{is_of}
+use Rattle.desk_rows.specs.Order.{in_order, is_in, with_row, without_rows}
+use Rattle.desk_rows.specs.OrderLaws.{at_each, from_each, list_all-filter, filter_all, is_in-with_row, count_by-with_row}
+use Rattle.desk_rows.specs.PlaceLaws.{count_next}
+use Rattle.desk_rows.specs.Edit.{EditOf, outs, ins}
+use Rattle.desk_rows.specs.Desk.{Desk, good, rows_of, count_of, is_within_limits, is_named_there, is_made_once, is_bridges, is_alone, is_audio_in, obeys}
+use Rattle.desk_rows.specs.Exchange.{exchanged}
+use Rattle.desk_rows.specs.Judged.{keeps_names, all_stay, is_sound, stays_sound}
+use Rattle.desk_rows.specs.Laws.{Apt, Good, good_parts}
+use Rattle.desk_rows.proofs.Counts.{any_count, go_count, come_count}
+use Rattle.desk_rows.proofs.Judging.{own_claims, each_claim, bridge_same}
+use Rattle.desk_edit.specs.Commands.{with_other}
+use Rattle.desk_edit.specs.Edits.{puts_other}
+use Rattle.desk_edit.specs.Refusals.{has, is_claimed}
+use Rattle.desk_edit.proofs.Fitting.{Carries, Within, within_parts, within_from, count_stays, any_stays, none_counts, sound, remains_sound}
+use Rattle.desk_edit.proofs.Obeying.{obeys_beside, stands_among, obeys_split, each_member}
+
+-- what is asked of a row that is put
+pub record CanCome (d : Desk) (r : Row) : Type 0 where
+  pub plain : not (is_of kinds.Member r) ≡ true
+  pub named : list_all (has d) (names r) ≡ true
+  pub free : list_all (λ c. not (is_claimed d c) && not (is_bridges d c)) (claims_of r) ≡ true
+  pub rooms : count_of kinds.Room d + cond (is_of kinds.Room r) 1 0 ≤ 64
+  pub sources : count_of kinds.Source d + cond (is_of kinds.Source r) 1 0 ≤ 2048
+  pub slots : count_of kinds.Slot d + cond (is_of kinds.Slot r) 1 0 ≤ 4096
+  pub audio : (room : ℕ) → count_by (is_audio_in d room) d.others ≤ 64 → cond (is_audio_in d room r) 1 0 + count_by (is_audio_in d room) d.others ≤ 64
+  pub obeys : obeys (with_other d r) r ≡ true
+
+pub put_is : (d : Desk) (r : Row) → exchanged d (puts_other r) ≡ with_other d r
+unfolding exchanged
+put_is d r = λ i. record d { others = with_row r (filter_all (λ x. true) d.others (from_each (λ x. true) d.others (λ q one. refl)) i) }
+
+put_apt : (d : Desk) (r : Row) → Apt d (puts_other r)
+put_apt d r = record { take_rise = refl; take = refl; put_rise = refl; put = refl; outs_order = refl; outs_there = refl; ins_order = refl }
+
+one_comes : (p : Row → Bool) (r : Row) → come_count p (puts_other r) ≡ cond (p r) 1 0
+one_comes p r = let n = count_next p r [] in omega (arith, n)
+
+-- keys that are there stay where nothing goes
+pub keys_stay : (d : Desk) (e : EditOf) → good d ≡ true → Apt d e → ((p : Row → Bool) → go_count p e ≡ 0) → (ks : List Key) → list_all (has d) ks ≡ true →
+    list_all (λ key. list_any (has_key key) (rows_of (exchanged d e))) ks ≡ true
+keys_stay d e g a none [] h = refl
+keys_stay d e g a none (k ∷ ks) h =
+    let both = and_parts (has d k) (list_all (has d) ks) h in
+    and_from _ _ (any_stays (has_key k) d e g a (none (has_key k)) both.0) (keys_stay d e g a none ks both.1)
+
+-- a claim that was free is made once where the one row that comes makes it
+pub claimed_once : (d : Desk) (e : EditOf) → good d ≡ true → Apt d e → ((p : Row → Bool) → go_count p e ≡ 0) → (c : Claim) → come_count (makes c) e ≡ 1 →
+    (not (is_claimed d c) && not (is_bridges d c)) ≡ true → is_made_once (exchanged d e) c ≡ true
+claimed_once d e g a gone c one h =
+    let both = and_parts (not (is_claimed d c)) (not (is_bridges d c)) h in
+    let none = none_counts (makes c) (rows_of d) (not_true (is_claimed d c) both.0) in
+    let n = count_stays (makes c) d e g a (gone (makes c)) in
+    let once : count_by (makes c) (rows_of (exchanged d e)) ≡ 1 = omega (arith, none, n, one) in
+    and_from _ _ (eq-eqb _ _ once) (ap not (bridge_same d e c) ∙ both.1) where
+      not_true : (b : Bool) → not b ≡ true → b ≡ false
+      not_true true e = sym e
+      not_true false e = refl
+
+none_named : (r x : Row) → keeps_names (puts_other r) x ≡ true
+none_named r (Room x) = refl
+none_named r (Member x) = refl
+none_named r (Source x) = refl
+none_named r (Slot x) = refl
+none_named r (Sub x) = refl
+
+-- a row that can come is put by an edit that fits
+pub put_carries : (d : Desk) (r : Row) → good d ≡ true → CanCome d r → Carries d (puts_other r)
+put_carries d r g c =
+    let e = puts_other r in
+    let d' = exchanged d e in
+    let a = put_apt d r in
+    let w = within_parts d g in
+    let is = put_is d r in
+    let old = obeys_split d (good_parts d g).obey in
+    let still : (x : Row) → obeys d x ≡ true → obeys d' x ≡ true =
+    λ x h. ap (λ desk. obeys desk x) is
+    ∙ obeys_beside d (with_row r d.others) x h
+    (λ room few. let n = count_by-with_row (is_audio_in d room) r d.others in let l = c.audio room few in omega (arith, n, l))
+    (stands_among d (with_row r d.others) (λ q one. is_in-with_row r d.others q ∙ or_right _ _ one) x) in
+    record {
+      apt = a;
+      plain = and_from _ _ c.plain refl;
+      within = within_from d' record {
+        rooms = (let n = count_stays (is_of kinds.Room) d e g a refl in omega (arith, n, one_comes (is_of kinds.Room) r, c.rooms));
+        members = (let n = count_stays (is_of kinds.Member) d e g a refl in omega (arith, n, one_comes (is_of kinds.Member) r, w.members, no_member (is_of kinds.Member r) c.plain));
+        sources = (let n = count_stays (is_of kinds.Source) d e g a refl in omega (arith, n, one_comes (is_of kinds.Source) r, c.sources));
+        slots = (let n = count_stays (is_of kinds.Slot) d e g a refl in omega (arith, n, one_comes (is_of kinds.Slot) r, c.slots));
+      };
+      come = and_from _ _ (sound d' r
+          (keys_stay d e g a (λ p. refl) (names r) c.named)
+          (each_claim (λ k. makes k r) (λ k. not (is_claimed d k) && not (is_bridges d k)) (is_made_once d') (claims_of r)
+          (λ k own free. claimed_once d e g a (λ p. refl) k (one_comes (makes k) r ∙ ap (λ b. cond b 1 0) own) free) (own_claims r) c.free)
+          (ap (λ desk. obeys desk r) is ∙ c.obeys)) refl;
+      stay = and_from _ _
+          (each_member (λ m. obeys d (Member m)) (λ m. stays_sound d e (Member m)) d.members (λ m h. remains_sound d e (Member m) (none_named r (Member m)) (still (Member m) h)) old.0)
+          (from_each (stays_sound d e) (without_rows [] d.others) (λ q one. remains_sound d e q (none_named r q)
+          (still q (at_each (obeys d) (without_rows [] d.others) q (list_all-filter (obeys d) (λ x. true) d.others old.1) one))));
+    } where
+      no_member : (b : Bool) → not b ≡ true → ◌≡◌ {A = ℕ} (cond b 1 0) 0
+      no_member true h = cc
+      no_member false h = refl

@@ -1,0 +1,34 @@
+-- The edits that carry commands out. No public clause cites them.
+use Rattle.std.specs.Prelude.{ℕ, Bool, ◌||◌, List, [], ◌∷◌, Option, Some, None}
+use Rattle.desk_rows.specs.declared.row.Row.{Row}
+use Rattle.desk_rows.specs.declared.row.Member.{Member}
+use Rattle.desk_rows.specs.declared.row.Key.TheVariants as keys
+use Rattle.desk_rows.specs.Row.{has_key}
+use Rattle.desk_rows.specs.Edit.{EditOf, PartOf, ReplacedOf}
+
+abbrev pub no_part : PartOf
+no_part = record { members = []; others = [] }
+
+abbrev pub none_replaced : ReplacedOf
+none_replaced = record { old = []; new = [] }
+
+abbrev pub puts_other : Row → EditOf
+puts_other r = record { taken = no_part; put = record { members = []; others = r ∷ [] }; replaced = none_replaced }
+
+abbrev pub puts_member : ℕ → Member → EditOf
+puts_member place m = record { taken = no_part; put = record { members = record { place = place; row = m } ∷ []; others = [] }; replaced = none_replaced }
+
+abbrev pub takes_others : List Row → EditOf
+takes_others rs = record { taken = record { members = []; others = rs }; put = no_part; replaced = none_replaced }
+
+abbrev pub replaces : Row → Row → EditOf
+replaces old new = record { taken = no_part; put = no_part; replaced = record { old = old ∷ []; new = new ∷ [] } }
+
+-- the slot or its sub
+abbrev pub goes_with_slot : ℕ → Row → Bool
+goes_with_slot out_ssrc r = has_key (keys.Slot out_ssrc) r || has_key (keys.Sub out_ssrc) r
+
+-- a sub is put in place of the one that there is of its key
+abbrev pub puts_in_place : Option Row → Row → EditOf
+puts_in_place None r = puts_other r
+puts_in_place (Some old) r = replaces old r

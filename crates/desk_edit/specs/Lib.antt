@@ -1,0 +1,6 @@
+pub mod Depends
+pub mod Commands
+pub mod Refusals
+pub mod Edits
+pub mod Planned
+pub mod Calls

@@ -1,0 +1,127 @@
+-- When commands are refused, and by which refusal: the first that holds.
+use Rattle.std.specs.Prelude.{◌≡◌, ℕ, Bool, true, false, not, ◌&&◌, ◌||◌, List, [], ◌∷◌, nat_eq, nat_le, nat_lt, count_by, Option, Some, None, if◌then◌else◌}
+use Rattle.std.specs.List.{list_any}
+use Rattle.desk_rows.specs.declared.row.Row.{Row}
+use Rattle.desk_rows.specs.declared.row.Row.TheVariants as rows
+use Rattle.desk_rows.specs.declared.row.Media.TheVariants.{Audio, Video}
+use Rattle.desk_rows.specs.declared.row.Member.{Member}
+use Rattle.desk_rows.specs.declared.row.Source.{Source}
+use Rattle.desk_rows.specs.declared.row.Slot.{Slot}
+use Rattle.desk_rows.specs.declared.row.Sub.{Sub}
+use Rattle.desk_rows.specs.declared.row.Key.{Key}
+use Rattle.desk_rows.specs.declared.row.Key.TheVariants as keys
+use Rattle.desk_rows.specs.declared.row.Kind.TheVariants as kinds
+use Rattle.desk_rows.specs.declared.claim.Claim.{Claim}
+use Rattle.desk_rows.specs.declared.claim.Claim.TheVariants as claims
+use Rattle.desk_rows.specs.declared.limits.TheConstants.{MAX_ROOMS, MAX_MEMBERS, MAX_SOURCES, MAX_SLOTS, MAX_ROOM_AUDIO, MAX_INDEX}
+use Rattle.desk_rows.specs.Row.{has_key, makes, same_media}
+use Rattle.desk_rows.specs.Desk.{Desk, rows_of, holds, count_of, is_member_in, is_audio_in, is_room_of_both}
+use Rattle.desk_edit.specs.declared.command.Command.{Command}
+use Rattle.desk_edit.specs.declared.command.Command.TheVariants.{AddRoom, AddMember, AddSource, AddSlot, RemoveSlot, Subscribe}
+use Rattle.desk_edit.specs.declared.command.Refusal.{Refusal}
+use Rattle.desk_edit.specs.declared.command.Refusal.TheVariants as refusals
+use Rattle.desk_edit.specs.declared.command.Table.TheVariants as tables
+
+-- the desk has a row of this key
+abbrev pub has : Desk → Key → Bool
+has d key = list_any (has_key key) (rows_of d)
+
+-- some row makes this claim
+abbrev pub is_claimed : Desk → Claim → Bool
+is_claimed d claim = list_any (makes claim) (rows_of d)
+
+-- the bridge, a source or an outgoing stream has this SSRC
+abbrev pub ssrc_is_taken : Desk → ℕ → Bool
+ssrc_is_taken d ssrc = nat_eq ssrc d.bridge_ssrc || is_claimed d (claims.Ssrc ssrc)
+
+-- the source of this SSRC sends video
+abbrev pub sends_video : ℕ → Row → Bool
+sends_video ssrc (rows.Source s) = nat_eq s.ssrc ssrc && same_media s.media Video
+sends_video ssrc _ = false
+
+-- the room of this member has all the audio sources that it may have
+abbrev pub is_full_room : Desk → ℕ → Row → Bool
+is_full_room d member (rows.Room r) = is_member_in d member r.room && nat_le MAX_ROOM_AUDIO (count_by (is_audio_in d r.room) d.others)
+is_full_room d member _ = false
+
+-- a source of audio would be one too many in its member's room
+abbrev pub fills_room : Desk → Source → Bool
+fills_room d s = same_media s.media Audio && list_any (is_full_room d s.member) d.others
+
+-- the first refusal whose case holds
+abbrev pub first_case : List (Bool × Refusal) → Option Refusal
+first_case [] = None
+first_case (c ∷ cs) = if c.0 then Some c.1 else first_case cs
+
+abbrev pub room_cases : Desk → ℕ → List (Bool × Refusal)
+room_cases d room =
+    (has d (keys.Room room), refusals.Exists)
+    ∷ (nat_le MAX_ROOMS (count_of kinds.Room d), refusals.Full tables.Rooms MAX_ROOMS)
+    ∷ []
+
+unfoldable pub room_refused : Desk → ℕ → Option Refusal
+room_refused d room = first_case (room_cases d room)
+
+abbrev pub member_cases : Desk → Member → List (Bool × Refusal)
+member_cases d m =
+    (has d (keys.Member m.member) || is_claimed d (claims.Address m.address), refusals.Exists)
+    ∷ (not (has d (keys.Room m.room)), refusals.NoRoom)
+    ∷ (ssrc_is_taken d m.out_audio, refusals.SsrcTaken)
+    ∷ (nat_eq m.address.port 0, refusals.BadValue)
+    ∷ (nat_le MAX_MEMBERS (count_of kinds.Member d), refusals.Full tables.Members MAX_MEMBERS)
+    ∷ []
+
+unfoldable pub member_refused : Desk → Member → Option Refusal
+member_refused d m = first_case (member_cases d m)
+
+abbrev pub source_cases : Desk → Source → List (Bool × Refusal)
+source_cases d s =
+    (has d (keys.Source s.ssrc), refusals.Exists)
+    ∷ (not (has d (keys.Member s.member)), refusals.NoMember)
+    ∷ (ssrc_is_taken d s.ssrc, refusals.SsrcTaken)
+    ∷ (nat_le MAX_SOURCES (count_of kinds.Source d), refusals.Full tables.Sources MAX_SOURCES)
+    ∷ (fills_room d s, refusals.Full tables.RoomAudio MAX_ROOM_AUDIO)
+    ∷ []
+
+unfoldable pub source_refused : Desk → Source → Option Refusal
+source_refused d s = first_case (source_cases d s)
+
+abbrev pub slot_cases : Desk → Slot → List (Bool × Refusal)
+slot_cases d s =
+    (has d (keys.Slot s.out_ssrc) || is_claimed d (claims.Place s.member s.index), refusals.Exists)
+    ∷ (not (has d (keys.Member s.member)), refusals.NoMember)
+    ∷ (ssrc_is_taken d s.out_ssrc, refusals.SsrcTaken)
+    ∷ (nat_lt MAX_INDEX s.index, refusals.BadValue)
+    ∷ (nat_le MAX_SLOTS (count_of kinds.Slot d), refusals.Full tables.Slots MAX_SLOTS)
+    ∷ []
+
+unfoldable pub slot_refused : Desk → Slot → Option Refusal
+slot_refused d s = first_case (slot_cases d s)
+
+abbrev pub removal_cases : Desk → ℕ → List (Bool × Refusal)
+removal_cases d out_ssrc =
+    (not (has d (keys.Slot out_ssrc)), refusals.NoSlot) ∷ []
+
+unfoldable pub removal_refused : Desk → ℕ → Option Refusal
+removal_refused d out_ssrc = first_case (removal_cases d out_ssrc)
+
+abbrev pub sub_cases : Desk → Sub → List (Bool × Refusal)
+sub_cases d s =
+    (not (has d (keys.Source s.source)), refusals.NoSource)
+    ∷ (not (has d (keys.Slot s.out_ssrc)), refusals.NoSlot)
+    ∷ (not (list_any (sends_video s.source) d.others), refusals.WrongKind)
+    ∷ (not (list_any (is_room_of_both d s.out_ssrc s.source) d.others), refusals.OtherRoom)
+    ∷ (holds d (rows.Sub s), refusals.Already)
+    ∷ []
+
+unfoldable pub sub_refused : Desk → Sub → Option Refusal
+sub_refused d s = first_case (sub_cases d s)
+
+-- the refusal of least number that holds, want of memory apart
+unfoldable pub refused : Desk → Command → Option Refusal
+refused d (AddRoom r) = room_refused d r.room
+refused d (AddMember m) = member_refused d m
+refused d (AddSource s) = source_refused d s
+refused d (AddSlot s) = slot_refused d s
+refused d (RemoveSlot out_ssrc) = removal_refused d out_ssrc
+refused d (Subscribe s) = sub_refused d s

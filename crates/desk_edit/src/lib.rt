@@ -1,0 +1,15 @@
+//! The commands of a desk, and the edits of its rows that carry them out.
+#![tactic(auto)]
+
+mod asking;
+mod command;
+mod editing;
+mod laws;
+mod planning;
+mod refusing;
+#[cfg(test)]
+mod tests;
+
+pub use self::command::{Call, Command, Refusal, Table};
+pub use self::laws::dependent_rows_go;
+pub use self::planning::plan;
