@@ -1,0 +1,135 @@
+-- Lemmas about edits that follow commands.
+use Rattle.std.proofs.Common.{◌≡◌, ℕ, ◌+◌, Bool, true, not, cond, nat_eq, List, [], ◌∷◌, ◌++◌, length, fold, reverse, suc, if◌then◌else◌, Option, None, Some, refl, sym, ap, subst, ◌∙◌, arith}
+use Rattle.std.proofs.lemmas.Grind.{reverse_onto}
+use Rattle.undo_log.specs.Timeline.{rewound}
+use Rattle.undo_log.specs.declared.history.TheConstants.{LIMIT}
+use Rattle.desk_rows.specs.Desk.{Desk}
+use Rattle.desk_rows.specs.Edit.{EditOf, inverse}
+use Rattle.desk_rows.specs.Exchange.{fits, after}
+use Rattle.desk_rows.specs.Laws.{undoes}
+use Rattle.desk_edit.specs.declared.command.Command.{Command}
+use Rattle.desk_edit.specs.declared.command.Call.{Call}
+use Rattle.desk_edit.specs.declared.command.Call.TheVariants.{Apply, Undo}
+use Rattle.desk_edit.specs.declared.command.Refusal.{Refusal}
+use Rattle.desk_edit.specs.declared.command.Refusal.TheVariants.{NewerCommand, NothingToUndo, LogFull}
+use Rattle.desk_edit.specs.Commands.{desk_after}
+use Rattle.desk_edit.specs.Refusals.{refused}
+use Rattle.desk_edit.specs.Calls.{CallHistory, desk_now, refusal_at, refusal_of, after_call, front}
+use Rattle.bridge_core.specs.declared.reply.Reply.{Reply}
+use Rattle.bridge_core.specs.declared.reply.Reply.TheVariants.{Accepted, Refused}
+use Rattle.bridge_core.specs.Steps.{CoreOf}
+use Rattle.bridge_core.specs.Calls.{call_refused, Does, IsReason}
+use Rattle.bridge_core.specs.Following.{Follows, HasCalled, IsTold, IsAnswered}
+
+as_many : (d : Desk) (cs : List Command) (es : List EditOf) → Follows d cs es → length cs ≡ length es
+as_many d [] [] f = refl
+as_many d (c ∷ cs) (e ∷ es) f = ap suc (as_many (desk_after d c) cs es f.2)
+as_many d [] (e ∷ es) f = absurd f
+as_many d (c ∷ cs) [] f = absurd f
+
+fold_one_more : (d : Desk) (cs : List Command) (c : Command) → fold desk_after d (cs ++ c ∷ []) ≡ desk_after (fold desk_after d cs) c
+fold_one_more d [] c = refl
+fold_one_more d (b ∷ cs) c = fold_one_more (desk_after d b) cs c
+
+one_more : (d : Desk) (cs : List Command) (es : List EditOf) (c : Command) (e : EditOf) → Follows d cs es → fits (fold desk_after d cs) e ≡ true → after (fold desk_after d cs) e ≡ desk_after (fold desk_after d cs) c → Follows d (cs ++ c ∷ []) (es ++ e ∷ [])
+one_more d [] [] c e f fit does = (fit, does, tt)
+one_more d (b ∷ cs) (x ∷ es) c e f fit does = (f.0, f.1, one_more (desk_after d b) cs es c e f.2 fit does)
+one_more d [] (x ∷ es) c e f fit does = absurd f
+one_more d (b ∷ cs) [] c e f fit does = absurd f
+
+-- the last edit fits the desk that those before it leave, and leads from there to the desk of all
+record Last (d : Desk) (cs : List Command) (es : List EditOf) (e : EditOf) : Type 0 where
+  follows : Follows d (front cs) es
+  fits : fits (fold desk_after d (front cs)) e ≡ true
+  leads : after (fold desk_after d (front cs)) e ≡ fold desk_after d cs
+
+one_less : (d : Desk) (cs : List Command) (es : List EditOf) (e : EditOf) → Follows d cs (es ++ e ∷ []) → Last d cs es e
+one_less d [] [] e f = absurd f
+one_less d [] (x ∷ es) e f = absurd f
+one_less d (c ∷ []) [] e f = record { follows = tt; fits = f.0; leads = f.1 }
+one_less d (c ∷ []) (x ∷ []) e f = absurd f.2
+one_less d (c ∷ []) (x ∷ y ∷ es) e f = absurd f.2
+one_less d (c ∷ b ∷ cs) [] e f = absurd f.2
+one_less d (c ∷ b ∷ cs) (x ∷ es) e f =
+    let last = one_less (desk_after d c) (b ∷ cs) es e f.2 in
+    record { follows = (f.0, f.1, last.follows); fits = last.fits; leads = last.leads }
+
+same_reason : (core : CoreOf) (h : CallHistory) (call : Call) → HasCalled core h → call_refused core call ≡ refusal_of h call
+same_reason core h call called =
+    ap (λ v. refusal_at v core.desk (length core.done) call) called.version
+    ∙ ap (λ d. refusal_at h.accepted d (length core.done) call) called.desk
+    ∙ ap (λ n. refusal_at h.accepted (desk_now h) n call) (sym (as_many h.start h.done core.done called.follows))
+
+called_on : (old new : CoreOf) (h : CallHistory) (call : Call) → HasCalled old h → new.version ≡ old.version + 1 → Does old new call → HasCalled new (after_call h call)
+unfolding after_call
+called_on old new h (Apply command) called next does =
+    let e = does.1.0 in
+    let fit : fits (desk_now h) e ≡ true = ap (λ d. fits d e) (sym called.desk) ∙ does.1.1 in
+    let leads : after (desk_now h) e ≡ desk_after (desk_now h) command =
+    ap (λ d. after d e) (sym called.desk) ∙ sym does.1.2 ∙ does.0 ∙ ap (λ d. desk_after d command) called.desk in
+    record {
+      version = next ∙ ap (λ n. n + 1) called.version;
+      desk = does.0 ∙ ap (λ d. desk_after d command) called.desk ∙ sym (fold_one_more h.start h.done command);
+      follows = subst (λ es. Follows h.start (h.done ++ command ∷ []) es) (sym does.1.3) (one_more h.start h.done old.done command e called.follows fit leads);
+    }
+called_on old new h (Undo last) called next does =
+    let e = does.0 in
+    let final = one_less h.start h.done new.done e (subst (λ es. Follows h.start h.done es) does.1 called.follows) in
+    let earlier = fold desk_after h.start (front h.done) in
+    record {
+      version = next ∙ ap (λ n. n + 1) called.version;
+      desk =
+          does.4
+          ∙ ap (λ d. after d (inverse e)) (called.desk ∙ sym final.leads)
+          ∙ undoes earlier e final.fits;
+      follows = final.follows;
+    }
+
+pub accepted_by : (old new : CoreOf) (h : CallHistory) (call : Call) (number : ℕ) → HasCalled old h → number ≡ new.version → (call_refused old call ≡ None) × Does old new call → new.version ≡ old.version + 1 → IsAnswered h new call (Accepted number)
+accepted_by old new h call number called now does next = (
+  sym (same_reason old h call called) ∙ does.0,
+  now ∙ next ∙ ap (λ n. n + 1) called.version,
+  called_on old new h call called next does.1,
+)
+
+told_by : (core : CoreOf) (h : CallHistory) (call : Call) (why : Refusal) → HasCalled core h → IsReason core call why → IsTold h call why
+told_by core h (Apply command) why called reason =
+    let same = same_reason core h (Apply command) called in
+    (λ other. sym same ∙ reason.0 other, λ memory. sym same ∙ reason.1 memory)
+told_by core h (Undo last) why called reason = sym (same_reason core h (Undo last) called) ∙ reason
+
+pub refused_by : (old new : CoreOf) (h : CallHistory) (call : Call) (at : ℕ) (why : Refusal) → HasCalled old h → at ≡ new.version → new ≡ old → IsReason old call why → IsAnswered h new call (Refused at why)
+refused_by old new h call at why called now same reason = (
+  now ∙ ap (λ (core : CoreOf). core.version) same ∙ called.version,
+  told_by old h call why called reason,
+  subst (λ core. HasCalled core h) (sym same) called,
+)
+
+-- ---- what the stored edits lead to
+
+edits_lead : (d : Desk) (cs : List Command) (es : List EditOf) → Follows d cs es → fold after d es ≡ fold desk_after d cs
+edits_lead d [] [] f = refl
+edits_lead d (c ∷ cs) (e ∷ es) f = ap (λ x. fold after x es) f.1 ∙ edits_lead (desk_after d c) cs es f.2
+edits_lead d [] (e ∷ es) f = absurd f
+edits_lead d (c ∷ cs) [] f = absurd f
+
+rewound_one_more : (d : Desk) (es : List EditOf) (e : EditOf) → rewound after inverse d (es ++ e ∷ []) ≡ after (rewound after inverse d es) (inverse e)
+rewound_one_more d [] e = refl
+rewound_one_more d (x ∷ es) e = rewound_one_more (after d (inverse x)) es e
+
+edits_lead_back : (d : Desk) (cs : List Command) (es : List EditOf) → Follows d cs es → rewound after inverse (fold desk_after d cs) (reverse es) ≡ d
+edits_lead_back d [] [] f = refl
+edits_lead_back d (c ∷ cs) (e ∷ es) f =
+    ap (rewound after inverse (fold desk_after (desk_after d c) cs)) (reverse_onto es e [])
+    ∙ rewound_one_more (fold desk_after (desk_after d c) cs) (reverse es) e
+    ∙ ap (λ x. after x (inverse e)) (edits_lead_back (desk_after d c) cs es f.2 ∙ sym f.1)
+    ∙ undoes d e f.0
+edits_lead_back d [] (e ∷ es) f = absurd f
+edits_lead_back d (c ∷ cs) [] f = absurd f
+
+pub leads_to_desk : (core : CoreOf) (h : CallHistory) → HasCalled core h → fold after h.start core.done ≡ core.desk
+leads_to_desk core h called = edits_lead h.start h.done core.done called.follows ∙ sym called.desk
+
+pub leads_to_start : (core : CoreOf) (h : CallHistory) → HasCalled core h → rewound after inverse core.desk (reverse core.done) ≡ h.start
+leads_to_start core h called =
+    ap (λ d. rewound after inverse d (reverse core.done)) called.desk ∙ edits_lead_back h.start h.done core.done called.follows

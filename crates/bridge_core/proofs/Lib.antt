@@ -1,0 +1,19 @@
+pub mod FrameFacts
+pub mod Numbers
+pub mod Stamps
+pub mod Next
+pub mod Subscribers
+pub mod Order
+pub mod StreamTable
+pub mod Readies
+pub mod Handled
+pub mod StepLaws
+pub mod RunLaws
+pub mod Distinct
+pub mod GoodDesk
+pub mod OneReceiver
+pub mod Chosen
+pub mod Gapless
+pub mod LaneCount
+pub mod EveryLaneLaws
+mod FollowLaws

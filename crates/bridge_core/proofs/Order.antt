@@ -1,0 +1,122 @@
+-- A lane's receivers can be put in order after the others have been left out.
+use Rattle.std.proofs.Common.{◌≡◌, ℕ, ◌+◌, ◌-◌, ◌<◌, Bool, true, false, cond, ◌&&◌, nat_eq, List, [], ◌∷◌, ◌++◌, map, None, Some, refl, sym, ap, ◌∙◌, arith, append_assoc, suc}
+use Rattle.std.specs.Prelude.{filter}
+use Rattle.std.specs.List.{filter_map, flat_map, range_with_len, cons_option}
+use Rattle.std.proofs.lemmas.List.Elements.{filter-append}
+use Rattle.rtp_codec.specs.declared.address.Address.{Address}
+use Rattle.desk_rows.specs.declared.row.Row.{Row}
+use Rattle.desk_rows.specs.declared.row.Row.TheVariants.{Room, Member, Source, Slot, Sub}
+use Rattle.desk_rows.specs.declared.row.Slot.{Slot as SlotRow}
+use Rattle.desk_rows.specs.declared.row.Member.{Member as MemberRow}
+use Rattle.desk_rows.specs.Desk.{Desk}
+use Rattle.bridge_core.specs.declared.lane_place.LanePlace.{LanePlace}
+use Rattle.bridge_core.specs.declared.receivers.Receiver.{Receiver}
+use Rattle.bridge_core.specs.declared.receivers.TheConstants.{INDEXES}
+use Rattle.bridge_core.specs.Choice.{comes_from}
+use Rattle.bridge_core.specs.OwnStreams.{is_mine}
+use Rattle.bridge_core.specs.Receivers.{slot_in, slots_of, chooses, by_index, by_place, receiver, receivers, receivers_in}
+use Rattle.bridge_core.specs.Takers.{taker}
+
+filter-front : {X : Type 0} (p : X → Bool) (x : X) (xs : List X) (b : Bool) → p x ≡ b → filter p (x ∷ xs) ≡ cond b (x ∷ filter p xs) (filter p xs)
+filter-front p x xs b e = ap (λ c. cond c (x ∷ filter p xs) (filter p xs)) e
+
+filter-both : {X : Type 0} (p q : X → Bool) (x : X) (xs : List X) → filter p (filter q xs) ≡ filter q (filter p xs)
+    → (a b : Bool) → p x ≡ a → q x ≡ b → filter p (filter q (x ∷ xs)) ≡ filter q (filter p (x ∷ xs))
+filter-both p q x xs later true true e f = ap (filter p) (filter-front q x xs true f) ∙ filter-front p x (filter q xs) true e ∙ ap (λ ys. x ∷ ys) later ∙ sym (filter-front q x (filter p xs) true f) ∙ ap (filter q) (sym (filter-front p x xs true e))
+filter-both p q x xs later true false e f = ap (filter p) (filter-front q x xs false f) ∙ later ∙ sym (filter-front q x (filter p xs) false f) ∙ ap (filter q) (sym (filter-front p x xs true e))
+filter-both p q x xs later false true e f = ap (filter p) (filter-front q x xs true f) ∙ filter-front p x (filter q xs) false e ∙ later ∙ ap (filter q) (sym (filter-front p x xs false e))
+filter-both p q x xs later false false e f = ap (filter p) (filter-front q x xs false f) ∙ later ∙ ap (filter q) (sym (filter-front p x xs false e))
+
+filter-filter : {X : Type 0} (p q : X → Bool) (xs : List X) → filter p (filter q xs) ≡ filter q (filter p xs)
+filter-filter p q [] = refl
+filter-filter p q (x ∷ xs) = filter-both p q x xs (filter-filter p q xs) (p x) (q x) refl refl
+
+-- groups of what passes a test are what passes it of the groups
+filter-groups : {X : Type 0} (p : X → Bool) (q : ℕ → X → Bool) (xs : List X) (indexes : List ℕ)
+    → filter p (flat_map (λ i. filter (q i) xs) indexes) ≡ flat_map (λ i. filter (q i) (filter p xs)) indexes
+filter-groups p q xs [] = refl
+filter-groups p q xs (i ∷ indexes) =
+    filter-append p (filter (q i) xs) (flat_map (λ j. filter (q j) xs) indexes)
+    ∙ ap (λ ys. ys ++ filter p (flat_map (λ j. filter (q j) xs) indexes)) (filter-filter p (q i) xs)
+    ∙ ap (λ ys. filter (q i) (filter p xs) ++ ys) (filter-groups p q xs indexes)
+
+filter-receivers : (p : SlotRow → Bool) (m : MemberRow) (slots : List SlotRow) → filter (λ (r : Receiver). p r.slot) (map (receiver m) slots) ≡ map (receiver m) (filter p slots)
+filter-receivers p m [] = refl
+filter-receivers p m (s ∷ slots) =
+    elim (p s) as (λ b. cond b (receiver m s ∷ filter (λ (r : Receiver). p r.slot) (map (receiver m) slots)) (filter (λ (r : Receiver). p r.slot) (map (receiver m) slots)) ≡ map (receiver m) (cond b (s ∷ filter p slots) (filter p slots)))
+    [ true ↦ ap (λ rs. receiver m s ∷ rs) (filter-receivers p m slots) | false ↦ filter-receivers p m slots ]
+
+filter-by_place : (p : SlotRow → Bool) (members : List MemberRow) (slots : List SlotRow) → filter (λ (r : Receiver). p r.slot) (by_place members slots) ≡ by_place members (filter p slots)
+filter-by_place p [] slots = refl
+filter-by_place p (m ∷ members) slots =
+    let of_m = λ (s : SlotRow). nat_eq s.member m.member in
+    filter-append (λ (r : Receiver). p r.slot) (map (receiver m) (filter of_m slots)) (by_place members slots)
+    ∙ ap (λ rs. rs ++ filter (λ (r : Receiver). p r.slot) (by_place members slots)) (filter-receivers p m (filter of_m slots) ∙ ap (map (receiver m)) (filter-filter p of_m slots))
+    ∙ ap (λ rs. map (receiver m) (filter of_m (filter p slots)) ++ rs) (filter-by_place p members slots)
+
+abbrev mine : LanePlace → SlotRow → Bool
+mine place s = is_mine place.lane place.lanes s.out_ssrc
+
+takers : (d : Desk) (source : ℕ) (place : LanePlace) (rs : List Row) → filter_map (taker d source place) rs ≡ filter (mine place) (filter (chooses d source) (filter_map slot_in rs))
+takers d source place [] = refl
+takers d source place (Room r ∷ rs) = takers d source place rs
+takers d source place (Member r ∷ rs) = takers d source place rs
+takers d source place (Source r ∷ rs) = takers d source place rs
+takers d source place (Sub r ∷ rs) = takers d source place rs
+takers d source place (Slot s ∷ rs) =
+    ap (cons_option (cond (mine place s && chooses d source s) (Some s) None)) (takers d source place rs)
+    ∙ go (mine place s) (chooses d source s) refl refl
+  where
+    go : (a b : Bool) → mine place s ≡ a → chooses d source s ≡ b
+        → cons_option (cond (mine place s && chooses d source s) (Some s) None) (filter (mine place) (filter (chooses d source) (filter_map slot_in rs))) ≡ filter (mine place) (filter (chooses d source) (s ∷ filter_map slot_in rs))
+    go a b e f =
+        let chosen = filter (chooses d source) (filter_map slot_in rs) in
+        ap (λ c. cons_option (cond (c && chooses d source s) (Some s) None) (filter (mine place) chosen)) e
+        ∙ ap (λ c. cons_option (cond (a && c) (Some s) None) (filter (mine place) chosen)) f
+        ∙ joined a b e
+        ∙ sym (ap (filter (mine place)) (filter-front (chooses d source) s (filter_map slot_in rs) b f))
+      where
+        joined : (a b : Bool) → mine place s ≡ a → cons_option (cond (a && b) (Some s) None) (filter (mine place) (filter (chooses d source) (filter_map slot_in rs))) ≡ filter (mine place) (cond b (s ∷ filter (chooses d source) (filter_map slot_in rs)) (filter (chooses d source) (filter_map slot_in rs)))
+        joined true true e = sym (filter-front (mine place) s (filter (chooses d source) (filter_map slot_in rs)) true e)
+        joined false true e = sym (filter-front (mine place) s (filter (chooses d source) (filter_map slot_in rs)) false e)
+        joined true false e = refl
+        joined false false e = refl
+
+-- the lane's slots that chose the source, in order, are its receivers
+receivers_in_order : (place : LanePlace) (d : Desk) (source : ℕ) (address : Address) → comes_from d source address ≡ true
+    → by_place d.members (by_index (filter_map (taker d source place) d.others)) ≡ receivers_in place.lane place.lanes d source address
+unfolding receivers by_index
+receivers_in_order place d source address e =
+    let chosen = filter (chooses d source) (slots_of d) in
+    ap (λ slots. by_place d.members (by_index slots)) (takers d source place d.others)
+    ∙ ap (by_place d.members) (sym (filter-groups (mine place) (λ index (s : SlotRow). nat_eq s.index index) chosen (range_with_len 0 INDEXES)))
+    ∙ sym (filter-by_place (mine place) d.members (by_index chosen))
+    ∙ sym (ap (λ b. filter (λ (r : Receiver). mine place r.slot) (cond b (by_place d.members (by_index chosen)) [])) e)
+
+-- the same, step by step
+pub receivers_by_steps : (place : LanePlace) (d : Desk) (source : ℕ) (address : Address) (slots sorted : List SlotRow) (members : List MemberRow) → comes_from d source address ≡ true
+    → slots ≡ filter_map (taker d source place) d.others → sorted ≡ by_index slots → members ≡ d.members
+    → by_place members sorted ≡ receivers_in place.lane place.lanes d source address
+receivers_by_steps place d source address slots sorted members comes found ordered all =
+    ap (λ ms. by_place ms sorted) all
+    ∙ ap (by_place d.members) (ordered ∙ ap by_index found)
+    ∙ receivers_in_order place d source address comes
+
+-- nobody gets what comes from another address
+pub no_receivers : (place : LanePlace) (d : Desk) (source : ℕ) (address : Address) → comes_from d source address ≡ false → receivers_in place.lane place.lanes d source address ≡ []
+unfolding receivers
+no_receivers place d source address e =
+    ap (λ b. filter (λ (r : Receiver). mine place r.slot) (cond b (by_place d.members (by_index (filter (chooses d source) (slots_of d)))) [])) e
+
+-- one more index
+pub one_index : (slots : List SlotRow) (before after all : List SlotRow) (i : ℕ) → i < 16
+    → after ≡ before ++ filter (λ s. nat_eq s.index i) slots
+    → before ++ flat_map (λ index. filter (λ (s : SlotRow). nat_eq s.index index) slots) (range_with_len i (16 - i)) ≡ all
+    → after ++ flat_map (λ index. filter (λ (s : SlotRow). nat_eq s.index index) slots) (range_with_len (i + 1) (16 - (i + 1))) ≡ all
+one_index slots before after all i lt e told =
+    let group = λ (index : ℕ). filter (λ (s : SlotRow). nat_eq s.index index) slots in
+    let left : 16 - i ≡ suc (16 - (i + 1)) = omega arith in
+    ap (λ xs. xs ++ flat_map group (range_with_len (i + 1) (16 - (i + 1)))) e
+    ∙ append_assoc before (group i) (flat_map group (range_with_len (i + 1) (16 - (i + 1))))
+    ∙ ap (λ n. before ++ flat_map group (range_with_len i n)) (sym left)
+    ∙ told

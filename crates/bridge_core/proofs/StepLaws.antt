@@ -1,0 +1,148 @@
+-- One more step.
+use Rattle.std.proofs.Common.{◌≡◌, ℕ, ◌+◌, true, false, cond, nat_eq, List, [], ◌∷◌, ◌++◌, length, set, Some, refl, sym, ap, subst, ◌∙◌, arith, append-nil, append_assoc, inl, inr, ◌⊎◌, ◌≢◌, zero, suc, eq-eqb, length-set}
+use Rattle.std.specs.Prelude.{slice_get, OnOk, Result, Ok, Err}
+use Rattle.std.proofs.lemmas.Bool.Decides.{nat_tests}
+use Rattle.desk_rows.specs.Edit.{EditOf}
+use Rattle.desk_rows.specs.Desk.{Desk}
+use Rattle.bridge_core.specs.Sent.{Sent, Input}
+use Rattle.bridge_core.specs.Lanes.{sends_at}
+use Rattle.bridge_core.specs.LaneState.{LaneOf, visit_of, HasHandled, Handles}
+use Rattle.bridge_core.specs.Sound.{IsSound, AreFresh}
+use Rattle.bridge_core.specs.Steps.{Step, version_of, desk_of, count_of, along, visit_at, visits, visit_after, CoreOf, Takes}
+
+pub version_of-publish : (steps : List Step) (desk : Desk) → version_of (steps ++ Step.publish desk ∷ []) ≡ version_of steps + 1
+version_of-publish [] desk = refl
+version_of-publish (Step.publish next ∷ steps) desk = omega (arith, version_of-publish steps desk)
+version_of-publish (Step.item to input ∷ steps) desk = version_of-publish steps desk
+
+pub version_of-item : (steps : List Step) (lane : ℕ) (input : Input) → version_of (steps ++ Step.item lane input ∷ []) ≡ version_of steps
+version_of-item [] lane input = refl
+version_of-item (Step.publish next ∷ steps) lane input = ap (λ n. 1 + n) (version_of-item steps lane input)
+version_of-item (Step.item to other ∷ steps) lane input = version_of-item steps lane input
+
+pub desk_of-publish : (start : Desk) (steps : List Step) (desk : Desk) → desk_of start (steps ++ Step.publish desk ∷ []) ≡ desk
+desk_of-publish start [] desk = refl
+desk_of-publish start (Step.publish next ∷ steps) desk = desk_of-publish next steps desk
+desk_of-publish start (Step.item to input ∷ steps) desk = desk_of-publish start steps desk
+
+pub desk_of-item : (start : Desk) (steps : List Step) (lane : ℕ) (input : Input) → desk_of start (steps ++ Step.item lane input ∷ []) ≡ desk_of start steps
+desk_of-item start [] lane input = refl
+desk_of-item start (Step.publish next ∷ steps) lane input = desk_of-item next steps lane input
+desk_of-item start (Step.item to other ∷ steps) lane input = desk_of-item start steps lane input
+
+pub along-append : {X : Type 0} (at : List Step → Step → List X) (before steps : List Step) (step : Step) → along at before (steps ++ step ∷ []) ≡ along at before steps ++ at (before ++ steps) step
+along-append at before [] step = append-nil (at before step) ∙ ap (λ b. at b step) (sym (append-nil before))
+along-append at before (s ∷ steps) step =
+    ap (λ xs. at before s ++ xs) (along-append at (before ++ s ∷ []) steps step ∙ ap (λ b. along at (before ++ s ∷ []) steps ++ at b step) (append_assoc before (s ∷ []) steps))
+    ∙ sym (append_assoc (at before s) (along at (before ++ s ∷ []) steps) (at (before ++ s ∷ steps) step))
+
+length-visits : (lane : ℕ) (start : Desk) (before steps : List Step) → length (along (visit_at lane start) before steps) ≡ count_of lane steps
+length-visits lane start before [] = refl
+length-visits lane start before (Step.publish next ∷ steps) = length-visits lane start (before ++ Step.publish next ∷ []) steps
+length-visits lane start before (Step.item to input ∷ steps) =
+    let rest = length-visits lane start (before ++ Step.item to input ∷ []) steps in
+    elim (nat_eq to lane) as (λ b. length (cond b (visit_after start before lane input ∷ []) [] ++ along (visit_at lane start) (before ++ Step.item to input ∷ []) steps) ≡ cond b (1 + count_of lane steps) (count_of lane steps))
+    [ true ↦ omega (arith, rest) | false ↦ rest ]
+
+pub visits-publish : (lane : ℕ) (start : Desk) (before : List Step) (desk : Desk) → visits lane start (before ++ Step.publish desk ∷ []) ≡ visits lane start before
+visits-publish lane start before desk = along-append (visit_at lane start) [] before (Step.publish desk) ∙ append-nil (visits lane start before)
+
+pub visits-mine : (lane : ℕ) (start : Desk) (before : List Step) (input : Input) → visits lane start (before ++ Step.item lane input ∷ []) ≡ visits lane start before ++ visit_after start before lane input ∷ []
+visits-mine lane start before input =
+    along-append (visit_at lane start) [] before (Step.item lane input)
+    ∙ ap (λ b. visits lane start before ++ cond b (visit_after start before lane input ∷ []) []) (eq-eqb lane lane refl)
+
+pub visits-other : (lane to : ℕ) (start : Desk) (before : List Step) (input : Input) → to ≢ lane → visits lane start (before ++ Step.item to input ∷ []) ≡ visits lane start before
+visits-other lane to start before input other =
+    let not : nat_eq to lane ≡ false = grind (arith, nat_tests) in
+    along-append (visit_at lane start) [] before (Step.item to input)
+    ∙ ap (λ b. visits lane start before ++ cond b (visit_after start before lane input ∷ []) []) not
+    ∙ append-nil (visits lane start before)
+
+-- an accepted call
+pub published : (old new : CoreOf) → new.version ≡ old.version + 1 → new.lanes ≡ old.lanes → Takes old new (Step.publish new.desk) []
+published old new version lanes start before taken = (
+  refl,
+  record {
+    version = version ∙ ap (λ n. n + 1) taken.version ∙ sym (version_of-publish before new.desk);
+    desk = sym (desk_of-publish start before new.desk);
+    lanes = λ lane state at. subst (HasHandled state) (sym (visits-publish lane start before new.desk)) (taken.lanes lane state (ap (λ xs. slice_get xs lane) (sym lanes) ∙ at));
+  },
+)
+
+pub published_if : {E : Type 0} (old new : CoreOf) (result : Result (Unit {0}) E) → OnOk result ((new.version ≡ old.version + 1) × (new.lanes ≡ old.lanes)) → OnOk result (Takes old new (Step.publish new.desk) [])
+published_if old new (Ok u) h = published old new h.0 h.1
+published_if old new (Err e) h = tt
+
+slice_get-set : (xs : List LaneOf) (i j : ℕ) (x y : LaneOf) → slice_get (set xs i x) j ≡ Some y → ((i ≡ j) × (x ≡ y)) ⊎ ((i ≢ j) × (slice_get xs j ≡ Some y))
+slice_get-set [] i j x y e = absurd (cc)
+slice_get-set (z ∷ xs) zero zero x y e = inl (refl, (cc))
+slice_get-set (z ∷ xs) zero (suc j) x y e = inr ((λ h. absurd (omega arith)), e)
+slice_get-set (z ∷ xs) (suc i) zero x y e = inr ((λ h. absurd (omega arith)), e)
+slice_get-set (z ∷ xs) (suc i) (suc j) x y e =
+    elim (slice_get-set xs i j x y e) [ inl p ↦ inl (ap suc p.0, p.1) | inr p ↦ inr ((λ h. p.0 (omega arith)), p.1) ]
+
+-- an item that a lane handles
+pub handled : (old new : CoreOf) (lane : ℕ) (state after : LaneOf) (input : Input) (sent : List Sent)
+    → IsSound old.version old.done old.lanes → slice_get old.lanes lane ≡ Some state → Handles state after old.version old.desk input sent
+    → new.version ≡ old.version → new.desk ≡ old.desk → new.lanes ≡ set old.lanes lane after
+    → Takes old new (Step.item lane input) (sent ∷ [])
+handled old new lane state after input sent sound at does version desk lanes start before taken =
+    let place = sound.places lane state at in
+    let vs = visits lane start before in
+    let done = does vs (taken.lanes lane state at) in
+    let v = visit_after start before lane input in
+    let same : visit_of old.version (length vs + 1) old.desk input ≡ v =
+    ap (λ n. visit_of n (length vs + 1) old.desk input) taken.version
+    ∙ ap (λ n. visit_of (version_of before) (n + 1) old.desk input) (length-visits lane start [] before)
+    ∙ ap (λ d. visit_of (version_of before) (count_of lane before + 1) d input) taken.desk in (
+      ap (λ s. s ∷ []) (done.0 ∙ ap (λ l. sends_at l state.lanes vs (visit_of old.version (length vs + 1) old.desk input)) place.0
+          ∙ ap (λ l. sends_at lane l vs (visit_of old.version (length vs + 1) old.desk input)) place.1 ∙ ap (sends_at lane (length old.lanes) vs) same),
+      record {
+        version = version ∙ taken.version ∙ sym (version_of-item before lane input);
+        desk = desk ∙ taken.desk ∙ sym (desk_of-item start before lane input);
+        lanes = λ i s there.
+            elim (slice_get-set old.lanes lane i after s (ap (λ xs. slice_get xs i) (sym lanes) ∙ there)) [
+              | inl p ↦ subst (λ j. HasHandled s (visits j start (before ++ Step.item lane input ∷ []))) p.0
+                  (subst (λ t. HasHandled t (visits lane start (before ++ Step.item lane input ∷ []))) p.1
+                  (subst (HasHandled after) (ap (λ w. vs ++ w ∷ []) same ∙ sym (visits-mine lane start before input)) done.1))
+              | inr p ↦ subst (HasHandled s) (sym (visits-other i lane start before input p.0)) (taken.lanes i s p.1)
+            ];
+      },
+    )
+
+-- a lane keeps its place
+pub still_sound : (version : ℕ) (done : List EditOf) (old new : List LaneOf) (lane : ℕ) (state after : LaneOf) → IsSound version done old → slice_get old lane ≡ Some state → after.lane ≡ state.lane → after.lanes ≡ state.lanes
+    → new ≡ set old lane after → IsSound version done new
+still_sound version done old new lane state after sound at place places lanes = record {
+  places = λ i s there.
+      let size : length new ≡ length old = ap length lanes ∙ length-set old lane after in
+      elim (slice_get-set old lane i after s (ap (λ xs. slice_get xs i) (sym lanes) ∙ there)) [
+        | inl p ↦ (let was = sound.places lane state at in (ap (λ (t : LaneOf). t.lane) (sym p.1) ∙ place ∙ was.0 ∙ p.0, ap (λ (t : LaneOf). t.lanes) (sym p.1) ∙ places ∙ was.1 ∙ sym size))
+        | inr p ↦ (let was = sound.places i s p.1 in (was.0, was.1 ∙ sym size))
+      ];
+  fewer = sound.fewer;
+  limit = sound.limit;
+}
+
+slice_get-push : (xs : List LaneOf) (x y : LaneOf) (j : ℕ) → slice_get (xs ++ x ∷ []) j ≡ Some y → ((j ≡ length xs) × (x ≡ y)) ⊎ (slice_get xs j ≡ Some y)
+slice_get-push [] x y zero e = inl (refl, (cc))
+slice_get-push [] x y (suc j) e = absurd (cc)
+slice_get-push (z ∷ xs) x y zero e = inr e
+slice_get-push (z ∷ xs) x y (suc j) e = elim (slice_get-push xs x y j e) [ inl p ↦ inl (ap suc p.0, p.1) | inr p ↦ inr p ]
+
+-- one more lane
+pub AreFresh-push : (lanes : ℕ) (states : List LaneOf) (state : LaneOf) → AreFresh lanes states → state.lane ≡ length states → state.lanes ≡ lanes → HasHandled state [] → AreFresh lanes (states ++ state ∷ [])
+AreFresh-push lanes states state fresh place places nothing lane s at =
+    elim (slice_get-push states state s lane at) [
+      | inl p ↦ subst (λ (t : LaneOf). (t.lane ≡ lane) × (t.lanes ≡ lanes) × HasHandled t []) p.1 (place ∙ sym p.0, places, nothing)
+      | inr there ↦ fresh lane s there
+    ]
+
+-- fresh lanes make a sound core
+pub sound_at_first : (lanes : ℕ) (states : List LaneOf) (done : List EditOf) → AreFresh lanes states → length states ≡ lanes → done ≡ [] → IsSound 0 done states
+sound_at_first lanes states done fresh count none = record {
+  places = λ lane state at. let f = fresh lane state at in (f.0, f.1 ∙ sym count);
+  fewer = omega (arith, ap length none);
+  limit = omega arith;
+}

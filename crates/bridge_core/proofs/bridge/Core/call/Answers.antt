@@ -1,0 +1,8 @@
+use Rattle.bridge_core.proofs.StepLaws.{published_if}
+use Rattle.bridge_core.proofs.bridge.Core.call.Goals as goal
+
+pub returns-in-Apply-clause-takes : goal.returns-in-Apply-clause-takes
+returns-in-Apply-clause-takes g c = published_if c.args.self.now c.apply.new.self c.apply.result c.apply.ensures.version
+
+pub returns-in-Undo-clause-takes : goal.returns-in-Undo-clause-takes
+returns-in-Undo-clause-takes g c = published_if c.args.self.now c.undo.new.self c.undo.result c.undo.ensures.version

@@ -1,0 +1,35 @@
+use Rattle.std.proofs.Common.{◌≡◌, [], ◌∷◌, Some, refl, sym, map, subst, length, set, ◌<◌, ◌-◌, ◌^◌, ◌∙◌}
+use Rattle.std.specs.Prelude.{slice_get}
+use Rattle.std.proofs.lemmas.Result.{IfOk-weaker}
+use Rattle.std.proofs.lemmas.Option.{slice_get_read}
+use Rattle.desk_rows.specs.Desk.{Desk}
+use Rattle.bridge_core.specs.Sent.{sent_of, input_of}
+use Rattle.bridge_core.specs.LaneState.{LaneOf, Handles}
+use Rattle.bridge_core.specs.Steps.{CoreOf, Step, Takes}
+use Rattle.bridge_core.proofs.StepLaws.{handled, still_sound}
+use Rattle.bridge_core.proofs.bridge.Core.item.Given.{Over}
+use Rattle.bridge_core.proofs.bridge.Core.item.Goals as goal
+
+there : (g : Over) (c : goal.After-self-1 g) → slice_get c.self.inside.lanes.items c.args.lane ≡ Some c.index_mut.result.now
+there g c =
+    let within : c.args.lane < length c.self.inside.lanes.items = subst (λ (core : CoreOf). c.args.lane < length core.lanes) (sym c.self.view_is) c.requires in
+    slice_get_read _ _ _ _ refl within c.index_mut.ensures.value
+
+pub invariant_of-self : goal.invariant_of-self
+invariant_of-self g c =
+    still_sound c.self.inside.version c.self.inside.history.done c.self.inside.lanes.items _ c.args.lane c.index_mut.result.now c.step.new.self c.self.invariant (there g c) c.step.ensures.place.0 c.step.ensures.place.1 refl
+
+pub returns-clause-takes : goal.returns-clause-takes
+returns-clause-takes g c =
+    let old : CoreOf = record { version = c.self.inside.version; desk = c.self.inside.history.state; done = c.self.inside.history.done; undone = c.self.inside.history.undone; lanes = c.self.inside.lanes.items } in
+    let new : CoreOf = record { version = c.self.inside.version; desk = c.self.inside.history.state; done = c.self.inside.history.done; undone = c.self.inside.history.undone; lanes = set c.self.inside.lanes.items c.args.lane c.step.new.self } in
+    IfOk-weaker c.step.result _ _ (λ sent does.
+    subst (λ (core : CoreOf). Takes core new (Step.item c.args.lane (input_of c.args.item.now)) (map sent_of sent.items ∷ [])) c.self.view_is
+    (handled old new c.args.lane c.index_mut.result.now c.step.new.self (input_of c.args.item.now) (map sent_of sent.items) c.self.invariant (there g c)
+    (subst (λ (d : Desk). Handles c.index_mut.result.now c.step.new.self c.self.inside.version d (input_of c.args.item.now) (map sent_of sent.items)) c.state-rows.ensures does) refl refl refl)) c.step.ensures.sends
+
+pub returns-clause-spent : goal.returns-clause-spent
+returns-clause-spent g c =
+    let here : slice_get c.args.self.now.lanes c.args.lane ≡ Some c.index_mut.result.now = subst (λ (core : CoreOf). slice_get core.lanes c.args.lane ≡ Some c.index_mut.result.now) c.self.view_is (there g c) in
+    let one : (state : LaneOf) → slice_get c.args.self.now.lanes c.args.lane ≡ Some state → c.index_mut.result.now ≡ state = λ state at. (let both : Some c.index_mut.result.now ≡ Some state = sym here ∙ at in cc) in
+    (λ is state at. subst (λ (s : LaneOf). s.handled ≡ 2 ^ 64 - 1) (one state at) (c.step.ensures.spent.0 is), λ all. c.step.ensures.spent.1 (all c.index_mut.result.now here))

@@ -1,0 +1,15 @@
+use Rattle.std.proofs.Common.{◌≡◌, true, sym, ◌∙◌}
+use Rattle.std.proofs.lemmas.Result.{IfOk-weaker}
+use Rattle.bridge_core.specs.Choice.{comes_from}
+use Rattle.bridge_core.proofs.Order.{receivers_by_steps, no_receivers}
+use Rattle.bridge_core.proofs.receivers.receivers_of.Goals as goal
+
+pub returns-then-not-comes_from : goal.returns-then-not-comes_from
+returns-then-not-comes_from g c =
+    c.new.ensures.items ∙ sym (no_receivers c.args.place.now c.args.rows.now c.args.source c.args.address.now (sym c.comes_from.ensures ∙ c.if-not-comes_from.true))
+
+pub returns : goal.returns
+returns g c =
+    let comes : comes_from c.args.rows.now c.args.source c.args.address.now ≡ true = sym c.comes_from.ensures ∙ c.if-not-comes_from.false in
+    IfOk-weaker c.by_place.result _ _ (λ v is. is ∙ receivers_by_steps c.args.place.now c.args.rows.now c.args.source c.args.address.now c.deref-2.result.now c.deref-3.result.now c.members.result.now comes
+    (c.deref-2.ensures.value ∙ c.in_ok-slots.ensures) (c.deref-3.ensures.value ∙ c.in_ok-sorted.ensures) c.members.ensures) c.by_place.ensures

@@ -1,0 +1,66 @@
+-- How the core answers calls of the desk.
+use Rattle.std.specs.Prelude.{◌≡◌, ◌≢◌, ℕ, ◌+◌, Bool, true, not, ◌&&◌, ◌||◌, nat_lt, nat_le, if◌then◌else◌, nat_eq, List, [], ◌∷◌, ◌++◌, length, Option, None, Some}
+use Rattle.undo_log.specs.declared.history.TheConstants.{LIMIT}
+use Rattle.desk_rows.specs.Edit.{EditOf, inverse}
+use Rattle.desk_rows.specs.Exchange.{fits, after}
+use Rattle.desk_edit.specs.declared.command.Call.{Call}
+use Rattle.desk_edit.specs.declared.command.Call.TheVariants.{Apply, Undo}
+use Rattle.desk_edit.specs.declared.command.Refusal.{Refusal}
+use Rattle.desk_edit.specs.declared.command.Refusal.TheVariants.{NewerCommand, NothingToUndo, LogFull, OutOfMemory}
+use Rattle.desk_edit.specs.Commands.{desk_after}
+use Rattle.desk_edit.specs.Calls.{refusal_at}
+use Rattle.bridge_core.specs.declared.fault.CoreFault.{CoreFault}
+use Rattle.bridge_core.specs.declared.fault.CoreFault.TheVariants.{BadLanes, BadSettings}
+use Rattle.bridge_core.specs.declared.lane.TheConstants.{LANES}
+use Rattle.bridge_core.specs.declared.reply.Reply.{Reply}
+use Rattle.bridge_core.specs.declared.reply.Reply.TheVariants.{Accepted, Refused}
+use Rattle.bridge_core.specs.Steps.{CoreOf}
+
+-- a canonical name has 1 to 255 octets (RFC 3550 section 6.5.1)
+abbrev pub is_name : List ℕ → Bool
+is_name cname = nat_lt 0 (length cname) && nat_le (length cname) 255
+
+-- the first fault of what a core is to be made of
+abbrev pub core_fault : ℕ → List ℕ → Option CoreFault
+core_fault lanes cname =
+    if nat_eq lanes 0 || nat_lt LANES lanes then Some BadLanes else (if not (is_name cname) then Some BadSettings else None)
+
+-- the desk is edited, and what was undone is forgotten
+abbrev pub DoesEdit : CoreOf → CoreOf → Type 0
+DoesEdit old new =
+    (e : EditOf) × (fits old.desk e ≡ true) × (new.desk ≡ after old.desk e) × (new.done ≡ old.done ++ e ∷ []) × (new.undone ≡ [])
+
+-- the last edit is taken back: it leads from the new desk to the old one, and its inverse from the old one to the new
+abbrev pub UndoesEdit : CoreOf → CoreOf → Type 0
+UndoesEdit old new =
+    (e : EditOf) × (old.done ≡ new.done ++ e ∷ []) × (new.undone ≡ old.undone ++ e ∷ []) × (old.desk ≡ after new.desk e) × (new.desk ≡ after old.desk (inverse e))
+
+-- the first reason for which a call is refused, want of memory apart
+abbrev pub call_refused : CoreOf → Call → Option Refusal
+call_refused core call = refusal_at core.version core.desk (length core.done) call
+
+-- what a call is to do: a command makes of the desk what its equation says
+abbrev pub Does : CoreOf → CoreOf → Call → Type 0
+Does old new (Apply command) = (new.desk ≡ desk_after old.desk command) × DoesEdit old new
+Does old new (Undo last) = UndoesEdit old new
+
+-- this is why the call is refused: the first reason, or else want of memory, which an undo never has
+abbrev pub IsReason : CoreOf → Call → Refusal → Type 0
+IsReason core (Apply command) why =
+    (why ≢ OutOfMemory → call_refused core (Apply command) ≡ Some why) × (why ≡ OutOfMemory → call_refused core (Apply command) ≡ None)
+IsReason core (Undo last) why = call_refused core (Undo last) ≡ Some why
+
+-- an accepted call takes the next number; a refused one names the version and changes nothing
+abbrev pub Answers : CoreOf → CoreOf → Call → Reply → Type 0
+Answers old new call (Accepted number) = (number ≡ old.version + 1) × (new.version ≡ number) × (new.lanes ≡ old.lanes) × (call_refused old call ≡ None) × Does old new call
+Answers old new call (Refused at why) = (at ≡ old.version) × (new ≡ old) × IsReason old call why
+
+-- the fact holds where the call was accepted
+abbrev pub OnAccepted : Reply → Type 0 → Type 0
+OnAccepted (Accepted number) P = P
+OnAccepted (Refused at why) P = Unit {0}
+
+-- what a refusal by `plan` is told as: want of memory comes after the log
+abbrev pub before_memory : Refusal → ℕ → Refusal
+before_memory OutOfMemory version = if nat_eq version LIMIT then LogFull else OutOfMemory
+before_memory why version = why

@@ -1,0 +1,38 @@
+-- How a core stands to the history of its calls.
+use Rattle.std.specs.Prelude.{◌≡◌, ◌≢◌, ◌+◌, true, List, [], ◌∷◌, None, Some}
+use Rattle.desk_rows.specs.Desk.{Desk}
+use Rattle.desk_rows.specs.Edit.{EditOf}
+use Rattle.desk_rows.specs.Exchange.{fits, after}
+use Rattle.desk_edit.specs.declared.command.Command.{Command}
+use Rattle.desk_edit.specs.declared.command.Call.{Call}
+use Rattle.desk_edit.specs.declared.command.Call.TheVariants.{Apply, Undo}
+use Rattle.desk_edit.specs.declared.command.Refusal.{Refusal}
+use Rattle.desk_edit.specs.declared.command.Refusal.TheVariants.{OutOfMemory}
+use Rattle.desk_edit.specs.Commands.{desk_after}
+use Rattle.desk_edit.specs.Calls.{CallHistory, desk_now, refusal_of, after_call}
+use Rattle.bridge_core.specs.declared.reply.Reply.{Reply}
+use Rattle.bridge_core.specs.declared.reply.Reply.TheVariants.{Accepted, Refused}
+use Rattle.bridge_core.specs.Steps.{CoreOf}
+
+-- one edit for each command, in order: it fits the desk that those before it leave, and makes of it what the command's equation says
+abbrev pub Follows : Desk → List Command → List EditOf → Type 0
+Follows d [] [] = Unit {0}
+Follows d (command ∷ commands) (e ∷ es) = (fits d e ≡ true) × (after d e ≡ desk_after d command) × Follows (desk_after d command) commands es
+Follows d [] (e ∷ es) = ⊥
+Follows d (command ∷ commands) [] = ⊥
+
+-- the core is where this history of calls leads
+pub record HasCalled (core : CoreOf) (h : CallHistory) : Type 0 where
+  pub version : core.version ≡ h.accepted
+  pub desk : core.desk ≡ desk_now h
+  pub follows : Follows h.start h.done core.done
+
+-- this is why the call is refused by its history: the first reason, or else want of memory, which an undo never has
+abbrev pub IsTold : CallHistory → Call → Refusal → Type 0
+IsTold h (Apply command) why = (why ≢ OutOfMemory → refusal_of h (Apply command) ≡ Some why) × (why ≡ OutOfMemory → refusal_of h (Apply command) ≡ None)
+IsTold h (Undo last) why = refusal_of h (Undo last) ≡ Some why
+
+-- a call is answered by the history of those before it, and the core goes where the history with it leads
+abbrev pub IsAnswered : CallHistory → CoreOf → Call → Reply → Type 0
+IsAnswered h new call (Accepted number) = (refusal_of h call ≡ None) × (number ≡ h.accepted + 1) × HasCalled new (after_call h call)
+IsAnswered h new call (Refused at why) = (at ≡ h.accepted) × IsTold h call why × HasCalled new h

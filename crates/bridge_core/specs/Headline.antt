@@ -1,0 +1,45 @@
+-- Each outgoing stream numbers without a gap, and each packet is its version's choice.
+use Rattle.std.specs.Prelude.{◌≡◌, ℕ, ◌+◌, ◌%◌, ◌^◌, Bool, true, nat_eq, List, [], ◌∷◌, map, filter, Some}
+use Rattle.std.specs.List.{flat_map, AllByRecursion}
+use Rattle.desk_rows.specs.Desk.{Desk, good}
+use Rattle.bridge_core.specs.Choice.{choice, comes_from}
+use Rattle.bridge_core.specs.Frame.{SourceFrame}
+use Rattle.bridge_core.specs.Sent.{Sent}
+use Rattle.bridge_core.specs.Sent.Sent.{media}
+use Rattle.bridge_core.specs.Steps.{Step}
+
+-- the packet is of this stream
+abbrev pub is_on : ℕ → Sent → Bool
+is_on ssrc (media p) = nat_eq p.ssrc ssrc
+
+abbrev pub number_of : Sent → ℕ
+number_of (media p) = p.number
+
+-- all that is sent on a stream, in order
+abbrev pub sent_on : ℕ → List (List Sent) → List Sent
+sent_on ssrc sent = filter (is_on ssrc) (flat_map (λ es. es) sent)
+
+abbrev pub numbers : List Sent → List ℕ
+numbers sent = map number_of sent
+
+-- each number is one more than that before it, modulo 2 ^ 16
+abbrev pub FollowOn : ℕ → List ℕ → Type 0
+FollowOn n [] = Unit {0}
+FollowOn n (m ∷ ms) = (m ≡ (n + 1) % 2 ^ 16) × FollowOn m ms
+
+abbrev pub HaveNoGap : List ℕ → Type 0
+HaveNoGap [] = Unit {0}
+HaveNoGap (n ∷ ns) = FollowOn n ns
+
+-- a desk that is published is good
+abbrev pub IsGood : Step → Type 0
+IsGood (Step.publish desk) = good desk ≡ true
+IsGood (Step.item lane input) = Unit {0}
+
+abbrev pub AreGood : List Step → Type 0
+AreGood steps = AllByRecursion IsGood steps
+
+-- the packet names this version, and its desk has its stream choose the frame's source, whose member has the frame's address
+abbrev pub IsChosen : ℕ → Desk → SourceFrame → Sent → Type 0
+IsChosen version desk f (media p) =
+    (p.version ≡ version) × (choice desk p.ssrc ≡ Some f.source) × (comes_from desk f.source f.address ≡ true)

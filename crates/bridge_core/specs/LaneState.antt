@@ -1,0 +1,34 @@
+-- What a lane keeps.
+use Rattle.std.specs.Prelude.{◌≡◌, ℕ, ◌+◌, true, nat_eq, List, [], ◌∷◌, ◌++◌, length, Option}
+use Rattle.std.specs.List.{find}
+use Rattle.desk_rows.specs.Desk.{Desk}
+use Rattle.bridge_core.specs.declared.stream.Stream.{Stream}
+use Rattle.bridge_core.specs.OwnStreams.{is_mine}
+use Rattle.bridge_core.specs.Sent.{Sent, Input}
+use Rattle.bridge_core.specs.Lanes.{Visit, routed, stream_of, sends_at}
+
+-- the lane, how many lanes there are, how many items it has handled, and the streams that have begun
+pub record LaneOf : Type 0 where
+  pub lane : ℕ
+  pub lanes : ℕ
+  pub handled : ℕ
+  pub streams : List Stream
+
+-- the stream with this SSRC, if it has begun
+abbrev pub stream_at : ℕ → List Stream → Option Stream
+stream_at ssrc streams = find (λ s. nat_eq s.ssrc ssrc) streams
+
+-- The lane has handled these items: a stream of the lane is there if it sent any of them, and stands as they leave it.
+pub record HasHandled (state : LaneOf) (visits : List Visit) : Type 0 where
+  pub handled : state.handled ≡ length visits
+  pub streams : (ssrc : ℕ) → is_mine state.lane state.lanes ssrc ≡ true → stream_at ssrc state.streams ≡ stream_of ssrc (routed ssrc visits)
+
+abbrev pub visit_of : ℕ → ℕ → Desk → Input → Visit
+visit_of version item desk input = record { version = version; item = item; desk = desk; input = input }
+
+-- Whatever items the old state has handled, this is what is sent for one more, and the new state has handled it too.
+abbrev pub Handles : LaneOf → LaneOf → ℕ → Desk → Input → List Sent → Type 0
+Handles old new version desk input sent =
+    (before : List Visit) → HasHandled old before →
+    let visit = visit_of version (length before + 1) desk input in
+    (sent ≡ sends_at old.lane old.lanes before visit) × HasHandled new (before ++ visit ∷ [])

@@ -1,0 +1,249 @@
+//! The desk and the lanes together.
+
+ghost use Rattle.std.specs.Prelude.{◌≡◌, ℕ, ◌+◌, ◌<◌, ◌≤◌, ◌≢◌, ◌↔◌, Bool, true, false, nat_eq, List, [], ◌∷◌, map, length, Option, None, Some, IfOk, IfErr, OnOk, OnErr};
+ghost use Rattle.undo_log.specs.declared.history.TheConstants.{LIMIT as CALLS};
+ghost use Rattle.desk_rows.specs.Desk.{blank};
+ghost use Rattle.desk_rows.specs.Exchange.{fits, after};
+ghost use Rattle.desk_edit.specs.Commands.{desk_after};
+ghost use Rattle.desk_edit.specs.Calls.{CallHistory, no_calls};
+ghost use Rattle.bridge_core.specs.Sent.{sent_of, input_of};
+ghost use Rattle.bridge_core.specs.Sound.{AreFresh};
+ghost use Rattle.bridge_core.specs.Steps.{CoreOf, HasTaken, Takes, Step, IsSpent};
+ghost use Rattle.bridge_core.specs.Following.{HasCalled, IsAnswered};
+ghost use Rattle.bridge_core.specs.Calls.{core_fault, Answers, Does, IsReason, OnAccepted, UndoesEdit, call_refused, before_memory};
+
+use crate::egress::Egress;
+use crate::fault::{CoreFault, LaneFault};
+use crate::item::Item;
+use crate::lane::{LANES, LaneState};
+use crate::reply::Reply;
+use crate::settings::Settings;
+use desk_edit::{Call, Command, Refusal, plan};
+use desk_rows::{Edit, Rows};
+use std::alloc::{AllocError, Allocator, Global};
+use std::marker::Model;
+use undo_log::{History, LIMIT};
+
+/// The desk with its history, and the lanes that send by it.
+///
+/// Version n of the desk is the one after n accepted calls.
+#[derive(Drop)]
+pub struct Core<A: Allocator + Copy = Global> {
+    version: u64,
+    history: History<Rows<A>>,
+    lanes: Vec<LaneState<A>, A>,
+}
+
+impl<A: Allocator + Copy> Model for Core<A> {
+    ghost use Rattle.bridge_core.specs.Steps.{CoreOf};
+    ghost use Rattle.bridge_core.specs.Sound.{IsSound};
+
+    ghost Value = { CoreOf };
+
+    ghost view = { λ c. record {
+      version = c.version;
+      desk = c.history.state;
+      done = c.history.done;
+      undone = c.history.undone;
+      lanes = c.lanes.items;
+    } };
+
+    ghost invariant = { λ c. IsSound c.version c.history.done c.lanes.items };
+}
+
+impl<A: Allocator + Copy> Core<A> {
+    /// A bridge without rooms, with 1 to 16 lanes.
+    pub fn new(alloc: A, lanes: u32, settings: Settings<A>) -> Result<Self, CoreFault>
+        ensures fresh { IfOk result (λ core. HasTaken core (blank settings.bridge_ssrc) []) }
+        ensures history { IfOk result (λ core. HasCalled core (no_calls (blank settings.bridge_ssrc))) }
+        ensures lists { IfOk result (λ core. (core.done ≡ []) × (core.undone ≡ [])) }
+        ensures lanes { IfOk result (λ core. length core.lanes ≡ lanes) }
+        ensures good { OnOk result (core_fault lanes settings.cname ≡ None) }
+        ensures fault { IfErr result (λ fault. fault ≢ CoreFault.OutOfMemory → core_fault lanes settings.cname ≡ Some fault) }
+        ensures memory { result ≡ Err CoreFault.OutOfMemory → core_fault lanes settings.cname ≡ None }
+    {
+        if lanes == 0 || lanes > LANES {
+            return Err(CoreFault::BadLanes);
+        }
+        if !settings.is_good() {
+            return Err(CoreFault::BadSettings);
+        }
+        let Ok(rows) = Rows::new(alloc, settings.bridge_ssrc) else {
+            return Err(CoreFault::OutOfMemory);
+        };
+        let Ok(states) = lane_states(alloc, lanes, &settings) else {
+            return Err(CoreFault::OutOfMemory);
+        };
+        Ok(Self {
+            version: 0,
+            history: History::new(alloc, rows),
+            lanes: states,
+        })
+    }
+
+    /// The rows of the desk.
+    pub fn rows(&self) -> &Rows<A>
+        ensures { result.now ≡ self.now.desk }
+    {
+        self.history.state()
+    }
+
+    /// How many calls of the desk were accepted.
+    pub fn version(&self) -> u64
+        ensures { result ≡ self.now.version }
+    {
+        self.version
+    }
+
+    /// How many lanes there are.
+    pub fn lanes(&self) -> usize
+        ensures { result ≡ length self.now.lanes }
+    {
+        self.lanes.len()
+    }
+
+    /// A call of an operator. Who calls has no effect on the desk.
+    ///
+    /// A command is refused by the first reason that `plan` finds, then because of the log, then
+    /// for want of memory; an undo because a newer call was accepted, then because nothing is
+    /// left to undo, then because of the log.
+    pub fn desk(&mut self, alloc: A, _op: u8, call: Call) -> Reply
+        ensures answer { Answers self.old self.new call result }
+        ensures takes { OnAccepted result (Takes self.old self.new (Step.publish self.new.desk) []) }
+        ensures history { (h : CallHistory) → HasCalled self.old h → IsAnswered h self.new call result }
+    {
+        let done = self.call(alloc, call);
+        let version = self.version;
+        match done {
+            Ok(()) => Reply::Accepted { no: version },
+            Err(why) => Reply::Refused { at: version, why },
+        }
+    }
+
+    /// Carries out a call.
+    fn call(&mut self, alloc: A, call: Call) -> Result<(), Refusal>
+        ensures does { OnOk result ((call_refused self.old call ≡ None) × Does self.old self.new call) }
+        ensures version { OnOk result ((self.new.version ≡ self.old.version + 1) × (self.new.lanes ≡ self.old.lanes)) }
+        ensures takes { OnOk result (Takes self.old self.new (Step.publish self.new.desk) []) }
+        ensures err { OnErr result (self.new ≡ self.old) }
+        ensures why { IfErr result (λ why. IsReason self.old call why) }
+    {
+        match call {
+            Call::Apply(command) => self.apply(alloc, &command),
+            Call::Undo { last } => self.undo(last),
+        }
+    }
+
+    /// Carries out a command.
+    fn apply(&mut self, alloc: A, command: &Command) -> Result<(), Refusal>
+        ensures does { OnOk result ((call_refused self.old (Call.Apply command.now) ≡ None) × Does self.old self.new (Call.Apply command.now)) }
+        ensures version { OnOk result ((self.new.version ≡ self.old.version + 1) × (self.new.lanes ≡ self.old.lanes)) }
+        ensures err { OnErr result (self.new ≡ self.old) }
+        ensures why { IfErr result (λ why. IsReason self.old (Call.Apply command.now) why) }
+    {
+        let edit = self.planned(alloc, command)?;
+        if self.history.push(edit).is_err() {
+            return Err(Refusal::OutOfMemory);
+        }
+        self.version += 1;
+        Ok(())
+    }
+
+    /// The edit that carries the command out, if nothing stands against it.
+    fn planned(&self, alloc: A, command: &Command) -> Result<Edit<A>, Refusal>
+        ensures fits { IfOk result (λ edit. fits self.now.desk edit ≡ true) }
+        ensures does { IfOk result (λ edit. after self.now.desk edit ≡ desk_after self.now.desk command.now) }
+        ensures free { OnOk result (call_refused self.now (Call.Apply command.now) ≡ None) }
+        ensures room { OnOk result (self.now.version < CALLS) }
+        ensures few { length self.now.done ≤ self.now.version }
+        ensures why { IfErr result (λ why. IsReason self.now (Call.Apply command.now) why) }
+    {
+        let version = self.version;
+        let edit = match plan(alloc, self.history.state(), command) {
+            Ok(edit) => edit,
+            Err(why) => return Err(before_memory(why, version)),
+        };
+        if log_is_full(version) {
+            return Err(Refusal::LogFull);
+        }
+        Ok(edit)
+    }
+
+    /// Takes the last edit back. The call names the last accepted one.
+    fn undo(&mut self, last: u64) -> Result<(), Refusal>
+        ensures does { OnOk result ((call_refused self.old (Call.Undo last) ≡ None) × UndoesEdit self.old self.new) }
+        ensures version { OnOk result ((self.new.version ≡ self.old.version + 1) × (self.new.lanes ≡ self.old.lanes)) }
+        ensures err { OnErr result (self.new ≡ self.old) }
+        ensures why { IfErr result (λ why. IsReason self.old (Call.Undo last) why) }
+    {
+        let version = self.version;
+        if last != version {
+            return Err(Refusal::NewerCommand { last: version });
+        }
+        if self.history.done_len() == 0 {
+            return Err(Refusal::NothingToUndo);
+        }
+        if log_is_full(version) {
+            return Err(Refusal::LogFull);
+        }
+        if self.history.undo().is_err() {
+            return Err(Refusal::NothingToUndo);
+        }
+        self.version += 1;
+        Ok(())
+    }
+
+    /// A lane handles an item under the desk of this version.
+    pub fn item(
+        &mut self,
+        alloc: A,
+        lane: u32,
+        item: &Item<A>,
+    ) -> Result<Vec<Egress<A>, A>, LaneFault>
+        requires { lane < length self.old.lanes }
+        ensures takes { IfOk result (λ sent. Takes self.old self.new (Step.item lane (input_of item.now)) (map sent_of sent.items ∷ [])) }
+        ensures spent { (result ≡ Err LaneFault.Spent) ↔ IsSpent self.old lane }
+        ensures err { OnErr result (self.new ≡ self.old) }
+        ensures lanes { length self.new.lanes ≡ length self.old.lanes }
+        ensures desk { (self.new.version ≡ self.old.version) × (self.new.desk ≡ self.old.desk) }
+        ensures history { (self.new.done ≡ self.old.done) × (self.new.undone ≡ self.old.undone) }
+    {
+        let rows = self.history.state();
+        self.lanes[lane as usize].step(alloc, self.version, rows, item)
+    }
+}
+
+/// Whether as many calls were accepted as the log can hold.
+fn log_is_full(version: u64) -> bool
+    ensures { result ≡ nat_eq version CALLS }
+{
+    version == LIMIT as u64
+}
+
+/// Want of memory is told after the log.
+fn before_memory(why: Refusal, version: u64) -> Refusal
+    ensures { result ≡ before_memory why version }
+{
+    match why {
+        Refusal::OutOfMemory if log_is_full(version) => Refusal::LogFull,
+        _ => why,
+    }
+}
+
+/// The lanes of a bridge, in order. None has handled anything.
+fn lane_states<A: Allocator + Copy>(
+    alloc: A,
+    lanes: u32,
+    settings: &Settings<A>,
+) -> Result<Vec<LaneState<A>, A>, AllocError>
+    requires { lanes ≤ LANES }
+    ensures fresh { IfOk result (λ v. AreFresh lanes v.items) }
+    ensures count { IfOk result (λ v. length v.items ≡ lanes) }
+{
+    let mut states = Vec::with_capacity(alloc, lanes as usize)?;
+    for lane in 0..lanes {
+        let state = LaneState::new(alloc, lane, lanes, settings)?;
+        states.push(state)?;
+    }
+    Ok(states)
+}

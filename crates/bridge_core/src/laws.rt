@@ -1,0 +1,48 @@
+//! Laws of all that the lanes send, whatever the order of calls and items, and of all that calls do.
+
+ghost use Rattle.std.specs.Prelude.{◌≡◌, ℕ, ◌%◌, ◌<◌, true, List, [], length, fold, reverse};
+ghost use Rattle.std.specs.List.{AllByRecursion};
+ghost use Rattle.desk_rows.specs.Desk.{Desk, good};
+ghost use Rattle.undo_log.specs.Timeline.{rewound};
+ghost use Rattle.desk_rows.specs.Edit.{inverse};
+ghost use Rattle.desk_rows.specs.Exchange.{after};
+ghost use Rattle.desk_edit.specs.Calls.{CallHistory};
+ghost use Rattle.bridge_core.specs.Frame.{SourceFrame};
+ghost use Rattle.bridge_core.specs.Sent.{Input, Sent};
+ghost use Rattle.bridge_core.specs.Steps.{Step, sends, sent_at, version_of, desk_of, visits, CoreOf, HasTaken};
+ghost use Rattle.bridge_core.specs.Following.{HasCalled};
+ghost use Rattle.bridge_core.specs.Runs.{Runs};
+ghost use Rattle.bridge_core.specs.EveryLane.{to_every};
+ghost use Rattle.bridge_core.specs.Headline.{AreGood, HaveNoGap, numbers, sent_on, IsChosen};
+
+/// Over any steps that cores take one by one, from a core that has taken nothing on: what is sent,
+/// joined in order, is what `sends` gives for the whole list, and the last core has taken all of it.
+pub fn all_that_is_sent()
+    ensures { (start : Desk) (steps : List Step) (sent : List (List Sent)) (first last : CoreOf) → HasTaken first start [] → Runs first steps sent last → (sent ≡ sends (length first.lanes) start steps) × HasTaken last start steps }
+{}
+
+/// Each outgoing stream numbers its packets without a gap modulo 65536, over all versions of the
+/// desk and however many lanes there are.
+pub fn streams_have_no_gap()
+    ensures { (lanes : ℕ) (start : Desk) (steps : List Step) (ssrc : ℕ) → good start ≡ true → AreGood steps → HaveNoGap (numbers (sent_on ssrc (sends lanes start steps))) }
+{}
+
+/// What is sent on a stream follows from the items of its lane and their desks alone: there may be
+/// any number of lanes, and the other lanes may be given anything. So it is the same on any number of
+/// lanes that are all given every item.
+pub fn lane_count_does_not_matter()
+    ensures same_items { (few many : ℕ) (start : Desk) (these those : List Step) (ssrc : ℕ) → visits (ssrc % few) start these ≡ visits (ssrc % many) start those → sent_on ssrc (sends few start these) ≡ sent_on ssrc (sends many start those) }
+    ensures every_lane { (few many : ℕ) (start : Desk) (steps : List Step) (ssrc : ℕ) → 0 < few → 0 < many → sent_on ssrc (sends few start (to_every few steps)) ≡ sent_on ssrc (sends many start (to_every many steps)) }
+{}
+
+/// Each packet that is sent for a frame is what the desk of its version chooses.
+pub fn packets_are_chosen()
+    ensures { (lanes lane : ℕ) (start : Desk) (before : List Step) (f : SourceFrame) → AllByRecursion (AllByRecursion (IsChosen (version_of before) (desk_of start before) f)) (sent_at lanes start before (Step.item lane (Input.frame f))) }
+{}
+
+/// The edits that are kept lead from the start to the desk of the command equations; taken back,
+/// the last one first, they lead to the start again, whatever the commands removed.
+pub fn edits_lead_back()
+    ensures leads { (core : CoreOf) (h : CallHistory) → HasCalled core h → fold after h.start core.done ≡ core.desk }
+    ensures back { (core : CoreOf) (h : CallHistory) → HasCalled core h → rewound after inverse core.desk (reverse core.done) ≡ h.start }
+{}

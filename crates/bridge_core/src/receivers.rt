@@ -1,0 +1,194 @@
+//! Who gets a frame.
+
+ghost use Rattle.std.specs.Prelude.{◌≡◌, ℕ, ◌<◌, ◌≤◌, ◌++◌, ◌&&◌, nat_eq, filter, map, length, true, Option, Some, IfOk, OnOk};
+ghost use Rattle.std.specs.List.{filter_map, list_any};
+ghost use Rattle.desk_rows.specs.declared.row.Slot.{Slot as SlotRow};
+ghost use Rattle.bridge_core.specs.Choice.{choice, comes_from, same_number};
+ghost use Rattle.bridge_core.specs.Receivers.{receivers, chooses, by_index, by_place, receiver, slots_of, slot_in, receivers_in};
+ghost use Rattle.bridge_core.specs.Takers.{subscriber, taker};
+
+use crate::choosing::{choice, comes_from, same_number};
+use crate::lane_place::LanePlace;
+use desk_rows::{Member, Row, Rows, Slot};
+use rtp_codec::Address;
+use std::alloc::{AllocError, Allocator};
+
+/// Slots have indexes from 0 to 15.
+const INDEXES: u32 = 16;
+
+/// A slot that a frame goes to, and its member's address.
+#[derive(Clone, Copy)]
+pub struct Receiver {
+    pub slot: Slot,
+    pub address: Address,
+}
+
+/// The receivers, in the lane, of what a source sends from an address: the slots that chose it,
+/// by place of the member and then by index. There is none where the source's member has another
+/// address.
+pub fn receivers_of<A: Allocator + Copy>(
+    alloc: A,
+    rows: &Rows<A>,
+    source: u32,
+    address: &Address,
+    place: &LanePlace,
+) -> Result<Vec<Receiver, A>, AllocError>
+    ensures { IfOk result (λ v. v.items ≡ receivers_in place.now.lane place.now.lanes rows.now source address.now) }
+{
+    if !comes_from(rows, source, address) {
+        return Ok(Vec::new(alloc));
+    }
+    let subscribers = subscribers_of(alloc, rows.others(), source)?;
+    let slots = takers(alloc, rows, &subscribers, source, place)?;
+    let sorted = by_index(alloc, &slots)?;
+    by_place(alloc, rows.members(), &sorted)
+}
+
+/// The SSRC of a slot that is subscribed to the source.
+fn subscriber(row: &Row, source: u32) -> Option<u32>
+    ensures { result ≡ subscriber source row.now }
+{
+    match row {
+        Row::Sub(sub) if sub.source == source => Some(sub.out_ssrc),
+        _ => None,
+    }
+}
+
+/// The SSRCs of the slots that are subscribed to the source.
+fn subscribers_of<A: Allocator + Copy>(
+    alloc: A,
+    others: &[Row],
+    source: u32,
+) -> Result<Vec<u32, A>, AllocError>
+    ensures { IfOk result (λ v. v.items ≡ filter_map (subscriber source) others.now) }
+{
+    others
+        .iter()
+        .filter_map(|row| subscriber(row, source))
+        .collect(alloc)
+}
+
+/// The slots of the lane that chose the source, which are some of its subscribers.
+fn takers<A: Allocator + Copy>(
+    alloc: A,
+    rows: &Rows<A>,
+    subscribers: &[u32],
+    source: u32,
+    place: &LanePlace,
+) -> Result<Vec<Slot, A>, AllocError>
+    requires { subscribers.now ≡ filter_map (subscriber source) rows.now.others }
+    ensures { IfOk result (λ v. v.items ≡ filter_map (taker rows.now source place.now) rows.now.others) }
+{
+    rows.others()
+        .iter()
+        .filter_map(|row| taker(rows, subscribers, source, place, row))
+        .collect(alloc)
+}
+
+/// The slot in a row, if it is of the lane and chose the source.
+fn taker<A: Allocator + Copy>(
+    rows: &Rows<A>,
+    subscribers: &[u32],
+    source: u32,
+    place: &LanePlace,
+    row: &Row,
+) -> Option<Slot>
+    requires { subscribers.now ≡ filter_map (subscriber source) rows.now.others }
+    ensures { result ≡ taker rows.now source place.now row.now }
+{
+    let Row::Slot(slot) = row else {
+        return None;
+    };
+    if place.is_mine(slot.out_ssrc) && chooses(rows, subscribers, source, slot.out_ssrc) {
+        Some(*slot)
+    } else {
+        None
+    }
+}
+
+/// Whether the slot chose the source. Only a subscriber does.
+fn chooses<A: Allocator + Copy>(
+    rows: &Rows<A>,
+    subscribers: &[u32],
+    source: u32,
+    out_ssrc: u32,
+) -> bool
+    requires { subscribers.now ≡ filter_map (subscriber source) rows.now.others }
+    ensures { result ≡ same_number (choice rows.now out_ssrc) (Some source) }
+{
+    if !has_number(subscribers, out_ssrc) {
+        return false;
+    }
+    same_number(choice(rows, out_ssrc), Some(source))
+}
+
+fn has_number(numbers: &[u32], number: u32) -> bool
+    ensures { result ≡ list_any (λ n. nat_eq n number) numbers.now }
+{
+    numbers.iter().any(|n| *n == number)
+}
+
+/// Slots in the order of their indexes.
+#[tactic(auto, unfolding(crate::specs::Receivers::by_index))]
+pub(crate) fn by_index<A: Allocator + Copy>(
+    alloc: A,
+    slots: &[Slot],
+) -> Result<Vec<Slot, A>, AllocError>
+    ensures { IfOk result (λ v. v.items ≡ by_index slots.now) }
+{
+    let mut sorted = Vec::with_capacity(alloc, slots.len())?;
+    for index in 0..INDEXES {
+        append_index(slots, index, &mut sorted)?;
+    }
+    Ok(sorted)
+}
+
+/// Appends the slots that have this index.
+fn append_index<A: Allocator>(
+    slots: &[Slot],
+    index: u32,
+    out: &mut Vec<Slot, A>,
+) -> Result<(), AllocError>
+    ensures { OnOk result (out.new.items ≡ out.old.items ++ filter (λ s. nat_eq s.index index) slots.now) }
+{
+    for slot in slots {
+        if slot.index == index {
+            out.push(*slot)?;
+        }
+    }
+    Ok(())
+}
+
+/// The slots of these members as receivers, in the order of the members.
+pub(crate) fn by_place<A: Allocator + Copy>(
+    alloc: A,
+    members: &[Member],
+    slots: &[Slot],
+) -> Result<Vec<Receiver, A>, AllocError>
+    ensures { IfOk result (λ v. v.items ≡ by_place members.now slots.now) }
+{
+    let mut receivers = Vec::with_capacity(alloc, slots.len())?;
+    for member in members {
+        append_member(slots, member, &mut receivers)?;
+    }
+    Ok(receivers)
+}
+
+/// Appends the member's slots as receivers.
+fn append_member<A: Allocator>(
+    slots: &[Slot],
+    member: &Member,
+    out: &mut Vec<Receiver, A>,
+) -> Result<(), AllocError>
+    ensures { OnOk result (out.new.items ≡ out.old.items ++ map (receiver member.now) (filter (λ s. nat_eq s.member member.now.member) slots.now)) }
+{
+    for slot in slots {
+        if slot.member == member.member {
+            out.push(Receiver {
+                slot: *slot,
+                address: member.address,
+            })?;
+        }
+    }
+    Ok(())
+}

@@ -1,0 +1,29 @@
+//! Settings.
+
+ghost use Rattle.std.specs.Prelude.{◌≡◌};
+ghost use Rattle.bridge_core.specs.Calls.{is_name};
+
+use bytes::Bytes;
+use std::alloc::{Allocator, Global};
+
+/// The most octets of a canonical name.
+const NAME_OCTETS: usize = 255;
+
+/// How the bridge presents itself.
+#[derive(Drop)]
+pub struct Settings<A: Allocator + Copy = Global> {
+    /// The SSRC under which the bridge itself speaks.
+    pub bridge_ssrc: u32,
+    /// The canonical name of its source descriptions, 1 to 255 octets (RFC 3550 section 6.5.1).
+    pub cname: Bytes<A>,
+}
+
+impl<A: Allocator + Copy> Settings<A> {
+    /// Whether the canonical name has 1 to 255 octets.
+    pub(crate) fn is_good(&self) -> bool
+        ensures { result ≡ is_name self.now.cname }
+    {
+        let octets = self.cname.len();
+        0 < octets && octets <= NAME_OCTETS
+    }
+}

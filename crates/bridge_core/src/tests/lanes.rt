@@ -1,0 +1,212 @@
+//! What lanes send: their share of the streams, and frames of all lengths to several receivers.
+
+use crate::tests::{P, member, packet, settings, setup, slot};
+use crate::{Core, Egress, Frame, Item, MediaFrame};
+use desk_edit::{Call, Command};
+use desk_rows::{Member, Slot, Sub};
+use std::alloc::Allocator;
+use std::test::Fail;
+
+/// A frame of the source 101 with so many packets, of which the last has the marker.
+pub fn frame_of<A: Allocator + Copy>(
+    alloc: A,
+    moment: u64,
+    ts: u32,
+    count: u16,
+) -> Result<Item<A>, Fail> {
+    let mut packets = Vec::new(alloc);
+    for ext in 0..count {
+        let is_last = ext.wrapping_add(1) == count;
+        packets.push(packet(alloc, i64::from(ext), is_last, 100, &[0xee])?)?;
+    }
+    let frame = Frame::new(ts, packets).map_err(|_| Fail::from("no frame"))?;
+    Ok(Item::Frame(MediaFrame {
+        source: 101,
+        address: P,
+        epoch: 1,
+        moment,
+        frame,
+    }))
+}
+
+/// What a lane sends for an item.
+fn sent_by<A: Allocator + Copy>(
+    alloc: A,
+    core: &mut Core<A>,
+    lane: u32,
+    item: &Item<A>,
+) -> Result<Vec<Egress<A>, A>, Fail> {
+    if lane as usize >= core.lanes() {
+        return Err(Fail::from("no lane"));
+    }
+    core.item(alloc, lane, item)
+        .map_err(|_| Fail::from("refused"))
+}
+
+/// The version, item, port, SSRC and number of a packet.
+pub fn line_of<A: Allocator + Copy>(egress: &Egress<A>) -> (u64, u64, u16, u32, u16) {
+    let Egress::Media {
+        version,
+        item,
+        to,
+        ssrc,
+        number,
+        ..
+    } = egress;
+    (*version, *item, to.port, *ssrc, *number)
+}
+
+/// Adds a slot that is subscribed to the source 101.
+pub fn add_slot<A: Allocator + Copy>(alloc: A, core: &mut Core<A>, slot: Slot) {
+    let out_ssrc = slot.out_ssrc;
+    let _added = core.desk(alloc, 0, Call::Apply(Command::AddSlot(slot)));
+    let sub = Sub {
+        out_ssrc,
+        source: 101,
+    };
+    let _subscribed = core.desk(alloc, 0, Call::Apply(Command::Subscribe(sub)));
+}
+
+/// Whether these octets, in this order, are all that is sent on a stream.
+fn is_all_of<A: Allocator + Copy>(sent: &[Egress<A>], stream: u32, want: &[[u8; 17]]) -> bool {
+    let mut count: usize = 0;
+    for egress in sent {
+        let Egress::Media { ssrc, bytes, .. } = egress;
+        if *ssrc == stream {
+            match want.get(count) {
+                Some(octets) if octets.as_slice() == bytes.as_slice() => {}
+                _ => return false,
+            }
+            count = count.wrapping_add(1);
+        }
+    }
+    count == want.len()
+}
+
+#[test]
+fn a_stream_is_the_same_on_any_number_of_lanes(rt: HostRuntime) -> Result<(), Fail> {
+    let alloc = rt.alloc();
+    let on_501: [[u8; 17]; 3] = [
+        [
+            0x81, 0x64, 0xff, 0xff, 0, 0, 3, 0xe8, 0, 0, 1, 0xf5, 0, 0, 0, 0x65, 0xee,
+        ],
+        [
+            0x81, 0xe4, 0, 0, 0, 0, 3, 0xe8, 0, 0, 1, 0xf5, 0, 0, 0, 0x65, 0xee,
+        ],
+        [
+            0x81, 0xe4, 0, 1, 0, 0, 0xf, 0xa0, 0, 0, 1, 0xf5, 0, 0, 0, 0x65, 0xee,
+        ],
+    ];
+    let on_502: [[u8; 17]; 3] = [
+        [
+            0x81, 0x64, 0, 0, 0, 0, 0, 0, 0, 0, 1, 0xf6, 0, 0, 0, 0x65, 0xee,
+        ],
+        [
+            0x81, 0xe4, 0, 1, 0, 0, 0, 0, 0, 0, 1, 0xf6, 0, 0, 0, 0x65, 0xee,
+        ],
+        [
+            0x81, 0xe4, 0, 2, 0, 0, 0xb, 0xb8, 0, 0, 1, 0xf6, 0, 0, 0, 0x65, 0xee,
+        ],
+    ];
+    // A stream is in the lane of its SSRC modulo the number of lanes.
+    for (lanes, of_501, of_502) in [(1, 0, 0), (2, 1, 0), (4, 1, 2), (16, 5, 6)] {
+        let mut core = Core::new(alloc, lanes, settings(alloc, b"bridge")?).map_err(|_| Fail::from(
+            "no core",
+        ))?;
+        setup(alloc, &mut core, 65535);
+        add_slot(alloc, &mut core, slot(502, 11, 1));
+        let first = frame_of(alloc, 1_000_000_000, 90000, 2)?;
+        let second = frame_of(alloc, 1_033_333_333, 93000, 1)?;
+        for lane in 0..lanes {
+            let mut sent = sent_by(alloc, &mut core, lane, &first)?;
+            for egress in sent_by(alloc, &mut core, lane, &second)? {
+                sent.push(egress)?;
+            }
+            for (ssrc, home, want) in [(501, of_501, &on_501), (502, of_502, &on_502)] {
+                let octets = if lane == home { want.as_slice() } else { &[] };
+                assert!(rt;
+                    is_all_of(&sent, ssrc, octets),
+                    "{ssrc} in lane {lane} of {lanes}"
+                );
+            }
+        }
+    }
+    Ok(())
+}
+
+#[test]
+fn a_frame_goes_on_a_stream_and_begins_others(rt: HostRuntime) -> Result<(), Fail> {
+    let alloc = rt.alloc();
+    let mut core = Core::new(alloc, 1, settings(alloc, b"bridge")?).map_err(|_| Fail::from(
+        "no core",
+    ))?;
+    setup(alloc, &mut core, 65534);
+    let first = frame_of(alloc, 1_000_000_000, 90000, 1)?;
+    let sent = sent_by(alloc, &mut core, 0, &first)?;
+    assert_eq!(rt; sent.len(), 1);
+    assert_eq!(rt; line_of(&sent[0]), (6, 1, 5000, 501, 65534));
+    let newcomer = Member {
+        out_audio: 9003,
+        ..member(12, 6000)
+    };
+    let _joined = core.desk(alloc, 0, Call::Apply(Command::AddMember(newcomer)));
+    add_slot(alloc, &mut core, slot(502, 12, 0));
+    add_slot(
+        alloc,
+        &mut core,
+        Slot {
+            first_seq: 7,
+            ..slot(503, 11, 1)
+        },
+    );
+    let second = frame_of(alloc, 1_033_333_333, 93000, 2)?;
+    let sent = sent_by(alloc, &mut core, 0, &second)?;
+    let wanted = [
+        (11, 2, 5000, 501, 65535),
+        (11, 2, 5000, 501, 0),
+        (11, 2, 5000, 503, 7),
+        (11, 2, 5000, 503, 8),
+        (11, 2, 6000, 502, 0),
+        (11, 2, 6000, 502, 1),
+    ];
+    assert_eq!(rt; sent.len(), wanted.len());
+    for (egress, want) in sent.iter().zip(wanted.iter()) {
+        assert_eq!(rt; line_of(egress), *want);
+    }
+    Ok(())
+}
+
+#[test]
+fn packets_are_numbered_within_a_frame(rt: HostRuntime) -> Result<(), Fail> {
+    let alloc = rt.alloc();
+    let cases: [(u16, u16, u16); 5] = [
+        (65535, 1, 65535),
+        (65535, 2, 0),
+        (65534, 3, 0),
+        (0, 256, 255),
+        (65534, 256, 253),
+    ];
+    for (first, count, last) in cases {
+        let mut core = Core::new(alloc, 1, settings(alloc, b"bridge")?).map_err(|_| Fail::from(
+            "no core",
+        ))?;
+        setup(alloc, &mut core, first);
+        let item = frame_of(alloc, 1_000_000_000, 90000, count)?;
+        let sent = sent_by(alloc, &mut core, 0, &item)?;
+        assert_eq!(rt; sent.len(), count as usize);
+        let mut want = first;
+        for egress in &sent {
+            let Egress::Media { number, bytes, .. } = egress;
+            assert_eq!(rt; *number, want, "from {first}");
+            let [high, low] = want.to_be_bytes();
+            let second = if want == last { 0xe4 } else { 0x64 };
+            assert_eq!(rt;
+                bytes.as_slice().get(1..4),
+                Some([second, high, low].as_slice())
+            );
+            want = want.wrapping_add(1);
+        }
+        assert_eq!(rt; want, last.wrapping_add(1), "from {first}");
+    }
+    Ok(())
+}
