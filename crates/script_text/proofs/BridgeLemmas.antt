@@ -1,0 +1,67 @@
+-- The core goes on as the bridge does.
+use Rattle.std.proofs.Common.{◌≡◌, ℕ, List, [], ◌∷◌, ◌++◌, length, true, false, Some, None, Result, Ok, Err, refl, sym, ap, ◌∙◌, subst}
+use Rattle.std.specs.Result.{OnOk}
+use Rattle.desk_rows.specs.Desk.{Desk}
+use Rattle.desk_edit.specs.declared.command.Call.{Call}
+use Rattle.desk_edit.specs.declared.command.Call.TheVariants.{Apply, Undo}
+use Rattle.desk_edit.specs.declared.command.Refusal.{Refusal}
+use Rattle.desk_edit.specs.declared.command.Refusal.TheVariants.{OutOfMemory}
+use Rattle.desk_edit.specs.Calls.{no_calls, refusal_of, after_call as history_after}
+use Rattle.bridge_core.specs.declared.reply.Reply.{Reply}
+use Rattle.bridge_core.specs.declared.reply.Reply.TheVariants.{Accepted, Refused}
+use Rattle.bridge_core.specs.Sent.{Sent, Input}
+use Rattle.bridge_core.specs.Calls.{Answers, OnAccepted}
+use Rattle.bridge_core.specs.Following.{HasCalled, IsTold, IsAnswered}
+use Rattle.bridge_core.specs.Steps.{CoreOf, Step, HasTaken, Takes, sent_at}
+use Rattle.script_text.specs.Bridge.{Bridge, first_desk, published, reply_of, after_call, sends_of, after_item, wants_memory, Stands, opening_bridge}
+
+not_memory : (at : ℕ) (why : Refusal) → wants_memory (Refused at why) ≡ false → why ≡ OutOfMemory → ⊥
+not_memory at why told e = absurd (true_false (subst (λ (w : Refusal). wants_memory (Refused at w) ≡ false) e told))
+  where
+    true_false : true ≡ false → ⊥
+    true_false h = absurd cc
+
+told_why : (bridge : Bridge) (call : Call) (at : ℕ) (why : Refusal) → IsTold bridge.calls call why → wants_memory (Refused at why) ≡ false → refusal_of bridge.calls call ≡ Some why
+told_why bridge (Apply command) at why by told = by.0 (not_memory at why told)
+told_why bridge (Undo last) at why by told = by
+
+-- the desk that a step publishes is the one that the calls leave
+accepted : (old new : CoreOf) (bridge : Bridge) (call : Call) → Stands old bridge → HasCalled new (history_after bridge.calls call) → length new.lanes ≡ length old.lanes → Takes old new (Step.publish new.desk) [] → Stands new (published bridge (history_after bridge.calls call) None)
+accepted old new bridge call s called lanes takes = record {
+  taken = subst (λ (d : Desk). HasTaken new first_desk (bridge.steps ++ Step.publish d ∷ [])) called.desk (takes first_desk bridge.steps s.taken).1;
+  called = called;
+  lanes = lanes ∙ s.lanes;
+}
+
+pub call_answered : (old new : CoreOf) (bridge : Bridge) (call : Call) (reply : Reply) → Stands old bridge → Answers old new call reply → IsAnswered bridge.calls new call reply → OnAccepted reply (Takes old new (Step.publish new.desk) []) → wants_memory reply ≡ false → Stands new (after_call bridge call) × (reply ≡ reply_of bridge call)
+call_answered old new bridge call (Accepted number) s does by takes told =
+    (rw by.0 (accepted old new bridge call s by.2 (ap length does.2) takes), rw (by.0, by.1) refl)
+call_answered old new bridge call (Refused at why) s does by takes told =
+    let some : refusal_of bridge.calls call ≡ Some why = told_why bridge call at why by.1 told in
+    (rw (some, does.1) s, rw (some, by.0) refl)
+
+-- ---- items
+
+first_same : {A : Type 0} (x y : A) → x ∷ [] ≡ y ∷ [] → x ≡ y
+first_same x y e = cc
+
+pub item_answered : (old new : CoreOf) (bridge : Bridge) (item : Input) (sent : List Sent) → Stands old bridge → Takes old new (Step.item 0 item) (sent ∷ []) → new.version ≡ old.version → new.desk ≡ old.desk → new.done ≡ old.done → length new.lanes ≡ length old.lanes → Stands new (after_item bridge item) × (sent ≡ sends_of bridge item)
+item_answered old new bridge item sent s takes version desk done lanes =
+    let t = takes first_desk bridge.steps s.taken in (
+      record {
+        taken = t.1;
+        called = record { version = version ∙ s.called.version; desk = desk ∙ s.called.desk; follows = rw done s.called.follows };
+        lanes = lanes ∙ s.lanes;
+      },
+      first_same sent (sends_of bridge item) (subst (λ (n : ℕ). sent ∷ [] ≡ sent_at n first_desk bridge.steps (Step.item 0 item)) s.lanes t.0),
+    )
+
+-- ---- the first line
+
+pub opens : (core : CoreOf) → HasTaken core first_desk [] → HasCalled core (no_calls first_desk) → length core.lanes ≡ 1 → Stands core opening_bridge
+opens core taken called lanes = record { taken = taken; called = called; lanes = lanes }
+
+-- what follows from what holds of a success
+pub on_ok : {X E : Type 0} (r : Result X E) (P Q : Type 0) → OnOk r P → (P → Q) → OnOk r Q
+on_ok (Ok x) P Q h f = f h
+on_ok (Err e) P Q h f = tt

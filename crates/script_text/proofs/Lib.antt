@@ -1,0 +1,10 @@
+pub mod Cuts
+pub mod NumberLemmas
+pub mod PacketLemmas
+pub mod Known
+pub mod StepLemmas
+pub mod RunLemmas
+pub mod AddressLemmas
+pub mod ExtLemmas
+pub mod PacketLaws
+pub mod BridgeLemmas

@@ -1,0 +1,158 @@
+-- A run, read by read.
+use Rattle.std.proofs.Common.{◌≡◌, ℕ, List, [], ◌++◌, Option, Some, None, Result, Ok, Err, refl, sym, ap, ◌∙◌, subst, append_assoc}
+use Rattle.std.specs.Prelude.{IfSome}
+use Rattle.std.specs.Io.KnownBytes.{Appends, Consumes, Keeps, IsAtEnd}
+use Rattle.std.proofs.lemmas.List.{append-nil}
+use Rattle.script_text.specs.declared.fault.RunFault.{RunFault}
+use Rattle.script_text.specs.declared.fault.RunFault.TheVariants as errors
+use Rattle.script_text.specs.Lines.{whole, ended}
+use Rattle.script_text.specs.Output.{Outcome, nothing, told, stopped, outcome_of, output_of, ended_output_of, IsFrontOf, RunEnds}
+use Rattle.script_text.specs.Bridge.{Bridge, opening_bridge, Stands}
+use Rattle.script_text.specs.Steps.{Held, Place, place_of, opening, IsOpening, to_come, Goes, StepFails, Steps, FinishEnds, Finishes}
+use Rattle.script_text.proofs.Known.{Appends-then, Appends-same, Appends-none}
+use Rattle.script_text.proofs.StepLemmas.{goes_then, fails_then, goes_none}
+
+pub if_some : {A : Type 0} (o : Option A) (P : A → Type 0) → ((x : A) → o ≡ Some x → P x) → IfSome o P
+if_some None P h = tt
+if_some (Some x) P h = h x refl
+
+pub Consumes-keeps : (a b : Option (List ℕ)) → Keeps a b → Consumes a b []
+Consumes-keeps None b h = tt
+Consumes-keeps (Some xs) None h = h
+Consumes-keeps (Some xs) (Some ys) h = sym h
+
+pub Consumes-then : (a b c : Option (List ℕ)) (x y : List ℕ) → Consumes a b x → Consumes b c y → Consumes a c (x ++ y)
+Consumes-then None b c x y h k = tt
+Consumes-then (Some xs) None c x y h k = absurd h
+Consumes-then (Some xs) (Some ys) None x y h k = k
+Consumes-then (Some xs) (Some ys) (Some zs) x y h k = h ∙ (ap (λ (t : List ℕ). x ++ t) k ∙ sym (append_assoc x y zs))
+
+-- what was read led here, and what it gave is out
+abbrev pub SoFar : List ℕ → Option (List ℕ) → Option (List ℕ) → Option (List ℕ) → Held → Type 0
+SoFar input left before now held = (seen : List ℕ) × (sent : List ℕ) × (bridge : Bridge) × Stands held.core bridge × Consumes (Some input) left seen × Appends before now sent × Goes opening seen (place_of held bridge) sent
+
+pub at_first : (input : List ℕ) (left before : Option (List ℕ)) (held : Held) → IsOpening held → left ≡ Some input → SoFar input left before before held
+at_first input left before held h e = ([], [], opening_bridge, h.0, rw e refl, Appends-none before, rw (h.1, h.2) (goes_none opening))
+
+pub goes_on : (input : List ℕ) (left left2 before mid now : Option (List ℕ)) (held new : Held) (octets : List ℕ) → SoFar input left before mid held → Consumes left left2 octets → Steps held octets new mid now (Ok tt) → SoFar input left2 before now new
+goes_on input left left2 before mid now held new octets h c k =
+    let s = k h.2 h.3 in (
+      h.0 ++ octets,
+      h.1 ++ s.0,
+      s.2.0,
+      s.2.1,
+      Consumes-then (Some input) left left2 h.0 octets h.4 c,
+      Appends-then before mid now h.1 s.0 h.5 s.1,
+      goes_then opening (place_of held h.2) (place_of new s.2.0) h.0 octets h.1 s.0 h.6 s.2.2,
+    )
+
+-- nothing came
+pub waits : (input : List ℕ) (left left2 before now : Option (List ℕ)) (held : Held) → SoFar input left before now held → Consumes left left2 [] → SoFar input left2 before now held
+waits input left left2 before now held h c = (
+  h.0,
+  h.1,
+  h.2,
+  h.3,
+  subst (λ (xs : List ℕ). Consumes (Some input) left2 xs) (append-nil h.0) (Consumes-then (Some input) left left2 h.0 [] h.4 c),
+  h.5,
+  h.6,
+)
+
+-- the whole of the input, where what is left is known
+all_of : (input seen : List ℕ) (left : Option (List ℕ)) → Consumes (Some input) left seen → (rest : List ℕ) × (left ≡ Some rest) × (input ≡ seen ++ rest)
+all_of input seen None h = absurd h
+all_of input seen (Some rest) h = (rest, refl, h)
+
+front_of_front : (front octets rest input : List ℕ) → IsFrontOf front octets → input ≡ octets ++ rest → IsFrontOf front input
+front_of_front front octets rest input h e = (h.0 ++ rest, e ∙ (ap (λ (t : List ℕ). t ++ rest) h.1 ∙ append_assoc front h.0 rest))
+
+fails_with : (input octets rest sent : List ℕ) (left before now : Option (List ℕ)) (e : RunFault) → input ≡ octets ++ rest → Appends before now sent → StepFails opening octets sent e → RunEnds input left before now (Err e)
+fails_with input octets rest sent left before now (errors.Script n word fault) is a h =
+    let out : output_of input ≡ told sent (stopped n word fault) = ap output_of is ∙ h rest in
+    (ap (λ (o : Outcome). o.fault) out, Appends-same before now sent (output_of input).text (sym (ap (λ (o : Outcome). o.text) out ∙ append-nil sent)) a)
+fails_with input octets rest sent left before now errors.Write is a h =
+    (sent, ((h rest).0, ap (λ (o : Outcome). o.text) (ap output_of is) ∙ (h rest).1), a)
+fails_with input octets rest sent left before now errors.Read is a h = absurd h
+fails_with input octets rest sent left before now errors.OutOfMemory is a h = (
+  h.0,
+  front_of_front h.0 octets rest input h.1 is,
+  ap (λ (o : Outcome). o.fault) h.2,
+  Appends-same before now sent (ended_output_of h.0).text (sym (ap (λ (o : Outcome). o.text) h.2)) a,
+)
+
+pub run_fails : (input : List ℕ) (left left2 before mid now : Option (List ℕ)) (held new : Held) (octets : List ℕ) (e : RunFault) → SoFar input left before mid held → Consumes left left2 octets → Steps held octets new mid now (Err e) → RunEnds input left2 before now (Err e)
+run_fails input left left2 before mid now held new octets e h c k =
+    let s = k h.2 h.3 in
+    let all = all_of input (h.0 ++ octets) left2 (Consumes-then (Some input) left left2 h.0 octets h.4 c) in
+    fails_with input (h.0 ++ octets) all.0 (h.1 ++ s.0) left2 before now e all.2 (Appends-then before mid now h.1 s.0 h.5 s.1) (fails_then opening (place_of held h.2) h.0 octets h.1 s.0 e h.6 s.2)
+
+nothing_more : (input : List ℕ) (left before now : Option (List ℕ)) (held : Held) (h : SoFar input left before now held) → ((bridge : Bridge) → to_come ended (place_of held bridge) [] ≡ nothing) → ended_output_of h.0 ≡ told h.1 nothing
+nothing_more input left before now held h none = ap (to_come ended opening) (sym (append-nil h.0)) ∙ (h.6 ended [] ∙ ap (told h.1) (none h.2))
+
+-- the reader failed
+pub run_read : (input : List ℕ) (left before now : Option (List ℕ)) (held : Held) → SoFar input left before now held → ((bridge : Bridge) → to_come ended (place_of held bridge) [] ≡ nothing) → RunEnds input left before now (Err errors.Read)
+run_read input left before now held h none =
+    let out = nothing_more input left before now held h none in
+    (h.0, h.4, ap (λ (o : Outcome). o.fault) out, Appends-same before now h.1 (ended_output_of h.0).text (sym (ap (λ (o : Outcome). o.text) out ∙ append-nil h.1)) h.5)
+
+-- memory ran out before the next octets came
+pub run_starved : (input : List ℕ) (left before now : Option (List ℕ)) (held : Held) → SoFar input left before now held → ((bridge : Bridge) → to_come ended (place_of held bridge) [] ≡ nothing) → RunEnds input left before now (Err errors.OutOfMemory)
+run_starved input left before now held h none =
+    let out = nothing_more input left before now held h none in
+    let all = all_of input h.0 left h.4 in
+    (h.0, (all.0, all.2), ap (λ (o : Outcome). o.fault) out, Appends-same before now h.1 (ended_output_of h.0).text (sym (ap (λ (o : Outcome). o.text) out ∙ append-nil h.1)) h.5)
+
+-- the reader is at its end
+ends_with : (input sent : List ℕ) (left before now : Option (List ℕ)) (place : Place) (t : List ℕ) (r : Result (Unit {0}) RunFault) → IsAtEnd left → Goes opening input place sent → Appends before now (sent ++ t) → FinishEnds place t r → RunEnds input left before now r
+ends_with input sent left before now place t (Ok u) at_end h a k =
+    let out : output_of input ≡ told sent (record { text = t; fault = None }) = ap output_of (sym (append-nil input)) ∙ (h whole [] ∙ ap (told sent) k) in
+    (at_end, ap (λ (o : Outcome). o.fault) out, Appends-same before now (sent ++ t) (output_of input).text (sym (ap (λ (o : Outcome). o.text) out)) a)
+ends_with input sent left before now place t (Err (errors.Script n word fault)) at_end h a k =
+    let out : output_of input ≡ told sent (told t (stopped n word fault)) = ap output_of (sym (append-nil input)) ∙ (h whole [] ∙ ap (told sent) k) in
+    (ap (λ (o : Outcome). o.fault) out, Appends-same before now (sent ++ t) (output_of input).text (sym (ap (λ (o : Outcome). o.text) out ∙ ap (λ (x : List ℕ). sent ++ x) (append-nil t))) a)
+ends_with input sent left before now place t (Err errors.Write) at_end h a k =
+    let out : output_of input ≡ told sent (to_come whole place []) = ap output_of (sym (append-nil input)) ∙ h whole [] in
+    (sent ++ t, (k.0, ap (λ (o : Outcome). o.text) out ∙ (ap (λ (x : List ℕ). sent ++ x) k.1 ∙ sym (append_assoc sent t k.0))), a)
+ends_with input sent left before now place t (Err errors.Read) at_end h a k = absurd k
+ends_with input sent left before now place t (Err errors.OutOfMemory) at_end h a k =
+    let out : ended_output_of input ≡ told sent (record { text = t; fault = None }) = ap ended_output_of (sym (append-nil input)) ∙ (h ended [] ∙ ap (told sent) k) in
+    (input, ([], sym (append-nil input)), ap (λ (o : Outcome). o.fault) out, Appends-same before now (sent ++ t) (ended_output_of input).text (sym (ap (λ (o : Outcome). o.text) out)) a)
+
+seen_all : (input seen : List ℕ) (left : Option (List ℕ)) → Consumes (Some input) left seen → IsAtEnd left → seen ≡ input
+seen_all input seen None h k = absurd h
+seen_all input seen (Some rest) h k = sym (h ∙ (ap (λ (t : List ℕ). seen ++ t) k ∙ append-nil seen))
+
+pub run_ends : (input : List ℕ) (left left2 before mid now : Option (List ℕ)) (held : Held) (r : Result (Unit {0}) RunFault) → SoFar input left before mid held → Consumes left left2 [] → IsAtEnd left2 → Finishes held mid now r → RunEnds input left2 before now r
+run_ends input left left2 before mid now held r h c at_end k =
+    let s = k h.2 h.3 in
+    let same = seen_all input (h.0 ++ []) left2 (Consumes-then (Some input) left left2 h.0 [] h.4 c) at_end in
+    ends_with input h.1 left2 before now (place_of held h.2) s.0 r at_end (subst (λ (xs : List ℕ). Goes opening xs (place_of held h.2) h.1) (sym (append-nil h.0) ∙ same) h.6) (Appends-then before mid now h.1 s.0 h.5 s.1) s.2
+
+pub no_room : (input : List ℕ) (left before : Option (List ℕ)) → RunEnds input left before before (Err errors.OutOfMemory)
+unfolding outcome_of
+no_room input left before = ([], (input, refl), refl, Appends-none before)
+
+-- ---- the same, as a run says it
+
+pub no_room_exit : (first left before : Option (List ℕ)) → IfSome first (λ input. RunEnds input left before before (Err errors.OutOfMemory))
+no_room_exit first left before = if_some first (λ input. RunEnds input left before before (Err errors.OutOfMemory)) (λ input e. no_room input left before)
+
+pub fails_exit : (first left left2 before mid now : Option (List ℕ)) (held new : Held) (octets : List ℕ) (e : RunFault) → ((input : List ℕ) → first ≡ Some input → SoFar input left before mid held) → Consumes left left2 octets → Steps held octets new mid now (Err e) → IfSome first (λ input. RunEnds input left2 before now (Err e))
+fails_exit first left left2 before mid now held new octets e h c k =
+    if_some first (λ input. RunEnds input left2 before now (Err e)) (λ input is. run_fails input left left2 before mid now held new octets e (h input is) c k)
+
+pub ends_exit : (first left left2 before mid now : Option (List ℕ)) (held : Held) (r : Result (Unit {0}) RunFault) → ((input : List ℕ) → first ≡ Some input → SoFar input left before mid held) → Consumes left left2 [] → IsAtEnd left2 → Finishes held mid now r → IfSome first (λ input. RunEnds input left2 before now r)
+ends_exit first left left2 before mid now held r h c at_end k =
+    if_some first (λ input. RunEnds input left2 before now r) (λ input is. run_ends input left left2 before mid now held r (h input is) c at_end k)
+
+pub read_exit : (first left left2 before now : Option (List ℕ)) (held : Held) → ((input : List ℕ) → first ≡ Some input → SoFar input left before now held) → Consumes left left2 [] → ((bridge : Bridge) → to_come ended (place_of held bridge) [] ≡ nothing) → IfSome first (λ input. RunEnds input left2 before now (Err errors.Read))
+read_exit first left left2 before now held h c none =
+    if_some first (λ input. RunEnds input left2 before now (Err errors.Read)) (λ input is. run_read input left2 before now held (waits input left left2 before now held (h input is) c) none)
+
+pub starved_exit : (first left left2 before now : Option (List ℕ)) (held : Held) → ((input : List ℕ) → first ≡ Some input → SoFar input left before now held) → Consumes left left2 [] → ((bridge : Bridge) → to_come ended (place_of held bridge) [] ≡ nothing) → IfSome first (λ input. RunEnds input left2 before now (Err errors.OutOfMemory))
+starved_exit first left left2 before now held h c none =
+    if_some first (λ input. RunEnds input left2 before now (Err errors.OutOfMemory)) (λ input is. run_starved input left2 before now held (waits input left left2 before now held (h input is) c) none)
+
+pub stays_exit : (first left before now : Option (List ℕ)) (held : Held) → ((input : List ℕ) → first ≡ Some input → SoFar input left before now held) → ((bridge : Bridge) → to_come ended (place_of held bridge) [] ≡ nothing) → IfSome first (λ input. RunEnds input left before now (Err errors.Read))
+stays_exit first left before now held h none =
+    if_some first (λ input. RunEnds input left before now (Err errors.Read)) (λ input is. run_read input left before now held (h input is) none)

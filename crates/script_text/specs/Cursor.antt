@@ -1,0 +1,23 @@
+-- What the parser holds of a line.
+use Rattle.std.specs.Prelude.{◌≡◌, ◌≢◌, ℕ, ◌+◌, List, [], ◌∷◌, length, Option, Some, None, ◌++◌, Result, Ok, Err}
+use Rattle.std.specs.Borrow.{Bor}
+use Rattle.bridge_core.specs.Frame.{SourcePacket}
+use Rattle.script_text.specs.declared.fault.ParseFault.{ParseFault}
+use Rattle.script_text.specs.declared.packet.Parts.{Parts}
+use Rattle.script_text.specs.Words.{Fails}
+use Rattle.script_text.specs.Packets.{packet_of}
+
+-- these are the four parts, or there are not four
+abbrev pub are_parts : Option Parts → List (List ℕ) → Type 0
+are_parts (Some p) parts = parts ≡ p.ext.now ∷ p.marker.now ∷ p.pt.now ∷ p.payload.now ∷ []
+are_parts None parts = length parts ≢ 4
+
+-- how many octets are left of a line, the space before them included
+abbrev pub size_of : Option (Bor (List ℕ)) → ℕ
+size_of None = 0
+size_of (Some text) = length text.now + 1
+
+-- the packet that the word at this place spells stands behind the others, or its fault was told
+abbrev pub TakesPacket : ℕ → List ℕ → List SourcePacket → List SourcePacket → Result (Unit {0}) ParseFault → Type 0
+TakesPacket place word old new (Ok u) = (packet : SourcePacket) × (packet_of place word ≡ Ok packet) × (new ≡ old ++ packet ∷ [])
+TakesPacket place word old new (Err e) = Fails e (packet_of place word)

@@ -1,0 +1,15 @@
+pub mod Words
+pub mod Numbers
+pub mod Addresses
+pub mod Kinds
+pub mod Packets
+pub mod Cursor
+pub mod Calls
+pub mod Requests
+pub mod Text
+pub mod Lines
+pub mod Bridge
+pub mod Output
+pub mod Steps
+pub mod Pieces
+pub mod Status

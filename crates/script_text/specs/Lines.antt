@@ -1,0 +1,30 @@
+-- The lines of a script (own): LF ends a line, a CR before it is dropped, and so does the end of the input.
+use Rattle.std.specs.Prelude.{ℕ, ◌==◌, List, [], ◌∷◌}
+use Rattle.std.specs.List.{slice_split}
+use Rattle.std.specs.Str.Lines.{strip_carriage_return}
+
+-- what stands between the LFs (10) of a text; the last part is behind the last LF, and may be empty
+abbrev pub parts_of : List ℕ → List (List ℕ)
+parts_of text = slice_split (λ b. b == 10) text
+
+-- the lines of these parts, where `last` says which lines the part behind the last LF makes
+abbrev pub lines_by : (List ℕ → List (List ℕ)) → List (List ℕ) → List (List ℕ)
+lines_by last [] = []
+lines_by last (part ∷ []) = last part
+lines_by last (part ∷ next ∷ parts) = strip_carriage_return part ∷ lines_by last (next ∷ parts)
+
+-- the end of the input ends a line
+abbrev pub whole : List ℕ → List (List ℕ)
+whole part = part ∷ []
+
+-- a line that has not ended is none
+abbrev pub ended : List ℕ → List (List ℕ)
+ended part = []
+
+-- all lines of a text
+abbrev pub lines_of : List ℕ → List (List ℕ)
+lines_of text = lines_by whole (parts_of text)
+
+-- the lines of a text that an LF ends
+abbrev pub ended_lines : List ℕ → List (List ℕ)
+ended_lines text = lines_by ended (parts_of text)

@@ -1,0 +1,56 @@
+-- Decimal numbers without leading zeros (own).
+use Rattle.std.specs.Prelude.{ℕ, ℤ, pos, negsuc, neg_ℤ, ◌<◌, ◌+◌, ◌-◌, ◌^◌, ◌==◌, ◌&&◌, ◌||◌, not, Bool, List, [], ◌∷◌, length, slice_index, nat_lt, Option, Some, None, Result, Ok, if◌then◌else◌}
+use Rattle.std.specs.List.{list_all}
+use Rattle.std.specs.Option.{option_map}
+use Rattle.std.specs.Char.{is_ascii_digit}
+use Rattle.std.specs.Str.Parse.{digits_value}
+use Rattle.script_text.specs.declared.fault.Fault.{Fault}
+use Rattle.script_text.specs.declared.fault.Fault.TheVariants.{BadNumber}
+use Rattle.script_text.specs.Words.{◌>>=◌, word_at, value_or}
+
+-- digits, with no zero (48) in front of others
+abbrev pub is_number : List ℕ → Bool
+is_number word = list_all is_ascii_digit word && (nat_lt 0 (length word) && (nat_lt (length word) 2 || not (slice_index word 0 == 48)))
+
+-- n, if it is below the limit
+abbrev pub below : ℕ → ℕ → Option ℕ
+below limit n = if nat_lt n limit then Some n else None
+
+-- the number that a word spells, if it is at most max
+abbrev pub number_of : ℕ → List ℕ → Option ℕ
+number_of max word = if is_number word then below (max + 1) (digits_value 10 word) else None
+
+-- as far below 0
+abbrev pub negative : ℕ → ℤ
+negative n = neg_ℤ (pos n)
+
+-- the numbers of 64 bits with a sign
+abbrev pub IsExt : ℤ → Type 0
+IsExt (pos n) = n < 2 ^ 63
+IsExt (negsuc n) = n < 2 ^ 63
+
+-- the signed number of 64 bits that a word spells; only here may a `-` (45) stand in front
+unfoldable pub ext_of : List ℕ → Option ℤ
+ext_of [] = None
+ext_of (first ∷ rest) =
+    if first == 45 then option_map negative (number_of (2 ^ 63) rest)
+    else option_map pos (number_of (2 ^ 63 - 1) (first ∷ rest))
+
+-- the next word as a number that is at most max
+abbrev pub number_at : ℕ → ℕ → List (List ℕ) → Result (ℕ × List (List ℕ)) (ℕ × Fault)
+number_at max place words = do
+  word ← word_at place words
+  n ← value_or place BadNumber (number_of max word.0)
+  Ok (n, word.1)
+
+-- the next word as a number of 16 bits
+abbrev pub u16_at : ℕ → List (List ℕ) → Result (ℕ × List (List ℕ)) (ℕ × Fault)
+u16_at place words = number_at 65535 place words
+
+-- the next word as a number of 32 bits
+abbrev pub u32_at : ℕ → List (List ℕ) → Result (ℕ × List (List ℕ)) (ℕ × Fault)
+u32_at place words = number_at 4294967295 place words
+
+-- the next word as a number of 64 bits
+abbrev pub u64_at : ℕ → List (List ℕ) → Result (ℕ × List (List ℕ)) (ℕ × Fault)
+u64_at place words = number_at 18446744073709551615 place words

@@ -1,0 +1,56 @@
+-- The output function: what a script's octets give (own).
+use Rattle.std.specs.Prelude.{◌≡◌, ℕ, ◌+◌, List, [], ◌∷◌, ◌++◌, Option, Some, None, Result, Ok, Err}
+use Rattle.std.specs.Io.KnownBytes.{Appends, Consumes, IsAtEnd}
+use Rattle.script_text.specs.declared.fault.Fault.{Fault}
+use Rattle.script_text.specs.declared.fault.RunFault.{RunFault}
+use Rattle.script_text.specs.declared.fault.RunFault.TheVariants as errors
+use Rattle.script_text.specs.Requests.{Request, request_of}
+use Rattle.script_text.specs.Lines.{lines_of, ended_lines}
+use Rattle.script_text.specs.Bridge.{Bridge, opening_bridge, answer_text, after}
+
+-- the text that is written, and the fault that ends it, if any: its line, the place of its word, and what it is
+pub record Outcome : Type 0 where
+  pub text : List ℕ
+  pub fault : Option (ℕ × ℕ × Fault)
+
+-- nothing is written, and all went well
+abbrev pub nothing : Outcome
+nothing = record { text = []; fault = None }
+
+-- this text first
+abbrev pub told : List ℕ → Outcome → Outcome
+told text outcome = record { text = text ++ outcome.text; fault = outcome.fault }
+
+-- a fault
+abbrev pub stopped : ℕ → ℕ → Fault → Outcome
+stopped line word fault = record { text = []; fault = Some (line, word, fault) }
+
+-- a line that is read is answered, and the others go on; one with a fault ends the script
+abbrev pub continues : ℕ → Bridge → Result Request (ℕ × Fault) → (Bridge → Outcome) → Outcome
+continues number bridge (Err e) others = stopped number e.0 e.1
+continues number bridge (Ok request) others = told (answer_text bridge request) (others (after bridge request))
+
+-- what lines give, from this bridge on and with the first of them under this number
+unfoldable pub outcome_of : Bridge → ℕ → List (List ℕ) → Outcome
+outcome_of bridge number [] = nothing
+outcome_of bridge number (line ∷ lines) = continues number bridge (request_of line) (λ b. outcome_of b (number + 1) lines)
+
+-- what a script gives
+abbrev pub output_of : List ℕ → Outcome
+output_of input = outcome_of opening_bridge 1 (lines_of input)
+
+-- what the lines of a text give that have ended
+abbrev pub ended_output_of : List ℕ → Outcome
+ended_output_of input = outcome_of opening_bridge 1 (ended_lines input)
+
+-- the text begins so
+abbrev pub IsFrontOf : List ℕ → List ℕ → Type 0
+IsFrontOf front all = (rest : List ℕ) × (all ≡ front ++ rest)
+
+-- what a run over this input leaves: what the reader still has, and what the writer held before and holds now
+abbrev pub RunEnds : List ℕ → Option (List ℕ) → Option (List ℕ) → Option (List ℕ) → Result (Unit {0}) RunFault → Type 0
+RunEnds input left before now (Ok u) = IsAtEnd left × ((output_of input).fault ≡ None) × Appends before now (output_of input).text
+RunEnds input left before now (Err (errors.Script line word fault)) = ((output_of input).fault ≡ Some (line, word, fault)) × Appends before now (output_of input).text
+RunEnds input left before now (Err errors.Write) = (sent : List ℕ) × IsFrontOf sent (output_of input).text × Appends before now sent
+RunEnds input left before now (Err errors.Read) = (seen : List ℕ) × Consumes (Some input) left seen × ((ended_output_of seen).fault ≡ None) × Appends before now (ended_output_of seen).text
+RunEnds input left before now (Err errors.OutOfMemory) = (front : List ℕ) × IsFrontOf front input × ((ended_output_of front).fault ≡ None) × Appends before now (ended_output_of front).text

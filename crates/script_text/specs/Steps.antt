@@ -1,0 +1,101 @@
+-- A run between two octets: what the functions inside it say to one another.
+use Rattle.std.specs.Prelude.{◌≡◌, ℕ, List, [], ◌++◌, Option, None, Result, Ok, Err}
+use Rattle.std.specs.Io.KnownBytes.{Appends}
+use Rattle.bridge_core.specs.Steps.{CoreOf}
+use Rattle.script_text.specs.declared.fault.RunFault.{RunFault}
+use Rattle.script_text.specs.declared.fault.RunFault.TheVariants as errors
+use Rattle.script_text.specs.Requests.{Request, request_of}
+use Rattle.script_text.specs.Lines.{lines_by, whole, ended, parts_of}
+use Rattle.script_text.specs.Bridge.{Bridge, opening_bridge, answer_text, after, Stands}
+use Rattle.script_text.specs.Output.{Outcome, told, stopped, outcome_of, IsFrontOf}
+
+-- what a run holds: the core, the number of the line that is being read, and what has come of it
+pub record Held : Type 0 where
+  pub core : CoreOf
+  pub line : ℕ
+  pub pending : List ℕ
+
+-- where a run is: the bridge, the number of the line that is being read, and what has come of it
+pub record Place : Type 0 where
+  pub bridge : Bridge
+  pub line : ℕ
+  pub pending : List ℕ
+
+-- before any octet
+abbrev pub opening : Place
+opening = record { bridge = opening_bridge; line = 1; pending = [] }
+
+-- where a run is that holds this, if its core is this bridge
+abbrev pub place_of : Held → Bridge → Place
+place_of held bridge = record { bridge = bridge; line = held.line; pending = held.pending }
+
+-- a run of which no octet was read
+abbrev pub IsOpening : Held → Type 0
+IsOpening held = Stands held.core opening_bridge × (held.line ≡ 1) × (held.pending ≡ [])
+
+-- what is still to come from a place, with these octets
+abbrev pub to_come : (List ℕ → List (List ℕ)) → Place → List ℕ → Outcome
+to_come last place text = outcome_of place.bridge place.line (lines_by last (parts_of (place.pending ++ text)))
+
+-- the octets led from one place to the other, and this was sent
+abbrev pub Goes : Place → List ℕ → Place → List ℕ → Type 0
+Goes old octets new sent = (last : List ℕ → List (List ℕ)) (tail : List ℕ) → to_come last old (octets ++ tail) ≡ told sent (to_come last new tail)
+
+-- why a step over octets failed, and what was sent, whatever comes behind them
+abbrev pub StepFails : Place → List ℕ → List ℕ → RunFault → Type 0
+StepFails old octets sent (errors.Script line word fault) = (tail : List ℕ) → to_come whole old (octets ++ tail) ≡ told sent (stopped line word fault)
+StepFails old octets sent errors.Write = (tail : List ℕ) → IsFrontOf sent (to_come whole old (octets ++ tail)).text
+StepFails old octets sent errors.Read = ⊥
+StepFails old octets sent errors.OutOfMemory = (front : List ℕ) × IsFrontOf front octets × (to_come ended old front ≡ record { text = sent; fault = None })
+
+-- how a step over octets ended, and what is held then
+abbrev pub StepEnds : Place → List ℕ → Held → List ℕ → Result (Unit {0}) RunFault → Type 0
+StepEnds old octets new sent (Ok u) = (bridge : Bridge) × Stands new.core bridge × Goes old octets (place_of new bridge) sent
+StepEnds old octets new sent (Err e) = StepFails old octets sent e
+
+-- a step over octets that sends nothing
+abbrev pub Keeps : Held → List ℕ → Held → Result (Unit {0}) RunFault → Type 0
+Keeps old octets new result = (bridge : Bridge) → Stands old.core bridge → StepEnds (place_of old bridge) octets new [] result
+
+-- a step over octets, and what the writer held before and holds now
+abbrev pub Steps : Held → List ℕ → Held → Option (List ℕ) → Option (List ℕ) → Result (Unit {0}) RunFault → Type 0
+Steps old octets new before now result = (bridge : Bridge) → Stands old.core bridge → (sent : List ℕ) × Appends before now sent × StepEnds (place_of old bridge) octets new sent result
+
+-- a request was answered by this text
+abbrev pub AnswersRequest : CoreOf → Request → CoreOf → List ℕ → Type 0
+AnswersRequest old request new text = (bridge : Bridge) → Stands old bridge → Stands new (after bridge request) × (text ≡ answer_text bridge request)
+
+-- how the answer to one line ended, of which no other is known
+abbrev pub LineEnds : Bridge → ℕ → List ℕ → CoreOf → List ℕ → Result (Unit {0}) RunFault → Type 0
+LineEnds old number line new sent (Ok u) = (request : Request) × (request_of line ≡ Ok request) × Stands new (after old request) × (sent ≡ answer_text old request)
+LineEnds old number line new sent (Err (errors.Script n word fault)) = (n ≡ number) × (request_of line ≡ Err (word, fault)) × (sent ≡ [])
+LineEnds old number line new sent (Err errors.Write) = (request : Request) × (request_of line ≡ Ok request) × IsFrontOf sent (answer_text old request)
+LineEnds old number line new sent (Err errors.Read) = ⊥
+LineEnds old number line new sent (Err errors.OutOfMemory) = sent ≡ []
+
+-- the answer to one line, and what the writer held before and holds now
+abbrev pub AnswersLine : CoreOf → ℕ → List ℕ → CoreOf → Option (List ℕ) → Option (List ℕ) → Result (Unit {0}) RunFault → Type 0
+AnswersLine old number line new before now result = (bridge : Bridge) → Stands old bridge → (sent : List ℕ) × Appends before now sent × LineEnds bridge number line new sent result
+
+-- all was sent, or a front, or nothing for want of memory
+abbrev pub SendEnds : List ℕ → List ℕ → Result (Unit {0}) RunFault → Type 0
+SendEnds octets sent (Ok u) = sent ≡ octets
+SendEnds octets sent (Err errors.Write) = IsFrontOf sent octets
+SendEnds octets sent (Err errors.OutOfMemory) = sent ≡ []
+SendEnds octets sent (Err other) = ⊥
+
+-- an attempt to send octets, and what the writer held before and holds now
+abbrev pub Sends : List ℕ → Option (List ℕ) → Option (List ℕ) → Result (Unit {0}) RunFault → Type 0
+Sends octets before now result = (sent : List ℕ) × Appends before now sent × SendEnds octets sent result
+
+-- how the end of the input ended the last line
+abbrev pub FinishEnds : Place → List ℕ → Result (Unit {0}) RunFault → Type 0
+FinishEnds old sent (Ok u) = to_come whole old [] ≡ record { text = sent; fault = None }
+FinishEnds old sent (Err (errors.Script line word fault)) = to_come whole old [] ≡ told sent (stopped line word fault)
+FinishEnds old sent (Err errors.Write) = IsFrontOf sent (to_come whole old []).text
+FinishEnds old sent (Err errors.Read) = ⊥
+FinishEnds old sent (Err errors.OutOfMemory) = to_come ended old [] ≡ record { text = sent; fault = None }
+
+-- the end of the input, and what the writer held before and holds now
+abbrev pub Finishes : Held → Option (List ℕ) → Option (List ℕ) → Result (Unit {0}) RunFault → Type 0
+Finishes old before now result = (bridge : Bridge) → Stands old.core bridge → (sent : List ℕ) × Appends before now sent × FinishEnds (place_of old bridge) sent result

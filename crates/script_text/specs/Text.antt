@@ -1,0 +1,75 @@
+-- What is printed (own).
+use Rattle.std.specs.Prelude.{ℕ, List, ◌++◌, codes}
+use Rattle.std.specs.Fmt.{decimal}
+use Rattle.hex.specs.Hex.{encode_lower}
+use Rattle.rtp_codec.specs.declared.address.Address.{Address}
+use Rattle.desk_edit.specs.declared.command.Table.{Table}
+use Rattle.desk_edit.specs.declared.command.Table.TheVariants.{Rooms, Members, Sources, Slots, RoomAudio}
+use Rattle.desk_edit.specs.declared.command.Refusal.{Refusal}
+use Rattle.desk_edit.specs.declared.command.Refusal.TheVariants.{Exists, NoRoom, NoMember, NoSource, NoSlot, WrongKind, OtherRoom, SsrcTaken, BadValue, Already, Full, OutOfMemory, NewerCommand, NothingToUndo, LogFull}
+use Rattle.bridge_core.specs.declared.reply.Reply.{Reply}
+use Rattle.bridge_core.specs.declared.reply.Reply.TheVariants.{Accepted, Refused}
+use Rattle.bridge_core.specs.Sent.{Sent}
+use Rattle.bridge_core.specs.Sent.Sent.{media}
+use Rattle.script_text.specs.declared.fault.Fault.{Fault}
+use Rattle.script_text.specs.declared.fault.Fault.TheVariants.{LineTooLong, BadByte, UnknownWord, MissingWord, ExtraWord, BadNumber, BadAddress, BadHex, BadFrame}
+use Rattle.script_text.specs.Addresses.{address_text}
+
+-- a fault of a line by number and name
+abbrev pub fault_text : Fault → List ℕ
+fault_text LineTooLong = codes "1 LineTooLong"
+fault_text BadByte = codes "2 BadByte"
+fault_text UnknownWord = codes "3 UnknownWord"
+fault_text MissingWord = codes "4 MissingWord"
+fault_text ExtraWord = codes "5 ExtraWord"
+fault_text BadNumber = codes "6 BadNumber"
+fault_text BadAddress = codes "7 BadAddress"
+fault_text BadHex = codes "8 BadHex"
+fault_text BadFrame = codes "9 BadFrame"
+
+-- the name of what is full
+abbrev pub table_text : Table → List ℕ
+table_text Rooms = codes "rooms"
+table_text Members = codes "members"
+table_text Sources = codes "sources"
+table_text Slots = codes "slots"
+table_text RoomAudio = codes "room-audio"
+
+-- a refusal by number and name, with what it tells
+abbrev pub refusal_text : Refusal → List ℕ
+refusal_text Exists = codes "1 Exists"
+refusal_text NoRoom = codes "2 NoRoom"
+refusal_text NoMember = codes "3 NoMember"
+refusal_text NoSource = codes "4 NoSource"
+refusal_text NoSlot = codes "5 NoSlot"
+refusal_text WrongKind = codes "6 WrongKind"
+refusal_text OtherRoom = codes "7 OtherRoom"
+refusal_text SsrcTaken = codes "8 SsrcTaken"
+refusal_text BadValue = codes "9 BadValue"
+refusal_text Already = codes "10 Already"
+refusal_text (Full table limit) = codes "12 Full " ++ table_text table ++ codes " " ++ decimal limit
+refusal_text OutOfMemory = codes "13 OutOfMemory"
+refusal_text (NewerCommand last) = codes "14 NewerCommand " ++ decimal last
+refusal_text NothingToUndo = codes "15 NothingToUndo"
+refusal_text LogFull = codes "17 LogFull"
+
+-- the line of a reply: its number, or the version and the refusal
+abbrev pub reply_text : Reply → List ℕ
+reply_text (Accepted number) = codes "ok " ++ decimal number ++ codes "\n"
+reply_text (Refused at why) = codes "no " ++ decimal at ++ codes " " ++ refusal_text why ++ codes "\n"
+
+-- the version by which a packet goes out, and the number of its item
+abbrev pub cause_text : ℕ → ℕ → List ℕ
+cause_text version item = decimal version ++ codes " " ++ decimal item
+
+-- where a packet goes, and its stream's SSRC and its number there
+abbrev pub way_text : Address → ℕ → ℕ → List ℕ
+way_text to ssrc number = address_text to ++ codes " " ++ decimal ssrc ++ codes " " ++ decimal number
+
+-- the line of an RTP packet that goes out
+abbrev pub media_text : ℕ → ℕ → Address → ℕ → ℕ → List ℕ → List ℕ
+media_text version item to ssrc number octets = codes "tx " ++ cause_text version item ++ codes " " ++ way_text to ssrc number ++ codes " " ++ encode_lower octets ++ codes "\n"
+
+-- the line of what goes out
+abbrev pub sent_text : Sent → List ℕ
+sent_text (media p) = media_text p.version p.item p.to p.ssrc p.number p.bytes

@@ -1,0 +1,136 @@
+//! The answer to one line.
+
+ghost use Rattle.std.specs.Prelude.{◌≡◌, ◌++◌, [], OnOk, map};
+ghost use Rattle.std.specs.List.{flat_map};
+ghost use Rattle.bridge_core.specs.Sent.{sent_of, input_of};
+ghost use Rattle.script_text.specs.Text.{reply_text, sent_text};
+ghost use Rattle.script_text.specs.Requests.{view, Desk, Item as ItemRequest};
+ghost use Rattle.script_text.specs.Bridge.{HasLane, wants_memory};
+ghost use Rattle.script_text.specs.Steps.{AnswersRequest, AnswersLine};
+
+use crate::fault::{ParseFault, RunFault};
+use crate::line::{Line, parse_line};
+use crate::print::{print_egress, print_reply};
+use crate::send::send;
+use bridge_core::{Core, Egress, Item, Reply};
+use desk_edit::{Call, Refusal};
+use std::alloc::{AllocError, Allocator};
+use std::io::Write;
+
+/// The lane that a script's items go to: there is this one alone.
+const LANE: u32 = 0;
+
+/// Whether the reply tells of want of memory.
+fn wants_memory(reply: &Reply) -> bool
+    ensures { result ≡ wants_memory reply.now }
+{
+    matches!(
+        reply,
+        Reply::Refused {
+            why: Refusal::OutOfMemory,
+            ..
+        }
+    )
+}
+
+/// Answers a call and appends the reply's line.
+fn answer_call<A: Allocator + Copy>(
+    alloc: A,
+    core: &mut Core<A>,
+    op: u8,
+    call: Call,
+    out: &mut Vec<u8, A>,
+) -> Result<(), AllocError>
+    requires { out.old.items ≡ [] }
+    ensures answer { OnOk result (AnswersRequest core.old (Desk op call) core.new out.new.items) }
+    ensures lane { HasLane core.old → HasLane core.new }
+{
+    let reply = core.desk(alloc, op, call);
+    if wants_memory(&reply) {
+        return Err(AllocError);
+    }
+    print_reply(alloc, &reply, out)
+}
+
+/// Appends the lines of all that goes out.
+fn print_all<A: Allocator + Copy>(
+    alloc: A,
+    egresses: &[Egress<A>],
+    out: &mut Vec<u8, A>,
+) -> Result<(), AllocError>
+    ensures { OnOk result (out.new.items ≡ out.old.items ++ flat_map sent_text (map sent_of egresses.now)) }
+{
+    for egress in egresses {
+        print_egress(alloc, egress, out)?;
+    }
+    Ok(())
+}
+
+/// Hands an item to the lane and appends the lines of what goes out.
+fn answer_item<A: Allocator + Copy>(
+    alloc: A,
+    core: &mut Core<A>,
+    item: &Item<A>,
+    out: &mut Vec<u8, A>,
+) -> Result<(), AllocError>
+    requires lane { HasLane core.old }
+    requires empty { out.old.items ≡ [] }
+    ensures answer { OnOk result (AnswersRequest core.old (ItemRequest (input_of item.now)) core.new out.new.items) }
+    ensures lane { HasLane core.new }
+{
+    match core.item(alloc, LANE, item) {
+        // The item numbers of a lane are never used up: a script has fewer lines.
+        Err(_) => Err(AllocError),
+        Ok(egresses) => print_all(alloc, &egresses, out),
+    }
+}
+
+/// Does what a line asks for, and appends what is written for it.
+fn answer_request<A: Allocator + Copy>(
+    alloc: A,
+    core: &mut Core<A>,
+    line: Line<A>,
+    out: &mut Vec<u8, A>,
+) -> Result<(), AllocError>
+    requires lane { HasLane core.old }
+    requires empty { out.old.items ≡ [] }
+    ensures answer { OnOk result (AnswersRequest core.old (view line) core.new out.new.items) }
+    ensures lane { HasLane core.new }
+{
+    match line {
+        Line::Nothing => Ok(()),
+        Line::Desk { op, call } => answer_call(alloc, core, op, call, out),
+        Line::Item(item) => answer_item(alloc, core, &item, out),
+    }
+}
+
+/// Answers the line of this number. All that it gives is sent at its end, so want of memory sends
+/// nothing of it.
+pub(crate) fn answer<W: Write, A: Allocator + Copy>(
+    alloc: A,
+    core: &mut Core<A>,
+    number: u64,
+    line: &[u8],
+    writer: &mut W,
+) -> Result<(), RunFault>
+    requires { HasLane core.old }
+    ensures answer { AnswersLine core.old number line.now core.new (W.contents writer.old) (W.contents writer.new) result }
+    ensures lane { HasLane core.new }
+{
+    let line = match parse_line(alloc, line) {
+        Err(ParseFault::OutOfMemory) => return Err(RunFault::OutOfMemory),
+        Err(ParseFault::Line { word, fault }) => {
+            return Err(RunFault::Script {
+                line: number,
+                word,
+                fault,
+            });
+        }
+        Ok(line) => line,
+    };
+    let mut out = Vec::new(alloc);
+    match answer_request(alloc, core, line, &mut out) {
+        Err(_) => Err(RunFault::OutOfMemory),
+        Ok(()) => send(writer, &out),
+    }
+}

@@ -1,0 +1,50 @@
+//! Laws of the definitions, in the words of a script's grammar.
+
+ghost use Rattle.std.specs.Prelude.{◌≡◌, ◌⊎◌, ℕ, ℤ, pos, ◌^◌, ◌<◌, ◌≤◌, List, [], ◌∷◌, Some, Ok, codes};
+ghost use Rattle.std.specs.Fmt.{decimal, signed_decimal};
+ghost use Rattle.std.specs.List.{join_with_byte};
+ghost use Rattle.hex.specs.Hex.{IsBytes, decode_of, encode_lower};
+ghost use Rattle.rtp_codec.specs.declared.address.Address.{Address};
+ghost use Rattle.script_text.specs.Words.{words_of};
+ghost use Rattle.script_text.specs.Numbers.{number_of, ext_of, IsExt};
+ghost use Rattle.script_text.specs.Addresses.{address_of, address_text};
+ghost use Rattle.bridge_core.specs.Frame.{SourcePacket};
+ghost use Rattle.script_text.specs.Packets.{packet_of, packet_text};
+ghost use Rattle.script_text.specs.Lines.{parts_of};
+
+/// The words with single spaces between them are the line, and the parts with LFs between them the
+/// script.
+pub fn pieces_join()
+    ensures words { (line : List ℕ) → join_with_byte 32 (words_of line) ≡ line }
+    ensures parts { (text : List ℕ) → join_with_byte 10 (parts_of text) ≡ text }
+{}
+
+/// A word spells a number where it is what is printed of it, and the number is in range.
+pub fn number_words()
+    ensures spelled { (max n : ℕ) (word : List ℕ) → max < 2 ^ 64 → number_of max word ≡ Some n → (word ≡ decimal n) × (n ≤ max) }
+    ensures read { (max n : ℕ) → max < 2 ^ 64 → n ≤ max → number_of max (decimal n) ≡ Some n }
+{}
+
+/// A word spells an extended sequence number where it is what is printed of it; `-0` spells 0 too.
+pub fn ext_words()
+    ensures spelled { (word : List ℕ) (z : ℤ) → ext_of word ≡ Some z → IsExt z × ((word ≡ signed_decimal z) ⊎ ((word ≡ codes "-0") × (z ≡ pos 0))) }
+    ensures read { (z : ℤ) → IsExt z → ext_of (signed_decimal z) ≡ Some z }
+    ensures minus_zero { ext_of (codes "-0") ≡ Some (pos 0) }
+{}
+
+/// A word spells an address where it is what is printed of it.
+pub fn address_words()
+    ensures spelled { (word : List ℕ) (x : Address) → address_of word ≡ Some x → word ≡ address_text x }
+    ensures read { (a b c d port : ℕ) → a ≤ 255 → b ≤ 255 → c ≤ 255 → d ≤ 255 → port ≤ 65535
+        → address_of (address_text (record { ip = a ∷ b ∷ c ∷ d ∷ []; port = port })) ≡ Some (record { ip = a ∷ b ∷ c ∷ d ∷ []; port = port }) }
+{}
+
+/// What is printed of octets in hexadecimal reads back as these octets.
+pub fn hex_words()
+    ensures { (octets : List ℕ) → IsBytes octets → decode_of (encode_lower octets) ≡ Ok octets }
+{}
+
+/// What is printed of a packet reads back as this packet.
+pub fn packet_words()
+    ensures { (place : ℕ) (p : SourcePacket) → IsExt p.ext → p.pt ≤ 255 → IsBytes p.payload → packet_of place (packet_text p) ≡ Ok p }
+{}

@@ -1,0 +1,30 @@
+//! Scripts of a bridge: their lines, what is printed for each, and the run that answers a whole
+//! script.
+#![tactic(auto)]
+
+mod answer;
+mod commands;
+mod exits;
+mod fault;
+mod laws;
+mod line;
+mod number;
+mod packet;
+mod print;
+mod replay;
+mod script;
+mod send;
+mod spelling;
+mod words;
+
+pub use self::commands::parse_desk;
+pub use self::exits::status;
+pub use self::fault::{Fault, ParseFault, RunFault};
+pub use self::laws::{
+    address_words, ext_words, hex_words, number_words, packet_words, pieces_join,
+};
+pub use self::print::{print_egress, print_reply};
+pub use self::replay::run;
+
+#[cfg(test)]
+mod tests;

@@ -1,0 +1,125 @@
+//! Decimal numbers.
+
+ghost use Rattle.std.specs.Prelude.{◌≡◌, ◌^◌, ◌≤◌, IfSome, IfOk, true, pos};
+ghost use Rattle.std.specs.List.{list_all};
+ghost use Rattle.std.specs.Char.{is_ascii_digit};
+ghost use Rattle.std.specs.Str.Parse.{digits_value};
+ghost use Rattle.script_text.specs.Words.{Gives, words_in};
+ghost use Rattle.script_text.specs.Cursor.{size_of};
+ghost use Rattle.script_text.specs.Numbers.{is_number, below, number_of, negative, ext_of, number_at, u16_at, u32_at, u64_at};
+
+use crate::fault::{Fault, ParseFault};
+use crate::words::next_word;
+
+/// Whether each octet is a digit.
+fn all_digits(word: &[u8]) -> bool
+    ensures { result ≡ list_all is_ascii_digit word.now }
+{
+    word.iter().all(|b| b.is_ascii_digit())
+}
+
+/// Whether a word is digits, with no zero in front of others.
+fn is_number(word: &[u8]) -> bool
+    ensures { result ≡ is_number word.now }
+{
+    if !all_digits(word) || word.is_empty() {
+        return false;
+    }
+    word.len() < 2 || word[0] != b'0'
+}
+
+/// What these digits are worth, below 2^64.
+fn value_of(word: &[u8]) -> Option<u64>
+    requires { is_number word.now ≡ true }
+    ensures { result ≡ below (2 ^ 64) (digits_value 10 word.now) }
+{
+    match str::from_utf8(word) {
+        Ok(text) => text.parse::<u64>().ok(),
+        Err(_) => None,
+    }
+}
+
+/// The number that a word spells, if it is at most `max`.
+pub(crate) fn number(word: &[u8], max: u64) -> Option<u64>
+    ensures value { result ≡ number_of max word.now }
+    ensures small { IfSome result (λ n. n ≤ max) }
+{
+    if !is_number(word) {
+        return None;
+    }
+    match value_of(word) {
+        Some(value) if value <= max => Some(value),
+        _ => None,
+    }
+}
+
+/// The number below 0, or 0, that lies as far from 0.
+fn negated(number: u64) -> i64
+    requires { number ≤ 2 ^ 63 }
+    ensures { result ≡ negative number }
+{
+    if number == 1 << 63 {
+        i64::MIN
+    } else {
+        -(number as i64)
+    }
+}
+
+/// The extended sequence number that a word spells, with a `-` in front where it is below 0.
+#[tactic(auto, unfolding(crate::specs::Numbers::ext_of))]
+pub(crate) fn parse_ext(word: &[u8]) -> Option<i64>
+    ensures { result ≡ ext_of word.now }
+{
+    match word {
+        [b'-', digits @ ..] => match number(digits, 1 << 63) {
+            None => None,
+            Some(far) => Some(negated(far)),
+        },
+        _ => match number(word, (1 << 63) - 1) {
+            None => None,
+            Some(far) => Some(far as i64),
+        },
+    }
+}
+
+/// The next word as a number that is at most `max`.
+pub(crate) fn number_word(
+    words: Option<&[u8]>,
+    place: u32,
+    max: u64,
+) -> Result<(u64, Option<&[u8]>), ParseFault>
+    ensures value { Gives (λ x. (x.0, words_in x.1)) result (number_at max place (words_in words.entry)) }
+    ensures small { IfOk result (λ x. x.0 ≤ max) }
+    ensures shorter { IfOk result (λ x. size_of x.1 ≤ size_of words.entry) }
+{
+    let (word, rest) = next_word(words, place)?;
+    let Some(value) = number(word, max) else {
+        return Err(Fault::BadNumber.at(place));
+    };
+    Ok((value, rest))
+}
+
+/// The next word as a number of 16 bits.
+pub(crate) fn u16_word(words: Option<&[u8]>, place: u32) -> Result<(u16, Option<&[u8]>), ParseFault>
+    ensures { Gives (λ x. (x.0, words_in x.1)) result (u16_at place (words_in words.entry)) }
+{
+    let (value, rest) = number_word(words, place, 65_535)?;
+    Ok((value as u16, rest))
+}
+
+/// The next word as a number of 32 bits.
+pub(crate) fn u32_word(words: Option<&[u8]>, place: u32) -> Result<(u32, Option<&[u8]>), ParseFault>
+    ensures value { Gives (λ x. (x.0, words_in x.1)) result (u32_at place (words_in words.entry)) }
+    ensures shorter { IfOk result (λ x. size_of x.1 ≤ size_of words.entry) }
+{
+    let (value, rest) = number_word(words, place, 4_294_967_295)?;
+    Ok((value as u32, rest))
+}
+
+/// The next word as a number of 64 bits.
+pub(crate) fn u64_word(words: Option<&[u8]>, place: u32) -> Result<(u64, Option<&[u8]>), ParseFault>
+    ensures value { Gives (λ x. (x.0, words_in x.1)) result (u64_at place (words_in words.entry)) }
+    ensures shorter { IfOk result (λ x. size_of x.1 ≤ size_of words.entry) }
+{
+    number_word(words, place, u64::MAX)
+}

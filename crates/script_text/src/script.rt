@@ -1,0 +1,161 @@
+//! A script between two octets.
+
+ghost use Rattle.std.specs.Prelude.{◌≡◌, ◌≢◌, ◌+◌, ◌^◌, ◌<◌, ◌≤◌, [], ◌∷◌, length, IfOk, IfErr};
+ghost use Rattle.std.specs.Str.Lines.{strip_carriage_return};
+
+use crate::answer::answer;
+use crate::fault::{Fault, RunFault};
+use crate::line::LINE_LIMIT;
+use bridge_core::{Core, Settings};
+use bytes::Bytes;
+use std::alloc::{AllocError, Allocator, Global};
+use std::io::Write;
+use std::marker::Model;
+
+/// The SSRC under which the bridge of a script speaks.
+const BRIDGE_SSRC: u32 = 1;
+
+/// The canonical name of the bridge of a script.
+const CNAME: &[u8] = b"bridge";
+
+/// The bridge, the number of the line that is being read, and what has come of it.
+#[derive(Drop)]
+pub(crate) struct Script<A: Allocator + Copy = Global> {
+    core: Core<A>,
+    line: u64,
+    pending: Vec<u8, A>,
+}
+
+impl<A: Allocator + Copy> Model for Script<A> {
+    ghost use Rattle.std.specs.Prelude.{◌≡◌, ◌==◌, false};
+    ghost use Rattle.std.specs.List.{All};
+    ghost use Rattle.script_text.specs.Bridge.{HasLane};
+    ghost use Rattle.script_text.specs.Steps.{Held};
+
+    ghost Value = { Held };
+
+    ghost view = { λ s. record { core = s.core; line = s.line; pending = s.pending.items } };
+
+    ghost invariant = { λ s. HasLane s.core × All (λ b. (b == 10) ≡ false) s.pending.items };
+}
+
+/// A line without the CR at its end.
+fn without_cr(line: &[u8]) -> &[u8]
+    ensures { result.now ≡ strip_carriage_return line.now }
+{
+    match line {
+        [front @ .., b'\r'] => front,
+        _ => line,
+    }
+}
+
+impl<A: Allocator + Copy> Script<A> {
+    ghost use Rattle.script_text.specs.Output.{nothing};
+    ghost use Rattle.script_text.specs.Steps.{Held, IsOpening, Keeps, Steps, Finishes, place_of, to_come};
+    ghost use Rattle.script_text.specs.Lines.{ended};
+    ghost use Rattle.script_text.specs.Bridge.{Bridge};
+
+    /// A script of which nothing has come.
+    pub(crate) fn new(alloc: A) -> Result<Script<A>, AllocError>
+        ensures { IfOk result (λ s. IsOpening s) }
+    {
+        let settings = Settings {
+            bridge_ssrc: BRIDGE_SSRC,
+            cname: Bytes::copy_from_slice(alloc, CNAME)?,
+        };
+        match Core::new(alloc, 1, settings) {
+            // The settings are good.
+            Err(_) => Err(AllocError),
+            Ok(core) => Ok(Script {
+                core,
+                line: 1,
+                pending: Vec::new(alloc),
+            }),
+        }
+    }
+
+    /// Takes an octet that isn't an LF.
+    fn keep(&mut self, octet: u8) -> Result<(), RunFault>
+        requires { octet ≢ 10 }
+        ensures step { Keeps self.old (octet ∷ []) self.new result }
+        ensures line { self.new.line ≡ self.old.line }
+    {
+        // A CR at the line's end does not count, and may be the octet that is in doubt.
+        if self.pending.len() > LINE_LIMIT + 1 {
+            return Err(RunFault::Script {
+                line: self.line,
+                word: 0,
+                fault: Fault::LineTooLong,
+            });
+        }
+        if self.pending.push(octet).is_err() {
+            return Err(RunFault::OutOfMemory);
+        }
+        Ok(())
+    }
+
+    /// Takes an LF: answers the line before it.
+    fn end_line<W: Write>(&mut self, alloc: A, writer: &mut W) -> Result<(), RunFault>
+        requires { self.old.line + 1 < 2 ^ 64 }
+        ensures step { Steps self.old (10 ∷ []) self.new (W.contents writer.old) (W.contents writer.new) result }
+        ensures line { self.new.line ≤ self.old.line + 1 }
+    {
+        let number = self.line;
+        let line = without_cr(&self.pending);
+        match answer(alloc, &mut self.core, number, line, writer) {
+            Err(fault) => Err(fault),
+            Ok(()) => {
+                self.line += 1;
+                self.pending.clear();
+                Ok(())
+            }
+        }
+    }
+
+    /// Takes the next octet.
+    fn octet<W: Write>(&mut self, alloc: A, octet: u8, writer: &mut W) -> Result<(), RunFault>
+        requires { self.old.line + 1 < 2 ^ 64 }
+        ensures step { Steps self.old (octet ∷ []) self.new (W.contents writer.old) (W.contents writer.new) result }
+        ensures line { self.new.line ≤ self.old.line + 1 }
+    {
+        if octet == b'\n' {
+            self.end_line(alloc, writer)
+        } else {
+            self.keep(octet)
+        }
+    }
+
+    /// Takes the next octets.
+    pub(crate) fn feed<W: Write>(
+        &mut self,
+        alloc: A,
+        octets: &[u8],
+        writer: &mut W,
+    ) -> Result<(), RunFault>
+        requires { self.old.line + length octets.now < 2 ^ 64 }
+        ensures step { Steps self.old octets.now self.new (W.contents writer.old) (W.contents writer.new) result }
+        ensures line { self.new.line ≤ self.old.line + length octets.now }
+    {
+        for octet in octets {
+            if let Err(fault) = self.octet(alloc, *octet, writer) {
+                return Err(fault);
+            }
+        }
+        Ok(())
+    }
+
+    /// What has come of a line is none that has ended.
+    pub(crate) fn has_no_line(&self)
+        ensures { (bridge : Bridge) → to_come ended (place_of self.now bridge) [] ≡ nothing }
+    {
+        let _pending = &self.pending;
+    }
+
+    /// Takes the end of the input: it ends the last line.
+    pub(crate) fn finish<W: Write>(&mut self, alloc: A, writer: &mut W) -> Result<(), RunFault>
+        ensures { Finishes self.old (W.contents writer.old) (W.contents writer.new) result }
+    {
+        let number = self.line;
+        answer(alloc, &mut self.core, number, &self.pending, writer)
+    }
+}
