@@ -10,13 +10,15 @@ use Rattle.rtcp_codec.specs.Description.{HasChunks}
 use Rattle.rtcp_codec.specs.Kind.{kind_of}
 use Rattle.rtcp_codec.specs.Packet.{Packet, kind, IsPacket, written_packet}
 
--- the fields of the common header of the packet that begins here
+-- the version of the packet that begins here, by its common header
 abbrev pub version : List ℕ → ℕ
 version octets = slice_index octets 0 / 64
 
+-- its P
 abbrev pub is_padded : List ℕ → Bool
 is_padded octets = slice_index octets 0 / 32 % 2 == 1
 
+-- its count: of blocks, chunks or sources, the subtype of an APP, the format of feedback
 abbrev pub count : List ℕ → ℕ
 count octets = slice_index octets 0 % 32
 
@@ -97,6 +99,10 @@ IsFirstOf (f ∷ fs) first fault octets = (Case first f octets × (fault ≡ f))
 -- the faults in the order in which they are told
 abbrev pub in_order : List RtcpFault
 in_order = Short ∷ Version ∷ First ∷ Length ∷ Padding ∷ Body ∷ []
+
+-- the packet that begins here has no fault
+abbrev pub IsFaultless : Bool → List ℕ → Type 0
+IsFaultless first octets = (fault : RtcpFault) → ¬ IsFirstOf in_order first fault octets
 
 -- the octets begin with the packet, and then the rest comes: only the last packet may be padded, and the first is a report
 pub record Takes (first : Bool) (p : Packet) (octets rest : List ℕ) : Type 0 where

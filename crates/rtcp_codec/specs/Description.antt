@@ -41,6 +41,7 @@ pub record FitsItem (i : Item) : Type 0 where
   pub octet : i.kind < 2 ^ 8
   pub text : length i.text < 2 ^ 8
 
+-- a chunk whose source fits its field, of items that fit theirs
 pub record FitsChunk (c : Chunk) : Type 0 where
   pub ssrc : c.ssrc < 2 ^ 32
   pub items : AllByRecursion FitsItem c.items

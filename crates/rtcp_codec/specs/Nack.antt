@@ -50,6 +50,7 @@ AreApart (w ∷ v ∷ ws) = (16 < distance w.pid v.pid) × AreApart (v ∷ ws)
 abbrev pub word_octets : NackWord → List ℕ
 word_octets w = to_be_bytes w16 w.pid ++ to_be_bytes w16 w.blp
 
+-- a word whose numbers fit their fields
 pub record FitsWord (w : NackWord) : Type 0 where
   pub pid : w.pid < 2 ^ 16
   pub blp : w.blp < 2 ^ 16

@@ -23,6 +23,7 @@ pub data Packet : Type 0 where
   Pli : (sender media : ℕ) → Packet
   Other : (pt count : ℕ) (body : List ℕ) → Packet
 
+-- the kind of a packet
 abbrev pub kind : Packet → Kind
 kind (Sender ssrc ntp ts packets octets blocks) = kinds.Sender
 kind (Receiver ssrc blocks) = kinds.Receiver

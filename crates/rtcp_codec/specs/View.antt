@@ -9,12 +9,15 @@ use Rattle.rtcp_codec.specs.Description.{Item, Chunk}
 use Rattle.rtcp_codec.specs.Packet.{Packet, Sender, Receiver, Sdes, Bye, App, Nack, Pli, Other}
 
 module _ {A : Type 0} where
+  -- the item that a value shows
   abbrev pub item_of : SdesItem A → Item
   item_of i = record { kind = i.kind; text = i.text.items }
 
+  -- the chunk that a value shows
   abbrev pub chunk_of : SdesChunk A → Chunk
   chunk_of c = record { ssrc = c.ssrc; items = map item_of c.items.items }
 
+  -- the packet that a value shows
   abbrev pub packet_of : Rtcp A → Packet
   packet_of (variants.Sender s) = Sender s.ssrc s.ntp s.ts s.packets s.octets s.blocks.items
   packet_of (variants.Receiver r) = Receiver r.ssrc r.blocks.items
@@ -25,5 +28,6 @@ module _ {A : Type 0} where
   packet_of (variants.Pli p) = Pli p.sender p.media
   packet_of (variants.Other o) = Other o.pt o.count o.body.items
 
+  -- the packets that values show, in order
   abbrev pub packets_of : List (Rtcp A) → List Packet
   packets_of ps = map packet_of ps

@@ -1,145 +1,24 @@
 //! Reading the bodies of packets.
 
-ghost use Rattle.std.specs.Prelude.{◌≡◌, ℕ, ◌+◌, ◌-◌, ◌*◌, ◌%◌, ◌^◌, ◌<◌, ◌≤◌, ◌++◌, ◌⊎◌, ℤ, List, [], ◌∷◌, length, IfOk, IfErr, IfSome, IfNone};
+ghost use Rattle.std.specs.Prelude.{◌≡◌, ◌+◌, ◌*◌, ◌%◌, ◌^◌, ◌<◌, ◌≤◌, ◌++◌, ◌⊎◌, [], ◌∷◌, length, IfOk, IfErr, IfSome, IfNone};
 ghost use Rattle.std.specs.List.{flat_map, AllByRecursion};
-ghost use Rattle.std.specs.Int.{w32, to_be_bytes};
 ghost use Rattle.rtcp_codec.specs.declared.kind.Kind.TheVariants as kinds;
 ghost use Rattle.rtcp_codec.specs.declared.fault.RtcpFault.TheVariants as faults;
 ghost use Rattle.rtcp_codec.specs.Kind.{kind_of};
 ghost use Rattle.rtcp_codec.specs.Packet.{Begin, IsOf};
-ghost use Rattle.rtcp_codec.specs.Compound.{IsWholeBody, IsWholeReason};
+ghost use Rattle.rtcp_codec.specs.Compound.{IsReport, IsWholeBody, IsWholeReason};
 ghost use Rattle.rtcp_codec.specs.Nack.{word_octets, FitsWord};
-ghost use Rattle.rtcp_codec.specs.Report.{block_octets, FitsBlock, octets_24, twos_complement, FitsLost};
 ghost use Rattle.rtcp_codec.specs.View.{packet_of};
 ghost use Rattle.rtp_codec.specs.Packet.{number_octets};
 
-use crate::chunks::chunks_from;
 use crate::fault::RtcpFault;
-use crate::fields::{u16_from, u32_from, u64_from};
+use crate::fields::{u16_from, u32_from};
 use crate::kind::{Kind, kind_of};
 use crate::nack::{Nack, NackWord};
 use crate::packet::{App, Bye, Other, Pli, Rtcp};
-use crate::report::{ReceiverReport, ReportBlock, SenderReport};
+use crate::reading_descriptions::chunks_from;
+use crate::reading_reports::{receiver_from, sender_from};
 use std::alloc::{AllocError, Allocator};
-
-/// A signed number of 24 bits in two's complement at the front, and what follows it.
-fn lost_from(octets: &[u8]) -> (i32, &[u8])
-    requires { 3 ≤ length octets.now }
-    ensures parts { octets.now ≡ octets_24 (twos_complement result.0) ++ result.1.now }
-    ensures fits { FitsLost result.0 }
-    ensures left { length octets.now ≡ 3 + length result.1.now }
-{
-    let (front, rest) = octets.split_at(3);
-    let bits = i32::from(front[0]) * 65536 + i32::from(front[1]) * 256 + i32::from(front[2]);
-    let lost = if front[0] < 128 {
-        bits
-    } else {
-        bits - 16_777_216
-    };
-    (lost, rest)
-}
-
-/// The report block at the front, and what follows it:
-///
-/// ```text
-///  0                   1                   2                   3
-///  0 1 2 3 4 5 6 7 8 9 0 1 2 3 4 5 6 7 8 9 0 1 2 3 4 5 6 7 8 9 0 1
-/// +-+-+-+-+-+-+-+-+-+-+-+-+-+-+-+-+-+-+-+-+-+-+-+-+-+-+-+-+-+-+-+-+
-/// |                             SSRC                              |
-/// +-+-+-+-+-+-+-+-+-+-+-+-+-+-+-+-+-+-+-+-+-+-+-+-+-+-+-+-+-+-+-+-+
-/// | fraction lost |       cumulative number of packets lost       |
-/// +-+-+-+-+-+-+-+-+-+-+-+-+-+-+-+-+-+-+-+-+-+-+-+-+-+-+-+-+-+-+-+-+
-/// |           extended highest sequence number received           |
-/// +-+-+-+-+-+-+-+-+-+-+-+-+-+-+-+-+-+-+-+-+-+-+-+-+-+-+-+-+-+-+-+-+
-/// |                      interarrival jitter                      |
-/// +-+-+-+-+-+-+-+-+-+-+-+-+-+-+-+-+-+-+-+-+-+-+-+-+-+-+-+-+-+-+-+-+
-/// |                         last SR (LSR)                         |
-/// +-+-+-+-+-+-+-+-+-+-+-+-+-+-+-+-+-+-+-+-+-+-+-+-+-+-+-+-+-+-+-+-+
-/// |                   delay since last SR (DLSR)                  |
-/// +-+-+-+-+-+-+-+-+-+-+-+-+-+-+-+-+-+-+-+-+-+-+-+-+-+-+-+-+-+-+-+-+
-/// ```
-fn block_from(octets: &[u8]) -> (ReportBlock, &[u8])
-    requires { 24 ≤ length octets.now }
-    ensures parts { octets.now ≡ block_octets result.0 ++ result.1.now }
-    ensures fits { FitsBlock result.0 }
-    ensures left { length octets.now ≡ 24 + length result.1.now }
-{
-    let (ssrc, rest) = u32_from(octets);
-    let (fraction, rest) = (rest[0], &rest[1..]);
-    let (lost, rest) = lost_from(rest);
-    let (highest, rest) = u32_from(rest);
-    let (jitter, rest) = u32_from(rest);
-    let (lsr, rest) = u32_from(rest);
-    let (dlsr, rest) = u32_from(rest);
-    let block = ReportBlock {
-        ssrc,
-        fraction,
-        lost,
-        highest,
-        jitter,
-        lsr,
-        dlsr,
-    };
-    (block, rest)
-}
-
-/// So many report blocks at the front.
-fn blocks_from<A: Allocator>(
-    alloc: A,
-    count: u8,
-    octets: &[u8],
-) -> Result<Vec<ReportBlock, A>, AllocError>
-    requires { 24 * count ≤ length octets.now }
-    ensures count { IfOk result (λ v. length v.items ≡ count) }
-    ensures fits { IfOk result (λ v. AllByRecursion FitsBlock v.items) }
-    ensures parts { IfOk result (λ v. Begin (flat_map block_octets v.items) octets.now) }
-{
-    let mut blocks = Vec::with_capacity(alloc, usize::from(count))?;
-    let mut rest = octets;
-    for _ in 0..count {
-        let (block, after) = block_from(rest);
-        blocks.push(block)?;
-        rest = after;
-    }
-    Ok(blocks)
-}
-
-/// The sender report that this body is.
-fn sender_from<A: Allocator>(alloc: A, count: u8, body: &[u8]) -> Result<Rtcp<A>, RtcpFault>
-    ensures ok { IfOk result (λ p. IsOf 200 count body.now (packet_of p)) }
-    ensures err { IfErr result (λ f. (f ≡ faults.OutOfMemory) ⊎ ((f ≡ faults.Body) × (¬ IsWholeBody kinds.Sender count body.now))) }
-{
-    if body.len() < 24 + 24 * usize::from(count) {
-        return Err(RtcpFault::Body);
-    }
-    let (ssrc, rest) = u32_from(body);
-    let (ntp, rest) = u64_from(rest);
-    let (ts, rest) = u32_from(rest);
-    let (packets, rest) = u32_from(rest);
-    let (octets, rest) = u32_from(rest);
-    let blocks = blocks_from(alloc, count, rest)?;
-    Ok(Rtcp::Sender(SenderReport {
-        ssrc,
-        ntp,
-        ts,
-        packets,
-        octets,
-        blocks,
-    }))
-}
-
-/// The receiver report that this body is.
-fn receiver_from<A: Allocator>(alloc: A, count: u8, body: &[u8]) -> Result<Rtcp<A>, RtcpFault>
-    ensures ok { IfOk result (λ p. IsOf 201 count body.now (packet_of p)) }
-    ensures err { IfErr result (λ f. (f ≡ faults.OutOfMemory) ⊎ ((f ≡ faults.Body) × (¬ IsWholeBody kinds.Receiver count body.now))) }
-{
-    if body.len() < 4 + 24 * usize::from(count) {
-        return Err(RtcpFault::Body);
-    }
-    let (ssrc, rest) = u32_from(body);
-    let blocks = blocks_from(alloc, count, rest)?;
-    Ok(Rtcp::Receiver(ReceiverReport { ssrc, blocks }))
-}
 
 /// So many sources at the front, and what follows them.
 fn ssrcs_from<A: Allocator>(
@@ -293,6 +172,8 @@ pub(crate) fn packet_from<A: Allocator + Copy>(
     requires { length body.now % 4 ≡ 0 }
     ensures ok { IfOk result (λ p. IsOf pt count body.now (packet_of p)) }
     ensures err { IfErr result (λ f. (f ≡ faults.OutOfMemory) ⊎ ((f ≡ faults.Body) × (¬ IsWholeBody (kind_of pt count) count body.now))) }
+    // A report that lacks some of its parts wants no memory.
+    ensures memory { IsReport (kind_of pt count) → IfErr result (λ f. f ≡ faults.OutOfMemory → IsWholeBody (kind_of pt count) count body.now) }
 {
     match kind_of(pt, count) {
         Kind::Sender => sender_from(alloc, count, body),

@@ -1,15 +1,15 @@
 //! What can be written.
 
-ghost use Rattle.std.specs.Prelude.{◌≡◌, ℕ, ◌+◌, ◌-◌, ◌*◌, ◌%◌, ◌<◌, ◌≤◌, ◌⊎◌, ⊤, true, false, IfSome, IfNone, IfOk, IfErr, OnOk, IsErrOf, length, map};
+ghost use Rattle.std.specs.Prelude.{◌≡◌, ◌≢◌, ◌+◌, ◌*◌, ◌%◌, ◌≤◌, ◌⊎◌, true, false, IfSome, IfNone, IfOk, IfErr, length, map};
 ghost use Rattle.std.specs.Option.{option_map};
 ghost use Rattle.rtcp_codec.specs.declared.fault.WriteFault.TheVariants as write_faults;
 ghost use Rattle.std.specs.List.{flat_map, AllByRecursion};
 ghost use Rattle.rtcp_codec.specs.Compound.{written};
-ghost use Rattle.rtcp_codec.specs.Description.{Item, Chunk, item_octets, chunk_octets, filled};
-ghost use Rattle.rtcp_codec.specs.Packet.{Packet, fields, reason_octets, written_packet};
+ghost use Rattle.rtcp_codec.specs.Description.{item_octets, chunk_octets, filled};
+ghost use Rattle.rtcp_codec.specs.Packet.{fields, reason_octets};
 ghost use Rattle.rtcp_codec.specs.Report.{FitsLost};
 ghost use Rattle.rtcp_codec.specs.View.{item_of, chunk_of, packet_of, packets_of};
-ghost use Rattle.rtcp_codec.specs.WriteFault.{CountFits, TextsFit, PartsFit, LengthFits, ItemsTold, MeaningFits, IsWritable, AreWritable, BeginsWithReport, IsFirstFault, HasPacketFault, HasWriteFault};
+ghost use Rattle.rtcp_codec.specs.WriteFault.{CountFits, TextsFit, PartsFit, LengthFits, ItemsTold, MeaningFits, IsWritable, AreWritable, BeginsWithReport, IsFirstFault, HasWriteFault};
 
 use crate::description::{SdesChunk, SdesItem};
 use crate::fault::WriteFault;
@@ -234,6 +234,7 @@ pub(crate) fn packet_size<A: Allocator>(packet: &Rtcp<A>) -> Result<usize, Write
     ensures size { IfOk result (λ n. n ≡ length (filled (fields (packet_of packet.now)))) }
     ensures most { IfOk result (λ n. n ≤ 4 * 65535) }
     ensures err { IfErr result (λ f. IsFirstFault f (packet_of packet.now)) }
+    ensures fault { IfErr result (λ f. f ≢ write_faults.OutOfMemory) }
 {
     if !has_count(packet) {
         return Err(WriteFault::Count);
@@ -258,23 +259,21 @@ fn begins_with_report<A: Allocator>(packets: &[Rtcp<A>]) -> bool
     }
 }
 
-/// How many octets the written packets have, or the first fault.
-pub(crate) fn compound_size<A: Allocator>(packets: &[Rtcp<A>]) -> Result<usize, WriteFault>
+/// How many octets the written packets have, which may be more than a `usize` counts, or the first
+/// fault.
+pub(crate) fn compound_size<A: Allocator>(packets: &[Rtcp<A>]) -> Result<u128, WriteFault>
     ensures writable { IfOk result (λ n. AreWritable (packets_of packets.now)) }
     ensures size { IfOk result (λ n. n ≡ length (written (packets_of packets.now))) }
-    ensures err { IfErr result (λ f. (f ≡ write_faults.OutOfMemory) ⊎ HasWriteFault f (packets_of packets.now)) }
+    ensures err { IfErr result (λ f. HasWriteFault f (packets_of packets.now)) }
+    ensures fault { IfErr result (λ f. f ≢ write_faults.OutOfMemory) }
 {
     if !begins_with_report(packets) {
         return Err(WriteFault::First);
     }
-    let mut total: usize = 0;
+    let mut total: u128 = 0;
     for packet in packets {
         let size = packet_size(packet)?;
-        // What can't be counted can't be reserved either.
-        if total > usize::MAX - 4 - size {
-            return Err(WriteFault::OutOfMemory);
-        }
-        total += 4 + size;
+        total += 4 + size as u128;
     }
     Ok(total)
 }

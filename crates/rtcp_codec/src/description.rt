@@ -11,9 +11,10 @@ pub struct SdesItem<A: Allocator = Global> {
     pub text: Vec<u8, A>,
 }
 
-/// What a source description says of one source.
+/// What a source description says of one source (RFC 3550 section 6.5).
 #[derive(Debug, Drop)]
 pub struct SdesChunk<A: Allocator = Global> {
+    /// The source that is described.
     pub ssrc: u32,
     pub items: Vec<SdesItem<A>, A>,
 }

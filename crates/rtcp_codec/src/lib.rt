@@ -1,9 +1,9 @@
 //! RTCP compounds and generic NACKs (RFC 3550 section 6, RFC 4585 section 6).
 #![tactic(auto)]
 
+mod appending;
 mod bodies;
 mod checking;
-mod chunks;
 mod description;
 mod fault;
 mod fields;
@@ -11,8 +11,12 @@ mod kind;
 mod nack;
 mod packet;
 mod reading;
+mod reading_descriptions;
+mod reading_reports;
 mod report;
 mod writing;
+mod writing_descriptions;
+mod writing_reports;
 
 pub use self::description::{SdesChunk, SdesItem};
 pub use self::fault::{RtcpFault, WriteFault};

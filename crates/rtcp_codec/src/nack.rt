@@ -1,6 +1,6 @@
 //! Generic NACKs.
 
-ghost use Rattle.std.specs.Prelude.{◌≡◌, ◌≤◌, [], ◌∷◌, ◌++◌, length, if◌then◌else◌, IfOk, IsTrue, ◌↔◌};
+ghost use Rattle.std.specs.Prelude.{◌≡◌, ◌≤◌, [], ◌∷◌, ◌++◌, length, if◌then◌else◌, IfOk, IsOk, IsTrue, ◌↔◌};
 ghost use Rattle.rtcp_codec.specs.Nack.{numbers_of, numbers_named, TakesAll, ArePacked, AreRising, AreApart};
 ghost use Rattle.rtcp_codec.specs.Packet.{Begin};
 
@@ -26,7 +26,7 @@ pub struct Nack<A: Allocator = Global> {
     pub words: Vec<NackWord, A>,
 }
 
-/// The numbers that a word names, ascending from `pid`.
+/// The numbers that a word names, ascending from `pid`: at most 17 (RFC 4585 section 6.2.1).
 pub fn nack_numbers<A: Allocator>(alloc: A, pid: u16, blp: u16) -> Result<Vec<u16, A>, AllocError>
     ensures { IfOk result (λ v. v.items ≡ numbers_of pid blp) }
 {
@@ -40,7 +40,7 @@ pub fn nack_numbers<A: Allocator>(alloc: A, pid: u16, blp: u16) -> Result<Vec<u1
     Ok(numbers)
 }
 
-/// The words that name these numbers in order, each as many as it can.
+/// The words that name these numbers in order, each as many as it can (RFC 4585 section 6.2.1).
 ///
 /// The numbers are those of lost packets, each a step or more behind the one before. Steps are
 /// counted round the wrap, so 0 stands one behind 65535.
@@ -48,6 +48,8 @@ pub fn nack_words<A: Allocator>(alloc: A, numbers: &[u16]) -> Result<Vec<NackWor
     ensures names { IfOk result (λ v. numbers_named v.items ≡ numbers.now) }
     ensures packed { IfOk result (λ v. ArePacked v.items) }
     ensures apart { AreRising numbers.now → IfOk result (λ v. AreApart v.items) }
+    // An empty list wants no memory.
+    ensures none { numbers.now ≡ [] → IsOk result }
 {
     let mut words = Vec::new(alloc);
     let mut rest = numbers;

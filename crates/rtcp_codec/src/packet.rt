@@ -19,7 +19,9 @@ pub struct Bye<A: Allocator = Global> {
 pub struct App<A: Allocator = Global> {
     /// At most 31.
     pub subtype: u8,
+    /// Who sends it.
     pub ssrc: u32,
+    /// What the application calls it, by custom in ASCII.
     pub name: [u8; 4],
     /// Whole words of four octets.
     pub content: Vec<u8, A>,

@@ -1,11 +1,11 @@
 //! Reading compounds.
 
-ghost use Rattle.std.specs.Prelude.{◌≡◌, ℕ, ◌+◌, ◌-◌, ◌*◌, ◌%◌, ◌<◌, ◌≤◌, ◌++◌, ◌⊎◌, ◌↔◌, Bool, true, false, List, [], length, Some, None, Option, IsTrue, IfOk, IfErr, IfSome, IfNone, MatchOption, MatchResult, IsErrOf};
+ghost use Rattle.std.specs.Prelude.{◌≡◌, ◌≢◌, ◌≤◌, ◌++◌, ◌⊎◌, ◌↔◌, true, false, List, length, IsTrue, IfOk, IfErr, IfSome, IfNone, MatchResult, IsErrOf};
 ghost use Rattle.rtcp_codec.specs.declared.fault.RtcpFault.{RtcpFault as Fault};
 ghost use Rattle.rtcp_codec.specs.declared.fault.RtcpFault.TheVariants as faults;
 ghost use Rattle.rtcp_codec.specs.Kind.{kind_of};
 ghost use Rattle.rtcp_codec.specs.Packet.{Packet};
-ghost use Rattle.rtcp_codec.specs.Compound.{version, is_padded, count, kind_at, packet_at, size, padding_of, body_of, IsReport, IsBadPadding, IsHead, IsGoodPadding, IsFirstOf, in_order, Takes, Reads, IsCompound, HasFault};
+ghost use Rattle.rtcp_codec.specs.Compound.{is_padded, count, packet_at, padding_of, IsReport, IsBadPadding, IsHead, IsGoodPadding, IsFirstOf, IsFaultless, in_order, Takes, IsCompound, HasFault};
 ghost use Rattle.rtcp_codec.specs.View.{packet_of, packets_of};
 
 use crate::bodies::packet_from;
@@ -35,6 +35,7 @@ fn is_report(pt: u8, count: u8) -> bool
 /// ```
 fn split_packet(first: bool, octets: &[u8]) -> Result<(&[u8], &[u8]), RtcpFault>
     ensures err { IfErr result (λ f. IsFirstOf in_order first f octets.now) }
+    ensures fault { IfErr result (λ f. f ≢ faults.OutOfMemory) }
     ensures head { IfOk result (λ r. IsHead first octets.now) }
     ensures packet { IfOk result (λ r. r.0.now ≡ packet_at octets.now) }
     ensures parts { IfOk result (λ r. octets.now ≡ r.0.now ++ r.1.now) }
@@ -84,6 +85,7 @@ fn next_packet<A: Allocator + Copy>(
 ) -> Result<(Rtcp<A>, &[u8]), RtcpFault>
     ensures ok { IfOk result (λ r. Takes first (packet_of r.0) octets.now r.1.now) }
     ensures err { IfErr result (λ f. (f ≡ faults.OutOfMemory) ⊎ IsFirstOf in_order first f octets.now) }
+    ensures memory { first ≡ true → IfErr result (λ f. f ≡ faults.OutOfMemory → IsFaultless true octets.now) }
 {
     let (packet, rest) = split_packet(first, octets)?;
     let Some(padding) = padding_from(rest.is_empty(), packet) else {
@@ -98,6 +100,7 @@ fn next_packet<A: Allocator + Copy>(
 fn packets_from<A: Allocator + Copy>(alloc: A, octets: &[u8]) -> Result<Vec<Rtcp<A>, A>, RtcpFault>
     ensures found { IfOk result (λ v. IsCompound (packets_of v.items) octets.now) }
     ensures fault { IfErr result (λ f. (f ≡ faults.OutOfMemory) ⊎ HasFault f octets.now) }
+    ensures memory { IfErr result (λ f. f ≡ faults.OutOfMemory → IsFaultless true octets.now) }
 {
     let mut packets = Vec::new(alloc);
     let (packet, mut rest) = next_packet(alloc, true, octets)?;
@@ -126,6 +129,8 @@ pub fn read_compound<A: Allocator + Copy>(
     ensures fault { IfErr result (λ f. (f ≡ faults.OutOfMemory) ⊎ HasFault f octets.now) }
     // What has a fault is told so, unless memory runs out.
     ensures told { (f : Fault) → HasFault f octets.now → IsErrOf result f ⊎ IsErrOf result faults.OutOfMemory }
+    // Memory is wanted only where the first packet has no fault.
+    ensures memory { IfErr result (λ f. f ≡ faults.OutOfMemory → IsFaultless true octets.now) }
 {
     packets_from(alloc, octets)
 }

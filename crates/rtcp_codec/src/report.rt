@@ -24,6 +24,7 @@ pub struct ReportBlock {
 /// A sender report (SR, RFC 3550 section 6.4.1).
 #[derive(Debug, Drop)]
 pub struct SenderReport<A: Allocator = Global> {
+    /// The sender.
     pub ssrc: u32,
     /// Seconds since 1900 in the upper 32 bits, and their fraction in the lower.
     pub ntp: u64,
@@ -40,6 +41,7 @@ pub struct SenderReport<A: Allocator = Global> {
 /// A receiver report (RR, RFC 3550 section 6.4.2).
 #[derive(Debug, Drop)]
 pub struct ReceiverReport<A: Allocator = Global> {
+    /// The receiver.
     pub ssrc: u32,
     /// At most 31.
     pub blocks: Vec<ReportBlock, A>,

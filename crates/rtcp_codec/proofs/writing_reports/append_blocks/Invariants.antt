@@ -2,7 +2,7 @@
 use Rattle.std.proofs.Common.{◌≡◌, ◌+◌, ◌≤◌, ◌++◌, length, drop, vec_len, vec_capacity}
 use Rattle.std.specs.List.{flat_map, AllByRecursion}
 use Rattle.rtcp_codec.specs.Report.{block_octets, FitsLost}
-use Rattle.rtcp_codec.proofs.writing.append_blocks.Given as goal
+use Rattle.rtcp_codec.proofs.writing_reports.append_blocks.Given as goal
 
 abbrev pub invariant-loop-block : goal.invariant-loop-block
 invariant-loop-block g l = record {

@@ -4,7 +4,7 @@ use Rattle.std.specs.List.{flat_map}
 use Rattle.rtcp_codec.specs.Description.{item_octets}
 use Rattle.rtcp_codec.specs.View.{item_of}
 use Rattle.rtcp_codec.specs.WriteFault.{TextsFit}
-use Rattle.rtcp_codec.proofs.writing.append_items.Given as goal
+use Rattle.rtcp_codec.proofs.writing_descriptions.append_items.Given as goal
 
 abbrev pub invariant-loop-item : goal.invariant-loop-item
 invariant-loop-item g l = record {

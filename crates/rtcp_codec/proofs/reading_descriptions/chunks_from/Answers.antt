@@ -6,7 +6,7 @@ use Rattle.rtcp_codec.specs.View.{chunk_of}
 use Rattle.rtcp_codec.proofs.Descriptions.{no_chunks, chunks_behind, Describe-more}
 use Rattle.rtcp_codec.proofs.Faults.{body_fault_along}
 use Rattle.rtcp_codec.proofs.Lists.{AllByRecursion-push, map_more}
-use Rattle.rtcp_codec.proofs.chunks.chunks_from.Goals as goal
+use Rattle.rtcp_codec.proofs.reading_descriptions.chunks_from.Goals as goal
 
 pub returns-in_err-chunk-clause-err : goal.returns-in_err-chunk-clause-err
 returns-in_err-chunk-clause-err g c =

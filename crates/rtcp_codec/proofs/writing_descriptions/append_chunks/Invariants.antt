@@ -4,7 +4,7 @@ use Rattle.std.specs.List.{flat_map, AllByRecursion}
 use Rattle.rtcp_codec.specs.Description.{chunk_octets, filled}
 use Rattle.rtcp_codec.specs.View.{chunk_of}
 use Rattle.rtcp_codec.specs.WriteFault.{TextsFit}
-use Rattle.rtcp_codec.proofs.writing.append_chunks.Given as goal
+use Rattle.rtcp_codec.proofs.writing_descriptions.append_chunks.Given as goal
 
 abbrev pub invariant-loop-chunk : goal.invariant-loop-chunk
 invariant-loop-chunk g l = record {

@@ -2,7 +2,7 @@
 use Rattle.std.proofs.Common.{◌≡◌, ◌+◌, ◌*◌, ◌≤◌, ◌++◌, length}
 use Rattle.std.specs.List.{flat_map, AllByRecursion}
 use Rattle.rtcp_codec.specs.Report.{block_octets, FitsBlock}
-use Rattle.rtcp_codec.proofs.bodies.blocks_from.Given as goal
+use Rattle.rtcp_codec.proofs.reading_reports.blocks_from.Given as goal
 
 abbrev pub invariant-loop : goal.invariant-loop
 invariant-loop g l = record {

@@ -3,7 +3,7 @@ use Rattle.std.proofs.Common.{◌≡◌, ◌++◌, length, map}
 use Rattle.std.specs.List.{flat_map, AllByRecursion}
 use Rattle.rtcp_codec.specs.Description.{item_octets, FitsItem, HasItems}
 use Rattle.rtcp_codec.specs.View.{item_of}
-use Rattle.rtcp_codec.proofs.chunks.items_from.Given as goal
+use Rattle.rtcp_codec.proofs.reading_descriptions.items_from.Given as goal
 
 abbrev pub invariant-loop-rest : goal.invariant-loop-rest
 invariant-loop-rest g l = record {

@@ -3,7 +3,7 @@ use Rattle.rtcp_codec.specs.Description.{item_octets, FitsItem}
 use Rattle.rtcp_codec.specs.View.{item_of}
 use Rattle.rtcp_codec.proofs.Descriptions.{items_behind}
 use Rattle.rtcp_codec.proofs.Lists.{AllByRecursion-push, text_more, map_more}
-use Rattle.rtcp_codec.proofs.chunks.items_from.Goals as goal
+use Rattle.rtcp_codec.proofs.reading_descriptions.items_from.Goals as goal
 
 pub loop-rest-preserved : goal.loop-rest-preserved
 loop-rest-preserved g c =

@@ -1,7 +1,7 @@
 use Rattle.std.proofs.Common.{[], ◌∷◌, arith, length-append}
 use Rattle.rtcp_codec.specs.Report.{block_octets, FitsBlock}
 use Rattle.rtcp_codec.proofs.Lists.{AllByRecursion-push, text_more}
-use Rattle.rtcp_codec.proofs.bodies.blocks_from.Goals as goal
+use Rattle.rtcp_codec.proofs.reading_reports.blocks_from.Goals as goal
 
 pub loop-preserved : goal.loop-preserved
 loop-preserved g c =

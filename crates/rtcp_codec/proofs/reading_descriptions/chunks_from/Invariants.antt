@@ -3,7 +3,7 @@ use Rattle.std.proofs.Common.{◌≡◌, ◌-◌, ◌%◌, ◌++◌, List, lengt
 use Rattle.std.specs.List.{AllByRecursion}
 use Rattle.rtcp_codec.specs.Description.{Chunk, Describe, FitsChunk, HasChunks}
 use Rattle.rtcp_codec.specs.View.{chunk_of}
-use Rattle.rtcp_codec.proofs.chunks.chunks_from.Given as goal
+use Rattle.rtcp_codec.proofs.reading_descriptions.chunks_from.Given as goal
 
 abbrev pub invariant-loop : goal.invariant-loop
 invariant-loop g l = record {

@@ -3,7 +3,7 @@ use Rattle.std.specs.List.{flat_map}
 use Rattle.rtcp_codec.specs.declared.report.ReportBlock.{ReportBlock}
 use Rattle.rtcp_codec.specs.Report.{block_octets, FitsLost}
 use Rattle.rtcp_codec.proofs.Lists.{text_at, all_behind}
-use Rattle.rtcp_codec.proofs.writing.append_blocks.Goals as goal
+use Rattle.rtcp_codec.proofs.writing_reports.append_blocks.Goals as goal
 
 zeros : ReportBlock
 zeros = record { ssrc = 0; fraction = 0; lost = pos 0; highest = 0; jitter = 0; lsr = 0; dlsr = 0 }

@@ -1,9 +1,9 @@
 //! Reading source descriptions.
 
-ghost use Rattle.std.specs.Prelude.{◌≡◌, ℕ, ◌+◌, ◌-◌, ◌*◌, ◌%◌, ◌<◌, ◌≤◌, ◌++◌, ◌∷◌, [], ◌⊎◌, List, length, slice_index, map, IfOk, IfErr};
+ghost use Rattle.std.specs.Prelude.{◌≡◌, ℕ, ◌%◌, ◌<◌, ◌++◌, ◌∷◌, ◌⊎◌, List, length, slice_index, map, IfOk, IfErr};
 ghost use Rattle.std.specs.List.{flat_map, AllByRecursion};
 ghost use Rattle.rtcp_codec.specs.declared.fault.RtcpFault.TheVariants as faults;
-ghost use Rattle.rtcp_codec.specs.Description.{Chunk, Item, item_octets, chunk_octets, IsFill, Describe, FitsItem, FitsChunk, HasItems, HasChunk, HasChunks};
+ghost use Rattle.rtcp_codec.specs.Description.{item_octets, chunk_octets, IsFill, Describe, FitsItem, FitsChunk, HasItems, HasChunk, HasChunks};
 ghost use Rattle.rtcp_codec.specs.View.{item_of, chunk_of};
 
 use crate::description::{SdesChunk, SdesItem};

@@ -2,7 +2,7 @@ use Rattle.std.proofs.lemmas.Result.{err_from_is_err_and}
 use Rattle.rtcp_codec.specs.View.{chunk_of}
 use Rattle.rtcp_codec.proofs.Descriptions.{chunk_parts, no_chunk_without_items}
 use Rattle.rtcp_codec.proofs.Faults.{body_fault_along}
-use Rattle.rtcp_codec.proofs.chunks.chunk_from.Goals as goal
+use Rattle.rtcp_codec.proofs.reading_descriptions.chunk_from.Goals as goal
 
 pub returns-in_err-items-clause-err : goal.returns-in_err-items-clause-err
 returns-in_err-items-clause-err g c =
