@@ -1,6 +1,6 @@
 //! The history of a state.
 
-ghost use Rattle.std.specs.Prelude.{◌≡◌, ◌≢◌, ◌↔◌, ℕ, ◌+◌, ◌-◌, ◌<◌, ◌≤◌, true, List, [], ◌∷◌, ◌++◌, length, reverse, min, vec_len, vec_capacity, IfOk, ◌⊎◌, OnOk, OnErr};
+ghost use Rattle.std.specs.Prelude.{◌≡◌, ◌≢◌, ◌↔◌, ◌+◌, ◌-◌, ◌<◌, ◌≤◌, true, List, [], ◌∷◌, ◌++◌, length, reverse, min, vec_len, vec_capacity, IfOk, ◌⊎◌, OnOk, OnErr};
 ghost use Rattle.undo_log.specs.Timeline.{Timeline, IsTimeline, HasRoom, rewound};
 
 use crate::fault::HistoryFault;
@@ -111,6 +111,7 @@ impl<S: Reversible> History<S> {
         ensures reserved { 0 < self.old.room → result ≢ Err HistoryFault.OutOfMemory }
         ensures err { OnErr result (self.new ≡ record self.old { room = self.new.room }) }
         ensures room { OnErr result (self.old.room ≤ self.new.room) }
+        ensures left { OnOk result (self.old.room ≤ self.new.room + 1) }
         ensures start { self.new.start ≡ self.old.start }
     {
         self.reserve()?;
