@@ -6,6 +6,7 @@ use Rattle.std.proofs.lemmas.Bool.{and_parts, and_from, or_cases, or_left, or_ri
 use borrow.Author.Tests.{eqb-true, eq-eqb}
 use Rattle.desk_rows.specs.declared.row.Row.{Row}
 use Rattle.desk_rows.specs.declared.row.Row.TheVariants.{Room, Member, Source, Slot, Sub}
+use Rattle.desk_rows.specs.declared.row.Member.{Member as MemberRow}
 use Rattle.desk_rows.specs.declared.row.Key.{Key}
 use Rattle.desk_rows.specs.declared.row.Key.TheVariants as keys
 use Rattle.desk_rows.specs.declared.row.Kind.{Kind}
@@ -14,12 +15,13 @@ use Rattle.desk_rows.specs.declared.claim.Claim.{Claim}
 use Rattle.desk_rows.specs.declared.limits.TheConstants.{MAX_ROOMS, MAX_MEMBERS, MAX_SOURCES, MAX_SLOTS, MAX_ROOM_AUDIO}
 use Rattle.desk_rows.specs.Row.{key_of, has_key, names, makes, claims_of}
 use Rattle.desk_rows.specs.Kinds.{is_of}
-use Rattle.desk_rows.specs.Order.{in_order, is_in}
-use Rattle.desk_rows.specs.OrderLaws.{at_each, from_each}
+use Rattle.desk_rows.specs.Order.{is_in, without_rows}
+use Rattle.desk_rows.specs.OrderLaws.{from_each}
+use Rattle.desk_rows.specs.Places.{take_at}
 use Rattle.desk_rows.specs.Edit.{EditOf, outs, ins}
 use Rattle.desk_rows.specs.Desk.{Desk, good, rows_of, count_of, is_within_limits, is_named_there, is_made_once, is_bridges, is_alone, obeys}
 use Rattle.desk_rows.specs.Exchange.{is_apt, exchanged, fits}
-use Rattle.desk_rows.specs.Judged.{takes, puts, keeps_names, all_come, all_stay, is_sound, stays_sound, judged}
+use Rattle.desk_rows.specs.Judged.{keeps_names, moves, is_shaken, all_come, all_stay, is_sound, stays_sound, judged}
 use Rattle.desk_rows.specs.Laws.{Apt, apt_from, Good, good_parts, good_order, fits_from}
 use Rattle.desk_rows.proofs.Counts.{stay_count, go_count, come_count, before_count, after_count, any_count, some_count, count_some, rows_count}
 use Rattle.desk_rows.proofs.Judging.{judged_right}
@@ -30,7 +32,7 @@ pub record Carries (d : Desk) (e : EditOf) : Type 0 where
   pub plain : list_all (λ r. not (is_of kinds.Member r)) (ins e) ≡ true
   pub within : is_within_limits (exchanged d e) ≡ true
   pub come : all_come (is_sound (exchanged d e)) e ≡ true
-  pub stay : all_stay (stays_sound d e) d e ≡ true
+  pub stay : all_stay (stays_sound (moves d e) d e) d e ≡ true
 
 pub fits_carried : (d : Desk) (e : EditOf) → good d ≡ true → Carries d e → fits d e ≡ true
 unfolding judged
@@ -94,6 +96,19 @@ pub sound : (d : Desk) (r : Row) → is_named_there d r ≡ true → is_alone d 
 unfolding is_sound
 sound d r a b c = and_from _ _ a (and_from _ _ b c)
 
-pub remains_sound : (d : Desk) (e : EditOf) (r : Row) → keeps_names e r ≡ true → obeys (exchanged d e) r ≡ true → stays_sound d e r ≡ true
+-- a row that stays is sound where nothing shakes it
+pub stays_calm : (moved : Bool) (d : Desk) (e : EditOf) (r : Row) → keeps_names e r ≡ true → is_shaken moved d e r ≡ false → stays_sound moved d e r ≡ true
 unfolding stays_sound
-remains_sound d e r a b = and_from _ _ a b
+stays_calm moved d e r a b = and_from _ _ a (or_left _ _ (ap not b))
+
+-- or where it obeys its rule
+pub stays_asked : (moved : Bool) (d : Desk) (e : EditOf) (r : Row) → keeps_names e r ≡ true → obeys (exchanged d e) r ≡ true → stays_sound moved d e r ≡ true
+unfolding stays_sound
+stays_asked moved d e r a b = and_from _ _ a (or_right _ _ b)
+
+-- what holds of every member that stays and of every other row holds of all that stay
+pub all_remain : (q : Row → Bool) (d : Desk) (e : EditOf) → ((m : MemberRow) → q (Member m) ≡ true) → ((r : Row) → is_in (without_rows (outs e) d.others) r ≡ true → q r ≡ true) → all_stay q d e ≡ true
+all_remain q d e members others = and_from _ _ (each (take_at e.taken.members d.members)) (from_each q (without_rows (outs e) d.others) others) where
+  each : (ms : List MemberRow) → list_all (λ m. q (Member m)) ms ≡ true
+  each [] = refl
+  each (m ∷ ms) = and_from _ _ (members m) (each ms)

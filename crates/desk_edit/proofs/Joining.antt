@@ -17,19 +17,19 @@ use Rattle.desk_rows.specs.declared.limits.TheConstants.{MAX_MEMBERS}
 use Rattle.desk_rows.specs.Row.{has_key, names, makes, claims_of, same_media}
 use Rattle.desk_rows.specs.Equal.{row_itself}
 use Rattle.desk_rows.specs.Kinds.{is_of}
-use Rattle.desk_rows.specs.Order.{is_in, without_rows}
-use Rattle.desk_rows.specs.OrderLaws.{at_each, from_each, list_all-filter, filter_all}
+use Rattle.desk_rows.specs.Order.{is_in}
+use Rattle.desk_rows.specs.OrderLaws.{from_each, filter_all}
 use Rattle.desk_rows.specs.PlaceLaws.{count_next}
-use Rattle.desk_rows.specs.Desk.{Desk, good, rows_of, count_of, is_named_there, is_made_once, is_bridges, is_member_in, is_audio_in, is_video_in, is_slot_in, is_room_of_both, obeys}
+use Rattle.desk_rows.specs.Desk.{Desk, good, rows_of, count_of, is_named_there, is_made_once, is_bridges, obeys}
 use Rattle.desk_rows.specs.Exchange.{exchanged}
-use Rattle.desk_rows.specs.Judged.{keeps_names, is_sound, stays_sound}
-use Rattle.desk_rows.specs.Laws.{Apt, Good, good_parts, any_counts, is_in-append}
-use Rattle.desk_rows.proofs.Counts.{true_false, witness, some_count, count_some, go_count, come_count}
+use Rattle.desk_rows.specs.Judged.{moves, all_stay, is_sound, stays_sound}
+use Rattle.desk_rows.specs.Laws.{Apt}
+use Rattle.desk_rows.proofs.Counts.{true_false, list_any-map, come_count}
+use Rattle.desk_rows.proofs.Unshaken.{one_of}
 use Rattle.desk_rows.proofs.Judging.{own_claims, each_claim}
 use Rattle.desk_edit.specs.Edits.{puts_member}
 use Rattle.desk_edit.specs.Refusals.{has, is_claimed, member_cases, member_refused}
-use Rattle.desk_edit.proofs.Fitting.{Carries, Within, within_parts, within_from, count_stays, sound, remains_sound}
-use Rattle.desk_edit.proofs.Obeying.{any_weaker, obeys_split, each_member}
+use Rattle.desk_edit.proofs.Fitting.{Carries, Within, within_parts, within_from, count_stays, sound, stays_calm, all_remain}
 use Rattle.desk_edit.proofs.Putting.{keys_stay, claimed_once}
 use Rattle.desk_edit.proofs.Additions.{none_holds, neither, not_false, below, is_free}
 
@@ -49,86 +49,34 @@ le_itself : (n : ℕ) → nat_le n n ≡ true
 le_itself n = grind arith
 
 join_apt : (d : Desk) (m : MemberRow) → Apt d (puts_member (length d.members) m)
-join_apt d m = record { take_rise = refl; take = refl; put_rise = refl; put = and_from _ _ (le_itself (length d.members)) refl; outs_order = refl; outs_there = refl; ins_order = refl }
+join_apt d m = record { take_rise = refl; take = refl; put_rise = refl; put = and_from _ _ (le_itself (length d.members)) refl; outs_apart = refl; outs_there = refl; ins_apart = refl; paired = refl }
 
 one_joins : (p : Row → Bool) (n : ℕ) (m : MemberRow) → come_count p (puts_member n m) ≡ cond (p (Member m)) 1 0
 one_joins p n m = let k = count_next (λ (q : Placed). p (Member q.row)) record { place = n; row = m } [] in omega (arith, k)
 
--- who was in a room is in it still
-still_in : (d : Desk) (m : MemberRow) (member room : ℕ) → is_member_in d member room ≡ true → is_member_in (joined d m) member room ≡ true
-still_in d m member room h = list_any-append (λ x. nat_eq x.member member && nat_eq x.room room) d.members (m ∷ []) ∙ or_left _ _ h
+-- a member who was not there moves from no room
+nobody_moves : (d : Desk) (m : MemberRow) → has d (keys.Member m.member) ≡ false → moves d (puts_member (length d.members) m) ≡ false
+nobody_moves d m new = ap (λ b. b || false) none where
+  elsewhere : MemberRow → Bool
+  elsewhere x = nat_eq x.member m.member && not (nat_eq x.room m.room)
 
--- and nobody else who was there comes into one
-nobody_else : (d : Desk) (m : MemberRow) (member room : ℕ) → nat_eq m.member member ≡ false → is_member_in (joined d m) member room ≡ is_member_in d member room
-nobody_else d m member room h =
-    list_any-append (λ x. nat_eq x.member member && nat_eq x.room room) d.members (m ∷ [])
-    ∙ ap (λ b. is_member_in d member room || ((b && nat_eq m.room room) || false)) h ∙ or_false (is_member_in d member room) where
-      or_false : (b : Bool) → (b || false) ≡ b
-      or_false true = refl
-      or_false false = refl
-
-count_alike : (p q : Row → Bool) (xs : List Row) → ((x : Row) → is_in xs x ≡ true → p x ≡ q x) → count_by p xs ≡ count_by q xs
-count_alike p q [] each = refl
-count_alike p q (x ∷ xs) each =
-    let rest = count_alike p q xs (λ y one. each y (or_right _ _ one)) in
-    let here : ◌≡◌ {A = ℕ} (cond (p x) 1 0) (cond (q x) 1 0) = ap (λ b. cond b 1 0) (each x (or_left _ _ (row_itself x))) in
-    omega (arith, rest, here, count_next p x xs, count_next q x xs)
-
--- the audio of a room is as before
-audio_alike : (d : Desk) (m : MemberRow) → good d ≡ true → has d (keys.Member m.member) ≡ false → (room : ℕ) → count_by (is_audio_in (joined d m) room) d.others ≡ count_by (is_audio_in d room) d.others
-audio_alike d m g new room = count_alike (is_audio_in (joined d m) room) (is_audio_in d room) d.others each where
-  other : (member : ℕ) → has d (keys.Member member) ≡ true → nat_eq m.member member ≡ false
-  other member there = elim (cases_Bool (nat_eq m.member member)) [
-    | inl e ↦ absurd (true_false (sym there ∙ sym (ap (λ n. has d (keys.Member n)) (eqb-true m.member member e)) ∙ new))
+  none : list_any elsewhere d.members ≡ false
+  none = elim (cases_Bool (list_any elsewhere d.members)) [
+    | inl e ↦
+        let w = one_of elsewhere d.members e in
+        let same = (and_parts (nat_eq w.0.member m.member) (not (nat_eq w.0.room m.room)) w.1).0 in
+        let there : list_any (has_key (keys.Member m.member)) (map Member d.members) ≡ true = list_any-map Member (has_key (keys.Member m.member)) d.members ∙ w.2 (λ x. has_key (keys.Member m.member) (Member x)) same in
+        absurd (true_false (sym (list_any-append (has_key (keys.Member m.member)) (map Member d.members) d.others ∙ or_left _ _ there) ∙ new))
     | inr e ↦ e
   ]
 
-  each : (x : Row) → is_in d.others x ≡ true → is_audio_in (joined d m) room x ≡ is_audio_in d room x
-  each (Source s) one =
-      let named = at_each (is_named_there d) (rows_of d) (Source s) (good_parts d g).named (is_in-append (map Member d.members) d.others (Source s) ∙ or_right _ _ one) in
-      ap (λ b. same_media s.media Audio && b) (nobody_else d m s.member room (other s.member (and_parts (has d (keys.Member s.member)) true named).0))
-  each (Room s) one = refl
-  each (Member s) one = refl
-  each (Slot s) one = refl
-  each (Sub s) one = refl
-
-obeys_joined : (d : Desk) (m : MemberRow) → good d ≡ true → has d (keys.Member m.member) ≡ false → (x : Row) → obeys d x ≡ true → obeys (joined d m) x ≡ true
-obeys_joined d m g new (Room r) h = ap (λ n. nat_le n 64) (audio_alike d m g new r.room) ∙ h
-obeys_joined d m g new (Member r) h = h
-obeys_joined d m g new (Source r) h = refl
-obeys_joined d m g new (Slot r) h = h
-obeys_joined d m g new (Sub s) h = any_weaker (is_room_of_both d s.out_ssrc s.source) (is_room_of_both (joined d m) s.out_ssrc s.source) d.others both_still h where
-  slot_still : (room out : ℕ) (x : Row) → is_slot_in d room out x ≡ true → is_slot_in (joined d m) room out x ≡ true
-  slot_still room out (Slot y) e = let both = and_parts (nat_eq y.out_ssrc out) (is_member_in d y.member room) e in and_from _ _ both.0 (still_in d m y.member room both.1)
-  slot_still room out (Room y) e = cc
-  slot_still room out (Member y) e = cc
-  slot_still room out (Source y) e = cc
-  slot_still room out (Sub y) e = cc
-
-  video_still : (room ssrc : ℕ) (x : Row) → is_video_in d room ssrc x ≡ true → is_video_in (joined d m) room ssrc x ≡ true
-  video_still room ssrc (Source y) e = let both = and_parts (nat_eq y.ssrc ssrc && same_media y.media Video) (is_member_in d y.member room) e in and_from _ _ both.0 (still_in d m y.member room both.1)
-  video_still room ssrc (Room y) e = cc
-  video_still room ssrc (Member y) e = cc
-  video_still room ssrc (Slot y) e = cc
-  video_still room ssrc (Sub y) e = cc
-
-  both_still : (x : Row) → is_in d.others x ≡ true → is_room_of_both d s.out_ssrc s.source x ≡ true → is_room_of_both (joined d m) s.out_ssrc s.source x ≡ true
-  both_still (Room r) one e =
-      let both = and_parts (list_any (is_slot_in d r.room s.out_ssrc) d.others) (list_any (is_video_in d r.room s.source) d.others) e in
-      and_from _ _
-      (any_weaker (is_slot_in d r.room s.out_ssrc) (is_slot_in (joined d m) r.room s.out_ssrc) d.others (λ y _ e. slot_still r.room s.out_ssrc y e) both.0)
-      (any_weaker (is_video_in d r.room s.source) (is_video_in (joined d m) r.room s.source) d.others (λ y _ e. video_still r.room s.source y e) both.1)
-  both_still (Member r) one e = cc
-  both_still (Source r) one e = cc
-  both_still (Slot r) one e = cc
-  both_still (Sub r) one e = cc
-
-none_named : (n : ℕ) (m : MemberRow) (x : Row) → keeps_names (puts_member n m) x ≡ true
-none_named n m (Room x) = refl
-none_named n m (Member x) = refl
-none_named n m (Source x) = refl
-none_named n m (Slot x) = refl
-none_named n m (Sub x) = refl
+-- so every row stays sound
+stays : (d : Desk) (m : MemberRow) (x : Row) → stays_sound false d (puts_member (length d.members) m) x ≡ true
+stays d m (Room x) = stays_calm false d (puts_member (length d.members) m) (Room x) refl refl
+stays d m (Member x) = stays_calm false d (puts_member (length d.members) m) (Member x) refl refl
+stays d m (Source x) = stays_calm false d (puts_member (length d.members) m) (Source x) refl refl
+stays d m (Slot x) = stays_calm false d (puts_member (length d.members) m) (Slot x) refl refl
+stays d m (Sub x) = stays_calm false d (puts_member (length d.members) m) (Sub x) refl refl
 
 -- a member that is not refused joins by an edit that fits
 pub join_carries : (d : Desk) (m : MemberRow) → good d ≡ true → member_refused d m ≡ None → Carries d (puts_member (length d.members) m)
@@ -143,9 +91,6 @@ join_carries d m g h =
     let d' = exchanged d e in
     let a = join_apt d m in
     let w = within_parts d g in
-    let is = join_is d m in
-    let old = obeys_split d (good_parts d g).obey in
-    let still : (x : Row) → obeys d x ≡ true → obeys d' x ≡ true = λ x h. ap (λ desk. obeys desk x) is ∙ obeys_joined d m g keys_free.0 x h in
     let free : list_all (λ c. not (is_claimed d c) && not (is_bridges d c)) (claims_of (Member m)) ≡ true =
     and_from _ _ (is_free (is_claimed d (claims.Key (keys.Member m.member))) false keys_free.0 refl)
     (and_from _ _ (is_free (is_claimed d (claims.Address m.address)) false keys_free.1 refl)
@@ -164,8 +109,5 @@ join_carries d m g h =
           (each_claim (λ k. makes k (Member m)) (λ k. not (is_claimed d k) && not (is_bridges d k)) (is_made_once d') (claims_of (Member m))
           (λ k own free. claimed_once d e g a (λ p. refl) k (one_joins (makes k) n m ∙ ap (λ b. cond b 1 0) own) free) (own_claims (Member m)) free)
           (ap not cases.1.1.1.0)) refl) refl;
-      stay = and_from _ _
-          (each_member (λ x. obeys d (Member x)) (λ x. stays_sound d e (Member x)) d.members (λ x h. remains_sound d e (Member x) (none_named n m (Member x)) (still (Member x) h)) old.0)
-          (from_each (stays_sound d e) (without_rows [] d.others) (λ q one. remains_sound d e q (none_named n m q)
-          (still q (at_each (obeys d) (without_rows [] d.others) q (list_all-filter (obeys d) (λ x. true) d.others old.1) one))));
+      stay = ap (λ b. all_stay (stays_sound b d e) d e) (nobody_moves d m keys_free.0) ∙ all_remain (stays_sound false d e) d e (λ x. stays d m (Member x)) (λ x one. stays d m x);
     }

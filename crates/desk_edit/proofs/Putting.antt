@@ -12,20 +12,19 @@ use Rattle.desk_rows.specs.declared.claim.Claim.{Claim}
 use Rattle.desk_rows.specs.Row.{key_of, has_key, names, makes, claims_of, same_row}
 use Rattle.desk_rows.specs.Kinds.{is_of}
 use Rattle.desk_rows.specs.Order.{in_order, is_in, with_row, without_rows}
-use Rattle.desk_rows.specs.OrderLaws.{at_each, from_each, list_all-filter, filter_all, is_in-with_row, count_by-with_row}
+use Rattle.desk_rows.specs.OrderLaws.{at_each, from_each, filter_all, is_in-filter, count_by-with_row}
 use Rattle.desk_rows.specs.PlaceLaws.{count_next}
 use Rattle.desk_rows.specs.Edit.{EditOf, outs, ins}
 use Rattle.desk_rows.specs.Desk.{Desk, good, rows_of, count_of, is_within_limits, is_named_there, is_made_once, is_bridges, is_alone, is_audio_in, obeys}
 use Rattle.desk_rows.specs.Exchange.{exchanged}
-use Rattle.desk_rows.specs.Judged.{keeps_names, all_stay, is_sound, stays_sound}
-use Rattle.desk_rows.specs.Laws.{Apt, Good, good_parts}
+use Rattle.desk_rows.specs.Judged.{is_sound, stays_sound}
+use Rattle.desk_rows.specs.Laws.{Apt, Good, good_parts, is_in-append}
 use Rattle.desk_rows.proofs.Counts.{any_count, go_count, come_count}
 use Rattle.desk_rows.proofs.Judging.{own_claims, each_claim, bridge_same}
 use Rattle.desk_edit.specs.Commands.{with_other}
 use Rattle.desk_edit.specs.Edits.{puts_other}
 use Rattle.desk_edit.specs.Refusals.{has, is_claimed}
-use Rattle.desk_edit.proofs.Fitting.{Carries, Within, within_parts, within_from, count_stays, any_stays, none_counts, sound, remains_sound}
-use Rattle.desk_edit.proofs.Obeying.{obeys_beside, stands_among, obeys_split, each_member}
+use Rattle.desk_edit.proofs.Fitting.{Carries, Within, within_parts, within_from, count_stays, any_stays, none_counts, sound, stays_calm, stays_asked, all_remain}
 
 -- what is asked of a row that is put
 pub record CanCome (d : Desk) (r : Row) : Type 0 where
@@ -43,7 +42,7 @@ unfolding exchanged
 put_is d r = λ i. record d { others = with_row r (filter_all (λ x. true) d.others (from_each (λ x. true) d.others (λ q one. refl)) i) }
 
 put_apt : (d : Desk) (r : Row) → Apt d (puts_other r)
-put_apt d r = record { take_rise = refl; take = refl; put_rise = refl; put = refl; outs_order = refl; outs_there = refl; ins_order = refl }
+put_apt d r = record { take_rise = refl; take = refl; put_rise = refl; put = refl; outs_apart = refl; outs_there = refl; ins_apart = refl; paired = refl }
 
 one_comes : (p : Row → Bool) (r : Row) → come_count p (puts_other r) ≡ cond (p r) 1 0
 one_comes p r = let n = count_next p r [] in omega (arith, n)
@@ -69,12 +68,22 @@ claimed_once d e g a gone c one h =
       not_true true e = sym e
       not_true false e = refl
 
-none_named : (r x : Row) → keeps_names (puts_other r) x ≡ true
-none_named r (Room x) = refl
-none_named r (Member x) = refl
-none_named r (Source x) = refl
-none_named r (Slot x) = refl
-none_named r (Sub x) = refl
+most : (m n : ℕ) → m ≤ n → nat_le m n ≡ true
+most m n h = grind (arith, h)
+
+at_most : (m n : ℕ) → nat_le m n ≡ true → m ≤ n
+at_most m n h = grind (arith, h)
+
+-- every row of a good desk stays sound
+stays : (d : Desk) (r : Row) → good d ≡ true → CanCome d r → (x : Row) → is_in (rows_of d) x ≡ true → stays_sound false d (puts_other r) x ≡ true
+stays d r g c (Room x) one =
+    let n = count_by-with_row (is_audio_in d x.room) r d.others in
+    let few = c.audio x.room (at_most _ _ (at_each (obeys d) (rows_of d) (Room x) (good_parts d g).obey one)) in
+    stays_asked false d (puts_other r) (Room x) refl (ap (λ desk. obeys desk (Room x)) (put_is d r) ∙ most (count_by (is_audio_in d x.room) (with_row r d.others)) 64 (omega (arith, n, few)))
+stays d r g c (Member x) one = stays_calm false d (puts_other r) (Member x) refl refl
+stays d r g c (Source x) one = stays_calm false d (puts_other r) (Source x) refl refl
+stays d r g c (Slot x) one = stays_calm false d (puts_other r) (Slot x) refl refl
+stays d r g c (Sub x) one = stays_calm false d (puts_other r) (Sub x) refl refl
 
 -- a row that can come is put by an edit that fits
 pub put_carries : (d : Desk) (r : Row) → good d ≡ true → CanCome d r → Carries d (puts_other r)
@@ -84,12 +93,6 @@ put_carries d r g c =
     let a = put_apt d r in
     let w = within_parts d g in
     let is = put_is d r in
-    let old = obeys_split d (good_parts d g).obey in
-    let still : (x : Row) → obeys d x ≡ true → obeys d' x ≡ true =
-    λ x h. ap (λ desk. obeys desk x) is
-    ∙ obeys_beside d (with_row r d.others) x h
-    (λ room few. let n = count_by-with_row (is_audio_in d room) r d.others in let l = c.audio room few in omega (arith, n, l))
-    (stands_among d (with_row r d.others) (λ q one. is_in-with_row r d.others q ∙ or_right _ _ one) x) in
     record {
       apt = a;
       plain = and_from _ _ c.plain refl;
@@ -104,10 +107,8 @@ put_carries d r g c =
           (each_claim (λ k. makes k r) (λ k. not (is_claimed d k) && not (is_bridges d k)) (is_made_once d') (claims_of r)
           (λ k own free. claimed_once d e g a (λ p. refl) k (one_comes (makes k) r ∙ ap (λ b. cond b 1 0) own) free) (own_claims r) c.free)
           (ap (λ desk. obeys desk r) is ∙ c.obeys)) refl;
-      stay = and_from _ _
-          (each_member (λ m. obeys d (Member m)) (λ m. stays_sound d e (Member m)) d.members (λ m h. remains_sound d e (Member m) (none_named r (Member m)) (still (Member m) h)) old.0)
-          (from_each (stays_sound d e) (without_rows [] d.others) (λ q one. remains_sound d e q (none_named r q)
-          (still q (at_each (obeys d) (without_rows [] d.others) q (list_all-filter (obeys d) (λ x. true) d.others old.1) one))));
+      stay = all_remain (stays_sound false d e) d e (λ m. stays_calm false d e (Member m) refl refl) (λ q one. stays d r g c q
+          (is_in-append (map Member d.members) d.others q ∙ or_right _ _ (and_parts (is_in d.others q) true (sym (is_in-filter (λ x. true) q d.others) ∙ one)).0));
     } where
       no_member : (b : Bool) → not b ≡ true → ◌≡◌ {A = ℕ} (cond b 1 0) 0
       no_member true h = cc

@@ -21,9 +21,9 @@ use Rattle.desk_rows.specs.Order.{key_precedes as precedes_key, precedes, in_ord
 use Rattle.desk_rows.specs.OrderLaws.{at_each, from_each, is_in-filter, is_in-with_row, count_by-with_row, not_before_itself, both_ways}
 use Rattle.desk_rows.specs.PlaceLaws.{count_next}
 use Rattle.desk_rows.specs.Edit.{EditOf, outs, ins}
-use Rattle.desk_rows.specs.Desk.{Desk, good, rows_of, row_at, count_of, is_named_there, is_made_once, is_bridges, is_audio_in, is_video_in, is_slot_in, is_room_of_both, obeys}
+use Rattle.desk_rows.specs.Desk.{Desk, good, rows_of, row_at, count_of, is_named_there, is_made_once, is_bridges, is_slot_beside, obeys}
 use Rattle.desk_rows.specs.Exchange.{exchanged}
-use Rattle.desk_rows.specs.Judged.{keeps_names, is_sound, stays_sound}
+use Rattle.desk_rows.specs.Judged.{keeps_names, is_shaken, is_sound, stays_sound}
 use Rattle.desk_rows.specs.Laws.{Apt, Good, good_parts, good_order, any_counts, is_in-append, one_key}
 use Rattle.desk_rows.proofs.Counts.{true_false, witness, some_count, count_some, go_count, come_count, stay_count, before_count, after_count, rows_count}
 use Rattle.desk_rows.proofs.Keys.{its_key}
@@ -31,11 +31,11 @@ use Rattle.desk_rows.proofs.Judging.{bridge_same}
 use Rattle.desk_edit.specs.Commands.{with_other, with_replaced}
 use Rattle.desk_edit.specs.Edits.{puts_other, replaces, puts_in_place}
 use Rattle.desk_edit.specs.Refusals.{has, is_claimed, sub_cases, sub_refused}
-use Rattle.desk_edit.proofs.Fitting.{Carries, Within, within_parts, within_from, any_stays, sound, remains_sound}
-use Rattle.desk_edit.proofs.Obeying.{Stands, IsStood, any_in, obeys_beside, one_room_still, stands_among, obeys_split, each_member}
+use Rattle.desk_edit.proofs.Fitting.{Carries, Within, within_parts, within_from, any_stays, sound, stays_calm, all_remain}
+use Rattle.desk_edit.proofs.Obeying.{one_room_still}
 use Rattle.desk_edit.proofs.Putting.{CanCome}
 use Rattle.desk_edit.proofs.Additions.{none_holds, not_false, is_free}
-use Rattle.desk_edit.proofs.Removing.{filter_alike, count_less}
+use Rattle.desk_edit.proofs.Removing.{filter_alike}
 
 -- ---- finding
 
@@ -108,8 +108,8 @@ sub_can_come d s g h none =
       slots = omega (arith, w.slots);
       audio = λ room few. omega (arith, few);
       obeys = one_room_still d (with_row (Sub s) d.others) s.out_ssrc s.source
-          (stands_among d (with_row (Sub s) d.others) (λ q one. is_in-with_row (Sub s) d.others q ∙ or_right _ _ one) (Sub s))
-          (not_false (list_any (is_room_of_both d s.out_ssrc s.source) d.others) cases.1.1.1.0);
+          (λ q one other. is_in-with_row (Sub s) d.others q ∙ or_right _ _ one)
+          (not_false (list_any (is_slot_beside d s.out_ssrc s.source) d.others) cases.1.1.1.0);
     }
 
 -- ---- a sub in place of another
@@ -135,7 +135,16 @@ unfolding exchanged
 replaced_is d s old g h = λ i. record d { others = with_row (Sub s) (only_old d s.out_ssrc old g h i) }
 
 replace_apt : (d : Desk) (s : SubRow) (old : Row) → row_at d (keys.Sub s.out_ssrc) ≡ Some old → Apt d (replaces old (Sub s))
-replace_apt d s old h = record { take_rise = refl; take = refl; put_rise = refl; put = refl; outs_order = refl; outs_there = and_from _ _ (old_sub d s.out_ssrc old h).1 refl; ins_order = refl }
+replace_apt d s old h = record {
+  take_rise = refl;
+  take = refl;
+  put_rise = refl;
+  put = refl;
+  outs_apart = refl;
+  outs_there = and_from _ _ (old_sub d s.out_ssrc old h).1 refl;
+  ins_apart = refl;
+  paired = and_from _ _ (old_sub d s.out_ssrc old h).0 refl;
+}
 
 one_goes : (p : Row → Bool) (old new : Row) → go_count p (replaces old new) ≡ cond (p old) 1 0
 one_goes p old new = let n = count_next p old [] in omega (arith, n)
@@ -173,30 +182,25 @@ keeps_all old new x same = each (names x) where
   each [] = refl
   each (k ∷ ks) = and_from _ _ (kept k) (each ks)
 
-slot_is_no_sub : (d : Desk) (out room o : ℕ) (r : Row) → is_slot_in d room o r ≡ true → has_key (keys.Sub out) r ≡ false
-slot_is_no_sub d out room o (Slot y) e = refl
-slot_is_no_sub d out room o (Room y) e = refl
-slot_is_no_sub d out room o (Member y) e = refl
-slot_is_no_sub d out room o (Source y) e = refl
-slot_is_no_sub d out room o (Sub y) e = cc
-
-video_is_no_sub : (d : Desk) (out room source : ℕ) (r : Row) → is_video_in d room source r ≡ true → has_key (keys.Sub out) r ≡ false
-video_is_no_sub d out room source (Source y) e = refl
-video_is_no_sub d out room source (Room y) e = refl
-video_is_no_sub d out room source (Member y) e = refl
-video_is_no_sub d out room source (Slot y) e = refl
-video_is_no_sub d out room source (Sub y) e = cc
-
-stands_all : (d : Desk) (os : List Row) → ((out source : ℕ) → IsStood d os out source) → (x : Row) → Stands d os x
-stands_all d os stood (Sub s) = stood s.out_ssrc s.source
-stands_all d os stood (Room r) = tt
-stands_all d os stood (Member r) = tt
-stands_all d os stood (Source r) = tt
-stands_all d os stood (Slot r) = tt
-
 -- a row of a sub's key has no other key
 other_key : (old : Row) (out : ℕ) (k : Key) → has_key (keys.Sub out) old ≡ true → same_key (keys.Sub out) k ≡ false → has_key k old ≡ false
 other_key old out k e other = ap (λ q. same_key q k) (its_key (keys.Sub out) old e) ∙ other
+
+-- nothing shakes a row that stays
+calm : (d : Desk) (old : Row) (s : SubRow) (out : ℕ) → has_key (keys.Sub out) old ≡ true → (x : Row) → is_shaken false d (replaces old (Sub s)) x ≡ false
+calm d old s out e (Room x) = refl
+calm d old s out e (Member x) = refl
+calm d old s out e (Source x) = refl
+calm d old s out e (Slot x) = refl
+calm d old s out e (Sub x) =
+    (λ i. (other_key old out (keys.Slot x.out_ssrc) e refl i || false) || (other_key old out (keys.Source x.source) e refl i || false))
+
+no_sub_key : (out : ℕ) (r : Row) → is_of kinds.Sub r ≡ false → has_key (keys.Sub out) r ≡ false
+no_sub_key out (Room y) e = refl
+no_sub_key out (Member y) e = refl
+no_sub_key out (Source y) e = refl
+no_sub_key out (Slot y) e = refl
+no_sub_key out (Sub y) e = absurd (true_false e)
 
 -- a key that the old sub has not is there as before
 there : (d : Desk) (s : SubRow) (old : Row) → good d ≡ true → row_at d (keys.Sub s.out_ssrc) ≡ Some old → (k : Key) → has_key k old ≡ false → has d k ≡ true →
@@ -217,20 +221,9 @@ replace_carries d s old g h at =
     let was = old_sub d out old at in
     let kind = no_other_kind old (sub_kind out old was.0) in
     let kept = with_row (Sub s) (apart_from d out) in
-    let rules = obeys_split d (good_parts d g).obey in
     let same_keys : key_of old ≡ key_of (Sub s) = its_key (keys.Sub out) old was.0 in
-    let stays : (r : Row) → is_in d.others r ≡ true → has_key (keys.Sub out) r ≡ false → is_in kept r ≡ true =
-    λ r one other. is_in-with_row (Sub s) (apart_from d out) r ∙ or_right _ _ (is_in-filter (λ x. not (has_key (keys.Sub out) x)) r d.others ∙ and_from _ _ one (ap not other)) in
-    let stood : (o source : ℕ) → IsStood d kept o source =
-    λ o source room one slot video. (
-      stays (Room record { room = room }) one refl,
-      any_in (is_slot_in d room o) d.others kept (λ r there t. stays r there (slot_is_no_sub d out room o r t)) slot,
-      any_in (is_video_in d room source) d.others kept (λ r there t. stays r there (video_is_no_sub d out room source r t)) video,
-    ) in
-    let still : (x : Row) → obeys d x ≡ true → obeys d' x ≡ true =
-    λ x k. ap (λ desk. obeys desk x) is ∙ obeys_beside d kept x k
-    (λ room few. let n = count_by-with_row (is_audio_in d room) (Sub s) (apart_from d out) in let l = count_less (is_audio_in d room) (λ x. not (has_key (keys.Sub out) x)) d.others in omega (arith, n, l, few))
-    (stands_all d kept stood x) in
+    let stays : (r : Row) → is_in d.others r ≡ true → is_of kinds.Sub r ≡ false → is_in kept r ≡ true =
+    λ r one other. is_in-with_row (Sub s) (apart_from d out) r ∙ or_right _ _ (is_in-filter (λ x. not (has_key (keys.Sub out) x)) r d.others ∙ and_from _ _ one (ap not (no_sub_key out r other))) in
     record {
       apt = a;
       plain = refl;
@@ -246,9 +239,8 @@ replace_carries d s old g h at =
           (and_from _ _ (and_from _ _ (eq-eqb _ _ (count_same (has_key (keys.Sub out)) d s old g at (was.0 ∙ sym (key_itself (keys.Sub out)))
           ∙ ap (λ k. count_by (has_key k) (rows_of d)) (sym (its_key (keys.Sub out) old was.0)) ∙ one_key d old g (is_in-append (map Member d.members) d.others old ∙ or_right _ _ was.1)))
           (ap not (bridge_same d e (claims.Key (keys.Sub out))))) refl)
-          (ap (λ desk. obeys desk (Sub s)) is ∙ one_room_still d kept out s.source (stood out s.source) (not_false (list_any (is_room_of_both d out s.source) d.others) cases.1.1.1.0))) refl;
-      stay = and_from _ _
-          (each_member (λ m. obeys d (Member m)) (λ m. stays_sound d e (Member m)) d.members (λ m k. remains_sound d e (Member m) (keeps_all old (Sub s) (Member m) same_keys) (still (Member m) k)) rules.0)
-          (from_each (stays_sound d e) (without_rows (old ∷ []) d.others) (λ q one. remains_sound d e q (keeps_all old (Sub s) q same_keys)
-          (still q (at_each (obeys d) d.others q rules.1 (and_parts (is_in d.others q) (not (is_in (old ∷ []) q)) (sym (is_in-filter (λ x. not (is_in (old ∷ []) x)) q d.others) ∙ one)).0))));
+          (ap (λ desk. obeys desk (Sub s)) is ∙ one_room_still d kept out s.source stays (not_false (list_any (is_slot_beside d out s.source) d.others) cases.1.1.1.0))) refl;
+      stay = all_remain (stays_sound false d e) d e
+          (λ m. stays_calm false d e (Member m) (keeps_all old (Sub s) (Member m) same_keys) refl)
+          (λ q one. stays_calm false d e q (keeps_all old (Sub s) q same_keys) (calm d old s out was.0 q));
     }

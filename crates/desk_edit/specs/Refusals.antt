@@ -15,7 +15,7 @@ use Rattle.desk_rows.specs.declared.claim.Claim.{Claim}
 use Rattle.desk_rows.specs.declared.claim.Claim.TheVariants as claims
 use Rattle.desk_rows.specs.declared.limits.TheConstants.{MAX_ROOMS, MAX_MEMBERS, MAX_SOURCES, MAX_SLOTS, MAX_ROOM_AUDIO, MAX_INDEX}
 use Rattle.desk_rows.specs.Row.{has_key, makes, same_media}
-use Rattle.desk_rows.specs.Desk.{Desk, rows_of, holds, count_of, is_member_in, is_audio_in, is_room_of_both}
+use Rattle.desk_rows.specs.Desk.{Desk, rows_of, holds, count_of, is_member_in, is_audio_in, is_slot_beside}
 use Rattle.desk_edit.specs.declared.command.Command.{Command}
 use Rattle.desk_edit.specs.declared.command.Command.TheVariants.{AddRoom, AddMember, AddSource, AddSlot, RemoveSlot, Subscribe}
 use Rattle.desk_edit.specs.declared.command.Refusal.{Refusal}
@@ -110,7 +110,7 @@ sub_cases d s =
     (not (has d (keys.Source s.source)), refusals.NoSource)
     ∷ (not (has d (keys.Slot s.out_ssrc)), refusals.NoSlot)
     ∷ (not (list_any (sends_video s.source) d.others), refusals.WrongKind)
-    ∷ (not (list_any (is_room_of_both d s.out_ssrc s.source) d.others), refusals.OtherRoom)
+    ∷ (not (list_any (is_slot_beside d s.out_ssrc s.source) d.others), refusals.OtherRoom)
     ∷ (holds d (rows.Sub s), refusals.Already)
     ∷ []
 

@@ -4,7 +4,7 @@ ghost use Rattle.std.specs.Prelude.{◌≡◌, ◌++◌, ◌&&◌, count_by, map
 ghost use Rattle.std.specs.List.{list_any};
 ghost use Rattle.desk_rows.specs.declared.row.Row.TheVariants.{Member as MemberRow};
 ghost use Rattle.desk_rows.specs.Row.{has_key, makes, same_media};
-ghost use Rattle.desk_rows.specs.Desk.{rows_of, is_member_in, is_audio_in, is_video_in, is_slot_in, is_room_of_both};
+ghost use Rattle.desk_rows.specs.Desk.{rows_of, is_member_in, is_audio_in, share_room, is_video_beside, is_slot_beside};
 ghost use Rattle.desk_edit.specs.Refusals.{has, is_claimed, ssrc_is_taken, sends_video, is_full_room, fills_room};
 
 use desk_rows::{Claim, Key, MAX_ROOM_AUDIO, Media, Member, Row, Rows, Source, Sub};
@@ -31,7 +31,7 @@ pub(crate) fn is_claimed<A: Allocator + Copy>(rows: &Rows<A>, claim: Claim) -> b
 pub(crate) fn has<A: Allocator + Copy>(rows: &Rows<A>, key: Key) -> bool
     ensures { result ≡ has rows.now key }
 {
-    is_claimed(rows, Claim::Key(key))
+    rows.find(&key).is_some()
 }
 
 /// Whether the bridge, a source or an outgoing stream has this SSRC.
@@ -114,53 +114,53 @@ pub(crate) fn any_sends_video(others: &[Row], ssrc: u32) -> bool
     others.iter().any(|row| sends_video(row, ssrc))
 }
 
-fn is_video_in<A: Allocator + Copy>(rows: &Rows<A>, room: u32, ssrc: u32, row: &Row) -> bool
-    ensures { result ≡ is_video_in rows.now room ssrc row.now }
+fn any_shares_room<A: Allocator + Copy>(rows: &Rows<A>, members: &[Member], a: u32, b: u32) -> bool
+    ensures { result ≡ list_any (λ m. nat_eq m.member a && is_member_in rows.now b m.room) members.now }
+{
+    members
+        .iter()
+        .any(|m| m.member == a && is_member_in(rows, b, m.room))
+}
+
+/// Whether the two members are in one room.
+fn share_room<A: Allocator + Copy>(rows: &Rows<A>, a: u32, b: u32) -> bool
+    ensures { result ≡ share_room rows.now a b }
+{
+    any_shares_room(rows, rows.members(), a, b)
+}
+
+fn is_video_beside<A: Allocator + Copy>(rows: &Rows<A>, member: u32, ssrc: u32, row: &Row) -> bool
+    ensures { result ≡ is_video_beside rows.now member ssrc row.now }
 {
     match row {
         Row::Source(source) => {
             (source.ssrc == ssrc && source.media.is_same(Media::Video))
-                && is_member_in(rows, source.member, room)
+                && share_room(rows, member, source.member)
         }
         _ => false,
     }
 }
 
-fn any_video_in<A: Allocator + Copy>(rows: &Rows<A>, others: &[Row], room: u32, ssrc: u32) -> bool
-    ensures { result ≡ list_any (is_video_in rows.now room ssrc) others.now }
-{
-    others.iter().any(|row| is_video_in(rows, room, ssrc, row))
-}
-
-fn is_slot_in<A: Allocator + Copy>(rows: &Rows<A>, room: u32, out_ssrc: u32, row: &Row) -> bool
-    ensures { result ≡ is_slot_in rows.now room out_ssrc row.now }
-{
-    match row {
-        Row::Slot(slot) => slot.out_ssrc == out_ssrc && is_member_in(rows, slot.member, room),
-        _ => false,
-    }
-}
-
-fn any_slot_in<A: Allocator + Copy>(
+fn any_video_beside<A: Allocator + Copy>(
     rows: &Rows<A>,
     others: &[Row],
-    room: u32,
-    out_ssrc: u32,
+    member: u32,
+    ssrc: u32,
 ) -> bool
-    ensures { result ≡ list_any (is_slot_in rows.now room out_ssrc) others.now }
+    ensures { result ≡ list_any (is_video_beside rows.now member ssrc) others.now }
 {
     others
         .iter()
-        .any(|row| is_slot_in(rows, room, out_ssrc, row))
+        .any(|row| is_video_beside(rows, member, ssrc, row))
 }
 
-fn is_room_of_both<A: Allocator + Copy>(rows: &Rows<A>, sub: &Sub, row: &Row) -> bool
-    ensures { result ≡ is_room_of_both rows.now sub.now.out_ssrc sub.now.source row.now }
+fn is_slot_beside<A: Allocator + Copy>(rows: &Rows<A>, sub: &Sub, row: &Row) -> bool
+    ensures { result ≡ is_slot_beside rows.now sub.now.out_ssrc sub.now.source row.now }
 {
     match row {
-        Row::Room(room) => {
-            any_slot_in(rows, rows.others(), room.room, sub.out_ssrc)
-                && any_video_in(rows, rows.others(), room.room, sub.source)
+        Row::Slot(slot) => {
+            slot.out_ssrc == sub.out_ssrc
+                && any_video_beside(rows, rows.others(), slot.member, sub.source)
         }
         _ => false,
     }
@@ -172,7 +172,7 @@ pub(crate) fn are_in_one_room<A: Allocator + Copy>(
     others: &[Row],
     sub: &Sub,
 ) -> bool
-    ensures { result ≡ list_any (is_room_of_both rows.now sub.now.out_ssrc sub.now.source) others.now }
+    ensures { result ≡ list_any (is_slot_beside rows.now sub.now.out_ssrc sub.now.source) others.now }
 {
-    others.iter().any(|row| is_room_of_both(rows, sub, row))
+    others.iter().any(|row| is_slot_beside(rows, sub, row))
 }

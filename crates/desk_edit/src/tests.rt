@@ -281,7 +281,7 @@ fn plan_over<'a>(
 /// Heaps that grow by 16 octets refuse each allocation in turn, until one is ample.
 #[test]
 fn a_plan_tells_want_of_memory_last(rt: HostRuntime) -> Result<(), Fail> {
-    let ample = LocalHeap::new(rt.alloc(), 1 << 20)?;
+    let ample = LocalHeap::new(rt.alloc(), 1 << 21)?;
     let cases = [
         room(2),
         member(11, 1, 5001, 9002),
@@ -325,7 +325,7 @@ fn push_over<'a>(
 /// Logs that grow by 32 octets refuse the growth of each of the two lists, until one is ample.
 #[test]
 fn a_refused_push_changes_nothing(rt: HostRuntime) -> Result<(), Fail> {
-    let ample = LocalHeap::new(rt.alloc(), 1 << 20)?;
+    let ample = LocalHeap::new(rt.alloc(), 1 << 21)?;
     let mut refused = 0usize;
     for size in 1..256usize {
         let log = LocalHeap::new(rt.alloc(), 32 * size)?;
@@ -357,7 +357,7 @@ fn undo_edit_over<'a>(
 
 #[test]
 fn a_copy_of_an_edit_can_be_refused(rt: HostRuntime) -> Result<(), Fail> {
-    let ample = LocalHeap::new(rt.alloc(), 1 << 20)?;
+    let ample = LocalHeap::new(rt.alloc(), 1 << 21)?;
     for (octets, want) in [(16, Some(HistoryFault::OutOfMemory)), (1 << 12, None)] {
         let heap = LocalHeap::new(rt.alloc(), octets)?;
         assert_eq!(rt;

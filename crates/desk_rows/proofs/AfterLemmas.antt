@@ -12,12 +12,12 @@ use Rattle.desk_rows.specs.Exchange.{exchanged}
 use Rattle.desk_rows.specs.Kinds.{is_of}
 use Rattle.desk_rows.specs.declared.row.Kind.TheVariants as kinds
 use Rattle.desk_rows.specs.Order.{without_rows}
-use Rattle.desk_rows.specs.OrderLaws.{count_by-without_rows}
+use Rattle.desk_rows.specs.OrderLaws.{count_by-with_rows, count_by-without_rows}
 use Rattle.desk_rows.specs.Places.{take_at}
 use Rattle.desk_rows.specs.PlaceLaws.{count_by-take_at}
-use Rattle.desk_rows.specs.Judged.{all_come, all_stay, is_sound, stays_sound, judged}
+use Rattle.desk_rows.specs.Judged.{moves, all_come, all_stay, is_sound, stays_sound, judged}
 use Rattle.desk_rows.proofs.Judging.{judged_right}
-use Rattle.desk_rows.specs.Laws.{Apt, apt_parts, good_order, count_by-append}
+use Rattle.desk_rows.specs.Laws.{Apt, outs_order, apt_parts, good_order}
 use Rattle.desk_rows.specs.Afterwards.{before_of, edit_in, desk_after}
 use Rattle.desk_rows.proofs.Counts.{members_after, others_after, rows_count, any_count, stay_by_count}
 
@@ -36,8 +36,8 @@ pub others_counted : (x : After) (q : Row → Bool) →
 unfolding desk_after
 others_counted x q =
     let n = others_after q (before_of x) (edit_in x) (good_order (before_of x) x.good) (apt_of x) in
-    let out = count_by-append q x.taken.now x.old.now in
-    let come = count_by-append q x.put.now x.new.now in
+    let out = count_by-with_rows q x.old.now x.taken.now in
+    let come = count_by-with_rows q x.new.now x.put.now in
     (omega (arith, n.0, out), omega (arith, n.1, out, come))
 
 pub counted : (x : After) (p : Row → Bool) → count_by p (rows_of (desk_after x)) ≡ count_by (λ m. p (Member m)) (desk_after x).members + count_by p (desk_after x).others
@@ -69,8 +69,8 @@ stay_test x q =
     let e = edit_in x in
     let a = apt_of x in
     let members = count_by-take_at (λ m. not (q (Member m))) e.taken.members d.members a.take in
-    let others = count_by-without_rows (λ r. not (q r)) (outs e) d.others (good_order d x.good) a.outs_order a.outs_there in
-    let out = count_by-append (λ r. not (q r)) x.taken.now x.old.now in
+    let others = count_by-without_rows (λ r. not (q r)) (outs e) d.others (good_order d x.good) (outs_order a) a.outs_there in
+    let out = count_by-with_rows (λ r. not (q r)) x.old.now x.taken.now in
     stay_by_count q d e ∙ apart
     (count_by (λ m. not (q (Member m))) (take_at e.taken.members d.members)) (count_by (λ r. not (q r)) (without_rows (outs e) d.others))
     (count_by (λ m. not (q (Member m))) x.members.now) (count_by (λ p. not (q (Member p.row))) x.taken_members.now)
@@ -81,6 +81,6 @@ stay_test x q =
 
 pub good_tests : (x : After) → good (desk_after x)
     ≡ ((list_all (λ r. not (is_of kinds.Member r)) (ins (edit_in x)) && is_within_limits (desk_after x))
-    && (all_come (is_sound (desk_after x)) (edit_in x) && all_stay (stays_sound (before_of x) (edit_in x)) (before_of x) (edit_in x)))
+    && (all_come (is_sound (desk_after x)) (edit_in x) && all_stay (stays_sound (moves (before_of x) (edit_in x)) (before_of x) (edit_in x)) (before_of x) (edit_in x)))
 unfolding desk_after judged
 good_tests x = judged_right (before_of x) (edit_in x) x.good (apt_of x)

@@ -17,7 +17,7 @@ use Rattle.desk_rows.specs.Edit.{EditOf, outs, ins}
 use Rattle.desk_rows.specs.Desk.{Desk, rows_of}
 use Rattle.desk_rows.specs.Exchange.{exchanged}
 use Rattle.desk_rows.specs.Judged.{all_come, all_stay}
-use Rattle.desk_rows.specs.Laws.{Apt, count_by-append}
+use Rattle.desk_rows.specs.Laws.{Apt, outs_order, count_by-append}
 
 pub true_false : true ≡ false → ⊥
 true_false e = cc
@@ -86,7 +86,7 @@ rows_count p d = count_by-append p (map Member d.members) d.others ∙ ap (λ n.
 pub before_count : (p : Row → Bool) (d : Desk) (e : EditOf) → in_order d.others ≡ true → Apt d e → count_by p (rows_of d) ≡ stay_count p d e + go_count p e
 before_count p d e order a =
     let members = count_by-take_at (λ m. p (Member m)) e.taken.members d.members a.take in
-    let others = count_by-without_rows p (outs e) d.others order a.outs_order a.outs_there in
+    let others = count_by-without_rows p (outs e) d.others order (outs_order a) a.outs_there in
     omega (arith, rows_count p d, members, others)
 
 -- after: what stays and what comes
@@ -111,7 +111,7 @@ pub others_after : (q : Row → Bool) (d : Desk) (e : EditOf) → in_order d.oth
     × (count_by q (exchanged d e).others ≡ (count_by q d.others - count_by q (outs e)) + count_by q (ins e))
 unfolding exchanged
 others_after q d e order a =
-    let out = count_by-without_rows q (outs e) d.others order a.outs_order a.outs_there in
+    let out = count_by-without_rows q (outs e) d.others order (outs_order a) a.outs_there in
     let in' = count_by-with_rows q (ins e) (without_rows (outs e) d.others) in
     (omega (arith, out), omega (arith, out, in'))
 

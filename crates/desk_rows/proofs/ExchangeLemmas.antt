@@ -1,5 +1,5 @@
 -- The tests of an exchange, and what absorbing an edit that fits finds and leaves.
-use Rattle.std.proofs.Common.{◌≡◌, ℕ, ◌+◌, ◌-◌, ◌<◌, ◌≤◌, nat_le, nat_eq, nat_lt, Bool, true, false, not, cond, ◌&&◌, ◌||◌, List, [], ◌∷◌, ◌++◌, map, length, filter, refl, sym, ap, ◌∙◌, inl, inr, ◌⊎◌, arith, length-append}
+use Rattle.std.proofs.Common.{◌≡◌, ℕ, ◌+◌, ◌-◌, ◌<◌, ◌≤◌, nat_le, nat_eq, nat_lt, Bool, true, false, not, cond, ◌&&◌, ◌||◌, List, [], ◌∷◌, ◌++◌, map, length, filter, refl, sym, ap, ◌∙◌, inl, inr, ◌⊎◌, arith}
 use Rattle.std.specs.Prelude.{count_by}
 use Rattle.std.specs.List.{list_any, list_all}
 use Rattle.std.proofs.lemmas.Bool.{and_parts, and_from, or_cases, cases_Bool}
@@ -15,8 +15,8 @@ use Rattle.desk_rows.specs.declared.limits.TheConstants.{MAX_ROOMS, MAX_MEMBERS,
 use Rattle.desk_rows.specs.Row.{key_of, has_key, same_key, names, same_row}
 use Rattle.desk_rows.specs.Equal.{key_itself}
 use Rattle.desk_rows.specs.Kinds.{is_of}
-use Rattle.desk_rows.specs.Order.{precedes, in_order, is_in, with_row, with_rows, without_rows}
-use Rattle.desk_rows.specs.OrderLaws.{at_each, from_each, is_in-filter, in_order-filter, not_before_itself}
+use Rattle.desk_rows.specs.Order.{precedes, in_order, key_is_new, are_apart, have_same_keys, is_in, with_row, with_rows, without_rows}
+use Rattle.desk_rows.specs.OrderLaws.{at_each, from_each, is_in-filter, in_order-filter, list_all-with_rows}
 use Rattle.desk_rows.specs.Places.{take_at, put_at, can_take, can_put, places_rise, put_within}
 use Rattle.desk_rows.specs.PlaceLaws.{count_next, length-take_at, length-put_at, can_put_within}
 use Rattle.desk_rows.specs.Edit.{EditOf, outs, ins}
@@ -24,7 +24,9 @@ use Rattle.desk_rows.specs.Desk.{Desk, blank, good, rows_of, is_within_limits, c
 use Rattle.desk_rows.specs.Exchange.{is_apt, exchanged, fits, after}
 use Rattle.desk_rows.specs.AfterEdit.{desk_of, edit_of}
 use Rattle.desk_rows.specs.Laws.{Good, good_parts, good_order, Fits, fits_parts, after_fits, any_counts, is_in-append}
-use Rattle.desk_rows.proofs.Counts.{true_false, list_all-append, list_all-map, rows_count, any_count, witness, some_count, count_some}
+use Rattle.desk_rows.proofs.KindLemmas.{filter_length}
+use Rattle.desk_rows.proofs.Merging.{put_in_turn}
+use Rattle.desk_rows.proofs.Counts.{true_false, list_all-map, rows_count, any_count, witness, some_count, count_some}
 use Rattle.desk_rows.proofs.Keys.{same_key_is, its_key}
 
 -- ---- the tests, one after another
@@ -32,25 +34,25 @@ use Rattle.desk_rows.proofs.Keys.{same_key_is, its_key}
 abbrev pub apt_test : ℕ → List Member → List Row → List Placed → List Row → List Row → List Placed → List Row → List Row → Bool
 apt_test bridge ms os tm taken old pm put new =
     ((places_rise tm && can_take tm ms) && (places_rise pm && put_within (length ms - length tm) pm))
-    && ((in_order (taken ++ old) && (list_all (is_in os) taken && list_all (is_in os) old)) && in_order (put ++ new))
+    && ((are_apart taken old && (list_all (is_in os) old && list_all (is_in os) taken)) && (are_apart put new && have_same_keys old new))
 
 pub apt_tests : (bridge : ℕ) (ms : List Member) (os : List Row) (tm : List Placed) (taken old : List Row) (pm : List Placed) (put new : List Row) →
     is_apt (desk_of bridge ms os) (edit_of tm taken old pm put new) ≡ apt_test bridge ms os tm taken old pm put new
 unfolding is_apt
 apt_tests bridge ms os tm taken old pm put new =
-    (λ i. ((places_rise tm && can_take tm ms) && (places_rise pm && can_put pm (take_at tm ms))) && ((in_order (taken ++ old) && list_all-append (is_in os) taken old i) && in_order (put ++ new)))
+    (λ i. ((places_rise tm && can_take tm ms) && (places_rise pm && can_put pm (take_at tm ms))) && ((are_apart taken old && list_all-with_rows (is_in os) old taken i) && (are_apart put new && have_same_keys old new)))
     ∙ by (cases_Bool (can_take tm ms)) where
       rest : Bool
-      rest = (in_order (taken ++ old) && (list_all (is_in os) taken && list_all (is_in os) old)) && in_order (put ++ new)
+      rest = (are_apart taken old && (list_all (is_in os) old && list_all (is_in os) taken)) && (are_apart put new && have_same_keys old new)
 
       by : (can_take tm ms ≡ true) ⊎ (can_take tm ms ≡ false) →
-          ((places_rise tm && can_take tm ms) && (places_rise pm && can_put pm (take_at tm ms))) && ((in_order (taken ++ old) && (list_all (is_in os) taken && list_all (is_in os) old)) && in_order (put ++ new))
+          ((places_rise tm && can_take tm ms) && (places_rise pm && can_put pm (take_at tm ms))) && ((are_apart taken old && (list_all (is_in os) old && list_all (is_in os) taken)) && (are_apart put new && have_same_keys old new))
           ≡ apt_test bridge ms os tm taken old pm put new
       by (inl e) =
           let l = length-take_at tm ms e in
           let n : length (take_at tm ms) ≡ length ms - length tm = omega (arith, l) in
           let same = can_put_within pm (take_at tm ms) ∙ ap (λ n. put_within n pm) n in
-          λ i. ((places_rise tm && can_take tm ms) && (places_rise pm && same i)) && ((in_order (taken ++ old) && (list_all (is_in os) taken && list_all (is_in os) old)) && in_order (put ++ new))
+          λ i. ((places_rise tm && can_take tm ms) && (places_rise pm && same i)) && ((are_apart taken old && (list_all (is_in os) old && list_all (is_in os) taken)) && (are_apart put new && have_same_keys old new))
       by (inr e) = neither (places_rise tm) (can_take tm ms) _ _ _ e where
         neither : (a b x y r : Bool) → b ≡ false → (((a && b) && x) && r) ≡ (((a && b) && y) && r)
         neither true b x y r e = ap (λ z. (z && x) && r) e ∙ sym (ap (λ z. (z && y) && r) e)
@@ -60,10 +62,6 @@ pub taken_few : (tm : List Placed) (ms : List Member) → (places_rise tm && can
 taken_few tm ms h = let l = length-take_at tm ms (and_parts (places_rise tm) (can_take tm ms) h).1 in omega (arith, l)
 
 -- ---- how many rows there may be
-
-pub with_rows-append : (rs ts xs : List Row) → with_rows (rs ++ ts) xs ≡ with_rows ts (with_rows rs xs)
-with_rows-append [] ts xs = refl
-with_rows-append (r ∷ rs) ts xs = with_rows-append rs ts (with_row r xs)
 
 filter_count : (p : Row → Bool) (xs : List Row) → count_by p xs + length (filter (λ x. not (p x)) xs) ≡ length xs
 filter_count p [] = omega arith
@@ -117,13 +115,6 @@ each_has_its_own (x ∷ xs) ys h k each =
         | inl e ↦ absurd (true_false (sym (key_itself b) ∙ sym (ap (λ q. same_key b q) (same_key_is a b e)) ∙ h))
         | inr e ↦ e
       ]
-
-filter_length : (p : Row → Bool) (xs : List Row) → length (filter p xs) ≡ count_by p xs
-filter_length p [] = refl
-filter_length p (x ∷ xs) = by (p x) refl (filter_length p xs) where
-  by : (b : Bool) → p x ≡ b → length (filter p xs) ≡ count_by p xs → length (cond b (x ∷ filter p xs) (filter p xs)) ≡ count_by p (x ∷ xs)
-  by true e rest = let here : ◌≡◌ {A = ℕ} (cond (p x) 1 0) 1 = ap (λ b. cond b 1 0) e in omega (arith, rest, count_next p x xs, here)
-  by false e rest = let here : ◌≡◌ {A = ℕ} (cond (p x) 1 0) 0 = ap (λ b. cond b 1 0) e in omega (arith, rest, count_next p x xs, here)
 
 all_filter : (p : Row → Bool) (xs : List Row) → list_all p (filter p xs) ≡ true
 all_filter p xs = from_each p (filter p xs) (λ q one. (and_parts (is_in xs q) (p q) (sym (is_in-filter p q xs) ∙ one)).1)
@@ -218,10 +209,12 @@ few_rows d g =
 pub record Absorbs (bridge : ℕ) (ms : List Member) (os : List Row) (tm : List Placed) (taken old : List Row) (pm : List Placed) (put new : List Row) : Type 0 where
   pub can_take_first : can_take tm ms ≡ true
   pub can_put_then : can_put pm (take_at tm ms) ≡ true
+  pub orders : (in_order os ≡ true) × (in_order taken ≡ true) × (in_order old ≡ true) × (in_order put ≡ true) × (in_order new ≡ true)
   pub members_room : length (take_at tm ms) + length pm ≤ 1024
-  pub others_room : length (without_rows (taken ++ old) os) + (length put + length new) ≤ 10304
-  pub after_is : desk_of bridge (put_at pm (take_at tm ms)) (with_rows new (with_rows put (without_rows (taken ++ old) os))) ≡ after (desk_of bridge ms os) (edit_of tm taken old pm put new)
-  pub good_after : good (desk_of bridge (put_at pm (take_at tm ms)) (with_rows new (with_rows put (without_rows (taken ++ old) os)))) ≡ true
+  pub put_room : length (without_rows (with_rows old taken) os) + length put ≤ 10304
+  pub new_room : length (with_rows put (without_rows (with_rows old taken) os)) + length new ≤ 10304
+  pub after_is : desk_of bridge (put_at pm (take_at tm ms)) (with_rows new (with_rows put (without_rows (with_rows old taken) os))) ≡ after (desk_of bridge ms os) (edit_of tm taken old pm put new)
+  pub good_after : good (desk_of bridge (put_at pm (take_at tm ms)) (with_rows new (with_rows put (without_rows (with_rows old taken) os)))) ≡ true
 
 length-with_row : (r : Row) (xs : List Row) → length (with_row r xs) ≡ length xs + 1
 length-with_row r [] = refl
@@ -242,15 +235,24 @@ absorbs bridge ms os tm taken old pm put new k =
     let e = edit_of tm taken old pm put new in
     let f = fits_parts d e k in
     let members = put_at pm (take_at tm ms) in
-    let left = without_rows (taken ++ old) os in
-    let is : desk_of bridge members (with_rows new (with_rows put left)) ≡ exchanged d e = λ i. desk_of bridge members (sym (with_rows-append put new left) i) in
+    let left = without_rows (with_rows old taken) os in
+    let is : desk_of bridge members (with_rows new (with_rows put left)) ≡ exchanged d e = λ i. desk_of bridge members (sym (put_in_turn put new left f.apt.ins_apart) i) in
     let few = few_rows (exchanged d e) f.later in
-    let come = length-with_rows (put ++ new) left in
+    let come = length-with_rows (with_rows new put) left in
+    let both = length-with_rows new put in
+    let first = length-with_rows put left in
     record {
       can_take_first = f.apt.take;
       can_put_then = f.apt.put;
+      orders =
+          let outs = and_parts (in_order taken && in_order old) (list_all (λ y. key_is_new y taken) old) f.apt.outs_apart in
+          let ins = and_parts (in_order put && in_order new) (list_all (λ y. key_is_new y put) new) f.apt.ins_apart in
+          let goes = and_parts (in_order taken) (in_order old) outs.0 in
+          let comes = and_parts (in_order put) (in_order new) ins.0 in
+          (good_order d f.before, goes.0, goes.1, comes.0, comes.1);
       members_room = (let l = length-put_at pm (take_at tm ms) f.apt.put in omega (arith, few.0, l));
-      others_room = omega (arith, few.1, come, length-append put new);
+      put_room = omega (arith, few.1, come, both);
+      new_room = omega (arith, few.1, come, both, first);
       after_is = is ∙ sym (after_fits d e k);
       good_after = ap good is ∙ f.later;
     }

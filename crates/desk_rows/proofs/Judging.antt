@@ -1,5 +1,5 @@
 -- A desk after an edit is good exactly where it is judged so.
-use Rattle.std.proofs.Common.{◌≡◌, ℕ, ◌+◌, ◌-◌, ◌<◌, ◌≤◌, nat_lt, nat_eq, Bool, true, false, not, ◌&&◌, ◌||◌, List, [], ◌∷◌, ◌++◌, map, refl, sym, ap, ◌∙◌, inl, inr, arith}
+use Rattle.std.proofs.Common.{◌≡◌, ℕ, ◌+◌, ◌-◌, ◌<◌, ◌≤◌, nat_lt, nat_eq, Bool, true, false, not, ◌&&◌, ◌||◌, List, [], ◌∷◌, ◌++◌, map, refl, sym, ap, ◌∙◌, inl, inr, ◌⊎◌, arith}
 use Rattle.std.specs.Prelude.{count_by}
 use Rattle.std.specs.List.{list_any, list_all}
 use Rattle.std.proofs.lemmas.Bool.{and_parts, and_from, or_left, or_right, or_cases, cases_Bool}
@@ -15,16 +15,17 @@ use Rattle.desk_rows.specs.declared.claim.Claim.TheVariants as claims
 use Rattle.std.proofs.lemmas.List.Folds.{list_any-append}
 use Rattle.desk_rows.specs.Row.{same_row, key_of, has_key, makes, claims_of, names}
 use Rattle.desk_rows.specs.Equal.{key_itself, number_itself, address_itself}
-use Rattle.desk_rows.specs.Order.{precedes, in_order, is_in, with_row, with_rows, without_rows}
-use Rattle.desk_rows.specs.OrderLaws.{at_each, from_each, both_ways, list_all-with_rows, list_all-filter, list_all-with_row, in_order-filter, in_order-with_row, key_is_new}
+use Rattle.desk_rows.specs.Order.{precedes, in_order, key_is_new, is_in, with_rows, without_rows}
+use Rattle.desk_rows.specs.OrderLaws.{at_each, from_each, both_ways, is_in-without_rows, list_all-with_rows, list_all-filter, list_all-with_row, in_order-filter, with_rows_in_order}
 use Rattle.desk_rows.specs.Places.{take_at, put_at}
 use Rattle.desk_rows.specs.Edit.{EditOf, outs, ins}
 use Rattle.desk_rows.specs.Desk.{Desk, good, rows_of, is_listed, is_within_limits, is_named_there, is_made_once, is_bridges, is_alone, obeys}
 use Rattle.desk_rows.specs.Kinds.{is_of}
 use Rattle.desk_rows.specs.Exchange.{exchanged}
-use Rattle.desk_rows.specs.Laws.{Apt, Good, good_parts, good_from, good_order, one_key, any_counts, count_by-append, claims_key, is_in-append}
-use Rattle.desk_rows.specs.Judged.{takes, puts, keeps_names, all_come, all_stay, is_sound, stays_sound, judged}
+use Rattle.desk_rows.specs.Laws.{Apt, ins_order, Good, good_parts, good_from, good_order, one_key, any_counts, count_by-append, claims_key, is_in-append}
+use Rattle.desk_rows.specs.Judged.{takes, puts, keeps_names, all_come, all_stay, moves, is_shaken, is_sound, stays_sound, judged}
 use Rattle.desk_rows.proofs.Counts.{true_false, any_count, witness, stay_count, go_count, come_count, before_count, after_count, all_after, list_all-map, list_all-append, count_by-map, list_any-map, some_count, count_some, no_count}
+use Rattle.desk_rows.proofs.Unshaken.{unshaken}
 use Rattle.desk_rows.proofs.Keys.{same_key_is, its_key, one_precedes, claimed}
 
 -- ---- the rows that stay, those that go and those that come
@@ -105,20 +106,9 @@ comes_in : (e : EditOf) (r : Row) → is_in (ins e) r ≡ true → is_in (come_r
 unfolding come_rows
 comes_in e r one = is_in-append (map (λ p. Member p.row) e.put.members) (ins e) r ∙ or_right _ _ one
 
--- rows whose keys are new keep the order
-with_rows_in_order : (rs xs : List Row) → in_order xs ≡ true → in_order rs ≡ true → list_all (λ r. key_is_new r xs) rs ≡ true → in_order (with_rows rs xs) ≡ true
-with_rows_in_order [] xs h k new = h
-with_rows_in_order (r ∷ rs) xs h k new =
-    let order = and_parts (list_all (precedes r) rs) (in_order rs) k in
-    let news = and_parts (key_is_new r xs) (list_all (λ q. key_is_new q xs) rs) new in
-    with_rows_in_order rs (with_row r xs) (in_order-with_row r xs h news.0) order.1
-    (from_each (λ q. key_is_new q (with_row r xs)) rs (λ q one.
-    list_all-with_row (λ x. precedes q x || precedes x q) r xs
-    ∙ and_from _ _ (or_right _ _ (at_each (precedes r) rs q order.0 one)) (at_each (λ q. key_is_new q xs) rs q news.1 one)))
-
 others_in_order : (d : Desk) (e : EditOf) → in_order d.others ≡ true → Apt d e → list_all (λ r. key_is_new r (without_rows (outs e) d.others)) (ins e) ≡ true → in_order (exchanged d e).others ≡ true
 unfolding exchanged
-others_in_order d e h a new = with_rows_in_order (ins e) (without_rows (outs e) d.others) (in_order-filter (λ x. not (is_in (outs e) x)) d.others h) a.ins_order new
+others_in_order d e h a new = with_rows_in_order (ins e) (without_rows (outs e) d.others) (in_order-filter (λ x. not (is_in (outs e) x)) d.others h) (ins_order a) new
 
 plain_rows : (d : Desk) (e : EditOf) → list_all (λ r. not (is_of kinds.Member r)) d.others ≡ true →
     list_all (λ r. not (is_of kinds.Member r)) (exchanged d e).others ≡ list_all (λ r. not (is_of kinds.Member r)) (ins e)
@@ -143,13 +133,13 @@ sound_from : (d : Desk) (r : Row) → is_named_there d r ≡ true → is_alone d
 unfolding is_sound
 sound_from d r a b c = and_from _ _ a (and_from _ _ b c)
 
-stays_parts : (d : Desk) (e : EditOf) (r : Row) → stays_sound d e r ≡ true → (keeps_names e r ≡ true) × (obeys (exchanged d e) r ≡ true)
+stays_parts : (moved : Bool) (d : Desk) (e : EditOf) (r : Row) → stays_sound moved d e r ≡ true → (keeps_names e r ≡ true) × ((not (is_shaken moved d e r) || obeys (exchanged d e) r) ≡ true)
 unfolding stays_sound
-stays_parts d e r h = and_parts (keeps_names e r) (obeys (exchanged d e) r) h
+stays_parts moved d e r h = and_parts (keeps_names e r) (not (is_shaken moved d e r) || obeys (exchanged d e) r) h
 
-stays_from : (d : Desk) (e : EditOf) (r : Row) → keeps_names e r ≡ true → obeys (exchanged d e) r ≡ true → stays_sound d e r ≡ true
+stays_from : (moved : Bool) (d : Desk) (e : EditOf) (r : Row) → keeps_names e r ≡ true → obeys (exchanged d e) r ≡ true → stays_sound moved d e r ≡ true
 unfolding stays_sound
-stays_from d e r a b = and_from _ _ a b
+stays_from moved d e r a b = and_from _ _ a (or_right _ _ b)
 
 -- ---- given a good desk and an apt edit
 
@@ -245,27 +235,60 @@ module _ (d : Desk) (e : EditOf) (g : good d ≡ true) (a : Apt d e) where
   plain_later : list_all (λ r. not (is_of kinds.Member r)) (exchanged d e).others ≡ list_all (λ r. not (is_of kinds.Member r)) (ins e)
   plain_later = plain_rows d e (and_parts (in_order d.others) (list_all (λ r. not (is_of kinds.Member r)) d.others) (good_parts d g).listed).1
 
+  named_left : list_all (is_named_there d) (without_rows (outs e) d.others) ≡ true
+  named_left = from_each (is_named_there d) (without_rows (outs e) d.others) (λ r one.
+      at_each (is_named_there d) (rows_of d) r (good_parts d g).named
+      (is_in-append (map Member d.members) d.others r ∙ or_right _ _ (and_parts (is_in d.others r) (not (is_in (outs e) r)) (sym (is_in-without_rows (outs e) d.others r) ∙ one)).0))
+
+  keep_left : list_all (keeps_names e) (stay_rows d e) ≡ true → list_all (keeps_names e) (without_rows (outs e) d.others) ≡ true
+  unfolding stay_rows
+  keep_left h = (and_parts (list_all (keeps_names e) (map Member (take_at e.taken.members d.members))) (list_all (keeps_names e) (without_rows (outs e) d.others))
+      (sym (list_all-append (keeps_names e) (map Member (take_at e.taken.members d.members)) (without_rows (outs e) d.others)) ∙ h)).1
+
+  -- a row that stays obeys, since it is asked or nothing shakes it
+  obeys_still : list_all (λ r. not (is_of kinds.Member r)) (ins e) ≡ true → list_all (keeps_names e) (stay_rows d e) ≡ true → (r : Row) → is_in (stay_rows d e) r ≡ true →
+      (not (is_shaken (moves d e) d e r) || obeys (exchanged d e) r) ≡ true → obeys (exchanged d e) r ≡ true
+  obeys_still plain keep r one h = by (cases_Bool (is_shaken (moves d e) d e r)) (cases_Bool (moves d e)) where
+    before' : obeys d r ≡ true
+    before' = at_each (obeys d) (rows_of d) r (good_parts d g).obey (was_there r one)
+
+    asked : (a b : Bool) → (not a || b) ≡ true → a ≡ true → b ≡ true
+    asked true b h e = h
+    asked false b h e = absurd (true_false (sym e))
+
+    by : (is_shaken (moves d e) d e r ≡ true) ⊎ (is_shaken (moves d e) d e r ≡ false) → (moves d e ≡ true) ⊎ (moves d e ≡ false) → obeys (exchanged d e) r ≡ true
+    by (inl shaken) m = asked (is_shaken (moves d e) d e r) (obeys (exchanged d e) r) h shaken
+    by (inr calm) (inr still) = unshaken d e g a plain still named_left (keep_left keep) r (sym (ap (λ b. is_shaken b d e r) still) ∙ calm) before'
+    by (inr calm) (inl moved) = anyway r (sym (ap (λ b. is_shaken b d e r) moved) ∙ calm) before' where
+      anyway : (r : Row) → is_shaken true d e r ≡ false → obeys d r ≡ true → obeys (exchanged d e) r ≡ true
+      anyway (Room r) calm h = absurd (true_false calm)
+      anyway (Member m) calm h = h
+      anyway (Source s) calm h = h
+      anyway (Slot s) calm h = h
+      anyway (Sub s) calm h = absurd (true_false calm)
+
   pub judged_good : judged d e ≡ true → good (exchanged d e) ≡ true
   unfolding judged
   judged_good h =
       let d' = exchanged d e in
       let plain = list_all (λ r. not (is_of kinds.Member r)) (ins e) in
-      let both = and_parts (plain && is_within_limits d') (all_come (is_sound d') e && all_stay (stays_sound d e) d e) h in
+      let both = and_parts (plain && is_within_limits d') (all_come (is_sound d') e && all_stay (stays_sound (moves d e) d e) d e) h in
       let front = and_parts plain (is_within_limits d') both.0 in
-      let back = and_parts (all_come (is_sound d') e) (all_stay (stays_sound d e) d e) both.1 in
+      let back = and_parts (all_come (is_sound d') e) (all_stay (stays_sound (moves d e) d e) d e) both.1 in
       let come = sym (come_all (is_sound d') e) ∙ back.0 in
-      let stay = sym (stay_all (stays_sound d e) d e) ∙ back.1 in
+      let stay = sym (stay_all (stays_sound (moves d e) d e) d e) ∙ back.1 in
+      let keep = each_row (stays_sound (moves d e) d e) (keeps_names e) (stay_rows d e) (λ r one s. (stays_parts (moves d e) d e r s).0) stay in
       let alone = each_row (is_sound d') (is_alone d') (come_rows e) (λ r one s. (sound_parts d' r s).1) come in
       good_from d' record {
         listed = and_from _ _ (order_later alone) (plain_later ∙ front.0);
         within = front.1;
         named = all_later (is_named_there d') ∙ and_from _ _
             (each_row (is_sound d') (is_named_there d') (come_rows e) (λ r one s. (sound_parts d' r s).0) come)
-            (each_row (stays_sound d e) (is_named_there d') (stay_rows d e) (λ r one s. named_row r one ∙ (stays_parts d e r s).0) stay);
+            (each_row (keeps_names e) (is_named_there d') (stay_rows d e) (λ r one s. named_row r one ∙ s) keep);
         alone = all_later (is_alone d') ∙ and_from _ _ alone (from_each (is_alone d') (stay_rows d e) (still_alone alone));
         obey = all_later (obeys d') ∙ and_from _ _
             (each_row (is_sound d') (obeys d') (come_rows e) (λ r one s. (sound_parts d' r s).2) come)
-            (each_row (stays_sound d e) (obeys d') (stay_rows d e) (λ r one s. (stays_parts d e r s).1) stay);
+            (each_row (stays_sound (moves d e) d e) (obeys d') (stay_rows d e) (λ r one s. obeys_still front.0 keep r one (stays_parts (moves d e) d e r s).1) stay);
       }
 
   pub good_judged : good (exchanged d e) ≡ true → judged d e ≡ true
@@ -281,7 +304,7 @@ module _ (d : Desk) (e : EditOf) (g : good d ≡ true) (a : Apt d e) where
       (and_from _ _
       (come_all (is_sound d') e ∙ from_each (is_sound d') (come_rows e) (λ r one. sound_from d' r
       (at_each (is_named_there d') (come_rows e) r named.0 one) (at_each (is_alone d') (come_rows e) r alone.0 one) (at_each (obeys d') (come_rows e) r obey.0 one)))
-      (stay_all (stays_sound d e) d e ∙ from_each (stays_sound d e) (stay_rows d e) (λ r one. stays_from d e r
+      (stay_all (stays_sound (moves d e) d e) d e ∙ from_each (stays_sound (moves d e) d e) (stay_rows d e) (λ r one. stays_from (moves d e) d e r
       (sym (named_row r one) ∙ at_each (is_named_there d') (stay_rows d e) r named.1 one) (at_each (obeys d') (stay_rows d e) r obey.1 one))))
 
 -- after an apt edit a good desk is good exactly where it is judged so

@@ -1,31 +1,41 @@
--- The rows of one kind, one by one.
-use Rattle.std.proofs.Common.{◌≡◌, ℕ, zero, suc, ◌-◌, ◌<◌, ◌≤◌, Bool, true, false, cond, List, [], ◌∷◌, ◌++◌, map, filter, length, get_or, refl, sym, ap, ◌∙◌, arith, Some, None}
+-- The rows of one kind, and the row of a key.
+use Rattle.std.proofs.Common.{◌≡◌, ℕ, zero, suc, ◌+◌, ◌<◌, ◌≤◌, Bool, true, false, cond, not, append-nil, List, [], ◌∷◌, ◌++◌, map, filter, length, get_or, refl, sym, ap, ◌∙◌, arith, Some, None}
 use Rattle.std.specs.Prelude.{Option}
-use Rattle.std.specs.List.{slice_get}
+use Rattle.std.specs.Prelude.{count_by}
+use Rattle.std.specs.List.{find, list_all, slice_get}
+use Rattle.std.proofs.lemmas.Bool.{and_parts}
 use Rattle.desk_rows.specs.declared.row.Row.{Row}
 use Rattle.desk_rows.specs.declared.row.Row.TheVariants as rows
 use Rattle.desk_rows.specs.declared.row.Member.{Member}
 use Rattle.desk_rows.specs.declared.row.Kind.{Kind}
 use Rattle.desk_rows.specs.declared.row.Kind.TheVariants as kinds
+use Rattle.desk_rows.specs.declared.row.Key.{Key}
+use Rattle.desk_rows.specs.declared.row.Key.TheVariants as keys
+use Rattle.desk_rows.specs.Row.{has_key}
 use Rattle.desk_rows.specs.Kinds.{is_of}
+use Rattle.desk_rows.specs.Order.{in_order}
+use Rattle.desk_rows.specs.OrderLaws.{not_true}
+use Rattle.desk_rows.specs.PlaceLaws.{count_next}
+use Rattle.desk_rows.specs.Desk.{Desk, good}
+use Rattle.desk_rows.specs.Laws.{good_parts}
 
-pub members_first : (ms : List Member) (os : List Row) → filter (is_of kinds.Member) (map rows.Member ms ++ os) ≡ map rows.Member ms ++ filter (is_of kinds.Member) os
+members_first : (ms : List Member) (os : List Row) → filter (is_of kinds.Member) (map rows.Member ms ++ os) ≡ map rows.Member ms ++ filter (is_of kinds.Member) os
 members_first [] os = refl
 members_first (m ∷ ms) os = ap (λ rs. rows.Member m ∷ rs) (members_first ms os)
 
-pub members_skipped : (p : Row → Bool) → ((m : Member) → p (rows.Member m) ≡ false) → (ms : List Member) (os : List Row) → filter p (map rows.Member ms ++ os) ≡ filter p os
+no_members : (os : List Row) → list_all (λ r. not (is_of kinds.Member r)) os ≡ true → filter (is_of kinds.Member) os ≡ []
+no_members [] h = refl
+no_members (r ∷ os) h =
+    let both = and_parts (not (is_of kinds.Member r)) (list_all (λ r. not (is_of kinds.Member r)) os) h in
+    ap (λ b. cond b (r ∷ filter (is_of kinds.Member) os) (filter (is_of kinds.Member) os)) (not_true (is_of kinds.Member r) both.0) ∙ no_members os both.1
+
+-- the members of a good desk are its rows of that kind
+pub members_only : (ms : List Member) (os : List Row) → list_all (λ r. not (is_of kinds.Member r)) os ≡ true → filter (is_of kinds.Member) (map rows.Member ms ++ os) ≡ map rows.Member ms
+members_only ms os h = members_first ms os ∙ ap (λ rs. map rows.Member ms ++ rs) (no_members os h) ∙ append-nil (map rows.Member ms)
+
+members_skipped : (p : Row → Bool) → ((m : Member) → p (rows.Member m) ≡ false) → (ms : List Member) (os : List Row) → filter p (map rows.Member ms ++ os) ≡ filter p os
 members_skipped p none [] os = refl
 members_skipped p none (m ∷ ms) os = ap (λ b. cond b (rows.Member m ∷ filter p (map rows.Member ms ++ os)) (filter p (map rows.Member ms ++ os))) (none m) ∙ members_skipped p none ms os
-
-pub got : (xs rest : List Row) (i : ℕ) (r : Row) → slice_get xs i ≡ Some r → slice_get (xs ++ rest) i ≡ Some r
-got [] rest i r h = cc
-got (x ∷ xs) rest zero r h = h
-got (x ∷ xs) rest (suc i) r h = got xs rest i r h
-
-pub past : (ms : List Member) (rest : List Row) (i : ℕ) → length ms ≤ i → slice_get (map rows.Member ms ++ rest) i ≡ slice_get rest (i - length ms)
-past [] rest i h = let e : i - 0 ≡ i = omega arith in ap (slice_get rest) (sym e)
-past (m ∷ ms) rest zero h = absurd (omega arith)
-past (m ∷ ms) rest (suc i) h = let e : i - length ms ≡ suc i - length (m ∷ ms) = omega arith in past ms rest i (omega arith) ∙ ap (slice_get rest) e
 
 pub read_member : (ms : List Member) (i : ℕ) (d : Member) → i < length ms → Some (rows.Member (get_or ms i d)) ≡ slice_get (map rows.Member ms) i
 read_member [] i d h = absurd (omega arith)
@@ -43,3 +53,55 @@ others_only kinds.Room not ms os = members_skipped (is_of kinds.Room) (λ m. ref
 others_only kinds.Source not ms os = members_skipped (is_of kinds.Source) (λ m. refl) ms os
 others_only kinds.Slot not ms os = members_skipped (is_of kinds.Slot) (λ m. refl) ms os
 others_only kinds.Sub not ms os = members_skipped (is_of kinds.Sub) (λ m. refl) ms os
+
+pub plain_others : (d : Desk) → good d ≡ true → list_all (λ r. not (is_of kinds.Member r)) d.others ≡ true
+plain_others d g = (and_parts (in_order d.others) (list_all (λ r. not (is_of kinds.Member r)) d.others) (good_parts d g).listed).1
+
+-- ---- counts are lengths
+
+pub filter_length : (p : Row → Bool) (xs : List Row) → length (filter p xs) ≡ count_by p xs
+filter_length p [] = refl
+filter_length p (x ∷ xs) = by (p x) refl (filter_length p xs) where
+  by : (b : Bool) → p x ≡ b → length (filter p xs) ≡ count_by p xs → length (cond b (x ∷ filter p xs) (filter p xs)) ≡ count_by p (x ∷ xs)
+  by true e rest = let here : ◌≡◌ {A = ℕ} (cond (p x) 1 0) 1 = ap (λ b. cond b 1 0) e in omega (arith, rest, count_next p x xs, here)
+  by false e rest = let here : ◌≡◌ {A = ℕ} (cond (p x) 1 0) 0 = ap (λ b. cond b 1 0) e in omega (arith, rest, count_next p x xs, here)
+
+map_length : (ms : List Member) → length (map rows.Member ms) ≡ length ms
+map_length [] = refl
+map_length (m ∷ ms) = let rest = map_length ms in omega (arith, rest)
+
+pub members_counted : (ms : List Member) (os : List Row) → list_all (λ r. not (is_of kinds.Member r)) os ≡ true → length ms ≡ count_by (is_of kinds.Member) (map rows.Member ms ++ os)
+members_counted ms os h =
+    let all = ap length (members_only ms os h) in
+    omega (arith, all, filter_length (is_of kinds.Member) (map rows.Member ms ++ os), map_length ms)
+
+pub others_counted : (kind : Kind) → (kind ≡ kinds.Member → ⊥) → (ms : List Member) (os : List Row) → length (filter (is_of kind) os) ≡ count_by (is_of kind) (map rows.Member ms ++ os)
+others_counted kind not ms os = sym (ap length (others_only kind not ms os)) ∙ filter_length (is_of kind) (map rows.Member ms ++ os)
+
+-- ---- rows found
+
+pub found_first : (p : Row → Bool) (xs ys : List Row) (r : Row) → find p xs ≡ Some r → find p (xs ++ ys) ≡ Some r
+found_first p [] ys r h = cc
+found_first p (x ∷ xs) ys r h = by (p x) refl h (found_first p xs ys r) where
+  by : (b : Bool) → p x ≡ b → cond b (Some x) (find p xs) ≡ Some r → (find p xs ≡ Some r → find p (xs ++ ys) ≡ Some r) → cond b (Some x) (find p (xs ++ ys)) ≡ Some r
+  by true e h rest = h
+  by false e h rest = rest h
+
+pub found_later : (p : Row → Bool) (xs ys : List Row) → find p xs ≡ None → find p (xs ++ ys) ≡ find p ys
+found_later p [] ys h = refl
+found_later p (x ∷ xs) ys h = by (p x) h (found_later p xs ys) where
+  by : (b : Bool) → cond b (Some x) (find p xs) ≡ None → (find p xs ≡ None → find p (xs ++ ys) ≡ find p ys) → cond b (Some x) (find p (xs ++ ys)) ≡ find p ys
+  by true h rest = cc
+  by false h rest = rest h
+
+-- only the key of a member is a member's
+pub skipped : (key : Key) → ((n : ℕ) → key ≡ keys.Member n → ⊥) → (ms : List Member) (os : List Row) → find (has_key key) (map rows.Member ms ++ os) ≡ find (has_key key) os
+skipped (keys.Member n) not ms os = absurd (not n refl)
+skipped (keys.Room n) not [] os = refl
+skipped (keys.Room n) not (m ∷ ms) os = skipped (keys.Room n) not ms os
+skipped (keys.Source n) not [] os = refl
+skipped (keys.Source n) not (m ∷ ms) os = skipped (keys.Source n) not ms os
+skipped (keys.Slot n) not [] os = refl
+skipped (keys.Slot n) not (m ∷ ms) os = skipped (keys.Slot n) not ms os
+skipped (keys.Sub n) not [] os = refl
+skipped (keys.Sub n) not (m ∷ ms) os = skipped (keys.Sub n) not ms os

@@ -1,5 +1,8 @@
 pub mod Counts
+pub mod Merging
 pub mod Keys
+pub mod Halving
+pub mod Unshaken
 pub mod Judging
 pub mod AfterLemmas
 pub mod Loops

@@ -1,13 +1,12 @@
 -- Steps of loops over rows.
-use Rattle.std.proofs.Common.{◌≡◌, ℕ, zero, suc, ◌+◌, ◌<◌, ◌≤◌, ◌⊎◌, inl, inr, Bool, true, false, cond, not, ◌&&◌, ◌||◌, List, [], ◌∷◌, ◌++◌, length, get_or, insert, refl, sym, ap, ◌∙◌, arith}
+use Rattle.std.proofs.Common.{◌≡◌, ℕ, zero, suc, ◌+◌, ◌<◌, ◌≤◌, ◌⊎◌, inl, inr, Bool, true, false, cond, not, ◌&&◌, ◌||◌, List, [], ◌∷◌, ◌++◌, length, get_or, insert, nat_eq, refl, sym, ap, ◌∙◌, arith}
 use Rattle.std.specs.List.{list_all, list_any, remove}
 use Rattle.std.proofs.lemmas.Bool.{and_parts, and_from, cases_Bool}
-use Rattle.desk_rows.specs.Row.{same_member}
+use Rattle.desk_rows.specs.Row.{key_of, same_key, same_member}
 use Rattle.desk_rows.specs.Places.{take_at, can_take, is_at}
 use Rattle.desk_rows.specs.PlaceLaws.{at_within}
-use Rattle.desk_rows.specs.Order.{precedes, precedes_head, in_order, is_in, with_row, without_rows}
-use Rattle.desk_rows.specs.OrderLaws.{at_each, from_each, precedes_on}
-use Rattle.desk_rows.specs.Laws.{is_in-append}
+use Rattle.desk_rows.specs.Order.{precedes, precedes_head, in_order, have_same_keys, is_in, with_rows}
+use Rattle.desk_rows.specs.OrderLaws.{at_each, from_each, precedes_on, is_in-with_rows}
 use Rattle.desk_rows.specs.declared.row.Member.{Member}
 use Rattle.desk_rows.specs.declared.row.Row.{Row}
 use Rattle.desk_rows.specs.declared.edit.Placed.{Placed}
@@ -42,10 +41,6 @@ and_false : (a b : Bool) → b ≡ false → (a && b) ≡ false
 and_false true b e = e
 and_false false b e = refl
 
-and_assoc : (a b c : Bool) → (a && (b && c)) ≡ ((a && b) && c)
-and_assoc true b c = refl
-and_assoc false b c = refl
-
 -- a row that stands before the first stands before all
 pub in_order_next : (r : Row) (rs : List Row) → precedes_head r rs ≡ true → in_order (r ∷ rs) ≡ in_order rs
 in_order_next r [] h = refl
@@ -63,28 +58,20 @@ not_in_order r [] h = sym (cc_no h) where
   cc_no e = cc
 not_in_order r (x ∷ xs) h = ap (λ b. (b && list_all (precedes r) xs) && in_order (x ∷ xs)) h
 
-pub in_order-append : (xs ys : List Row) → in_order (xs ++ ys) ≡ ((in_order xs && in_order ys) && list_all (λ r. list_all (precedes r) ys) xs)
-in_order-append [] ys = grind arith
-in_order-append (x ∷ xs) ys =
-    (λ i. list_all-both x i && in_order-append xs ys i) ∙ turned (list_all (precedes x) xs) (list_all (precedes x) ys) (in_order xs) (in_order ys) _ where
-      list_all-both : (x : Row) → list_all (precedes x) (xs ++ ys) ≡ (list_all (precedes x) xs && list_all (precedes x) ys)
-      list_all-both x = along xs where
-        along : (zs : List Row) → list_all (precedes x) (zs ++ ys) ≡ (list_all (precedes x) zs && list_all (precedes x) ys)
-        along [] = refl
-        along (z ∷ zs) = ap (λ b. precedes x z && b) (along zs) ∙ and_assoc (precedes x z) _ _
-
-      turned : (a b c d e : Bool) → ((a && b) && ((c && d) && e)) ≡ (((a && c) && d) && (b && e))
-      turned a b c d e = grind arith
-
--- a place found behind the first row
-pub place_later : (r x : Row) (xs : List Row) (n : ℕ) → precedes r x ≡ false → insert xs n r ≡ with_row r xs → insert (x ∷ xs) (suc n) r ≡ with_row r (x ∷ xs)
-place_later r x xs n e h = ap (λ ys. x ∷ ys) h ∙ sym (ap (λ b. cond b (r ∷ x ∷ xs) (x ∷ with_row r xs)) e)
-
-pub place_here : (r x : Row) (xs : List Row) → precedes r x ≡ true → insert (x ∷ xs) 0 r ≡ with_row r (x ∷ xs)
-place_here r x xs e = sym (ap (λ b. cond b (r ∷ x ∷ xs) (x ∷ with_row r xs)) e)
-
-pub neither_in : (taken old : List Row) (r : Row) → (not (is_in taken r) && not (is_in old r)) ≡ not (is_in (taken ++ old) r)
-neither_in taken old r = turned (is_in taken r) (is_in old r) ∙ ap not (sym (is_in-append taken old r)) where
+pub neither_in : (taken old : List Row) (r : Row) → (not (is_in old r) && not (is_in taken r)) ≡ not (is_in (with_rows old taken) r)
+neither_in taken old r = turned (is_in old r) (is_in taken r) ∙ ap not (sym (is_in-with_rows old taken r)) where
   turned : (a b : Bool) → (not a && not b) ≡ not (a || b)
   turned true b = refl
   turned false b = refl
+
+-- ---- pairs
+
+pub pairs_next : (x y : Row) (xs ys : List Row) → same_key (key_of x) (key_of y) ≡ true → have_same_keys (x ∷ xs) (y ∷ ys) ≡ have_same_keys xs ys
+pairs_next x y xs ys e = ap (λ b. b && have_same_keys xs ys) e
+
+pub pairs_differ : (x y : Row) (xs ys : List Row) → same_key (key_of x) (key_of y) ≡ false → have_same_keys (x ∷ xs) (y ∷ ys) ≡ false
+pairs_differ x y xs ys e = ap (λ b. b && have_same_keys xs ys) e
+
+pub none_left : (ys : List Row) → nat_eq (length ys) 0 ≡ have_same_keys [] ys
+none_left [] = refl
+none_left (y ∷ ys) = grind arith

@@ -1,11 +1,11 @@
 -- What the view of an edited desk stands for. No public clause cites it.
-use Rattle.std.specs.Prelude.{ℕ, Bool}
+use Rattle.std.specs.Prelude.{Bool}
 use Rattle.desk_rows.specs.declared.after.After.{After}
 use Rattle.desk_rows.specs.declared.after.Sought.{Sought}
-use Rattle.desk_rows.specs.declared.after.Sought.TheVariants.{Audio, Video, Slot}
+use Rattle.desk_rows.specs.declared.after.Sought.TheVariants.{Audio, Video}
 use Rattle.desk_rows.specs.declared.row.Row.{Row}
 use Rattle.desk_rows.specs.Edit.{EditOf}
-use Rattle.desk_rows.specs.Desk.{Desk, is_audio_in, is_video_in, is_slot_in}
+use Rattle.desk_rows.specs.Desk.{Desk, is_audio_in, is_video_beside}
 use Rattle.desk_rows.specs.Exchange.{exchanged}
 use Rattle.desk_rows.specs.AfterEdit.{desk_of, edit_of}
 
@@ -18,8 +18,7 @@ edit_in x = edit_of x.taken_members.now x.taken.now x.old.now x.put_members.now 
 unfoldable pub desk_after : After → Desk
 desk_after x = exchanged (before_of x) (edit_in x)
 
--- what is looked for in a room
-abbrev pub is_sought : Sought → Desk → ℕ → Row → Bool
-is_sought Audio d room r = is_audio_in d room r
-is_sought (Video ssrc) d room r = is_video_in d room ssrc r
-is_sought (Slot out_ssrc) d room r = is_slot_in d room out_ssrc r
+-- what is looked for among the sources
+abbrev pub is_sought : Sought → Desk → Row → Bool
+is_sought (Audio room) d r = is_audio_in d room r
+is_sought (Video member ssrc) d r = is_video_beside d member ssrc r

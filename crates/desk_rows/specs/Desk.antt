@@ -48,6 +48,10 @@ rows_of_kind kind d = filter (is_of kind) (rows_of d)
 abbrev pub count_of : Kind → Desk → ℕ
 count_of kind d = count_by (is_of kind) (rows_of d)
 
+-- the numbers of a room's members in joining order
+abbrev pub roster : Desk → ℕ → List ℕ
+roster d room = map (λ m. m.member) (filter (λ m. nat_eq m.room room) d.members)
+
 -- ---- what makes a desk good
 
 -- what each row names is there
@@ -76,28 +80,27 @@ abbrev pub is_audio_in : Desk → ℕ → Row → Bool
 is_audio_in d room (rows.Source s) = same_media s.media Audio && is_member_in d s.member room
 is_audio_in d room _ = false
 
--- the video source of this SSRC, of a member of the room
-abbrev pub is_video_in : Desk → ℕ → ℕ → Row → Bool
-is_video_in d room ssrc (rows.Source s) = (nat_eq s.ssrc ssrc && same_media s.media Video) && is_member_in d s.member room
-is_video_in d room ssrc _ = false
+-- the two members are in one room
+abbrev pub share_room : Desk → ℕ → ℕ → Bool
+share_room d a b = list_any (λ m. nat_eq m.member a && is_member_in d b m.room) d.members
 
--- the slot of this SSRC, of a member of the room
-abbrev pub is_slot_in : Desk → ℕ → ℕ → Row → Bool
-is_slot_in d room out_ssrc (rows.Slot s) = nat_eq s.out_ssrc out_ssrc && is_member_in d s.member room
-is_slot_in d room out_ssrc _ = false
+-- the video source of this SSRC, of a member in one room with this one
+abbrev pub is_video_beside : Desk → ℕ → ℕ → Row → Bool
+is_video_beside d member ssrc (rows.Source s) = (nat_eq s.ssrc ssrc && same_media s.media Video) && share_room d member s.member
+is_video_beside d member ssrc _ = false
 
--- a room that has both this slot and this video source
-abbrev pub is_room_of_both : Desk → ℕ → ℕ → Row → Bool
-is_room_of_both d out_ssrc source (rows.Room r) = list_any (is_slot_in d r.room out_ssrc) d.others && list_any (is_video_in d r.room source) d.others
-is_room_of_both d out_ssrc source _ = false
+-- the slot of this SSRC, of a member in one room with that of this video source
+abbrev pub is_slot_beside : Desk → ℕ → ℕ → Row → Bool
+is_slot_beside d out_ssrc source (rows.Slot s) = nat_eq s.out_ssrc out_ssrc && list_any (is_video_beside d s.member source) d.others
+is_slot_beside d out_ssrc source _ = false
 
--- the rules of each kind: few audio sources in a room; a port; a place among 16; a slot and a video source that are in one room
+-- the rules of each kind: few audio sources in a room; a port; a place among 16; a slot and a video source of members in one room
 abbrev pub obeys : Desk → Row → Bool
 obeys d (rows.Room r) = nat_le (count_by (is_audio_in d r.room) d.others) MAX_ROOM_AUDIO
 obeys d (rows.Member m) = not (nat_eq m.address.port 0)
 obeys d (rows.Source s) = true
 obeys d (rows.Slot s) = nat_le s.index MAX_INDEX
-obeys d (rows.Sub s) = list_any (is_room_of_both d s.out_ssrc s.source) d.others
+obeys d (rows.Sub s) = list_any (is_slot_beside d s.out_ssrc s.source) d.others
 
 -- no table is over its limit; subs have the keys of slots, so there are no more of them
 abbrev pub is_within_limits : Desk → Bool

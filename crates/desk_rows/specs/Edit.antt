@@ -1,7 +1,8 @@
 -- Edits of a desk.
-use Rattle.std.specs.Prelude.{List, ◌++◌}
+use Rattle.std.specs.Prelude.{List}
 use Rattle.desk_rows.specs.declared.row.Row.{Row}
 use Rattle.desk_rows.specs.declared.edit.Placed.{Placed}
+use Rattle.desk_rows.specs.Order.{with_rows}
 
 -- rows that an edit takes or puts: members with their places, and other rows
 pub record PartOf : Type 0 where
@@ -23,10 +24,10 @@ pub record EditOf : Type 0 where
 abbrev pub inverse : EditOf → EditOf
 inverse e = record { taken = e.put; put = e.taken; replaced = record { old = e.replaced.new; new = e.replaced.old } }
 
--- the other rows that go
+-- the other rows that go, in order
 abbrev pub outs : EditOf → List Row
-outs e = e.taken.others ++ e.replaced.old
+outs e = with_rows e.replaced.old e.taken.others
 
--- the other rows that come
+-- the other rows that come, in order
 abbrev pub ins : EditOf → List Row
-ins e = e.put.others ++ e.replaced.new
+ins e = with_rows e.replaced.new e.put.others

@@ -1,16 +1,17 @@
 -- How the desk after an edit is judged by the rows that come and by those that the edit touches, given that the desk
 -- before it is good. No public clause cites this.
-use Rattle.std.specs.Prelude.{Bool, ◌&&◌, ◌||◌, not, List}
+use Rattle.std.specs.Prelude.{Bool, false, ◌&&◌, ◌||◌, not, nat_eq, List}
 use Rattle.std.specs.List.{list_any, list_all}
 use Rattle.desk_rows.specs.declared.row.Row.{Row}
-use Rattle.desk_rows.specs.declared.row.Row.TheVariants.{Member}
+use Rattle.desk_rows.specs.declared.row.Row.TheVariants.{Room, Member, Sub}
 use Rattle.desk_rows.specs.declared.row.Key.{Key}
+use Rattle.desk_rows.specs.declared.row.Key.TheVariants as keys
 use Rattle.desk_rows.specs.declared.row.Kind.TheVariants as kinds
 use Rattle.desk_rows.specs.Row.{has_key, names}
 use Rattle.desk_rows.specs.Order.{without_rows}
 use Rattle.desk_rows.specs.Places.{take_at}
-use Rattle.desk_rows.specs.Edit.{EditOf, PartOf, outs, ins}
-use Rattle.desk_rows.specs.Desk.{Desk, is_within_limits, is_named_there, is_alone, obeys}
+use Rattle.desk_rows.specs.Edit.{EditOf, outs, ins}
+use Rattle.desk_rows.specs.Desk.{Desk, is_within_limits, is_named_there, is_alone, is_audio_in, obeys}
 use Rattle.desk_rows.specs.Kinds.{is_of}
 use Rattle.desk_rows.specs.Exchange.{exchanged}
 
@@ -38,11 +39,21 @@ all_stay q d e = list_all (λ m. q (Member m)) (take_at e.taken.members d.member
 unfoldable pub is_sound : Desk → Row → Bool
 is_sound d r = is_named_there d r && (is_alone d r && obeys d r)
 
--- a row that stays is sound in the new desk
-unfoldable pub stays_sound : Desk → EditOf → Row → Bool
-stays_sound d e r = keeps_names e r && obeys (exchanged d e) r
+-- a member comes into another room than it was in
+abbrev pub moves : Desk → EditOf → Bool
+moves d e = list_any (λ p. list_any (λ m. nat_eq m.member p.row.member && not (nat_eq m.room p.row.room)) d.members) e.put.members
+
+-- what the rule of a row that stays looks at may have changed: a member moves, audio comes into a room, or a row that a sub names is taken
+abbrev pub is_shaken : Bool → Desk → EditOf → Row → Bool
+is_shaken moved d e (Room r) = moved || list_any (is_audio_in (exchanged d e) r.room) (ins e)
+is_shaken moved d e (Sub s) = moved || (takes e (keys.Slot s.out_ssrc) || takes e (keys.Source s.source))
+is_shaken moved d e _ = false
+
+-- a row that stays is sound in the new desk: only where it is shaken is its rule asked for again
+unfoldable pub stays_sound : Bool → Desk → EditOf → Row → Bool
+stays_sound moved d e r = keeps_names e r && (not (is_shaken moved d e r) || obeys (exchanged d e) r)
 
 unfoldable pub judged : Desk → EditOf → Bool
 judged d e =
     (list_all (λ r. not (is_of kinds.Member r)) (ins e) && is_within_limits (exchanged d e))
-    && (all_come (is_sound (exchanged d e)) e && all_stay (stays_sound d e) d e)
+    && (all_come (is_sound (exchanged d e)) e && all_stay (stays_sound (moves d e) d e) d e)

@@ -10,8 +10,8 @@ use Rattle.desk_rows.specs.declared.claim.Claim.TheVariants as claims
 use Rattle.desk_rows.specs.declared.row.Member.{Member as MemberRow}
 use Rattle.desk_rows.specs.Row.{has_key, key_of, makes, claims_of, same_row}
 use Rattle.desk_rows.specs.Equal.{same_row_is, row_itself, key_itself}
-use Rattle.desk_rows.specs.Order.{in_order, is_in, with_rows, without_rows}
-use Rattle.desk_rows.specs.OrderLaws.{at_each, from_each, is_in-with_rows, is_in-without_rows, count_by-with_rows, without_rows-with_rows, with_rows-without_rows}
+use Rattle.desk_rows.specs.Order.{in_order, are_apart, have_same_keys, is_in, with_rows, without_rows}
+use Rattle.desk_rows.specs.OrderLaws.{at_each, from_each, is_in-with_rows, is_in-without_rows, count_by-with_rows, without_rows-with_rows, with_rows-without_rows, apart_in_order, same_keys_turned}
 use Rattle.desk_rows.specs.Places.{take_at, put_at, can_take, can_put, places_rise}
 use Rattle.desk_rows.specs.PlaceLaws.{take_at-put_at, put_at-take_at, can_take-put_at, can_put-take_at, count_next}
 use Rattle.desk_rows.specs.Edit.{EditOf, inverse, outs, ins}
@@ -25,29 +25,38 @@ pub record Apt (d : Desk) (e : EditOf) : Type 0 where
   pub take : can_take e.taken.members d.members ≡ true
   pub put_rise : places_rise e.put.members ≡ true
   pub put : can_put e.put.members (take_at e.taken.members d.members) ≡ true
-  pub outs_order : in_order (outs e) ≡ true
+  pub outs_apart : are_apart e.taken.others e.replaced.old ≡ true
   pub outs_there : list_all (is_in d.others) (outs e) ≡ true
-  pub ins_order : in_order (ins e) ≡ true
+  pub ins_apart : are_apart e.put.others e.replaced.new ≡ true
+  pub paired : have_same_keys e.replaced.old e.replaced.new ≡ true
+
+pub outs_order : {d : Desk} {e : EditOf} → Apt d e → in_order (outs e) ≡ true
+outs_order {d} {e} a = apart_in_order e.taken.others e.replaced.old a.outs_apart
+
+pub ins_order : {d : Desk} {e : EditOf} → Apt d e → in_order (ins e) ≡ true
+ins_order {d} {e} a = apart_in_order e.put.others e.replaced.new a.ins_apart
 
 pub apt_parts : (d : Desk) (e : EditOf) → is_apt d e ≡ true → Apt d e
 unfolding is_apt
 apt_parts d e h =
     let takes = places_rise e.taken.members && can_take e.taken.members d.members in
     let puts = places_rise e.put.members && can_put e.put.members (take_at e.taken.members d.members) in
-    let goes = in_order (outs e) && list_all (is_in d.others) (outs e) in
-    let both = and_parts (takes && puts) (goes && in_order (ins e)) h in
+    let goes = are_apart e.taken.others e.replaced.old && list_all (is_in d.others) (outs e) in
+    let comes = are_apart e.put.others e.replaced.new && have_same_keys e.replaced.old e.replaced.new in
+    let both = and_parts (takes && puts) (goes && comes) h in
     let lists = and_parts takes puts both.0 in
     let one = and_parts (places_rise e.taken.members) (can_take e.taken.members d.members) lists.0 in
     let two = and_parts (places_rise e.put.members) (can_put e.put.members (take_at e.taken.members d.members)) lists.1 in
-    let rows = and_parts goes (in_order (ins e)) both.1 in
-    let three = and_parts (in_order (outs e)) (list_all (is_in d.others) (outs e)) rows.0 in
-    record { take_rise = one.0; take = one.1; put_rise = two.0; put = two.1; outs_order = three.0; outs_there = three.1; ins_order = rows.1 }
+    let rows = and_parts goes comes both.1 in
+    let three = and_parts (are_apart e.taken.others e.replaced.old) (list_all (is_in d.others) (outs e)) rows.0 in
+    let four = and_parts (are_apart e.put.others e.replaced.new) (have_same_keys e.replaced.old e.replaced.new) rows.1 in
+    record { take_rise = one.0; take = one.1; put_rise = two.0; put = two.1; outs_apart = three.0; outs_there = three.1; ins_apart = four.0; paired = four.1 }
 
 pub apt_from : (d : Desk) (e : EditOf) → Apt d e → is_apt d e ≡ true
 unfolding is_apt
 apt_from d e a =
     and_from _ _ (and_from _ _ (and_from _ _ a.take_rise a.take) (and_from _ _ a.put_rise a.put))
-    (and_from _ _ (and_from _ _ a.outs_order a.outs_there) a.ins_order)
+    (and_from _ _ (and_from _ _ a.outs_apart a.outs_there) (and_from _ _ a.ins_apart a.paired))
 
 pub record Good (d : Desk) : Type 0 where
   pub listed : is_listed d ≡ true
@@ -158,7 +167,7 @@ exchanged_back d e f =
     ap (put_at e.taken.members) (take_at-put_at e.put.members (take_at e.taken.members d.members) a.put) ∙ put_at-take_at e.taken.members d.members a.take in
     let others : with_rows (ins (inverse e)) (without_rows (outs (inverse e)) (with_rows (ins e) left)) ≡ d.others =
     ap (with_rows (outs e)) (without_rows-with_rows (ins e) left (none_was_there d e f.later))
-    ∙ with_rows-without_rows (outs e) d.others (good_order d f.before) a.outs_order a.outs_there in
+    ∙ with_rows-without_rows (outs e) d.others (good_order d f.before) (outs_order a) a.outs_there in
     λ i. record { bridge_ssrc = d.bridge_ssrc; members = members i; others = others i }
 
 pub apt_back : (d : Desk) (e : EditOf) → Fits d e → Apt (exchanged d e) (inverse e)
@@ -172,9 +181,10 @@ apt_back d e f =
       take = can_take-put_at e.put.members (take_at e.taken.members d.members) a.put;
       put_rise = a.take_rise;
       put = ap (can_put e.taken.members) rest ∙ can_put-take_at e.taken.members d.members a.take;
-      outs_order = a.ins_order;
+      outs_apart = a.ins_apart;
       outs_there = from_each (is_in (with_rows (ins e) left)) (ins e) (λ q one. is_in-with_rows (ins e) left q ∙ or_left _ _ one);
-      ins_order = a.outs_order;
+      ins_apart = a.outs_apart;
+      paired = same_keys_turned e.replaced.old e.replaced.new a.paired;
     }
 
 pub after_fits : (d : Desk) (e : EditOf) → fits d e ≡ true → after d e ≡ exchanged d e

@@ -1,9 +1,9 @@
 -- The one order of rows: by kind, and within a kind by key.
-use Rattle.std.specs.Prelude.{Bool, true, ◌&&◌, ◌||◌, not, List, [], ◌∷◌, ◌++◌, filter, nat_eq, nat_lt, if◌then◌else◌}
+use Rattle.std.specs.Prelude.{Bool, true, false, ◌&&◌, ◌||◌, not, List, [], ◌∷◌, filter, nat_eq, nat_lt, if◌then◌else◌}
 use Rattle.std.specs.List.{list_any, list_all}
 use Rattle.desk_rows.specs.declared.row.Row.{Row}
 use Rattle.desk_rows.specs.declared.row.Key.{Key}
-use Rattle.desk_rows.specs.Row.{rank, number, key_of, same_row}
+use Rattle.desk_rows.specs.Row.{rank, number, key_of, same_key, same_row}
 
 -- whether a key stands before another
 abbrev pub key_precedes : Key → Key → Bool
@@ -21,6 +21,20 @@ in_order (r ∷ rs) = list_all (precedes r) rs && in_order rs
 abbrev pub precedes_head : Row → List Row → Bool
 precedes_head r [] = true
 precedes_head r (x ∷ xs) = precedes r x
+
+-- the row stands before or behind each of these, so none has its key
+abbrev pub key_is_new : Row → List Row → Bool
+key_is_new r xs = list_all (λ x. precedes r x || precedes x r) xs
+
+-- two lists in order without a key in common
+abbrev pub are_apart : List Row → List Row → Bool
+are_apart xs ys = (in_order xs && in_order ys) && list_all (λ y. key_is_new y xs) ys
+
+-- two lists pair rows of one key
+abbrev pub have_same_keys : List Row → List Row → Bool
+have_same_keys [] [] = true
+have_same_keys (x ∷ xs) (y ∷ ys) = same_key (key_of x) (key_of y) && have_same_keys xs ys
+have_same_keys _ _ = false
 
 -- whether the row is among these
 abbrev pub is_in : List Row → Row → Bool

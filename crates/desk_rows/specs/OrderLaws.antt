@@ -4,11 +4,12 @@ use Rattle.std.specs.List.{list_any, list_all}
 use Rattle.std.proofs.Common.{sym, ap, ◌∙◌, inl, inr, arith}
 use Rattle.std.proofs.lemmas.Bool.{and_parts, and_from, or_left, or_right, or_cases, cases_Bool, and_left, and_right}
 use borrow.Author.Tests.{eqb-true, eq-eqb}
-use Rattle.desk_rows.specs.Row.{key_of, rank, number, same_row}
-use Rattle.desk_rows.specs.Order.{precedes, in_order, is_in, with_row, with_rows, without_rows}
+use Rattle.desk_rows.specs.Row.{key_of, rank, number, same_key, same_row}
+use Rattle.desk_rows.specs.Order.{key_precedes, precedes, in_order, key_is_new, are_apart, have_same_keys, is_in, with_row, with_rows, without_rows}
 use Rattle.desk_rows.specs.Equal.{same_row_is, row_itself}
 use Rattle.desk_rows.specs.PlaceLaws.{count_next}
 use Rattle.desk_rows.specs.declared.row.Row.{Row}
+use Rattle.desk_rows.specs.declared.row.Key.{Key}
 
 -- ---- tests
 
@@ -61,15 +62,15 @@ on_numbers ra na rb nb rc nc (inl e) (inr f) = inl (omega arith)
 on_numbers ra na rb nb rc nc (inr e) (inl f) = inl (omega arith)
 on_numbers ra na rb nb rc nc (inr e) (inr f) = inr (omega arith, omega arith)
 
-pub precedes_on : (a b c : Row) → precedes a b ≡ true → precedes b c ≡ true → precedes a c ≡ true
-precedes_on a b c e f =
-    let x = key_of a in
-    let y = key_of b in
-    let z = key_of c in
+pub keys_precede_on : (x y z : Key) → key_precedes x y ≡ true → key_precedes y z ≡ true → key_precedes x z ≡ true
+keys_precede_on x y z e f =
     stands_before_from (rank x) (number x) (rank z) (number z)
     (on_numbers (rank x) (number x) (rank y) (number y) (rank z) (number z)
     (stands_before_is (rank x) (number x) (rank y) (number y) e)
     (stands_before_is (rank y) (number y) (rank z) (number z) f))
+
+pub precedes_on : (a b c : Row) → precedes a b ≡ true → precedes b c ≡ true → precedes a c ≡ true
+precedes_on a b c e f = keys_precede_on (key_of a) (key_of b) (key_of c) e f
 
 -- a row that stands before another is not the other
 pub before_other : (a b : Row) → precedes a b ≡ true → same_row a b ≡ false
@@ -127,13 +128,6 @@ or_swap true true c = refl
 or_swap true false c = refl
 or_swap false b c = refl
 
-pub is_in-with_row : (r : Row) (xs : List Row) (q : Row) → is_in (with_row r xs) q ≡ (same_row q r || is_in xs q)
-is_in-with_row r [] q = refl
-is_in-with_row r (x ∷ xs) q = by (precedes r x) (is_in-with_row r xs q) where
-  by : (b : Bool) → is_in (with_row r xs) q ≡ (same_row q r || is_in xs q) → is_in (cond b (r ∷ x ∷ xs) (x ∷ with_row r xs)) q ≡ (same_row q r || (same_row q x || is_in xs q))
-  by true rest = refl
-  by false rest = ap (λ b. same_row q x || b) rest ∙ or_swap (same_row q r) (same_row q x) (is_in xs q)
-
 pub count_by-with_row : (p : Row → Bool) (r : Row) (xs : List Row) → count_by p (with_row r xs) ≡ cond (p r) 1 0 + count_by p xs
 count_by-with_row p r [] = count_next p r []
 count_by-with_row p r (x ∷ xs) = by (precedes r x) (count_by-with_row p r xs) where
@@ -160,10 +154,6 @@ filter-with_row q r (x ∷ xs) h = by (precedes r x) (filter-with_row q r xs h) 
   by true rest = ap (λ b. cond b (r ∷ filter q (x ∷ xs)) (filter q (x ∷ xs))) h
   by false rest = ap (λ ys. cond (q x) (x ∷ ys) ys) rest
 
--- no other row has its key
-abbrev pub key_is_new : Row → List Row → Bool
-key_is_new r xs = list_all (λ x. precedes r x || precedes x r) xs
-
 pub in_order-with_row : (r : Row) (xs : List Row) → in_order xs ≡ true → key_is_new r xs ≡ true → in_order (with_row r xs) ≡ true
 in_order-with_row r [] h new = refl
 in_order-with_row r (x ∷ xs) h new =
@@ -182,6 +172,37 @@ in_order-with_row r (x ∷ xs) h new =
       by (inr e) all rest more =
           let first : precedes x r ≡ true = before (precedes r x) (precedes x r) (and_parts (precedes r x || precedes x r) (key_is_new r xs) new).0 e in
           ap (λ b. in_order (cond b (r ∷ x ∷ xs) (x ∷ with_row r xs))) e ∙ and_from _ _ (list_all-with_row (precedes x) r xs ∙ and_from _ _ first all) more
+
+-- rows whose keys are new keep the order
+pub with_rows_in_order : (rs xs : List Row) → in_order xs ≡ true → in_order rs ≡ true → list_all (λ r. key_is_new r xs) rs ≡ true → in_order (with_rows rs xs) ≡ true
+with_rows_in_order [] xs h k new = h
+with_rows_in_order (r ∷ rs) xs h k new =
+    let order = and_parts (list_all (precedes r) rs) (in_order rs) k in
+    let news = and_parts (key_is_new r xs) (list_all (λ q. key_is_new q xs) rs) new in
+    with_rows_in_order rs (with_row r xs) (in_order-with_row r xs h news.0) order.1
+    (from_each (λ q. key_is_new q (with_row r xs)) rs (λ q one.
+    list_all-with_row (λ x. precedes q x || precedes x q) r xs
+    ∙ and_from _ _ (or_right _ _ (at_each (precedes r) rs q order.0 one)) (at_each (λ q. key_is_new q xs) rs q news.1 one)))
+
+-- lists that are apart make one list in order
+pub apart_in_order : (xs ys : List Row) → are_apart xs ys ≡ true → in_order (with_rows ys xs) ≡ true
+apart_in_order xs ys h =
+    let both = and_parts (in_order xs && in_order ys) (list_all (λ y. key_is_new y xs) ys) h in
+    let orders = and_parts (in_order xs) (in_order ys) both.0 in
+    with_rows_in_order ys xs orders.0 orders.1 both.1
+
+same_key_turned : (a b : Key) → same_key a b ≡ true → same_key b a ≡ true
+same_key_turned a b h = turned (rank a) (number a) (rank b) (number b) h where
+  turned : (ra na rb nb : ℕ) → (nat_eq ra rb && nat_eq na nb) ≡ true → (nat_eq rb ra && nat_eq nb na) ≡ true
+  turned ra na rb nb h = grind (arith, h)
+
+pub same_keys_turned : (xs ys : List Row) → have_same_keys xs ys ≡ true → have_same_keys ys xs ≡ true
+same_keys_turned [] [] h = refl
+same_keys_turned [] (y ∷ ys) h = cc
+same_keys_turned (x ∷ xs) [] h = cc
+same_keys_turned (x ∷ xs) (y ∷ ys) h =
+    let both = and_parts (same_key (key_of x) (key_of y)) (have_same_keys xs ys) h in
+    and_from _ _ (same_key_turned (key_of x) (key_of y) both.0) (same_keys_turned xs ys both.1)
 
 -- ---- several rows more, several less
 
@@ -227,10 +248,6 @@ into c true false = refl
 into c false true = refl
 into c false false = refl
 
-pub is_in-with_rows : (rs xs : List Row) (q : Row) → is_in (with_rows rs xs) q ≡ (is_in rs q || is_in xs q)
-is_in-with_rows [] xs q = refl
-is_in-with_rows (r ∷ rs) xs q = is_in-with_rows rs (with_row r xs) q ∙ ap (λ b. is_in rs q || b) (is_in-with_row r xs q) ∙ into (is_in xs q) (same_row q r) (is_in rs q)
-
 pub count_by-with_rows : (p : Row → Bool) (rs xs : List Row) → count_by p (with_rows rs xs) ≡ count_by p rs + count_by p xs
 count_by-with_rows p [] xs = omega arith
 count_by-with_rows p (r ∷ rs) xs =
@@ -245,6 +262,23 @@ list_all-with_rows p (r ∷ rs) xs = list_all-with_rows p rs (with_row r xs) ∙
   turned true false c = refl
   turned false true c = refl
   turned false false c = refl
+
+pub list_any-with_row : (p : Row → Bool) (r : Row) (xs : List Row) → list_any p (with_row r xs) ≡ (p r || list_any p xs)
+list_any-with_row p r [] = refl
+list_any-with_row p r (x ∷ xs) = by (precedes r x) (list_any-with_row p r xs) where
+  by : (b : Bool) → list_any p (with_row r xs) ≡ (p r || list_any p xs) → list_any p (cond b (r ∷ x ∷ xs) (x ∷ with_row r xs)) ≡ (p r || (p x || list_any p xs))
+  by true rest = refl
+  by false rest = ap (λ b. p x || b) rest ∙ or_swap (p r) (p x) (list_any p xs)
+
+pub is_in-with_row : (r : Row) (xs : List Row) (q : Row) → is_in (with_row r xs) q ≡ (same_row q r || is_in xs q)
+is_in-with_row r xs q = list_any-with_row (same_row q) r xs
+
+pub list_any-with_rows : (p : Row → Bool) (rs xs : List Row) → list_any p (with_rows rs xs) ≡ (list_any p rs || list_any p xs)
+list_any-with_rows p [] xs = refl
+list_any-with_rows p (r ∷ rs) xs = list_any-with_rows p rs (with_row r xs) ∙ ap (λ b. list_any p rs || b) (list_any-with_row p r xs) ∙ into (list_any p xs) (p r) (list_any p rs)
+
+pub is_in-with_rows : (rs xs : List Row) (q : Row) → is_in (with_rows rs xs) q ≡ (is_in rs q || is_in xs q)
+is_in-with_rows rs xs q = list_any-with_rows (same_row q) rs xs
 
 -- put in and taken out again
 pub without_rows-with_rows : (rs xs : List Row) → list_all (λ x. not (is_in rs x)) xs ≡ true → without_rows rs (with_rows rs xs) ≡ xs

@@ -4,7 +4,7 @@ ghost use Rattle.std.specs.Prelude.{◌≡◌, true};
 
 use crate::after::After;
 use crate::edit::Placed;
-use crate::ordering::{both_in_order, contains_all};
+use crate::ordering::{are_apart, contains_all, have_same_keys};
 use crate::places::{can_be_put, can_be_taken};
 use crate::row::{Member, Row};
 
@@ -23,12 +23,15 @@ pub(crate) struct Exchange<'a> {
 }
 
 impl Exchange<'_> {
+    ghost use Rattle.desk_rows.specs.Order.{in_order};
     ghost use Rattle.desk_rows.specs.Desk.{good};
     ghost use Rattle.desk_rows.specs.Exchange.{is_apt, fits};
     ghost use Rattle.desk_rows.specs.Exchanges.{desk_in, edit_in};
 
-    /// Whether the rows that go are there, and those that come have places.
+    /// Whether the rows that go are there, those that come have places, and a row is replaced by
+    /// one of its key.
     fn is_apt(&self) -> bool
+        requires { in_order self.now.others.now ≡ true }
         ensures { result ≡ is_apt (desk_in self.now) (edit_in self.now) }
     {
         if !can_be_taken(self.taken_members, self.members) {
@@ -38,16 +41,19 @@ impl Exchange<'_> {
         if !can_be_put(self.put_members, left) {
             return false;
         }
-        if !both_in_order(self.taken, self.old) {
-            return false;
-        }
-        if !contains_all(self.others, self.taken) {
+        if !are_apart(self.taken, self.old) {
             return false;
         }
         if !contains_all(self.others, self.old) {
             return false;
         }
-        both_in_order(self.put, self.new)
+        if !contains_all(self.others, self.taken) {
+            return false;
+        }
+        if !are_apart(self.put, self.new) {
+            return false;
+        }
+        have_same_keys(self.old, self.new)
     }
 
     /// Whether the edit fits: the desk stays good.

@@ -17,3 +17,6 @@ pub const MAX_ROOM_AUDIO: usize = 64;
 
 /// The greatest index of a slot.
 pub const MAX_INDEX: u32 = 15;
+
+/// How many rows there may be beside the members: rooms, sources, slots, and for each slot a sub.
+pub const MAX_OTHERS: usize = 10_304;

@@ -1,10 +1,12 @@
-//! Rows in the order of kinds and keys, taken out and put in.
+//! Rows in the order of kinds and keys: found by halving, taken out and put in by one sweep.
 
-ghost use Rattle.std.specs.Prelude.{◌≡◌, ◌+◌, ◌≤◌, ◌++◌, true, ◌&&◌, length, insert, not, vec_len, vec_capacity};
-ghost use Rattle.std.specs.List.{list_all, list_any};
-ghost use Rattle.desk_rows.specs.Order.{precedes, precedes_head, in_order, is_in, with_row, with_rows, without_rows};
+ghost use Rattle.std.specs.Prelude.{◌≡◌, ℕ, ◌+◌, ◌≤◌, ◌++◌, true, ◌&&◌, filter, length, not, vec_len, vec_capacity};
+ghost use Rattle.std.specs.List.{find, list_all, list_any};
+ghost use Rattle.desk_rows.specs.Row.{has_key};
+ghost use Rattle.desk_rows.specs.Kinds.{is_of};
+ghost use Rattle.desk_rows.specs.Order.{precedes, precedes_head, in_order, key_is_new, are_apart, have_same_keys, is_in, with_rows, without_rows};
 
-use crate::row::Row;
+use crate::row::{Key, Kind, Row};
 use std::alloc::Allocator;
 
 /// Whether the row stands before the first of these, if there is one.
@@ -30,39 +32,85 @@ fn are_in_order(rows: &[Row]) -> bool
     true
 }
 
-fn precedes_all(row: &Row, rows: &[Row]) -> bool
-    ensures { result ≡ list_all (precedes row.now) rows.now }
+fn is_new(row: &Row, rows: &[Row]) -> bool
+    ensures { result ≡ key_is_new row.now rows.now }
 {
-    rows.iter().all(|other| row.precedes(other))
+    rows.iter()
+        .all(|other| row.precedes(other) || other.precedes(row))
 }
 
-fn all_precede(rows: &[Row], others: &[Row]) -> bool
-    ensures { result ≡ list_all (λ r. list_all (precedes r) others.now) rows.now }
+fn all_new(rows: &[Row], others: &[Row]) -> bool
+    ensures { result ≡ list_all (λ r. key_is_new r others.now) rows.now }
 {
-    rows.iter().all(|row| precedes_all(row, others))
+    rows.iter().all(|row| is_new(row, others))
 }
 
-/// Whether both lists, one behind the other, are in order.
-pub(crate) fn both_in_order(rows: &[Row], others: &[Row]) -> bool
-    ensures { result ≡ in_order (rows.now ++ others.now) }
+/// Whether both lists are in order and have no key in common.
+pub(crate) fn are_apart(rows: &[Row], others: &[Row]) -> bool
+    ensures { result ≡ are_apart rows.now others.now }
 {
-    if !are_in_order(rows) {
-        return false;
+    (are_in_order(rows) && are_in_order(others)) && all_new(others, rows)
+}
+
+/// Whether the rows at each place of both lists have one key.
+pub(crate) fn have_same_keys(rows: &[Row], others: &[Row]) -> bool
+    ensures { result ≡ have_same_keys rows.now others.now }
+{
+    let mut left = others;
+    let mut rest = rows;
+    while let Some((row, later)) = rest.split_first() {
+        match left.split_first() {
+            None => return false,
+            Some((other, behind)) => {
+                if !row.key().is_same(other.key()) {
+                    return false;
+                }
+                left = behind;
+            }
+        }
+        rest = later;
     }
-    if !are_in_order(others) {
-        return false;
+    left.is_empty()
+}
+
+/// The row of this key.
+pub(crate) fn find_row(rows: &[Row], key: Key) -> Option<Row>
+    requires { in_order rows.now ≡ true }
+    ensures { result ≡ find (has_key key) rows.now }
+{
+    let place = rows.partition_point(|row| row.key().precedes(key));
+    if place >= rows.len() {
+        return None;
     }
-    all_precede(rows, others)
+    let row = rows[place];
+    if row.has_key(key) { Some(row) } else { None }
+}
+
+/// The rows of this kind.
+pub(crate) fn rows_of_kind(rows: &[Row], kind: Kind) -> &[Row]
+    requires { in_order rows.now ≡ true }
+    ensures { result.now ≡ filter (is_of kind) rows.now }
+{
+    let before = rows.partition_point(|row| row.key().rank() < kind.rank());
+    let (_, from) = rows.split_at(before);
+    let count = from.partition_point(|row| row.key().rank() <= kind.rank());
+    let (these, _) = from.split_at(count);
+    these
 }
 
 pub(crate) fn contains(rows: &[Row], row: &Row) -> bool
+    requires { in_order rows.now ≡ true }
     ensures { result ≡ is_in rows.now row.now }
 {
-    rows.iter().any(|other| row.is_same(other))
+    match find_row(rows, row.key()) {
+        None => false,
+        Some(other) => row.is_same(&other),
+    }
 }
 
 /// Whether each of these rows is among the others.
 pub(crate) fn contains_all(others: &[Row], rows: &[Row]) -> bool
+    requires { in_order others.now ≡ true }
     ensures { result ≡ list_all (is_in others.now) rows.now }
 {
     rows.iter().all(|row| contains(others, row))
@@ -70,52 +118,77 @@ pub(crate) fn contains_all(others: &[Row], rows: &[Row]) -> bool
 
 /// Whether the row is in neither list.
 fn is_left(row: &Row, taken: &[Row], old: &[Row]) -> bool
-    ensures { result ≡ not (is_in (taken.now ++ old.now) row.now) }
+    requires taken { in_order taken.now ≡ true }
+    requires old { in_order old.now ≡ true }
+    ensures { result ≡ not (is_in (with_rows old.now taken.now) row.now) }
 {
-    if contains(taken, row) {
+    if contains(old, row) {
         return false;
     }
-    !contains(old, row)
+    !contains(taken, row)
 }
 
 /// Takes out the rows of two lists.
 pub(crate) fn take_rows<A: Allocator>(rows: &mut Vec<Row, A>, taken: &[Row], old: &[Row])
-    ensures items { rows.new.items ≡ without_rows (taken.now ++ old.now) rows.old.items }
+    requires taken { in_order taken.now ≡ true }
+    requires old { in_order old.now ≡ true }
+    ensures items { rows.new.items ≡ without_rows (with_rows old.now taken.now) rows.old.items }
     ensures capacity { vec_capacity rows.old ≤ vec_capacity rows.new }
 {
     rows.retain(|row| is_left(row, taken, old));
 }
 
-/// The place at which the row keeps the order.
-fn place_for(rows: &[Row], row: &Row) -> usize
-    ensures place { insert rows.now result row.now ≡ with_row row.now rows.now }
-    ensures within { result ≤ length rows.now }
+/// Appends both lists in one, with the rows that are put each where it keeps the order.
+fn merge<A: Allocator>(out: &mut Vec<Row, A>, rows: &[Row], put: &[Row])
+    requires order { in_order put.now ≡ true }
+    requires room { vec_len out.old + (length rows.now + length put.now) ≤ vec_capacity out.old }
+    ensures items { out.new.items ≡ out.old.items ++ with_rows put.now rows.now }
+    ensures capacity { vec_capacity out.old ≤ vec_capacity out.new }
 {
     let mut rest = rows;
-    let mut place = 0;
-    while let Some((first, later)) = rest.split_first() {
-        if row.precedes(first) {
-            return place;
+    let mut left = put;
+    while let Some((first, behind)) = left.split_first() {
+        match rest.split_first() {
+            None => {
+                out.push_reserved(*first);
+                left = behind;
+            }
+            Some((row, later)) => {
+                if first.precedes(row) {
+                    out.push_reserved(*first);
+                    left = behind;
+                } else {
+                    out.push_reserved(*row);
+                    rest = later;
+                }
+            }
         }
-        rest = later;
-        place += 1;
     }
-    place
+    append(out, rest);
 }
 
-/// Puts these rows in, each where it keeps the order. There is room for them.
-pub(crate) fn put_rows<A: Allocator>(rows: &mut Vec<Row, A>, put: &[Row])
-    requires { vec_len rows.old + length put.now ≤ vec_capacity rows.old }
-    ensures items { rows.new.items ≡ with_rows put.now rows.old.items }
-    ensures len { vec_len rows.new ≡ vec_len rows.old + length put.now }
-    ensures capacity { vec_capacity rows.old ≤ vec_capacity rows.new }
+fn append<A: Allocator>(out: &mut Vec<Row, A>, rows: &[Row])
+    requires { vec_len out.old + length rows.now ≤ vec_capacity out.old }
+    ensures items { out.new.items ≡ out.old.items ++ rows.now }
+    ensures len { vec_len out.new ≡ vec_len out.old + length rows.now }
+    ensures capacity { vec_capacity out.old ≤ vec_capacity out.new }
 {
-    let mut rest = put;
-    while let Some((row, later)) = rest.split_first() {
-        let place = place_for(rows, row);
-        if rows.insert(place, *row).is_err() {
-            return;
-        }
-        rest = later;
+    if out.extend_from_slice(rows).is_err() {
+        return;
     }
+}
+
+/// Puts these rows in, each where it keeps the order, by one sweep into the spare room.
+pub(crate) fn put_rows<A: Allocator>(rows: &mut Vec<Row, A>, spare: &mut Vec<Row, A>, put: &[Row])
+    requires order { in_order put.now ≡ true }
+    requires room { vec_len rows.old + length put.now ≤ vec_capacity spare.old }
+    ensures items { rows.new.items ≡ with_rows put.now rows.old.items }
+    ensures room { (n : ℕ) → n ≤ vec_capacity rows.old → n ≤ vec_capacity spare.old → (n ≤ vec_capacity rows.new) × (n ≤ vec_capacity spare.new) }
+{
+    if put.is_empty() {
+        return;
+    }
+    spare.clear();
+    merge(spare, rows, put);
+    std::mem::swap(rows, spare);
 }

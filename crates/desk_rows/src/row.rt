@@ -1,7 +1,7 @@
 //! The kinds of row.
 
 ghost use Rattle.std.specs.Prelude.{◌≡◌};
-ghost use Rattle.desk_rows.specs.Kinds.{is_of};
+ghost use Rattle.desk_rows.specs.Kinds.{is_of, kind_rank};
 ghost use Rattle.desk_rows.specs.Order.{key_precedes, precedes};
 ghost use Rattle.desk_rows.specs.Row.{same_codec, same_media, same_member, same_row, key_of, rank, number, same_key, has_key, makes};
 
@@ -223,9 +223,24 @@ impl Row {
     }
 }
 
+impl Kind {
+    /// The place of the kind among the kinds.
+    pub(crate) fn rank(self) -> u32
+        ensures { result ≡ kind_rank self }
+    {
+        match self {
+            Kind::Room => 0,
+            Kind::Member => 1,
+            Kind::Source => 2,
+            Kind::Slot => 3,
+            Kind::Sub => 4,
+        }
+    }
+}
+
 impl Key {
     /// The place of the key's kind among the kinds.
-    fn rank(self) -> u32
+    pub(crate) fn rank(self) -> u32
         ensures { result ≡ rank self }
     {
         match self {
@@ -258,7 +273,7 @@ impl Key {
     }
 
     /// Whether this key stands before the other, by kind and then by number.
-    fn precedes(self, other: Key) -> bool
+    pub(crate) fn precedes(self, other: Key) -> bool
         ensures { result ≡ key_precedes self other }
     {
         if self.rank() < other.rank() {

@@ -1,28 +1,25 @@
 //! The rows of a desk.
 
-ghost use Rattle.std.specs.Prelude.{◌≡◌, ◌++◌, ◌≤◌, true, IfOk, IfNone, length, map, filter, count_by, slice_get, refl};
+ghost use Rattle.std.specs.Prelude.{◌≡◌, ◌++◌, ◌≤◌, true, IfOk, IfNone, length, map, filter, nat_eq, slice_get, refl};
 ghost use Rattle.std.specs.List.{find};
 ghost use Rattle.desk_rows.specs.declared.row.Row.TheVariants.{Member as MemberRow};
 ghost use Rattle.desk_rows.specs.Row.{has_key};
 ghost use Rattle.desk_rows.specs.Kinds.{is_of};
-ghost use Rattle.desk_rows.specs.Order.{is_in};
-ghost use Rattle.desk_rows.specs.Desk.{blank, good, holds, row_at, rows_of_kind, count_of};
+ghost use Rattle.desk_rows.specs.Order.{in_order, is_in};
+ghost use Rattle.desk_rows.specs.Desk.{blank, good, holds, row_at, rows_of_kind, count_of, roster};
 ghost use Rattle.desk_rows.specs.Edit.{inverse};
 ghost use Rattle.desk_rows.specs.Exchange.{fits, after};
 ghost use Rattle.desk_rows.specs.Laws.{inverse_fits, undoes, stays};
 
 use crate::edit::Edit;
 use crate::exchange::Exchange;
-use crate::limits::{MAX_MEMBERS, MAX_ROOMS, MAX_SLOTS, MAX_SOURCES};
-use crate::ordering::{put_rows, take_rows};
+use crate::limits::{MAX_MEMBERS, MAX_OTHERS};
+use crate::ordering::{contains, find_row, put_rows, rows_of_kind, take_rows};
 use crate::places::{put_members, take_members};
 use crate::row::{Key, Kind, Member, Row};
 use std::alloc::{AllocError, Allocator, Global};
 use std::marker::Model;
 use undo_log::Reversible;
-
-/// How many rows there may be beside the members: rooms, sources, slots, and for each slot a sub.
-const MAX_OTHERS: usize = MAX_ROOMS + MAX_SOURCES + MAX_SLOTS + MAX_SLOTS;
 
 /// The rows of a desk, in room that was reserved for all that there may be.
 ///
@@ -33,10 +30,13 @@ pub struct Rows<A: Allocator + Copy = Global> {
     bridge_ssrc: u32,
     members: Vec<Member, A>,
     others: Vec<Row, A>,
+    /// Room in which an edit puts other rows together.
+    spare: Vec<Row, A>,
 }
 
 impl<A: Allocator + Copy> Model for Rows<A> {
     ghost use Rattle.std.specs.Prelude.{◌≡◌, ◌≤◌, true, vec_capacity};
+    ghost use Rattle.desk_rows.specs.declared.limits.TheConstants.{MAX_MEMBERS, MAX_OTHERS};
     ghost use Rattle.desk_rows.specs.Desk.{Desk, good};
     ghost use Rattle.desk_rows.specs.AfterEdit.{desk_of};
 
@@ -46,8 +46,9 @@ impl<A: Allocator + Copy> Model for Rows<A> {
 
     ghost invariant = { λ r.
         (good (desk_of r.bridge_ssrc r.members.items r.others.items) ≡ true)
-        × (1024 ≤ vec_capacity r.members)
-        × (10304 ≤ vec_capacity r.others) };
+        × (MAX_MEMBERS ≤ vec_capacity r.members)
+        × (MAX_OTHERS ≤ vec_capacity r.others)
+        × (MAX_OTHERS ≤ vec_capacity r.spare) };
 }
 
 impl<A: Allocator + Copy> Rows<A> {
@@ -61,6 +62,7 @@ impl<A: Allocator + Copy> Rows<A> {
             bridge_ssrc,
             members: Vec::with_capacity(alloc, MAX_MEMBERS)?,
             others: Vec::with_capacity(alloc, MAX_OTHERS)?,
+            spare: Vec::with_capacity(alloc, MAX_OTHERS)?,
         })
     }
 
@@ -110,7 +112,11 @@ impl<A: Allocator + Copy> Rows<A> {
     pub fn count(&self, kind: Kind) -> usize
         ensures { result ≡ count_of kind self.now }
     {
-        count_of_kind(&self.members, &self.others, kind)
+        self.known();
+        match kind {
+            Kind::Member => self.members().len(),
+            _ => self.others_of(kind).len(),
+        }
     }
 
     /// The rows of the kind one by one, members by place and all others by key; none from
@@ -118,7 +124,24 @@ impl<A: Allocator + Copy> Rows<A> {
     pub fn at(&self, kind: Kind, i: usize) -> Option<Row>
         ensures { result ≡ slice_get (rows_of_kind kind self.now) i }
     {
-        row_of_kind(&self.members, &self.others, kind, i)
+        match kind {
+            Kind::Member => member_row(&self.members, i),
+            _ => other_row(self.others_of(kind), i),
+        }
+    }
+
+    /// The rows of the kind by key. Members aren't among them.
+    pub fn others_of(&self, kind: Kind) -> &[Row]
+        ensures { result.now ≡ filter (is_of kind) self.now.others }
+    {
+        rows_of_kind(&self.others, kind)
+    }
+
+    /// The numbers of the room's members by place.
+    pub fn roster(&self, alloc: A, room: u32) -> Result<Vec<u32, A>, AllocError>
+        ensures { IfOk result (λ numbers. numbers.items ≡ roster self.now room) }
+    {
+        numbers_in(alloc, &self.members, room)
     }
 
     fn exchange<'a>(&'a self, edit: &'a Edit<A>) -> Exchange<'a>
@@ -139,35 +162,57 @@ impl<A: Allocator + Copy> Rows<A> {
     }
 }
 
-fn is_among(members: &[Member], others: &[Row], row: &Row) -> bool
-    ensures { result ≡ is_in (map MemberRow members.now ++ others.now) row.now }
+fn is_member_among(members: &[Member], row: &Row) -> bool
+    ensures { result ≡ is_in (map MemberRow members.now) row.now }
 {
     members
         .iter()
         .map(|member| Row::Member(*member))
-        .chain(others.iter().copied())
         .any(|other| row.is_same(&other))
 }
 
-fn row_with(members: &[Member], others: &[Row], key: Key) -> Option<Row>
-    ensures { result ≡ find (has_key key) (map MemberRow members.now ++ others.now) }
+fn is_among(members: &[Member], others: &[Row], row: &Row) -> bool
+    requires { in_order others.now ≡ true }
+    ensures { result ≡ is_in (map MemberRow members.now ++ others.now) row.now }
+{
+    is_member_among(members, row) || contains(others, row)
+}
+
+fn numbers_in<A: Allocator>(
+    alloc: A,
+    members: &[Member],
+    room: u32,
+) -> Result<Vec<u32, A>, AllocError>
+    ensures { IfOk result (λ numbers. numbers.items ≡ map (λ m. m.member) (filter (λ m. nat_eq m.room room) members.now)) }
+{
+    members
+        .iter()
+        .filter(|member| member.room == room)
+        .map(|member| member.member)
+        .collect(alloc)
+}
+
+fn member_with(members: &[Member], key: Key) -> Option<Row>
+    ensures { result ≡ find (has_key key) (map MemberRow members.now) }
 {
     members
         .iter()
         .map(|member| Row::Member(*member))
-        .chain(others.iter().copied())
         .find(|row| row.has_key(key))
 }
 
-fn count_of_kind(members: &[Member], others: &[Row], kind: Kind) -> usize
-    ensures { result ≡ count_by (is_of kind) (map MemberRow members.now ++ others.now) }
+/// The row of this key; only members are looked at one by one.
+fn row_with(members: &[Member], others: &[Row], key: Key) -> Option<Row>
+    requires { in_order others.now ≡ true }
+    ensures { result ≡ find (has_key key) (map MemberRow members.now ++ others.now) }
 {
-    members
-        .iter()
-        .map(|member| Row::Member(*member))
-        .chain(others.iter().copied())
-        .filter(|row| row.is_of(kind))
-        .count()
+    match key {
+        Key::Member(_) => match member_with(members, key) {
+            Some(row) => Some(row),
+            None => find_row(others, key),
+        },
+        _ => find_row(others, key),
+    }
 }
 
 fn member_row(members: &[Member], i: usize) -> Option<Row>
@@ -180,33 +225,13 @@ fn member_row(members: &[Member], i: usize) -> Option<Row>
     Some(Row::Member(members[i]))
 }
 
-fn row_of_kind(members: &[Member], others: &[Row], kind: Kind, i: usize) -> Option<Row>
-    ensures { result ≡ slice_get (filter (is_of kind) (map MemberRow members.now ++ others.now)) i }
+fn other_row(others: &[Row], i: usize) -> Option<Row>
+    ensures { result ≡ slice_get others.now i }
 {
-    match kind {
-        Kind::Member => match member_row(members, i) {
-            Some(row) => Some(row),
-            None => other_of_kind(others, kind, i - members.len()),
-        },
-        _ => other_of_kind(others, kind, i),
+    if i >= others.len() {
+        return None;
     }
-}
-
-fn other_of_kind(others: &[Row], kind: Kind, i: usize) -> Option<Row>
-    ensures { result ≡ slice_get (filter (is_of kind) others.now) i }
-{
-    let mut rest = others;
-    let mut left = i;
-    while let Some((row, later)) = rest.split_first() {
-        if row.is_of(kind) {
-            if left == 0 {
-                return Some(*row);
-            }
-            left -= 1;
-        }
-        rest = later;
-    }
-    None
+    Some(others[i])
 }
 
 impl<A: Allocator + Copy> Reversible for Rows<A> {
@@ -235,8 +260,8 @@ impl<A: Allocator + Copy> Reversible for Rows<A> {
         take_members(&mut self.members, leaving);
         put_members(&mut self.members, joining);
         take_rows(&mut self.others, taken, old);
-        put_rows(&mut self.others, put);
-        put_rows(&mut self.others, new);
+        put_rows(&mut self.others, &mut self.spare, put);
+        put_rows(&mut self.others, &mut self.spare, new);
     }
 
     fn invert(edit: Edit<A>) -> Edit<A> {

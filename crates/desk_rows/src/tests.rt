@@ -1,7 +1,10 @@
 //! What no clause says: one happy path of each call that may want memory, each allocation
 //! refused, and that the desk of the clauses is the one that was meant.
 
-use crate::{Codec, Edit, Key, Kind, Member, Part, Placed, Replaced, Room, Row, Rows, Slot, Sub};
+use crate::{
+    Codec, Edit, Key, Kind, Media, Member, Part, Placed, Replaced, Room, Row, Rows, Slot, Source,
+    Sub,
+};
 use linked_list_allocator::LocalHeap;
 use rtp_codec::Address;
 use std::alloc::{AllocError, Allocator, Global};
@@ -155,6 +158,148 @@ fn edits_that_do_not_fit_change_nothing(rt: HostRuntime) -> Result<(), Fail> {
     Ok(())
 }
 
+#[test]
+fn a_roster_names_a_room_in_joining_order(rt: HostRuntime) -> Result<(), Fail> {
+    let alloc = rt.alloc();
+    let rows = four_members(alloc)?;
+    assert_eq!(rt; rows.roster(alloc, 7)?.as_slice(), [1, 3, 4].as_slice());
+    assert_eq!(rt; rows.roster(alloc, 8)?.as_slice(), [2].as_slice());
+    assert_eq!(rt; rows.roster(alloc, 9)?.as_slice(), [].as_slice());
+    Ok(())
+}
+
+/// Takes what is left of a heap, in halves.
+fn fill<'a>(held: &mut Vec<Vec<u8, &'a LocalHeap>>, heap: &'a LocalHeap) -> Result<(), Fail> {
+    for power in 0..21u32 {
+        for _ in 0..2 {
+            if let Ok(some) = Vec::with_capacity(heap, 1usize << (20 - power)) {
+                held.push(some)?;
+            }
+        }
+    }
+    Ok(())
+}
+
+#[test]
+fn a_roster_is_refused_or_whole(rt: HostRuntime) -> Result<(), Fail> {
+    let heap = LocalHeap::new(rt.alloc(), 1 << 21)?;
+    let rows = four_members(&heap)?;
+    let mut held = Vec::new(rt.alloc());
+    fill(&mut held, &heap)?;
+    assert!(rt; rows.roster(&heap, 7).is_err());
+    held.clear();
+    assert_eq!(rt; rows.roster(&heap, 7)?.as_slice(), [1, 3, 4].as_slice());
+    Ok(())
+}
+
+fn slot(out_ssrc: u32, member: u32, index: u32, first_seq: u16) -> Row {
+    Row::Slot(Slot {
+        out_ssrc,
+        member,
+        index,
+        first_seq,
+        first_ts: 0,
+    })
+}
+
+fn sub(out_ssrc: u32, source: u32) -> Row {
+    Row::Sub(Sub { out_ssrc, source })
+}
+
+fn video(ssrc: u32, member: u32) -> Row {
+    Row::Source(Source {
+        ssrc,
+        member,
+        media: Media::Video,
+    })
+}
+
+/// The four members, with two slots of member 1 that are subscribed to a source of member 3.
+fn two_slots(alloc: Global) -> Result<Rows, Fail> {
+    let mut rows = four_members(alloc)?;
+    let others = [
+        video(101, 3),
+        slot(501, 1, 0, 7),
+        slot(502, 1, 1, 8),
+        sub(501, 101),
+        sub(502, 101),
+    ];
+    let edit = Edit {
+        taken: Part::none(alloc),
+        put: part(alloc, &[], &others)?,
+        replaced: Replaced::none(alloc),
+    };
+    rows.absorb(&edit);
+    Ok(rows)
+}
+
+#[test]
+fn rows_are_taken_and_replaced_by_one_edit(rt: HostRuntime) -> Result<(), Fail> {
+    let alloc = rt.alloc();
+    let mut rows = two_slots(alloc)?;
+    assert_eq!(rt; (rows.count(Kind::Slot), rows.count(Kind::Sub)), (2, 2));
+    let edit = Edit {
+        taken: part(alloc, &[], &[sub(502, 101)])?,
+        put: Part::none(alloc),
+        replaced: Replaced::new(
+            Vec::from_slice(alloc, &[slot(501, 1, 0, 7)])?,
+            Vec::from_slice(alloc, &[slot(501, 1, 2, 9)])?,
+        ),
+    };
+    assert!(rt; rows.fits(&edit));
+    rows.absorb(&edit);
+    assert_eq!(rt; rows.find(&Key::Slot(501)), Some(slot(501, 1, 2, 9)));
+    assert_eq!(rt; rows.find(&Key::Sub(501)), Some(sub(501, 101)));
+    assert_eq!(rt; rows.others_of(Kind::Sub), [sub(501, 101)].as_slice());
+    rows.absorb(&Rows::invert(edit));
+    assert!(rt; rows.holds(&slot(501, 1, 0, 7)) && rows.holds(&sub(502, 101)));
+    assert_eq!(rt; rows.others_of(Kind::Room), [room(7), room(8)].as_slice());
+    assert_eq!(rt; rows.others_of(Kind::Member), [].as_slice());
+    Ok(())
+}
+
+#[test]
+fn a_row_is_replaced_by_one_of_its_key(rt: HostRuntime) -> Result<(), Fail> {
+    let alloc = rt.alloc();
+    let rows = two_slots(alloc)?;
+    let pairs: [(&[Row], &[Row]); 4] = [
+        (&[slot(502, 1, 1, 8)], &[slot(503, 1, 1, 8)]),
+        (&[sub(502, 101)], &[]),
+        (&[], &[slot(503, 1, 2, 0)]),
+        (&[slot(502, 1, 1, 7)], &[slot(502, 1, 1, 9)]),
+    ];
+    for (old, new) in pairs {
+        let edit = Edit {
+            taken: Part::none(alloc),
+            put: Part::none(alloc),
+            replaced: Replaced::new(Vec::from_slice(alloc, old)?, Vec::from_slice(alloc, new)?),
+        };
+        assert!(rt; !rows.fits(&edit), "{old:?} by {new:?}");
+    }
+    Ok(())
+}
+
+/// Slot and source of a sub part where a member moves to the other room.
+#[test]
+fn a_member_that_moves_shakes_its_subs(rt: HostRuntime) -> Result<(), Fail> {
+    let alloc = rt.alloc();
+    let rows = two_slots(alloc)?;
+    for (place, number, from, to, stays) in [
+        (0usize, 1, 7, 8, false),
+        (2, 3, 7, 8, false),
+        (3, 4, 7, 8, true),
+        (1, 2, 8, 7, true),
+    ] {
+        let edit = Edit {
+            taken: part(alloc, &[placed(place, number, from)], &[])?,
+            put: part(alloc, &[placed(place, number, to)], &[])?,
+            replaced: Replaced::none(alloc),
+        };
+        assert_eq!(rt; rows.fits(&edit), stays, "member {number}");
+    }
+    Ok(())
+}
+
 /// Whether a copy over this heap comes, and then whether it fits as its original does.
 fn copy_over<'a>(ample: &'a LocalHeap, heap: &'a LocalHeap) -> Result<Option<bool>, Fail> {
     let _held = Box::new(heap, 0u8)?;
@@ -169,7 +314,7 @@ fn copy_over<'a>(ample: &'a LocalHeap, heap: &'a LocalHeap) -> Result<Option<boo
 /// Heaps that grow by 16 octets refuse each allocation of the copy in turn, until one is ample.
 #[test]
 fn a_copy_is_refused_or_whole(rt: HostRuntime) -> Result<(), Fail> {
-    let ample = LocalHeap::new(rt.alloc(), 1 << 20)?;
+    let ample = LocalHeap::new(rt.alloc(), 1 << 21)?;
     let mut refused = 0usize;
     for size in 1..64usize {
         let heap = LocalHeap::new(rt.alloc(), 16 * size)?;
@@ -191,7 +336,7 @@ fn a_desk_has_its_room_from_the_start(rt: HostRuntime) -> Result<(), Fail> {
         assert!(rt; Rows::new(&small, 1).is_err(), "{size} octets");
         assert_eq!(rt; small.used(), 0);
     }
-    let ample = LocalHeap::new(rt.alloc(), 1 << 20)?;
+    let ample = LocalHeap::new(rt.alloc(), 1 << 21)?;
     let mut rows = four_members(&ample)?;
     let used = ample.used();
     let edit = without_room_7(&ample)?;

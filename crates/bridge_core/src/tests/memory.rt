@@ -79,7 +79,7 @@ fn accepted_at_last<'a>(
 #[test]
 fn an_item_is_sent_after_refusals(rt: HostRuntime) -> Result<(), Fail> {
     for slots in [1, 17] {
-        let heap = LocalHeap::new(rt.alloc(), 1 << 20)?;
+        let heap = LocalHeap::new(rt.alloc(), 1 << 21)?;
         let mut core = core(&heap)?;
         setup(&heap, &mut core, 0);
         let newcomer = Member {
@@ -112,7 +112,7 @@ fn an_item_is_sent_after_refusals(rt: HostRuntime) -> Result<(), Fail> {
 
 #[test]
 fn a_command_is_accepted_after_refusals(rt: HostRuntime) -> Result<(), Fail> {
-    let heap = LocalHeap::new(rt.alloc(), 1 << 20)?;
+    let heap = LocalHeap::new(rt.alloc(), 1 << 21)?;
     let mut core = core(&heap)?;
     for room in 1..6u32 {
         let command = Command::AddRoom(Room { room });
@@ -130,7 +130,7 @@ fn a_command_is_accepted_after_refusals(rt: HostRuntime) -> Result<(), Fail> {
 
 #[test]
 fn refused_memory_is_told(rt: HostRuntime) -> Result<(), Fail> {
-    let ample = LocalHeap::new(rt.alloc(), 1 << 20)?;
+    let ample = LocalHeap::new(rt.alloc(), 1 << 21)?;
     let none = LocalHeap::new(rt.alloc(), 16)?;
     let _held = Box::new(&none, 0u8)?;
     let one = frame(&ample, 101, 0, 0)?;

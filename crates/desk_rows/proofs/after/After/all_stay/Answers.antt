@@ -18,19 +18,19 @@ first a b e = e ∙ ap (λ x. x && b) (sym e)
 counted : {a b a' b' : ℕ} → a ≡ a' → b ≡ b' → nat_eq a b ≡ nat_eq a' b'
 counted e f = λ i. nat_eq (e i) (f i)
 
-pub returns-then-count_shaken_members-count_shaken_taken : goal.returns-then-count_shaken_members-count_shaken_taken
-returns-then-count_shaken_members-count_shaken_taken c =
+pub returns-then-count_unsound_members-count_unsound_taken : goal.returns-then-count_unsound_members-count_unsound_taken
+returns-then-count_unsound_members-count_unsound_taken c =
     let x = c.args.self.now in
-    let q = stays_sound (before_of x) (edit_in x) in
-    let same = sym (counted c.count_shaken_members.ensures c.count_shaken_taken.ensures)
-    ∙ eq-eqb c.count_shaken_members.result c.count_shaken_taken.result c.if-count_shaken_members-count_shaken_taken.true in
-    (λ i. nat_eq ((c.count_shaken-then-count_shaken_members-count_shaken_taken).ensures i) (c.count_shaken.ensures i + c.count_shaken-2.ensures i))
+    let q = stays_sound c.args.moved (before_of x) (edit_in x) in
+    let same = sym (counted c.count_unsound_members.ensures c.count_unsound_taken.ensures)
+    ∙ eq-eqb c.count_unsound_members.result c.count_unsound_taken.result c.if-count_unsound_members-count_unsound_taken.true in
+    (λ i. nat_eq ((c.count_unsound-then-count_unsound_members-count_unsound_taken).ensures i) (c.count_unsound.ensures i + c.count_unsound-2.ensures i))
     ∙ second _ _ same ∙ sym (stay_test x q)
 
-pub returns-else-count_shaken_members-count_shaken_taken : goal.returns-else-count_shaken_members-count_shaken_taken
-returns-else-count_shaken_members-count_shaken_taken c =
+pub returns-else-count_unsound_members-count_unsound_taken : goal.returns-else-count_unsound_members-count_unsound_taken
+returns-else-count_unsound_members-count_unsound_taken c =
     let x = c.args.self.now in
-    let q = stays_sound (before_of x) (edit_in x) in
-    let differ : nat_eq c.count_shaken_members.result c.count_shaken_taken.result ≡ false = ne_eqb c.count_shaken_members.result c.count_shaken_taken.result c.if-count_shaken_members-count_shaken_taken.false in
-    let back = counted c.count_shaken_members.ensures c.count_shaken_taken.ensures in
+    let q = stays_sound c.args.moved (before_of x) (edit_in x) in
+    let differ : nat_eq c.count_unsound_members.result c.count_unsound_taken.result ≡ false = ne_eqb c.count_unsound_members.result c.count_unsound_taken.result c.if-count_unsound_members-count_unsound_taken.false in
+    let back = counted c.count_unsound_members.ensures c.count_unsound_taken.ensures in
     back ∙ first _ _ (sym back ∙ differ) ∙ sym (stay_test x q)

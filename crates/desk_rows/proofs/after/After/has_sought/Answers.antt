@@ -6,4 +6,4 @@ use Rattle.desk_rows.proofs.after.After.has_sought.Goals as goal
 pub returns : goal.returns
 returns c =
     let d = desk_after c.args.self.now in
-    ap (nat_lt 0) c.sought.ensures ∙ sym (any_count (is_sought c.args.sought d c.args.room) d.others)
+    ap (nat_lt 0) c.sought.ensures ∙ sym (any_count (is_sought c.args.sought d) d.others)

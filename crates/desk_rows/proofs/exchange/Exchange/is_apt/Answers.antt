@@ -19,11 +19,11 @@ returns-then-not-can_be_put c =
     let a = c.can_be_put.ensures in
     grind (arith, tests, a)
 
-pub returns-then-not-both_in_order : goal.returns-then-not-both_in_order
-returns-then-not-both_in_order c =
+pub returns-then-not-are_apart : goal.returns-then-not-are_apart
+returns-then-not-are_apart c =
     let x = c.args.self.now in
     let tests = apt_tests x.bridge_ssrc x.members.now x.others.now x.taken_members.now x.taken.now x.old.now x.put_members.now x.put.now x.new.now in
-    let a = c.both_in_order.ensures in
+    let a = c.are_apart.ensures in
     grind (arith, tests, a)
 
 pub returns-then-not-contains_all : goal.returns-then-not-contains_all
@@ -40,14 +40,22 @@ returns-then-not-contains_all-2 c =
     let a = c.contains_all-2.ensures in
     grind (arith, tests, a)
 
+pub returns-then-not-are_apart-2 : goal.returns-then-not-are_apart-2
+returns-then-not-are_apart-2 c =
+    let x = c.args.self.now in
+    let tests = apt_tests x.bridge_ssrc x.members.now x.others.now x.taken_members.now x.taken.now x.old.now x.put_members.now x.put.now x.new.now in
+    let a = c.are_apart-2.ensures in
+    grind (arith, tests, a)
+
 pub returns : goal.returns
 returns c =
     let x = c.args.self.now in
     let tests = apt_tests x.bridge_ssrc x.members.now x.others.now x.taken_members.now x.taken.now x.old.now x.put_members.now x.put.now x.new.now in
     let taking = c.can_be_taken.ensures in
     let putting = c.can_be_put.ensures in
-    let goes = c.both_in_order.ensures in
-    let there = c.contains_all.ensures in
-    let olds = c.contains_all-2.ensures in
-    let comes = c.both_in_order-2.ensures in
-    grind (arith, tests, taking, putting, goes, there, olds, comes)
+    let goes = c.are_apart.ensures in
+    let olds = c.contains_all.ensures in
+    let there = c.contains_all-2.ensures in
+    let comes = c.are_apart-2.ensures in
+    let pairs = c.have_same_keys.ensures in
+    grind (arith, tests, taking, putting, goes, there, olds, comes, pairs)

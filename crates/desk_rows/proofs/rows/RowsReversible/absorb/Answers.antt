@@ -1,4 +1,5 @@
 use Rattle.std.proofs.Common.{◌≡◌, ◌+◌, true, length, ap, sym, ◌∙◌, arith}
+use Rattle.desk_rows.specs.declared.limits.TheConstants.{MAX_OTHERS}
 use Rattle.desk_rows.specs.Order.{with_rows}
 use Rattle.desk_rows.specs.Places.{put_at, can_put}
 use Rattle.desk_rows.specs.Desk.{good}
@@ -41,19 +42,38 @@ put_members-requires-clause-room g c =
     let len = ap length c.take_members.ensures.items in
     omega (arith, found.0.members_room, len, c.self.invariant.1, c.take_members.ensures.capacity)
 
-pub put_rows-requires : goal.put_rows-requires
-put_rows-requires g c =
+pub take_rows-requires-clause-taken : goal.take_rows-requires-clause-taken
+take_rows-requires-clause-taken g c =
     let self = c.self.inside in
     let found = absorbs_at self.bridge_ssrc self.members.items self.others.items
     c.taken_members-leaving.result.now c.taken_others-taken.result.now c.old-old.result.now
     c.put_members-joining.result.now c.put_others-put.result.now c.new-new.result.now c.args.self.now c.args.edit.now c.self.view_is
     (c.taken_members-leaving.ensures, c.taken_others-taken.ensures, c.old-old.ensures, c.put_members-joining.ensures, c.put_others-put.ensures, c.new-new.ensures)
     (sym c.fits.ensures ∙ c.if-not-fits.false) in
-    let len = ap length c.take_rows.ensures.items in
-    omega (arith, found.0.others_room, len, c.self.invariant.2, c.take_rows.ensures.capacity)
+    found.0.orders.1
 
-pub put_rows-requires-2 : goal.put_rows-requires-2
-put_rows-requires-2 g c =
+pub take_rows-requires-clause-old : goal.take_rows-requires-clause-old
+take_rows-requires-clause-old g c =
+    let self = c.self.inside in
+    let found = absorbs_at self.bridge_ssrc self.members.items self.others.items
+    c.taken_members-leaving.result.now c.taken_others-taken.result.now c.old-old.result.now
+    c.put_members-joining.result.now c.put_others-put.result.now c.new-new.result.now c.args.self.now c.args.edit.now c.self.view_is
+    (c.taken_members-leaving.ensures, c.taken_others-taken.ensures, c.old-old.ensures, c.put_members-joining.ensures, c.put_others-put.ensures, c.new-new.ensures)
+    (sym c.fits.ensures ∙ c.if-not-fits.false) in
+    found.0.orders.2
+
+pub put_rows-requires-clause-order : goal.put_rows-requires-clause-order
+put_rows-requires-clause-order g c =
+    let self = c.self.inside in
+    let found = absorbs_at self.bridge_ssrc self.members.items self.others.items
+    c.taken_members-leaving.result.now c.taken_others-taken.result.now c.old-old.result.now
+    c.put_members-joining.result.now c.put_others-put.result.now c.new-new.result.now c.args.self.now c.args.edit.now c.self.view_is
+    (c.taken_members-leaving.ensures, c.taken_others-taken.ensures, c.old-old.ensures, c.put_members-joining.ensures, c.put_others-put.ensures, c.new-new.ensures)
+    (sym c.fits.ensures ∙ c.if-not-fits.false) in
+    found.0.orders.3
+
+pub put_rows-requires-clause-room : goal.put_rows-requires-clause-room
+put_rows-requires-clause-room g c =
     let self = c.self.inside in
     let found = absorbs_at self.bridge_ssrc self.members.items self.others.items
     c.taken_members-leaving.result.now c.taken_others-taken.result.now c.old-old.result.now
@@ -61,7 +81,29 @@ put_rows-requires-2 g c =
     (c.taken_members-leaving.ensures, c.taken_others-taken.ensures, c.old-old.ensures, c.put_members-joining.ensures, c.put_others-put.ensures, c.new-new.ensures)
     (sym c.fits.ensures ∙ c.if-not-fits.false) in
     let len = ap length c.take_rows.ensures.items in
-    omega (arith, found.0.others_room, len, c.put_rows.ensures.len, c.self.invariant.2, c.take_rows.ensures.capacity, c.put_rows.ensures.capacity)
+    omega (arith, found.0.put_room, len, c.self.invariant.3)
+
+pub put_rows-requires-2-clause-order : goal.put_rows-requires-2-clause-order
+put_rows-requires-2-clause-order g c =
+    let self = c.self.inside in
+    let found = absorbs_at self.bridge_ssrc self.members.items self.others.items
+    c.taken_members-leaving.result.now c.taken_others-taken.result.now c.old-old.result.now
+    c.put_members-joining.result.now c.put_others-put.result.now c.new-new.result.now c.args.self.now c.args.edit.now c.self.view_is
+    (c.taken_members-leaving.ensures, c.taken_others-taken.ensures, c.old-old.ensures, c.put_members-joining.ensures, c.put_others-put.ensures, c.new-new.ensures)
+    (sym c.fits.ensures ∙ c.if-not-fits.false) in
+    found.0.orders.4
+
+pub put_rows-requires-2-clause-room : goal.put_rows-requires-2-clause-room
+put_rows-requires-2-clause-room g c =
+    let self = c.self.inside in
+    let found = absorbs_at self.bridge_ssrc self.members.items self.others.items
+    c.taken_members-leaving.result.now c.taken_others-taken.result.now c.old-old.result.now
+    c.put_members-joining.result.now c.put_others-put.result.now c.new-new.result.now c.args.self.now c.args.edit.now c.self.view_is
+    (c.taken_members-leaving.ensures, c.taken_others-taken.ensures, c.old-old.ensures, c.put_members-joining.ensures, c.put_others-put.ensures, c.new-new.ensures)
+    (sym c.fits.ensures ∙ c.if-not-fits.false) in
+    let len = ap length (c.put_rows.ensures.items ∙ ap (with_rows c.put_others-put.result.now) c.take_rows.ensures.items) in
+    let capacity = c.put_rows.ensures.room MAX_OTHERS (omega (arith, c.self.invariant.2, c.take_rows.ensures.capacity)) c.self.invariant.3 in
+    omega (arith, found.0.new_room, len, capacity.1)
 
 pub invariant_of-self : goal.invariant_of-self
 invariant_of-self g c =
@@ -73,10 +115,13 @@ invariant_of-self g c =
     (sym c.fits.ensures ∙ c.if-not-fits.false) in
     let members = c.put_members.ensures.items ∙ ap (put_at c.put_members-joining.result.now) c.take_members.ensures.items in
     let left = c.take_rows.ensures.items in
-    let others = c.put_rows-2.ensures.items ∙ ap (with_rows c.new-new.result.now) (c.put_rows.ensures.items ∙ ap (with_rows c.put_others-put.result.now) left) in (
+    let others = c.put_rows-2.ensures.items ∙ ap (with_rows c.new-new.result.now) (c.put_rows.ensures.items ∙ ap (with_rows c.put_others-put.result.now) left) in
+    let first = c.put_rows.ensures.room MAX_OTHERS (omega (arith, c.self.invariant.2, c.take_rows.ensures.capacity)) c.self.invariant.3 in
+    let second = c.put_rows-2.ensures.room MAX_OTHERS first.0 first.1 in (
       (λ i. good (desk_of self.bridge_ssrc (members i) (others i))) ∙ found.0.good_after,
       omega (arith, c.self.invariant.1, c.take_members.ensures.capacity, c.put_members.ensures.capacity),
-      omega (arith, c.self.invariant.2, c.take_rows.ensures.capacity, c.put_rows.ensures.capacity, c.put_rows-2.ensures.capacity),
+      second.0,
+      second.1,
     )
 
 pub returns : goal.returns

@@ -1,0 +1,9 @@
+use Rattle.std.proofs.Common.{◌≡◌, length}
+use Rattle.desk_rows.specs.Order.{have_same_keys}
+use Rattle.desk_rows.proofs.ordering.have_same_keys.Given as goal
+
+abbrev pub invariant-loop-row : goal.invariant-loop-row
+invariant-loop-row l = have_same_keys l.fn.rows l.fn.others ≡ have_same_keys l.rest l.left
+
+abbrev pub decreases-loop-row : goal.decreases-loop-row
+decreases-loop-row l = length l.rest

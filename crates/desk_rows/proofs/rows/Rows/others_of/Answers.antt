@@ -1,0 +1,7 @@
+use Rattle.std.proofs.Common.{ap, ◌∙◌}
+use Rattle.desk_rows.specs.Order.{in_order}
+use Rattle.desk_rows.specs.Laws.{good_order}
+use Rattle.desk_rows.proofs.rows.Rows.others_of.Goals as goal
+
+pub rows_of_kind-requires : goal.rows_of_kind-requires
+rows_of_kind-requires g c = ap in_order c.deref.ensures.value ∙ good_order _ c.self.invariant.0
