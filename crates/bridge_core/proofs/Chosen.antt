@@ -16,7 +16,7 @@ use Rattle.bridge_core.specs.Receivers.{slots_of, chooses, by_index, by_place, r
 use Rattle.bridge_core.specs.Lanes.{sent_to}
 use Rattle.bridge_core.specs.Headline.{IsChosen}
 
-all-append : {X : Type 0} (P : X → Type 0) (xs ys : List X) → AllByRecursion P xs → AllByRecursion P ys → AllByRecursion P (xs ++ ys)
+pub all-append : {X : Type 0} (P : X → Type 0) (xs ys : List X) → AllByRecursion P xs → AllByRecursion P ys → AllByRecursion P (xs ++ ys)
 all-append P [] ys h k = k
 all-append P (x ∷ xs) ys h k = (h.0, all-append P xs ys h.1 k)
 
@@ -24,7 +24,7 @@ all-flat_map : {X I : Type 0} (P : X → Type 0) (f : I → List X) (is : List I
 all-flat_map P f [] h = tt
 all-flat_map P f (i ∷ is) h = all-append P (f i) (flat_map f is) (h i) (all-flat_map P f is h)
 
-all-filter : {X : Type 0} (P : X → Type 0) (p : X → Bool) (xs : List X) → AllByRecursion P xs → AllByRecursion P (filter p xs)
+pub all-filter : {X : Type 0} (P : X → Type 0) (p : X → Bool) (xs : List X) → AllByRecursion P xs → AllByRecursion P (filter p xs)
 all-filter P p [] h = tt
 all-filter P p (x ∷ xs) h =
     let rest = all-filter P p xs h.1 in elim (p x) as (λ b. AllByRecursion P (cond b (x ∷ filter p xs) (filter p xs))) [ true ↦ (h.0, rest) | false ↦ rest ]

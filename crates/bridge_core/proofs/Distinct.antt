@@ -58,7 +58,7 @@ Distinct-between key (z ∷ xs) ys x d h =
 abbrev pub groups : {X I : Type 0} → (X → ℕ) → (I → ℕ) → List X → List I → List X
 groups tag num xs is = flat_map (λ i. filter (λ x. nat_eq (tag x) (num i)) xs) is
 
-at-groups : {X I : Type 0} (key tag : X → ℕ) (num : I → ℕ) (k : ℕ) (xs : List X) (is : List I) → at key k xs ≡ None → at key k (groups tag num xs is) ≡ None
+pub at-groups : {X I : Type 0} (key tag : X → ℕ) (num : I → ℕ) (k : ℕ) (xs : List X) (is : List I) → at key k xs ≡ None → at key k (groups tag num xs is) ≡ None
 at-groups key tag num k xs [] h = refl
 at-groups key tag num k xs (i ∷ is) h =
     at-append key k (filter (λ x. nat_eq (tag x) (num i)) xs) (groups tag num xs is) (at-filter key (λ x. nat_eq (tag x) (num i)) k xs h) (at-groups key tag num k xs is h)

@@ -1,8 +1,8 @@
 -- Lemmas about edits that follow commands.
-use Rattle.std.proofs.Common.{◌≡◌, ℕ, ◌+◌, Bool, true, not, cond, nat_eq, List, [], ◌∷◌, ◌++◌, length, fold, reverse, suc, if◌then◌else◌, Option, None, Some, refl, sym, ap, subst, ◌∙◌, arith}
+use Rattle.std.proofs.Common.{◌≡◌, ℕ, ◌+◌, true, List, [], ◌∷◌, ◌++◌, length, fold, reverse, suc, None, refl, sym, ap, subst, ◌∙◌}
+use Rattle.std.proofs.lemmas.List.{reverse-append}
 use Rattle.std.proofs.lemmas.Grind.{reverse_onto}
 use Rattle.undo_log.specs.Timeline.{rewound}
-use Rattle.undo_log.specs.declared.history.TheConstants.{LIMIT}
 use Rattle.desk_rows.specs.Desk.{Desk}
 use Rattle.desk_rows.specs.Edit.{EditOf, inverse}
 use Rattle.desk_rows.specs.Exchange.{fits, after}
@@ -11,11 +11,8 @@ use Rattle.desk_edit.specs.declared.command.Command.{Command}
 use Rattle.desk_edit.specs.declared.command.Call.{Call}
 use Rattle.desk_edit.specs.declared.command.Call.TheVariants.{Apply, Undo}
 use Rattle.desk_edit.specs.declared.command.Refusal.{Refusal}
-use Rattle.desk_edit.specs.declared.command.Refusal.TheVariants.{NewerCommand, NothingToUndo, LogFull}
 use Rattle.desk_edit.specs.Commands.{desk_after}
-use Rattle.desk_edit.specs.Refusals.{refused}
-use Rattle.desk_edit.specs.Calls.{CallHistory, desk_now, refusal_at, refusal_of, after_call, front}
-use Rattle.bridge_core.specs.declared.reply.Reply.{Reply}
+use Rattle.desk_edit.specs.Calls.{CallHistory, desk_now, refusal_at, refusal_of, after_call, front, final}
 use Rattle.bridge_core.specs.declared.reply.Reply.TheVariants.{Accepted, Refused}
 use Rattle.bridge_core.specs.Steps.{CoreOf}
 use Rattle.bridge_core.specs.Calls.{call_refused, Does, IsReason}
@@ -37,22 +34,39 @@ one_more d (b ∷ cs) (x ∷ es) c e f fit does = (f.0, f.1, one_more (desk_afte
 one_more d [] (x ∷ es) c e f fit does = absurd f
 one_more d (b ∷ cs) [] c e f fit does = absurd f
 
--- the last edit fits the desk that those before it leave, and leads from there to the desk of all
+-- the last edit fits the desk that those before it leave, and leads from there to the desk of all, as the last command does
 record Last (d : Desk) (cs : List Command) (es : List EditOf) (e : EditOf) : Type 0 where
   follows : Follows d (front cs) es
   fits : fits (fold desk_after d (front cs)) e ≡ true
   leads : after (fold desk_after d (front cs)) e ≡ fold desk_after d cs
+  command : Command
+  is_final : final cs ≡ command ∷ []
+  makes : fold desk_after d cs ≡ desk_after (fold desk_after d (front cs)) command
 
 one_less : (d : Desk) (cs : List Command) (es : List EditOf) (e : EditOf) → Follows d cs (es ++ e ∷ []) → Last d cs es e
 one_less d [] [] e f = absurd f
 one_less d [] (x ∷ es) e f = absurd f
-one_less d (c ∷ []) [] e f = record { follows = tt; fits = f.0; leads = f.1 }
+one_less d (c ∷ []) [] e f = record { follows = tt; fits = f.0; leads = f.1; command = c; is_final = refl; makes = refl }
 one_less d (c ∷ []) (x ∷ []) e f = absurd f.2
 one_less d (c ∷ []) (x ∷ y ∷ es) e f = absurd f.2
 one_less d (c ∷ b ∷ cs) [] e f = absurd f.2
 one_less d (c ∷ b ∷ cs) (x ∷ es) e f =
     let last = one_less (desk_after d c) (b ∷ cs) es e f.2 in
-    record { follows = (f.0, f.1, last.follows); fits = last.fits; leads = last.leads }
+    record {
+      follows = (f.0, f.1, last.follows);
+      fits = last.fits;
+      leads = last.leads;
+      command = last.command;
+      is_final = last.is_final;
+      makes = last.makes;
+    }
+
+-- one more command is undone
+one_more_ahead : (d : Desk) (cs : List Command) (es : List EditOf) (c : Command) (e : EditOf) → fits d e ≡ true → after d e ≡ desk_after d c → Follows (desk_after d c) (reverse cs) (reverse es)
+    → Follows d (reverse (cs ++ c ∷ [])) (reverse (es ++ e ∷ []))
+one_more_ahead d cs es c e fit does later =
+    subst (λ xs. Follows d xs (reverse (es ++ e ∷ []))) (sym (reverse-append cs (c ∷ [])))
+    (subst (λ ys. Follows d (c ∷ reverse cs) ys) (sym (reverse-append es (e ∷ []))) (fit, does, later))
 
 same_reason : (core : CoreOf) (h : CallHistory) (call : Call) → HasCalled core h → call_refused core call ≡ refusal_of h call
 same_reason core h call called =
@@ -71,18 +85,24 @@ called_on old new h (Apply command) called next does =
       version = next ∙ ap (λ n. n + 1) called.version;
       desk = does.0 ∙ ap (λ d. desk_after d command) called.desk ∙ sym (fold_one_more h.start h.done command);
       follows = subst (λ es. Follows h.start (h.done ++ command ∷ []) es) (sym does.1.3) (one_more h.start h.done old.done command e called.follows fit leads);
+      ahead = subst (λ es. Follows (fold desk_after h.start (h.done ++ command ∷ [])) [] (reverse es)) (sym does.1.4) tt;
     }
 called_on old new h (Undo last) called next does =
     let e = does.0 in
-    let final = one_less h.start h.done new.done e (subst (λ es. Follows h.start h.done es) does.1 called.follows) in
+    let back = one_less h.start h.done new.done e (subst (λ es. Follows h.start h.done es) does.1 called.follows) in
     let earlier = fold desk_after h.start (front h.done) in
     record {
       version = next ∙ ap (λ n. n + 1) called.version;
       desk =
           does.4
-          ∙ ap (λ d. after d (inverse e)) (called.desk ∙ sym final.leads)
-          ∙ undoes earlier e final.fits;
-      follows = final.follows;
+          ∙ ap (λ d. after d (inverse e)) (called.desk ∙ sym back.leads)
+          ∙ undoes earlier e back.fits;
+      follows = back.follows;
+      ahead =
+          subst (λ cs. Follows earlier (reverse (h.undone ++ cs)) (reverse new.undone)) (sym back.is_final)
+          (subst (λ es. Follows earlier (reverse (h.undone ++ back.command ∷ [])) (reverse es)) (sym does.2)
+          (one_more_ahead earlier h.undone old.undone back.command e back.fits (back.leads ∙ back.makes)
+          (subst (λ d. Follows d (reverse h.undone) (reverse old.undone)) back.makes called.ahead)));
     }
 
 pub accepted_by : (old new : CoreOf) (h : CallHistory) (call : Call) (number : ℕ) → HasCalled old h → number ≡ new.version → (call_refused old call ≡ None) × Does old new call → new.version ≡ old.version + 1 → IsAnswered h new call (Accepted number)

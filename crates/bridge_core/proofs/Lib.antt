@@ -12,7 +12,10 @@ pub mod RunLaws
 pub mod Distinct
 pub mod GoodDesk
 pub mod OneReceiver
+pub mod Reached
 pub mod Chosen
+pub mod InRoom
+pub mod ToReceivers
 pub mod Gapless
 pub mod LaneCount
 pub mod EveryLaneLaws

@@ -26,7 +26,7 @@ at-range k a zero lt = refl
 at-range k a (suc n) lt =
     let not : nat_eq a k ≡ false = grind (arith, nat_tests) in from_past (nat_eq a k) a (at (λ (i : ℕ). i) k (range_with_len (a + 1) n)) not (at-range k (a + 1) n (omega arith))
 
-Distinct-range : (a n : ℕ) → Distinct (λ (i : ℕ). i) (range_with_len a n)
+pub Distinct-range : (a n : ℕ) → Distinct (λ (i : ℕ). i) (range_with_len a n)
 Distinct-range a zero = tt
 Distinct-range a (suc n) = (at-range a (a + 1) n (omega arith), Distinct-range (a + 1) n)
 
@@ -34,7 +34,7 @@ slots-receivers : (m : MemberRow) (slots : List SlotRow) → map (λ (r : Receiv
 slots-receivers m [] = refl
 slots-receivers m (s ∷ slots) = ap (λ xs. s ∷ xs) (slots-receivers m slots)
 
-slots-by_place : (members : List MemberRow) (slots : List SlotRow) → map (λ (r : Receiver). r.slot) (by_place members slots) ≡ flat_map (λ (m : MemberRow). filter (λ (s : SlotRow). nat_eq s.member m.member) slots) members
+pub slots-by_place : (members : List MemberRow) (slots : List SlotRow) → map (λ (r : Receiver). r.slot) (by_place members slots) ≡ flat_map (λ (m : MemberRow). filter (λ (s : SlotRow). nat_eq s.member m.member) slots) members
 slots-by_place [] slots = refl
 slots-by_place (m ∷ members) slots =
     let own = filter (λ (s : SlotRow). nat_eq s.member m.member) slots in
@@ -42,7 +42,7 @@ slots-by_place (m ∷ members) slots =
     ∙ ap (λ xs. xs ++ map (λ (r : Receiver). r.slot) (by_place members slots)) (slots-receivers m own)
     ∙ ap (λ xs. own ++ xs) (slots-by_place members slots)
 
-no_receiver : (k : ℕ) (rs : List Receiver) → at ssrc k (map (λ (r : Receiver). r.slot) rs) ≡ None → receiver_at k rs ≡ None
+pub no_receiver : (k : ℕ) (rs : List Receiver) → at ssrc k (map (λ (r : Receiver). r.slot) rs) ≡ None → receiver_at k rs ≡ None
 no_receiver k [] h = refl
 no_receiver k (r ∷ rs) h =
     let p = past (nat_eq r.slot.out_ssrc k) r.slot (at ssrc k (map (λ (r : Receiver). r.slot) rs)) h in

@@ -8,6 +8,8 @@ use Rattle.desk_rows.specs.declared.row.Row.{Row}
 use Rattle.desk_rows.specs.declared.row.Row.TheVariants.{Room, Member, Source, Slot, Sub}
 use Rattle.desk_rows.specs.declared.row.Slot.{Slot as SlotRow}
 use Rattle.desk_rows.specs.declared.row.Member.{Member as MemberRow}
+use Rattle.desk_rows.specs.declared.row.Kind.TheVariants as kinds
+use Rattle.desk_rows.specs.Kinds.{is_of}
 use Rattle.desk_rows.specs.Desk.{Desk}
 use Rattle.bridge_core.specs.declared.lane_place.LanePlace.{LanePlace}
 use Rattle.bridge_core.specs.declared.receivers.Receiver.{Receiver}
@@ -57,7 +59,7 @@ filter-by_place p (m ∷ members) slots =
 abbrev mine : LanePlace → SlotRow → Bool
 mine place s = is_mine place.lane place.lanes s.out_ssrc
 
-takers : (d : Desk) (source : ℕ) (place : LanePlace) (rs : List Row) → filter_map (taker d source place) rs ≡ filter (mine place) (filter (chooses d source) (filter_map slot_in rs))
+takers : (d : Desk) (source : ℕ) (place : LanePlace) (rs : List Row) → filter_map (taker d source place) (filter (is_of kinds.Slot) rs) ≡ filter (mine place) (filter (chooses d source) (filter_map slot_in rs))
 takers d source place [] = refl
 takers d source place (Room r ∷ rs) = takers d source place rs
 takers d source place (Member r ∷ rs) = takers d source place rs
@@ -84,7 +86,7 @@ takers d source place (Slot s ∷ rs) =
 
 -- the lane's slots that chose the source, in order, are its receivers
 receivers_in_order : (place : LanePlace) (d : Desk) (source : ℕ) (address : Address) → comes_from d source address ≡ true
-    → by_place d.members (by_index (filter_map (taker d source place) d.others)) ≡ receivers_in place.lane place.lanes d source address
+    → by_place d.members (by_index (filter_map (taker d source place) (filter (is_of kinds.Slot) d.others))) ≡ receivers_in place.lane place.lanes d source address
 unfolding receivers by_index
 receivers_in_order place d source address e =
     let chosen = filter (chooses d source) (slots_of d) in
@@ -93,13 +95,14 @@ receivers_in_order place d source address e =
     ∙ sym (filter-by_place (mine place) d.members (by_index chosen))
     ∙ sym (ap (λ b. filter (λ (r : Receiver). mine place r.slot) (cond b (by_place d.members (by_index chosen)) [])) e)
 
--- the same, step by step
-pub receivers_by_steps : (place : LanePlace) (d : Desk) (source : ℕ) (address : Address) (slots sorted : List SlotRow) (members : List MemberRow) → comes_from d source address ≡ true
-    → slots ≡ filter_map (taker d source place) d.others → sorted ≡ by_index slots → members ≡ d.members
-    → by_place members sorted ≡ receivers_in place.lane place.lanes d source address
-receivers_by_steps place d source address slots sorted members comes found ordered all =
-    ap (λ ms. by_place ms sorted) all
-    ∙ ap (by_place d.members) (ordered ∙ ap by_index found)
+-- the same, step by step: the slots are made and read, then put in order and read
+pub receivers_by_steps : (place : LanePlace) (d : Desk) (source : ℕ) (address : Address) (made slots put sorted : List SlotRow) (members : List MemberRow) (found : List Receiver) → comes_from d source address ≡ true
+    → made ≡ filter_map (taker d source place) (filter (is_of kinds.Slot) d.others) → slots ≡ made → put ≡ by_index slots → sorted ≡ put → members ≡ d.members → found ≡ by_place members sorted
+    → found ≡ receivers_in place.lane place.lanes d source address
+receivers_by_steps place d source address made slots put sorted members found comes taken read ordered read_on all is =
+    is
+    ∙ ap (λ ms. by_place ms sorted) all
+    ∙ ap (by_place d.members) (read_on ∙ ordered ∙ ap by_index (read ∙ taken))
     ∙ receivers_in_order place d source address comes
 
 -- nobody gets what comes from another address

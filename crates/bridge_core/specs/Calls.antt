@@ -6,7 +6,7 @@ use Rattle.desk_rows.specs.Exchange.{fits, after}
 use Rattle.desk_edit.specs.declared.command.Call.{Call}
 use Rattle.desk_edit.specs.declared.command.Call.TheVariants.{Apply, Undo}
 use Rattle.desk_edit.specs.declared.command.Refusal.{Refusal}
-use Rattle.desk_edit.specs.declared.command.Refusal.TheVariants.{NewerCommand, NothingToUndo, LogFull, OutOfMemory}
+use Rattle.desk_edit.specs.declared.command.Refusal.TheVariants.{LogFull, OutOfMemory}
 use Rattle.desk_edit.specs.Commands.{desk_after}
 use Rattle.desk_edit.specs.Calls.{refusal_at}
 use Rattle.bridge_core.specs.declared.fault.CoreFault.{CoreFault}

@@ -18,6 +18,7 @@ member_of (Some (Source s)) = Some s.member
 member_of (Some (Slot s)) = Some s.member
 member_of _ = None
 
+-- both numbers are there, and they are one
 abbrev pub same_number : Option ℕ → Option ℕ → Bool
 same_number (Some a) (Some b) = nat_eq a b
 same_number _ _ = false
@@ -45,6 +46,7 @@ abbrev pub member_address : Desk → Option ℕ → Option Address
 member_address d None = None
 member_address d (Some member) = address_in (row_at d (keys.Member member))
 
+-- there is an address, and it is this one
 abbrev pub is_address : Address → Option Address → Bool
 is_address a None = false
 is_address a (Some b) = same_address a b

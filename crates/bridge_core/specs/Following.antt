@@ -1,5 +1,5 @@
 -- How a core stands to the history of its calls.
-use Rattle.std.specs.Prelude.{◌≡◌, ◌≢◌, ◌+◌, true, List, [], ◌∷◌, None, Some}
+use Rattle.std.specs.Prelude.{◌≡◌, ◌≢◌, ◌+◌, true, List, [], ◌∷◌, reverse, None, Some}
 use Rattle.desk_rows.specs.Desk.{Desk}
 use Rattle.desk_rows.specs.Edit.{EditOf}
 use Rattle.desk_rows.specs.Exchange.{fits, after}
@@ -21,11 +21,12 @@ Follows d (command ∷ commands) (e ∷ es) = (fits d e ≡ true) × (after d e 
 Follows d [] (e ∷ es) = ⊥
 Follows d (command ∷ commands) [] = ⊥
 
--- the core is where this history of calls leads
+-- the core is where this history of calls leads: its version and its desk, with one edit for each command that is done, and one for each that is undone, which from the last one on lead ahead from the desk
 pub record HasCalled (core : CoreOf) (h : CallHistory) : Type 0 where
   pub version : core.version ≡ h.accepted
   pub desk : core.desk ≡ desk_now h
   pub follows : Follows h.start h.done core.done
+  pub ahead : Follows (desk_now h) (reverse h.undone) (reverse core.undone)
 
 -- this is why the call is refused by its history: the first reason, or else want of memory, which an undo never has
 abbrev pub IsTold : CallHistory → Call → Refusal → Type 0

@@ -23,6 +23,7 @@ pub record HasHandled (state : LaneOf) (visits : List Visit) : Type 0 where
   pub handled : state.handled ≡ length visits
   pub streams : (ssrc : ℕ) → is_mine state.lane state.lanes ssrc ≡ true → stream_at ssrc state.streams ≡ stream_of ssrc (routed ssrc visits)
 
+-- an input under this version, as this item, with this desk
 abbrev pub visit_of : ℕ → ℕ → Desk → Input → Visit
 visit_of version item desk input = record { version = version; item = item; desk = desk; input = input }
 

@@ -26,6 +26,7 @@ pub record Routed : Type 0 where
   pub slot : SlotRow
   pub sending : Sending
 
+-- a frame for a receiver: by its slot, to its member at its address, by the version and as the item of the visit
 abbrev pub routed_to : Visit → SourceFrame → Receiver → Routed
 routed_to visit f r = record {
   slot = r.slot;
@@ -45,6 +46,7 @@ receiver_at ssrc rs = find (λ r. nat_eq r.slot.out_ssrc ssrc) rs
 abbrev pub routed_of : ℕ → Visit → Input → Option Routed
 routed_of ssrc visit (frame f) = option_map (routed_to visit f) (receiver_at ssrc (receivers visit.desk f.source f.address))
 
+-- what a visit brings to a stream
 abbrev pub routed_at : ℕ → Visit → Option Routed
 routed_at ssrc visit = routed_of ssrc visit visit.input
 
@@ -52,6 +54,7 @@ routed_at ssrc visit = routed_of ssrc visit visit.input
 abbrev pub routed : ℕ → List Visit → List Routed
 routed ssrc visits = filter_map (routed_at ssrc) visits
 
+-- the frames of a routed list
 abbrev pub sendings : List Routed → List Sending
 sendings rs = map (λ r. r.sending) rs
 
@@ -84,5 +87,6 @@ sends_of lane lanes before visit (frame f) =
     flat_map (λ r. map (sent_to visit.version visit.item r) (packets_at r.slot.out_ssrc before visit))
     (receivers_in lane lanes visit.desk f.source f.address)
 
+-- what a lane sends at a visit, after those before it
 abbrev pub sends_at : ℕ → ℕ → List Visit → Visit → List Sent
 sends_at lane lanes before visit = sends_of lane lanes before visit visit.input

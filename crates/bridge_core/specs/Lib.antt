@@ -8,6 +8,7 @@ pub mod Counters
 pub mod Choice
 pub mod OwnStreams
 pub mod Receivers
+pub mod Reach
 pub mod Takers
 pub mod Sent
 pub mod Lanes

@@ -29,10 +29,12 @@ abbrev pub IsNext : List Stream → SourceFrame → Ready → Type 0
 IsNext streams f ready =
     let s = current (stream_at ready.0.slot.out_ssrc streams) ready.0.slot in SendsNext s (committed s ready.1) f ready.1.packets
 
+-- what is prepared is for each receiver the next frame of its stream
 abbrev pub AreNext : List Stream → SourceFrame → List Ready → Type 0
 AreNext streams f [] = Unit {0}
 AreNext streams f (r ∷ rs) = IsNext streams f r × AreNext streams f rs
 
+-- the receivers for whom something is ready
 abbrev pub receivers_of : List Ready → List Receiver
 receivers_of rs = map (λ r. r.0) rs
 
@@ -46,8 +48,10 @@ abbrev pub kept_after : ℕ → List Ready → Option Stream → Option Stream
 kept_after ssrc [] kept = kept
 kept_after ssrc (r ∷ rs) kept = kept_after ssrc rs (kept_after_one ssrc r.0.slot r.1 kept)
 
+-- all that is ready, as it goes to its receivers
 abbrev pub sent_for : ℕ → ℕ → List Ready → List Sent
 sent_for version item rs = flat_map (λ r. map (sent_to version item r.0) r.1.packets) rs
 
+-- how many packets are ready
 abbrev pub packet_count : List Ready → ℕ
 packet_count rs = sum_by (λ r. length r.1.packets) rs

@@ -12,6 +12,7 @@ use Rattle.bridge_core.specs.declared.receivers.TheConstants.{INDEXES}
 use Rattle.bridge_core.specs.OwnStreams.{is_mine}
 use Rattle.bridge_core.specs.Choice.{choice, comes_from, same_number}
 
+-- the slot in a row
 abbrev pub slot_in : Row → Option SlotRow
 slot_in (Slot s) = Some s
 slot_in _ = None
@@ -28,6 +29,7 @@ chooses d source slot = same_number (choice d slot.out_ssrc) (Some source)
 unfoldable pub by_index : List SlotRow → List SlotRow
 by_index slots = flat_map (λ index. filter (λ s. nat_eq s.index index) slots) (range_with_len 0 INDEXES)
 
+-- a slot as a receiver, at the address of a member
 abbrev pub receiver : MemberRow → SlotRow → Receiver
 receiver m slot = record { slot = slot; address = m.address }
 

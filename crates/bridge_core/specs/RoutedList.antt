@@ -13,6 +13,7 @@ pub record Part : Type 0 where
   pub ts : ℕ
   pub packet : SourcePacket
 
+-- a packet of a frame of this source that is sent under this timestamp
 abbrev pub part_of : ℕ → ℕ → SourcePacket → Part
 part_of source ts packet = record { source = source; ts = ts; packet = packet }
 
@@ -29,6 +30,7 @@ header_of ssrc number ts packet =
 abbrev pub octets : ℕ → ℕ → Part → List ℕ
 octets ssrc number part = written (header_of ssrc number part.ts part.packet) (part.source ∷ []) part.packet.payload
 
+-- a packet as it is sent, with its number
 abbrev pub out_packet : ℕ → ℕ → Part → Numbered
 out_packet ssrc number part = record { number = number; bytes = octets ssrc number part }
 

@@ -24,9 +24,11 @@ pub data Sent : Type 0 where
 pub data Input : Type 0 where
   frame : SourceFrame → Input
 
+-- what a lane sends, without where its octets lie
 abbrev pub sent_of : {A : Type 0} → Egress A → Sent
 sent_of (Media version item to ssrc number bytes) =
     Sent.media record { version = version; item = item; to = to; ssrc = ssrc; number = number; bytes = bytes }
 
+-- what a lane is given, without where its octets lie
 abbrev pub input_of : {A : Type 0} → Item A → Input
 input_of (Frame f) = Input.frame f

@@ -38,6 +38,7 @@ along at before (step ∷ steps) = at before step ++ along at (before ++ step �
 abbrev pub visit_after : Desk → List Step → ℕ → Input → Visit
 visit_after start before lane input = visit_of (version_of before) (count_of lane before + 1) (desk_of start before) input
 
+-- the visit that a step is to a lane, if it is one
 abbrev pub visit_at : ℕ → Desk → List Step → Step → List Visit
 visit_at lane start before (Step.publish next) = []
 visit_at lane start before (Step.item to input) = if nat_eq to lane then visit_after start before lane input ∷ [] else []

@@ -1,17 +1,12 @@
--- How a lane finds the slots that chose a source.
-use Rattle.std.specs.Prelude.{ℕ, ◌&&◌, if◌then◌else◌, nat_eq, Option, None, Some}
+-- How a lane finds the slots that chose a source. No public clause cites this.
+use Rattle.std.specs.Prelude.{ℕ, ◌&&◌, if◌then◌else◌, Option, None, Some}
 use Rattle.desk_rows.specs.declared.row.Slot.{Slot as SlotRow}
 use Rattle.desk_rows.specs.declared.row.Row.{Row}
-use Rattle.desk_rows.specs.declared.row.Row.TheVariants.{Slot, Sub}
+use Rattle.desk_rows.specs.declared.row.Row.TheVariants.{Slot}
 use Rattle.desk_rows.specs.Desk.{Desk}
 use Rattle.bridge_core.specs.declared.lane_place.LanePlace.{LanePlace}
 use Rattle.bridge_core.specs.OwnStreams.{is_mine}
 use Rattle.bridge_core.specs.Receivers.{chooses}
-
--- the SSRC of a slot that is subscribed to the source
-abbrev pub subscriber : ℕ → Row → Option ℕ
-subscriber source (Sub s) = if nat_eq s.source source then Some s.out_ssrc else None
-subscriber source _ = None
 
 -- the slot in a row, if it is of the lane and chose the source
 abbrev pub taker : Desk → ℕ → LanePlace → Row → Option SlotRow

@@ -36,6 +36,7 @@ abbrev pub last_or : Stamped → List Stamped → Stamped
 last_or x [] = x
 last_or x (y ∷ ys) = last_or y ys
 
+-- the last of a list, if it has one
 abbrev pub last_of : List Stamped → Option Stamped
 last_of [] = None
 last_of (x ∷ xs) = Some (last_or x xs)

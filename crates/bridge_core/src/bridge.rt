@@ -1,8 +1,8 @@
 //! The desk and the lanes together.
 
-ghost use Rattle.std.specs.Prelude.{◌≡◌, ℕ, ◌+◌, ◌<◌, ◌≤◌, ◌≢◌, ◌↔◌, Bool, true, false, nat_eq, List, [], ◌∷◌, map, length, Option, None, Some, IfOk, IfErr, OnOk, OnErr};
+ghost use Rattle.std.specs.Prelude.{◌≡◌, ◌+◌, ◌<◌, ◌≤◌, ◌≢◌, ◌↔◌, true, nat_eq, [], ◌∷◌, map, length, None, Some, IfOk, IfErr, OnOk, OnErr};
 ghost use Rattle.undo_log.specs.declared.history.TheConstants.{LIMIT as CALLS};
-ghost use Rattle.desk_rows.specs.Desk.{blank};
+ghost use Rattle.desk_rows.specs.Desk.{blank, good};
 ghost use Rattle.desk_rows.specs.Exchange.{fits, after};
 ghost use Rattle.desk_edit.specs.Commands.{desk_after};
 ghost use Rattle.desk_edit.specs.Calls.{CallHistory, no_calls};
@@ -110,9 +110,11 @@ impl<A: Allocator + Copy> Core<A> {
     pub fn desk(&mut self, alloc: A, _op: u8, call: Call) -> Reply
         ensures answer { Answers self.old self.new call result }
         ensures takes { OnAccepted result (Takes self.old self.new (Step.publish self.new.desk) []) }
+        ensures good { good self.new.desk ≡ true }
         ensures history { (h : CallHistory) → HasCalled self.old h → IsAnswered h self.new call result }
     {
         let done = self.call(alloc, call);
+        self.history.state().known();
         let version = self.version;
         match done {
             Ok(()) => Reply::Accepted { no: version },

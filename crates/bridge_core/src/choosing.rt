@@ -1,6 +1,7 @@
 //! Which source a slot sends.
 
-ghost use Rattle.std.specs.Prelude.{◌≡◌, Option};
+ghost use Rattle.std.specs.Prelude.{◌≡◌, Option, Some};
+ghost use Rattle.desk_rows.specs.declared.row.Key.TheVariants as keys;
 ghost use Rattle.desk_rows.specs.Desk.{row_at};
 ghost use Rattle.bridge_core.specs.Choice.{choice, subscribed, member_of, same_number, is_own, address_in, member_address, is_address, comes_from};
 
@@ -19,6 +20,13 @@ pub fn choice<A: Allocator + Copy>(rows: &Rows<A>, out_ssrc: u32) -> Option<u32>
     } else {
         Some(source)
     }
+}
+
+/// Whether the slot is subscribed to the source.
+pub fn is_subscribed<A: Allocator + Copy>(rows: &Rows<A>, source: u32, out_ssrc: u32) -> bool
+    ensures { result ≡ same_number (subscribed (row_at rows.now (keys.Sub out_ssrc))) (Some source) }
+{
+    same_number(subscribed(rows.find(&Key::Sub(out_ssrc))), Some(source))
 }
 
 /// Whether the source's member has this address.

@@ -1,6 +1,6 @@
 //! Whole video frames.
 
-ghost use Rattle.std.specs.Prelude.{◌≡◌, ℤ, ◌∷◌, ◌≤◌, length, OnOk, IfOk, IfErr, Option, None, Some};
+ghost use Rattle.std.specs.Prelude.{◌≡◌, ◌≤◌, length, OnOk, IfOk, IfErr, Option, None, Some};
 ghost use Rattle.std.specs.List.{All};
 ghost use Rattle.bridge_core.specs.Frame.{WholeFrame, fault_of, numbers_rise, rise_from, marker_is_early, lacks_payload, has_bad_kind};
 

@@ -1,6 +1,6 @@
 //! Lanes: each has its share of the outgoing streams.
 
-ghost use Rattle.std.specs.Prelude.{◌≡◌, ℕ, ◌+◌, ◌-◌, ◌*◌, ◌<◌, ◌≤◌, ◌^◌, ◌↔◌, map, [], length, IfOk, OnOk, OnErr};
+ghost use Rattle.std.specs.Prelude.{◌≡◌, ◌+◌, ◌-◌, ◌<◌, ◌≤◌, ◌^◌, ◌↔◌, map, [], IfOk, OnOk, OnErr};
 ghost use Rattle.bridge_core.specs.Sent.{sent_of, input_of};
 ghost use Rattle.bridge_core.specs.LaneState.{HasHandled, Handles, LaneOf};
 ghost use Rattle.bridge_core.specs.Sent.{Input as AnyInput};

@@ -1,19 +1,24 @@
 //! Laws of all that the lanes send, whatever the order of calls and items, and of all that calls do.
 
-ghost use Rattle.std.specs.Prelude.{◌≡◌, ℕ, ◌%◌, ◌<◌, true, List, [], length, fold, reverse};
-ghost use Rattle.std.specs.List.{AllByRecursion};
-ghost use Rattle.desk_rows.specs.Desk.{Desk, good};
+ghost use Rattle.std.specs.Prelude.{◌≡◌, ℕ, ◌+◌, ◌%◌, ◌<◌, true, List, [], length, fold, reverse, Some};
+ghost use Rattle.std.specs.List.{AllByRecursion, list_any};
+ghost use Rattle.desk_rows.specs.Desk.{Desk, good, is_slot_beside};
 ghost use Rattle.undo_log.specs.Timeline.{rewound};
 ghost use Rattle.desk_rows.specs.Edit.{inverse};
 ghost use Rattle.desk_rows.specs.Exchange.{after};
 ghost use Rattle.desk_edit.specs.Calls.{CallHistory};
+ghost use Rattle.rtp_codec.specs.declared.address.Address.{Address};
 ghost use Rattle.bridge_core.specs.Frame.{SourceFrame};
+ghost use Rattle.bridge_core.specs.Choice.{choice};
+ghost use Rattle.bridge_core.specs.Receivers.{receivers};
+ghost use Rattle.bridge_core.specs.Lanes.{receiver_at};
+ghost use Rattle.bridge_core.specs.Reach.{receiver_on};
 ghost use Rattle.bridge_core.specs.Sent.{Input, Sent};
-ghost use Rattle.bridge_core.specs.Steps.{Step, sends, sent_at, version_of, desk_of, visits, CoreOf, HasTaken};
+ghost use Rattle.bridge_core.specs.Steps.{Step, sends, sent_at, version_of, desk_of, count_of, visits, CoreOf, HasTaken};
 ghost use Rattle.bridge_core.specs.Following.{HasCalled};
 ghost use Rattle.bridge_core.specs.Runs.{Runs};
 ghost use Rattle.bridge_core.specs.EveryLane.{to_every};
-ghost use Rattle.bridge_core.specs.Headline.{AreGood, HaveNoGap, numbers, sent_on, IsChosen};
+ghost use Rattle.bridge_core.specs.Headline.{AreGood, HaveNoGap, numbers, sent_on, IsChosen, GoesOut};
 
 /// Over any steps that cores take one by one, from a core that has taken nothing on: what is sent,
 /// joined in order, is what `sends` gives for the whole list, and the last core has taken all of it.
@@ -35,9 +40,23 @@ pub fn lane_count_does_not_matter()
     ensures every_lane { (few many : ℕ) (start : Desk) (steps : List Step) (ssrc : ℕ) → 0 < few → 0 < many → sent_on ssrc (sends few start (to_every few steps)) ≡ sent_on ssrc (sends many start (to_every many steps)) }
 {}
 
-/// Each packet that is sent for a frame is what the desk of its version chooses.
+/// Each packet that is sent for a frame is what the desk of its version chooses. It names the
+/// version and the item, and on a good desk it goes to the member of its stream's slot.
 pub fn packets_are_chosen()
-    ensures { (lanes lane : ℕ) (start : Desk) (before : List Step) (f : SourceFrame) → AllByRecursion (AllByRecursion (IsChosen (version_of before) (desk_of start before) f)) (sent_at lanes start before (Step.item lane (Input.frame f))) }
+    ensures chosen { (lanes lane : ℕ) (start : Desk) (before : List Step) (f : SourceFrame) → AllByRecursion (AllByRecursion (IsChosen (version_of before) (desk_of start before) f)) (sent_at lanes start before (Step.item lane (Input.frame f))) }
+    ensures goes_out { (lanes lane : ℕ) (start : Desk) (before : List Step) (f : SourceFrame) → good (desk_of start before) ≡ true → AllByRecursion (AllByRecursion (GoesOut (count_of lane before + 1) (desk_of start before) f)) (sent_at lanes start before (Step.item lane (Input.frame f))) }
+{}
+
+/// On a good desk, what a stream sends is a video source of the room that its slot is in.
+pub fn choices_stay_in_the_room()
+    ensures { (desk : Desk) (out_ssrc source : ℕ) → good desk ≡ true → choice desk out_ssrc ≡ Some source → list_any (is_slot_beside desk out_ssrc source) desk.others ≡ true }
+{}
+
+/// On a good desk, what a source sends from an address goes out on a stream just where the desk has
+/// the stream's slot, this chose the source, and the source's member has the address; and it goes to
+/// the address of the slot's member.
+pub fn all_who_chose_receive()
+    ensures { (desk : Desk) (source : ℕ) (address : Address) (out_ssrc : ℕ) → good desk ≡ true → receiver_at out_ssrc (receivers desk source address) ≡ receiver_on desk source address out_ssrc }
 {}
 
 /// The edits that are kept lead from the start to the desk of the command equations; taken back,

@@ -1,15 +1,16 @@
 //! Who gets a frame.
 
-ghost use Rattle.std.specs.Prelude.{◌≡◌, ℕ, ◌<◌, ◌≤◌, ◌++◌, ◌&&◌, nat_eq, filter, map, length, true, Option, Some, IfOk, OnOk};
-ghost use Rattle.std.specs.List.{filter_map, list_any};
-ghost use Rattle.desk_rows.specs.declared.row.Slot.{Slot as SlotRow};
+ghost use Rattle.std.specs.Prelude.{◌≡◌, ◌<◌, ◌++◌, ◌&&◌, nat_eq, filter, map, Option, Some, IfOk, OnOk};
+ghost use Rattle.std.specs.List.{filter_map};
+ghost use Rattle.desk_rows.specs.declared.row.Kind.TheVariants as kinds;
+ghost use Rattle.desk_rows.specs.Kinds.{is_of};
 ghost use Rattle.bridge_core.specs.Choice.{choice, comes_from, same_number};
-ghost use Rattle.bridge_core.specs.Receivers.{receivers, chooses, by_index, by_place, receiver, slots_of, slot_in, receivers_in};
-ghost use Rattle.bridge_core.specs.Takers.{subscriber, taker};
+ghost use Rattle.bridge_core.specs.Receivers.{receivers, chooses, by_index, by_place, receiver, receivers_in};
+ghost use Rattle.bridge_core.specs.Takers.{taker};
 
-use crate::choosing::{choice, comes_from, same_number};
+use crate::choosing::{choice, comes_from, is_subscribed, same_number};
 use crate::lane_place::LanePlace;
-use desk_rows::{Member, Row, Rows, Slot};
+use desk_rows::{Kind, Member, Row, Rows, Slot};
 use rtp_codec::Address;
 use std::alloc::{AllocError, Allocator};
 
@@ -38,68 +39,39 @@ pub fn receivers_of<A: Allocator + Copy>(
     if !comes_from(rows, source, address) {
         return Ok(Vec::new(alloc));
     }
-    let subscribers = subscribers_of(alloc, rows.others(), source)?;
-    let slots = takers(alloc, rows, &subscribers, source, place)?;
+    let slots = takers(alloc, rows, source, place)?;
     let sorted = by_index(alloc, &slots)?;
     by_place(alloc, rows.members(), &sorted)
 }
 
-/// The SSRC of a slot that is subscribed to the source.
-fn subscriber(row: &Row, source: u32) -> Option<u32>
-    ensures { result ≡ subscriber source row.now }
-{
-    match row {
-        Row::Sub(sub) if sub.source == source => Some(sub.out_ssrc),
-        _ => None,
-    }
-}
-
-/// The SSRCs of the slots that are subscribed to the source.
-fn subscribers_of<A: Allocator + Copy>(
-    alloc: A,
-    others: &[Row],
-    source: u32,
-) -> Result<Vec<u32, A>, AllocError>
-    ensures { IfOk result (λ v. v.items ≡ filter_map (subscriber source) others.now) }
-{
-    others
-        .iter()
-        .filter_map(|row| subscriber(row, source))
-        .collect(alloc)
-}
-
-/// The slots of the lane that chose the source, which are some of its subscribers.
+/// The slots of the lane that chose the source.
 fn takers<A: Allocator + Copy>(
     alloc: A,
     rows: &Rows<A>,
-    subscribers: &[u32],
     source: u32,
     place: &LanePlace,
 ) -> Result<Vec<Slot, A>, AllocError>
-    requires { subscribers.now ≡ filter_map (subscriber source) rows.now.others }
-    ensures { IfOk result (λ v. v.items ≡ filter_map (taker rows.now source place.now) rows.now.others) }
+    ensures { IfOk result (λ v. v.items ≡ filter_map (taker rows.now source place.now) (filter (is_of kinds.Slot) rows.now.others)) }
 {
-    rows.others()
+    rows.others_of(Kind::Slot)
         .iter()
-        .filter_map(|row| taker(rows, subscribers, source, place, row))
+        .filter_map(|row| taker(rows, source, place, row))
         .collect(alloc)
 }
 
 /// The slot in a row, if it is of the lane and chose the source.
 fn taker<A: Allocator + Copy>(
     rows: &Rows<A>,
-    subscribers: &[u32],
     source: u32,
     place: &LanePlace,
     row: &Row,
 ) -> Option<Slot>
-    requires { subscribers.now ≡ filter_map (subscriber source) rows.now.others }
     ensures { result ≡ taker rows.now source place.now row.now }
 {
     let Row::Slot(slot) = row else {
         return None;
     };
-    if place.is_mine(slot.out_ssrc) && chooses(rows, subscribers, source, slot.out_ssrc) {
+    if place.is_mine(slot.out_ssrc) && chooses(rows, source, slot.out_ssrc) {
         Some(*slot)
     } else {
         None
@@ -107,25 +79,13 @@ fn taker<A: Allocator + Copy>(
 }
 
 /// Whether the slot chose the source. Only a subscriber does.
-fn chooses<A: Allocator + Copy>(
-    rows: &Rows<A>,
-    subscribers: &[u32],
-    source: u32,
-    out_ssrc: u32,
-) -> bool
-    requires { subscribers.now ≡ filter_map (subscriber source) rows.now.others }
+fn chooses<A: Allocator + Copy>(rows: &Rows<A>, source: u32, out_ssrc: u32) -> bool
     ensures { result ≡ same_number (choice rows.now out_ssrc) (Some source) }
 {
-    if !has_number(subscribers, out_ssrc) {
+    if !is_subscribed(rows, source, out_ssrc) {
         return false;
     }
     same_number(choice(rows, out_ssrc), Some(source))
-}
-
-fn has_number(numbers: &[u32], number: u32) -> bool
-    ensures { result ≡ list_any (λ n. nat_eq n number) numbers.now }
-{
-    numbers.iter().any(|n| *n == number)
 }
 
 /// Slots in the order of their indexes.

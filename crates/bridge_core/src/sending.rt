@@ -6,7 +6,7 @@ ghost use Rattle.bridge_core.specs.Streams.{state_of};
 ghost use Rattle.bridge_core.specs.Sent.{sent_of};
 ghost use Rattle.bridge_core.specs.Lanes.{sent_to};
 ghost use Rattle.bridge_core.specs.LaneState.{stream_at};
-ghost use Rattle.bridge_core.specs.Readies.{current, IsNext, AreNext, receivers_of, kept_after_one, kept_after, sent_for, packet_count};
+ghost use Rattle.bridge_core.specs.Readies.{IsNext, AreNext, receivers_of, kept_after_one, kept_after, sent_for, packet_count};
 
 use crate::egress::Egress;
 use crate::frame::MediaFrame;

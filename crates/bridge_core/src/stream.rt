@@ -1,9 +1,8 @@
 //! Outgoing video streams: they number their packets in a row and keep a time of their own.
 
-ghost use Rattle.std.specs.Prelude.{◌≡◌, ℕ, ◌+◌, ◌≤◌, ◌++◌, ◌∷◌, [], length, map, IfOk, OnErr};
+ghost use Rattle.std.specs.Prelude.{◌≡◌, ◌+◌, ◌≤◌, ◌∷◌, [], length, map, IfOk, OnErr};
 ghost use Rattle.std.specs.List.{All};
-ghost use Rattle.bridge_core.specs.Frame.{SourcePacket};
-ghost use Rattle.bridge_core.specs.RoutedList.{octets, part_of, numbered, header_of};
+ghost use Rattle.bridge_core.specs.RoutedList.{octets, part_of, numbered};
 ghost use Rattle.bridge_core.specs.Streams.{state_of, sent, SendsNext, committed};
 ghost use Rattle.bridge_core.specs.Counters.{ts_after, goes_on, IsPrepared};
 ghost use Rattle.rtp_codec.specs.Packet.{written};

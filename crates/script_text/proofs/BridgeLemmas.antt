@@ -45,12 +45,12 @@ call_answered old new bridge call (Refused at why) s does by takes told =
 first_same : {A : Type 0} (x y : A) → x ∷ [] ≡ y ∷ [] → x ≡ y
 first_same x y e = cc
 
-pub item_answered : (old new : CoreOf) (bridge : Bridge) (item : Input) (sent : List Sent) → Stands old bridge → Takes old new (Step.item 0 item) (sent ∷ []) → new.version ≡ old.version → new.desk ≡ old.desk → new.done ≡ old.done → length new.lanes ≡ length old.lanes → Stands new (after_item bridge item) × (sent ≡ sends_of bridge item)
-item_answered old new bridge item sent s takes version desk done lanes =
+pub item_answered : (old new : CoreOf) (bridge : Bridge) (item : Input) (sent : List Sent) → Stands old bridge → Takes old new (Step.item 0 item) (sent ∷ []) → new.version ≡ old.version → new.desk ≡ old.desk → new.done ≡ old.done → new.undone ≡ old.undone → length new.lanes ≡ length old.lanes → Stands new (after_item bridge item) × (sent ≡ sends_of bridge item)
+item_answered old new bridge item sent s takes version desk done undone lanes =
     let t = takes first_desk bridge.steps s.taken in (
       record {
         taken = t.1;
-        called = record { version = version ∙ s.called.version; desk = desk ∙ s.called.desk; follows = rw done s.called.follows };
+        called = record { version = version ∙ s.called.version; desk = desk ∙ s.called.desk; follows = rw done s.called.follows; ahead = rw undone s.called.ahead };
         lanes = lanes ∙ s.lanes;
       },
       first_same sent (sends_of bridge item) (subst (λ (n : ℕ). sent ∷ [] ≡ sent_at n first_desk bridge.steps (Step.item 0 item)) s.lanes t.0),

@@ -11,5 +11,5 @@ returns-then-not-comes_from g c =
 pub returns : goal.returns
 returns g c =
     let comes : comes_from c.args.rows.now c.args.source c.args.address.now ≡ true = sym c.comes_from.ensures ∙ c.if-not-comes_from.false in
-    IfOk-weaker c.by_place.result _ _ (λ v is. is ∙ receivers_by_steps c.args.place.now c.args.rows.now c.args.source c.args.address.now c.deref-2.result.now c.deref-3.result.now c.members.result.now comes
-    (c.deref-2.ensures.value ∙ c.in_ok-slots.ensures) (c.deref-3.ensures.value ∙ c.in_ok-sorted.ensures) c.members.ensures) c.by_place.ensures
+    IfOk-weaker c.by_place.result _ _ (λ v is. receivers_by_steps c.args.place.now c.args.rows.now c.args.source c.args.address.now c.in_ok-slots.slots.items c.deref.result.now c.in_ok-sorted.sorted.items c.deref-2.result.now c.members.result.now v.items
+    comes c.in_ok-slots.ensures c.deref.ensures.value c.in_ok-sorted.ensures c.deref-2.ensures.value c.members.ensures is) c.by_place.ensures

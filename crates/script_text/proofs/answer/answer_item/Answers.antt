@@ -7,5 +7,5 @@ use Rattle.script_text.proofs.answer.answer_item.Goals as goal
 
 pub returns-in-Ok-clause-answer : goal.returns-in-Ok-clause-answer
 returns-in-Ok-clause-answer g c = on_ok c.print_all.result _ _ c.print_all.ensures (λ text bridge stands.
-    let h = item_answered c.args.core.now c.item.new.self bridge (input_of c.args.item.now) (map sent_of c.in-Ok.egresses.items) stands c.in-Ok.ensures.takes c.item.ensures.desk.0 c.item.ensures.desk.1 c.item.ensures.history.0 c.item.ensures.lanes in
+    let h = item_answered c.args.core.now c.item.new.self bridge (input_of c.args.item.now) (map sent_of c.in-Ok.egresses.items) stands c.in-Ok.ensures.takes c.item.ensures.desk.0 c.item.ensures.desk.1 c.item.ensures.history.0 c.item.ensures.history.1 c.item.ensures.lanes in
     (h.0, text ∙ rw (c.requires.empty, c.deref.ensures.value) (ap (flat_map sent_text) h.1)))
