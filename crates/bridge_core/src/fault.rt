@@ -1,12 +1,15 @@
 //! Why lanes and cores refuse.
 
 use std::alloc::{AllocError, AllocFailed};
+use thiserror::Error;
 
 /// Why an item is refused.
-#[derive(Clone, Copy, Debug, PartialEq, Eq)]
+#[derive(Clone, Copy, Debug, PartialEq, Eq, Error)]
 pub enum LaneFault {
     /// 2^64 - 1 items were handled.
+    #[error("2^64 - 1 items were handled")]
     Spent,
+    #[error("out of memory")]
     OutOfMemory,
 }
 
@@ -33,11 +36,14 @@ impl<T: Drop> From<AllocFailed<T>> for LaneFault {
 }
 
 /// Why a core is not made. The first that holds is reported.
-#[derive(Clone, Copy, Debug, PartialEq, Eq)]
+#[derive(Clone, Copy, Debug, PartialEq, Eq, Error)]
 pub enum CoreFault {
     /// The number of lanes is not 1 to 16.
+    #[error("the number of lanes is not 1 to 16")]
     BadLanes,
     /// The canonical name does not have 1 to 255 octets.
+    #[error("the canonical name does not have 1 to 255 octets")]
     BadSettings,
+    #[error("out of memory")]
     OutOfMemory,
 }

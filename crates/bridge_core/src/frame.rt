@@ -8,6 +8,7 @@ use bytes::Bytes;
 use rtp_codec::Address;
 use std::alloc::{Allocator, Global};
 use std::marker::Model;
+use thiserror::Error;
 
 /// The most packets that a frame may have.
 pub const PACKETS: usize = 256;
@@ -57,19 +58,25 @@ impl<A: Allocator + Copy> Model for Frame<A> {
 }
 
 /// Why packets are no frame. The first that holds is reported.
-#[derive(Clone, Copy, Debug, PartialEq, Eq)]
+#[derive(Clone, Copy, Debug, PartialEq, Eq, Error)]
 pub enum FrameFault {
     /// No packet.
+    #[error("no packet")]
     Empty,
     /// The numbers do not rise.
+    #[error("the numbers do not rise")]
     Order,
     /// More than 256 packets.
+    #[error("more than 256 packets")]
     TooMany,
     /// A packet without payload.
+    #[error("a packet without payload")]
     NoPayload,
     /// A payload type over 127.
+    #[error("a payload type over 127")]
     BadKind,
     /// A marker before the last packet.
+    #[error("a marker before the last packet")]
     Marker,
 }
 
