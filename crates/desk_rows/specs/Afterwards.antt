@@ -1,8 +1,8 @@
 -- What the view of an edited desk stands for. No public clause cites it.
 use Rattle.std.specs.Prelude.{Bool}
 use Rattle.desk_rows.specs.declared.after.After.{After}
-use Rattle.desk_rows.specs.declared.after.Sought.{Sought}
-use Rattle.desk_rows.specs.declared.after.Sought.TheVariants.{Audio, Video}
+use Rattle.desk_rows.specs.declared.rules.Sought.{Sought}
+use Rattle.desk_rows.specs.declared.rules.Sought.TheVariants.{Audio, Video}
 use Rattle.desk_rows.specs.declared.row.Row.{Row}
 use Rattle.desk_rows.specs.Edit.{EditOf}
 use Rattle.desk_rows.specs.Desk.{Desk, is_audio_in, is_video_beside}

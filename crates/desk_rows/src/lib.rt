@@ -11,6 +11,8 @@ mod ordering;
 mod places;
 mod row;
 mod rows;
+mod rules;
+mod staying;
 #[cfg(test)]
 mod tests;
 

@@ -1,7 +1,7 @@
 use Rattle.std.proofs.Common.{sym, ◌∙◌, arith}
 use Rattle.desk_rows.specs.Row.{has_key}
 use Rattle.desk_rows.specs.OrderLaws.{list_any-with_rows}
-use Rattle.desk_rows.proofs.after.has_row.Goals as goal
+use Rattle.desk_rows.proofs.staying.has_row.Goals as goal
 
 pub returns-then-any_has : goal.returns-then-any_has
 returns-then-any_has c =
