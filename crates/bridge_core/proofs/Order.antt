@@ -1,26 +1,22 @@
 -- A lane's receivers can be put in order after the others have been left out.
-use Rattle.std.proofs.Common.{◌≡◌, ℕ, ◌+◌, ◌-◌, ◌<◌, Bool, true, false, cond, ◌&&◌, nat_eq, List, [], ◌∷◌, ◌++◌, map, None, Some, refl, sym, ap, ◌∙◌, arith, append_assoc, suc}
+use Rattle.std.proofs.Common.{◌≡◌, ℕ, ◌+◌, ◌-◌, ◌<◌, Bool, true, false, cond, nat_eq, List, [], ◌∷◌, ◌++◌, map, refl, sym, ap, ◌∙◌, arith, append_assoc, suc}
 use Rattle.std.specs.Prelude.{filter}
-use Rattle.std.specs.List.{filter_map, flat_map, range_with_len, cons_option}
+use Rattle.std.specs.List.{filter_map, flat_map, range_with_len}
 use Rattle.std.proofs.lemmas.List.Elements.{filter-append}
 use Rattle.rtp_codec.specs.declared.address.Address.{Address}
-use Rattle.desk_rows.specs.declared.row.Row.{Row}
-use Rattle.desk_rows.specs.declared.row.Row.TheVariants.{Room, Member, Source, Slot, Sub}
 use Rattle.desk_rows.specs.declared.row.Slot.{Slot as SlotRow}
 use Rattle.desk_rows.specs.declared.row.Member.{Member as MemberRow}
 use Rattle.desk_rows.specs.declared.row.Kind.TheVariants as kinds
 use Rattle.desk_rows.specs.Kinds.{is_of}
-use Rattle.desk_rows.specs.Desk.{Desk}
+use Rattle.desk_rows.specs.Laws.{good_order}
+use Rattle.desk_rows.specs.Desk.{Desk, good}
 use Rattle.bridge_core.specs.declared.lane_place.LanePlace.{LanePlace}
 use Rattle.bridge_core.specs.declared.receivers.Receiver.{Receiver}
 use Rattle.bridge_core.specs.declared.receivers.TheConstants.{INDEXES}
 use Rattle.bridge_core.specs.Choice.{comes_from}
-use Rattle.bridge_core.specs.OwnStreams.{is_mine}
-use Rattle.bridge_core.specs.Receivers.{slot_in, slots_of, chooses, by_index, by_place, receiver, receivers, receivers_in}
+use Rattle.bridge_core.specs.Receivers.{slots_of, chooses, by_index, by_place, receiver, receivers, receivers_in}
 use Rattle.bridge_core.specs.Takers.{taker}
-
-filter-front : {X : Type 0} (p : X → Bool) (x : X) (xs : List X) (b : Bool) → p x ≡ b → filter p (x ∷ xs) ≡ cond b (x ∷ filter p xs) (filter p xs)
-filter-front p x xs b e = ap (λ c. cond c (x ∷ filter p xs) (filter p xs)) e
+use Rattle.bridge_core.proofs.Subscribers.{filter-front, mine, takers}
 
 filter-both : {X : Type 0} (p q : X → Bool) (x : X) (xs : List X) → filter p (filter q xs) ≡ filter q (filter p xs)
     → (a b : Bool) → p x ≡ a → q x ≡ b → filter p (filter q (x ∷ xs)) ≡ filter q (filter p (x ∷ xs))
@@ -56,54 +52,44 @@ filter-by_place p (m ∷ members) slots =
     ∙ ap (λ rs. rs ++ filter (λ (r : Receiver). p r.slot) (by_place members slots)) (filter-receivers p m (filter of_m slots) ∙ ap (map (receiver m)) (filter-filter p of_m slots))
     ∙ ap (λ rs. map (receiver m) (filter of_m (filter p slots)) ++ rs) (filter-by_place p members slots)
 
-abbrev mine : LanePlace → SlotRow → Bool
-mine place s = is_mine place.lane place.lanes s.out_ssrc
-
-takers : (d : Desk) (source : ℕ) (place : LanePlace) (rs : List Row) → filter_map (taker d source place) (filter (is_of kinds.Slot) rs) ≡ filter (mine place) (filter (chooses d source) (filter_map slot_in rs))
-takers d source place [] = refl
-takers d source place (Room r ∷ rs) = takers d source place rs
-takers d source place (Member r ∷ rs) = takers d source place rs
-takers d source place (Source r ∷ rs) = takers d source place rs
-takers d source place (Sub r ∷ rs) = takers d source place rs
-takers d source place (Slot s ∷ rs) =
-    ap (cons_option (cond (mine place s && chooses d source s) (Some s) None)) (takers d source place rs)
-    ∙ go (mine place s) (chooses d source s) refl refl
-  where
-    go : (a b : Bool) → mine place s ≡ a → chooses d source s ≡ b
-        → cons_option (cond (mine place s && chooses d source s) (Some s) None) (filter (mine place) (filter (chooses d source) (filter_map slot_in rs))) ≡ filter (mine place) (filter (chooses d source) (s ∷ filter_map slot_in rs))
-    go a b e f =
-        let chosen = filter (chooses d source) (filter_map slot_in rs) in
-        ap (λ c. cons_option (cond (c && chooses d source s) (Some s) None) (filter (mine place) chosen)) e
-        ∙ ap (λ c. cons_option (cond (a && c) (Some s) None) (filter (mine place) chosen)) f
-        ∙ joined a b e
-        ∙ sym (ap (filter (mine place)) (filter-front (chooses d source) s (filter_map slot_in rs) b f))
-      where
-        joined : (a b : Bool) → mine place s ≡ a → cons_option (cond (a && b) (Some s) None) (filter (mine place) (filter (chooses d source) (filter_map slot_in rs))) ≡ filter (mine place) (cond b (s ∷ filter (chooses d source) (filter_map slot_in rs)) (filter (chooses d source) (filter_map slot_in rs)))
-        joined true true e = sym (filter-front (mine place) s (filter (chooses d source) (filter_map slot_in rs)) true e)
-        joined false true e = sym (filter-front (mine place) s (filter (chooses d source) (filter_map slot_in rs)) false e)
-        joined true false e = refl
-        joined false false e = refl
-
 -- the lane's slots that chose the source, in order, are its receivers
-receivers_in_order : (place : LanePlace) (d : Desk) (source : ℕ) (address : Address) → comes_from d source address ≡ true
-    → by_place d.members (by_index (filter_map (taker d source place) (filter (is_of kinds.Slot) d.others))) ≡ receivers_in place.lane place.lanes d source address
+receivers_in_order : (place : LanePlace) (d : Desk) (source : ℕ) (address : Address) → good d ≡ true → comes_from d source address ≡ true
+    → by_place d.members (by_index (filter_map (taker d source place) (filter (is_of kinds.Sub) d.others))) ≡ receivers_in place.lane place.lanes d source address
 unfolding receivers by_index
-receivers_in_order place d source address e =
+receivers_in_order place d source address h e =
     let chosen = filter (chooses d source) (slots_of d) in
-    ap (λ slots. by_place d.members (by_index slots)) (takers d source place d.others)
+    ap (λ slots. by_place d.members (by_index slots)) (takers d source place (good_order d h))
     ∙ ap (by_place d.members) (sym (filter-groups (mine place) (λ index (s : SlotRow). nat_eq s.index index) chosen (range_with_len 0 INDEXES)))
     ∙ sym (filter-by_place (mine place) d.members (by_index chosen))
     ∙ sym (ap (λ b. filter (λ (r : Receiver). mine place r.slot) (cond b (by_place d.members (by_index chosen)) [])) e)
 
 -- the same, step by step: the slots are made and read, then put in order and read
-pub receivers_by_steps : (place : LanePlace) (d : Desk) (source : ℕ) (address : Address) (made slots put sorted : List SlotRow) (members : List MemberRow) (found : List Receiver) → comes_from d source address ≡ true
-    → made ≡ filter_map (taker d source place) (filter (is_of kinds.Slot) d.others) → slots ≡ made → put ≡ by_index slots → sorted ≡ put → members ≡ d.members → found ≡ by_place members sorted
+pub receivers_by_steps : (place : LanePlace) (d : Desk) (source : ℕ) (address : Address) (made slots put sorted : List SlotRow) (members : List MemberRow) (found : List Receiver) → good d ≡ true → comes_from d source address ≡ true
+    → made ≡ filter_map (taker d source place) (filter (is_of kinds.Sub) d.others) → slots ≡ made → put ≡ by_index slots → sorted ≡ put → members ≡ d.members → found ≡ by_place members sorted
     → found ≡ receivers_in place.lane place.lanes d source address
-receivers_by_steps place d source address made slots put sorted members found comes taken read ordered read_on all is =
+receivers_by_steps place d source address made slots put sorted members found h comes taken read ordered read_on all is =
     is
     ∙ ap (λ ms. by_place ms sorted) all
     ∙ ap (by_place d.members) (read_on ∙ ordered ∙ ap by_index (read ∙ taken))
-    ∙ receivers_in_order place d source address comes
+    ∙ receivers_in_order place d source address h comes
+
+nobody_by_index : (indexes : List ℕ) → flat_map (λ index. filter (λ (s : SlotRow). nat_eq s.index index) []) indexes ≡ []
+nobody_by_index [] = refl
+nobody_by_index (i ∷ indexes) = nobody_by_index indexes
+
+nobody_by_place : (members : List MemberRow) → by_place members [] ≡ []
+nobody_by_place [] = refl
+nobody_by_place (m ∷ members) = nobody_by_place members
+
+-- and where there are no such slots, nobody is
+pub no_takers : (place : LanePlace) (d : Desk) (source : ℕ) (address : Address) (slots : List SlotRow) → good d ≡ true → comes_from d source address ≡ true
+    → slots ≡ filter_map (taker d source place) (filter (is_of kinds.Sub) d.others) → slots ≡ [] → receivers_in place.lane place.lanes d source address ≡ []
+unfolding by_index
+no_takers place d source address slots h comes taken none =
+    sym (receivers_in_order place d source address h comes)
+    ∙ ap (λ xs. by_place d.members (by_index xs)) (sym taken ∙ none)
+    ∙ ap (by_place d.members) (nobody_by_index (range_with_len 0 INDEXES))
+    ∙ nobody_by_place d.members
 
 -- nobody gets what comes from another address
 pub no_receivers : (place : LanePlace) (d : Desk) (source : ℕ) (address : Address) → comes_from d source address ≡ false → receivers_in place.lane place.lanes d source address ≡ []

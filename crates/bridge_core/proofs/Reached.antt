@@ -136,7 +136,7 @@ placed k s m (n ∷ members) slots d h there = by (nat_eq s.member n.member) ref
 -- ---- what a good desk tells of a slot
 
 -- the slots, found by their rows
-slot_row : (k : ℕ) (ms : List MemberRow) (rs : List Row) → slot_of (find (has_key (keys.Slot k)) (map Member ms ++ rs)) ≡ at ssrc k (filter_map slot_in rs)
+pub slot_row : (k : ℕ) (ms : List MemberRow) (rs : List Row) → slot_of (find (has_key (keys.Slot k)) (map Member ms ++ rs)) ≡ at ssrc k (filter_map slot_in rs)
 slot_row k (m ∷ ms) rs = slot_row k ms rs
 slot_row k [] [] = refl
 slot_row k [] (Room r ∷ rs) = slot_row k [] rs

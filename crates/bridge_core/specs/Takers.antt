@@ -1,14 +1,25 @@
 -- How a lane finds the slots that chose a source. No public clause cites this.
-use Rattle.std.specs.Prelude.{ℕ, ◌&&◌, if◌then◌else◌, Option, None, Some}
+use Rattle.std.specs.Prelude.{ℕ, ◌&&◌, if◌then◌else◌, nat_eq, Option, None, Some}
 use Rattle.desk_rows.specs.declared.row.Slot.{Slot as SlotRow}
 use Rattle.desk_rows.specs.declared.row.Row.{Row}
-use Rattle.desk_rows.specs.declared.row.Row.TheVariants.{Slot}
-use Rattle.desk_rows.specs.Desk.{Desk}
+use Rattle.desk_rows.specs.declared.row.Row.TheVariants.{Sub}
+use Rattle.desk_rows.specs.declared.row.Key.TheVariants as keys
+use Rattle.desk_rows.specs.Desk.{Desk, row_at}
 use Rattle.bridge_core.specs.declared.lane_place.LanePlace.{LanePlace}
+use Rattle.bridge_core.specs.Choice.{member_of, same_number}
 use Rattle.bridge_core.specs.OwnStreams.{is_mine}
-use Rattle.bridge_core.specs.Receivers.{chooses}
+use Rattle.bridge_core.specs.Reach.{slot_at}
 
--- the slot in a row, if it is of the lane and chose the source
+-- a slot, unless it is this member's
+abbrev pub unless_of : Option ℕ → Option SlotRow → Option SlotRow
+unless_of sender None = None
+unless_of sender (Some s) = if same_number (Some s.member) sender then None else Some s
+
+-- the slot with this SSRC, unless the source is of its own member
+abbrev pub slot_for : Desk → ℕ → ℕ → Option SlotRow
+slot_for d source out_ssrc = unless_of (member_of (row_at d (keys.Source source))) (slot_at d out_ssrc)
+
+-- the slot of a sub, if it is of the lane and chose the source
 abbrev pub taker : Desk → ℕ → LanePlace → Row → Option SlotRow
-taker d source place (Slot s) = if is_mine place.lane place.lanes s.out_ssrc && chooses d source s then Some s else None
+taker d source place (Sub s) = if nat_eq s.source source && is_mine place.lane place.lanes s.out_ssrc then slot_for d source s.out_ssrc else None
 taker d source place _ = None

@@ -1,32 +1,29 @@
-//! Which source a slot sends.
+//! Which slots send a source, and from where it comes.
 
-ghost use Rattle.std.specs.Prelude.{◌≡◌, Option, Some};
-ghost use Rattle.desk_rows.specs.declared.row.Key.TheVariants as keys;
-ghost use Rattle.desk_rows.specs.Desk.{row_at};
-ghost use Rattle.bridge_core.specs.Choice.{choice, subscribed, member_of, same_number, is_own, address_in, member_address, is_address, comes_from};
+ghost use Rattle.std.specs.Prelude.{◌≡◌};
+ghost use Rattle.bridge_core.specs.Choice.{member_of, same_number, address_in, member_address, is_address, comes_from};
+ghost use Rattle.bridge_core.specs.Reach.{slot_of};
+ghost use Rattle.bridge_core.specs.Takers.{slot_for};
 
-use desk_rows::{Key, Row, Rows};
+use desk_rows::{Key, Row, Rows, Slot};
 use rtp_codec::Address;
 use std::alloc::Allocator;
 
-/// The source that the slot sends: that of its subscription, and none where the source is the
-/// receiver's own.
-pub fn choice<A: Allocator + Copy>(rows: &Rows<A>, out_ssrc: u32) -> Option<u32>
-    ensures { result ≡ choice rows.now out_ssrc }
+/// The slot with this SSRC, unless the source is of its own member: nobody gets what is its own.
+pub(crate) fn slot_for<A: Allocator + Copy>(
+    rows: &Rows<A>,
+    source: u32,
+    out_ssrc: u32,
+) -> Option<Slot>
+    ensures { result ≡ slot_for rows.now source out_ssrc }
 {
-    let source = subscribed(rows.find(&Key::Sub(out_ssrc)))?;
-    if is_own(rows, out_ssrc, source) {
+    let slot = slot_of(rows.find(&Key::Slot(out_ssrc)))?;
+    let sender = member_of(rows.find(&Key::Source(source)));
+    if same_number(Some(slot.member), sender) {
         None
     } else {
-        Some(source)
+        Some(slot)
     }
-}
-
-/// Whether the slot is subscribed to the source.
-pub fn is_subscribed<A: Allocator + Copy>(rows: &Rows<A>, source: u32, out_ssrc: u32) -> bool
-    ensures { result ≡ same_number (subscribed (row_at rows.now (keys.Sub out_ssrc))) (Some source) }
-{
-    same_number(subscribed(rows.find(&Key::Sub(out_ssrc))), Some(source))
 }
 
 /// Whether the source's member has this address.
@@ -37,20 +34,11 @@ pub fn comes_from<A: Allocator + Copy>(rows: &Rows<A>, source: u32, address: &Ad
     is_address(address, member_address(rows, member))
 }
 
-/// Whether the source is of the slot's own member.
-fn is_own<A: Allocator + Copy>(rows: &Rows<A>, out_ssrc: u32, source: u32) -> bool
-    ensures { result ≡ is_own rows.now out_ssrc source }
-{
-    let receiver = member_of(rows.find(&Key::Slot(out_ssrc)));
-    let sender = member_of(rows.find(&Key::Source(source)));
-    same_number(receiver, sender)
-}
-
-fn subscribed(row: Option<Row>) -> Option<u32>
-    ensures { result ≡ subscribed row }
+fn slot_of(row: Option<Row>) -> Option<Slot>
+    ensures { result ≡ slot_of row }
 {
     match row {
-        Some(Row::Sub(sub)) => Some(sub.source),
+        Some(Row::Slot(slot)) => Some(slot),
         _ => None,
     }
 }
@@ -65,7 +53,7 @@ fn member_of(row: Option<Row>) -> Option<u32>
     }
 }
 
-pub(crate) fn same_number(a: Option<u32>, b: Option<u32>) -> bool
+fn same_number(a: Option<u32>, b: Option<u32>) -> bool
     ensures { result ≡ same_number a b }
 {
     match (a, b) {

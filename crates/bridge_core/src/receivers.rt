@@ -1,14 +1,14 @@
 //! Who gets a frame.
 
-ghost use Rattle.std.specs.Prelude.{◌≡◌, ◌<◌, ◌++◌, ◌&&◌, nat_eq, filter, map, Option, Some, IfOk, OnOk};
+ghost use Rattle.std.specs.Prelude.{◌≡◌, ◌++◌, nat_eq, filter, map, IfOk, OnOk};
 ghost use Rattle.std.specs.List.{filter_map};
 ghost use Rattle.desk_rows.specs.declared.row.Kind.TheVariants as kinds;
 ghost use Rattle.desk_rows.specs.Kinds.{is_of};
-ghost use Rattle.bridge_core.specs.Choice.{choice, comes_from, same_number};
-ghost use Rattle.bridge_core.specs.Receivers.{receivers, chooses, by_index, by_place, receiver, receivers_in};
+ghost use Rattle.bridge_core.specs.Choice.{comes_from};
+ghost use Rattle.bridge_core.specs.Receivers.{by_index, by_place, receiver, receivers_in};
 ghost use Rattle.bridge_core.specs.Takers.{taker};
 
-use crate::choosing::{choice, comes_from, is_subscribed, same_number};
+use crate::choosing::{comes_from, slot_for};
 use crate::lane_place::LanePlace;
 use desk_rows::{Kind, Member, Row, Rows, Slot};
 use rtp_codec::Address;
@@ -39,27 +39,31 @@ pub fn receivers_of<A: Allocator + Copy>(
     if !comes_from(rows, source, address) {
         return Ok(Vec::new(alloc));
     }
+    rows.known();
     let slots = takers(alloc, rows, source, place)?;
+    if slots.is_empty() {
+        return Ok(Vec::new(alloc));
+    }
     let sorted = by_index(alloc, &slots)?;
     by_place(alloc, rows.members(), &sorted)
 }
 
-/// The slots of the lane that chose the source.
+/// The slots of the lane that chose the source, each found by its sub.
 fn takers<A: Allocator + Copy>(
     alloc: A,
     rows: &Rows<A>,
     source: u32,
     place: &LanePlace,
 ) -> Result<Vec<Slot, A>, AllocError>
-    ensures { IfOk result (λ v. v.items ≡ filter_map (taker rows.now source place.now) (filter (is_of kinds.Slot) rows.now.others)) }
+    ensures { IfOk result (λ v. v.items ≡ filter_map (taker rows.now source place.now) (filter (is_of kinds.Sub) rows.now.others)) }
 {
-    rows.others_of(Kind::Slot)
+    rows.others_of(Kind::Sub)
         .iter()
         .filter_map(|row| taker(rows, source, place, row))
         .collect(alloc)
 }
 
-/// The slot in a row, if it is of the lane and chose the source.
+/// The slot of a sub, if it is of the lane and chose the source.
 fn taker<A: Allocator + Copy>(
     rows: &Rows<A>,
     source: u32,
@@ -68,24 +72,14 @@ fn taker<A: Allocator + Copy>(
 ) -> Option<Slot>
     ensures { result ≡ taker rows.now source place.now row.now }
 {
-    let Row::Slot(slot) = row else {
+    let Row::Sub(sub) = row else {
         return None;
     };
-    if place.is_mine(slot.out_ssrc) && chooses(rows, source, slot.out_ssrc) {
-        Some(*slot)
+    if sub.source == source && place.is_mine(sub.out_ssrc) {
+        slot_for(rows, source, sub.out_ssrc)
     } else {
         None
     }
-}
-
-/// Whether the slot chose the source. Only a subscriber does.
-fn chooses<A: Allocator + Copy>(rows: &Rows<A>, source: u32, out_ssrc: u32) -> bool
-    ensures { result ≡ same_number (choice rows.now out_ssrc) (Some source) }
-{
-    if !is_subscribed(rows, source, out_ssrc) {
-        return false;
-    }
-    same_number(choice(rows, out_ssrc), Some(source))
 }
 
 /// Slots in the order of their indexes.

@@ -1,9 +1,12 @@
-//! What lanes send: their share of the streams, and frames of all lengths to several receivers.
+//! What lanes send: their share of the streams, frames of all lengths to several receivers, and
+//! who they are.
 
+use crate::lane_place::LanePlace;
+use crate::receivers::{by_index, by_place, receivers_of};
 use crate::tests::{P, member, packet, settings, setup, slot};
 use crate::{Core, Egress, Frame, Item, MediaFrame};
 use desk_edit::{Call, Command};
-use desk_rows::{Member, Slot, Sub};
+use desk_rows::{Key, Kind, Media, Member, Row, Rows, Slot, Source, Sub};
 use std::alloc::Allocator;
 use std::test::Fail;
 
@@ -207,6 +210,87 @@ fn packets_are_numbered_within_a_frame(rt: HostRuntime) -> Result<(), Fail> {
             want = want.wrapping_add(1);
         }
         assert_eq!(rt; want, last.wrapping_add(1), "from {first}");
+    }
+    Ok(())
+}
+
+/// The slots that get the source in the lane, found by a walk over all slots: the plain program
+/// beside `receivers_of`.
+fn plain_takers<A: Allocator + Copy>(
+    alloc: A,
+    rows: &Rows<A>,
+    source: u32,
+    place: &LanePlace,
+) -> Result<Vec<Slot, A>, Fail> {
+    let mut slots = Vec::new(alloc);
+    for row in rows.others_of(Kind::Slot) {
+        if let Row::Slot(slot) = row {
+            let subscribed = match rows.find(&Key::Sub(slot.out_ssrc)) {
+                Some(Row::Sub(sub)) => sub.source == source,
+                _ => false,
+            };
+            let own = match rows.find(&Key::Source(source)) {
+                Some(Row::Source(row)) => row.member == slot.member,
+                _ => false,
+            };
+            if place.is_mine(slot.out_ssrc) && subscribed && !own {
+                slots.push(*slot)?;
+            }
+        }
+    }
+    Ok(slots)
+}
+
+#[test]
+fn receivers_are_those_of_a_walk_over_all_slots(rt: HostRuntime) -> Result<(), Fail> {
+    let alloc = rt.alloc();
+    let mut core = Core::new(alloc, 1, settings(alloc, b"bridge")?).map_err(|_| Fail::from(
+        "no core",
+    ))?;
+    setup(alloc, &mut core, 0);
+    let newcomer = Member {
+        out_audio: 9003,
+        ..member(12, 6000)
+    };
+    let other = Source {
+        ssrc: 102,
+        member: 12,
+        media: Media::Video,
+    };
+    let _joined = core.desk(alloc, 0, Call::Apply(Command::AddMember(newcomer)));
+    let _sends = core.desk(alloc, 0, Call::Apply(Command::AddSource(other)));
+    // 504 is of the source's own member, 505 has no sub, and 506 shows another source.
+    for one in [slot(503, 12, 3), slot(502, 11, 2), slot(504, 10, 0)] {
+        add_slot(alloc, &mut core, one);
+    }
+    for one in [slot(505, 12, 0), slot(506, 11, 1)] {
+        let _added = core.desk(alloc, 0, Call::Apply(Command::AddSlot(one)));
+    }
+    let sub = Sub {
+        out_ssrc: 506,
+        source: 102,
+    };
+    let _subscribed = core.desk(alloc, 0, Call::Apply(Command::Subscribe(sub)));
+    let rows = core.rows();
+    assert_eq!(rt; rows.others_of(Kind::Sub).len(), 5);
+    for (source, all) in [(101, 3), (102, 1), (103, 0)] {
+        let address = if source == 102 { newcomer.address } else { P };
+        for lanes in [1, 2, 3] {
+            let mut count: usize = 0;
+            for lane in 0..lanes {
+                let place = LanePlace { lane, lanes };
+                let receivers = receivers_of(alloc, rows, source, &address, &place)?;
+                let plain = by_index(alloc, &plain_takers(alloc, rows, source, &place)?)?;
+                let wanted = by_place(alloc, rows.members(), &plain)?;
+                assert_eq!(rt; receivers.len(), wanted.len());
+                for (receiver, want) in receivers.iter().zip(wanted.iter()) {
+                    assert_eq!(rt; receiver.slot, want.slot);
+                    assert_eq!(rt; receiver.address, want.address);
+                }
+                count = count.wrapping_add(receivers.len());
+            }
+            assert_eq!(rt; count, all, "{source} on {lanes} lanes");
+        }
     }
     Ok(())
 }
