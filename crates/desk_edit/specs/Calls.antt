@@ -43,12 +43,13 @@ refusal_at version d done (Undo last) =
 abbrev pub refusal_of : CallHistory → Call → Option Refusal
 refusal_of h call = refusal_at h.accepted (desk_now h) (length h.done) call
 
--- a list without its last element, and that alone
+-- a list without its last element
 abbrev pub front : {X : Type 0} → List X → List X
 front [] = []
 front (x ∷ []) = []
 front (x ∷ y ∷ ys) = x ∷ front (y ∷ ys)
 
+-- the last element of a list alone, and nothing of an empty list
 abbrev pub final : {X : Type 0} → List X → List X
 final [] = []
 final (x ∷ []) = x ∷ []

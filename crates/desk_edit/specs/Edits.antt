@@ -6,21 +6,27 @@ use Rattle.desk_rows.specs.declared.row.Key.TheVariants as keys
 use Rattle.desk_rows.specs.Row.{has_key}
 use Rattle.desk_rows.specs.Edit.{EditOf, PartOf, ReplacedOf}
 
+-- no rows
 abbrev pub no_part : PartOf
 no_part = record { members = []; others = [] }
 
+-- no row in place of another
 abbrev pub none_replaced : ReplacedOf
 none_replaced = record { old = []; new = [] }
 
+-- puts a row that is no member's, and nothing else
 abbrev pub puts_other : Row → EditOf
 puts_other r = record { taken = no_part; put = record { members = []; others = r ∷ [] }; replaced = none_replaced }
 
+-- puts a member at this place, and nothing else
 abbrev pub puts_member : ℕ → Member → EditOf
 puts_member place m = record { taken = no_part; put = record { members = record { place = place; row = m } ∷ []; others = [] }; replaced = none_replaced }
 
+-- takes rows that are no members', and nothing else
 abbrev pub takes_others : List Row → EditOf
 takes_others rs = record { taken = record { members = []; others = rs }; put = no_part; replaced = none_replaced }
 
+-- puts the second row in place of the first, and nothing else
 abbrev pub replaces : Row → Row → EditOf
 replaces old new = record { taken = no_part; put = no_part; replaced = record { old = old ∷ []; new = new ∷ [] } }
 

@@ -8,6 +8,7 @@ use Rattle.desk_edit.specs.declared.command.Command.{Command}
 use Rattle.desk_edit.specs.declared.command.Command.TheVariants.{AddRoom, AddMember, AddSource, AddSlot, RemoveSlot, Subscribe}
 use Rattle.desk_edit.specs.Edits.{puts_other, puts_member, takes_others, puts_in_place, goes_with_slot}
 
+-- the edit that carries the command out on this desk
 unfoldable pub edit_for : Desk → Command → EditOf
 edit_for d (AddRoom r) = puts_other (rows.Room r)
 edit_for d (AddMember m) = puts_member (length d.members) m

@@ -1,5 +1,5 @@
 -- When commands are refused, and by which refusal: the first that holds.
-use Rattle.std.specs.Prelude.{◌≡◌, ℕ, Bool, true, false, not, ◌&&◌, ◌||◌, List, [], ◌∷◌, nat_eq, nat_le, nat_lt, count_by, Option, Some, None, if◌then◌else◌}
+use Rattle.std.specs.Prelude.{ℕ, Bool, false, not, ◌&&◌, ◌||◌, List, [], ◌∷◌, nat_eq, nat_le, nat_lt, count_by, Option, Some, None, if◌then◌else◌}
 use Rattle.std.specs.List.{list_any}
 use Rattle.desk_rows.specs.declared.row.Row.{Row}
 use Rattle.desk_rows.specs.declared.row.Row.TheVariants as rows
@@ -53,15 +53,18 @@ abbrev pub first_case : List (Bool × Refusal) → Option Refusal
 first_case [] = None
 first_case (c ∷ cs) = if c.0 then Some c.1 else first_case cs
 
+-- against a room, by number: it is there; there are as many as may be
 abbrev pub room_cases : Desk → ℕ → List (Bool × Refusal)
 room_cases d room =
     (has d (keys.Room room), refusals.Exists)
     ∷ (nat_le MAX_ROOMS (count_of kinds.Room d), refusals.Full tables.Rooms MAX_ROOMS)
     ∷ []
 
+-- the first of them
 unfoldable pub room_refused : Desk → ℕ → Option Refusal
 room_refused d room = first_case (room_cases d room)
 
+-- against a member, by number: its number or its address is there; its room is missing; the SSRC of its mix is taken; port 0; there are as many members as may be
 abbrev pub member_cases : Desk → Member → List (Bool × Refusal)
 member_cases d m =
     (has d (keys.Member m.member) || is_claimed d (claims.Address m.address), refusals.Exists)
@@ -71,9 +74,11 @@ member_cases d m =
     ∷ (nat_le MAX_MEMBERS (count_of kinds.Member d), refusals.Full tables.Members MAX_MEMBERS)
     ∷ []
 
+-- the first of them
 unfoldable pub member_refused : Desk → Member → Option Refusal
 member_refused d m = first_case (member_cases d m)
 
+-- against a source, by number: a source of its SSRC is there; its member is missing; its SSRC is the bridge's or an outgoing one; there are as many sources as may be; its room has all its audio
 abbrev pub source_cases : Desk → Source → List (Bool × Refusal)
 source_cases d s =
     (has d (keys.Source s.ssrc), refusals.Exists)
@@ -83,9 +88,11 @@ source_cases d s =
     ∷ (fills_room d s, refusals.Full tables.RoomAudio MAX_ROOM_AUDIO)
     ∷ []
 
+-- the first of them
 unfoldable pub source_refused : Desk → Source → Option Refusal
 source_refused d s = first_case (source_cases d s)
 
+-- against a slot, by number: a slot of its SSRC is there, or one in its place; its member is missing; its SSRC is taken; its index is too big; there are as many slots as may be
 abbrev pub slot_cases : Desk → Slot → List (Bool × Refusal)
 slot_cases d s =
     (has d (keys.Slot s.out_ssrc) || is_claimed d (claims.Place s.member s.index), refusals.Exists)
@@ -95,16 +102,20 @@ slot_cases d s =
     ∷ (nat_le MAX_SLOTS (count_of kinds.Slot d), refusals.Full tables.Slots MAX_SLOTS)
     ∷ []
 
+-- the first of them
 unfoldable pub slot_refused : Desk → Slot → Option Refusal
 slot_refused d s = first_case (slot_cases d s)
 
+-- against taking a slot away: it is missing
 abbrev pub removal_cases : Desk → ℕ → List (Bool × Refusal)
 removal_cases d out_ssrc =
     (not (has d (keys.Slot out_ssrc)), refusals.NoSlot) ∷ []
 
+-- that, if it holds
 unfoldable pub removal_refused : Desk → ℕ → Option Refusal
 removal_refused d out_ssrc = first_case (removal_cases d out_ssrc)
 
+-- against a subscription, by number: its source is missing; its slot is missing; the source sends no video; the two are in different rooms; the same row is there
 abbrev pub sub_cases : Desk → Sub → List (Bool × Refusal)
 sub_cases d s =
     (not (has d (keys.Source s.source)), refusals.NoSource)
@@ -114,6 +125,7 @@ sub_cases d s =
     ∷ (holds d (rows.Sub s), refusals.Already)
     ∷ []
 
+-- the first of them
 unfoldable pub sub_refused : Desk → Sub → Option Refusal
 sub_refused d s = first_case (sub_cases d s)
 

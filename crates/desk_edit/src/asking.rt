@@ -3,8 +3,8 @@
 ghost use Rattle.std.specs.Prelude.{◌≡◌, ◌++◌, ◌&&◌, count_by, map, nat_eq};
 ghost use Rattle.std.specs.List.{list_any};
 ghost use Rattle.desk_rows.specs.declared.row.Row.TheVariants.{Member as MemberRow};
-ghost use Rattle.desk_rows.specs.Row.{has_key, makes, same_media};
-ghost use Rattle.desk_rows.specs.Desk.{rows_of, is_member_in, is_audio_in, share_room, is_video_beside, is_slot_beside};
+ghost use Rattle.desk_rows.specs.Row.{makes};
+ghost use Rattle.desk_rows.specs.Desk.{is_member_in, is_audio_in, share_room, is_video_beside, is_slot_beside};
 ghost use Rattle.desk_edit.specs.Refusals.{has, is_claimed, ssrc_is_taken, sends_video, is_full_room, fills_room};
 
 use desk_rows::{Claim, Key, MAX_ROOM_AUDIO, Media, Member, Row, Rows, Source, Sub};

@@ -1,7 +1,6 @@
 //! The edits that carry commands out.
 
-ghost use Rattle.std.specs.Prelude.{◌≡◌, ◌∷◌, [], ◌||◌, filter, IfOk};
-ghost use Rattle.desk_rows.specs.Row.{has_key};
+ghost use Rattle.std.specs.Prelude.{◌≡◌, ◌∷◌, [], filter, IfOk};
 ghost use Rattle.desk_edit.specs.Edits.{puts_other, puts_member, takes_others, replaces, goes_with_slot};
 
 use desk_rows::{Edit, Key, Member, Part, Placed, Replaced, Row};

@@ -4,16 +4,19 @@ use Rattle.std.specs.Int.{w16, from_be_bytes}
 use Rattle.rtp_codec.specs.declared.fault.RtpFault.{RtpFault}
 use Rattle.rtp_codec.specs.declared.fault.RtpFault.TheVariants.{Short, Version, Csrc, Extension, Padding}
 
--- the fields of the first octet: the version, P, X and the number of contributing sources
+-- the version, in the top two bits of the first octet
 abbrev pub version : List ℕ → ℕ
 version octets = slice_index octets 0 / 64
 
+-- P, the bit behind it
 abbrev pub is_padded : List ℕ → Bool
 is_padded octets = slice_index octets 0 / 32 % 2 == 1
 
+-- X, the bit behind that
 abbrev pub is_extended : List ℕ → Bool
 is_extended octets = slice_index octets 0 / 16 % 2 == 1
 
+-- the number of contributing sources, in its low four bits
 abbrev pub csrc_count : List ℕ → ℕ
 csrc_count octets = slice_index octets 0 % 16
 

@@ -3,7 +3,7 @@
 ghost use Rattle.std.specs.Prelude.{◌≡◌, ◌++◌, [], OnOk, map};
 ghost use Rattle.std.specs.List.{flat_map};
 ghost use Rattle.bridge_core.specs.Sent.{sent_of, input_of};
-ghost use Rattle.script_text.specs.Text.{reply_text, sent_text};
+ghost use Rattle.script_text.specs.Text.{sent_text};
 ghost use Rattle.script_text.specs.Requests.{view, Desk, Item as ItemRequest};
 ghost use Rattle.script_text.specs.Bridge.{HasLane, wants_memory};
 ghost use Rattle.script_text.specs.Steps.{AnswersRequest, AnswersLine};

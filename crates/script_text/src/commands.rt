@@ -1,6 +1,6 @@
 //! The calls that `desk` lines spell.
 
-ghost use Rattle.std.specs.Prelude.{◌≡◌, ◌+◌, ◌≤◌};
+ghost use Rattle.std.specs.Prelude.{◌≢◌, ◌≤◌};
 ghost use Rattle.script_text.specs.Words.{Gives, words_in};
 ghost use Rattle.script_text.specs.Calls.{add_room_of, add_member_of, add_source_of, add_slot_of, remove_slot_of, subscribe_of, undo_of, named_call, call_of, spoken_words};
 
@@ -15,7 +15,8 @@ use desk_rows::{Member, Room, Slot, Source, Sub};
 #[tactic(auto, unfolding(crate::specs::Calls::add_room_of))]
 fn add_room(base: u32, words: Option<&[u8]>) -> Result<Call, ParseFault>
     requires { base ≤ 2 }
-    ensures { Gives (λ x. x) result (add_room_of base (words_in words.entry)) }
+    ensures call { Gives (λ x. x) result (add_room_of base (words_in words.entry)) }
+    ensures memory { result ≢ Err ParseFault.OutOfMemory }
 {
     let (room, rest) = u32_word(words, base + 2)?;
     end_of_words(rest, base + 3)?;
@@ -26,7 +27,8 @@ fn add_room(base: u32, words: Option<&[u8]>) -> Result<Call, ParseFault>
 #[tactic(auto, unfolding(crate::specs::Calls::add_member_of))]
 fn add_member(base: u32, words: Option<&[u8]>) -> Result<Call, ParseFault>
     requires { base ≤ 2 }
-    ensures { Gives (λ x. x) result (add_member_of base (words_in words.entry)) }
+    ensures call { Gives (λ x. x) result (add_member_of base (words_in words.entry)) }
+    ensures memory { result ≢ Err ParseFault.OutOfMemory }
 {
     let (member, rest) = u32_word(words, base + 2)?;
     let (room, rest) = u32_word(rest, base + 3)?;
@@ -51,7 +53,8 @@ fn add_member(base: u32, words: Option<&[u8]>) -> Result<Call, ParseFault>
 #[tactic(auto, unfolding(crate::specs::Calls::add_source_of))]
 fn add_source(base: u32, words: Option<&[u8]>) -> Result<Call, ParseFault>
     requires { base ≤ 2 }
-    ensures { Gives (λ x. x) result (add_source_of base (words_in words.entry)) }
+    ensures call { Gives (λ x. x) result (add_source_of base (words_in words.entry)) }
+    ensures memory { result ≢ Err ParseFault.OutOfMemory }
 {
     let (ssrc, rest) = u32_word(words, base + 2)?;
     let (member, rest) = u32_word(rest, base + 3)?;
@@ -68,7 +71,8 @@ fn add_source(base: u32, words: Option<&[u8]>) -> Result<Call, ParseFault>
 #[tactic(auto, unfolding(crate::specs::Calls::add_slot_of))]
 fn add_slot(base: u32, words: Option<&[u8]>) -> Result<Call, ParseFault>
     requires { base ≤ 2 }
-    ensures { Gives (λ x. x) result (add_slot_of base (words_in words.entry)) }
+    ensures call { Gives (λ x. x) result (add_slot_of base (words_in words.entry)) }
+    ensures memory { result ≢ Err ParseFault.OutOfMemory }
 {
     let (out_ssrc, rest) = u32_word(words, base + 2)?;
     let (member, rest) = u32_word(rest, base + 3)?;
@@ -89,7 +93,8 @@ fn add_slot(base: u32, words: Option<&[u8]>) -> Result<Call, ParseFault>
 #[tactic(auto, unfolding(crate::specs::Calls::remove_slot_of))]
 fn remove_slot(base: u32, words: Option<&[u8]>) -> Result<Call, ParseFault>
     requires { base ≤ 2 }
-    ensures { Gives (λ x. x) result (remove_slot_of base (words_in words.entry)) }
+    ensures call { Gives (λ x. x) result (remove_slot_of base (words_in words.entry)) }
+    ensures memory { result ≢ Err ParseFault.OutOfMemory }
 {
     let (out_ssrc, rest) = u32_word(words, base + 2)?;
     end_of_words(rest, base + 3)?;
@@ -100,7 +105,8 @@ fn remove_slot(base: u32, words: Option<&[u8]>) -> Result<Call, ParseFault>
 #[tactic(auto, unfolding(crate::specs::Calls::subscribe_of))]
 fn subscribe(base: u32, words: Option<&[u8]>) -> Result<Call, ParseFault>
     requires { base ≤ 2 }
-    ensures { Gives (λ x. x) result (subscribe_of base (words_in words.entry)) }
+    ensures call { Gives (λ x. x) result (subscribe_of base (words_in words.entry)) }
+    ensures memory { result ≢ Err ParseFault.OutOfMemory }
 {
     let (out_ssrc, rest) = u32_word(words, base + 2)?;
     let (source, rest) = u32_word(rest, base + 3)?;
@@ -112,7 +118,8 @@ fn subscribe(base: u32, words: Option<&[u8]>) -> Result<Call, ParseFault>
 #[tactic(auto, unfolding(crate::specs::Calls::undo_of))]
 fn undo(base: u32, words: Option<&[u8]>) -> Result<Call, ParseFault>
     requires { base ≤ 2 }
-    ensures { Gives (λ x. x) result (undo_of base (words_in words.entry)) }
+    ensures call { Gives (λ x. x) result (undo_of base (words_in words.entry)) }
+    ensures memory { result ≢ Err ParseFault.OutOfMemory }
 {
     let (last, rest) = u64_word(words, base + 2)?;
     end_of_words(rest, base + 3)?;
@@ -123,7 +130,8 @@ fn undo(base: u32, words: Option<&[u8]>) -> Result<Call, ParseFault>
 #[tactic(auto, unfolding(crate::specs::Calls::named_call))]
 fn named(base: u32, name: &[u8], words: Option<&[u8]>) -> Result<Call, ParseFault>
     requires { base ≤ 2 }
-    ensures { Gives (λ x. x) result (named_call base name.now (words_in words.entry)) }
+    ensures call { Gives (λ x. x) result (named_call base name.now (words_in words.entry)) }
+    ensures memory { result ≢ Err ParseFault.OutOfMemory }
 {
     if name == b"add-room".as_slice() {
         add_room(base, words)
@@ -148,7 +156,8 @@ fn named(base: u32, name: &[u8], words: Option<&[u8]>) -> Result<Call, ParseFaul
 #[tactic(auto, unfolding(crate::specs::Calls::call_of))]
 pub(crate) fn call(base: u32, words: Option<&[u8]>) -> Result<Call, ParseFault>
     requires { base ≤ 2 }
-    ensures { Gives (λ x. x) result (call_of base (words_in words.entry)) }
+    ensures call { Gives (λ x. x) result (call_of base (words_in words.entry)) }
+    ensures memory { result ≢ Err ParseFault.OutOfMemory }
 {
     let (name, rest) = next_word(words, base + 1)?;
     named(base, name, rest)
@@ -158,7 +167,8 @@ pub(crate) fn call(base: u32, words: Option<&[u8]>) -> Result<Call, ParseFault>
 ///
 /// The empty text has no word. No memory is taken.
 pub fn parse_desk(text: &[u8]) -> Result<Call, ParseFault>
-    ensures { Gives (λ x. x) result (call_of 0 (spoken_words text.now)) }
+    ensures call { Gives (λ x. x) result (call_of 0 (spoken_words text.now)) }
+    ensures memory { result ≢ Err ParseFault.OutOfMemory }
 {
     if text.is_empty() {
         call(0, None)

@@ -1,6 +1,6 @@
 //! Decimal numbers.
 
-ghost use Rattle.std.specs.Prelude.{◌≡◌, ◌^◌, ◌≤◌, IfSome, IfOk, true, pos};
+ghost use Rattle.std.specs.Prelude.{◌≡◌, ◌≢◌, ◌^◌, ◌≤◌, IfSome, IfOk, true};
 ghost use Rattle.std.specs.List.{list_all};
 ghost use Rattle.std.specs.Char.{is_ascii_digit};
 ghost use Rattle.std.specs.Str.Parse.{digits_value};
@@ -91,6 +91,7 @@ pub(crate) fn number_word(
     ensures value { Gives (λ x. (x.0, words_in x.1)) result (number_at max place (words_in words.entry)) }
     ensures small { IfOk result (λ x. x.0 ≤ max) }
     ensures shorter { IfOk result (λ x. size_of x.1 ≤ size_of words.entry) }
+    ensures memory { result ≢ Err ParseFault.OutOfMemory }
 {
     let (word, rest) = next_word(words, place)?;
     let Some(value) = number(word, max) else {
@@ -101,7 +102,8 @@ pub(crate) fn number_word(
 
 /// The next word as a number of 16 bits.
 pub(crate) fn u16_word(words: Option<&[u8]>, place: u32) -> Result<(u16, Option<&[u8]>), ParseFault>
-    ensures { Gives (λ x. (x.0, words_in x.1)) result (u16_at place (words_in words.entry)) }
+    ensures value { Gives (λ x. (x.0, words_in x.1)) result (u16_at place (words_in words.entry)) }
+    ensures memory { result ≢ Err ParseFault.OutOfMemory }
 {
     let (value, rest) = number_word(words, place, 65_535)?;
     Ok((value as u16, rest))
@@ -111,6 +113,7 @@ pub(crate) fn u16_word(words: Option<&[u8]>, place: u32) -> Result<(u16, Option<
 pub(crate) fn u32_word(words: Option<&[u8]>, place: u32) -> Result<(u32, Option<&[u8]>), ParseFault>
     ensures value { Gives (λ x. (x.0, words_in x.1)) result (u32_at place (words_in words.entry)) }
     ensures shorter { IfOk result (λ x. size_of x.1 ≤ size_of words.entry) }
+    ensures memory { result ≢ Err ParseFault.OutOfMemory }
 {
     let (value, rest) = number_word(words, place, 4_294_967_295)?;
     Ok((value as u32, rest))
@@ -120,6 +123,7 @@ pub(crate) fn u32_word(words: Option<&[u8]>, place: u32) -> Result<(u32, Option<
 pub(crate) fn u64_word(words: Option<&[u8]>, place: u32) -> Result<(u64, Option<&[u8]>), ParseFault>
     ensures value { Gives (λ x. (x.0, words_in x.1)) result (u64_at place (words_in words.entry)) }
     ensures shorter { IfOk result (λ x. size_of x.1 ≤ size_of words.entry) }
+    ensures memory { result ≢ Err ParseFault.OutOfMemory }
 {
     number_word(words, place, u64::MAX)
 }

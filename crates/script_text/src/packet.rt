@@ -1,11 +1,9 @@
 //! The packets of `frame` lines.
 
-ghost use Rattle.std.specs.Prelude.{◌≡◌, ◌+◌, ◌==◌, ◌≤◌, ◌∷◌, [], length};
+ghost use Rattle.std.specs.Prelude.{◌+◌, ◌==◌, ◌≤◌};
 ghost use Rattle.std.specs.List.{slice_split};
-ghost use Rattle.std.specs.Option.{option_map};
 ghost use Rattle.script_text.specs.Words.{Gives, words_in};
 ghost use Rattle.script_text.specs.Packets.{octets_or, packet_from, packet_of, packets_of};
-ghost use Rattle.script_text.specs.Numbers.{ext_of, number_of};
 ghost use Rattle.hex.specs.Hex.{decode_of};
 ghost use Rattle.script_text.specs.Cursor.{are_parts, size_of, TakesPacket};
 

@@ -1,6 +1,6 @@
 //! A run over a reader and a writer.
 
-ghost use Rattle.std.specs.Prelude.{◌≡◌, ◌<◌, ◌≤◌, length, IfSome};
+ghost use Rattle.std.specs.Prelude.{◌<◌, ◌≤◌, length, IfSome};
 ghost use Rattle.script_text.specs.Output.{RunEnds};
 ghost use Rattle.script_text.specs.Pieces.{IsPiece};
 ghost use Rattle.script_text.specs.Steps.{IsOpening};

@@ -1,6 +1,5 @@
 //! Writing all of some octets, with what went out before an error known.
 
-ghost use Rattle.std.specs.Prelude.{◌≤◌, length, take};
 ghost use Rattle.script_text.specs.Pieces.{IsPortion};
 ghost use Rattle.script_text.specs.Steps.{Sends};
 

@@ -1,6 +1,6 @@
 //! How addresses, codecs and kinds of source are spelt.
 
-ghost use Rattle.std.specs.Prelude.{◌≡◌, ◌≤◌, IfOk, Some};
+ghost use Rattle.std.specs.Prelude.{◌≡◌, ◌≢◌, ◌≤◌, IfOk};
 ghost use Rattle.std.specs.Option.{option_map};
 ghost use Rattle.script_text.specs.Words.{Gives, words_in};
 ghost use Rattle.script_text.specs.Cursor.{size_of};
@@ -60,6 +60,7 @@ pub(crate) fn address_word(
 ) -> Result<(Address, Option<&[u8]>), ParseFault>
     ensures address { Gives (λ x. (x.0, words_in x.1)) result (address_at place (words_in words.entry)) }
     ensures shorter { IfOk result (λ x. size_of x.1 ≤ size_of words.entry) }
+    ensures memory { result ≢ Err ParseFault.OutOfMemory }
 {
     let (word, rest) = next_word(words, place)?;
     match parse_address(word) {
@@ -86,7 +87,8 @@ pub(crate) fn codec_word(
     words: Option<&[u8]>,
     place: u32,
 ) -> Result<(Codec, Option<&[u8]>), ParseFault>
-    ensures { Gives (λ x. (x.0, words_in x.1)) result (codec_at place (words_in words.entry)) }
+    ensures codec { Gives (λ x. (x.0, words_in x.1)) result (codec_at place (words_in words.entry)) }
+    ensures memory { result ≢ Err ParseFault.OutOfMemory }
 {
     let (word, rest) = next_word(words, place)?;
     match codec(word) {
@@ -113,7 +115,8 @@ pub(crate) fn media_word(
     words: Option<&[u8]>,
     place: u32,
 ) -> Result<(Media, Option<&[u8]>), ParseFault>
-    ensures { Gives (λ x. (x.0, words_in x.1)) result (media_at place (words_in words.entry)) }
+    ensures media { Gives (λ x. (x.0, words_in x.1)) result (media_at place (words_in words.entry)) }
+    ensures memory { result ≢ Err ParseFault.OutOfMemory }
 {
     let (word, rest) = next_word(words, place)?;
     match media(word) {

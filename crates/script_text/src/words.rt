@@ -1,6 +1,6 @@
 //! The words of a line, one after another.
 
-ghost use Rattle.std.specs.Prelude.{◌≡◌, ◌==◌, ◌≤◌, ◌∷◌, length, position, IfOk};
+ghost use Rattle.std.specs.Prelude.{◌≡◌, ◌≢◌, ◌==◌, ◌≤◌, ◌∷◌, length, position, IfOk};
 ghost use Rattle.std.specs.Option.{option_map};
 ghost use Rattle.script_text.specs.Words.{Gives, cut_of, words_of, words_in, word_at, none_left};
 ghost use Rattle.script_text.specs.Cursor.{size_of};
@@ -42,6 +42,7 @@ pub(crate) fn next_word(
 ) -> Result<(&[u8], Option<&[u8]>), ParseFault>
     ensures word { Gives (λ x. (x.0.now, words_in x.1)) result (word_at place (words_in words.entry)) }
     ensures shorter { IfOk result (λ x. size_of x.1 ≤ size_of words.entry) }
+    ensures memory { result ≢ Err ParseFault.OutOfMemory }
 {
     match words {
         None => Err(Fault::MissingWord.at(place)),
@@ -51,7 +52,8 @@ pub(crate) fn next_word(
 
 /// The end of the line. The place is that of the first word too many.
 pub(crate) fn end_of_words(words: Option<&[u8]>, place: u32) -> Result<(), ParseFault>
-    ensures { Gives (λ x. x) result (none_left place (words_in words.entry)) }
+    ensures end { Gives (λ x. x) result (none_left place (words_in words.entry)) }
+    ensures memory { result ≢ Err ParseFault.OutOfMemory }
 {
     match words {
         None => Ok(()),
