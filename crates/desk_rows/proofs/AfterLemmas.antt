@@ -1,12 +1,12 @@
 -- What can be counted of the desk that an edit would lead to.
-use Rattle.std.proofs.Common.{◌≡◌, ℕ, ◌+◌, ◌-◌, ◌<◌, ◌≤◌, nat_lt, nat_eq, nat_le, Bool, true, false, not, ◌&&◌, ◌||◌, List, map, refl, sym, ap, ◌∙◌, arith}
+use Rattle.std.proofs.Common.{◌≡◌, ℕ, ◌+◌, ◌-◌, ◌≤◌, nat_lt, nat_eq, Bool, not, ◌&&◌, ◌||◌, refl, sym, ap, ◌∙◌, arith}
 use Rattle.std.specs.Prelude.{count_by}
 use Rattle.std.specs.List.{list_any, list_all}
 use Rattle.desk_rows.specs.declared.after.After.{After}
 use Rattle.desk_rows.specs.declared.row.Row.{Row}
 use Rattle.desk_rows.specs.declared.row.Row.TheVariants.{Member}
 use Rattle.desk_rows.specs.declared.row.Member.{Member as MemberRow}
-use Rattle.desk_rows.specs.Edit.{EditOf, outs, ins}
+use Rattle.desk_rows.specs.Edit.{outs, ins}
 use Rattle.desk_rows.specs.Desk.{Desk, rows_of, good, is_within_limits}
 use Rattle.desk_rows.specs.Exchange.{exchanged}
 use Rattle.desk_rows.specs.Kinds.{is_of}

@@ -1,13 +1,12 @@
 -- Counts of rows, before and after an edit.
-use Rattle.std.proofs.Common.{◌≡◌, ℕ, ◌+◌, ◌-◌, ◌<◌, ◌≤◌, nat_lt, nat_eq, Bool, true, false, not, cond, ◌&&◌, ◌||◌, List, [], ◌∷◌, ◌++◌, map, length, insert, nat_le, refl, sym, ap, ◌∙◌, inl, inr, arith}
+use Rattle.std.proofs.Common.{◌≡◌, ℕ, ◌+◌, ◌-◌, ◌≤◌, nat_lt, nat_eq, Bool, true, false, not, cond, ◌&&◌, ◌||◌, List, [], ◌∷◌, ◌++◌, map, length, insert, nat_le, refl, sym, ap, ◌∙◌, inl, inr, arith}
 use Rattle.std.specs.Prelude.{count_by, zero, suc}
 use Rattle.std.specs.List.{list_any, list_all}
-use Rattle.std.proofs.lemmas.Bool.{and_parts, and_from, or_left, or_right, or_cases, cases_Bool}
+use Rattle.std.proofs.lemmas.Bool.{and_parts, or_left, or_right, or_cases}
 use Rattle.desk_rows.specs.declared.row.Row.{Row}
 use Rattle.desk_rows.specs.declared.row.Row.TheVariants.{Member}
 use Rattle.desk_rows.specs.declared.row.Member.{Member as MemberRow}
 use Rattle.desk_rows.specs.declared.edit.Placed.{Placed}
-use Rattle.desk_rows.specs.Row.{same_row}
 use Rattle.desk_rows.specs.Equal.{row_itself}
 use Rattle.desk_rows.specs.Order.{in_order, is_in, with_rows, without_rows}
 use Rattle.desk_rows.specs.OrderLaws.{count_by-with_rows, count_by-without_rows, list_all-with_rows}

@@ -1,9 +1,8 @@
 -- The tests of an exchange, and what absorbing an edit that fits finds and leaves.
-use Rattle.std.proofs.Common.{◌≡◌, ℕ, ◌+◌, ◌-◌, ◌<◌, ◌≤◌, nat_le, nat_eq, nat_lt, Bool, true, false, not, cond, ◌&&◌, ◌||◌, List, [], ◌∷◌, ◌++◌, map, length, filter, refl, sym, ap, ◌∙◌, inl, inr, ◌⊎◌, arith}
+use Rattle.std.proofs.Common.{◌≡◌, ℕ, ◌+◌, ◌-◌, ◌<◌, ◌≤◌, nat_le, nat_eq, nat_lt, Bool, true, false, not, cond, ◌&&◌, ◌||◌, List, [], ◌∷◌, map, length, filter, refl, sym, ap, ◌∙◌, inl, inr, ◌⊎◌, arith}
 use Rattle.std.specs.Prelude.{count_by}
 use Rattle.std.specs.List.{list_any, list_all}
-use Rattle.std.proofs.lemmas.Bool.{and_parts, and_from, or_cases, cases_Bool}
-use borrow.Author.Tests.{eqb-true, eq-eqb}
+use Rattle.std.proofs.lemmas.Bool.{and_parts, and_from, cases_Bool}
 use Rattle.desk_rows.specs.declared.row.Row.{Row}
 use Rattle.desk_rows.specs.declared.row.Row.TheVariants as rows
 use Rattle.desk_rows.specs.declared.row.Member.{Member}
@@ -12,21 +11,21 @@ use Rattle.desk_rows.specs.declared.row.Key.TheVariants as keys
 use Rattle.desk_rows.specs.declared.row.Kind.TheVariants as kinds
 use Rattle.desk_rows.specs.declared.edit.Placed.{Placed}
 use Rattle.desk_rows.specs.declared.limits.TheConstants.{MAX_ROOMS, MAX_MEMBERS, MAX_SOURCES, MAX_SLOTS}
-use Rattle.desk_rows.specs.Row.{key_of, has_key, same_key, names, same_row}
+use Rattle.desk_rows.specs.Row.{key_of, has_key, same_key}
 use Rattle.desk_rows.specs.Equal.{key_itself}
 use Rattle.desk_rows.specs.Kinds.{is_of}
 use Rattle.desk_rows.specs.Order.{precedes, in_order, key_is_new, are_apart, have_same_keys, is_in, with_row, with_rows, without_rows}
 use Rattle.desk_rows.specs.OrderLaws.{at_each, from_each, is_in-filter, in_order-filter, list_all-with_rows}
 use Rattle.desk_rows.specs.Places.{take_at, put_at, can_take, can_put, places_rise, put_within}
 use Rattle.desk_rows.specs.PlaceLaws.{count_next, length-take_at, length-put_at, can_put_within}
-use Rattle.desk_rows.specs.Edit.{EditOf, outs, ins}
-use Rattle.desk_rows.specs.Desk.{Desk, blank, good, rows_of, is_within_limits, count_of, is_named_there}
+use Rattle.desk_rows.specs.Edit.{EditOf}
+use Rattle.desk_rows.specs.Desk.{Desk, blank, good, rows_of, count_of, is_named_there}
 use Rattle.desk_rows.specs.Exchange.{is_apt, exchanged, fits, after}
 use Rattle.desk_rows.specs.AfterEdit.{desk_of, edit_of}
-use Rattle.desk_rows.specs.Laws.{Good, good_parts, good_order, Fits, fits_parts, after_fits, any_counts, is_in-append}
+use Rattle.desk_rows.specs.Laws.{good_parts, good_order, fits_parts, after_fits, any_counts, is_in-append}
 use Rattle.desk_rows.proofs.KindLemmas.{filter_length}
 use Rattle.desk_rows.proofs.Merging.{put_in_turn}
-use Rattle.desk_rows.proofs.Counts.{true_false, list_all-map, rows_count, any_count, witness, some_count, count_some}
+use Rattle.desk_rows.proofs.Counts.{true_false, rows_count, witness, some_count, count_some}
 use Rattle.desk_rows.proofs.Keys.{same_key_is, its_key}
 
 -- ---- the tests, one after another

@@ -1,8 +1,7 @@
 -- What halving finds among rows in order.
-use Rattle.std.proofs.Common.{◌≡◌, ℕ, zero, suc, ◌+◌, ◌<◌, ◌≤◌, ◌⊎◌, inl, inr, Bool, true, false, cond, not, ◌&&◌, ◌||◌, List, [], ◌∷◌, length, get_or, take, drop, filter, nat_eq, nat_lt, nat_le, refl, sym, ap, ◌∙◌, arith, Some, None}
-use Rattle.std.specs.Prelude.{Option}
-use Rattle.std.specs.List.{find, list_all, list_any, slice_get}
-use Rattle.std.proofs.lemmas.Bool.{and_parts, and_from, or_cases, or_left, cases_Bool}
+use Rattle.std.proofs.Common.{◌≡◌, ℕ, zero, suc, ◌<◌, ◌≤◌, ◌⊎◌, inl, inr, Bool, true, false, cond, not, ◌&&◌, ◌||◌, List, [], ◌∷◌, length, get_or, take, drop, filter, nat_eq, nat_lt, nat_le, refl, sym, ap, ◌∙◌, arith, Some, None}
+use Rattle.std.specs.List.{find, list_all}
+use Rattle.std.proofs.lemmas.Bool.{and_parts, and_from, cases_Bool}
 use Rattle.desk_rows.specs.declared.row.Row.{Row}
 use Rattle.desk_rows.specs.declared.row.Row.TheVariants as rows
 use Rattle.desk_rows.specs.declared.row.Key.{Key}

@@ -1,32 +1,30 @@
 -- A desk after an edit is good exactly where it is judged so.
-use Rattle.std.proofs.Common.{◌≡◌, ℕ, ◌+◌, ◌-◌, ◌<◌, ◌≤◌, nat_lt, nat_eq, Bool, true, false, not, ◌&&◌, ◌||◌, List, [], ◌∷◌, ◌++◌, map, refl, sym, ap, ◌∙◌, inl, inr, ◌⊎◌, arith}
+use Rattle.std.proofs.Common.{◌≡◌, ℕ, ◌+◌, nat_lt, nat_eq, Bool, true, false, not, ◌&&◌, ◌||◌, List, [], ◌∷◌, ◌++◌, map, refl, sym, ap, ◌∙◌, inl, inr, ◌⊎◌, arith}
 use Rattle.std.specs.Prelude.{count_by}
 use Rattle.std.specs.List.{list_any, list_all}
-use Rattle.std.proofs.lemmas.Bool.{and_parts, and_from, or_left, or_right, or_cases, cases_Bool}
+use Rattle.std.proofs.lemmas.Bool.{and_parts, and_from, or_right, cases_Bool}
 use borrow.Author.Tests.{eqb-true, eq-eqb}
 use Rattle.desk_rows.specs.declared.row.Row.{Row}
 use Rattle.desk_rows.specs.declared.row.Row.TheVariants.{Room, Member, Source, Slot, Sub}
-use Rattle.desk_rows.specs.declared.row.Member.{Member as MemberRow}
 use Rattle.desk_rows.specs.declared.row.Key.{Key}
 use Rattle.desk_rows.specs.declared.row.Kind.TheVariants as kinds
-use Rattle.desk_rows.specs.declared.edit.Placed.{Placed}
 use Rattle.desk_rows.specs.declared.claim.Claim.{Claim}
 use Rattle.desk_rows.specs.declared.claim.Claim.TheVariants as claims
 use Rattle.std.proofs.lemmas.List.Folds.{list_any-append}
 use Rattle.desk_rows.specs.Row.{same_row, key_of, has_key, makes, claims_of, names}
 use Rattle.desk_rows.specs.Equal.{key_itself, number_itself, address_itself}
-use Rattle.desk_rows.specs.Order.{precedes, in_order, key_is_new, is_in, with_rows, without_rows}
-use Rattle.desk_rows.specs.OrderLaws.{at_each, from_each, both_ways, is_in-without_rows, list_all-with_rows, list_all-filter, list_all-with_row, in_order-filter, with_rows_in_order}
-use Rattle.desk_rows.specs.Places.{take_at, put_at}
+use Rattle.desk_rows.specs.Order.{precedes, in_order, key_is_new, is_in, without_rows}
+use Rattle.desk_rows.specs.OrderLaws.{at_each, from_each, both_ways, is_in-without_rows, list_all-with_rows, list_all-filter, in_order-filter, with_rows_in_order}
+use Rattle.desk_rows.specs.Places.{take_at}
 use Rattle.desk_rows.specs.Edit.{EditOf, outs, ins}
-use Rattle.desk_rows.specs.Desk.{Desk, good, rows_of, is_listed, is_within_limits, is_named_there, is_made_once, is_bridges, is_alone, obeys}
+use Rattle.desk_rows.specs.Desk.{Desk, good, rows_of, is_within_limits, is_named_there, is_made_once, is_bridges, is_alone, obeys}
 use Rattle.desk_rows.specs.Kinds.{is_of}
 use Rattle.desk_rows.specs.Exchange.{exchanged}
-use Rattle.desk_rows.specs.Laws.{Apt, ins_order, Good, good_parts, good_from, good_order, one_key, any_counts, count_by-append, claims_key, is_in-append}
+use Rattle.desk_rows.specs.Laws.{Apt, ins_order, good_parts, good_from, good_order, one_key, any_counts, count_by-append, claims_key, is_in-append}
 use Rattle.desk_rows.specs.Judged.{takes, puts, keeps_names, all_come, all_stay, moves, is_shaken, is_sound, stays_sound, judged}
 use Rattle.desk_rows.proofs.Counts.{true_false, any_count, witness, stay_count, go_count, come_count, before_count, after_count, all_after, list_all-map, list_all-append, count_by-map, list_any-map, some_count, count_some, no_count}
 use Rattle.desk_rows.proofs.Unshaken.{unshaken}
-use Rattle.desk_rows.proofs.Keys.{same_key_is, its_key, one_precedes, claimed}
+use Rattle.desk_rows.proofs.Keys.{its_key, one_precedes, claimed}
 
 -- ---- the rows that stay, those that go and those that come
 

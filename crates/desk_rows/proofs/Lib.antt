@@ -1,5 +1,6 @@
 pub mod Counts
 pub mod Merging
+pub mod Indexed
 pub mod Keys
 pub mod Halving
 pub mod Unshaken

@@ -1,5 +1,5 @@
 -- The rule of a row that stays holds on where the edit does not touch what it looks at.
-use Rattle.std.proofs.Common.{◌≡◌, ℕ, ◌+◌, ◌<◌, ◌≤◌, nat_le, nat_lt, nat_eq, Bool, true, false, not, cond, ◌&&◌, ◌||◌, List, [], ◌∷◌, ◌++◌, map, filter, refl, sym, ap, ◌∙◌, inl, inr, ◌⊎◌, arith}
+use Rattle.std.proofs.Common.{◌≡◌, ℕ, ◌+◌, ◌≤◌, nat_le, nat_lt, nat_eq, Bool, true, false, not, cond, ◌&&◌, ◌||◌, List, [], ◌∷◌, map, refl, sym, ap, ◌∙◌, inl, inr, ◌⊎◌, arith}
 use Rattle.std.specs.Prelude.{count_by}
 use Rattle.std.specs.List.{list_any, list_all}
 use Rattle.std.proofs.lemmas.Bool.{and_parts, and_from, or_left, or_right, or_cases, cases_Bool}
@@ -15,17 +15,17 @@ use Rattle.desk_rows.specs.declared.row.Key.TheVariants as keys
 use Rattle.desk_rows.specs.declared.row.Kind.TheVariants as kinds
 use Rattle.desk_rows.specs.declared.edit.Placed.{Placed}
 use Rattle.desk_rows.specs.declared.limits.TheConstants.{MAX_ROOM_AUDIO}
-use Rattle.desk_rows.specs.Row.{key_of, has_key, same_media, names}
+use Rattle.desk_rows.specs.Row.{has_key, same_media}
 use Rattle.desk_rows.specs.Equal.{number_itself, row_itself}
 use Rattle.desk_rows.specs.Order.{in_order, is_in, with_rows, without_rows}
 use Rattle.desk_rows.specs.OrderLaws.{at_each, is_in-with_rows, is_in-without_rows, count_by-with_rows, count_by-without_rows}
-use Rattle.desk_rows.specs.Places.{take_at, put_at}
+use Rattle.desk_rows.specs.Places.{take_at}
 use Rattle.desk_rows.specs.PlaceLaws.{count_next, count_by-take_at, count_by-put_at}
 use Rattle.desk_rows.specs.Edit.{EditOf, outs, ins}
 use Rattle.desk_rows.specs.Desk.{Desk, good, rows_of, is_member_in, is_audio_in, share_room, is_video_beside, is_slot_beside, is_named_there, obeys}
 use Rattle.desk_rows.specs.Kinds.{is_of}
 use Rattle.desk_rows.specs.Exchange.{exchanged}
-use Rattle.desk_rows.specs.Laws.{Apt, outs_order, Good, good_parts, good_order, any_counts}
+use Rattle.desk_rows.specs.Laws.{Apt, outs_order, good_parts, good_order, any_counts}
 use Rattle.desk_rows.specs.Judged.{takes, puts, keeps_names, moves, is_shaken}
 use Rattle.desk_rows.proofs.Counts.{true_false, any_count, witness, list_any-map}
 

@@ -1,5 +1,5 @@
 -- The desk that an edit would lead to, by the lists that the code has at hand. No public clause cites it.
-use Rattle.std.specs.Prelude.{ℕ, Bool, List, nat_eq}
+use Rattle.std.specs.Prelude.{ℕ, List}
 use Rattle.desk_rows.specs.declared.row.Member.{Member}
 use Rattle.desk_rows.specs.declared.row.Row.{Row}
 use Rattle.desk_rows.specs.declared.edit.Placed.{Placed}

@@ -1,5 +1,5 @@
 -- The desk, and what makes it good.
-use Rattle.std.specs.Prelude.{ℕ, Bool, true, false, ◌&&◌, not, List, [], ◌∷◌, ◌++◌, map, filter, count_by, nat_eq, nat_le, Option}
+use Rattle.std.specs.Prelude.{ℕ, Bool, true, false, ◌&&◌, not, List, [], ◌++◌, map, filter, count_by, nat_eq, nat_le, Option}
 use Rattle.std.specs.List.{find, list_any, list_all}
 use Rattle.desk_rows.specs.declared.row.Member.{Member}
 use Rattle.desk_rows.specs.declared.row.Row.{Row}

@@ -1,5 +1,5 @@
 -- What an edit makes of a desk, and when it fits.
-use Rattle.std.specs.Prelude.{Bool, ◌&&◌, List, if◌then◌else◌}
+use Rattle.std.specs.Prelude.{Bool, ◌&&◌, if◌then◌else◌}
 use Rattle.std.specs.List.{list_all}
 use Rattle.desk_rows.specs.Order.{are_apart, have_same_keys, is_in, with_rows, without_rows}
 use Rattle.desk_rows.specs.Places.{take_at, put_at, can_take, can_put, places_rise}

@@ -1,6 +1,6 @@
 -- How the desk after an edit is judged by the rows that come and by those that the edit touches, given that the desk
 -- before it is good. No public clause cites this.
-use Rattle.std.specs.Prelude.{Bool, false, ◌&&◌, ◌||◌, not, nat_eq, List}
+use Rattle.std.specs.Prelude.{Bool, false, ◌&&◌, ◌||◌, not, nat_eq}
 use Rattle.std.specs.List.{list_any, list_all}
 use Rattle.desk_rows.specs.declared.row.Row.{Row}
 use Rattle.desk_rows.specs.declared.row.Row.TheVariants.{Room, Member, Sub}

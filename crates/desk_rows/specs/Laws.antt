@@ -1,21 +1,19 @@
 -- An edit that fits can be taken back.
-use Rattle.std.specs.Prelude.{◌≡◌, ℕ, ◌+◌, ◌≤◌, Bool, true, false, cond, not, ◌&&◌, ◌||◌, List, [], ◌∷◌, ◌++◌, map, length, count_by, nat_eq, nat_le, refl, if◌then◌else◌}
-use Rattle.std.specs.List.{list_any, list_all}
+use Rattle.std.specs.Prelude.{◌≡◌, ℕ, ◌+◌, ◌≤◌, Bool, true, false, cond, not, ◌&&◌, ◌||◌, List, [], ◌∷◌, ◌++◌, map, count_by, nat_eq, refl}
+use Rattle.std.specs.List.{list_all}
 use Rattle.std.proofs.Common.{sym, ap, ◌∙◌, inl, inr, arith}
 use Rattle.std.proofs.lemmas.Bool.{and_parts, and_from, or_left, or_right, cases_Bool, cond-true, cond-false}
-use borrow.Author.Tests.{eqb-true, eq-eqb}
+use borrow.Author.Tests.{eqb-true}
 use Rattle.desk_rows.specs.declared.row.Row.{Row}
 use Rattle.desk_rows.specs.declared.row.Row.TheVariants.{Room, Member, Source, Slot, Sub}
-use Rattle.desk_rows.specs.declared.claim.Claim.TheVariants as claims
-use Rattle.desk_rows.specs.declared.row.Member.{Member as MemberRow}
-use Rattle.desk_rows.specs.Row.{has_key, key_of, makes, claims_of, same_row}
-use Rattle.desk_rows.specs.Equal.{same_row_is, row_itself, key_itself}
+use Rattle.desk_rows.specs.Row.{has_key, key_of, same_row}
+use Rattle.desk_rows.specs.Equal.{same_row_is, key_itself}
 use Rattle.desk_rows.specs.Order.{in_order, are_apart, have_same_keys, is_in, with_rows, without_rows}
-use Rattle.desk_rows.specs.OrderLaws.{at_each, from_each, is_in-with_rows, is_in-without_rows, count_by-with_rows, without_rows-with_rows, with_rows-without_rows, apart_in_order, same_keys_turned}
+use Rattle.desk_rows.specs.OrderLaws.{at_each, from_each, is_in-with_rows, count_by-with_rows, without_rows-with_rows, with_rows-without_rows, apart_in_order, same_keys_turned}
 use Rattle.desk_rows.specs.Places.{take_at, put_at, can_take, can_put, places_rise}
 use Rattle.desk_rows.specs.PlaceLaws.{take_at-put_at, put_at-take_at, can_take-put_at, can_put-take_at, count_next}
 use Rattle.desk_rows.specs.Edit.{EditOf, inverse, outs, ins}
-use Rattle.desk_rows.specs.Desk.{Desk, good, rows_of, is_listed, is_within_limits, is_named_there, is_alone, is_made_once, is_bridges, obeys}
+use Rattle.desk_rows.specs.Desk.{Desk, good, rows_of, is_listed, is_within_limits, is_named_there, is_alone, obeys}
 use Rattle.desk_rows.specs.Exchange.{is_apt, exchanged, fits, after}
 
 -- ---- the parts of the tests

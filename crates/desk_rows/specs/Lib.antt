@@ -5,6 +5,7 @@ pub mod Desk
 pub mod Edit
 pub mod Equal
 pub mod Places
+pub mod Index
 pub mod PlaceLaws
 pub mod OrderLaws
 pub mod Exchange

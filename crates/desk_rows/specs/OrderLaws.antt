@@ -2,7 +2,7 @@
 use Rattle.std.specs.Prelude.{◌≡◌, ℕ, ◌+◌, ◌<◌, Bool, true, false, cond, not, ◌&&◌, ◌||◌, List, [], ◌∷◌, filter, count_by, nat_eq, nat_lt, refl, ◌⊎◌}
 use Rattle.std.specs.List.{list_any, list_all}
 use Rattle.std.proofs.Common.{sym, ap, ◌∙◌, inl, inr, arith}
-use Rattle.std.proofs.lemmas.Bool.{and_parts, and_from, or_left, or_right, or_cases, cases_Bool, and_left, and_right}
+use Rattle.std.proofs.lemmas.Bool.{and_parts, and_from, or_left, or_right, or_cases, cases_Bool}
 use borrow.Author.Tests.{eqb-true, eq-eqb}
 use Rattle.desk_rows.specs.Row.{key_of, rank, number, same_key, same_row}
 use Rattle.desk_rows.specs.Order.{key_precedes, precedes, in_order, key_is_new, are_apart, have_same_keys, is_in, with_row, with_rows, without_rows}

@@ -1,5 +1,6 @@
 -- Member rows with places, taken out of a list and put into one.
-use Rattle.std.specs.Prelude.{ℕ, zero, suc, ◌+◌, Bool, true, false, ◌&&◌, List, [], ◌∷◌, length, nat_le, nat_lt, insert, remove}
+use Rattle.std.specs.Prelude.{ℕ, zero, suc, ◌+◌, Bool, true, false, ◌&&◌, if◌then◌else◌, List, [], ◌∷◌, length, nat_eq, nat_le, nat_lt, insert, remove, Option, None, Some}
+use Rattle.std.specs.Option.{option_map}
 use Rattle.std.specs.List.{list_all}
 use Rattle.desk_rows.specs.Row.{same_member}
 use Rattle.desk_rows.specs.declared.row.Member.{Member}
@@ -36,3 +37,8 @@ places_rise (p ∷ ps) = list_all (λ q. nat_lt p.place q.place) ps && places_ri
 abbrev pub put_within : ℕ → List Placed → Bool
 put_within n [] = true
 put_within n (p ∷ ps) = nat_le p.place n && put_within (n + 1) ps
+
+-- the place of the member of this number
+abbrev pub place_in : List Member → ℕ → Option ℕ
+place_in [] n = None
+place_in (m ∷ ms) n = if nat_eq m.member n then Some 0 else option_map (λ place. place + 1) (place_in ms n)

@@ -1,5 +1,5 @@
 -- The tests by which rows are counted. No public clause cites them.
-use Rattle.std.specs.Prelude.{ℕ, Bool}
+use Rattle.std.specs.Prelude.{Bool}
 use Rattle.desk_rows.specs.declared.row.Row.{Row}
 use Rattle.desk_rows.specs.declared.counting.Test.{Test}
 use Rattle.desk_rows.specs.declared.counting.Test.TheVariants.{IsOf, Makes}

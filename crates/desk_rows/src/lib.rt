@@ -6,6 +6,7 @@ mod claim;
 mod counting;
 mod edit;
 mod exchange;
+mod index;
 mod limits;
 mod ordering;
 mod places;

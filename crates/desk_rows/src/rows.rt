@@ -6,6 +6,8 @@ ghost use Rattle.desk_rows.specs.declared.row.Row.TheVariants.{Member as MemberR
 ghost use Rattle.desk_rows.specs.Row.{has_key};
 ghost use Rattle.desk_rows.specs.Kinds.{is_of};
 ghost use Rattle.desk_rows.specs.Order.{in_order, is_in};
+ghost use Rattle.desk_rows.specs.Index.{IsIndex};
+ghost use Rattle.desk_rows.specs.Places.{place_in};
 ghost use Rattle.desk_rows.specs.Desk.{blank, good, holds, row_at, rows_of_kind, count_of, roster};
 ghost use Rattle.desk_rows.specs.Edit.{inverse};
 ghost use Rattle.desk_rows.specs.Exchange.{fits, after};
@@ -13,9 +15,9 @@ ghost use Rattle.desk_rows.specs.Laws.{inverse_fits, undoes, stays};
 
 use crate::edit::Edit;
 use crate::exchange::Exchange;
+use crate::index::{Entry, entry_of, move_members};
 use crate::limits::{MAX_MEMBERS, MAX_OTHERS};
 use crate::ordering::{contains, find_row, put_rows, rows_of_kind, take_rows};
-use crate::places::{put_members, take_members};
 use crate::row::{Key, Kind, Member, Row};
 use std::alloc::{AllocError, Allocator, Global};
 use std::marker::Model;
@@ -29,6 +31,8 @@ use undo_log::Reversible;
 pub struct Rows<A: Allocator + Copy = Global> {
     bridge_ssrc: u32,
     members: Vec<Member, A>,
+    /// The members' places, by their numbers.
+    index: Vec<Entry, A>,
     others: Vec<Row, A>,
     /// Room in which an edit puts other rows together.
     spare: Vec<Row, A>,
@@ -39,6 +43,7 @@ impl<A: Allocator + Copy> Model for Rows<A> {
     ghost use Rattle.desk_rows.specs.declared.limits.TheConstants.{MAX_MEMBERS, MAX_OTHERS};
     ghost use Rattle.desk_rows.specs.Desk.{Desk, good};
     ghost use Rattle.desk_rows.specs.AfterEdit.{desk_of};
+    ghost use Rattle.desk_rows.specs.Index.{IsIndex};
 
     ghost Value = { Desk };
 
@@ -46,7 +51,9 @@ impl<A: Allocator + Copy> Model for Rows<A> {
 
     ghost invariant = { λ r.
         (good (desk_of r.bridge_ssrc r.members.items r.others.items) ≡ true)
+        × IsIndex r.members.items r.index.items
         × (MAX_MEMBERS ≤ vec_capacity r.members)
+        × (MAX_MEMBERS ≤ vec_capacity r.index)
         × (MAX_OTHERS ≤ vec_capacity r.others)
         × (MAX_OTHERS ≤ vec_capacity r.spare) };
 }
@@ -61,6 +68,7 @@ impl<A: Allocator + Copy> Rows<A> {
         Ok(Self {
             bridge_ssrc,
             members: Vec::with_capacity(alloc, MAX_MEMBERS)?,
+            index: Vec::with_capacity(alloc, MAX_MEMBERS)?,
             others: Vec::with_capacity(alloc, MAX_OTHERS)?,
             spare: Vec::with_capacity(alloc, MAX_OTHERS)?,
         })
@@ -105,7 +113,17 @@ impl<A: Allocator + Copy> Rows<A> {
     pub fn find(&self, key: &Key) -> Option<Row>
         ensures { result ≡ row_at self.now key.now }
     {
-        row_with(&self.members, &self.others, *key)
+        row_with(&self.members, &self.index, &self.others, *key)
+    }
+
+    /// The place of the member of this number, from 0.
+    pub fn place_of(&self, member: u32) -> Option<usize>
+        ensures { result ≡ place_in self.now.members member }
+    {
+        match entry_of(&self.index, member) {
+            None => None,
+            Some(entry) => Some(entry.place),
+        }
     }
 
     /// How many rows of the kind there are.
@@ -192,22 +210,24 @@ fn numbers_in<A: Allocator>(
         .collect(alloc)
 }
 
-fn member_with(members: &[Member], key: Key) -> Option<Row>
-    ensures { result ≡ find (has_key key) (map MemberRow members.now) }
+fn member_with(members: &[Member], index: &[Entry], number: u32) -> Option<Row>
+    requires { IsIndex members.now index.now }
+    ensures { result ≡ find (has_key (Key.Member number)) (map MemberRow members.now) }
 {
-    members
-        .iter()
-        .map(|member| Row::Member(*member))
-        .find(|row| row.has_key(key))
+    match entry_of(index, number) {
+        None => None,
+        Some(entry) => member_row(members, entry.place),
+    }
 }
 
-/// The row of this key; only members are looked at one by one.
-fn row_with(members: &[Member], others: &[Row], key: Key) -> Option<Row>
-    requires { in_order others.now ≡ true }
+/// The row of this key.
+fn row_with(members: &[Member], index: &[Entry], others: &[Row], key: Key) -> Option<Row>
+    requires index { IsIndex members.now index.now }
+    requires order { in_order others.now ≡ true }
     ensures { result ≡ find (has_key key) (map MemberRow members.now ++ others.now) }
 {
     match key {
-        Key::Member(_) => match member_with(members, key) {
+        Key::Member(number) => match member_with(members, index, number) {
             Some(row) => Some(row),
             None => find_row(others, key),
         },
@@ -257,8 +277,7 @@ impl<A: Allocator + Copy> Reversible for Rows<A> {
         let (leaving, joining) = (edit.taken_members(), edit.put_members());
         let (taken, put) = (edit.taken_others(), edit.put_others());
         let (old, new) = (edit.old(), edit.new());
-        take_members(&mut self.members, leaving);
-        put_members(&mut self.members, joining);
+        move_members(&mut self.members, &mut self.index, leaving, joining);
         take_rows(&mut self.others, taken, old);
         put_rows(&mut self.others, &mut self.spare, put);
         put_rows(&mut self.others, &mut self.spare, new);

@@ -168,6 +168,38 @@ fn a_roster_names_a_room_in_joining_order(rt: HostRuntime) -> Result<(), Fail> {
     Ok(())
 }
 
+#[test]
+fn members_are_found_at_their_places(rt: HostRuntime) -> Result<(), Fail> {
+    let alloc = rt.alloc();
+    let mut rows = four_members(alloc)?;
+    let joining = Edit {
+        taken: part(alloc, &[placed(1, 2, 8)], &[])?,
+        put: part(alloc, &[placed(0, 14, 8), placed(4, 13, 7)], &[])?,
+        replaced: Replaced::none(alloc),
+    };
+    assert!(rt; rows.fits(&joining));
+    rows.absorb(&joining);
+    assert_eq!(rt;
+        numbers(alloc, &rows)?.as_slice(),
+        [14, 1, 3, 4, 13].as_slice()
+    );
+    assert_eq!(rt; rows.place_of(14), Some(0));
+    assert_eq!(rt; rows.place_of(1), Some(1));
+    assert_eq!(rt; rows.place_of(13), Some(4));
+    assert_eq!(rt; rows.place_of(2), None);
+    assert_eq!(rt; rows.place_of(15), None);
+    assert_eq!(rt;
+        rows.find(&Key::Member(13)),
+        Some(Row::Member(member(13, 7)))
+    );
+    assert_eq!(rt; rows.find(&Key::Member(2)), None);
+    rows.absorb(&Rows::invert(joining));
+    assert_eq!(rt; rows.place_of(2), Some(1));
+    assert_eq!(rt; rows.place_of(4), Some(3));
+    assert_eq!(rt; rows.place_of(13), None);
+    Ok(())
+}
+
 /// Takes what is left of a heap, in halves.
 fn fill<'a>(held: &mut Vec<Vec<u8, &'a LocalHeap>>, heap: &'a LocalHeap) -> Result<(), Fail> {
     for power in 0..21u32 {

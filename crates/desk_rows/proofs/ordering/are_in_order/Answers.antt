@@ -1,4 +1,4 @@
-use Rattle.std.proofs.Common.{◌≡◌, true, false, ap, sym, ◌∙◌}
+use Rattle.std.proofs.Common.{ap, sym, ◌∙◌}
 use Rattle.desk_rows.specs.Order.{in_order}
 use Rattle.desk_rows.proofs.Loops.{in_order_next}
 use Rattle.desk_rows.proofs.ordering.are_in_order.Goals as goal

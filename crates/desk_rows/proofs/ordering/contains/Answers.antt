@@ -1,6 +1,6 @@
 use Rattle.std.proofs.Common.{sym, ap, ◌∙◌}
 use Rattle.std.specs.List.{find}
-use Rattle.desk_rows.specs.Row.{has_key, key_of}
+use Rattle.desk_rows.specs.Row.{has_key}
 use Rattle.desk_rows.proofs.Halving.{among_none, among_found}
 use Rattle.desk_rows.proofs.ordering.contains.Goals as goal
 

@@ -1,4 +1,4 @@
-use Rattle.std.proofs.Common.{ℕ, drop, take, nat_lt, nat_le, length, sym, ap, subst, ◌∙◌, arith, rules}
+use Rattle.std.proofs.Common.{take, nat_lt, nat_le, ap, subst, ◌∙◌, rules}
 use Rattle.std.proofs.lemmas.List.Sorted.{IsPartitionPoint-from_clause}
 use Rattle.desk_rows.specs.Row.{key_of, rank}
 use Rattle.desk_rows.specs.Kinds.{kind_rank}

@@ -1,4 +1,4 @@
-use Rattle.std.proofs.Common.{sym, ◌∙◌, arith}
+use Rattle.std.proofs.Common.{arith}
 use Rattle.desk_rows.specs.Row.{has_key}
 use Rattle.desk_rows.specs.OrderLaws.{list_any-with_rows}
 use Rattle.desk_rows.proofs.staying.has_row.Goals as goal

@@ -1,4 +1,4 @@
-use Rattle.std.proofs.Common.{◌≡◌, nat_lt, Bool, true, ◌||◌, sym, ap, ◌∙◌, arith}
+use Rattle.std.proofs.Common.{arith}
 use Rattle.desk_rows.specs.Tests.{passes}
 use Rattle.desk_rows.specs.Afterwards.{desk_after}
 use Rattle.desk_rows.proofs.AfterLemmas.{some_of_two}

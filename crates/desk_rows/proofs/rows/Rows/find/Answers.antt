@@ -1,7 +1,12 @@
-use Rattle.std.proofs.Common.{ap, ◌∙◌}
+use Rattle.std.proofs.Common.{sym, ap, subst, ◌∙◌}
 use Rattle.desk_rows.specs.Order.{in_order}
+use Rattle.desk_rows.specs.Index.{IsIndex}
 use Rattle.desk_rows.specs.Laws.{good_order}
 use Rattle.desk_rows.proofs.rows.Rows.find.Goals as goal
 
-pub row_with-requires : goal.row_with-requires
-row_with-requires g c = ap in_order c.deref-2.ensures.value ∙ good_order _ c.self.invariant.0
+pub row_with-requires-clause-index : goal.row_with-requires-clause-index
+row_with-requires-clause-index g c =
+    subst (λ es. IsIndex c.deref.result.now es) (sym c.deref-2.ensures.value) (subst (λ ms. IsIndex ms c.self.inside.index.items) (sym c.deref.ensures.value) c.self.invariant.1)
+
+pub row_with-requires-clause-order : goal.row_with-requires-clause-order
+row_with-requires-clause-order g c = ap in_order c.deref-3.ensures.value ∙ good_order _ c.self.invariant.0

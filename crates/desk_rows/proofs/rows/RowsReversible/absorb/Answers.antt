@@ -1,18 +1,21 @@
-use Rattle.std.proofs.Common.{◌≡◌, ◌+◌, true, length, ap, sym, ◌∙◌, arith}
+use Rattle.std.proofs.Common.{length, ap, sym, ◌∙◌, arith}
 use Rattle.desk_rows.specs.declared.limits.TheConstants.{MAX_OTHERS}
 use Rattle.desk_rows.specs.Order.{with_rows}
-use Rattle.desk_rows.specs.Places.{put_at, can_put}
 use Rattle.desk_rows.specs.Desk.{good}
 use Rattle.desk_rows.specs.AfterEdit.{desk_of}
 use Rattle.desk_rows.specs.Laws.{stays}
 use Rattle.desk_rows.proofs.ExchangeLemmas.{absorbs_at}
+use Rattle.desk_rows.proofs.Indexed.{once_each}
 use Rattle.desk_rows.proofs.rows.RowsReversible.absorb.Goals as goal
 
 pub returns-then-not-fits : goal.returns-then-not-fits
 returns-then-not-fits g c = sym (stays c.args.self.now c.args.edit.now (sym c.fits.ensures ∙ c.if-not-fits.true))
 
-pub take_members-requires : goal.take_members-requires
-take_members-requires g c =
+pub move_members-requires-clause-index : goal.move_members-requires-clause-index
+move_members-requires-clause-index g c = c.self.invariant.1
+
+pub move_members-requires-clause-take : goal.move_members-requires-clause-take
+move_members-requires-clause-take g c =
     let self = c.self.inside in
     let found = absorbs_at self.bridge_ssrc self.members.items self.others.items
     c.taken_members-leaving.result.now c.taken_others-taken.result.now c.old-old.result.now
@@ -21,26 +24,35 @@ take_members-requires g c =
     (sym c.fits.ensures ∙ c.if-not-fits.false) in
     found.0.can_take_first
 
-pub put_members-requires-clause-can : goal.put_members-requires-clause-can
-put_members-requires-clause-can g c =
+pub move_members-requires-clause-put : goal.move_members-requires-clause-put
+move_members-requires-clause-put g c =
     let self = c.self.inside in
     let found = absorbs_at self.bridge_ssrc self.members.items self.others.items
     c.taken_members-leaving.result.now c.taken_others-taken.result.now c.old-old.result.now
     c.put_members-joining.result.now c.put_others-put.result.now c.new-new.result.now c.args.self.now c.args.edit.now c.self.view_is
     (c.taken_members-leaving.ensures, c.taken_others-taken.ensures, c.old-old.ensures, c.put_members-joining.ensures, c.put_others-put.ensures, c.new-new.ensures)
     (sym c.fits.ensures ∙ c.if-not-fits.false) in
-    ap (can_put c.put_members-joining.result.now) c.take_members.ensures.items ∙ found.0.can_put_then
+    found.0.can_put_then
 
-pub put_members-requires-clause-room : goal.put_members-requires-clause-room
-put_members-requires-clause-room g c =
+pub move_members-requires-clause-numbers : goal.move_members-requires-clause-numbers
+move_members-requires-clause-numbers g c =
     let self = c.self.inside in
     let found = absorbs_at self.bridge_ssrc self.members.items self.others.items
     c.taken_members-leaving.result.now c.taken_others-taken.result.now c.old-old.result.now
     c.put_members-joining.result.now c.put_others-put.result.now c.new-new.result.now c.args.self.now c.args.edit.now c.self.view_is
     (c.taken_members-leaving.ensures, c.taken_others-taken.ensures, c.old-old.ensures, c.put_members-joining.ensures, c.put_others-put.ensures, c.new-new.ensures)
     (sym c.fits.ensures ∙ c.if-not-fits.false) in
-    let len = ap length c.take_members.ensures.items in
-    omega (arith, found.0.members_room, len, c.self.invariant.1, c.take_members.ensures.capacity)
+    once_each _ found.0.good_after
+
+pub move_members-requires-clause-room : goal.move_members-requires-clause-room
+move_members-requires-clause-room g c =
+    let self = c.self.inside in
+    let found = absorbs_at self.bridge_ssrc self.members.items self.others.items
+    c.taken_members-leaving.result.now c.taken_others-taken.result.now c.old-old.result.now
+    c.put_members-joining.result.now c.put_others-put.result.now c.new-new.result.now c.args.self.now c.args.edit.now c.self.view_is
+    (c.taken_members-leaving.ensures, c.taken_others-taken.ensures, c.old-old.ensures, c.put_members-joining.ensures, c.put_others-put.ensures, c.new-new.ensures)
+    (sym c.fits.ensures ∙ c.if-not-fits.false) in
+    (omega (arith, found.0.members_room, c.self.invariant.2), omega (arith, found.0.members_room, c.self.invariant.3))
 
 pub take_rows-requires-clause-taken : goal.take_rows-requires-clause-taken
 take_rows-requires-clause-taken g c =
@@ -81,7 +93,7 @@ put_rows-requires-clause-room g c =
     (c.taken_members-leaving.ensures, c.taken_others-taken.ensures, c.old-old.ensures, c.put_members-joining.ensures, c.put_others-put.ensures, c.new-new.ensures)
     (sym c.fits.ensures ∙ c.if-not-fits.false) in
     let len = ap length c.take_rows.ensures.items in
-    omega (arith, found.0.put_room, len, c.self.invariant.3)
+    omega (arith, found.0.put_room, len, c.self.invariant.5)
 
 pub put_rows-requires-2-clause-order : goal.put_rows-requires-2-clause-order
 put_rows-requires-2-clause-order g c =
@@ -102,7 +114,7 @@ put_rows-requires-2-clause-room g c =
     (c.taken_members-leaving.ensures, c.taken_others-taken.ensures, c.old-old.ensures, c.put_members-joining.ensures, c.put_others-put.ensures, c.new-new.ensures)
     (sym c.fits.ensures ∙ c.if-not-fits.false) in
     let len = ap length (c.put_rows.ensures.items ∙ ap (with_rows c.put_others-put.result.now) c.take_rows.ensures.items) in
-    let capacity = c.put_rows.ensures.room MAX_OTHERS (omega (arith, c.self.invariant.2, c.take_rows.ensures.capacity)) c.self.invariant.3 in
+    let capacity = c.put_rows.ensures.room MAX_OTHERS (omega (arith, c.self.invariant.4, c.take_rows.ensures.capacity)) c.self.invariant.5 in
     omega (arith, found.0.new_room, len, capacity.1)
 
 pub invariant_of-self : goal.invariant_of-self
@@ -113,13 +125,15 @@ invariant_of-self g c =
     c.put_members-joining.result.now c.put_others-put.result.now c.new-new.result.now c.args.self.now c.args.edit.now c.self.view_is
     (c.taken_members-leaving.ensures, c.taken_others-taken.ensures, c.old-old.ensures, c.put_members-joining.ensures, c.put_others-put.ensures, c.new-new.ensures)
     (sym c.fits.ensures ∙ c.if-not-fits.false) in
-    let members = c.put_members.ensures.items ∙ ap (put_at c.put_members-joining.result.now) c.take_members.ensures.items in
+    let members = c.move_members.ensures.items in
     let left = c.take_rows.ensures.items in
     let others = c.put_rows-2.ensures.items ∙ ap (with_rows c.new-new.result.now) (c.put_rows.ensures.items ∙ ap (with_rows c.put_others-put.result.now) left) in
-    let first = c.put_rows.ensures.room MAX_OTHERS (omega (arith, c.self.invariant.2, c.take_rows.ensures.capacity)) c.self.invariant.3 in
+    let first = c.put_rows.ensures.room MAX_OTHERS (omega (arith, c.self.invariant.4, c.take_rows.ensures.capacity)) c.self.invariant.5 in
     let second = c.put_rows-2.ensures.room MAX_OTHERS first.0 first.1 in (
       (λ i. good (desk_of self.bridge_ssrc (members i) (others i))) ∙ found.0.good_after,
-      omega (arith, c.self.invariant.1, c.take_members.ensures.capacity, c.put_members.ensures.capacity),
+      c.move_members.ensures.index,
+      omega (arith, c.self.invariant.2, c.move_members.ensures.capacity.0),
+      omega (arith, c.self.invariant.3, c.move_members.ensures.capacity.1),
       second.0,
       second.1,
     )
@@ -132,7 +146,7 @@ returns g c =
     c.put_members-joining.result.now c.put_others-put.result.now c.new-new.result.now c.args.self.now c.args.edit.now c.self.view_is
     (c.taken_members-leaving.ensures, c.taken_others-taken.ensures, c.old-old.ensures, c.put_members-joining.ensures, c.put_others-put.ensures, c.new-new.ensures)
     (sym c.fits.ensures ∙ c.if-not-fits.false) in
-    let members = c.put_members.ensures.items ∙ ap (put_at c.put_members-joining.result.now) c.take_members.ensures.items in
+    let members = c.move_members.ensures.items in
     let left = c.take_rows.ensures.items in
     let others = c.put_rows-2.ensures.items ∙ ap (with_rows c.new-new.result.now) (c.put_rows.ensures.items ∙ ap (with_rows c.put_others-put.result.now) left) in
     (λ i. desk_of self.bridge_ssrc (members i) (others i)) ∙ found.0.after_is ∙ found.1

@@ -1,0 +1,15 @@
+use Rattle.std.proofs.Common.{sym, ap, subst, ◌∙◌, length, arith}
+use Rattle.desk_rows.specs.Places.{put_at}
+use Rattle.desk_rows.specs.PlaceLaws.{length-put_at}
+use Rattle.desk_rows.proofs.Indexed.{Once}
+use Rattle.desk_rows.proofs.index.move_members.Goals as goal
+
+pub index_members-requires-clause-numbers : goal.index_members-requires-clause-numbers
+index_members-requires-clause-numbers g c =
+    subst Once (sym (c.deref.ensures.value ∙ c.put_members.ensures.items ∙ ap (put_at c.args.put.now) c.take_members.ensures.items)) c.requires.numbers
+
+pub index_members-requires-clause-room : goal.index_members-requires-clause-room
+index_members-requires-clause-room g c =
+    let long = ap length (c.deref.ensures.value ∙ c.put_members.ensures.items ∙ ap (put_at c.args.put.now) c.take_members.ensures.items) in
+    let after = length-put_at c.args.put.now _ c.requires.put in
+    omega (arith, long, after, c.requires.room.1)

@@ -1,0 +1,18 @@
+use Rattle.std.proofs.Common.{sym, ap, subst, ◌∙◌}
+use Rattle.std.specs.List.Sorted.{IsNonDecreasingBy}
+use Rattle.std.specs.Option.{option_map}
+use Rattle.desk_rows.specs.declared.index.Entry.{Entry}
+use Rattle.desk_rows.specs.Places.{place_in}
+use Rattle.desk_rows.specs.Index.{entry_in}
+use Rattle.desk_rows.proofs.rows.Rows.place_of.Goals as goal
+
+pub entry_of-requires : goal.entry_of-requires
+entry_of-requires g c = subst (IsNonDecreasingBy (λ (e : Entry). e.member)) (sym c.deref.ensures.value) c.self.invariant.1.sorted
+
+pub returns-in-None : goal.returns-in-None
+returns-in-None g c =
+    ap (option_map (λ (e : Entry). e.place)) (sym c.in-None.is ∙ c.entry_of.ensures ∙ ap (λ es. entry_in es c.args.member) c.deref.ensures.value) ∙ c.self.invariant.1.places c.args.member ∙ ap (λ d. place_in d.members c.args.member) c.self.view_is
+
+pub returns-in-Some : goal.returns-in-Some
+returns-in-Some g c =
+    ap (option_map (λ (e : Entry). e.place)) (sym c.in-Some.is ∙ c.entry_of.ensures ∙ ap (λ es. entry_in es c.args.member) c.deref.ensures.value) ∙ c.self.invariant.1.places c.args.member ∙ ap (λ d. place_in d.members c.args.member) c.self.view_is

@@ -1,0 +1,89 @@
+//! The places of members, found by their numbers.
+
+ghost use Rattle.std.specs.Prelude.{◌≡◌, ℕ, ◌+◌, ◌≤◌, true, count_by, length, nat_eq, vec_capacity};
+ghost use Rattle.std.specs.List.Sorted.{IsNonDecreasingBy};
+ghost use Rattle.desk_rows.specs.Places.{can_take, can_put, take_at, put_at};
+ghost use Rattle.desk_rows.specs.Index.{entries_from, entry_in, IsIndex};
+
+use crate::edit::Placed;
+use crate::places::{put_members, take_members};
+use crate::row::Member;
+use std::alloc::Allocator;
+
+/// A member's number, and its place in the list of members.
+#[derive(Clone, Copy)]
+pub(crate) struct Entry {
+    pub(crate) member: u32,
+    pub(crate) place: usize,
+}
+
+/// The entry of this number, found by halving.
+pub(crate) fn entry_of(index: &[Entry], member: u32) -> Option<Entry>
+    requires { IsNonDecreasingBy (λ e. e.member) index.now }
+    ensures { result ≡ entry_in index.now member }
+{
+    let at = index.partition_point(|entry| entry.member < member);
+    if at >= index.len() {
+        return None;
+    }
+    let entry = index[at];
+    if entry.member == member {
+        Some(entry)
+    } else {
+        None
+    }
+}
+
+/// Takes member rows from their places and puts others at theirs. The index is made anew if that
+/// moves any.
+pub(crate) fn move_members<A: Allocator>(
+    members: &mut Vec<Member, A>,
+    index: &mut Vec<Entry, A>,
+    taken: &[Placed],
+    put: &[Placed],
+)
+    requires index { IsIndex members.old.items index.old.items }
+    requires take { can_take taken.now members.old.items ≡ true }
+    requires put { can_put put.now (take_at taken.now members.old.items) ≡ true }
+    requires numbers { (n : ℕ) → count_by (λ m. nat_eq m.member n) (put_at put.now (take_at taken.now members.old.items)) ≤ 1 }
+    requires room { (length (take_at taken.now members.old.items) + length put.now ≤ vec_capacity members.old) × (length (take_at taken.now members.old.items) + length put.now ≤ vec_capacity index.old) }
+    ensures items { members.new.items ≡ put_at put.now (take_at taken.now members.old.items) }
+    ensures index { IsIndex members.new.items index.new.items }
+    ensures capacity { (vec_capacity members.old ≤ vec_capacity members.new) × (vec_capacity index.old ≤ vec_capacity index.new) }
+{
+    if taken.is_empty() && put.is_empty() {
+        return;
+    }
+    take_members(members, taken);
+    put_members(members, put);
+    index_members(index, members);
+}
+
+/// Makes the index of these members, in the room that it has.
+fn index_members<A: Allocator>(index: &mut Vec<Entry, A>, members: &[Member])
+    requires numbers { (n : ℕ) → count_by (λ m. nat_eq m.member n) members.now ≤ 1 }
+    requires room { length members.now ≤ vec_capacity index.old }
+    ensures index { IsIndex members.now index.new.items }
+    ensures capacity { vec_capacity index.old ≤ vec_capacity index.new }
+{
+    list_places(index, members);
+    index.sort_unstable_by_key(|entry| entry.member);
+}
+
+/// Lists the members' numbers with their places.
+fn list_places<A: Allocator>(index: &mut Vec<Entry, A>, members: &[Member])
+    requires { length members.now ≤ vec_capacity index.old }
+    ensures items { index.new.items ≡ entries_from 0 members.now }
+    ensures capacity { vec_capacity index.old ≤ vec_capacity index.new }
+{
+    index.clear();
+    let mut rest = members;
+    while let Some((member, later)) = rest.split_first() {
+        let place = index.len();
+        index.push_reserved(Entry {
+            member: member.member,
+            place,
+        });
+        rest = later;
+    }
+}
