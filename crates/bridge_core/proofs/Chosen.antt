@@ -7,12 +7,11 @@ use Rattle.desk_rows.specs.declared.row.Member.{Member as MemberRow}
 use Rattle.desk_rows.specs.declared.row.Slot.{Slot as SlotRow}
 use Rattle.desk_rows.specs.Desk.{Desk}
 use Rattle.bridge_core.specs.declared.receivers.Receiver.{Receiver}
-use Rattle.bridge_core.specs.declared.receivers.TheConstants.{INDEXES}
 use Rattle.bridge_core.specs.Choice.{choice, comes_from, same_number}
 use Rattle.bridge_core.specs.OwnStreams.{is_mine}
 use Rattle.bridge_core.specs.Frame.{SourceFrame}
 use Rattle.bridge_core.specs.Sending.{Numbered}
-use Rattle.bridge_core.specs.Receivers.{slots_of, chooses, by_index, by_place, receiver, receivers, receivers_in}
+use Rattle.bridge_core.specs.Receivers.{slots_of, chooses, index_count, by_index, by_place, receiver, receivers, receivers_in}
 use Rattle.bridge_core.specs.Lanes.{sent_to}
 use Rattle.bridge_core.specs.Headline.{IsChosen}
 
@@ -56,7 +55,7 @@ by_place-chose d source members =
     let slots = filter (chooses d source) (slots_of d) in
     let chose = λ (s : SlotRow). chooses d source s ≡ true in
     let each : AllByRecursion (λ s. chooses d source s ≡ true) (by_index slots) =
-    all-flat_map chose (λ index. filter (λ (s : SlotRow). nat_eq s.index index) slots) (range_with_len 0 INDEXES) (λ index. all-filter chose (λ (s : SlotRow). nat_eq s.index index) slots (all-passing (chooses d source) (slots_of d))) in
+    all-flat_map chose (λ index. filter (λ (s : SlotRow). nat_eq s.index index) slots) (range_with_len 0 index_count) (λ index. all-filter chose (λ (s : SlotRow). nat_eq s.index index) slots (all-passing (chooses d source) (slots_of d))) in
     all-flat_map (Chose d source) (λ (m : MemberRow). map (receiver m) (filter (λ (s : SlotRow). nat_eq s.member m.member) (by_index slots))) members
     (λ m. all-map (Chose d source) (receiver m) (filter (λ (s : SlotRow). nat_eq s.member m.member) (by_index slots)) (all-filter chose (λ (s : SlotRow). nat_eq s.member m.member) (by_index slots) each))
 

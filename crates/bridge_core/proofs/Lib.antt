@@ -3,6 +3,7 @@ pub mod Numbers
 pub mod Stamps
 pub mod Next
 pub mod Subscribers
+pub mod Seats
 pub mod Order
 pub mod StreamTable
 pub mod Readies

@@ -9,9 +9,8 @@ use Rattle.desk_rows.specs.declared.row.Member.{Member as MemberRow}
 use Rattle.desk_rows.specs.declared.row.Slot.{Slot as SlotRow}
 use Rattle.desk_rows.specs.Desk.{Desk, good}
 use Rattle.bridge_core.specs.declared.receivers.Receiver.{Receiver}
-use Rattle.bridge_core.specs.declared.receivers.TheConstants.{INDEXES}
 use Rattle.bridge_core.specs.Choice.{comes_from}
-use Rattle.bridge_core.specs.Receivers.{slots_of, chooses, by_index, by_place, receiver, receivers}
+use Rattle.bridge_core.specs.Receivers.{slots_of, chooses, index_count, by_index, by_place, receiver, receivers}
 use Rattle.bridge_core.specs.Lanes.{receiver_at}
 use Rattle.bridge_core.specs.Readies.{AreDistinct}
 use Rattle.bridge_core.proofs.Distinct.{at, Distinct, past, from_past, Distinct-filter, Distinct-groups}
@@ -57,7 +56,7 @@ unfolding receivers by_index
 receivers_distinct d source address h =
     let chosen = filter (chooses d source) (slots_of d) in
     let indexed : Distinct ssrc (by_index chosen) =
-    Distinct-groups ssrc (λ (s : SlotRow). s.index) (λ (i : ℕ). i) chosen (range_with_len 0 INDEXES) (Distinct-range 0 INDEXES) (Distinct-filter ssrc (chooses d source) (slots_of d) (slots_distinct d h)) in
+    Distinct-groups ssrc (λ (s : SlotRow). s.index) (λ (i : ℕ). i) chosen (range_with_len 0 index_count) (Distinct-range 0 index_count) (Distinct-filter ssrc (chooses d source) (slots_of d) (slots_distinct d h)) in
     let placed : AreDistinct (by_place d.members (by_index chosen)) =
     by_slots (by_place d.members (by_index chosen)) (subst (Distinct ssrc) (sym (slots-by_place d.members (by_index chosen)))
     (Distinct-groups ssrc (λ (s : SlotRow). s.member) (λ (m : MemberRow). m.member) (by_index chosen) d.members (members_distinct d h) indexed)) in

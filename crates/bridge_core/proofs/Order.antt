@@ -1,22 +1,27 @@
 -- A lane's receivers can be put in order after the others have been left out.
-use Rattle.std.proofs.Common.{◌≡◌, ℕ, ◌+◌, ◌-◌, ◌<◌, Bool, true, false, cond, nat_eq, List, [], ◌∷◌, ◌++◌, map, refl, sym, ap, ◌∙◌, arith, append_assoc, suc}
+use Rattle.std.proofs.Common.{◌≡◌, ℕ, ◌<◌, Bool, true, false, cond, nat_eq, nat_le, List, [], ◌∷◌, ◌++◌, map, refl, sym, ap, subst, ◌∙◌, arith}
 use Rattle.std.specs.Prelude.{filter}
-use Rattle.std.specs.List.{filter_map, flat_map, range_with_len}
-use Rattle.std.proofs.lemmas.List.Elements.{filter-append}
+use Rattle.std.specs.List.{All, list_all, filter_map, flat_map, range_with_len}
+use Rattle.std.specs.List.Sorted.{IsNonDecreasingBy, IsPermutation}
+use Rattle.std.proofs.lemmas.Bool.{and_parts}
+use Rattle.std.proofs.lemmas.Bool.Decides.{nat_tests}
+use Rattle.std.proofs.lemmas.List.Elements.{filter-append, All-nil, All-cons, All-filter}
 use Rattle.rtp_codec.specs.declared.address.Address.{Address}
 use Rattle.desk_rows.specs.declared.row.Slot.{Slot as SlotRow}
 use Rattle.desk_rows.specs.declared.row.Member.{Member as MemberRow}
+use Rattle.desk_rows.specs.declared.row.Row.{Row}
+use Rattle.desk_rows.specs.declared.row.Row.TheVariants.{Room, Member, Source, Slot, Sub}
 use Rattle.desk_rows.specs.declared.row.Kind.TheVariants as kinds
 use Rattle.desk_rows.specs.Kinds.{is_of}
-use Rattle.desk_rows.specs.Laws.{good_order}
-use Rattle.desk_rows.specs.Desk.{Desk, good}
+use Rattle.desk_rows.specs.Laws.{good_order, good_parts}
+use Rattle.desk_rows.specs.Desk.{Desk, good, obeys}
 use Rattle.bridge_core.specs.declared.lane_place.LanePlace.{LanePlace}
 use Rattle.bridge_core.specs.declared.receivers.Receiver.{Receiver}
-use Rattle.bridge_core.specs.declared.receivers.TheConstants.{INDEXES}
 use Rattle.bridge_core.specs.Choice.{comes_from}
-use Rattle.bridge_core.specs.Receivers.{slots_of, chooses, by_index, by_place, receiver, receivers, receivers_in}
+use Rattle.bridge_core.specs.Receivers.{slot_in, slots_of, chooses, index_count, by_index, by_place, receiver, receivers, receivers_in}
 use Rattle.bridge_core.specs.Takers.{taker}
 use Rattle.bridge_core.proofs.Subscribers.{filter-front, mine, takers}
+use Rattle.bridge_core.proofs.Seats.{sorted_by_index}
 
 filter-both : {X : Type 0} (p q : X → Bool) (x : X) (xs : List X) → filter p (filter q xs) ≡ filter q (filter p xs)
     → (a b : Bool) → p x ≡ a → q x ≡ b → filter p (filter q (x ∷ xs)) ≡ filter q (filter p (x ∷ xs))
@@ -59,53 +64,46 @@ unfolding receivers by_index
 receivers_in_order place d source address h e =
     let chosen = filter (chooses d source) (slots_of d) in
     ap (λ slots. by_place d.members (by_index slots)) (takers d source place (good_order d h))
-    ∙ ap (by_place d.members) (sym (filter-groups (mine place) (λ index (s : SlotRow). nat_eq s.index index) chosen (range_with_len 0 INDEXES)))
+    ∙ ap (by_place d.members) (sym (filter-groups (mine place) (λ index (s : SlotRow). nat_eq s.index index) chosen (range_with_len 0 index_count)))
     ∙ sym (filter-by_place (mine place) d.members (by_index chosen))
     ∙ sym (ap (λ b. filter (λ (r : Receiver). mine place r.slot) (cond b (by_place d.members (by_index chosen)) [])) e)
 
--- the same, step by step: the slots are made and read, then put in order and read
-pub receivers_by_steps : (place : LanePlace) (d : Desk) (source : ℕ) (address : Address) (made slots put sorted : List SlotRow) (members : List MemberRow) (found : List Receiver) → good d ≡ true → comes_from d source address ≡ true
-    → made ≡ filter_map (taker d source place) (filter (is_of kinds.Sub) d.others) → slots ≡ made → put ≡ by_index slots → sorted ≡ put → members ≡ d.members → found ≡ by_place members sorted
+-- the slots of a good desk have indexes from 0 to 15
+few : (d : Desk) (rs : List Row) → list_all (obeys d) rs ≡ true → All (λ (s : SlotRow). s.index < 16) (filter_map slot_in rs)
+few d [] h = All-nil (λ (s : SlotRow). s.index < 16)
+few d (Room r ∷ rs) h = few d rs (and_parts (obeys d (Room r)) (list_all (obeys d) rs) h).1
+few d (Member r ∷ rs) h = few d rs (and_parts (obeys d (Member r)) (list_all (obeys d) rs) h).1
+few d (Source r ∷ rs) h = few d rs (and_parts (obeys d (Source r)) (list_all (obeys d) rs) h).1
+few d (Sub r ∷ rs) h = few d rs (and_parts (obeys d (Sub r)) (list_all (obeys d) rs) h).1
+few d (Slot s ∷ rs) h =
+    let both = and_parts (obeys d (Slot s)) (list_all (obeys d) rs) h in
+    All-cons (λ (s : SlotRow). s.index < 16) s (filter_map slot_in rs) (at_most s.index both.0) (few d rs both.1)
+  where
+    at_most : (n : ℕ) → nat_le n 15 ≡ true → n < 16
+    at_most n e = grind (arith, nat_tests)
+
+all_later : (d : Desk) (ms : List MemberRow) (rs : List Row) → list_all (obeys d) (map Member ms ++ rs) ≡ true → list_all (obeys d) rs ≡ true
+all_later d [] rs h = h
+all_later d (m ∷ ms) rs h = all_later d ms rs (and_parts (obeys d (Member m)) (list_all (obeys d) (map Member ms ++ rs)) h).1
+
+takers_few : (place : LanePlace) (d : Desk) (source : ℕ) → good d ≡ true → All (λ (s : SlotRow). s.index < 16) (filter_map (taker d source place) (filter (is_of kinds.Sub) d.others))
+takers_few place d source h =
+    subst (All (λ (s : SlotRow). s.index < 16)) (sym (takers d source place (good_order d h)))
+    (All-filter (mine place) (λ (s : SlotRow). s.index < 16) (filter (chooses d source) (slots_of d))
+    (All-filter (chooses d source) (λ (s : SlotRow). s.index < 16) (slots_of d) (few d d.others (all_later d d.members d.others (good_parts d h).obey))))
+
+-- the slots that were taken, sorted by index, and then seated, are the receivers
+pub receivers_by_steps : (place : LanePlace) (d : Desk) (source : ℕ) (address : Address) (made sorted read : List SlotRow) (found : List Receiver) → good d ≡ true → comes_from d source address ≡ true
+    → made ≡ filter_map (taker d source place) (filter (is_of kinds.Sub) d.others) → IsNonDecreasingBy (λ s. s.index) sorted → IsPermutation made sorted
+    → ((x : SlotRow) → filter (λ s. nat_eq s.index x.index) sorted ≡ filter (λ s. nat_eq s.index x.index) made) → read ≡ sorted → found ≡ by_place d.members read
     → found ≡ receivers_in place.lane place.lanes d source address
-receivers_by_steps place d source address made slots put sorted members found h comes taken read ordered read_on all is =
+receivers_by_steps place d source address made sorted read found h comes taken up moved same reads is =
     is
-    ∙ ap (λ ms. by_place ms sorted) all
-    ∙ ap (by_place d.members) (read_on ∙ ordered ∙ ap by_index (read ∙ taken))
+    ∙ ap (by_place d.members) (reads ∙ sorted_by_index made sorted (subst (All (λ (s : SlotRow). s.index < 16)) (sym taken) (takers_few place d source h)) up moved same ∙ ap by_index taken)
     ∙ receivers_in_order place d source address h comes
-
-nobody_by_index : (indexes : List ℕ) → flat_map (λ index. filter (λ (s : SlotRow). nat_eq s.index index) []) indexes ≡ []
-nobody_by_index [] = refl
-nobody_by_index (i ∷ indexes) = nobody_by_index indexes
-
-nobody_by_place : (members : List MemberRow) → by_place members [] ≡ []
-nobody_by_place [] = refl
-nobody_by_place (m ∷ members) = nobody_by_place members
-
--- and where there are no such slots, nobody is
-pub no_takers : (place : LanePlace) (d : Desk) (source : ℕ) (address : Address) (slots : List SlotRow) → good d ≡ true → comes_from d source address ≡ true
-    → slots ≡ filter_map (taker d source place) (filter (is_of kinds.Sub) d.others) → slots ≡ [] → receivers_in place.lane place.lanes d source address ≡ []
-unfolding by_index
-no_takers place d source address slots h comes taken none =
-    sym (receivers_in_order place d source address h comes)
-    ∙ ap (λ xs. by_place d.members (by_index xs)) (sym taken ∙ none)
-    ∙ ap (by_place d.members) (nobody_by_index (range_with_len 0 INDEXES))
-    ∙ nobody_by_place d.members
 
 -- nobody gets what comes from another address
 pub no_receivers : (place : LanePlace) (d : Desk) (source : ℕ) (address : Address) → comes_from d source address ≡ false → receivers_in place.lane place.lanes d source address ≡ []
 unfolding receivers
 no_receivers place d source address e =
     ap (λ b. filter (λ (r : Receiver). mine place r.slot) (cond b (by_place d.members (by_index (filter (chooses d source) (slots_of d)))) [])) e
-
--- one more index
-pub one_index : (slots : List SlotRow) (before after all : List SlotRow) (i : ℕ) → i < 16
-    → after ≡ before ++ filter (λ s. nat_eq s.index i) slots
-    → before ++ flat_map (λ index. filter (λ (s : SlotRow). nat_eq s.index index) slots) (range_with_len i (16 - i)) ≡ all
-    → after ++ flat_map (λ index. filter (λ (s : SlotRow). nat_eq s.index index) slots) (range_with_len (i + 1) (16 - (i + 1))) ≡ all
-one_index slots before after all i lt e told =
-    let group = λ (index : ℕ). filter (λ (s : SlotRow). nat_eq s.index index) slots in
-    let left : 16 - i ≡ suc (16 - (i + 1)) = omega arith in
-    ap (λ xs. xs ++ flat_map group (range_with_len (i + 1) (16 - (i + 1)))) e
-    ∙ append_assoc before (group i) (flat_map group (range_with_len (i + 1) (16 - (i + 1))))
-    ∙ ap (λ n. before ++ flat_map group (range_with_len i n)) (sym left)
-    ∙ told

@@ -17,10 +17,9 @@ use Rattle.desk_rows.specs.Order.{in_order}
 use Rattle.desk_rows.specs.Laws.{good_parts}
 use Rattle.desk_rows.specs.Desk.{Desk, good, obeys, is_named_there}
 use Rattle.bridge_core.specs.declared.receivers.Receiver.{Receiver}
-use Rattle.bridge_core.specs.declared.receivers.TheConstants.{INDEXES}
 use Rattle.bridge_core.specs.Choice.{choice, comes_from, same_number, address_in}
 use Rattle.bridge_core.specs.Lanes.{receiver_at}
-use Rattle.bridge_core.specs.Receivers.{slot_in, slots_of, chooses, by_index, by_place, receiver, receivers}
+use Rattle.bridge_core.specs.Receivers.{slot_in, slots_of, chooses, index_count, by_index, by_place, receiver, receivers}
 use Rattle.bridge_core.specs.Reach.{slot_of, slot_at, at_member, receiver_on}
 use Rattle.bridge_core.proofs.Distinct.{at, Distinct, past, from_past, at-filter, Distinct-filter, Distinct-groups, at-groups}
 use Rattle.bridge_core.proofs.GoodDesk.{slots_distinct}
@@ -229,7 +228,7 @@ nobody : (d : Desk) (source k : ℕ) → at ssrc k (filter (chooses d source) (s
 unfolding by_index
 nobody d source k h =
     let chosen = filter (chooses d source) (slots_of d) in
-    let indexed : at ssrc k (by_index chosen) ≡ None = at-groups ssrc (λ (s : SlotRow). s.index) (λ (i : ℕ). i) k chosen (range_with_len 0 INDEXES) h in
+    let indexed : at ssrc k (by_index chosen) ≡ None = at-groups ssrc (λ (s : SlotRow). s.index) (λ (i : ℕ). i) k chosen (range_with_len 0 index_count) h in
     no_receiver k (placed_all d source)
     (subst (λ slots. at ssrc k slots ≡ None) (sym (slots-by_place d.members (by_index chosen)))
     (at-groups ssrc (λ (s : SlotRow). s.member) (λ (m : MemberRow). m.member) k (by_index chosen) d.members indexed))
@@ -241,9 +240,9 @@ somebody d source k s m h few there found =
     let chosen = filter (chooses d source) (slots_of d) in
     let apart : Distinct ssrc chosen = Distinct-filter ssrc (chooses d source) (slots_of d) (slots_distinct d h) in
     let indexed : at ssrc k (by_index chosen) ≡ Some s =
-    in_group ssrc (λ (s : SlotRow). s.index) (λ (i : ℕ). i) k s s.index chosen (range_with_len 0 INDEXES) apart found (in_range s.index 0 16 (omega arith) few) in
+    in_group ssrc (λ (s : SlotRow). s.index) (λ (i : ℕ). i) k s s.index chosen (range_with_len 0 index_count) apart found (in_range s.index 0 16 (omega arith) few) in
     placed k s m d.members (by_index chosen)
-    (Distinct-groups ssrc (λ (s : SlotRow). s.index) (λ (i : ℕ). i) chosen (range_with_len 0 INDEXES) (Distinct-range 0 INDEXES) apart) indexed there
+    (Distinct-groups ssrc (λ (s : SlotRow). s.index) (λ (i : ℕ). i) chosen (range_with_len 0 index_count) (Distinct-range 0 index_count) apart) indexed there
 
 -- a slot of a good desk has an index under 16, and its member is there
 index_few : (d : Desk) (k : ℕ) (s : SlotRow) → good d ≡ true → at ssrc k (slots_of d) ≡ Some s → s.index < 16

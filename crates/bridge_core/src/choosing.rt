@@ -62,7 +62,11 @@ fn same_number(a: Option<u32>, b: Option<u32>) -> bool
     }
 }
 
-fn member_address<A: Allocator + Copy>(rows: &Rows<A>, member: Option<u32>) -> Option<Address>
+/// The address of the member of this number.
+pub(crate) fn member_address<A: Allocator + Copy>(
+    rows: &Rows<A>,
+    member: Option<u32>,
+) -> Option<Address>
     ensures { result ≡ member_address rows.now member }
 {
     let member = member?;

@@ -1,21 +1,18 @@
 //! Who gets a frame.
 
-ghost use Rattle.std.specs.Prelude.{◌≡◌, ◌++◌, nat_eq, filter, map, IfOk, OnOk};
+ghost use Rattle.std.specs.Prelude.{◌≡◌, filter, map, IfOk};
 ghost use Rattle.std.specs.List.{filter_map};
 ghost use Rattle.desk_rows.specs.declared.row.Kind.TheVariants as kinds;
 ghost use Rattle.desk_rows.specs.Kinds.{is_of};
 ghost use Rattle.bridge_core.specs.Choice.{comes_from};
-ghost use Rattle.bridge_core.specs.Receivers.{by_index, by_place, receiver, receivers_in};
-ghost use Rattle.bridge_core.specs.Takers.{taker};
+ghost use Rattle.bridge_core.specs.Receivers.{by_place, receivers_in};
+ghost use Rattle.bridge_core.specs.Takers.{taker, seat};
 
-use crate::choosing::{comes_from, slot_for};
+use crate::choosing::{comes_from, member_address, slot_for};
 use crate::lane_place::LanePlace;
-use desk_rows::{Kind, Member, Row, Rows, Slot};
+use desk_rows::{Kind, Row, Rows, Slot};
 use rtp_codec::Address;
 use std::alloc::{AllocError, Allocator};
-
-/// Slots have indexes from 0 to 15.
-const INDEXES: u32 = 16;
 
 /// A slot that a frame goes to, and its member's address.
 #[derive(Clone, Copy)]
@@ -40,12 +37,9 @@ pub fn receivers_of<A: Allocator + Copy>(
         return Ok(Vec::new(alloc));
     }
     rows.known();
-    let slots = takers(alloc, rows, source, place)?;
-    if slots.is_empty() {
-        return Ok(Vec::new(alloc));
-    }
-    let sorted = by_index(alloc, &slots)?;
-    by_place(alloc, rows.members(), &sorted)
+    let mut slots = takers(alloc, rows, source, place)?;
+    slots.sort_by_key(|slot| slot.index)?;
+    by_place(alloc, rows, &slots)
 }
 
 /// The slots of the lane that chose the source, each found by its sub.
@@ -82,67 +76,59 @@ fn taker<A: Allocator + Copy>(
     }
 }
 
-/// Slots in the order of their indexes.
-#[tactic(auto, unfolding(crate::specs::Receivers::by_index))]
-pub(crate) fn by_index<A: Allocator + Copy>(
-    alloc: A,
-    slots: &[Slot],
-) -> Result<Vec<Slot, A>, AllocError>
-    ensures { IfOk result (λ v. v.items ≡ by_index slots.now) }
-{
-    let mut sorted = Vec::with_capacity(alloc, slots.len())?;
-    for index in 0..INDEXES {
-        append_index(slots, index, &mut sorted)?;
-    }
-    Ok(sorted)
+/// A receiver, and its member's place.
+#[derive(Clone, Copy)]
+struct Seated {
+    place: usize,
+    receiver: Receiver,
 }
 
-/// Appends the slots that have this index.
-fn append_index<A: Allocator>(
-    slots: &[Slot],
-    index: u32,
-    out: &mut Vec<Slot, A>,
-) -> Result<(), AllocError>
-    ensures { OnOk result (out.new.items ≡ out.old.items ++ filter (λ s. nat_eq s.index index) slots.now) }
+fn seat<A: Allocator + Copy>(rows: &Rows<A>, slot: &Slot) -> Option<Seated>
+    ensures { result ≡ seat rows.now slot.now }
 {
-    for slot in slots {
-        if slot.index == index {
-            out.push(*slot)?;
-        }
+    let place = rows.place_of(slot.member);
+    let address = member_address(rows, Some(slot.member));
+    match (place, address) {
+        (Some(place), Some(address)) => Some(Seated {
+            place,
+            receiver: Receiver {
+                slot: *slot,
+                address,
+            },
+        }),
+        _ => None,
     }
-    Ok(())
 }
 
-/// The slots of these members as receivers, in the order of the members.
-pub(crate) fn by_place<A: Allocator + Copy>(
+fn seats<A: Allocator + Copy>(
     alloc: A,
-    members: &[Member],
+    rows: &Rows<A>,
+    slots: &[Slot],
+) -> Result<Vec<Seated, A>, AllocError>
+    ensures { IfOk result (λ v. v.items ≡ filter_map (seat rows.now) slots.now) }
+{
+    slots
+        .iter()
+        .filter_map(|slot| seat(rows, slot))
+        .collect(alloc)
+}
+
+/// The slots as receivers, in the order of the members.
+fn by_place<A: Allocator + Copy>(
+    alloc: A,
+    rows: &Rows<A>,
     slots: &[Slot],
 ) -> Result<Vec<Receiver, A>, AllocError>
-    ensures { IfOk result (λ v. v.items ≡ by_place members.now slots.now) }
+    ensures { IfOk result (λ v. v.items ≡ by_place rows.now.members slots.now) }
 {
-    let mut receivers = Vec::with_capacity(alloc, slots.len())?;
-    for member in members {
-        append_member(slots, member, &mut receivers)?;
-    }
-    Ok(receivers)
+    rows.known();
+    let mut seats = seats(alloc, rows, slots)?;
+    seats.sort_by_key(|seat| seat.place)?;
+    receivers(alloc, &seats)
 }
 
-/// Appends the member's slots as receivers.
-fn append_member<A: Allocator>(
-    slots: &[Slot],
-    member: &Member,
-    out: &mut Vec<Receiver, A>,
-) -> Result<(), AllocError>
-    ensures { OnOk result (out.new.items ≡ out.old.items ++ map (receiver member.now) (filter (λ s. nat_eq s.member member.now.member) slots.now)) }
+fn receivers<A: Allocator>(alloc: A, seats: &[Seated]) -> Result<Vec<Receiver, A>, AllocError>
+    ensures { IfOk result (λ v. v.items ≡ map (λ t. t.receiver) seats.now) }
 {
-    for slot in slots {
-        if slot.member == member.member {
-            out.push(Receiver {
-                slot: *slot,
-                address: member.address,
-            })?;
-        }
-    }
-    Ok(())
+    seats.iter().map(|seat| seat.receiver).collect(alloc)
 }

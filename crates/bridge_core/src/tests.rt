@@ -4,7 +4,6 @@
 mod lanes;
 mod memory;
 
-use crate::receivers::{by_index, by_place};
 use crate::stream::Stream;
 use crate::{
     Core, CoreFault, Egress, Frame, FrameFault, FramePacket, Item, MediaFrame, Reply, Settings,
@@ -233,25 +232,6 @@ fn slot(out_ssrc: u32, member: u32, index: u32) -> Slot {
         first_seq: 0,
         first_ts: 0,
     }
-}
-
-#[test]
-fn receivers_go_by_place_and_then_by_index(rt: HostRuntime) -> Result<(), Fail> {
-    let alloc = rt.alloc();
-    let members = [member(12, 1), member(11, 2), member(13, 3)];
-    let slots = [
-        slot(501, 11, 15),
-        slot(502, 12, 1),
-        slot(503, 11, 0),
-        slot(504, 12, 0),
-    ];
-    let receivers = by_place(alloc, &members, &by_index(alloc, &slots)?)?;
-    let wanted = [(504, 1), (502, 1), (503, 2), (501, 2)];
-    assert_eq!(rt; receivers.len(), wanted.len());
-    for (receiver, want) in receivers.iter().zip(wanted.iter()) {
-        assert_eq!(rt; (receiver.slot.out_ssrc, receiver.address.port), *want);
-    }
-    Ok(())
 }
 
 fn settings<A: Allocator + Copy>(alloc: A, cname: &[u8]) -> Result<Settings<A>, AllocError> {

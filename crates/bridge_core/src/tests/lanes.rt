@@ -2,7 +2,7 @@
 //! who they are.
 
 use crate::lane_place::LanePlace;
-use crate::receivers::{by_index, by_place, receivers_of};
+use crate::receivers::{Receiver, receivers_of};
 use crate::tests::{P, member, packet, settings, setup, slot};
 use crate::{Core, Egress, Frame, Item, MediaFrame};
 use desk_edit::{Call, Command};
@@ -214,31 +214,91 @@ fn packets_are_numbered_within_a_frame(rt: HostRuntime) -> Result<(), Fail> {
     Ok(())
 }
 
-/// The slots that get the source in the lane, found by a walk over all slots: the plain program
-/// beside `receivers_of`.
-fn plain_takers<A: Allocator + Copy>(
+#[test]
+fn receivers_go_by_place_and_then_by_index(rt: HostRuntime) -> Result<(), Fail> {
+    let alloc = rt.alloc();
+    let mut core = Core::new(alloc, 1, settings(alloc, b"bridge")?).map_err(|_| Fail::from(
+        "no core",
+    ))?;
+    setup(alloc, &mut core, 0);
+    for (number, port, out_audio) in [(13, 6000, 9003), (12, 6001, 9004)] {
+        let newcomer = Member {
+            out_audio,
+            ..member(number, port)
+        };
+        let _joined = core.desk(alloc, 0, Call::Apply(Command::AddMember(newcomer)));
+    }
+    // SSRCs rise in neither the order of the members nor that of the indexes.
+    let added = [
+        slot(502, 12, 15),
+        slot(503, 13, 3),
+        slot(504, 12, 0),
+        slot(505, 11, 2),
+        slot(506, 13, 1),
+    ];
+    for one in added {
+        add_slot(alloc, &mut core, one);
+    }
+    let place = LanePlace { lane: 0, lanes: 1 };
+    let receivers = receivers_of(alloc, core.rows(), 101, &P, &place)?;
+    let wanted = [
+        (501, 5000),
+        (505, 5000),
+        (506, 6000),
+        (503, 6000),
+        (504, 6001),
+        (502, 6001),
+    ];
+    assert_eq!(rt; receivers.len(), wanted.len());
+    for (receiver, want) in receivers.iter().zip(wanted.iter()) {
+        assert_eq!(rt; (receiver.slot.out_ssrc, receiver.address.port), *want);
+    }
+    Ok(())
+}
+
+/// Whether the slot gets the source in the lane.
+fn is_taker<A: Allocator + Copy>(
+    rows: &Rows<A>,
+    source: u32,
+    place: &LanePlace,
+    slot: &Slot,
+) -> bool {
+    let subscribed = match rows.find(&Key::Sub(slot.out_ssrc)) {
+        Some(Row::Sub(sub)) => sub.source == source,
+        _ => false,
+    };
+    let own = match rows.find(&Key::Source(source)) {
+        Some(Row::Source(row)) => row.member == slot.member,
+        _ => false,
+    };
+    place.is_mine(slot.out_ssrc) && subscribed && !own
+}
+
+/// The receivers of a source, found by a walk over all members, indexes and slots: the plain
+/// program beside `receivers_of`.
+fn plain_receivers<A: Allocator + Copy>(
     alloc: A,
     rows: &Rows<A>,
     source: u32,
     place: &LanePlace,
-) -> Result<Vec<Slot, A>, Fail> {
-    let mut slots = Vec::new(alloc);
-    for row in rows.others_of(Kind::Slot) {
-        if let Row::Slot(slot) = row {
-            let subscribed = match rows.find(&Key::Sub(slot.out_ssrc)) {
-                Some(Row::Sub(sub)) => sub.source == source,
-                _ => false,
-            };
-            let own = match rows.find(&Key::Source(source)) {
-                Some(Row::Source(row)) => row.member == slot.member,
-                _ => false,
-            };
-            if place.is_mine(slot.out_ssrc) && subscribed && !own {
-                slots.push(*slot)?;
+) -> Result<Vec<Receiver, A>, Fail> {
+    let mut receivers = Vec::new(alloc);
+    for member in rows.members() {
+        for index in 0..16 {
+            for row in rows.others_of(Kind::Slot) {
+                if let Row::Slot(slot) = row {
+                    let here = slot.member == member.member && slot.index == index;
+                    if here && is_taker(rows, source, place, slot) {
+                        receivers.push(Receiver {
+                            slot: *slot,
+                            address: member.address,
+                        })?;
+                    }
+                }
             }
         }
     }
-    Ok(slots)
+    Ok(receivers)
 }
 
 #[test]
@@ -280,8 +340,7 @@ fn receivers_are_those_of_a_walk_over_all_slots(rt: HostRuntime) -> Result<(), F
             for lane in 0..lanes {
                 let place = LanePlace { lane, lanes };
                 let receivers = receivers_of(alloc, rows, source, &address, &place)?;
-                let plain = by_index(alloc, &plain_takers(alloc, rows, source, &place)?)?;
-                let wanted = by_place(alloc, rows.members(), &plain)?;
+                let wanted = plain_receivers(alloc, rows, source, &place)?;
                 assert_eq!(rt; receivers.len(), wanted.len());
                 for (receiver, want) in receivers.iter().zip(wanted.iter()) {
                     assert_eq!(rt; receiver.slot, want.slot);

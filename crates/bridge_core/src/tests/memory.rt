@@ -75,10 +75,16 @@ fn accepted_at_last<'a>(
     Err(Fail::from("never accepted"))
 }
 
-/// A lane has room for 16 streams from the start, so that 17 slots want more.
+/// SSRCs that don't rise with the index, from 501 to 524.
+fn ssrc_of(index: u32) -> u32 {
+    501 + index.wrapping_mul(5) % 24
+}
+
+/// A lane has room for 16 streams from the start, so that 24 slots want more, and so does sorting
+/// more than 20.
 #[test]
 fn an_item_is_sent_after_refusals(rt: HostRuntime) -> Result<(), Fail> {
-    for slots in [1, 17] {
+    for slots in [1, 24] {
         let heap = LocalHeap::new(rt.alloc(), 1 << 21)?;
         let mut core = core(&heap)?;
         setup(&heap, &mut core, 0);
@@ -91,7 +97,7 @@ fn an_item_is_sent_after_refusals(rt: HostRuntime) -> Result<(), Fail> {
             add_slot(
                 &heap,
                 &mut core,
-                slot(501 + index, 11 + index / 16, index % 16),
+                slot(ssrc_of(index), 11 + index / 16, index % 16),
             );
         }
         let version = core.version();
@@ -100,9 +106,10 @@ fn an_item_is_sent_after_refusals(rt: HostRuntime) -> Result<(), Fail> {
             let (sent, refusals) = sent_at_last(rt.alloc(), &heap, &mut core, &frame)?;
             assert!(rt; refusals > 3, "{refusals} refusals");
             assert_eq!(rt; sent.len(), slots as usize);
-            for (egress, ssrc) in sent.iter().zip(501..) {
-                let port = if ssrc == 517 { 6000 } else { 5000 };
-                let want = (version, u64::from(item), port, ssrc, item.wrapping_sub(1));
+            for (egress, index) in sent.iter().zip(0..) {
+                let port = if index < 16 { 5000 } else { 6000 };
+                let number = item.wrapping_sub(1);
+                let want = (version, u64::from(item), port, ssrc_of(index), number);
                 assert_eq!(rt; line_of(egress), want);
             }
         }
