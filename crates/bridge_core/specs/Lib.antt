@@ -13,6 +13,7 @@ pub mod Takers
 pub mod Sent
 pub mod Lanes
 pub mod LaneState
+pub mod StreamTable
 pub mod Readies
 pub mod Steps
 pub mod Calls

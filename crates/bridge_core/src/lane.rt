@@ -24,7 +24,8 @@ pub const LANES: u32 = 16;
 /// The room for streams that a lane has from the start.
 const FIRST_STREAMS: usize = 16;
 
-/// A lane (a media worker) of several, and its streams that have begun.
+/// A lane (a media worker) of several, and its streams that have begun, in the order of their
+/// SSRCs.
 #[derive(Drop)]
 pub struct LaneState<A: Allocator + Copy = Global> {
     place: LanePlace,
@@ -33,11 +34,14 @@ pub struct LaneState<A: Allocator + Copy = Global> {
 }
 
 impl<A: Allocator + Copy> Model for LaneState<A> {
+    ghost use Rattle.std.specs.List.Sorted.{IsNonDecreasingBy};
     ghost use Rattle.bridge_core.specs.LaneState.{LaneOf};
 
     ghost Value = { LaneOf };
 
     ghost view = { λ s. record { lane = s.place.lane; lanes = s.place.lanes; handled = s.handled; streams = s.streams.items } };
+
+    ghost invariant = { λ s. IsNonDecreasingBy (λ stream. stream.ssrc) s.streams.items };
 }
 
 impl<A: Allocator + Copy> LaneState<A> {

@@ -15,6 +15,7 @@ mod reply;
 mod sending;
 mod settings;
 mod stream;
+mod stream_table;
 #[cfg(test)]
 mod tests;
 

@@ -20,6 +20,7 @@ loop-one-preserved g c =
     let rest = sent_for c.args.version c.args.item left in
     record {
       streams = λ k. ap (kept_after k left) (c.commit_one-packets.ensures.streams k) ∙ ap (λ rs. kept_after k rs (stream_at k c.loop-one.streams.items)) (sym steps) ∙ inv.streams k;
+      order = c.commit_one-packets.ensures.order;
       out = ap (λ es. es ++ rest) (c.emit.ensures.items ∙ ap (λ (ps : List Numbered). old ++ map to ps) c.commit_one-packets.ensures.packets)
           ∙ append_assoc old (map to one.1.packets) rest ∙ ap (λ rs. old ++ sent_for c.args.version c.args.item rs) (sym steps) ∙ inv.out;
       streams_room = omega (arith, ap length steps, c.commit_one-packets.ensures.len, c.commit_one-packets.ensures.capacity);
