@@ -1,5 +1,5 @@
 -- A run, read by read.
-use Rattle.std.proofs.Common.{◌≡◌, ℕ, List, [], ◌++◌, Option, Some, None, Result, Ok, Err, refl, sym, ap, ◌∙◌, subst, append_assoc}
+use Rattle.std.proofs.Common.{◌≡◌, ℕ, List, [], ◌∷◌, ◌++◌, Option, Some, None, Result, Ok, Err, refl, sym, ap, ◌∙◌, subst, append_assoc}
 use Rattle.std.specs.Prelude.{IfSome}
 use Rattle.std.specs.Io.KnownBytes.{Appends, Consumes, Keeps, IsAtEnd}
 use Rattle.std.proofs.lemmas.List.{append-nil}
@@ -63,19 +63,18 @@ all_of : (input seen : List ℕ) (left : Option (List ℕ)) → Consumes (Some i
 all_of input seen None h = absurd h
 all_of input seen (Some rest) h = (rest, refl, h)
 
-front_of_front : (front octets rest input : List ℕ) → IsFrontOf front octets → input ≡ octets ++ rest → IsFrontOf front input
-front_of_front front octets rest input h e = (h.0 ++ rest, e ∙ (ap (λ (t : List ℕ). t ++ rest) h.1 ∙ append_assoc front h.0 rest))
-
-fails_with : (input octets rest sent : List ℕ) (left before now : Option (List ℕ)) (e : RunFault) → input ≡ octets ++ rest → Appends before now sent → StepFails opening octets sent e → RunEnds input left before now (Err e)
-fails_with input octets rest sent left before now (errors.Script n word fault) is a h =
+fails_with : (input octets rest sent : List ℕ) (left before now : Option (List ℕ)) (e : RunFault) → Consumes (Some input) left octets → input ≡ octets ++ rest → Appends before now sent → StepFails opening octets sent e → RunEnds input left before now (Err e)
+fails_with input octets rest sent left before now (errors.Script n word fault) seen is a h =
     let out : output_of input ≡ told sent (stopped n word fault) = ap output_of is ∙ h rest in
     (ap (λ (o : Outcome). o.fault) out, Appends-same before now sent (output_of input).text (sym (ap (λ (o : Outcome). o.text) out ∙ append-nil sent)) a)
-fails_with input octets rest sent left before now errors.Write is a h =
-    (sent, ((h rest).0, ap (λ (o : Outcome). o.text) (ap output_of is) ∙ (h rest).1), a)
-fails_with input octets rest sent left before now errors.Read is a h = absurd h
-fails_with input octets rest sent left before now errors.OutOfMemory is a h = (
+fails_with input octets rest sent left before now errors.Write seen is a h =
+    (sent, ((h rest).0, (h rest).1, ap (λ (o : Outcome). o.text) (ap output_of is) ∙ (h rest).2), a)
+fails_with input octets rest sent left before now errors.Read seen is a h = absurd h
+fails_with input octets rest sent left before now errors.OutOfMemory seen is a h = (
+  octets,
+  seen,
   h.0,
-  front_of_front h.0 octets rest input h.1 is,
+  h.1,
   ap (λ (o : Outcome). o.fault) h.2,
   Appends-same before now sent (ended_output_of h.0).text (sym (ap (λ (o : Outcome). o.text) h.2)) a,
 )
@@ -83,8 +82,9 @@ fails_with input octets rest sent left before now errors.OutOfMemory is a h = (
 pub run_fails : (input : List ℕ) (left left2 before mid now : Option (List ℕ)) (held new : Held) (octets : List ℕ) (e : RunFault) → SoFar input left before mid held → Consumes left left2 octets → Steps held octets new mid now (Err e) → RunEnds input left2 before now (Err e)
 run_fails input left left2 before mid now held new octets e h c k =
     let s = k h.2 h.3 in
-    let all = all_of input (h.0 ++ octets) left2 (Consumes-then (Some input) left left2 h.0 octets h.4 c) in
-    fails_with input (h.0 ++ octets) all.0 (h.1 ++ s.0) left2 before now e all.2 (Appends-then before mid now h.1 s.0 h.5 s.1) (fails_then opening (place_of held h.2) h.0 octets h.1 s.0 e h.6 s.2)
+    let seen = Consumes-then (Some input) left left2 h.0 octets h.4 c in
+    let all = all_of input (h.0 ++ octets) left2 seen in
+    fails_with input (h.0 ++ octets) all.0 (h.1 ++ s.0) left2 before now e seen all.2 (Appends-then before mid now h.1 s.0 h.5 s.1) (fails_then opening (place_of held h.2) h.0 octets h.1 s.0 e h.6 s.2)
 
 nothing_more : (input : List ℕ) (left before now : Option (List ℕ)) (held : Held) (h : SoFar input left before now held) → ((bridge : Bridge) → to_come ended (place_of held bridge) [] ≡ nothing) → ended_output_of h.0 ≡ told h.1 nothing
 nothing_more input left before now held h none = ap (to_come ended opening) (sym (append-nil h.0)) ∙ (h.6 ended [] ∙ ap (told h.1) (none h.2))
@@ -99,24 +99,23 @@ run_read input left before now held h none =
 pub run_starved : (input : List ℕ) (left before now : Option (List ℕ)) (held : Held) → SoFar input left before now held → ((bridge : Bridge) → to_come ended (place_of held bridge) [] ≡ nothing) → RunEnds input left before now (Err errors.OutOfMemory)
 run_starved input left before now held h none =
     let out = nothing_more input left before now held h none in
-    let all = all_of input h.0 left h.4 in
-    (h.0, (all.0, all.2), ap (λ (o : Outcome). o.fault) out, Appends-same before now h.1 (ended_output_of h.0).text (sym (ap (λ (o : Outcome). o.text) out ∙ append-nil h.1)) h.5)
+    (h.0, h.4, h.0, ([], sym (append-nil h.0)), ap (λ (o : Outcome). o.fault) out, Appends-same before now h.1 (ended_output_of h.0).text (sym (ap (λ (o : Outcome). o.text) out ∙ append-nil h.1)) h.5)
 
 -- the reader is at its end
-ends_with : (input sent : List ℕ) (left before now : Option (List ℕ)) (place : Place) (t : List ℕ) (r : Result (Unit {0}) RunFault) → IsAtEnd left → Goes opening input place sent → Appends before now (sent ++ t) → FinishEnds place t r → RunEnds input left before now r
-ends_with input sent left before now place t (Ok u) at_end h a k =
+ends_with : (input sent : List ℕ) (left before now : Option (List ℕ)) (place : Place) (t : List ℕ) (r : Result (Unit {0}) RunFault) → Consumes (Some input) left input → IsAtEnd left → Goes opening input place sent → Appends before now (sent ++ t) → FinishEnds place t r → RunEnds input left before now r
+ends_with input sent left before now place t (Ok u) seen at_end h a k =
     let out : output_of input ≡ told sent (record { text = t; fault = None }) = ap output_of (sym (append-nil input)) ∙ (h whole [] ∙ ap (told sent) k) in
     (at_end, ap (λ (o : Outcome). o.fault) out, Appends-same before now (sent ++ t) (output_of input).text (sym (ap (λ (o : Outcome). o.text) out)) a)
-ends_with input sent left before now place t (Err (errors.Script n word fault)) at_end h a k =
+ends_with input sent left before now place t (Err (errors.Script n word fault)) seen at_end h a k =
     let out : output_of input ≡ told sent (told t (stopped n word fault)) = ap output_of (sym (append-nil input)) ∙ (h whole [] ∙ ap (told sent) k) in
     (ap (λ (o : Outcome). o.fault) out, Appends-same before now (sent ++ t) (output_of input).text (sym (ap (λ (o : Outcome). o.text) out ∙ ap (λ (x : List ℕ). sent ++ x) (append-nil t))) a)
-ends_with input sent left before now place t (Err errors.Write) at_end h a k =
+ends_with input sent left before now place t (Err errors.Write) seen at_end h a k =
     let out : output_of input ≡ told sent (to_come whole place []) = ap output_of (sym (append-nil input)) ∙ h whole [] in
-    (sent ++ t, (k.0, ap (λ (o : Outcome). o.text) out ∙ (ap (λ (x : List ℕ). sent ++ x) k.1 ∙ sym (append_assoc sent t k.0))), a)
-ends_with input sent left before now place t (Err errors.Read) at_end h a k = absurd k
-ends_with input sent left before now place t (Err errors.OutOfMemory) at_end h a k =
+    (sent ++ t, (k.0, k.1, ap (λ (o : Outcome). o.text) out ∙ (ap (λ (x : List ℕ). sent ++ x) k.2 ∙ sym (append_assoc sent t (k.0 ∷ k.1)))), a)
+ends_with input sent left before now place t (Err errors.Read) seen at_end h a k = absurd k
+ends_with input sent left before now place t (Err errors.OutOfMemory) seen at_end h a k =
     let out : ended_output_of input ≡ told sent (record { text = t; fault = None }) = ap ended_output_of (sym (append-nil input)) ∙ (h ended [] ∙ ap (told sent) k) in
-    (input, ([], sym (append-nil input)), ap (λ (o : Outcome). o.fault) out, Appends-same before now (sent ++ t) (ended_output_of input).text (sym (ap (λ (o : Outcome). o.text) out)) a)
+    (input, seen, input, ([], sym (append-nil input)), ap (λ (o : Outcome). o.fault) out, Appends-same before now (sent ++ t) (ended_output_of input).text (sym (ap (λ (o : Outcome). o.text) out)) a)
 
 seen_all : (input seen : List ℕ) (left : Option (List ℕ)) → Consumes (Some input) left seen → IsAtEnd left → seen ≡ input
 seen_all input seen None h k = absurd h
@@ -125,17 +124,18 @@ seen_all input seen (Some rest) h k = sym (h ∙ (ap (λ (t : List ℕ). seen ++
 pub run_ends : (input : List ℕ) (left left2 before mid now : Option (List ℕ)) (held : Held) (r : Result (Unit {0}) RunFault) → SoFar input left before mid held → Consumes left left2 [] → IsAtEnd left2 → Finishes held mid now r → RunEnds input left2 before now r
 run_ends input left left2 before mid now held r h c at_end k =
     let s = k h.2 h.3 in
-    let same = seen_all input (h.0 ++ []) left2 (Consumes-then (Some input) left left2 h.0 [] h.4 c) at_end in
-    ends_with input h.1 left2 before now (place_of held h.2) s.0 r at_end (subst (λ (xs : List ℕ). Goes opening xs (place_of held h.2) h.1) (sym (append-nil h.0) ∙ same) h.6) (Appends-then before mid now h.1 s.0 h.5 s.1) s.2
+    let read = Consumes-then (Some input) left left2 h.0 [] h.4 c in
+    let same = seen_all input (h.0 ++ []) left2 read at_end in
+    ends_with input h.1 left2 before now (place_of held h.2) s.0 r (subst (λ (xs : List ℕ). Consumes (Some input) left2 xs) same read) at_end (subst (λ (xs : List ℕ). Goes opening xs (place_of held h.2) h.1) (sym (append-nil h.0) ∙ same) h.6) (Appends-then before mid now h.1 s.0 h.5 s.1) s.2
 
-pub no_room : (input : List ℕ) (left before : Option (List ℕ)) → RunEnds input left before before (Err errors.OutOfMemory)
+pub no_room : (input : List ℕ) (before : Option (List ℕ)) → RunEnds input (Some input) before before (Err errors.OutOfMemory)
 unfolding outcome_of
-no_room input left before = ([], (input, refl), refl, Appends-none before)
+no_room input before = ([], refl, [], ([], refl), refl, Appends-none before)
 
 -- ---- the same, as a run says it
 
-pub no_room_exit : (first left before : Option (List ℕ)) → IfSome first (λ input. RunEnds input left before before (Err errors.OutOfMemory))
-no_room_exit first left before = if_some first (λ input. RunEnds input left before before (Err errors.OutOfMemory)) (λ input e. no_room input left before)
+pub no_room_exit : (left before : Option (List ℕ)) → IfSome left (λ input. RunEnds input left before before (Err errors.OutOfMemory))
+no_room_exit left before = if_some left (λ input. RunEnds input left before before (Err errors.OutOfMemory)) (λ input e. subst (λ (l : Option (List ℕ)). RunEnds input l before before (Err errors.OutOfMemory)) (sym e) (no_room input before))
 
 pub fails_exit : (first left left2 before mid now : Option (List ℕ)) (held new : Held) (octets : List ℕ) (e : RunFault) → ((input : List ℕ) → first ≡ Some input → SoFar input left before mid held) → Consumes left left2 octets → Steps held octets new mid now (Err e) → IfSome first (λ input. RunEnds input left2 before now (Err e))
 fails_exit first left left2 before mid now held new octets e h c k =

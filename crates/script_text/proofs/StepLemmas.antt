@@ -72,8 +72,9 @@ line_step held new bridge core sent (Err (errors.Script n word fault)) nolf h is
 line_step held new bridge core sent (Err errors.Write) nolf h is = λ tail.
     let others = outcome_of (after bridge h.0) (held.line + 1) (lines_by whole (parts_of tail)) in
     let answered : to_come whole (place_of held bridge) (10 ∷ tail) ≡ told (answer_text bridge h.0) others = lf_comes (place_of held bridge) whole tail nolf ∙ rw h.1 refl in (
-      h.2.0 ++ others.text,
-      ap (λ (o : Outcome). o.text) answered ∙ (ap (λ (t : List ℕ). t ++ others.text) h.2.1 ∙ append_assoc sent h.2.0 others.text),
+      h.2.0,
+      h.2.1 ++ others.text,
+      ap (λ (o : Outcome). o.text) answered ∙ (ap (λ (t : List ℕ). t ++ others.text) h.2.2 ∙ append_assoc sent (h.2.0 ∷ h.2.1) others.text),
     )
 line_step held new bridge core sent (Err errors.Read) nolf h is = h
 line_step held new bridge core sent (Err errors.OutOfMemory) nolf h is = ([], (10 ∷ [], refl), none_ended (place_of held bridge) nolf ∙ rw h refl)
@@ -98,7 +99,8 @@ finish_step place core sent (Ok u) nolf h =
 finish_step place core sent (Err (errors.Script n word fault)) nolf h = last_comes place nolf ∙ rw (h.1, h.0, h.2) refl
 finish_step place core sent (Err errors.Write) nolf h = (
   h.2.0,
-  ap (λ (o : Outcome). o.text) (last_comes place nolf) ∙ (rw h.1 (append-nil (answer_text place.bridge h.0) ∙ h.2.1)),
+  h.2.1,
+  ap (λ (o : Outcome). o.text) (last_comes place nolf) ∙ (rw h.1 (append-nil (answer_text place.bridge h.0) ∙ h.2.2)),
 )
 finish_step place core sent (Err errors.Read) nolf h = h
 finish_step place core sent (Err errors.OutOfMemory) nolf h = none_ended place nolf ∙ rw h refl
@@ -149,8 +151,9 @@ fails_then a b xs ys s t (errors.Script n word fault) h k = λ tail.
     ap (to_come whole a) (append_assoc xs ys tail) ∙ (h whole (ys ++ tail) ∙ (ap (told s) (k tail) ∙ told_told s t (stopped n word fault)))
 fails_then a b xs ys s t errors.Write h k = λ tail. (
   (k tail).0,
+  (k tail).1,
   ap (λ (o : Outcome). o.text) (ap (to_come whole a) (append_assoc xs ys tail) ∙ h whole (ys ++ tail))
-      ∙ (ap (λ (u : List ℕ). s ++ u) (k tail).1 ∙ sym (append_assoc s t (k tail).0)),
+      ∙ (ap (λ (u : List ℕ). s ++ u) (k tail).2 ∙ sym (append_assoc s t ((k tail).0 ∷ (k tail).1))),
 )
 fails_then a b xs ys s t errors.Read h k = k
 fails_then a b xs ys s t errors.OutOfMemory h k = (
@@ -162,7 +165,7 @@ fails_then a b xs ys s t errors.OutOfMemory h k = (
 -- what stands behind octets that ended a run
 pub step_more : (a : Place) (xs ys s : List ℕ) (e : RunFault) → StepFails a xs s e → StepFails a (xs ++ ys) s e
 step_more a xs ys s (errors.Script n word fault) h = λ tail. ap (to_come whole a) (append_assoc xs ys tail) ∙ h (ys ++ tail)
-step_more a xs ys s errors.Write h = λ tail. ((h (ys ++ tail)).0, ap (λ (o : Outcome). o.text) (ap (to_come whole a) (append_assoc xs ys tail)) ∙ (h (ys ++ tail)).1)
+step_more a xs ys s errors.Write h = λ tail. ((h (ys ++ tail)).0, (h (ys ++ tail)).1, ap (λ (o : Outcome). o.text) (ap (to_come whole a) (append_assoc xs ys tail)) ∙ (h (ys ++ tail)).2)
 step_more a xs ys s errors.Read h = h
 step_more a xs ys s errors.OutOfMemory h = (h.0, (h.1.0 ++ ys, ap (λ (u : List ℕ). u ++ ys) h.1.1 ∙ append_assoc h.0 h.1.0 ys), h.2)
 

@@ -47,10 +47,14 @@ ended_output_of input = outcome_of opening_bridge 1 (ended_lines input)
 abbrev pub IsFrontOf : List ℕ → List ℕ → Type 0
 IsFrontOf front all = (rest : List ℕ) × (all ≡ front ++ rest)
 
+-- the text begins so, and goes on
+abbrev pub IsCutOf : List ℕ → List ℕ → Type 0
+IsCutOf front all = (next : ℕ) × (rest : List ℕ) × (all ≡ front ++ next ∷ rest)
+
 -- what a run over this input leaves: what the reader still has, and what the writer held before and holds now
 abbrev pub RunEnds : List ℕ → Option (List ℕ) → Option (List ℕ) → Option (List ℕ) → Result (Unit {0}) RunFault → Type 0
 RunEnds input left before now (Ok u) = IsAtEnd left × ((output_of input).fault ≡ None) × Appends before now (output_of input).text
 RunEnds input left before now (Err (errors.Script line word fault)) = ((output_of input).fault ≡ Some (line, word, fault)) × Appends before now (output_of input).text
-RunEnds input left before now (Err errors.Write) = (sent : List ℕ) × IsFrontOf sent (output_of input).text × Appends before now sent
+RunEnds input left before now (Err errors.Write) = (sent : List ℕ) × IsCutOf sent (output_of input).text × Appends before now sent
 RunEnds input left before now (Err errors.Read) = (seen : List ℕ) × Consumes (Some input) left seen × ((ended_output_of seen).fault ≡ None) × Appends before now (ended_output_of seen).text
-RunEnds input left before now (Err errors.OutOfMemory) = (front : List ℕ) × IsFrontOf front input × ((ended_output_of front).fault ≡ None) × Appends before now (ended_output_of front).text
+RunEnds input left before now (Err errors.OutOfMemory) = (seen : List ℕ) × Consumes (Some input) left seen × (front : List ℕ) × IsFrontOf front seen × ((ended_output_of front).fault ≡ None) × Appends before now (ended_output_of front).text

@@ -7,7 +7,7 @@ use Rattle.script_text.specs.declared.fault.RunFault.TheVariants as errors
 use Rattle.script_text.specs.Requests.{Request, request_of}
 use Rattle.script_text.specs.Lines.{lines_by, whole, ended, parts_of}
 use Rattle.script_text.specs.Bridge.{Bridge, opening_bridge, answer_text, after, Stands}
-use Rattle.script_text.specs.Output.{Outcome, told, stopped, outcome_of, IsFrontOf}
+use Rattle.script_text.specs.Output.{Outcome, told, stopped, outcome_of, IsFrontOf, IsCutOf}
 
 -- what a run holds: the core, the number of the line that is being read, and what has come of it
 pub record Held : Type 0 where
@@ -44,7 +44,7 @@ Goes old octets new sent = (last : List ℕ → List (List ℕ)) (tail : List �
 -- why a step over octets failed, and what was sent, whatever comes behind them
 abbrev pub StepFails : Place → List ℕ → List ℕ → RunFault → Type 0
 StepFails old octets sent (errors.Script line word fault) = (tail : List ℕ) → to_come whole old (octets ++ tail) ≡ told sent (stopped line word fault)
-StepFails old octets sent errors.Write = (tail : List ℕ) → IsFrontOf sent (to_come whole old (octets ++ tail)).text
+StepFails old octets sent errors.Write = (tail : List ℕ) → IsCutOf sent (to_come whole old (octets ++ tail)).text
 StepFails old octets sent errors.Read = ⊥
 StepFails old octets sent errors.OutOfMemory = (front : List ℕ) × IsFrontOf front octets × (to_come ended old front ≡ record { text = sent; fault = None })
 
@@ -69,7 +69,7 @@ AnswersRequest old request new text = (bridge : Bridge) → Stands old bridge �
 abbrev pub LineEnds : Bridge → ℕ → List ℕ → CoreOf → List ℕ → Result (Unit {0}) RunFault → Type 0
 LineEnds old number line new sent (Ok u) = (request : Request) × (request_of line ≡ Ok request) × Stands new (after old request) × (sent ≡ answer_text old request)
 LineEnds old number line new sent (Err (errors.Script n word fault)) = (n ≡ number) × (request_of line ≡ Err (word, fault)) × (sent ≡ [])
-LineEnds old number line new sent (Err errors.Write) = (request : Request) × (request_of line ≡ Ok request) × IsFrontOf sent (answer_text old request)
+LineEnds old number line new sent (Err errors.Write) = (request : Request) × (request_of line ≡ Ok request) × IsCutOf sent (answer_text old request)
 LineEnds old number line new sent (Err errors.Read) = ⊥
 LineEnds old number line new sent (Err errors.OutOfMemory) = sent ≡ []
 
@@ -77,10 +77,10 @@ LineEnds old number line new sent (Err errors.OutOfMemory) = sent ≡ []
 abbrev pub AnswersLine : CoreOf → ℕ → List ℕ → CoreOf → Option (List ℕ) → Option (List ℕ) → Result (Unit {0}) RunFault → Type 0
 AnswersLine old number line new before now result = (bridge : Bridge) → Stands old bridge → (sent : List ℕ) × Appends before now sent × LineEnds bridge number line new sent result
 
--- all was sent, or a front, or nothing for want of memory
+-- all was sent, or a front and not all, or nothing for want of memory
 abbrev pub SendEnds : List ℕ → List ℕ → Result (Unit {0}) RunFault → Type 0
 SendEnds octets sent (Ok u) = sent ≡ octets
-SendEnds octets sent (Err errors.Write) = IsFrontOf sent octets
+SendEnds octets sent (Err errors.Write) = IsCutOf sent octets
 SendEnds octets sent (Err errors.OutOfMemory) = sent ≡ []
 SendEnds octets sent (Err other) = ⊥
 
@@ -92,7 +92,7 @@ Sends octets before now result = (sent : List ℕ) × Appends before now sent ×
 abbrev pub FinishEnds : Place → List ℕ → Result (Unit {0}) RunFault → Type 0
 FinishEnds old sent (Ok u) = to_come whole old [] ≡ record { text = sent; fault = None }
 FinishEnds old sent (Err (errors.Script line word fault)) = to_come whole old [] ≡ told sent (stopped line word fault)
-FinishEnds old sent (Err errors.Write) = IsFrontOf sent (to_come whole old []).text
+FinishEnds old sent (Err errors.Write) = IsCutOf sent (to_come whole old []).text
 FinishEnds old sent (Err errors.Read) = ⊥
 FinishEnds old sent (Err errors.OutOfMemory) = to_come ended old [] ≡ record { text = sent; fault = None }
 

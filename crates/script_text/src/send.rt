@@ -35,15 +35,15 @@ fn send_some<W: Write>(writer: &mut W, octets: &[u8]) -> Portion
     }
 }
 
-/// Writes the octets. At an error a front of them went out, and none for want of memory: where
-/// some went out before it, the writer has failed.
+/// Writes the octets. At an error a front of them went out and not all, and none for want of
+/// memory: where some went out before it, the writer has failed.
 pub(crate) fn send<W: Write>(writer: &mut W, octets: &[u8]) -> Result<(), RunFault>
     ensures { Sends octets.now (W.contents writer.old) (W.contents writer.new) result }
 {
     let mut at = 0;
     for _ in 0..MOST_CALLS {
         if at >= octets.len() {
-            return Ok(());
+            break;
         }
         match send_some(writer, &octets[at..]) {
             Portion::Octets(n) => at += n,
@@ -58,5 +58,9 @@ pub(crate) fn send<W: Write>(writer: &mut W, octets: &[u8]) -> Result<(), RunFau
             Portion::Failed => return Err(RunFault::Write),
         }
     }
-    Err(RunFault::Write)
+    if at >= octets.len() {
+        Ok(())
+    } else {
+        Err(RunFault::Write)
+    }
 }

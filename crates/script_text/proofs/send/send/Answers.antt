@@ -1,6 +1,5 @@
-use Rattle.std.proofs.Common.{take, drop, sym, arith}
-use Rattle.std.proofs.lemmas.List.{take-append-drop}
-use Rattle.script_text.proofs.Known.{Appends-more, Appends-then_keeps}
+use Rattle.std.proofs.Common.{◌<◌, ◌≤◌, length, take, arith}
+use Rattle.script_text.proofs.Known.{Appends-more, Appends-then_keeps, cut_at}
 use Rattle.script_text.proofs.send.send.Goals as goal
 use Rattle.script_text.proofs.send.send.Goals.{in-Octets, in-Interrupted}
 
@@ -8,22 +7,18 @@ pub returns-else-at-eq0 : goal.returns-else-at-eq0
 returns-else-at-eq0 g c = (
   take c.loop.at c.args.octets.now,
   Appends-then_keeps _ _ _ _ c.loop.invariant.sent c.in-OutOfMemory.ensures,
-  (drop c.loop.at c.args.octets.now, sym (take-append-drop c.loop.at c.args.octets.now)),
+  cut_at c.args.octets.now c.loop.at c.if-at-octets.false,
 )
 
 pub returns-in-Failed : goal.returns-in-Failed
 returns-in-Failed g c = (
   take c.loop.at c.args.octets.now,
   Appends-then_keeps _ _ _ _ c.loop.invariant.sent c.in-Failed.ensures,
-  (drop c.loop.at c.args.octets.now, sym (take-append-drop c.loop.at c.args.octets.now)),
+  cut_at c.args.octets.now c.loop.at c.if-at-octets.false,
 )
 
-pub returns : goal.returns
-returns g c = (
-  take c.loop.at c.args.octets.now,
-  c.loop.invariant.sent,
-  (drop c.loop.at c.args.octets.now, sym (take-append-drop c.loop.at c.args.octets.now)),
-)
+pub returns-else-at-octets-2 : goal.returns-else-at-octets-2
+returns-else-at-octets-2 g c = (take c.loop.at c.args.octets.now, c.loop.invariant.sent, cut_at c.args.octets.now c.loop.at c.if-at-octets-2.false)
 
 pub loop-preserved : goal.loop-preserved
 loop-preserved g c =
