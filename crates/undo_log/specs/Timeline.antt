@@ -1,5 +1,5 @@
 -- What a history of reversible edits is, by lists of edits.
-use Rattle.std.specs.Prelude.{◌≡◌, ℕ, ◌+◌, ◌≤◌, Bool, true, ◌&&◌, List, [], ◌∷◌, length, fold, reverse}
+use Rattle.std.specs.Prelude.{◌≡◌, ℕ, ◌+◌, ◌≤◌, Bool, true, ◌&&◌, List, [], ◌∷◌, fold, reverse}
 
 -- the states and edits of a history, as contracts see it
 pub record Timeline (S E : Type 0) : Type 0 where

@@ -1,5 +1,4 @@
-use Rattle.std.proofs.Common.{rules, ◌≡◌, ◌≢◌, ◌↔◌, ℕ, ◌+◌, ◌-◌, ◌<◌, ◌≤◌, Bool, true, false, List, [], ◌∷◌, ◌++◌, length, reverse, fold, min, vec_len, vec_capacity, refl, sym, ap, ◌∙◌, arith}
-use Rattle.undo_log.specs.Timeline.{Timeline, IsTimeline, HasRoom, all_fit, rewound}
+use Rattle.std.proofs.Common.{◌≡◌, ap, ◌∙◌, arith}
 use Rattle.undo_log.proofs.Steps.{undone_once}
 use Rattle.undo_log.proofs.history.History.undo.Goals as goal
 
