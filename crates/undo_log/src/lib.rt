@@ -3,10 +3,12 @@
 
 mod fault;
 mod history;
+mod laws;
 mod reversible;
 #[cfg(test)]
 mod tests;
 
 pub use self::fault::HistoryFault;
 pub use self::history::{History, LIMIT};
+pub use self::laws::{push_then_undo, undo_all};
 pub use self::reversible::Reversible;

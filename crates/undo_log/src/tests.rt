@@ -4,7 +4,7 @@ ghost use Rattle.std.specs.Prelude.{◌≡◌, true, not, refl, IfOk};
 ghost use Rattle.std.proofs.Common.{ap};
 ghost use Rattle.std.proofs.Math.Bool.{not-not};
 
-use crate::{History, HistoryFault, Reversible};
+use crate::{History, HistoryFault, Reversible, push_then_undo, undo_all};
 use linked_list_allocator::LocalHeap;
 use std::alloc::{AllocError, Allocator};
 use std::marker::Model;
@@ -98,6 +98,25 @@ fn edits_are_done_and_taken_back(rt: HostRuntime) -> Result<(), Fail> {
     assert_eq!(rt; (history.done_len(), history.undone_len()), (1, 1));
     assert_eq!(rt; history.push(switched_by(alloc, b"porch")?), Ok(()));
     assert_eq!(rt; (history.done_len(), history.undone_len()), (2, 0));
+    Ok(())
+}
+
+#[test]
+fn all_is_taken_back(rt: HostRuntime) -> Result<(), Fail> {
+    let alloc = rt.alloc();
+    let mut history = dark(alloc);
+    for name in [b"hall", b"roof", b"yard"] {
+        assert_eq!(rt; history.push(switched_by(alloc, name)?), Ok(()));
+    }
+    let edit = switched_by(alloc, b"attic")?;
+    assert_eq!(rt; push_then_undo(&mut history, edit), Ok(()));
+    assert!(rt; history.state().is_on);
+    assert_eq!(rt; (history.done_len(), history.undone_len()), (3, 1));
+    undo_all(&mut history);
+    assert!(rt; !history.state().is_on);
+    assert_eq!(rt; (history.done_len(), history.undone_len()), (0, 4));
+    undo_all(&mut history);
+    assert_eq!(rt; (history.done_len(), history.undone_len()), (0, 4));
     Ok(())
 }
 
