@@ -1,6 +1,6 @@
 //! Scripts with the output that a reader of docs/FORMATS.md expects.
 
-use script_text::{Fault, RunFault, run, status};
+use script_text::{Fault, RunFault, output, run, status};
 use std::test::Fail;
 
 /// A room, members 10 and 11 with the video source 101 and the slot 501, and the sub between them.
@@ -156,6 +156,24 @@ fn an_empty_script_answers_nothing(rt: HostRuntime) {
     assert_eq!(rt; answer, Ok(()));
     assert_eq!(rt; status(&answer), 0);
     assert!(rt; out.is_empty());
+}
+
+#[test]
+fn a_script_in_memory_has_an_output(rt: HostRuntime) -> Result<(), Fail> {
+    let Ok(text) = output(rt.alloc(), b"desk 0 add-room 1\ndesk 0 undo 1") else {
+        return Err(Fail::from("a fault"));
+    };
+    assert_eq!(rt; text.as_slice(), b"ok 1\nok 2\n".as_slice());
+    let fault = RunFault::Script {
+        line: 2,
+        word: 2,
+        fault: Fault::MissingWord,
+    };
+    assert_eq!(rt;
+        output(rt.alloc(), b"desk 0 add-room 1\ndesk").err(),
+        Some(fault)
+    );
+    Ok(())
 }
 
 #[test]

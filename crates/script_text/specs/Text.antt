@@ -1,5 +1,5 @@
 -- What is printed (own).
-use Rattle.std.specs.Prelude.{ℕ, List, ◌++◌, codes}
+use Rattle.std.specs.Prelude.{ℕ, Bool, List, [], ◌++◌, map, codes}
 use Rattle.std.specs.Fmt.{decimal}
 use Rattle.hex.specs.Hex.{encode_lower}
 use Rattle.rtp_codec.specs.declared.address.Address.{Address}
@@ -52,6 +52,52 @@ refusal_text OutOfMemory = codes "13 OutOfMemory"
 refusal_text (NewerCommand last) = codes "14 NewerCommand " ++ decimal last
 refusal_text NothingToUndo = codes "15 NothingToUndo"
 refusal_text LogFull = codes "17 LogFull"
+
+-- the number of a refusal
+abbrev pub refusal_number : Refusal → ℕ
+refusal_number Exists = 1
+refusal_number NoRoom = 2
+refusal_number NoMember = 3
+refusal_number NoSource = 4
+refusal_number NoSlot = 5
+refusal_number WrongKind = 6
+refusal_number OtherRoom = 7
+refusal_number SsrcTaken = 8
+refusal_number BadValue = 9
+refusal_number Already = 10
+refusal_number (Full table limit) = 12
+refusal_number OutOfMemory = 13
+refusal_number (NewerCommand last) = 14
+refusal_number NothingToUndo = 15
+refusal_number LogFull = 17
+
+-- the name of a refusal
+abbrev pub refusal_name : Refusal → List ℕ
+refusal_name Exists = codes "Exists"
+refusal_name NoRoom = codes "NoRoom"
+refusal_name NoMember = codes "NoMember"
+refusal_name NoSource = codes "NoSource"
+refusal_name NoSlot = codes "NoSlot"
+refusal_name WrongKind = codes "WrongKind"
+refusal_name OtherRoom = codes "OtherRoom"
+refusal_name SsrcTaken = codes "SsrcTaken"
+refusal_name BadValue = codes "BadValue"
+refusal_name Already = codes "Already"
+refusal_name (Full table limit) = codes "Full"
+refusal_name OutOfMemory = codes "OutOfMemory"
+refusal_name (NewerCommand last) = codes "NewerCommand"
+refusal_name NothingToUndo = codes "NothingToUndo"
+refusal_name LogFull = codes "LogFull"
+
+-- what a refusal tells behind its name
+abbrev pub refusal_detail : Refusal → List ℕ
+refusal_detail (Full table limit) = codes " " ++ table_text table ++ codes " " ++ decimal limit
+refusal_detail (NewerCommand last) = codes " " ++ decimal last
+refusal_detail _ = []
+
+-- the numbers of the refusals in a list of cases
+abbrev pub case_numbers : List (Bool × Refusal) → List ℕ
+case_numbers cases = map (λ c. refusal_number c.1) cases
 
 -- the line of a reply: its number, or the version and the refusal
 abbrev pub reply_text : Reply → List ℕ

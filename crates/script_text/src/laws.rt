@@ -1,10 +1,18 @@
 //! Laws of the definitions, in the words of a script's grammar.
 
-ghost use Rattle.std.specs.Prelude.{◌≡◌, ◌⊎◌, ℕ, ℤ, pos, ◌^◌, ◌<◌, ◌≤◌, List, [], ◌∷◌, Some, Ok, codes};
+ghost use Rattle.std.specs.Prelude.{◌≡◌, ◌⊎◌, ℕ, ℤ, pos, ◌^◌, ◌<◌, ◌≤◌, List, [], ◌∷◌, ◌++◌, Some, Ok, codes};
 ghost use Rattle.std.specs.Fmt.{decimal, signed_decimal};
 ghost use Rattle.std.specs.List.{join_with_byte};
 ghost use Rattle.hex.specs.Hex.{IsBytes, decode_of, encode_lower};
 ghost use Rattle.rtp_codec.specs.declared.address.Address.{Address};
+ghost use Rattle.desk_rows.specs.declared.row.Member.{Member};
+ghost use Rattle.desk_rows.specs.declared.row.Source.{Source};
+ghost use Rattle.desk_rows.specs.declared.row.Slot.{Slot};
+ghost use Rattle.desk_rows.specs.declared.row.Sub.{Sub};
+ghost use Rattle.desk_rows.specs.Desk.{Desk};
+ghost use Rattle.desk_edit.specs.declared.command.Refusal.{Refusal};
+ghost use Rattle.desk_edit.specs.Refusals.{room_cases, member_cases, source_cases, slot_cases, removal_cases, sub_cases};
+ghost use Rattle.script_text.specs.Text.{refusal_text, refusal_number, refusal_name, refusal_detail, case_numbers};
 ghost use Rattle.script_text.specs.Words.{words_of};
 ghost use Rattle.script_text.specs.Numbers.{number_of, ext_of, IsExt};
 ghost use Rattle.script_text.specs.Addresses.{address_of, address_text};
@@ -47,4 +55,16 @@ pub fn hex_words()
 /// What is printed of a packet reads back as this packet.
 pub fn packet_words()
     ensures { (place : ℕ) (p : SourcePacket) → IsExt p.ext → p.pt ≤ 255 → IsBytes p.payload → packet_of place (packet_text p) ≡ Ok p }
+{}
+
+/// A refusal is printed by its number, its name and what it tells, and what stands against a
+/// command is asked in the order of these numbers.
+pub fn refusal_words()
+    ensures printed { (why : Refusal) → refusal_text why ≡ decimal (refusal_number why) ++ codes " " ++ refusal_name why ++ refusal_detail why }
+    ensures add_room { (d : Desk) (room : ℕ) → case_numbers (room_cases d room) ≡ 1 ∷ 12 ∷ [] }
+    ensures add_member { (d : Desk) (m : Member) → case_numbers (member_cases d m) ≡ 1 ∷ 2 ∷ 8 ∷ 9 ∷ 12 ∷ [] }
+    ensures add_source { (d : Desk) (s : Source) → case_numbers (source_cases d s) ≡ 1 ∷ 3 ∷ 8 ∷ 12 ∷ 12 ∷ [] }
+    ensures add_slot { (d : Desk) (s : Slot) → case_numbers (slot_cases d s) ≡ 1 ∷ 3 ∷ 8 ∷ 9 ∷ 12 ∷ [] }
+    ensures remove_slot { (d : Desk) (ssrc : ℕ) → case_numbers (removal_cases d ssrc) ≡ 5 ∷ [] }
+    ensures subscribe { (d : Desk) (s : Sub) → case_numbers (sub_cases d s) ≡ 4 ∷ 5 ∷ 6 ∷ 7 ∷ 10 ∷ [] }
 {}

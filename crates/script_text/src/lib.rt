@@ -21,10 +21,10 @@ pub use self::commands::parse_desk;
 pub use self::exits::status;
 pub use self::fault::{Fault, ParseFault, RunFault};
 pub use self::laws::{
-    address_words, ext_words, hex_words, number_words, packet_words, pieces_join,
+    address_words, ext_words, hex_words, number_words, packet_words, pieces_join, refusal_words,
 };
 pub use self::print::{print_egress, print_reply};
-pub use self::replay::run;
+pub use self::replay::{output, run};
 
 #[cfg(test)]
 mod tests;

@@ -1,7 +1,8 @@
 //! A run over a reader and a writer.
 
-ghost use Rattle.std.specs.Prelude.{◌<◌, ◌≤◌, length, IfSome};
-ghost use Rattle.script_text.specs.Output.{RunEnds};
+ghost use Rattle.std.specs.Prelude.{◌≡◌, ℕ, ◌<◌, ◌≤◌, length, IfSome, IfOk};
+ghost use Rattle.script_text.specs.Output.{output_of, RunEnds};
+ghost use Rattle.script_text.specs.declared.fault.Fault.{Fault};
 ghost use Rattle.script_text.specs.Pieces.{IsPiece};
 ghost use Rattle.script_text.specs.Steps.{IsOpening};
 
@@ -99,4 +100,15 @@ pub fn run<A: Allocator + Copy, R: Read, W: Write>(
         Err(_) => Err(RunFault::OutOfMemory),
         Ok(mut chunk) => run_with(alloc, &mut script, &mut chunk, reader, writer),
     }
+}
+
+/// The output of a script that is in memory, or why the run over it ended.
+pub fn output<A: Allocator + Copy>(alloc: A, script: &[u8]) -> Result<Vec<u8, A>, RunFault>
+    ensures ok { IfOk result (λ out. ((output_of script.now).fault ≡ None) × (out.items ≡ (output_of script.now).text)) }
+    ensures fault { (line word : ℕ) (fault : Fault) → result ≡ Err (RunFault.Script line word fault) → (output_of script.now).fault ≡ Some (line, word, fault) }
+{
+    let mut reader = script;
+    let mut out = Vec::new(alloc);
+    run(alloc, &mut reader, &mut out)?;
+    Ok(out)
 }
