@@ -1,0 +1,5 @@
+pub mod Decoding
+pub mod Placing
+pub mod Holding
+pub mod Again
+pub mod Zipped

@@ -1,0 +1,27 @@
+//! Whole packets of samples.
+
+ghost use Rattle.std.specs.Prelude.{◌≡◌, length, map};
+ghost use Rattle.std.specs.List.{AllZip};
+ghost use Rattle.g711.specs.MuLaw.{decoded, IsCode};
+
+use crate::samples::{decode, encode};
+
+/// Decodes each octet into the place of its own.
+pub fn decode_all(codes: &[u8], out: &mut [i16])
+    requires { length out.old ≡ length codes.now }
+    ensures { out.new ≡ map decoded codes.now }
+{
+    for i in 0..out.len() {
+        out[i] = decode(codes[i]);
+    }
+}
+
+/// Encodes each sample into the place of its own.
+pub fn encode_all(samples: &[i16], out: &mut [u8])
+    requires { length out.old ≡ length samples.now }
+    ensures { AllZip IsCode samples.now out.new }
+{
+    for i in 0..out.len() {
+        out[i] = encode(samples[i]);
+    }
+}

@@ -1,0 +1,4 @@
+pub mod Anew
+pub mod Near
+pub mod Telling
+pub mod Waits

@@ -1,0 +1,7 @@
+pub mod Histories
+pub mod Reports
+pub mod Represents
+pub mod Stretches
+pub mod Timings
+pub mod inner
+pub mod laws

@@ -1,0 +1,6 @@
+pub mod Delays
+pub mod Intervals
+pub mod Probations
+pub mod Restarts
+pub mod Steady
+pub mod TrueNumbers

@@ -1,0 +1,27 @@
+//! The losses that a report block tells (RFC 3550 A.3).
+
+ghost use Rattle.std.specs.Prelude.{◌≡◌};
+ghost use Rattle.source_valid.specs.Reports.{fraction_of, lost_of};
+
+/// What a field of 24 bits with a sign holds.
+const LEAST_LOST: i128 = -8_388_608;
+
+const MOST_LOST: i128 = 8_388_607;
+
+/// The lost part of the packets that were expected, in 256ths.
+pub fn fraction(expected: u64, received: u64) -> u8
+    ensures { result ≡ fraction_of expected received }
+{
+    if received >= expected {
+        return 0;
+    }
+    let lost = (expected - received) as u128;
+    (256 * lost / expected as u128).min(255) as u8
+}
+
+/// The packets lost, as far as 24 bits hold them.
+pub fn lost(expected: u64, received: u64) -> i32
+    ensures { result ≡ lost_of expected received }
+{
+    (expected as i128 - received as i128).clamp(LEAST_LOST, MOST_LOST) as i32
+}

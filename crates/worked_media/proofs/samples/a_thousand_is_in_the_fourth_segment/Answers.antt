@@ -1,0 +1,12 @@
+use Rattle.std.proofs.Common.{sym, arith}
+use Rattle.std.proofs.lemmas.Int.{ints}
+use Rattle.worked_media.proofs.samples.a_thousand_is_in_the_fourth_segment.Goals as goal
+
+pub returns : goal.returns
+returns c =
+    sym (c.encode.ensures.one 206 (record {
+      octet = omega arith;
+      low = omega arith;
+      high = omega arith;
+      sign = ((λ h. omega (arith, ints, h)), (λ h. omega (arith, ints, h)));
+    }))

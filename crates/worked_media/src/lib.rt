@@ -1,0 +1,5 @@
+//! Worked calls over the crates of single media streams: each answer is proved from the contract of the call alone.
+#![tactic(auto)]
+
+pub mod samples;
+pub mod sources;
