@@ -1,0 +1,113 @@
+-- One pass after the other.
+use Rattle.std.proofs.Common.{◌≡◌, ℕ, ℤ, pos, ◌+◌, ◌*◌, ◌<◌, ◌≤◌, ◌+ℤ◌, ◌-ℤ◌, List, [], ◌∷◌, length, drop, refl, sym, arith, subst}
+use Rattle.std.proofs.Common.{get_or, add-one, zero-add, drop-cons}
+use Rattle.std.proofs.lemmas.List.{drop_all}
+use Rattle.std.proofs.lemmas.Int.{ints}
+use Rattle.mix_minus.specs.declared.input.Input.{Input}
+use Rattle.mix_minus.specs.Mix.{scaled, heard, heard_sum, sample_at, sample_sum}
+use Rattle.mix_minus.specs.inner.Passes.{at, Moves, Passes, IsWithin, AreSmall, Raised}
+
+pub scaled_same : (z : ℤ) → scaled z 256 ≡ z
+scaled_same z = grind (arith, ints)
+
+-- sums that stay move by 0
+pub unmoved : (x : ℕ → ℤ) (sums : List ℤ) → ((i : ℕ) → x i ≡ pos 0) → Passes x sums sums
+unmoved x sums none = record { moves = λ i lt. by i (none i) }
+  where
+    by : (i : ℕ) → x i ≡ pos 0 → Moves (x i) (at sums i) (at sums i)
+    by i h = record { sum = omega (arith, ints); up = omega (arith, ints); down = omega (arith, ints) }
+
+-- After k passes: what the others will add is left.
+pub record Underway (base : ℕ) (rest : ℕ → ℕ → ℤ) (old now : List ℤ) (k : ℕ) : Type 0 where
+  pub left : (i : ℕ) → i < length old → at now i +ℤ rest k i ≡ at old i +ℤ rest 0 i
+  pub small : (i : ℕ) → i < length old → IsWithin (base + 262144 * k) (at now i)
+
+pub underway_none : (base : ℕ) (rest : ℕ → ℕ → ℤ) (old : List ℤ) → AreSmall base old → Underway base rest old old 0
+underway_none base rest old small = record { left = λ i lt. refl; small = λ i lt. by i (small.small i lt) }
+  where
+    by : (i : ℕ) → IsWithin base (at old i) → IsWithin (base + 262144 * 0) (at old i)
+    by i h = record { low = omega (arith, ints); high = omega (arith, ints) }
+
+pub underway_more : (base : ℕ) (rest : ℕ → ℕ → ℤ) (x : ℕ → ℤ) (old now new : List ℤ) (k : ℕ)
+    → length now ≡ length old → ((i : ℕ) → rest k i ≡ x i +ℤ rest (k + 1) i)
+    → Passes x now new → Underway base rest old now k → Underway base rest old new (k + 1)
+underway_more base rest x old now new k long next pass u = record {
+  left = λ i lt. left i (next i) (pass.moves i (subst (λ (n : ℕ). i < n) (sym long) lt)) (u.left i lt);
+  small = λ i lt. small i (pass.moves i (subst (λ (n : ℕ). i < n) (sym long) lt)) (u.small i lt);
+}
+  where
+    left : (i : ℕ) → rest k i ≡ x i +ℤ rest (k + 1) i → Moves (x i) (at now i) (at new i) → at now i +ℤ rest k i ≡ at old i +ℤ rest 0 i
+        → at new i +ℤ rest (k + 1) i ≡ at old i +ℤ rest 0 i
+    left i n m h = let s : at new i ≡ at now i +ℤ x i = m.sum in omega (arith, ints)
+
+    small : (i : ℕ) → Moves (x i) (at now i) (at new i) → IsWithin (base + 262144 * k) (at now i) → IsWithin (base + 262144 * (k + 1)) (at new i)
+    small i m h = record { low = omega (arith, ints); high = omega (arith, ints) }
+
+-- so many passes leave room for one more
+pub underway_small : (base : ℕ) (rest : ℕ → ℕ → ℤ) (old now : List ℤ) (k : ℕ) → base ≤ 16777216 → length now ≡ length old → k ≤ 64 → Underway base rest old now k → AreSmall 1073741824 now
+underway_small base rest old now k below long few u = record { small = λ i lt. by i (u.small i (subst (λ (n : ℕ). i < n) long lt)) }
+  where
+    by : (i : ℕ) → IsWithin (base + 262144 * k) (at now i) → IsWithin 1073741824 (at now i)
+    by i h = record { low = omega (arith, ints); high = omega (arith, ints) }
+
+pub underway_done : (base : ℕ) (rest : ℕ → ℕ → ℤ) (old now : List ℤ) (k : ℕ) → ((i : ℕ) → rest k i ≡ pos 0) → Underway base rest old now k → Raised (rest 0) old now
+underway_done base rest old now k none u = record { raised = λ i lt. by i (none i) (u.left i lt) }
+  where
+    by : (i : ℕ) → rest k i ≡ pos 0 → at now i +ℤ rest k i ≡ at old i +ℤ rest 0 i → at now i ≡ at old i +ℤ rest 0 i
+    by i n h = omega (arith, ints)
+
+-- the sum of the changes by turn
+abbrev pub turn_sum : ℕ → ℕ → List Input → List ℕ → ℤ
+turn_sum receiver i [] gains = pos 0
+turn_sum receiver i (input ∷ inputs) [] = pos 0
+turn_sum receiver i (input ∷ inputs) (gain ∷ gains) = (heard receiver i input gain -ℤ sample_at input i) +ℤ turn_sum receiver i inputs gains
+
+pub turned : (receiver i : ℕ) (inputs : List Input) (gains : List ℕ) → length gains ≡ length inputs
+    → turn_sum receiver i inputs gains +ℤ sample_sum i inputs ≡ heard_sum receiver i inputs gains
+turned receiver i [] gains long = refl
+turned receiver i (input ∷ inputs) [] long = absurd (omega (arith, long))
+turned receiver i (input ∷ inputs) (gain ∷ gains) long =
+    let rec : turn_sum receiver i inputs gains +ℤ sample_sum i inputs ≡ heard_sum receiver i inputs gains = turned receiver i inputs gains (omega (arith, long)) in
+    regroup (heard receiver i input gain) (sample_at input i) (turn_sum receiver i inputs gains) (sample_sum i inputs) (heard_sum receiver i inputs gains) rec
+  where
+    regroup : (h s t p q : ℤ) → t +ℤ p ≡ q → ((h -ℤ s) +ℤ t) +ℤ (s +ℤ p) ≡ h +ℤ q
+    regroup h s t p q e = omega (arith, ints)
+
+-- ---- what is left from input k on
+
+pub sample_next : (i k : ℕ) (inputs : List Input) (d : Input) → k < length inputs
+    → sample_sum i (drop k inputs) ≡ at (get_or inputs k d).samples.now (0 + i) +ℤ sample_sum i (drop (k + 1) inputs)
+sample_next i k inputs d lt = rw (add-one, zero-add, drop-cons inputs k d lt) refl
+
+pub heard_next : (receiver i k : ℕ) (inputs : List Input) (gains : List ℕ) (d : Input) (e : ℕ) → k < length inputs → length gains ≡ length inputs
+    → heard_sum receiver i (drop k inputs) (drop k gains) ≡ heard receiver i (get_or inputs k d) (get_or gains k e) +ℤ heard_sum receiver i (drop (k + 1) inputs) (drop (k + 1) gains)
+heard_next receiver i k inputs gains d e lt paired =
+    let lt2 : k < length gains = omega arith in
+    rw (add-one, drop-cons inputs k d lt, drop-cons gains k e lt2) refl
+
+pub turn_next : (receiver i k : ℕ) (inputs : List Input) (gains : List ℕ) (d : Input) (e : ℕ) → k < length inputs → length gains ≡ length inputs
+    → turn_sum receiver i (drop k inputs) (drop k gains)
+    ≡ (heard receiver i (get_or inputs k d) (get_or gains k e) -ℤ sample_at (get_or inputs k d) i) +ℤ turn_sum receiver i (drop (k + 1) inputs) (drop (k + 1) gains)
+turn_next receiver i k inputs gains d e lt paired =
+    let lt2 : k < length gains = omega arith in
+    rw (add-one, drop-cons inputs k d lt, drop-cons gains k e lt2) refl
+
+pub turn_none : (receiver i k : ℕ) (inputs : List Input) (gains : List ℕ) → length inputs ≤ k → turn_sum receiver i (drop k inputs) gains ≡ pos 0
+turn_none receiver i k inputs gains le = rw (drop_all k inputs le) refl
+
+-- all changes are made
+pub turn_done : (base receiver start i k : ℕ) (inputs : List Input) (gains : List ℕ) (old now : List ℤ) → length gains ≡ length inputs → length inputs ≤ k → i < length old
+    → Underway base (λ k i. turn_sum receiver (start + i) (drop k inputs) (drop k gains)) old now k
+    → at now i +ℤ sample_sum (start + i) inputs ≡ at old i +ℤ heard_sum receiver (start + i) inputs gains
+turn_done base receiver start i k inputs gains old now paired le lt u =
+    by (at now i) (at old i) _ _ _ _ (u.left i lt) (turn_none receiver (start + i) k inputs (drop k gains) le) (turned receiver (start + i) inputs gains paired)
+  where
+    by : (n o l t s h : ℤ) → n +ℤ l ≡ o +ℤ t → l ≡ pos 0 → t +ℤ s ≡ h → n +ℤ s ≡ o +ℤ h
+    by n o l t s h e1 e2 e3 = omega (arith, ints)
+
+-- 64 inputs at most raise the sums so far
+pub underway_end : (rest : ℕ → ℕ → ℤ) (old now : List ℤ) (k : ℕ) → length now ≡ length old → k ≤ 64 → Underway 0 rest old now k → AreSmall 16777216 now
+underway_end rest old now k long few u = record { small = λ i lt. by i (u.small i (subst (λ (n : ℕ). i < n) long lt)) }
+  where
+    by : (i : ℕ) → IsWithin (0 + 262144 * k) (at now i) → IsWithin 16777216 (at now i)
+    by i h = record { low = omega (arith, ints); high = omega (arith, ints) }

@@ -1,0 +1,66 @@
+//! The mix of one tick.
+
+ghost use Rattle.std.specs.Prelude.{◌≡◌, ℕ, ◌+◌, ◌<◌, ◌≤◌, length, take};
+ghost use Rattle.mix_minus.specs.Mix.{IsMix, IsTotal, AreMixable, ReachTo, contributing};
+ghost use Rattle.mix_minus.specs.inner.Passes.{AreSmall};
+
+use crate::contributors::{Contributors, first_heard};
+use crate::input::Input;
+use crate::places::{PLACES, clear, mix_places, turn_places};
+use crate::sums::add_all;
+
+/// Writes what the receiver hears: the sum of all other members' inputs, each at its gain in 256ths (at most 1024), clamped
+/// once to 16 bits. Names the first contributors.
+pub fn mix(inputs: &[Input], gains: &[u32], receiver: u32, out: &mut [i16]) -> Contributors
+    requires mixable { AreMixable inputs.now gains.now }
+    requires reach { ReachTo (length out.old) inputs.now }
+    ensures mix { IsMix inputs.now gains.now receiver out.new }
+    ensures count { result.count ≤ 15 }
+    ensures ssrcs { take result.count result.ssrcs ≡ take 15 (contributing receiver inputs.now gains.now) }
+{
+    let mut start = 0;
+    while start < out.len() {
+        let count = (out.len() - start).min(PLACES);
+        mix_places(inputs, gains, receiver, start, count, out);
+        start += count;
+    }
+    first_heard(inputs, gains, receiver)
+}
+
+/// Writes the plain sum of all inputs' samples, once for all receivers of a room.
+pub fn room_total(inputs: &[Input], total: &mut [i32])
+    requires few { length inputs.now ≤ 64 }
+    requires reach { ReachTo (length total.old) inputs.now }
+    ensures total { IsTotal inputs.now total.new }
+    ensures small { AreSmall 16777216 total.new }
+{
+    clear(total);
+    add_all(total, inputs);
+}
+
+/// Writes what [`mix`] writes, from the room's total: the receiver's own samples come off before the clamp, and each gain
+/// other than 256 corrects its input's part.
+pub fn mix_by_total(
+    total: &[i32],
+    inputs: &[Input],
+    gains: &[u32],
+    receiver: u32,
+    out: &mut [i16],
+) -> Contributors
+    requires mixable { AreMixable inputs.now gains.now }
+    requires reach { ReachTo (length out.old) inputs.now }
+    requires total { IsTotal inputs.now total.now }
+    requires small { AreSmall 16777216 total.now }
+    requires long { length out.old ≤ length total.now }
+    ensures mix { IsMix inputs.now gains.now receiver out.new }
+    ensures count { result.count ≤ 15 }
+    ensures ssrcs { take result.count result.ssrcs ≡ take 15 (contributing receiver inputs.now gains.now) }
+{
+    let mut start = 0;
+    while start < out.len() {
+        let count = (out.len() - start).min(PLACES);
+        turn_places(total, inputs, gains, receiver, start, count, out);
+        start += count;
+    }
+    first_heard(inputs, gains, receiver)
+}

@@ -1,0 +1,92 @@
+//! Some places of a tick at a time, in a fixed room.
+
+ghost use Rattle.std.specs.Prelude.{◌≡◌, ℕ, ◌+◌, ◌<◌, ◌≤◌, pos, length};
+ghost use Rattle.mix_minus.specs.Mix.{clamped, heard_sum, AreMixable, ReachTo, IsTotal};
+ghost use Rattle.mix_minus.specs.inner.Passes.{AreSmall, at};
+
+use crate::input::Input;
+use crate::parts::clamp;
+use crate::sums::{add_all_heard, turn_all};
+
+/// How many places are summed at a time.
+pub const PLACES: usize = 256;
+
+/// Makes each sum 0.
+pub fn clear(sums: &mut [i32])
+    ensures { (i : ℕ) → i < length sums.old → at sums.new i ≡ pos 0 }
+{
+    for i in 0..sums.len() {
+        sums[i] = 0;
+    }
+}
+
+/// Makes the sums those from a place on.
+fn load(sums: &mut [i32], total: &[i32], start: usize)
+    requires { start + length sums.old ≤ length total.now }
+    ensures { (i : ℕ) → i < length sums.old → at sums.new i ≡ at total.now (start + i) }
+{
+    for i in 0..sums.len() {
+        sums[i] = total[start + i];
+    }
+}
+
+/// Writes the samples from a place on.
+fn write(sums: &[i32], start: usize, out: &mut [i16])
+    requires { start + length sums.now ≤ length out.old }
+    ensures written { (i : ℕ) → i < length sums.now → at out.new (start + i) ≡ clamped (at sums.now i) }
+    ensures before { (i : ℕ) → i < start → at out.new i ≡ at out.old i }
+{
+    for i in 0..sums.len() {
+        out[start + i] = clamp(sums[i]);
+    }
+}
+
+/// Mixes so many places.
+pub fn mix_places(
+    inputs: &[Input],
+    gains: &[u32],
+    receiver: u32,
+    start: usize,
+    count: usize,
+    out: &mut [i16],
+)
+    requires mixable { AreMixable inputs.now gains.now }
+    requires reach { ReachTo (start + count) inputs.now }
+    requires count { count ≤ 256 }
+    requires out { start + count ≤ length out.old }
+    ensures written { (i : ℕ) → i < count → at out.new (start + i) ≡ clamped (heard_sum receiver (start + i) inputs.now gains.now) }
+    ensures before { (i : ℕ) → i < start → at out.new i ≡ at out.old i }
+{
+    let mut room = [0; PLACES];
+    let sums = &mut room[..count];
+    clear(sums);
+    add_all_heard(sums, inputs, gains, receiver, start);
+    write(sums, start, out);
+}
+
+/// Mixes so many places from the room's total.
+pub fn turn_places(
+    total: &[i32],
+    inputs: &[Input],
+    gains: &[u32],
+    receiver: u32,
+    start: usize,
+    count: usize,
+    out: &mut [i16],
+)
+    requires mixable { AreMixable inputs.now gains.now }
+    requires reach { ReachTo (start + count) inputs.now }
+    requires total { IsTotal inputs.now total.now }
+    requires small { AreSmall 16777216 total.now }
+    requires count { count ≤ 256 }
+    requires out { start + count ≤ length out.old }
+    requires long { start + count ≤ length total.now }
+    ensures written { (i : ℕ) → i < count → at out.new (start + i) ≡ clamped (heard_sum receiver (start + i) inputs.now gains.now) }
+    ensures before { (i : ℕ) → i < start → at out.new i ≡ at out.old i }
+{
+    let mut room = [0; PLACES];
+    let sums = &mut room[..count];
+    load(sums, total, start);
+    turn_all(sums, inputs, gains, receiver, start);
+    write(sums, start, out);
+}
