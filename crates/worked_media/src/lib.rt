@@ -1,6 +1,7 @@
 //! Worked calls over the crates of single media streams: each answer is proved from the contract of the call alone.
 #![tactic(auto)]
 
+pub mod jitter_buffers;
 pub mod mixes;
 pub mod samples;
 pub mod sources;

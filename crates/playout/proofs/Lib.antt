@@ -1,0 +1,4 @@
+pub mod Begun
+pub mod Falls
+pub mod Offered
+pub mod Taken

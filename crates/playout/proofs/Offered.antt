@@ -1,0 +1,173 @@
+-- One more sample, in its cell.
+use Rattle.std.proofs.Common.{◌≡◌, ℕ, ℤ, pos, zero, suc, ◌+◌, ◌<◌, ◌≤◌, Bool, true, false, cond, nat_eq, nat_lt, List, [], ◌∷◌, ◌++◌, length, drop, set, get_or, Option, None, Some, is_none, unwrap_or, refl, sym, ap, ◌∙◌, arith, subst, ◌⊎◌, inl, inr, get_or-set_same, get_or-set_other, ◌≢◌, add-one, drop-cons, length-append, length-set}
+use Rattle.std.proofs.lemmas.List.{set-get_or, drop_all}
+use Rattle.std.proofs.lemmas.Bool.Decides.{nat_tests}
+use Rattle.playout.specs.Playout.{Pair, sample_at, offer, offers}
+use Rattle.playout.specs.inner.Agrees.{Agrees, filled}
+
+eq_cases : (m n : ℕ) → (m ≡ n) ⊎ (m ≢ n)
+eq_cases m n = elim (nat_eq m n) as (λ b. nat_eq m n ≡ b → (m ≡ n) ⊎ (m ≢ n)) [
+  | true ↦ λ is. (let e : m ≡ n = grind (arith, nat_tests) in inl e)
+  | false ↦ λ is. inr (λ same. (let e : nat_eq m n ≡ true = grind (arith, nat_tests) in let x : false ≡ true = sym is ∙ e in cc))
+] refl
+
+eq_yes : (m n : ℕ) → m ≡ n → nat_eq m n ≡ true
+eq_yes m n h = grind (arith, nat_tests)
+
+eq_no : (m n : ℕ) → m ≢ n → nat_eq m n ≡ false
+eq_no m n h = grind (arith, nat_tests)
+
+not_below : (p i : ℕ) → nat_lt (p + i) p ≡ false
+not_below p i = grind (arith, nat_tests)
+
+abbrev pub new_pair : ℕ → ℤ → Pair
+new_pair place s = record { place = place; sample = s }
+
+push_none : (pairs : List Pair) (place q : ℕ) (s : ℤ) → sample_at pairs q ≡ None → sample_at (pairs ++ new_pair place s ∷ []) q ≡ cond (nat_eq place q) (Some s) None
+push_none [] place q s h = refl
+push_none (x ∷ xs) place q s h = by (push_none xs place q s) (nat_eq x.place q) h
+  where
+    by : (sample_at xs q ≡ None → sample_at (xs ++ new_pair place s ∷ []) q ≡ cond (nat_eq place q) (Some s) None)
+        → (b : Bool) → cond b (Some x.sample) (sample_at xs q) ≡ None → cond b (Some x.sample) (sample_at (xs ++ new_pair place s ∷ []) q) ≡ cond (nat_eq place q) (Some s) None
+    by rec true g = cc
+    by rec false g = rec g
+
+pub push_other : (pairs : List Pair) (place q : ℕ) (s : ℤ) → place ≢ q → sample_at (pairs ++ new_pair place s ∷ []) q ≡ sample_at pairs q
+push_other [] place q s h = ap (λ b. cond b (Some s) None) (eq_no place q h)
+push_other (x ∷ xs) place q s h = ap (λ o. cond (nat_eq x.place q) (Some x.sample) o) (push_other xs place q s h)
+
+-- a place with no sample takes it
+pub offer_new : (p i : ℕ) (pairs : List Pair) (s : ℤ) → sample_at pairs (p + i) ≡ None → offer p pairs (p + i) s ≡ pairs ++ new_pair (p + i) s ∷ []
+offer_new p i pairs s none = rw (not_below p i, none) refl
+
+-- a place that has a sample keeps it
+offer_old : (p i : ℕ) (pairs : List Pair) (s v : ℤ) → sample_at pairs (p + i) ≡ Some v → offer p pairs (p + i) s ≡ pairs
+offer_old p i pairs s v some = rw (not_below p i, some) refl
+
+new_agrees : (cells : List (Option ℤ)) (pairs : List Pair) (p i : ℕ) (s : ℤ) → i < length cells → Agrees cells pairs p → get_or cells i None ≡ None
+    → Agrees (set cells i (Some s)) (pairs ++ new_pair (p + i) s ∷ []) p
+new_agrees cells pairs p i s lt a none = record { here = here; room = room }
+  where
+    long : length (set cells i (Some s)) ≡ length cells
+    long = length-set cells i (Some s)
+
+    here : (j : ℕ) → j < length (set cells i (Some s)) → get_or (set cells i (Some s)) j None ≡ sample_at (pairs ++ new_pair (p + i) s ∷ []) (p + j)
+    here j below = elim (eq_cases i j) [
+      | inl same ↦
+          subst (λ (k : ℕ). get_or (set cells i (Some s)) k None ≡ sample_at (pairs ++ new_pair (p + i) s ∷ []) (p + k)) same
+          (get_or-set_same cells i (Some s) None lt
+          ∙ sym (push_none pairs (p + i) (p + i) s (sym (a.here i lt) ∙ none) ∙ ap (λ b. cond b (Some s) None) (eq_yes (p + i) (p + i) refl)))
+      | inr other ↦
+          let apart : p + i ≢ p + j = λ e. other (omega (arith, e)) in
+          let back : j ≢ i = λ e. other (sym e) in
+          let lt2 : j < length cells = omega (arith, below, long) in
+          get_or-set_other cells i j (Some s) None back ∙ a.here j lt2 ∙ sym (push_other pairs (p + i) (p + j) s apart)
+    ]
+
+    room : (n : ℕ) → p + length (set cells i (Some s)) ≤ n → sample_at (pairs ++ new_pair (p + i) s ∷ []) n ≡ None
+    room n above =
+        let apart : p + i ≢ n = λ e. absurd (omega (arith, e, above, long, lt)) in
+        let le : p + length cells ≤ n = omega (arith, above, long) in
+        push_other pairs (p + i) n s apart ∙ a.room n le
+
+-- The samples so far were offered; the others lead to the end.
+pub record Going (cells : List (Option ℤ)) (p place : ℕ) (rest : List ℤ) (end : List Pair) (count : ℕ) : Type 0 where
+  pub now : List Pair
+  pub agrees : Agrees cells now p
+  pub leads : offers p now place rest ≡ end
+  pub long : length now ≡ count
+
+pub going_more : (cells : List (Option ℤ)) (p offset k : ℕ) (samples : List ℤ) (s : ℤ) (end : List Pair) (count more : ℕ) (isnew : Bool)
+    → k < length samples → offset + k < length cells → s ≡ get_or samples k (pos 0) → isnew ≡ is_none (get_or cells (offset + k) None) → more ≡ count + cond isnew 1 0
+    → Going cells p (p + (offset + k)) (drop k samples) end count
+    → Going (filled cells (offset + k) s) p (p + (offset + (k + 1))) (drop (k + 1) samples) end more
+going_more cells p offset k samples s end count more isnew lt room is test sum g = by (get_or cells (offset + k) None) refl
+  where
+    next : offers p (offer p g.now (p + (offset + k)) s) (p + (offset + (k + 1))) (drop (k + 1) samples) ≡ end
+    next =
+        let e : p + (offset + k) + 1 ≡ p + (offset + (k + 1)) = omega arith in
+        ap (λ (n : ℕ). offers p (offer p g.now (p + (offset + k)) s) n (drop (k + 1) samples)) (sym e)
+        ∙ ap (λ (z : ℤ). offers p (offer p g.now (p + (offset + k)) z) (p + (offset + k) + 1) (drop (k + 1) samples)) is
+        ∙ sym (ap (offers p g.now (p + (offset + k))) (drop-cons samples k (pos 0) lt ∙ ap (λ (n : ℕ). get_or samples k (pos 0) ∷ drop n samples) (sym (add-one k))))
+        ∙ g.leads
+
+    by : (o : Option ℤ) → get_or cells (offset + k) None ≡ o → Going (filled cells (offset + k) s) p (p + (offset + (k + 1))) (drop (k + 1) samples) end more
+    by None none =
+        let at : sample_at g.now (p + (offset + k)) ≡ None = sym (g.agrees.here (offset + k) room) ∙ none in
+        let t : isnew ≡ true = test ∙ ap is_none none in
+        record {
+          now = g.now ++ new_pair (p + (offset + k)) s ∷ [];
+          agrees = subst (λ (o : Option ℤ). Agrees (set cells (offset + k) (Some (unwrap_or o s))) (g.now ++ new_pair (p + (offset + k)) s ∷ []) p) (sym none) (new_agrees cells g.now p (offset + k) s room g.agrees none);
+          leads = ap (λ (xs : List Pair). offers p xs (p + (offset + (k + 1))) (drop (k + 1) samples)) (sym (offer_new p (offset + k) g.now s at)) ∙ next;
+          long = length-append g.now (new_pair (p + (offset + k)) s ∷ []) ∙ ap (λ n. n + 1) g.long ∙ sym (sum ∙ ap (λ b. count + cond b 1 0) t);
+        }
+    by (Some v) some =
+        let at : sample_at g.now (p + (offset + k)) ≡ Some v = sym (g.agrees.here (offset + k) room) ∙ some in
+        let t : isnew ≡ false = test ∙ ap is_none some in
+        let same : filled cells (offset + k) s ≡ cells = ap (λ (o : Option ℤ). set cells (offset + k) (Some (unwrap_or o s))) some ∙ ap (set cells (offset + k)) (sym some) ∙ set-get_or cells (offset + k) None in
+        let e : more ≡ count + 0 = sum ∙ ap (λ b. count + cond b 1 0) t in
+        record {
+          now = g.now;
+          agrees = subst (λ (cs : List (Option ℤ)). Agrees cs g.now p) (sym same) g.agrees;
+          leads = ap (λ (xs : List Pair). offers p xs (p + (offset + (k + 1))) (drop (k + 1) samples)) (sym (offer_old p (offset + k) g.now s v at)) ∙ next;
+          long = g.long ∙ omega (arith, e);
+        }
+
+pub going_done : (cells : List (Option ℤ)) (p place k : ℕ) (samples : List ℤ) (end : List Pair) (count : ℕ) → length samples ≤ k
+    → Going cells p place (drop k samples) end count → Agrees cells end p × (length end ≡ count)
+going_done cells p place k samples end count le g =
+    let e : g.now ≡ end = sym (ap (offers p g.now place) (drop_all k samples le)) ∙ g.leads in
+    (subst (λ (xs : List Pair). Agrees cells xs p) e g.agrees, ap length (sym e) ∙ g.long)
+
+-- an empty cell at the end is no other than none
+pad : (xs : List (Option ℤ)) (j : ℕ) → get_or (xs ++ None ∷ []) j None ≡ get_or xs j None
+pad [] zero = refl
+pad [] (suc j) = refl
+pad (x ∷ xs) zero = refl
+pad (x ∷ xs) (suc j) = pad xs j
+
+tail : (xs : List (Option ℤ)) (j : ℕ) → get_or (drop 1 xs) j None ≡ get_or xs (suc j) None
+tail [] j = refl
+tail (x ∷ xs) j = refl
+
+beyond : (xs : List (Option ℤ)) (j : ℕ) → length xs ≤ j → get_or xs j None ≡ None
+beyond [] j le = refl
+beyond (x ∷ xs) zero le = absurd (omega (arith, le))
+beyond (x ∷ xs) (suc j) le = beyond xs j (omega (arith, le))
+
+-- one place further on
+pub moved_on : (cells new : List (Option ℤ)) (pairs : List Pair) (p : ℕ) → new ≡ drop 1 cells ++ None ∷ [] → length new ≡ length cells → Agrees cells pairs p → Agrees new pairs (p + 1)
+moved_on cells new pairs p is long a = record { here = here; room = room }
+  where
+    cell : (j : ℕ) → get_or new j None ≡ get_or cells (suc j) None
+    cell j = ap (λ (xs : List (Option ℤ)). get_or xs j None) is ∙ pad (drop 1 cells) j ∙ tail cells j
+
+    here : (j : ℕ) → j < length new → get_or new j None ≡ sample_at pairs (p + 1 + j)
+    here j lt = elim (eq_cases (suc j) (length cells)) [
+      | inl last ↦
+          let le : length cells ≤ suc j = omega (arith, last) in
+          let far : p + length cells ≤ p + 1 + j = omega (arith, last) in
+          cell j ∙ beyond cells (suc j) le ∙ sym (a.room (p + 1 + j) far)
+      | inr other ↦
+          let less : suc j < length cells = omega (arith, lt, long, other) in
+          let e : p + suc j ≡ p + 1 + j = omega arith in
+          cell j ∙ a.here (suc j) less ∙ ap (sample_at pairs) e
+    ]
+
+    room : (n : ℕ) → p + 1 + length new ≤ n → sample_at pairs n ≡ None
+    room n above = a.room n (omega (arith, above, long))
+
+pub first_is : (cells : List (Option ℤ)) (pairs : List Pair) (p : ℕ) → 0 < length cells → Agrees cells pairs p → get_or cells 0 None ≡ sample_at pairs p
+first_is cells pairs p some a = let e : p + 0 ≡ p = omega arith in a.here 0 some ∙ ap (sample_at pairs) e
+
+below_yes : (q p : ℕ) → q < p → nat_lt q p ≡ true
+below_yes q p lt = grind (arith, nat_tests)
+
+-- what is below the position is left out
+pub below_left : (p b q : ℕ) (pairs : List Pair) (samples : List ℤ) → q + b ≡ p → offers p pairs q samples ≡ offers p pairs p (drop b samples)
+below_left p zero q pairs samples e = let same : q ≡ p = omega (arith, e) in ap (λ (n : ℕ). offers p pairs n samples) same
+below_left p (suc b) q pairs [] e = refl
+below_left p (suc b) q pairs (s ∷ ss) e =
+    let yes1 : nat_lt q p ≡ true = below_yes q p (omega (arith, e)) in
+    let left : offer p pairs q s ≡ pairs = rw yes1 refl in
+    ap (λ (xs : List Pair). offers p xs (q + 1) ss) left ∙ below_left p b (q + 1) pairs ss (omega (arith, e))

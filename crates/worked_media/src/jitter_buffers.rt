@@ -1,0 +1,72 @@
+//! Samples that wait to be taken.
+
+ghost use Rattle.std.specs.Prelude.{◌≡◌, IfSome};
+
+use playout::{Placed, Playout};
+use std::alloc::Global;
+
+/// The first samples are all kept. At 50 samples a second 60 ms are 3 places.
+pub fn the_first_samples_are_kept(alloc: Global) -> Option<Placed>
+    ensures { IfSome result (λ placed. placed ≡ Placed.Kept 2) }
+{
+    let Ok(mut playout) = Playout::new(alloc, 50) else {
+        return None;
+    };
+    Some(playout.put(1000, &[5, 6]))
+}
+
+/// They come 60 ms later: of the next four places the last one has a sample.
+pub fn they_come_60_ms_later(alloc: Global) -> Option<u32>
+    ensures { IfSome result (λ count. count ≡ 1) }
+{
+    let Ok(mut playout) = Playout::new(alloc, 50) else {
+        return None;
+    };
+    playout.put(1000, &[5, 6]);
+    Some(playout.take(&mut [0; 4]))
+}
+
+/// What is put again is not counted.
+pub fn a_place_keeps_its_sample(alloc: Global) -> Option<Placed>
+    ensures { IfSome result (λ placed. placed ≡ Placed.Kept 1) }
+{
+    let Ok(mut playout) = Playout::new(alloc, 50) else {
+        return None;
+    };
+    playout.put(1000, &[5, 6]);
+    Some(playout.put(1001, &[7, 8]))
+}
+
+/// What was taken is too late.
+pub fn what_was_taken_is_late(alloc: Global) -> Option<Placed>
+    ensures { IfSome result (λ placed. placed ≡ Placed.Late) }
+{
+    let Ok(mut playout) = Playout::new(alloc, 50) else {
+        return None;
+    };
+    playout.put(1000, &[5, 6]);
+    playout.take(&mut [0; 5]);
+    Some(playout.put(1000, &[5, 6]))
+}
+
+/// Places within a second are kept, up to the last one.
+pub fn a_second_ahead_is_kept(alloc: Global) -> Option<Placed>
+    ensures { IfSome result (λ placed. placed ≡ Placed.Kept 2) }
+{
+    let Ok(mut playout) = Playout::new(alloc, 50) else {
+        return None;
+    };
+    playout.put(1000, &[5, 6]);
+    Some(playout.put(1045, &[7, 8]))
+}
+
+/// One place further begins anew.
+pub fn more_than_a_second_ahead_begins_anew(alloc: Global) -> Option<Placed>
+    ensures { IfSome result (λ placed. placed ≡ Placed.Reset) }
+{
+    let Ok(mut playout) = Playout::new(alloc, 50) else {
+        return None;
+    };
+    playout.put(1000, &[5, 6]);
+    Some(playout.put(1046, &[7, 8]))
+}
