@@ -16,8 +16,6 @@ mod sending;
 mod settings;
 mod stream;
 mod stream_table;
-#[cfg(test)]
-mod tests;
 
 pub use self::bridge::Core;
 pub use self::egress::Egress;

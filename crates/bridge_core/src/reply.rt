@@ -3,7 +3,7 @@
 use desk_edit::Refusal;
 
 /// The answer to a call of an operator.
-#[derive(Clone, Copy, Debug, PartialEq, Eq)]
+#[derive(Clone, Copy, PartialEq, Eq)]
 pub enum Reply {
     /// The call is the accepted one with this number, from 1.
     Accepted { no: u64 },

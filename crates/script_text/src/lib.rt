@@ -25,6 +25,3 @@ pub use self::laws::{
 };
 pub use self::print::{print_egress, print_reply};
 pub use self::replay::{output, run};
-
-#[cfg(test)]
-mod tests;

@@ -1,7 +1,0 @@
-//! Whole scripts and whole desks, over all crates below. Tests alone.
-#![tactic(auto)]
-
-#[cfg(test)]
-mod desks;
-#[cfg(test)]
-mod scripts;
