@@ -1,0 +1,16 @@
+//! Readers and writers that fail, and memory that is refused, over a run and over a core. Tests
+//! alone.
+#![tactic(auto)]
+
+#[cfg(test)]
+mod lanes;
+#[cfg(test)]
+mod memory;
+#[cfg(test)]
+mod reading;
+#[cfg(test)]
+mod setup;
+#[cfg(test)]
+mod starving;
+#[cfg(test)]
+mod writing;

@@ -1,0 +1,97 @@
+//! Runs and lines for which memory runs out.
+
+use bridge_core::Egress;
+use bytes::Bytes;
+use linked_list_allocator::LocalHeap;
+use rtp_codec::Address;
+use script_text::{RunFault, print_egress, run};
+use std::alloc::{AllocError, Allocator, Global};
+use std::test::Fail;
+
+const SCRIPT: &[u8] = b"desk 0 add-room 1\n\
+    desk 0 add-member 10 1 10.0.0.1:5000 pcmu 9001 0 0\n\
+    desk 0 add-member 11 1 10.0.0.2:5000 pcmu 9002 0 0\n\
+    desk 0 add-source 101 10 video\n\
+    desk 0 add-slot 501 11 0 65535 1000\n\
+    desk 0 subscribe 501 101\n\
+    frame 0 10.0.0.1:5000 101 1 0 7/0/100/aabb 8/1/100/cc\n";
+
+const TEXT: &[u8] = b"ok 1\nok 2\nok 3\nok 4\nok 5\nok 6\n\
+    tx 6 1 10.0.0.2:5000 501 65535 8164ffff000003e8000001f500000065aabb\n\
+    tx 6 1 10.0.0.2:5000 501 0 81e40000000003e8000001f500000065cc\n";
+
+/// How many octets are written over a heap of this size. A run that wants memory writes nothing of the
+/// line at which it stops, and both lines of a frame are one answer.
+fn written(alloc: Global, size: usize) -> Result<Option<usize>, Fail> {
+    let heap = LocalHeap::new(alloc, size)?;
+    let mut out = Vec::new(alloc);
+    let answer = run(&heap, &mut SCRIPT, &mut out);
+    let ended = match answer {
+        Ok(()) => out.as_slice() == TEXT,
+        Err(fault) => fault == RunFault::OutOfMemory
+            && TEXT[..30].starts_with(&out)
+            && out.len() % 5 == 0,
+    };
+    Ok(if ended { Some(out.len()) } else { None })
+}
+
+/// Heaps that grow let a run stop before each of its answers, until one is ample.
+#[test]
+fn a_run_stops_between_answers(rt: HostRuntime) -> Result<(), Fail> {
+    let mut most = 0;
+    let mut stops = 0;
+    for step in 0..4_096 {
+        let Some(octets) = written(rt.alloc(), 64 * step)? else {
+            return Err(Fail::from("a part of an answer"));
+        };
+        if most < octets {
+            stops += 1;
+        }
+        most = most.max(octets);
+        if octets == TEXT.len() {
+            break;
+        }
+    }
+    assert!(rt;
+        most == TEXT.len() && stops > 2,
+        "{stops} stops, {most} octets"
+    );
+    Ok(())
+}
+
+/// A packet that goes out.
+fn packet<A: Allocator + Copy>(alloc: A) -> Result<Egress<A>, AllocError> {
+    Ok(Egress::Media {
+        version: 6,
+        item: 1,
+        to: Address {
+            ip: [10, 0, 0, 2],
+            port: 5_000,
+        },
+        ssrc: 501,
+        number: 65_535,
+        bytes: Bytes::copy_from_slice(alloc, &[0x81, 0x64, 0x0f, 0xf0])?,
+    })
+}
+
+const LINE: &str = "tx 6 1 10.0.0.2:5000 501 65535 81640ff0\n";
+
+/// A refused line changes nothing, and an ample heap has it.
+#[test]
+fn printing_without_memory_changes_nothing(rt: HostRuntime) -> Result<(), Fail> {
+    let ample = LocalHeap::new(rt.alloc(), 1_024)?;
+    let packet = packet(&ample)?;
+    let mut refused = 0;
+    let mut printed = 0;
+    for octets in 0..1_024 {
+        let heap = LocalHeap::new(rt.alloc(), octets)?;
+        let mut out = Vec::new(&heap);
+        match print_egress(&heap, &packet, &mut out) {
+            Ok(()) if out.as_slice() == LINE.as_bytes() => printed += 1,
+            Err(_) if out.is_empty() => refused += 1,
+            _ => {}
+        }
+    }
+    assert!(rt; refused > 0 && printed > 0 && refused + printed == 1_024);
+    Ok(())
+}

@@ -1,0 +1,86 @@
+//! Calls of operators.
+
+ghost use Rattle.std.specs.Prelude.{◌≡◌, [], length};
+ghost use Rattle.worked_bridge.specs.Small.{small};
+
+use bridge_core::{Core, Reply};
+use desk_edit::{Call, Command, Refusal};
+use desk_rows::Room;
+use std::alloc::Global;
+
+/// An undo has to name the last accepted call.
+pub fn undoes_the_last_call_alone(alloc: Global, core: &mut Core) -> Reply
+    requires { core.old.version ≡ 2 }
+    ensures answer { result ≡ Reply.Refused 2 (Refusal.NewerCommand 2) }
+    ensures same { core.new ≡ core.old }
+{
+    core.desk(alloc, 0, Call::Undo { last: 1 })
+}
+
+/// Nothing is done, so nothing is taken back.
+pub fn has_nothing_to_undo(alloc: Global, core: &mut Core) -> Reply
+    requires version { core.old.version ≡ 4 }
+    requires done { core.old.done ≡ [] }
+    ensures { result ≡ Reply.Refused 4 Refusal.NothingToUndo }
+{
+    core.desk(alloc, 0, Call::Undo { last: 4 })
+}
+
+/// An undo of a full log.
+pub fn undoes_no_more(alloc: Global, core: &mut Core) -> Reply
+    requires version { core.old.version ≡ 1048576 }
+    requires done { length core.old.done ≡ 1 }
+    ensures answer { result ≡ Reply.Refused 1048576 Refusal.LogFull }
+    ensures same { core.new ≡ core.old }
+{
+    core.desk(alloc, 0, Call::Undo { last: 1_048_576 })
+}
+
+/// Room 1 is there at version 6.
+#[tactic(auto, unfolding(desk_edit::specs::Refusals::refused, desk_edit::specs::Refusals::room_refused))]
+pub fn adds_no_room_twice(alloc: Global, core: &mut Core) -> Reply
+    requires version { core.old.version ≡ 6 }
+    requires desk { core.old.desk ≡ small }
+    ensures { result ≡ Reply.Refused 6 Refusal.Exists }
+{
+    core.desk(alloc, 0, Call::Apply(Command::AddRoom(Room { room: 1 })))
+}
+
+/// A full log is told where nothing else stands against a room.
+#[tactic(auto, unfolding(desk_edit::specs::Refusals::refused, desk_edit::specs::Refusals::room_refused))]
+pub fn adds_no_room_to_a_full_log(alloc: Global, core: &mut Core) -> Reply
+    requires version { core.old.version ≡ 1048576 }
+    requires desk { core.old.desk ≡ small }
+    ensures answer { result ≡ Reply.Refused 1048576 Refusal.LogFull }
+    ensures same { core.new ≡ core.old }
+{
+    core.desk(alloc, 0, Call::Apply(Command::AddRoom(Room { room: 2 })))
+}
+
+/// The last number before the log is full.
+pub fn undoes_as_the_last_call(alloc: Global, core: &mut Core) -> Reply
+    requires version { core.old.version ≡ 1048575 }
+    requires done { length core.old.done ≡ 1 }
+    ensures { result ≡ Reply.Accepted 1048576 }
+{
+    core.desk(alloc, 0, Call::Undo { last: 1_048_575 })
+}
+
+/// Whether something can be undone is asked after the number.
+pub fn names_the_last_call_first(alloc: Global, core: &mut Core) -> Reply
+    requires version { core.old.version ≡ 4 }
+    requires done { core.old.done ≡ [] }
+    ensures { result ≡ Reply.Refused 4 (Refusal.NewerCommand 4) }
+{
+    core.desk(alloc, 0, Call::Undo { last: 3 })
+}
+
+/// An undo that is accepted takes the next number.
+pub fn undoes(alloc: Global, core: &mut Core) -> Reply
+    requires version { core.old.version ≡ 6 }
+    requires done { length core.old.done ≡ 6 }
+    ensures answer { result ≡ Reply.Accepted 7 }
+    ensures done { length core.new.done ≡ 5 }
+{
+    core.desk(alloc, 0, Call::Undo { last: 6 })
+}

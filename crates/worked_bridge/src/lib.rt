@@ -1,0 +1,10 @@
+//! Worked calls of the core and of the texts: single answers, each proved from the contract of the
+//! call that gives it.
+#![tactic(auto)]
+
+pub mod answering;
+pub mod beginning;
+pub mod calling;
+pub mod framing;
+pub mod printing;
+pub mod spelling;

@@ -1,0 +1,90 @@
+//! What is printed, and the exit statuses.
+
+ghost use Rattle.std.specs.Prelude.{◌≡◌, [], ◌∷◌, codes, IfOk, OnOk};
+ghost use Rattle.bridge_core.specs.Sent.{Sent, sent_of};
+
+use bridge_core::{Egress, Reply};
+use desk_edit::{Refusal, Table};
+use script_text::{Fault, RunFault, print_egress, print_reply, status};
+use std::alloc::{AllocError, Global};
+
+/// The line of an accepted call.
+pub fn prints_an_answer(alloc: Global, out: &mut Vec<u8>) -> Result<(), AllocError>
+    requires { out.old.items ≡ [] }
+    ensures { OnOk result (out.new.items ≡ codes "ok 12\n") }
+{
+    print_reply(alloc, &Reply::Accepted { no: 12 }, out)
+}
+
+/// The line of a refusal without a number in it.
+pub fn prints_a_refusal(alloc: Global, out: &mut Vec<u8>) -> Result<(), AllocError>
+    requires { out.old.items ≡ [] }
+    ensures { OnOk result (out.new.items ≡ codes "no 4 15 NothingToUndo\n") }
+{
+    let reply = Reply::Refused {
+        at: 4,
+        why: Refusal::NothingToUndo,
+    };
+    print_reply(alloc, &reply, out)
+}
+
+/// The line of a refused call.
+pub fn prints_a_full_table(alloc: Global) -> Result<Vec<u8>, AllocError>
+    ensures { IfOk result (λ out. out.items ≡ codes "no 64 12 Full rooms 64\n") }
+{
+    let mut out = Vec::new(alloc);
+    let why = Refusal::Full {
+        table: Table::Rooms,
+        limit: 64,
+    };
+    print_reply(alloc, &Reply::Refused { at: 64, why }, &mut out)?;
+    Ok(out)
+}
+
+/// The line of a packet behind another line.
+pub fn prints_a_packet(alloc: Global, egress: &Egress, out: &mut Vec<u8>) -> Result<(), AllocError>
+    requires packet { sent_of egress.now ≡ Sent.media record { version = 6; item = 1; to = record { ip = 10 ∷ 0 ∷ 0 ∷ 2 ∷ []; port = 5000 }; ssrc = 501; number = 65535; bytes = 129 ∷ 100 ∷ 15 ∷ 240 ∷ [] } }
+    requires behind { out.old.items ≡ codes "ok 6\n" }
+    ensures { OnOk result (out.new.items ≡ codes "ok 6\ntx 6 1 10.0.0.2:5000 501 65535 81640ff0\n") }
+{
+    print_egress(alloc, egress, out)
+}
+
+/// A script that ended well.
+pub fn ends_well_with_0() -> u8
+    ensures { result ≡ 0 }
+{
+    status(&Ok(()))
+}
+
+/// A faulty script.
+pub fn a_fault_ends_with_1() -> u8
+    ensures { result ≡ 1 }
+{
+    status(&Err(RunFault::Script {
+        line: 1,
+        word: 4,
+        fault: Fault::BadNumber,
+    }))
+}
+
+/// Want of memory.
+pub fn want_of_memory_ends_with_2() -> u8
+    ensures { result ≡ 2 }
+{
+    status(&Err(RunFault::OutOfMemory))
+}
+
+/// A reader that failed.
+pub fn a_failed_read_ends_with_3() -> u8
+    ensures { result ≡ 3 }
+{
+    status(&Err(RunFault::Read))
+}
+
+/// A writer that failed.
+pub fn a_failed_write_ends_with_3() -> u8
+    ensures { result ≡ 3 }
+{
+    status(&Err(RunFault::Write))
+}
