@@ -58,3 +58,18 @@ fn octets_may_come_one_by_one(rt: HostRuntime) -> Result<(), Fail> {
     }
     Ok(())
 }
+
+/// What is told of the ends that no script brings about.
+#[test]
+fn other_ends_are_told(rt: HostRuntime) -> Result<(), Fail> {
+    let cases = [
+        (RunFault::OutOfMemory, "out of memory"),
+        (RunFault::Read, "input or output failed"),
+        (RunFault::Write, "input or output failed"),
+    ];
+    for (fault, want) in cases {
+        let text = format!(in rt.alloc(); "{fault}")?;
+        assert!(rt; text.as_str() == want);
+    }
+    Ok(())
+}
