@@ -1,6 +1,5 @@
 -- How the core answers calls of the desk.
 use Rattle.std.specs.Prelude.{◌≡◌, ◌≢◌, ℕ, ◌+◌, Bool, true, not, ◌&&◌, ◌||◌, nat_lt, nat_le, if◌then◌else◌, nat_eq, List, [], ◌∷◌, ◌++◌, length, Option, None, Some}
-use Rattle.undo_log.specs.declared.history.TheConstants.{LIMIT}
 use Rattle.desk_rows.specs.Edit.{EditOf, inverse}
 use Rattle.desk_rows.specs.Exchange.{fits, after}
 use Rattle.desk_edit.specs.declared.command.Call.{Call}
@@ -11,10 +10,14 @@ use Rattle.desk_edit.specs.Commands.{desk_after}
 use Rattle.desk_edit.specs.Calls.{refusal_at}
 use Rattle.bridge_core.specs.declared.fault.CoreFault.{CoreFault}
 use Rattle.bridge_core.specs.declared.fault.CoreFault.TheVariants.{BadLanes, BadSettings}
-use Rattle.bridge_core.specs.declared.lane.TheConstants.{LANES}
 use Rattle.bridge_core.specs.declared.reply.Reply.{Reply}
 use Rattle.bridge_core.specs.declared.reply.Reply.TheVariants.{Accepted, Refused}
+use Rattle.bridge_core.specs.Sound.{most_calls}
 use Rattle.bridge_core.specs.Steps.{CoreOf}
+
+-- the most lanes that a core may have (own)
+abbrev pub most_lanes : ℕ
+most_lanes = 16
 
 -- a canonical name has 1 to 255 octets (RFC 3550 section 6.5.1)
 abbrev pub is_name : List ℕ → Bool
@@ -23,7 +26,7 @@ is_name cname = nat_lt 0 (length cname) && nat_le (length cname) 255
 -- the first fault of what a core is to be made of
 abbrev pub core_fault : ℕ → List ℕ → Option CoreFault
 core_fault lanes cname =
-    if nat_eq lanes 0 || nat_lt LANES lanes then Some BadLanes else (if not (is_name cname) then Some BadSettings else None)
+    if nat_eq lanes 0 || nat_lt most_lanes lanes then Some BadLanes else (if not (is_name cname) then Some BadSettings else None)
 
 -- the desk is edited, and what was undone is forgotten
 abbrev pub DoesEdit : CoreOf → CoreOf → Type 0
@@ -62,5 +65,5 @@ OnAccepted (Refused at why) P = Unit {0}
 
 -- what a refusal by `plan` is told as: want of memory comes after the log
 abbrev pub before_memory : Refusal → ℕ → Refusal
-before_memory OutOfMemory version = if nat_eq version LIMIT then LogFull else OutOfMemory
+before_memory OutOfMemory version = if nat_eq version most_calls then LogFull else OutOfMemory
 before_memory why version = why

@@ -4,7 +4,14 @@ use Rattle.std.specs.List.{list_any}
 use Rattle.rtp_codec.specs.declared.address.Address.{Address}
 use Rattle.bridge_core.specs.declared.frame.FrameFault.{FrameFault}
 use Rattle.bridge_core.specs.declared.frame.FrameFault.TheVariants.{Empty, Order, TooMany, NoPayload, BadKind, Marker}
-use Rattle.bridge_core.specs.declared.frame.TheConstants.{PACKETS, HIGHEST_PT}
+
+-- the most packets that a frame may have (own)
+abbrev pub most_packets : ℕ
+most_packets = 256
+
+-- the highest payload type, of 7 bits (RFC 3550 section 5.1)
+abbrev pub highest_pt : ℕ
+highest_pt = 127
 
 -- a packet of a frame, with its extended sequence number (RFC 3550 section A.1)
 pub record SourcePacket : Type 0 where
@@ -40,9 +47,9 @@ numbers_rise (p ∷ ps) = rise_from p.ext ps
 abbrev pub lacks_payload : List SourcePacket → Bool
 lacks_payload ps = list_any (λ p. nat_eq (length p.payload) 0) ps
 
--- a payload type doesn't fit its 7 bits (RFC 3550 section 5.1)
+-- a payload type is above the highest one
 abbrev pub has_bad_kind : List SourcePacket → Bool
-has_bad_kind ps = list_any (λ p. nat_lt HIGHEST_PT p.pt) ps
+has_bad_kind ps = list_any (λ p. nat_lt highest_pt p.pt) ps
 
 -- a packet before the last one has the marker
 abbrev pub marker_is_early : List SourcePacket → Bool
@@ -54,7 +61,7 @@ unfoldable pub fault_of : List SourcePacket → Option FrameFault
 fault_of ps =
     if nat_eq (length ps) 0 then Some Empty
     else (if not (numbers_rise ps) then Some Order
-    else (if nat_lt PACKETS (length ps) then Some TooMany
+    else (if nat_lt most_packets (length ps) then Some TooMany
     else (if lacks_payload ps then Some NoPayload
     else (if has_bad_kind ps then Some BadKind
     else (if marker_is_early ps then Some Marker

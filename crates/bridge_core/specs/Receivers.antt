@@ -1,11 +1,10 @@
 -- Who gets a frame, and in which order.
-use Rattle.std.specs.Prelude.{ℕ, ◌+◌, Bool, if◌then◌else◌, nat_eq, List, [], filter, map, Option, None, Some}
+use Rattle.std.specs.Prelude.{ℕ, Bool, if◌then◌else◌, nat_eq, List, [], filter, map, Option, None, Some}
 use Rattle.std.specs.List.{flat_map, filter_map, range_with_len}
 use Rattle.rtp_codec.specs.declared.address.Address.{Address}
 use Rattle.desk_rows.specs.declared.row.Member.{Member as MemberRow}
 use Rattle.desk_rows.specs.declared.row.Slot.{Slot as SlotRow}
 use Rattle.desk_rows.specs.declared.row.Row.{Row}
-use Rattle.desk_rows.specs.declared.limits.TheConstants.{MAX_INDEX}
 use Rattle.desk_rows.specs.declared.row.Row.TheVariants.{Slot}
 use Rattle.desk_rows.specs.Desk.{Desk}
 use Rattle.bridge_core.specs.declared.receivers.Receiver.{Receiver}
@@ -25,9 +24,9 @@ slots_of d = filter_map slot_in d.others
 abbrev pub chooses : Desk → ℕ → SlotRow → Bool
 chooses d source slot = same_number (choice d slot.out_ssrc) (Some source)
 
--- slots have indexes from 0 on
+-- slots have indexes from 0 to 15 (own)
 abbrev pub index_count : ℕ
-index_count = MAX_INDEX + 1
+index_count = 16
 
 -- slots in the order of their indexes
 unfoldable pub by_index : List SlotRow → List SlotRow

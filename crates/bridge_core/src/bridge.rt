@@ -1,16 +1,15 @@
 //! The desk and the lanes together.
 
 ghost use Rattle.std.specs.Prelude.{◌≡◌, ◌+◌, ◌<◌, ◌≤◌, ◌≢◌, ◌↔◌, true, nat_eq, [], ◌∷◌, map, length, None, Some, IfOk, IfErr, OnOk, OnErr};
-ghost use Rattle.undo_log.specs.declared.history.TheConstants.{LIMIT as CALLS};
 ghost use Rattle.desk_rows.specs.Desk.{blank, good};
 ghost use Rattle.desk_rows.specs.Exchange.{fits, after};
 ghost use Rattle.desk_edit.specs.Commands.{desk_after};
 ghost use Rattle.desk_edit.specs.Calls.{CallHistory, no_calls};
 ghost use Rattle.bridge_core.specs.Sent.{sent_of, input_of};
-ghost use Rattle.bridge_core.specs.Sound.{AreFresh};
+ghost use Rattle.bridge_core.specs.Sound.{AreFresh, most_calls};
 ghost use Rattle.bridge_core.specs.Steps.{CoreOf, HasTaken, Takes, Step, IsSpent};
 ghost use Rattle.bridge_core.specs.Following.{HasCalled, IsAnswered};
-ghost use Rattle.bridge_core.specs.Calls.{core_fault, Answers, Does, IsReason, OnAccepted, UndoesEdit, call_refused, before_memory};
+ghost use Rattle.bridge_core.specs.Calls.{core_fault, most_lanes, Answers, Does, IsReason, OnAccepted, UndoesEdit, call_refused, before_memory};
 
 use crate::egress::Egress;
 use crate::fault::{CoreFault, LaneFault};
@@ -22,7 +21,7 @@ use desk_edit::{Call, Command, Refusal, plan};
 use desk_rows::{Edit, Rows};
 use std::alloc::{AllocError, Allocator, Global};
 use std::marker::Model;
-use undo_log::{History, LIMIT};
+use undo_log::{History, HistoryFault, LIMIT};
 
 /// The desk with its history, and the lanes that send by it.
 ///
@@ -144,8 +143,11 @@ impl<A: Allocator + Copy> Core<A> {
         ensures why { IfErr result (λ why. IsReason self.old (Call.Apply command.now) why) }
     {
         let edit = self.planned(alloc, command)?;
-        if self.history.push(edit).is_err() {
-            return Err(Refusal::OutOfMemory);
+        match self.history.push(edit) {
+            Ok(()) => {}
+            Err(HistoryFault::OutOfMemory) => return Err(Refusal::OutOfMemory),
+            // No more edits are done than calls were accepted.
+            Err(_) => unreachable!(),
         }
         self.version += 1;
         Ok(())
@@ -156,7 +158,7 @@ impl<A: Allocator + Copy> Core<A> {
         ensures fits { IfOk result (λ edit. fits self.now.desk edit ≡ true) }
         ensures does { IfOk result (λ edit. after self.now.desk edit ≡ desk_after self.now.desk command.now) }
         ensures free { OnOk result (call_refused self.now (Call.Apply command.now) ≡ None) }
-        ensures room { OnOk result (self.now.version < CALLS) }
+        ensures room { OnOk result (self.now.version < most_calls) }
         ensures few { length self.now.done ≤ self.now.version }
         ensures why { IfErr result (λ why. IsReason self.now (Call.Apply command.now) why) }
     {
@@ -189,7 +191,7 @@ impl<A: Allocator + Copy> Core<A> {
             return Err(Refusal::LogFull);
         }
         if self.history.undo().is_err() {
-            return Err(Refusal::NothingToUndo);
+            unreachable!();
         }
         self.version += 1;
         Ok(())
@@ -217,7 +219,7 @@ impl<A: Allocator + Copy> Core<A> {
 
 /// Whether as many calls were accepted as the log can hold.
 fn log_is_full(version: u64) -> bool
-    ensures { result ≡ nat_eq version CALLS }
+    ensures { result ≡ nat_eq version most_calls }
 {
     version == LIMIT as u64
 }
@@ -238,7 +240,7 @@ fn lane_states<A: Allocator + Copy>(
     lanes: u32,
     settings: &Settings<A>,
 ) -> Result<Vec<LaneState<A>, A>, AllocError>
-    requires { lanes ≤ LANES }
+    requires { lanes ≤ most_lanes }
     ensures fresh { IfOk result (λ v. AreFresh lanes v.items) }
     ensures count { IfOk result (λ v. length v.items ≡ lanes) }
 {

@@ -2,7 +2,7 @@
 
 ghost use Rattle.std.specs.Prelude.{◌≡◌, ◌≤◌, length, OnOk, IfOk, IfErr, Option, None, Some};
 ghost use Rattle.std.specs.List.{All};
-ghost use Rattle.bridge_core.specs.Frame.{WholeFrame, fault_of, numbers_rise, rise_from, marker_is_early, lacks_payload, has_bad_kind};
+ghost use Rattle.bridge_core.specs.Frame.{most_packets, highest_pt, WholeFrame, fault_of, numbers_rise, rise_from, marker_is_early, lacks_payload, has_bad_kind};
 
 use bytes::Bytes;
 use rtp_codec::Address;
@@ -115,7 +115,7 @@ impl<A: Allocator + Copy> Frame<A> {
     /// The frame's packets.
     pub fn sent(&self) -> &[FramePacket<A>]
         ensures packets { result.now ≡ self.now.packets }
-        ensures kinds { All (λ p. p.pt ≤ HIGHEST_PT) self.now.packets }
+        ensures kinds { All (λ p. p.pt ≤ highest_pt) self.now.packets }
     {
         &self.packets
     }
@@ -123,7 +123,7 @@ impl<A: Allocator + Copy> Frame<A> {
     /// How many packets the frame has.
     pub fn len(&self) -> u16
         ensures count { result ≡ length self.now.packets }
-        ensures few { result ≤ PACKETS }
+        ensures few { result ≤ most_packets }
     {
         self.packets.len() as u16
     }

@@ -1,6 +1,7 @@
 //! Lanes: each has its share of the outgoing streams.
 
 ghost use Rattle.std.specs.Prelude.{◌≡◌, ◌+◌, ◌-◌, ◌<◌, ◌≤◌, ◌^◌, ◌↔◌, map, [], IfOk, OnOk, OnErr};
+ghost use Rattle.bridge_core.specs.Calls.{most_lanes};
 ghost use Rattle.bridge_core.specs.Sent.{sent_of, input_of};
 ghost use Rattle.bridge_core.specs.LaneState.{HasHandled, Handles, LaneOf};
 ghost use Rattle.bridge_core.specs.Sent.{Input as AnyInput};
@@ -48,7 +49,7 @@ impl<A: Allocator + Copy> LaneState<A> {
     /// A lane that has handled nothing.
     pub fn new(alloc: A, lane: u32, lanes: u32, _settings: &Settings<A>) -> Result<Self, AllocError>
         requires lane { lane < lanes }
-        requires lanes { lanes ≤ LANES }
+        requires lanes { lanes ≤ most_lanes }
         ensures nothing_handled { IfOk result (λ state. HasHandled state []) }
         ensures place { IfOk result (λ state. (state.lane ≡ lane) × (state.lanes ≡ lanes)) }
     {

@@ -2,6 +2,7 @@
 
 ghost use Rattle.std.specs.Prelude.{◌≡◌, ◌+◌, ◌≤◌, ◌∷◌, [], length, map, IfOk, OnErr};
 ghost use Rattle.std.specs.List.{All};
+ghost use Rattle.bridge_core.specs.Frame.{highest_pt};
 ghost use Rattle.bridge_core.specs.RoutedList.{octets, part_of, numbered};
 ghost use Rattle.bridge_core.specs.Streams.{state_of, sent, SendsNext, committed};
 ghost use Rattle.bridge_core.specs.Counters.{ts_after, goes_on, IsPrepared};
@@ -71,7 +72,7 @@ fn octets_of<A: Allocator + Copy>(
     source: u32,
     payload: &[u8],
 ) -> Result<Bytes<A>, AllocError>
-    requires { header.now.pt ≤ 127 }
+    requires { header.now.pt ≤ highest_pt }
     ensures { IfOk result (λ bytes. bytes ≡ written header.now (source ∷ []) payload.now) }
 {
     let mut out = Vec::with_capacity(alloc, 16 + payload.len())?;
@@ -88,7 +89,7 @@ fn out_packet<A: Allocator + Copy>(
     source: u32,
     packet: &FramePacket<A>,
 ) -> Result<OutPacket<A>, AllocError>
-    requires { packet.now.pt ≤ 127 }
+    requires { packet.now.pt ≤ highest_pt }
     ensures { IfOk result (λ p. p ≡ record { number = number; bytes = octets ssrc number (part_of source ts packet.now) }) }
 {
     let header = Header {
@@ -111,7 +112,7 @@ fn out_packets<A: Allocator + Copy>(
     source: u32,
     packets: &[FramePacket<A>],
 ) -> Result<Vec<OutPacket<A>, A>, AllocError>
-    requires { All (λ p. p.pt ≤ 127) packets.now }
+    requires { All (λ p. p.pt ≤ highest_pt) packets.now }
     ensures packets { IfOk result (λ v. v.items ≡ numbered ssrc first (map (part_of source ts) packets.now)) }
     ensures count { IfOk result (λ v. length v.items ≡ length packets.now) }
 {

@@ -66,7 +66,7 @@ pub(crate) fn commit_one<A: Allocator + Copy>(
     let mut stream = fresh(slot);
     let packets = stream.commit(prepared);
     if streams.insert(place, stream).is_err() {
-        return packets;
+        unreachable!();
     }
     packets
 }
