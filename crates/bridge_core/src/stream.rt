@@ -1,6 +1,6 @@
 //! Outgoing video streams: they number their packets in a row and keep a time of their own.
 
-ghost use Rattle.std.specs.Prelude.{◌≡◌, ◌+◌, ◌≤◌, ◌∷◌, [], length, map, IfOk, OnErr};
+ghost use Rattle.std.specs.Prelude.{◌≡◌, ◌+◌, ◌≤◌, ◌∷◌, [], length, map, IfOk};
 ghost use Rattle.std.specs.List.{All};
 ghost use Rattle.bridge_core.specs.Frame.{highest_pt};
 ghost use Rattle.bridge_core.specs.RoutedList.{octets, part_of, numbered};
@@ -229,18 +229,5 @@ impl Stream {
         self.next = prepared.next;
         self.last = Some(prepared.last);
         prepared.packets
-    }
-
-    /// Sends one more frame.
-    pub fn send<A: Allocator + Copy>(
-        &mut self,
-        alloc: A,
-        frame: &MediaFrame<A>,
-    ) -> Result<Vec<OutPacket<A>, A>, AllocError>
-        ensures ok { IfOk result (λ packets. SendsNext self.old self.new frame.now packets.items) }
-        ensures err { OnErr result (self.new ≡ self.old) }
-    {
-        let prepared = self.prepare(alloc, frame)?;
-        Ok(self.commit(prepared))
     }
 }
