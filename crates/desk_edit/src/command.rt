@@ -4,7 +4,7 @@ use desk_rows::{Member, Room, Slot, Source, Sub};
 use thiserror::Error;
 
 /// What an operator asks of the desk.
-#[derive(Clone, Copy, Debug, PartialEq, Eq)]
+#[derive(Clone, Copy)]
 pub enum Command {
     AddRoom(Room),
     /// The member joins its room, last of all members.
@@ -18,7 +18,7 @@ pub enum Command {
 }
 
 /// A call of an operator.
-#[derive(Clone, Copy, Debug, PartialEq, Eq)]
+#[derive(Clone, Copy)]
 pub enum Call {
     Apply(Command),
     /// Takes the last command back. It names the last accepted call of any kind.

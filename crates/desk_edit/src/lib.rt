@@ -7,8 +7,6 @@ mod editing;
 mod laws;
 mod planning;
 mod refusing;
-#[cfg(test)]
-mod tests;
 
 pub use self::command::{Call, Command, Refusal, Table};
 pub use self::laws::dependent_rows_go;

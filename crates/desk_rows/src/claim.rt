@@ -4,7 +4,7 @@ use crate::row::Key;
 use rtp_codec::Address;
 
 /// What no two rows of a desk may share.
-#[derive(Clone, Copy, Debug)]
+#[derive(Clone, Copy)]
 pub enum Claim {
     Key(Key),
     Address(Address),

@@ -14,8 +14,6 @@ mod row;
 mod rows;
 mod rules;
 mod staying;
-#[cfg(test)]
-mod tests;
 
 pub use self::claim::Claim;
 pub use self::edit::{Edit, Part, Placed, Replaced};

@@ -9,7 +9,7 @@ use crate::claim::Claim;
 use rtp_codec::Address;
 
 /// How a member's mix is encoded.
-#[derive(Clone, Copy, Debug, PartialEq, Eq)]
+#[derive(Clone, Copy, PartialEq, Eq)]
 pub enum Codec {
     /// G.711 mu-law, payload type 0 (RFC 3551 section 4.5.14).
     Pcmu,
@@ -18,21 +18,21 @@ pub enum Codec {
 }
 
 /// What a source sends.
-#[derive(Clone, Copy, Debug, PartialEq, Eq)]
+#[derive(Clone, Copy, PartialEq, Eq)]
 pub enum Media {
     Audio,
     Video,
 }
 
 /// A room, within which members hear and see each other.
-#[derive(Clone, Copy, Debug, PartialEq, Eq)]
+#[derive(Clone, Copy, PartialEq, Eq)]
 pub struct Room {
     pub room: u32,
 }
 
 /// A member of a room, with the address that it sends from and is sent to, and its mix: an
 /// outgoing audio stream.
-#[derive(Clone, Copy, Debug, PartialEq, Eq)]
+#[derive(Clone, Copy, PartialEq, Eq)]
 pub struct Member {
     pub member: u32,
     pub room: u32,
@@ -47,7 +47,7 @@ pub struct Member {
 }
 
 /// What a member sends under one SSRC.
-#[derive(Clone, Copy, Debug, PartialEq, Eq)]
+#[derive(Clone, Copy, PartialEq, Eq)]
 pub struct Source {
     pub ssrc: u32,
     pub member: u32,
@@ -55,7 +55,7 @@ pub struct Source {
 }
 
 /// An outgoing video stream of a member.
-#[derive(Clone, Copy, Debug, PartialEq, Eq)]
+#[derive(Clone, Copy, PartialEq, Eq)]
 pub struct Slot {
     pub out_ssrc: u32,
     pub member: u32,
@@ -68,14 +68,14 @@ pub struct Slot {
 }
 
 /// A slot's subscription to a video source.
-#[derive(Clone, Copy, Debug, PartialEq, Eq)]
+#[derive(Clone, Copy, PartialEq, Eq)]
 pub struct Sub {
     pub out_ssrc: u32,
     pub source: u32,
 }
 
 /// A row of any kind.
-#[derive(Clone, Copy, Debug, PartialEq, Eq)]
+#[derive(Clone, Copy, PartialEq, Eq)]
 pub enum Row {
     Room(Room),
     Member(Member),
@@ -85,7 +85,7 @@ pub enum Row {
 }
 
 /// What names a row among all rows.
-#[derive(Clone, Copy, Debug, PartialEq, Eq)]
+#[derive(Clone, Copy)]
 pub enum Key {
     Room(u32),
     Member(u32),
@@ -95,7 +95,7 @@ pub enum Key {
 }
 
 /// The kinds of row.
-#[derive(Clone, Copy, Debug, PartialEq, Eq)]
+#[derive(Clone, Copy)]
 pub enum Kind {
     Room,
     Member,

@@ -5,8 +5,6 @@ mod fault;
 mod history;
 mod laws;
 mod reversible;
-#[cfg(test)]
-mod tests;
 
 pub use self::fault::HistoryFault;
 pub use self::history::{History, LIMIT};
