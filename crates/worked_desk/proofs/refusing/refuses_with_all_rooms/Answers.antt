@@ -1,0 +1,10 @@
+use Rattle.std.proofs.Common.{refl}
+use Rattle.desk_edit.specs.Refusals.{refused, room_refused, member_refused, source_refused, slot_refused, removal_refused, sub_refused}
+use Rattle.worked_desk.proofs.Computed.{answers}
+use Rattle.worked_desk.specs.FullDesks.{all_rooms}
+use Rattle.worked_desk.specs.RefusalCases.{adding_to_64_rooms}
+use Rattle.worked_desk.proofs.refusing.refuses_with_all_rooms.Goals as goal
+
+pub returns : goal.returns
+unfolding refused room_refused member_refused source_refused slot_refused removal_refused sub_refused
+returns c = answers refused all_rooms adding_to_64_rooms refl c.requires c.refusal.ensures

@@ -1,0 +1,9 @@
+pub mod Rows
+pub mod TwoRooms
+pub mod Edits
+pub mod Commands
+pub mod FullDesks
+pub mod Cases
+pub mod FitCases
+pub mod RefusalCases
+pub mod DeskCases

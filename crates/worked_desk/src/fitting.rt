@@ -1,0 +1,37 @@
+//! Edits that fit a desk, and edits that do not: the cases of `specs/FitCases.antt`.
+
+ghost use Rattle.worked_desk.specs.Cases.{Answers};
+ghost use Rattle.worked_desk.specs.TwoRooms.{two_rooms};
+ghost use Rattle.worked_desk.specs.FullDesks.{all_rooms, all_audio};
+ghost use Rattle.std.specs.Prelude.{◌≡◌};
+ghost use Rattle.worked_desk.specs.FitCases.{taking, taking_members, putting_members, putting, putting_subs, replacing, moving, putting_a_65th_room, putting_a_65th_source};
+
+use desk_rows::{Edit, Rows};
+use undo_log::Reversible;
+
+pub fn fits(rows: &Rows, edit: &Edit) -> bool
+    requires { rows.now ≡ two_rooms }
+    ensures taking { Answers taking edit.now result }
+    ensures taking_members { Answers taking_members edit.now result }
+    ensures putting_members { Answers putting_members edit.now result }
+    ensures putting { Answers putting edit.now result }
+    ensures putting_subs { Answers putting_subs edit.now result }
+    ensures replacing { Answers replacing edit.now result }
+    ensures moving { Answers moving edit.now result }
+{
+    rows.fits(edit)
+}
+
+pub fn fits_among_64_rooms(rows: &Rows, edit: &Edit) -> bool
+    requires { rows.now ≡ all_rooms }
+    ensures { Answers putting_a_65th_room edit.now result }
+{
+    rows.fits(edit)
+}
+
+pub fn fits_beside_64_audio_sources(rows: &Rows, edit: &Edit) -> bool
+    requires { rows.now ≡ all_audio }
+    ensures { Answers putting_a_65th_source edit.now result }
+{
+    rows.fits(edit)
+}
