@@ -1,0 +1,154 @@
+//! Histories of a lamp, which is no desk: a state, edits and an allocator of their own.
+
+ghost use Rattle.std.specs.Prelude.{◌≡◌, true, not, refl, IfOk};
+ghost use Rattle.std.proofs.Common.{ap};
+ghost use Rattle.std.proofs.Math.Bool.{not-not};
+
+use linked_list_allocator::LocalHeap;
+use std::alloc::{AllocError, Allocator};
+use std::marker::Model;
+use std::test::Fail;
+use undo_log::{History, HistoryFault, LIMIT, Reversible};
+
+/// Who switched a lamp, by a name, so that a copy wants memory.
+#[derive(Drop)]
+struct Switch<A: Allocator + Copy> {
+    name: Vec<u8, A>,
+}
+
+impl<A: Allocator + Copy> Model for Switch<A> {
+    ghost use Rattle.std.specs.Prelude.{ℕ, List};
+
+    ghost Value = { List ℕ };
+
+    ghost view = { λ switch. switch.name.items };
+}
+
+fn switched_by<A: Allocator + Copy>(alloc: A, name: &[u8]) -> Result<Switch<A>, AllocError>
+    ensures { IfOk result (λ edit. edit ≡ name.now) }
+{
+    Ok(Switch {
+        name: Vec::from_slice(alloc, name)?,
+    })
+}
+
+/// A lamp that each edit switches over.
+#[derive(Drop)]
+struct Lamp<A: Allocator + Copy> {
+    is_on: bool,
+    last: Option<Switch<A>>,
+}
+
+impl<A: Allocator + Copy> Reversible for Lamp<A> {
+    type Edit = Switch<A>;
+
+    type Alloc = A;
+
+    ghost can_absorb = { λ lamp edit. true };
+
+    ghost after = { λ lamp edit. record lamp { is_on = not lamp.is_on } };
+
+    ghost inverse = { λ edit. edit };
+
+    fn fits(&self, _edit: &Switch<A>) -> bool {
+        true
+    }
+
+    fn absorb(&mut self, _edit: &Switch<A>) {
+        self.is_on = !self.is_on;
+    }
+
+    fn invert(edit: Switch<A>) -> Switch<A> {
+        edit
+    }
+
+    fn copy(alloc: A, edit: &Switch<A>) -> Result<Switch<A>, AllocError> {
+        switched_by(alloc, &edit.name)
+    }
+
+    ghost inverse_twice = { λ edit. refl };
+
+    ghost inverse_fits = { λ lamp edit fits. refl };
+
+    ghost undoes = { λ lamp edit fits. ap (λ is_on. record lamp { is_on = is_on }) (not-not lamp.is_on) };
+
+    ghost stays = { λ lamp edit fits. cc };
+}
+
+fn dark<A: Allocator + Copy>(log: A) -> History<Lamp<A>> {
+    let lamp = Lamp {
+        is_on: false,
+        last: None,
+    };
+    History::new(log, lamp)
+}
+
+/// As many edits are done as there may be, some are taken back, and the last is asked for: with
+/// ample memory nothing is refused for want of it, however long the two lists are.
+#[test]
+fn a_full_log_is_filled_and_undone(rt: HostRuntime) -> Result<(), Fail> {
+    let alloc = rt.alloc();
+    let mut history = dark(alloc);
+    for _ in 0..LIMIT {
+        history.push(switched_by(alloc, b"")?)?;
+    }
+    assert!(rt; history.push(switched_by(alloc, b"")?) == Err(HistoryFault::LogFull));
+    for _ in 0..5001u32 {
+        history.undo()?;
+    }
+    assert!(rt; history.state().is_on && history.undone_len() == 5001);
+    assert!(rt; history.undo_edit(alloc).is_ok());
+    history.push(switched_by(alloc, b"hall")?)?;
+    assert!(rt; history.undo_edit(alloc)?.name.as_slice() == b"hall".as_slice());
+    Ok(())
+}
+
+/// The fault of a first push over this log, and how many edits are done then.
+fn push_over<'a>(
+    ample: &'a LocalHeap,
+    log: &'a LocalHeap,
+) -> Result<(Option<HistoryFault>, usize), Fail> {
+    let mut history = dark(log);
+    let fault = history.push(switched_by(ample, b"hall")?).err();
+    Ok((fault, history.done_len()))
+}
+
+/// Logs that grow by 16 octets refuse the growth of each of the two lists, until one is ample.
+#[test]
+fn a_refused_growth_changes_nothing(rt: HostRuntime) -> Result<(), Fail> {
+    let ample = LocalHeap::new(rt.alloc(), 1 << 12)?;
+    let mut refused = 0usize;
+    for size in 1..64usize {
+        let log = LocalHeap::new(rt.alloc(), 16 * size)?;
+        let (fault, done) = push_over(&ample, &log)?;
+        if fault.is_none() {
+            break;
+        }
+        assert!(rt; fault == Some(HistoryFault::OutOfMemory) && done == 0);
+        refused = refused.saturating_add(1);
+    }
+    assert!(rt; refused > 1 && refused < 63, "refused {refused} times");
+    Ok(())
+}
+
+/// The fault of a copy, over this heap, of the edit that an undo would absorb.
+fn undo_edit_over<'a>(
+    ample: &'a LocalHeap,
+    heap: &'a LocalHeap,
+) -> Result<Option<HistoryFault>, Fail> {
+    let _held = Box::new(heap, 0u8)?;
+    let mut history = dark(ample);
+    history.push(switched_by(ample, b"hall")?)?;
+    Ok(history.undo_edit(heap).err())
+}
+
+#[test]
+fn a_copy_of_an_edit_can_be_refused(rt: HostRuntime) -> Result<(), Fail> {
+    let ample = LocalHeap::new(rt.alloc(), 1 << 12)?;
+    let small = LocalHeap::new(rt.alloc(), 16)?;
+    let fault = undo_edit_over(&ample, &small)?;
+    assert!(rt;
+        fault == Some(HistoryFault::OutOfMemory) && undo_edit_over(&ample, &ample)? == None
+    );
+    Ok(())
+}

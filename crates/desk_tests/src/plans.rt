@@ -1,0 +1,107 @@
+//! Plans over small heaps.
+
+use desk_edit::{Command, Refusal, plan};
+use desk_rows::{Codec, Media, Member, Room, Rows, Slot, Source, Sub};
+use linked_list_allocator::LocalHeap;
+use rtp_codec::Address;
+use std::test::Fail;
+use undo_log::Reversible;
+
+fn member(member: u32, port: u16) -> Command {
+    Command::AddMember(Member {
+        member,
+        room: 1,
+        address: Address {
+            ip: [10, 0, 0, 1],
+            port,
+        },
+        codec: Codec::Pcmu,
+        out_audio: port as u32,
+        first_seq: 0,
+        first_ts: 0,
+    })
+}
+
+fn source(ssrc: u32) -> Command {
+    Command::AddSource(Source {
+        ssrc,
+        member: 10,
+        media: Media::Video,
+    })
+}
+
+fn slot(out_ssrc: u32, index: u32) -> Command {
+    Command::AddSlot(Slot {
+        out_ssrc,
+        member: 10,
+        index,
+        first_seq: 0,
+        first_ts: 0,
+    })
+}
+
+fn subscribe(source: u32) -> Command {
+    Command::Subscribe(Sub {
+        out_ssrc: 501,
+        source,
+    })
+}
+
+/// A desk with two sources and a slot that has the first.
+fn small_desk<'a>(ample: &'a LocalHeap) -> Result<Rows<&'a LocalHeap>, Fail> {
+    let mut rows = Rows::new(ample, 1)?;
+    let commands = [
+        Command::AddRoom(Room { room: 1 }),
+        member(10, 5000),
+        source(101),
+        source(102),
+        slot(501, 0),
+        subscribe(101),
+    ];
+    for command in commands {
+        let edit = plan(ample, &rows, &command).map_err(|_| Fail::from("refused"))?;
+        rows.absorb(&edit);
+    }
+    Ok(rows)
+}
+
+/// What a plan over this heap answers, with its first octets held.
+fn plan_over<'a>(
+    ample: &'a LocalHeap,
+    heap: &'a LocalHeap,
+    command: Command,
+) -> Result<Option<Refusal>, Fail> {
+    let _held = Box::new(heap, 0u8)?;
+    Ok(plan(heap, &small_desk(ample)?, &command).err())
+}
+
+/// Heaps that grow by 16 octets refuse each allocation in turn, until one is ample; and a command
+/// that is refused is told so without any memory.
+#[test]
+fn a_plan_tells_want_of_memory_last(rt: HostRuntime) -> Result<(), Fail> {
+    let ample = LocalHeap::new(rt.alloc(), 1 << 21)?;
+    let cases = [
+        Command::AddRoom(Room { room: 2 }),
+        member(11, 5001),
+        source(103),
+        slot(502, 1),
+        Command::RemoveSlot { out_ssrc: 501 },
+        subscribe(102),
+    ];
+    for command in cases {
+        let mut refused = 0usize;
+        for size in 1..64usize {
+            let heap = LocalHeap::new(rt.alloc(), 16 * size)?;
+            let Some(why) = plan_over(&ample, &heap, command)? else {
+                break;
+            };
+            assert!(rt; why == Refusal::OutOfMemory);
+            refused = refused.saturating_add(1);
+        }
+        assert!(rt; refused > 0 && refused < 63, "refused {refused} times");
+    }
+    let none = LocalHeap::new(rt.alloc(), 16)?;
+    let why = plan_over(&ample, &none, source(101))?;
+    assert!(rt; why == Some(Refusal::Exists) && ample.used() == 0);
+    Ok(())
+}
