@@ -1,5 +1,9 @@
 //! Why a history refuses.
 
+ghost use Rattle.std.specs.Prelude.{◌≡◌};
+ghost use Rattle.undo_log.specs.declared.fault.HistoryFault.TheVariants.{OutOfMemory};
+
+use std::alloc::AllocError;
 use thiserror::Error;
 
 /// Why a history refuses. The first that holds is reported.
@@ -16,4 +20,12 @@ pub enum HistoryFault {
     LogFull,
     #[error("out of memory")]
     OutOfMemory,
+}
+
+impl From<AllocError> for HistoryFault {
+    ghost from_gives = { λ _ e. e ≡ OutOfMemory };
+
+    fn from(_error: AllocError) -> HistoryFault {
+        HistoryFault::OutOfMemory
+    }
 }

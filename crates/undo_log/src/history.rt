@@ -1,7 +1,7 @@
 //! The history of a state.
 
 ghost use Rattle.std.specs.Prelude.{◌≡◌, ◌≢◌, ◌↔◌, ◌+◌, ◌-◌, ◌<◌, ◌≤◌, true, List, [], ◌∷◌, ◌++◌, length, reverse, min, vec_len, vec_capacity, IfOk, ◌⊎◌, OnOk, OnErr};
-ghost use Rattle.undo_log.specs.Timeline.{Timeline, IsTimeline, HasRoom, rewound};
+ghost use Rattle.undo_log.specs.Timeline.{Timeline, IsTimeline, limit, rewound};
 
 use crate::fault::HistoryFault;
 use crate::reversible::Reversible;
@@ -11,7 +11,11 @@ use std::marker::Model;
 /// The number of edits that can be done.
 pub const LIMIT: usize = 1_048_576;
 
-/// A state with the edits that led to it.
+/// A state with the edits that led to it, and those that were undone since the last was pushed.
+///
+/// Contracts see a timeline. Its start isn't kept: it is the state that taking back all that is done
+/// gives. So what carries the promise is that no call changes the start, and that the edits that are
+/// done lead from it to the state (`known`).
 #[derive(Drop)]
 pub struct History<S: Reversible> {
     state: S,
@@ -32,7 +36,9 @@ impl<S: Reversible> Model for History<S> {
 
     ghost invariant = { λ h.
         IsTimeline S.can_absorb S.after (rewound S.after S.inverse h.state (reverse h.done.items)) h.state h.done.items h.undone.items
-        × HasRoom (vec_len h.done) (vec_len h.undone) (vec_capacity h.done) (vec_capacity h.undone) 1048576 };
+        × (vec_len h.done + vec_len h.undone ≤ limit)
+        × (vec_len h.done + vec_len h.undone ≤ vec_capacity h.done)
+        × (vec_len h.done + vec_len h.undone ≤ vec_capacity h.undone) };
 }
 
 impl<S: Reversible> History<S> {
@@ -50,11 +56,12 @@ impl<S: Reversible> History<S> {
     }
 
     /// The edits that are done lead from the start to the state, and those that were undone lead
-    /// on from there. Taking back all that is done gives the start.
+    /// on from there. Taking back all that is done gives the start, by what the start is.
     pub fn known(&self)
         ensures leads { IsTimeline S.can_absorb S.after self.now.start self.now.state self.now.done self.now.undone }
         ensures undoing_all { rewound S.after S.inverse self.now.state (reverse self.now.done) ≡ self.now.start }
     {
+        // What holds of every history is known where a field of it is read.
         let _done = &self.done;
     }
 
@@ -79,7 +86,7 @@ impl<S: Reversible> History<S> {
     /// Makes room for one more edit.
     pub fn reserve(&mut self) -> Result<(), HistoryFault>
         ensures ok { OnOk result (0 < self.new.room) }
-        ensures full { result ≡ Err HistoryFault.LogFull ↔ (length self.old.done ≡ LIMIT) }
+        ensures full { result ≡ Err HistoryFault.LogFull ↔ (length self.old.done ≡ limit) }
         ensures fault { OnErr result ((result ≡ Err HistoryFault.LogFull) ⊎ (result ≡ Err HistoryFault.OutOfMemory)) }
         ensures reserved { 0 < self.old.room → result ≢ Err HistoryFault.OutOfMemory }
         ensures room { self.old.room ≤ self.new.room }
@@ -89,13 +96,9 @@ impl<S: Reversible> History<S> {
             return Err(HistoryFault::LogFull);
         }
         let undone = self.undone.len();
-        if self.done.reserve(undone + 1).is_err() {
-            return Err(HistoryFault::OutOfMemory);
-        }
+        self.done.reserve(undone + 1)?;
         let done = self.done.len();
-        if self.undone.reserve(done + 1).is_err() {
-            return Err(HistoryFault::OutOfMemory);
-        }
+        self.undone.reserve(done + 1)?;
         Ok(())
     }
 
@@ -106,7 +109,7 @@ impl<S: Reversible> History<S> {
             (self.new.state ≡ S.after self.old.state edit)
             × (self.new.done ≡ self.old.done ++ edit ∷ [])
             × (self.new.undone ≡ [])) }
-        ensures full { result ≡ Err HistoryFault.LogFull ↔ (length self.old.done ≡ LIMIT) }
+        ensures full { result ≡ Err HistoryFault.LogFull ↔ (length self.old.done ≡ limit) }
         ensures fault { OnErr result ((result ≡ Err HistoryFault.LogFull) ⊎ (result ≡ Err HistoryFault.OutOfMemory)) }
         ensures reserved { 0 < self.old.room → result ≢ Err HistoryFault.OutOfMemory }
         ensures err { OnErr result (self.new ≡ record self.old { room = self.new.room }) }
@@ -151,9 +154,6 @@ impl<S: Reversible> History<S> {
         let Some(edit) = self.done.last() else {
             return Err(HistoryFault::NothingToUndo);
         };
-        match S::copy(alloc, edit) {
-            Ok(edit) => Ok(S::invert(edit)),
-            Err(_) => Err(HistoryFault::OutOfMemory),
-        }
+        Ok(S::invert(S::copy(alloc, edit)?))
     }
 }

@@ -11,4 +11,6 @@ invariant_of-self-2 g c =
       undone_once g.S.Reversible.can_absorb g.S.Reversible.after g.S.Reversible.inverse g.met.S.Reversible.inverse_fits g.met.S.Reversible.undoes
           c.self.inside.state c.pop.new.self.items c.self.inside.undone.items c.in-Some.edit is,
       grind (arith, c.in-Some.ensures.len),
+      grind (arith, c.in-Some.ensures.len),
+      grind (arith, c.in-Some.ensures.len),
     )
