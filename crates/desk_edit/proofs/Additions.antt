@@ -15,7 +15,7 @@ use Rattle.desk_rows.specs.declared.row.Key.{Key}
 use Rattle.desk_rows.specs.declared.row.Key.TheVariants as keys
 use Rattle.desk_rows.specs.declared.row.Kind.TheVariants as kinds
 use Rattle.desk_rows.specs.declared.claim.Claim.TheVariants as claims
-use Rattle.desk_rows.specs.declared.limits.TheConstants.{MAX_ROOMS, MAX_SOURCES, MAX_SLOTS, MAX_ROOM_AUDIO, MAX_INDEX}
+use Rattle.desk_rows.specs.Limits.{room_limit, source_limit, slot_limit, room_audio_limit, index_limit}
 use Rattle.desk_rows.specs.Row.{key_of, has_key, names, same_row, same_media}
 use Rattle.desk_rows.specs.Equal.{row_itself}
 use Rattle.desk_rows.specs.Kinds.{is_of}
@@ -123,7 +123,7 @@ unfolding room_refused
 room_can_come d r g h =
     let cases = none_holds (room_cases d r.room) h in
     let w = within_parts d g in
-    let count = below MAX_ROOMS (count_of kinds.Room d) cases.1.0 in
+    let count = below room_limit (count_of kinds.Room d) cases.1.0 in
     record {
       plain = refl;
       named = refl;
@@ -134,7 +134,7 @@ room_can_come d r g h =
       audio = λ room few. omega (arith, few);
       obeys = (let n = count_by-with_row (is_audio_in d r.room) (Room r) d.others in
           let none = no_audio d g r.room cases.0 in
-          let few : count_by (is_audio_in d r.room) (with_row (Room r) d.others) ≤ 64 = omega (arith, n, none) in
+          let few : count_by (is_audio_in d r.room) (with_row (Room r) d.others) ≤ room_audio_limit = omega (arith, n, none) in
           most _ _ few);
     } where
       most : (m n : ℕ) → m ≤ n → nat_le m n ≡ true
@@ -146,7 +146,7 @@ source_can_come d s g h =
     let cases = none_holds (source_cases d s) h in
     let ssrc = neither (nat_eq s.ssrc d.bridge_ssrc) (is_claimed d (claims.Ssrc s.ssrc)) cases.1.1.0 in
     let w = within_parts d g in
-    let count = below MAX_SOURCES (count_of kinds.Source d) cases.1.1.1.0 in
+    let count = below source_limit (count_of kinds.Source d) cases.1.1.1.0 in
     record {
       plain = refl;
       named = and_from _ _ (not_false (has d (keys.Member s.member)) cases.1.0) refl;
@@ -165,19 +165,19 @@ source_can_come d s g h =
       both_false true b h e = h
       both_false false b h e = absurd (true_false (sym e))
 
-      one_more : (room : ℕ) → count_by (is_audio_in d room) d.others ≤ 64 → (is_audio_in d room (Source s) ≡ true) ⊎ (is_audio_in d room (Source s) ≡ false) → fills_room d s ≡ false →
-          cond (is_audio_in d room (Source s)) 1 0 + count_by (is_audio_in d room) d.others ≤ 64
+      one_more : (room : ℕ) → count_by (is_audio_in d room) d.others ≤ room_audio_limit → (is_audio_in d room (Source s) ≡ true) ⊎ (is_audio_in d room (Source s) ≡ false) → fills_room d s ≡ false →
+          cond (is_audio_in d room (Source s)) 1 0 + count_by (is_audio_in d room) d.others ≤ room_audio_limit
       one_more room few (inr e) fills = let z : ◌≡◌ {A = ℕ} (cond (is_audio_in d room (Source s)) 1 0) 0 = ap (λ b. cond b 1 0) e in omega (arith, few, z)
       one_more room few (inl e) fills =
           let z : ◌≡◌ {A = ℕ} (cond (is_audio_in d room (Source s)) 1 0) 1 = ap (λ b. cond b 1 0) e in
           let both = and_parts (same_media s.media Audio) (is_member_in d s.member room) e in
           let there = room_there d room (room_of_member d g s.member room both.1) in
           let no_full = both_false (same_media s.media Audio) (list_any (is_full_room d s.member) d.others) fills both.0 in
-          elim (cases_Bool (nat_le MAX_ROOM_AUDIO (count_by (is_audio_in d room) d.others))) [
+          elim (cases_Bool (nat_le room_audio_limit (count_by (is_audio_in d room) d.others))) [
             | inl full ↦
                 let some = count_some (is_full_room d s.member) d.others (any_counts (is_full_room d s.member) d.others (Room record { room = room }) there (and_from _ _ both.1 full)) in
                 absurd (true_false (sym some ∙ no_full))
-            | inr left ↦ let l = below MAX_ROOM_AUDIO (count_by (is_audio_in d room) d.others) left in omega (arith, z, l)
+            | inr left ↦ let l = below room_audio_limit (count_by (is_audio_in d room) d.others) left in omega (arith, z, l)
           ]
 
 pub slot_can_come : (d : Desk) (s : SlotRow) → good d ≡ true → slot_refused d s ≡ None → CanCome d (Slot s)
@@ -187,7 +187,7 @@ slot_can_come d s g h =
     let keys_free = neither (has d (keys.Slot s.out_ssrc)) (is_claimed d (claims.Place s.member s.index)) cases.0 in
     let ssrc = neither (nat_eq s.out_ssrc d.bridge_ssrc) (is_claimed d (claims.Ssrc s.out_ssrc)) cases.1.1.0 in
     let w = within_parts d g in
-    let count = below MAX_SLOTS (count_of kinds.Slot d) cases.1.1.1.1.0 in
+    let count = below slot_limit (count_of kinds.Slot d) cases.1.1.1.1.0 in
     record {
       plain = refl;
       named = and_from _ _ (not_false (has d (keys.Member s.member)) cases.1.0) refl;
@@ -198,5 +198,5 @@ slot_can_come d s g h =
       sources = omega (arith, w.sources);
       slots = omega (arith, count);
       audio = λ room few. omega (arith, few);
-      obeys = up_to MAX_INDEX s.index cases.1.1.1.0;
+      obeys = up_to index_limit s.index cases.1.1.1.0;
     }

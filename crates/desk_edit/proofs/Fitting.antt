@@ -12,7 +12,7 @@ use Rattle.desk_rows.specs.declared.row.Key.TheVariants as keys
 use Rattle.desk_rows.specs.declared.row.Kind.{Kind}
 use Rattle.desk_rows.specs.declared.row.Kind.TheVariants as kinds
 use Rattle.desk_rows.specs.declared.claim.Claim.{Claim}
-use Rattle.desk_rows.specs.declared.limits.TheConstants.{MAX_ROOMS, MAX_MEMBERS, MAX_SOURCES, MAX_SLOTS, MAX_ROOM_AUDIO}
+use Rattle.desk_rows.specs.Limits.{room_limit, member_limit, source_limit, slot_limit, room_audio_limit}
 use Rattle.desk_rows.specs.Row.{key_of, has_key, names, makes, claims_of}
 use Rattle.desk_rows.specs.Kinds.{is_of}
 use Rattle.desk_rows.specs.Order.{is_in, without_rows}
@@ -46,10 +46,10 @@ fits_carried d e g c =
 -- ---- limits
 
 pub record Within (d : Desk) : Type 0 where
-  pub rooms : count_of kinds.Room d ≤ 64
-  pub members : count_of kinds.Member d ≤ 1024
-  pub sources : count_of kinds.Source d ≤ 2048
-  pub slots : count_of kinds.Slot d ≤ 4096
+  pub rooms : count_of kinds.Room d ≤ room_limit
+  pub members : count_of kinds.Member d ≤ member_limit
+  pub sources : count_of kinds.Source d ≤ source_limit
+  pub slots : count_of kinds.Slot d ≤ slot_limit
 
 at_most : (m n : ℕ) → nat_le m n ≡ true → m ≤ n
 at_most m n h = grind (arith, h)
@@ -59,9 +59,9 @@ most m n h = grind (arith, h)
 
 pub within_parts : (d : Desk) → good d ≡ true → Within d
 within_parts d g =
-    let both = and_parts (nat_le (count_of kinds.Room d) MAX_ROOMS && nat_le (count_of kinds.Member d) MAX_MEMBERS) (nat_le (count_of kinds.Source d) MAX_SOURCES && nat_le (count_of kinds.Slot d) MAX_SLOTS) (good_parts d g).within in
-    let one = and_parts (nat_le (count_of kinds.Room d) MAX_ROOMS) (nat_le (count_of kinds.Member d) MAX_MEMBERS) both.0 in
-    let two = and_parts (nat_le (count_of kinds.Source d) MAX_SOURCES) (nat_le (count_of kinds.Slot d) MAX_SLOTS) both.1 in
+    let both = and_parts (nat_le (count_of kinds.Room d) room_limit && nat_le (count_of kinds.Member d) member_limit) (nat_le (count_of kinds.Source d) source_limit && nat_le (count_of kinds.Slot d) slot_limit) (good_parts d g).within in
+    let one = and_parts (nat_le (count_of kinds.Room d) room_limit) (nat_le (count_of kinds.Member d) member_limit) both.0 in
+    let two = and_parts (nat_le (count_of kinds.Source d) source_limit) (nat_le (count_of kinds.Slot d) slot_limit) both.1 in
     record { rooms = at_most _ _ one.0; members = at_most _ _ one.1; sources = at_most _ _ two.0; slots = at_most _ _ two.1 }
 
 pub within_from : (d : Desk) → Within d → is_within_limits d ≡ true

@@ -13,7 +13,7 @@ use Rattle.desk_rows.specs.declared.row.Media.TheVariants.{Audio, Video}
 use Rattle.desk_rows.specs.declared.row.Key.TheVariants as keys
 use Rattle.desk_rows.specs.declared.row.Kind.TheVariants as kinds
 use Rattle.desk_rows.specs.declared.claim.Claim.TheVariants as claims
-use Rattle.desk_rows.specs.declared.limits.TheConstants.{MAX_MEMBERS}
+use Rattle.desk_rows.specs.Limits.{member_limit}
 use Rattle.desk_rows.specs.Row.{has_key, names, makes, claims_of, same_media}
 use Rattle.desk_rows.specs.Equal.{row_itself}
 use Rattle.desk_rows.specs.Kinds.{is_of}
@@ -85,7 +85,7 @@ join_carries d m g h =
     let cases = none_holds (member_cases d m) h in
     let keys_free = neither (has d (keys.Member m.member)) (is_claimed d (claims.Address m.address)) cases.0 in
     let ssrc = neither (nat_eq m.out_audio d.bridge_ssrc) (is_claimed d (claims.Ssrc m.out_audio)) cases.1.1.0 in
-    let count = below MAX_MEMBERS (count_of kinds.Member d) cases.1.1.1.1.0 in
+    let count = below member_limit (count_of kinds.Member d) cases.1.1.1.1.0 in
     let n = length d.members in
     let e = puts_member n m in
     let d' = exchanged d e in

@@ -15,6 +15,7 @@ use Rattle.desk_rows.specs.Order.{in_order, is_in, with_row, without_rows}
 use Rattle.desk_rows.specs.OrderLaws.{at_each, from_each, filter_all, is_in-filter, count_by-with_row}
 use Rattle.desk_rows.specs.PlaceLaws.{count_next}
 use Rattle.desk_rows.specs.Edit.{EditOf, outs, ins}
+use Rattle.desk_rows.specs.Limits.{room_limit, source_limit, slot_limit, room_audio_limit}
 use Rattle.desk_rows.specs.Desk.{Desk, good, rows_of, count_of, is_within_limits, is_named_there, is_made_once, is_bridges, is_alone, is_audio_in, obeys}
 use Rattle.desk_rows.specs.Exchange.{exchanged}
 use Rattle.desk_rows.specs.Judged.{is_sound, stays_sound}
@@ -31,10 +32,10 @@ pub record CanCome (d : Desk) (r : Row) : Type 0 where
   pub plain : not (is_of kinds.Member r) ≡ true
   pub named : list_all (has d) (names r) ≡ true
   pub free : list_all (λ c. not (is_claimed d c) && not (is_bridges d c)) (claims_of r) ≡ true
-  pub rooms : count_of kinds.Room d + cond (is_of kinds.Room r) 1 0 ≤ 64
-  pub sources : count_of kinds.Source d + cond (is_of kinds.Source r) 1 0 ≤ 2048
-  pub slots : count_of kinds.Slot d + cond (is_of kinds.Slot r) 1 0 ≤ 4096
-  pub audio : (room : ℕ) → count_by (is_audio_in d room) d.others ≤ 64 → cond (is_audio_in d room r) 1 0 + count_by (is_audio_in d room) d.others ≤ 64
+  pub rooms : count_of kinds.Room d + cond (is_of kinds.Room r) 1 0 ≤ room_limit
+  pub sources : count_of kinds.Source d + cond (is_of kinds.Source r) 1 0 ≤ source_limit
+  pub slots : count_of kinds.Slot d + cond (is_of kinds.Slot r) 1 0 ≤ slot_limit
+  pub audio : (room : ℕ) → count_by (is_audio_in d room) d.others ≤ room_audio_limit → cond (is_audio_in d room r) 1 0 + count_by (is_audio_in d room) d.others ≤ room_audio_limit
   pub obeys : obeys (with_other d r) r ≡ true
 
 pub put_is : (d : Desk) (r : Row) → exchanged d (puts_other r) ≡ with_other d r
@@ -79,7 +80,7 @@ stays : (d : Desk) (r : Row) → good d ≡ true → CanCome d r → (x : Row) �
 stays d r g c (Room x) one =
     let n = count_by-with_row (is_audio_in d x.room) r d.others in
     let few = c.audio x.room (at_most _ _ (at_each (obeys d) (rows_of d) (Room x) (good_parts d g).obey one)) in
-    stays_asked false d (puts_other r) (Room x) refl (ap (λ desk. obeys desk (Room x)) (put_is d r) ∙ most (count_by (is_audio_in d x.room) (with_row r d.others)) 64 (omega (arith, n, few)))
+    stays_asked false d (puts_other r) (Room x) refl (ap (λ desk. obeys desk (Room x)) (put_is d r) ∙ most (count_by (is_audio_in d x.room) (with_row r d.others)) room_audio_limit (omega (arith, n, few)))
 stays d r g c (Member x) one = stays_calm false d (puts_other r) (Member x) refl refl
 stays d r g c (Source x) one = stays_calm false d (puts_other r) (Source x) refl refl
 stays d r g c (Slot x) one = stays_calm false d (puts_other r) (Slot x) refl refl

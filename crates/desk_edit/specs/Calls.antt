@@ -1,6 +1,5 @@
 -- The history of calls: which commands are done, which are undone, and how each call is answered.
 use Rattle.std.specs.Prelude.{ℕ, ◌+◌, not, nat_eq, List, [], ◌∷◌, ◌++◌, length, fold, Option, Some, None, if◌then◌else◌}
-use Rattle.undo_log.specs.declared.history.TheConstants.{LIMIT}
 use Rattle.desk_rows.specs.Desk.{Desk}
 use Rattle.desk_edit.specs.declared.command.Command.{Command}
 use Rattle.desk_edit.specs.declared.command.Call.{Call}
@@ -26,10 +25,14 @@ no_calls start = record { start = start; done = []; undone = []; accepted = 0 }
 abbrev pub desk_now : CallHistory → Desk
 desk_now h = fold desk_after h.start h.done
 
+-- so many calls can be accepted: 2 ^ 20 (own)
+abbrev pub call_limit : ℕ
+call_limit = 1048576
+
 -- what stands against a command first, or else that the log is full
 abbrev pub or_log_full : Option Refusal → ℕ → Option Refusal
 or_log_full (Some why) version = Some why
-or_log_full None version = if nat_eq version LIMIT then Some LogFull else None
+or_log_full None version = if nat_eq version call_limit then Some LogFull else None
 
 -- the first reason against a call, want of memory apart, where so many calls were accepted and so many commands are done: of a command its own; an undo has to name the last accepted call, and there has to be something to undo
 abbrev pub refusal_at : ℕ → Desk → ℕ → Call → Option Refusal
@@ -37,7 +40,7 @@ refusal_at version d done (Apply command) = or_log_full (refused d command) vers
 refusal_at version d done (Undo last) =
     if not (nat_eq last version) then Some (NewerCommand version)
     else (if nat_eq done 0 then Some NothingToUndo
-    else (if nat_eq version LIMIT then Some LogFull else None))
+    else (if nat_eq version call_limit then Some LogFull else None))
 
 -- the first reason against a call after these
 abbrev pub refusal_of : CallHistory → Call → Option Refusal

@@ -13,7 +13,7 @@ use Rattle.desk_rows.specs.declared.row.Key.TheVariants as keys
 use Rattle.desk_rows.specs.declared.row.Kind.TheVariants as kinds
 use Rattle.desk_rows.specs.declared.claim.Claim.{Claim}
 use Rattle.desk_rows.specs.declared.claim.Claim.TheVariants as claims
-use Rattle.desk_rows.specs.declared.limits.TheConstants.{MAX_ROOMS, MAX_MEMBERS, MAX_SOURCES, MAX_SLOTS, MAX_ROOM_AUDIO, MAX_INDEX}
+use Rattle.desk_rows.specs.Limits.{room_limit, member_limit, source_limit, slot_limit, room_audio_limit, index_limit}
 use Rattle.desk_rows.specs.Row.{has_key, makes, same_media}
 use Rattle.desk_rows.specs.Desk.{Desk, rows_of, holds, count_of, is_member_in, is_audio_in, is_slot_beside}
 use Rattle.desk_edit.specs.declared.command.Command.{Command}
@@ -41,7 +41,7 @@ sends_video ssrc _ = false
 
 -- the room of this member has all the audio sources that it may have
 abbrev pub is_full_room : Desk → ℕ → Row → Bool
-is_full_room d member (rows.Room r) = is_member_in d member r.room && nat_le MAX_ROOM_AUDIO (count_by (is_audio_in d r.room) d.others)
+is_full_room d member (rows.Room r) = is_member_in d member r.room && nat_le room_audio_limit (count_by (is_audio_in d r.room) d.others)
 is_full_room d member _ = false
 
 -- a source of audio would be one too many in its member's room
@@ -57,7 +57,7 @@ first_case (c ∷ cs) = if c.0 then Some c.1 else first_case cs
 abbrev pub room_cases : Desk → ℕ → List (Bool × Refusal)
 room_cases d room =
     (has d (keys.Room room), refusals.Exists)
-    ∷ (nat_le MAX_ROOMS (count_of kinds.Room d), refusals.Full tables.Rooms MAX_ROOMS)
+    ∷ (nat_le room_limit (count_of kinds.Room d), refusals.Full tables.Rooms room_limit)
     ∷ []
 
 -- the first of them
@@ -71,21 +71,21 @@ member_cases d m =
     ∷ (not (has d (keys.Room m.room)), refusals.NoRoom)
     ∷ (ssrc_is_taken d m.out_audio, refusals.SsrcTaken)
     ∷ (nat_eq m.address.port 0, refusals.BadValue)
-    ∷ (nat_le MAX_MEMBERS (count_of kinds.Member d), refusals.Full tables.Members MAX_MEMBERS)
+    ∷ (nat_le member_limit (count_of kinds.Member d), refusals.Full tables.Members member_limit)
     ∷ []
 
 -- the first of them
 unfoldable pub member_refused : Desk → Member → Option Refusal
 member_refused d m = first_case (member_cases d m)
 
--- against a source, by number: a source of its SSRC is there; its member is missing; its SSRC is the bridge's or an outgoing one; there are as many sources as may be; its room has all its audio
+-- against a source, by number: a source of its SSRC is there; its member is missing; its SSRC is the bridge's or an outgoing one (a source's was told before); there are as many sources as may be; its room has all its audio
 abbrev pub source_cases : Desk → Source → List (Bool × Refusal)
 source_cases d s =
     (has d (keys.Source s.ssrc), refusals.Exists)
     ∷ (not (has d (keys.Member s.member)), refusals.NoMember)
     ∷ (ssrc_is_taken d s.ssrc, refusals.SsrcTaken)
-    ∷ (nat_le MAX_SOURCES (count_of kinds.Source d), refusals.Full tables.Sources MAX_SOURCES)
-    ∷ (fills_room d s, refusals.Full tables.RoomAudio MAX_ROOM_AUDIO)
+    ∷ (nat_le source_limit (count_of kinds.Source d), refusals.Full tables.Sources source_limit)
+    ∷ (fills_room d s, refusals.Full tables.RoomAudio room_audio_limit)
     ∷ []
 
 -- the first of them
@@ -98,8 +98,8 @@ slot_cases d s =
     (has d (keys.Slot s.out_ssrc) || is_claimed d (claims.Place s.member s.index), refusals.Exists)
     ∷ (not (has d (keys.Member s.member)), refusals.NoMember)
     ∷ (ssrc_is_taken d s.out_ssrc, refusals.SsrcTaken)
-    ∷ (nat_lt MAX_INDEX s.index, refusals.BadValue)
-    ∷ (nat_le MAX_SLOTS (count_of kinds.Slot d), refusals.Full tables.Slots MAX_SLOTS)
+    ∷ (nat_lt index_limit s.index, refusals.BadValue)
+    ∷ (nat_le slot_limit (count_of kinds.Slot d), refusals.Full tables.Slots slot_limit)
     ∷ []
 
 -- the first of them

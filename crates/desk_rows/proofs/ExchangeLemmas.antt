@@ -10,7 +10,6 @@ use Rattle.desk_rows.specs.declared.row.Key.{Key}
 use Rattle.desk_rows.specs.declared.row.Key.TheVariants as keys
 use Rattle.desk_rows.specs.declared.row.Kind.TheVariants as kinds
 use Rattle.desk_rows.specs.declared.edit.Placed.{Placed}
-use Rattle.desk_rows.specs.declared.limits.TheConstants.{MAX_ROOMS, MAX_MEMBERS, MAX_SOURCES, MAX_SLOTS}
 use Rattle.desk_rows.specs.Row.{key_of, has_key, same_key}
 use Rattle.desk_rows.specs.Equal.{key_itself}
 use Rattle.desk_rows.specs.Kinds.{is_of}
@@ -19,6 +18,7 @@ use Rattle.desk_rows.specs.OrderLaws.{at_each, from_each, is_in-filter, in_order
 use Rattle.desk_rows.specs.Places.{take_at, put_at, can_take, can_put, places_rise, put_within}
 use Rattle.desk_rows.specs.PlaceLaws.{count_next, length-take_at, length-put_at, can_put_within}
 use Rattle.desk_rows.specs.Edit.{EditOf}
+use Rattle.desk_rows.specs.Limits.{room_limit, member_limit, source_limit, slot_limit, other_limit}
 use Rattle.desk_rows.specs.Desk.{Desk, blank, good, rows_of, count_of, is_named_there}
 use Rattle.desk_rows.specs.Exchange.{is_apt, exchanged, fits, after}
 use Rattle.desk_rows.specs.AfterEdit.{desk_of, edit_of}
@@ -185,17 +185,17 @@ all_members [] = refl
 all_members (m ∷ ms) = let rest = all_members ms in omega (arith, rest, count_next (λ m. is_of kinds.Member (rows.Member m)) m ms)
 
 -- the tables of a good desk have room for its rows
-pub few_rows : (d : Desk) → good d ≡ true → (length d.members ≤ 1024) × (length d.others ≤ 10304)
+pub few_rows : (d : Desk) → good d ≡ true → (length d.members ≤ member_limit) × (length d.others ≤ other_limit)
 few_rows d g =
     let within = (good_parts d g).within in
-    let both = and_parts (nat_le (count_of kinds.Room d) MAX_ROOMS && nat_le (count_of kinds.Member d) MAX_MEMBERS) (nat_le (count_of kinds.Source d) MAX_SOURCES && nat_le (count_of kinds.Slot d) MAX_SLOTS) within in
-    let one = and_parts (nat_le (count_of kinds.Room d) MAX_ROOMS) (nat_le (count_of kinds.Member d) MAX_MEMBERS) both.0 in
-    let two = and_parts (nat_le (count_of kinds.Source d) MAX_SOURCES) (nat_le (count_of kinds.Slot d) MAX_SLOTS) both.1 in
+    let both = and_parts (nat_le (count_of kinds.Room d) room_limit && nat_le (count_of kinds.Member d) member_limit) (nat_le (count_of kinds.Source d) source_limit && nat_le (count_of kinds.Slot d) slot_limit) within in
+    let one = and_parts (nat_le (count_of kinds.Room d) room_limit) (nat_le (count_of kinds.Member d) member_limit) both.0 in
+    let two = and_parts (nat_le (count_of kinds.Source d) source_limit) (nat_le (count_of kinds.Slot d) slot_limit) both.1 in
     let plain = (and_parts (in_order d.others) (list_all (λ r. not (is_of kinds.Member r)) d.others) (good_parts d g).listed).1 in
-    let rooms : count_of kinds.Room d ≤ 64 = at_most _ _ one.0 in
-    let members : count_of kinds.Member d ≤ 1024 = at_most _ _ one.1 in
-    let sources : count_of kinds.Source d ≤ 2048 = at_most _ _ two.0 in
-    let slots : count_of kinds.Slot d ≤ 4096 = at_most _ _ two.1 in (
+    let rooms : count_of kinds.Room d ≤ room_limit = at_most _ _ one.0 in
+    let members : count_of kinds.Member d ≤ member_limit = at_most _ _ one.1 in
+    let sources : count_of kinds.Source d ≤ source_limit = at_most _ _ two.0 in
+    let slots : count_of kinds.Slot d ≤ slot_limit = at_most _ _ two.1 in (
       omega (arith, members, rows_count (is_of kinds.Member) d, all_members d.members),
       omega (arith, rooms, sources, slots, subs_few d g, of_four_kinds d.others plain, rows_count (is_of kinds.Room) d, rows_count (is_of kinds.Source) d, rows_count (is_of kinds.Slot) d),
     ) where
@@ -209,9 +209,9 @@ pub record Absorbs (bridge : ℕ) (ms : List Member) (os : List Row) (tm : List 
   pub can_take_first : can_take tm ms ≡ true
   pub can_put_then : can_put pm (take_at tm ms) ≡ true
   pub orders : (in_order os ≡ true) × (in_order taken ≡ true) × (in_order old ≡ true) × (in_order put ≡ true) × (in_order new ≡ true)
-  pub members_room : length (take_at tm ms) + length pm ≤ 1024
-  pub put_room : length (without_rows (with_rows old taken) os) + length put ≤ 10304
-  pub new_room : length (with_rows put (without_rows (with_rows old taken) os)) + length new ≤ 10304
+  pub members_room : length (take_at tm ms) + length pm ≤ member_limit
+  pub put_room : length (without_rows (with_rows old taken) os) + length put ≤ other_limit
+  pub new_room : length (with_rows put (without_rows (with_rows old taken) os)) + length new ≤ other_limit
   pub after_is : desk_of bridge (put_at pm (take_at tm ms)) (with_rows new (with_rows put (without_rows (with_rows old taken) os))) ≡ after (desk_of bridge ms os) (edit_of tm taken old pm put new)
   pub good_after : good (desk_of bridge (put_at pm (take_at tm ms)) (with_rows new (with_rows put (without_rows (with_rows old taken) os)))) ≡ true
 

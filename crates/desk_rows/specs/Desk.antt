@@ -10,10 +10,10 @@ use Rattle.desk_rows.specs.declared.row.Kind.{Kind}
 use Rattle.desk_rows.specs.declared.row.Kind.TheVariants as kinds
 use Rattle.desk_rows.specs.declared.claim.Claim.{Claim}
 use Rattle.desk_rows.specs.declared.claim.Claim.TheVariants as claims
-use Rattle.desk_rows.specs.declared.limits.TheConstants.{MAX_ROOMS, MAX_MEMBERS, MAX_SOURCES, MAX_SLOTS, MAX_ROOM_AUDIO, MAX_INDEX}
 use Rattle.desk_rows.specs.Row.{has_key, names, claims_of, makes, same_media}
 use Rattle.desk_rows.specs.Kinds.{is_of}
 use Rattle.desk_rows.specs.Order.{in_order, is_in}
+use Rattle.desk_rows.specs.Limits.{room_limit, member_limit, source_limit, slot_limit, room_audio_limit, index_limit}
 
 -- the members of all rooms in joining order, and the set of all other rows, listed in the one order of kinds and keys
 pub record Desk : Type 0 where
@@ -94,19 +94,20 @@ abbrev pub is_slot_beside : Desk → ℕ → ℕ → Row → Bool
 is_slot_beside d out_ssrc source (rows.Slot s) = nat_eq s.out_ssrc out_ssrc && list_any (is_video_beside d s.member source) d.others
 is_slot_beside d out_ssrc source _ = false
 
--- the rules of each kind: few audio sources in a room; a port; a place among 16; a slot and a video source of members in one room
+-- the rule of each kind: a room has few audio sources, a member a port and a slot a place among few; a sub is of a slot and a
+-- video source of members in one room
 abbrev pub obeys : Desk → Row → Bool
-obeys d (rows.Room r) = nat_le (count_by (is_audio_in d r.room) d.others) MAX_ROOM_AUDIO
+obeys d (rows.Room r) = nat_le (count_by (is_audio_in d r.room) d.others) room_audio_limit
 obeys d (rows.Member m) = not (nat_eq m.address.port 0)
 obeys d (rows.Source s) = true
-obeys d (rows.Slot s) = nat_le s.index MAX_INDEX
+obeys d (rows.Slot s) = nat_le s.index index_limit
 obeys d (rows.Sub s) = list_any (is_slot_beside d s.out_ssrc s.source) d.others
 
 -- no table is over its limit; subs have the keys of slots, so there are no more of them
 abbrev pub is_within_limits : Desk → Bool
 is_within_limits d =
-    (nat_le (count_of kinds.Room d) MAX_ROOMS && nat_le (count_of kinds.Member d) MAX_MEMBERS)
-    && (nat_le (count_of kinds.Source d) MAX_SOURCES && nat_le (count_of kinds.Slot d) MAX_SLOTS)
+    (nat_le (count_of kinds.Room d) room_limit && nat_le (count_of kinds.Member d) member_limit)
+    && (nat_le (count_of kinds.Source d) source_limit && nat_le (count_of kinds.Slot d) slot_limit)
 
 -- the other rows are listed in order, and none of them is a member's
 abbrev pub is_listed : Desk → Bool

@@ -1,6 +1,7 @@
 pub mod Row
 pub mod Kinds
 pub mod Order
+pub mod Limits
 pub mod Desk
 pub mod Edit
 pub mod Equal

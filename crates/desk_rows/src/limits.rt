@@ -1,4 +1,4 @@
-//! The limits of a desk.
+//! The limits of a desk: those of `specs/Limits.antt`, by which a desk is judged good.
 
 /// How many rooms there may be.
 pub const MAX_ROOMS: usize = 64;
@@ -19,4 +19,4 @@ pub const MAX_ROOM_AUDIO: usize = 64;
 pub const MAX_INDEX: u32 = 15;
 
 /// How many rows there may be beside the members: rooms, sources, slots, and for each slot a sub.
-pub const MAX_OTHERS: usize = 10_304;
+pub const MAX_OTHERS: usize = MAX_ROOMS + MAX_SOURCES + 2 * MAX_SLOTS;

@@ -1,0 +1,28 @@
+-- The limits of a desk (own).
+use Rattle.std.specs.Prelude.{ℕ, ◌+◌, ◌*◌}
+
+-- so many rooms there may be
+abbrev pub room_limit : ℕ
+room_limit = 64
+
+-- so many members in all rooms
+abbrev pub member_limit : ℕ
+member_limit = 1024
+
+abbrev pub source_limit : ℕ
+source_limit = 2048
+
+abbrev pub slot_limit : ℕ
+slot_limit = 4096
+
+-- so many audio sources in one room
+abbrev pub room_audio_limit : ℕ
+room_audio_limit = 64
+
+-- the greatest index of a slot: 16 of a member
+abbrev pub index_limit : ℕ
+index_limit = 15
+
+-- so many rows beside the members: rooms, sources, slots, and for each slot a sub
+abbrev pub other_limit : ℕ
+other_limit = room_limit + source_limit + 2 * slot_limit
