@@ -124,7 +124,16 @@ subscribing =
     ∷ (subscribe 502 103, None)
     ∷ []
 
--- ---- full desks
+-- a subscription of a slot that has source 104, while 101 is there too
+abbrev pub subscribing_anew : List (Command × Option Refusal)
+subscribing_anew =
+    -- it stands so already
+    (subscribe 501 104, Some Already)
+    -- the other source
+    ∷ (subscribe 501 101, None)
+    ∷ []
+
+-- ---- full desks, and desks with room for one more row
 
 -- a room to 64 rooms
 abbrev pub adding_to_64_rooms : List (Command × Option Refusal)
@@ -133,6 +142,13 @@ adding_to_64_rooms =
     (add_room 65, Some (Full Rooms 64))
     -- one that is there
     ∷ (add_room 64, Some Exists)
+    ∷ []
+
+-- the 64th room
+abbrev pub adding_to_63_rooms : List (Command × Option Refusal)
+adding_to_63_rooms =
+    -- the last
+    (add_room 64, None)
     ∷ []
 
 -- a member to 1,024 members
@@ -146,6 +162,13 @@ adding_to_1024_members =
     ∷ (add_member 1033 1 1034 11034, Some Exists)
     ∷ []
 
+-- the 1,024th member
+abbrev pub adding_to_1023_members : List (Command × Option Refusal)
+adding_to_1023_members =
+    -- the last
+    (add_member 1033 1 1033 11033, None)
+    ∷ []
+
 -- a source to 2,048 sources, 64 of them audio in its room
 abbrev pub adding_to_2048_sources : List (Command × Option Refusal)
 adding_to_2048_sources =
@@ -157,6 +180,15 @@ adding_to_2048_sources =
     ∷ (add_video 10010 10, Some SsrcTaken)
     ∷ []
 
+-- the 2,048th source
+abbrev pub adding_to_2047_sources : List (Command × Option Refusal)
+adding_to_2047_sources =
+    -- video
+    (add_video 99 10, None)
+    -- audio, where the room has all its audio
+    ∷ (add_audio 99 10, Some (Full RoomAudio 64))
+    ∷ []
+
 -- a slot to 4,096 slots
 abbrev pub adding_to_4096_slots : List (Command × Option Refusal)
 adding_to_4096_slots =
@@ -164,6 +196,13 @@ adding_to_4096_slots =
     (add_slot 99 266 0, Some (Full Slots 4096))
     -- of an index too great
     ∷ (add_slot 99 266 16, Some BadValue)
+    ∷ []
+
+-- the 4,096th slot
+abbrev pub adding_to_4095_slots : List (Command × Option Refusal)
+adding_to_4095_slots =
+    -- of a member who has none
+    (add_slot 99 266 0, None)
     ∷ []
 
 -- a source to 64 audio sources of room 1
@@ -179,4 +218,11 @@ adding_to_64_audio_sources =
     ∷ (add_video 165 10, None)
     -- audio in another room
     ∷ (add_audio 165 12, None)
+    ∷ []
+
+-- the 64th audio source of room 1
+abbrev pub adding_to_63_audio_sources : List (Command × Option Refusal)
+adding_to_63_audio_sources =
+    -- audio
+    (add_audio 164 10, None)
     ∷ []

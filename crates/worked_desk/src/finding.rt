@@ -5,7 +5,7 @@ ghost use Rattle.desk_rows.specs.declared.row.Codec.TheVariants.{L16};
 ghost use Rattle.desk_rows.specs.Desk.{blank};
 ghost use Rattle.worked_desk.specs.Rows.{member, room, video, audio, slot, sub};
 ghost use Rattle.worked_desk.specs.TwoRooms.{two_rooms, ten, eleven, twelve, eight_rows};
-ghost use Rattle.worked_desk.specs.FullDesks.{all_members};
+ghost use Rattle.worked_desk.specs.FullDesks.{of_members};
 
 use desk_rows::{Key, Kind, Member, Row, Rows};
 use std::alloc::{AllocError, Global};
@@ -107,7 +107,7 @@ pub fn count_in_an_empty_desk(rows: &Rows, kind: Kind) -> usize
 }
 
 pub fn count_of_all_members(rows: &Rows) -> usize
-    requires { rows.now ≡ all_members }
+    requires { rows.now ≡ of_members 1024 }
     ensures { result ≡ 1024 }
 {
     rows.count(Kind::Member)

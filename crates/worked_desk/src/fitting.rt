@@ -2,7 +2,7 @@
 
 ghost use Rattle.worked_desk.specs.Cases.{Answers};
 ghost use Rattle.worked_desk.specs.TwoRooms.{two_rooms};
-ghost use Rattle.worked_desk.specs.FullDesks.{all_rooms, all_audio};
+ghost use Rattle.worked_desk.specs.FullDesks.{of_rooms, of_audio};
 ghost use Rattle.std.specs.Prelude.{◌≡◌};
 ghost use Rattle.worked_desk.specs.FitCases.{taking, taking_members, putting_members, putting, putting_subs, replacing, moving, putting_a_65th_room, putting_a_65th_source};
 
@@ -23,14 +23,14 @@ pub fn fits(rows: &Rows, edit: &Edit) -> bool
 }
 
 pub fn fits_among_64_rooms(rows: &Rows, edit: &Edit) -> bool
-    requires { rows.now ≡ all_rooms }
+    requires { rows.now ≡ of_rooms 64 }
     ensures { Answers putting_a_65th_room edit.now result }
 {
     rows.fits(edit)
 }
 
 pub fn fits_beside_64_audio_sources(rows: &Rows, edit: &Edit) -> bool
-    requires { rows.now ≡ all_audio }
+    requires { rows.now ≡ of_audio 64 }
     ensures { Answers putting_a_65th_source edit.now result }
 {
     rows.fits(edit)
