@@ -7,7 +7,7 @@ use Rattle.desk_rows.specs.Desk.{Desk}
 use Rattle.desk_rows.specs.Edit.{EditOf}
 use Rattle.desk_edit.specs.declared.command.Command.{Command}
 use Rattle.worked_desk.specs.Rows.{member, room, video, audio, slot, sub}
-use Rattle.worked_desk.specs.TwoRooms.{ten, eleven, twelve, eight_rows, two_rooms}
+use Rattle.worked_desk.specs.TwoRooms.{ten, eleven, twelve, thirteen, fourteen, eight_rows, two_rooms}
 use Rattle.worked_desk.specs.Edits.{at, takes, puts, replaces, changes, six_lists}
 use Rattle.worked_desk.specs.Commands.{add_room, add_member, add_video, add_slot, remove_slot, subscribe}
 
@@ -41,15 +41,20 @@ changing_nothing =
     ∷ (replaces (slot 502 12 0 ∷ []) (slot 503 12 0 ∷ []), two_rooms)
     ∷ []
 
+-- members 10 and 12 go, with their sources, a slot, and the sub of a source
+abbrev pub first_and_last_go : EditOf
+first_and_last_go =
+    takes (at 0 ten ∷ at 2 twelve ∷ []) (video 101 10 ∷ audio 102 10 ∷ video 103 12 ∷ slot 502 12 0 ∷ sub 501 101 ∷ [])
+
 -- members come to their places and leave no gaps
 abbrev pub exchanging_members : List (EditOf × Desk)
 exchanging_members =
     -- between the first and the second
-    (puts (at 1 (member 13 2 5003 9004) ∷ []) [], with_members (ten ∷ member 13 2 5003 9004 ∷ eleven ∷ twelve ∷ []))
+    (puts (at 1 thirteen ∷ []) [], with_members (ten ∷ thirteen ∷ eleven ∷ twelve ∷ []))
     -- before the first and behind the last
-    ∷ (puts (at 0 (member 14 2 5004 9005) ∷ at 4 (member 13 2 5003 9004) ∷ []) [], with_members (member 14 2 5004 9005 ∷ ten ∷ eleven ∷ twelve ∷ member 13 2 5003 9004 ∷ []))
-    -- the first and the last go, with all that names them
-    ∷ (takes (at 0 ten ∷ at 2 twelve ∷ []) (video 101 10 ∷ audio 102 10 ∷ video 103 12 ∷ slot 502 12 0 ∷ sub 501 101 ∷ []), record two_rooms { members = eleven ∷ []; others = room 1 ∷ room 2 ∷ slot 501 11 0 ∷ [] })
+    ∷ (puts (at 0 fourteen ∷ at 4 thirteen ∷ []) [], with_members (fourteen ∷ ten ∷ eleven ∷ twelve ∷ thirteen ∷ []))
+    -- the first and the last go
+    ∷ (first_and_last_go, record two_rooms { members = eleven ∷ []; others = room 1 ∷ room 2 ∷ slot 501 11 0 ∷ [] })
     -- a row that changes keeps its place
     ∷ (changes (at 1 eleven) (at 1 (record eleven { codec = L16 })), with_members (ten ∷ record eleven { codec = L16 } ∷ twelve ∷ []))
     -- a member moves from the last place to the first, and to the other room

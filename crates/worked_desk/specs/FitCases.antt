@@ -3,7 +3,7 @@ use Rattle.std.specs.Prelude.{Bool, true, false, List, [], ◌∷◌}
 use Rattle.desk_rows.specs.declared.row.Row.TheVariants.{Member as MemberRow}
 use Rattle.desk_rows.specs.Edit.{EditOf}
 use Rattle.worked_desk.specs.Rows.{member, room, video, audio, slot, sub}
-use Rattle.worked_desk.specs.TwoRooms.{ten, eleven, twelve}
+use Rattle.worked_desk.specs.TwoRooms.{ten, eleven, twelve, thirteen, fourteen}
 use Rattle.worked_desk.specs.Edits.{at, takes, puts, replaces, changes, trades, takes_and_replaces, brings_audio}
 
 -- ---- two rooms
@@ -60,17 +60,17 @@ taking_members =
 abbrev pub putting_members : List (EditOf × Bool)
 putting_members =
     -- last
-    (puts (at 3 (member 13 2 5003 9004) ∷ []) [], true)
+    (puts (at 3 thirteen ∷ []) [], true)
     -- first
-    ∷ (puts (at 0 (member 13 2 5003 9004) ∷ []) [], true)
+    ∷ (puts (at 0 thirteen ∷ []) [], true)
     -- behind the end
-    ∷ (puts (at 4 (member 13 2 5003 9004) ∷ []) [], false)
+    ∷ (puts (at 4 thirteen ∷ []) [], false)
     -- two, by rising place
-    ∷ (puts (at 3 (member 14 2 5004 9005) ∷ at 4 (member 13 2 5003 9004) ∷ []) [], true)
+    ∷ (puts (at 3 fourteen ∷ at 4 thirteen ∷ []) [], true)
     -- two, by falling place
-    ∷ (puts (at 3 (member 14 2 5004 9005) ∷ at 2 (member 13 2 5003 9004) ∷ []) [], false)
+    ∷ (puts (at 3 fourteen ∷ at 2 thirteen ∷ []) [], false)
     -- two at one place
-    ∷ (puts (at 3 (member 14 2 5004 9005) ∷ at 3 (member 13 2 5003 9004) ∷ []) [], false)
+    ∷ (puts (at 3 fourteen ∷ at 3 thirteen ∷ []) [], false)
     -- of a room that is not there
     ∷ (puts (at 3 (member 13 3 5003 9004) ∷ []) [], false)
     -- with its room
@@ -88,7 +88,7 @@ putting_members =
     -- at port 0
     ∷ (puts (at 3 (member 13 2 0 9004) ∷ []) [], false)
     -- among the other rows
-    ∷ (puts [] (MemberRow (member 13 2 5003 9004) ∷ []), false)
+    ∷ (puts [] (MemberRow thirteen ∷ []), false)
     ∷ []
 
 -- a row comes with a key and an SSRC of its own, what it names is there, and it obeys the rule of its kind

@@ -1,10 +1,11 @@
 //! Edits that fit a desk, and edits that do not: the cases of `specs/FitCases.antt`.
 
+ghost use Rattle.std.specs.Prelude.{◌≡◌};
 ghost use Rattle.worked_desk.specs.Cases.{Answers};
 ghost use Rattle.worked_desk.specs.TwoRooms.{two_rooms};
 ghost use Rattle.worked_desk.specs.FullDesks.{of_rooms, of_audio};
-ghost use Rattle.std.specs.Prelude.{◌≡◌};
-ghost use Rattle.worked_desk.specs.FitCases.{taking, taking_members, putting_members, putting, putting_subs, replacing, moving, putting_a_65th_room, putting_a_65th_source};
+ghost use Rattle.worked_desk.specs.FitCases.{taking, taking_members, putting_members, putting, putting_subs, replacing, moving};
+ghost use Rattle.worked_desk.specs.FitCases.{putting_a_65th_room, putting_a_65th_source};
 
 use desk_rows::{Edit, Rows};
 use undo_log::Reversible;
