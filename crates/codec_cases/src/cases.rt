@@ -1,0 +1,111 @@
+//! Cases one after another.
+
+use crate::answering::answer;
+use crate::expanding::expanded;
+use crate::untried::Untried;
+use std::alloc::Global;
+use std::io;
+
+/// The case that is being read, and how many were tried.
+#[derive(Drop)]
+pub struct Cases {
+    alloc: Global,
+    /// Its lines, joined. Empty where none is being read.
+    case: String,
+    /// The line that it begins on.
+    number: u64,
+    tried: u64,
+    differ: u64,
+}
+
+/// What is answered to a case that is written out, and what is wanted.
+fn tried(alloc: Global, case: &str) -> Result<(String, &str), Untried> {
+    let Some((question, wanted)) = case.split_once(" => ") else {
+        return Err(Untried::Malformed);
+    };
+    let Some((kind, input)) = question.split_once(' ') else {
+        return Err(Untried::Malformed);
+    };
+    Ok((answer(alloc, kind, input)?, wanted))
+}
+
+/// Tries a case. Prints it if it is answered otherwise, and tells whether it is answered well.
+fn is_answered(
+    rt: &HostRuntime,
+    alloc: Global,
+    name: &str,
+    number: u64,
+    case: &str,
+) -> io::Result<bool> {
+    let Ok(case) = expanded(alloc, case) else {
+        println!(rt; "{name}:{number}: no case")?;
+        return Ok(false);
+    };
+    match tried(alloc, case.as_str()) {
+        Ok((got, wanted)) => {
+            if got.as_str() == wanted {
+                return Ok(true);
+            }
+            println!(rt; "{name}:{number}: {case}\n  got {got}")?;
+        }
+        Err(Untried::Malformed) => println!(rt; "{name}:{number}: no case")?,
+        Err(Untried::OutOfMemory) => println!(rt; "{name}:{number}: out of memory")?,
+    }
+    Ok(false)
+}
+
+impl Cases {
+    pub fn new(alloc: Global) -> Self {
+        Self {
+            alloc,
+            case: String::new(alloc),
+            number: 0,
+            tried: 0,
+            differ: 0,
+        }
+    }
+
+    /// Tries the cases of a file. A case is a line and the lines behind it that begin with two
+    /// spaces. Empty lines and those that begin with `#` stand between cases.
+    pub fn file(&mut self, rt: &HostRuntime, name: &str, text: &str) -> io::Result<()> {
+        let mut number: u64 = 0;
+        for line in text.lines() {
+            number = number.saturating_add(1);
+            self.line(rt, name, number, line)?;
+        }
+        self.end(rt, name)
+    }
+
+    /// Takes one more line of a file.
+    fn line(&mut self, rt: &HostRuntime, name: &str, number: u64, line: &str) -> io::Result<()> {
+        if let Some(more) = line.strip_prefix("  ") {
+            self.case.push_str(" ")?;
+            self.case.push_str(more)?;
+            return Ok(());
+        }
+        self.end(rt, name)?;
+        if !line.starts_with('#') {
+            self.number = number;
+            self.case.push_str(line)?;
+        }
+        Ok(())
+    }
+
+    /// Ends what is being read, and tries it if it is a case.
+    fn end(&mut self, rt: &HostRuntime, name: &str) -> io::Result<()> {
+        if self.case.is_empty() {
+            return Ok(());
+        }
+        self.tried = self.tried.saturating_add(1);
+        if !is_answered(rt, self.alloc, name, self.number, self.case.as_str())? {
+            self.differ = self.differ.saturating_add(1);
+        }
+        self.case.clear();
+        Ok(())
+    }
+
+    /// How many cases were tried, and how many of them were answered otherwise.
+    pub fn counts(&self) -> (u64, u64) {
+        (self.tried, self.differ)
+    }
+}

@@ -1,0 +1,65 @@
+//! RTP packets that are read, and what was written read back.
+
+ghost use Rattle.std.specs.Prelude.{◌≡◌, ◌≤◌, true, false, [], ◌∷◌, IsOkAnd, IfSome, length};
+ghost use Rattle.rtp_codec.specs.Packet.{plain};
+ghost use Rattle.rtp_codec.specs.View.{packet_of};
+ghost use Rattle.worked_codecs.specs.Packets.{extended, padding_alone};
+
+use rtp_codec::{Header, RtpFault, RtpView, read, write, written_is_packet};
+
+/// A header and nothing else, its fields at their most: an empty payload is accepted.
+pub fn a_header_alone() -> Result<RtpView<'static>, RtpFault>
+    ensures { IsOkAnd result (λ v. packet_of v ≡ plain (record { marker = true; pt = 127; seq = 65535; ts = 4294967295; ssrc = 4294967295 }) [] []) }
+{
+    written_is_packet();
+    read(&[
+        0x80, 0xff, 0xff, 0xff, 0xff, 0xff, 0xff, 0xff, 0xff, 0xff, 0xff, 0xff,
+    ])
+}
+
+/// A contributing source, and a payload of two octets.
+pub fn a_source_and_a_payload() -> Result<RtpView<'static>, RtpFault>
+    ensures { IsOkAnd result (λ v. packet_of v ≡ plain (record { marker = false; pt = 100; seq = 65535; ts = 1000; ssrc = 501 }) (101 ∷ []) (170 ∷ 187 ∷ [])) }
+{
+    written_is_packet();
+    read(&[
+        0x81, 0x64, 0xff, 0xff, 0, 0, 3, 0xe8, 0, 0, 1, 0xf5, 0, 0, 0, 101, 0xaa, 0xbb,
+    ])
+}
+
+/// An extension of one word, a payload of an octet and two octets of padding.
+pub fn an_extension_and_padding() -> Result<RtpView<'static>, RtpFault>
+    ensures { IsOkAnd result (λ v. packet_of v ≡ extended) }
+{
+    read(&[
+        0xb0, 0x64, 0, 1, 0, 0, 0, 2, 0, 0, 0, 3, 0xbe, 0xde, 0, 1, 1, 2, 3, 4, 0xaa, 7, 2,
+    ])
+}
+
+/// All that is left is padding: an empty payload again.
+pub fn nothing_but_padding() -> Result<RtpView<'static>, RtpFault>
+    ensures { IsOkAnd result (λ v. packet_of v ≡ padding_alone) }
+{
+    read(&[0xa0, 0x64, 0, 1, 0, 0, 0, 2, 0, 0, 0, 3, 1])
+}
+
+/// What was written reads back as its parts.
+pub fn what_was_written_reads_back<'a>(
+    header: &Header,
+    csrcs: &[u32],
+    payload: &[u8],
+    out: &'a mut Vec<u8>,
+) -> Option<RtpView<'a>>
+    requires pt { header.now.pt ≤ 127 }
+    requires csrcs { length csrcs.now ≤ 15 }
+    requires out { out.old.items ≡ [] }
+    ensures { IfSome result (λ v. packet_of v ≡ plain header.now csrcs.now payload.now) }
+{
+    // Numbers that are read are known to fit their types.
+    let _seq = header.seq;
+    let _ts = header.ts;
+    let _ssrc = header.ssrc;
+    write(header, csrcs, payload, out).ok()?;
+    written_is_packet();
+    read(out).ok()
+}

@@ -1,0 +1,53 @@
+//! RTP packets that are written.
+
+ghost use Rattle.std.specs.Prelude.{◌≡◌, ◌+◌, ◌≤◌, [], ◌∷◌, ◌++◌, OnOk, OnErr, IsOk, vec_len, vec_capacity, length};
+
+use rtp_codec::{Header, write};
+use std::alloc::AllocError;
+
+/// A header with the marker, the greatest type and the last number.
+const HEADER: Header = Header {
+    marker: true,
+    pt: 100,
+    seq: 65_535,
+    ts: 1_000,
+    ssrc: 501,
+};
+
+/// One contributing source and two octets, behind an octet that stands there.
+pub fn behind_an_octet(out: &mut Vec<u8>) -> Result<(), AllocError>
+    requires { out.old.items ≡ 7 ∷ [] }
+    ensures ok { OnOk result (out.new.items ≡ 7 ∷ 129 ∷ 228 ∷ 255 ∷ 255 ∷ 0 ∷ 0 ∷ 3 ∷ 232 ∷ 0 ∷ 0 ∷ 1 ∷ 245 ∷ 0 ∷ 0 ∷ 0 ∷ 101 ∷ 170 ∷ 187 ∷ []) }
+    ensures err { OnErr result (out.new.items ≡ 7 ∷ []) }
+{
+    write(&HEADER, &[101], &[0xaa, 0xbb], out)
+}
+
+/// Nothing but a header.
+pub fn an_empty_packet(out: &mut Vec<u8>) -> Result<(), AllocError>
+    requires { out.old.items ≡ [] }
+    ensures ok { OnOk result (out.new.items ≡ 128 ∷ 228 ∷ 255 ∷ 255 ∷ 0 ∷ 0 ∷ 3 ∷ 232 ∷ 0 ∷ 0 ∷ 1 ∷ 245 ∷ []) }
+{
+    write(&HEADER, &[], &[], out)
+}
+
+/// Where there is room, no memory is wanted.
+pub fn with_room(out: &mut Vec<u8>) -> Result<(), AllocError>
+    requires { vec_len out.old + 18 ≤ vec_capacity out.old }
+    ensures { IsOk result }
+{
+    write(&HEADER, &[101], &[0xaa, 0xbb], out)
+}
+
+/// The most contributing sources.
+pub fn with_15_sources(out: &mut Vec<u8>) -> Result<(), AllocError>
+    requires { out.old.items ≡ [] }
+    ensures { OnOk result (length out.new.items ≡ 73) }
+{
+    write(
+        &HEADER,
+        &[1, 2, 3, 4, 5, 6, 7, 8, 9, 10, 11, 12, 13, 14, 15],
+        &[9],
+        out,
+    )
+}
