@@ -6,6 +6,7 @@ pub mod classes;
 pub mod distances;
 pub mod nacking;
 pub mod reading_compound_faults;
+pub mod reading_compounds;
 pub mod reading_faults;
 pub mod reading_packets;
 pub mod writing_compounds;
