@@ -1,1 +1,3 @@
+pub mod Compounds
+pub mod Octets
 pub mod Packets

@@ -2,7 +2,7 @@
 #![tactic(auto, unfolding(rtcp_codec::specs::Nack::numbers_up_to))]
 
 ghost use Rattle.std.specs.Prelude.{◌≡◌, [], ◌∷◌, IfOk, IsOk};
-ghost use Rattle.rtcp_codec.specs.Nack.{numbers_of, numbers_named, ArePacked};
+ghost use Rattle.rtcp_codec.specs.Nack.{numbers_named, ArePacked};
 
 use rtcp_codec::{NackWord, nack_numbers, nack_words};
 use std::alloc::{AllocError, Global};

@@ -1,112 +1,135 @@
 //! RTCP compounds that are read, and what was written read back. Only memory may be wanted.
 
-ghost use Rattle.std.specs.Prelude.{◌≡◌, [], ◌∷◌, None, Some, negsuc, IfSome, MatchResult};
+ghost use Rattle.std.specs.Prelude.{◌≡◌, IfSome, MatchResult};
 ghost use Rattle.std.specs.List.{AllByRecursion};
-ghost use Rattle.rtcp_codec.specs.Packet.{Receiver, Sender, Sdes, Bye, App, Nack, Pli, Other, FitsFields};
+ghost use Rattle.rtcp_codec.specs.Packet.{FitsFields};
 ghost use Rattle.rtcp_codec.specs.View.{packets_of};
-ghost use Rattle.worked_codecs.specs.Packets.{block, chunk};
+ghost use Rattle.worked_codecs.specs.Compounds.{report_alone, loss_below_0, sender_and_leave, two_sources, short_reason, empty_reason, application, nack_and_pli, other_format};
 
 use rtcp_codec::{Rtcp, RtcpFault, read_compound, write_compound, written_is_compound};
 use std::alloc::Global;
 
 /// A receiver report without blocks.
-pub fn a_report_alone(alloc: Global) -> Result<Vec<Rtcp>, RtcpFault>
-    ensures { MatchResult result (λ v. packets_of v.items ≡ Receiver 9 [] ∷ []) (λ f. f ≡ RtcpFault.OutOfMemory) }
+pub fn reads_report_alone(alloc: Global) -> Result<Vec<Rtcp>, RtcpFault>
+    ensures { MatchResult result (λ v. packets_of v.items ≡ report_alone) (λ f. f ≡ RtcpFault.OutOfMemory) }
 {
     written_is_compound();
-    read_compound(alloc, &[0x80, 201, 0, 1, 0, 0, 0, 9])
+    read_compound(alloc, &[0x80, 0xc9, 0x00, 0x01, 0x00, 0x00, 0x00, 0x09])
 }
 
-/// A block whose loss is below 0.
-pub fn a_block(alloc: Global) -> Result<Vec<Rtcp>, RtcpFault>
-    ensures { MatchResult result (λ v. packets_of v.items ≡ Receiver 9 (block (negsuc 0) ∷ []) ∷ []) (λ f. f ≡ RtcpFault.OutOfMemory) }
+/// A receiver report with a block whose loss is -1.
+pub fn reads_loss_below_0(alloc: Global) -> Result<Vec<Rtcp>, RtcpFault>
+    ensures { MatchResult result (λ v. packets_of v.items ≡ loss_below_0) (λ f. f ≡ RtcpFault.OutOfMemory) }
 {
     written_is_compound();
     read_compound(
         alloc,
         &[
-            0x81, 201, 0, 7, 0, 0, 0, 9, 0, 0, 0, 101, 11, 255, 255, 255, 0, 0, 255, 255, 0, 0, 0,
-            33, 0, 0, 202, 254, 0, 0, 1, 2,
+            0x81, 0xc9, 0x00, 0x07, 0x00, 0x00, 0x00, 0x09, 0x00, 0x00, 0x00, 0x65, 0x0b, 0xff,
+            0xff, 0xff, 0x00, 0x00, 0xff, 0xff, 0x00, 0x00, 0x00, 0x21, 0x00, 0x00, 0xca, 0xfe,
+            0x00, 0x00, 0x01, 0x02,
         ],
     )
 }
 
 /// A sender report without blocks, and a source that leaves.
-pub fn a_sender_report(alloc: Global) -> Result<Vec<Rtcp>, RtcpFault>
-    ensures { MatchResult result (λ v. packets_of v.items ≡ Sender 9 10737418243 4 5 6 [] ∷ Bye (7 ∷ []) None ∷ []) (λ f. f ≡ RtcpFault.OutOfMemory) }
+pub fn reads_sender_and_leave(alloc: Global) -> Result<Vec<Rtcp>, RtcpFault>
+    ensures { MatchResult result (λ v. packets_of v.items ≡ sender_and_leave) (λ f. f ≡ RtcpFault.OutOfMemory) }
 {
     written_is_compound();
     read_compound(
         alloc,
         &[
-            0x80, 200, 0, 6, 0, 0, 0, 9, 0, 0, 0, 2, 128, 0, 0, 3, 0, 0, 0, 4, 0, 0, 0, 5, 0, 0, 0,
-            6, 0x81, 203, 0, 1, 0, 0, 0, 7,
+            0x80, 0xc8, 0x00, 0x06, 0x00, 0x00, 0x00, 0x09, 0x00, 0x00, 0x00, 0x02, 0x80, 0x00,
+            0x00, 0x03, 0x00, 0x00, 0x00, 0x04, 0x00, 0x00, 0x00, 0x05, 0x00, 0x00, 0x00, 0x06,
+            0x81, 0xcb, 0x00, 0x01, 0x00, 0x00, 0x00, 0x07,
         ],
     )
 }
 
-/// A description of two sources.
-pub fn a_description(alloc: Global) -> Result<Vec<Rtcp>, RtcpFault>
-    ensures { MatchResult result (λ v. packets_of v.items ≡ Receiver 9 [] ∷ Sdes (chunk 1 (97 ∷ []) ∷ chunk 2 (97 ∷ 98 ∷ []) ∷ []) ∷ []) (λ f. f ≡ RtcpFault.OutOfMemory) }
+/// A report, and what two chunks say of one source.
+pub fn reads_two_sources(alloc: Global) -> Result<Vec<Rtcp>, RtcpFault>
+    ensures { MatchResult result (λ v. packets_of v.items ≡ two_sources) (λ f. f ≡ RtcpFault.OutOfMemory) }
 {
     written_is_compound();
     read_compound(
         alloc,
         &[
-            0x80, 201, 0, 1, 0, 0, 0, 9, 0x82, 202, 0, 5, 0, 0, 0, 9, 1, 1, 97, 0, 0, 0, 0, 9, 2,
-            2, 97, 98, 0, 0, 0, 0,
+            0x80, 0xc9, 0x00, 0x01, 0x00, 0x00, 0x00, 0x09, 0x82, 0xca, 0x00, 0x05, 0x00, 0x00,
+            0x00, 0x09, 0x01, 0x01, 0x61, 0x00, 0x00, 0x00, 0x00, 0x09, 0x02, 0x02, 0x61, 0x62,
+            0x00, 0x00, 0x00, 0x00,
         ],
     )
 }
 
-/// An empty reason, which isn't none.
-pub fn an_empty_reason(alloc: Global) -> Result<Vec<Rtcp>, RtcpFault>
-    ensures { MatchResult result (λ v. packets_of v.items ≡ Receiver 9 [] ∷ Bye (7 ∷ []) (Some []) ∷ []) (λ f. f ≡ RtcpFault.OutOfMemory) }
+/// A report, and a reason for leaving of one octet.
+pub fn reads_short_reason(alloc: Global) -> Result<Vec<Rtcp>, RtcpFault>
+    ensures { MatchResult result (λ v. packets_of v.items ≡ short_reason) (λ f. f ≡ RtcpFault.OutOfMemory) }
 {
     written_is_compound();
     read_compound(
         alloc,
         &[
-            0x80, 201, 0, 1, 0, 0, 0, 9, 0x81, 203, 0, 2, 0, 0, 0, 7, 0, 0, 0, 0,
+            0x80, 0xc9, 0x00, 0x01, 0x00, 0x00, 0x00, 0x09, 0x81, 0xcb, 0x00, 0x02, 0x00, 0x00,
+            0x00, 0x07, 0x01, 0x61, 0x00, 0x00,
         ],
     )
 }
 
-/// An APP.
-pub fn an_app(alloc: Global) -> Result<Vec<Rtcp>, RtcpFault>
-    ensures { MatchResult result (λ v. packets_of v.items ≡ Receiver 9 [] ∷ App 5 9 (98 ∷ 97 ∷ 114 ∷ 32 ∷ []) (1 ∷ 2 ∷ 3 ∷ 4 ∷ []) ∷ []) (λ f. f ≡ RtcpFault.OutOfMemory) }
+/// A report, an empty reason for leaving, which isn't none, and none.
+pub fn reads_empty_reason(alloc: Global) -> Result<Vec<Rtcp>, RtcpFault>
+    ensures { MatchResult result (λ v. packets_of v.items ≡ empty_reason) (λ f. f ≡ RtcpFault.OutOfMemory) }
 {
     written_is_compound();
     read_compound(
         alloc,
         &[
-            0x80, 201, 0, 1, 0, 0, 0, 9, 0x85, 204, 0, 3, 0, 0, 0, 9, 98, 97, 114, 32, 1, 2, 3, 4,
+            0x80, 0xc9, 0x00, 0x01, 0x00, 0x00, 0x00, 0x09, 0x81, 0xcb, 0x00, 0x02, 0x00, 0x00,
+            0x00, 0x07, 0x00, 0x00, 0x00, 0x00, 0x81, 0xcb, 0x00, 0x01, 0x00, 0x00, 0x00, 0x07,
         ],
     )
 }
 
-/// A NACK of two words and a PLI.
-pub fn a_nack_and_a_pli(alloc: Global) -> Result<Vec<Rtcp>, RtcpFault>
-    ensures { MatchResult result (λ v. packets_of v.items ≡ Receiver 9 [] ∷ Nack 9 101 (record { pid = 65535; blp = 32769 } ∷ record { pid = 16; blp = 0 } ∷ []) ∷ Pli 9 101 ∷ []) (λ f. f ≡ RtcpFault.OutOfMemory) }
+/// A report, and what an application says.
+pub fn reads_application(alloc: Global) -> Result<Vec<Rtcp>, RtcpFault>
+    ensures { MatchResult result (λ v. packets_of v.items ≡ application) (λ f. f ≡ RtcpFault.OutOfMemory) }
 {
     written_is_compound();
     read_compound(
         alloc,
         &[
-            0x80, 201, 0, 1, 0, 0, 0, 9, 0x81, 205, 0, 4, 0, 0, 0, 9, 0, 0, 0, 101, 255, 255, 128,
-            1, 0, 16, 0, 0, 0x81, 206, 0, 2, 0, 0, 0, 9, 0, 0, 0, 101,
+            0x80, 0xc9, 0x00, 0x01, 0x00, 0x00, 0x00, 0x09, 0x85, 0xcc, 0x00, 0x03, 0x00, 0x00,
+            0x00, 0x09, 0x62, 0x61, 0x72, 0x20, 0x01, 0x02, 0x03, 0x04,
         ],
     )
 }
 
-/// Feedback of another format is kept as it is.
-pub fn another_format(alloc: Global) -> Result<Vec<Rtcp>, RtcpFault>
-    ensures { MatchResult result (λ v. packets_of v.items ≡ Receiver 9 [] ∷ Other 206 4 (1 ∷ 2 ∷ 3 ∷ 4 ∷ []) ∷ []) (λ f. f ≡ RtcpFault.OutOfMemory) }
+/// A report, a NACK of two words and a PLI.
+pub fn reads_nack_and_pli(alloc: Global) -> Result<Vec<Rtcp>, RtcpFault>
+    ensures { MatchResult result (λ v. packets_of v.items ≡ nack_and_pli) (λ f. f ≡ RtcpFault.OutOfMemory) }
 {
     written_is_compound();
     read_compound(
         alloc,
-        &[0x80, 201, 0, 1, 0, 0, 0, 9, 0x84, 206, 0, 1, 1, 2, 3, 4],
+        &[
+            0x80, 0xc9, 0x00, 0x01, 0x00, 0x00, 0x00, 0x09, 0x81, 0xcd, 0x00, 0x04, 0x00, 0x00,
+            0x00, 0x09, 0x00, 0x00, 0x00, 0x65, 0xff, 0xff, 0x80, 0x01, 0x00, 0x10, 0x00, 0x00,
+            0x81, 0xce, 0x00, 0x02, 0x00, 0x00, 0x00, 0x09, 0x00, 0x00, 0x00, 0x65,
+        ],
+    )
+}
+
+/// A report, and feedback of another format.
+pub fn reads_other_format(alloc: Global) -> Result<Vec<Rtcp>, RtcpFault>
+    ensures { MatchResult result (λ v. packets_of v.items ≡ other_format) (λ f. f ≡ RtcpFault.OutOfMemory) }
+{
+    written_is_compound();
+    read_compound(
+        alloc,
+        &[
+            0x80, 0xc9, 0x00, 0x01, 0x00, 0x00, 0x00, 0x09, 0x84, 0xce, 0x00, 0x01, 0x01, 0x02,
+            0x03, 0x04,
+        ],
     )
 }
 

@@ -1,15 +1,15 @@
 //! RTP packets that are read, and what was written read back.
 
-ghost use Rattle.std.specs.Prelude.{◌≡◌, ◌≤◌, true, false, [], ◌∷◌, IsOkAnd, IfSome, length};
+ghost use Rattle.std.specs.Prelude.{◌≡◌, ◌≤◌, [], IsOkAnd, IfSome, length};
 ghost use Rattle.rtp_codec.specs.Packet.{plain};
 ghost use Rattle.rtp_codec.specs.View.{packet_of};
-ghost use Rattle.worked_codecs.specs.Packets.{extended, padding_alone};
+ghost use Rattle.worked_codecs.specs.Packets.{greatest, from_101, extended, padding_alone};
 
 use rtp_codec::{Header, RtpFault, RtpView, read, write, written_is_packet};
 
 /// A header and nothing else, its fields at their most: an empty payload is accepted.
 pub fn a_header_alone() -> Result<RtpView<'static>, RtpFault>
-    ensures { IsOkAnd result (λ v. packet_of v ≡ plain (record { marker = true; pt = 127; seq = 65535; ts = 4294967295; ssrc = 4294967295 }) [] []) }
+    ensures { IsOkAnd result (λ v. packet_of v ≡ greatest) }
 {
     written_is_packet();
     read(&[
@@ -19,7 +19,7 @@ pub fn a_header_alone() -> Result<RtpView<'static>, RtpFault>
 
 /// A contributing source, and a payload of two octets.
 pub fn a_source_and_a_payload() -> Result<RtpView<'static>, RtpFault>
-    ensures { IsOkAnd result (λ v. packet_of v ≡ plain (record { marker = false; pt = 100; seq = 65535; ts = 1000; ssrc = 501 }) (101 ∷ []) (170 ∷ 187 ∷ [])) }
+    ensures { IsOkAnd result (λ v. packet_of v ≡ from_101) }
 {
     written_is_packet();
     read(&[

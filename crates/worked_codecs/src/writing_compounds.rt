@@ -1,62 +1,108 @@
 //! Compounds that are written.
 
-ghost use Rattle.std.specs.Prelude.{◌≡◌, ◌+◌, ◌≤◌, [], ◌∷◌, OnOk, OnErr, IfErr, IsOk, vec_len, vec_capacity, length, replicate, Some, None, negsuc};
-ghost use Rattle.rtcp_codec.specs.Packet.{Receiver, Sender, Sdes, Bye, App, Nack, Pli, Other};
+ghost use Rattle.std.specs.Prelude.{◌≡◌, ◌+◌, ◌*◌, ◌≤◌, [], ◌∷◌, OnOk, OnErr, IfErr, IsOk, vec_len, vec_capacity, length};
+ghost use Rattle.rtcp_codec.specs.Packet.{Receiver, Other};
 ghost use Rattle.rtcp_codec.specs.View.{packets_of};
-ghost use Rattle.worked_codecs.specs.Packets.{block, chunk};
+ghost use Rattle.worked_codecs.specs.Octets.{octets_of};
+ghost use Rattle.worked_codecs.specs.Compounds.{report_alone, loss_below_0, sender_and_leave, two_sources, short_reason, empty_reason, application, nack_and_pli, other_format};
+ghost use Rattle.worked_codecs.specs.Compounds.{report_alone_words, loss_below_0_words, sender_and_leave_words, two_sources_words, short_reason_words, empty_reason_words, application_words, nack_and_pli_words, other_format_words};
 
 use rtcp_codec::{Rtcp, WriteFault, write_compound};
 
-/// A receiver report and a PLI, behind an octet that stands there.
-pub fn a_report_and_a_pli(packets: &[Rtcp], out: &mut Vec<u8>) -> Result<(), WriteFault>
-    requires packets { packets_of packets.now ≡ Receiver 9 [] ∷ Pli 9 101 ∷ [] }
+/// A receiver report without blocks.
+pub fn writes_report_alone(packets: &[Rtcp], out: &mut Vec<u8>) -> Result<(), WriteFault>
+    requires packets { packets_of packets.now ≡ report_alone }
     requires out { out.old.items ≡ 7 ∷ [] }
-    ensures ok { OnOk result (out.new.items ≡ 7 ∷ 128 ∷ 201 ∷ 0 ∷ 1 ∷ 0 ∷ 0 ∷ 0 ∷ 9 ∷ 129 ∷ 206 ∷ 0 ∷ 2 ∷ 0 ∷ 0 ∷ 0 ∷ 9 ∷ 0 ∷ 0 ∷ 0 ∷ 101 ∷ []) }
+    ensures ok { OnOk result (out.new.items ≡ 7 ∷ octets_of report_alone_words) }
     ensures err { OnErr result (out.new.items ≡ 7 ∷ []) }
 {
     write_compound(packets, out)
 }
 
-/// A report with a block whose loss is below 0.
-pub fn a_loss_below_0(packets: &[Rtcp], out: &mut Vec<u8>) -> Result<(), WriteFault>
-    requires packets { packets_of packets.now ≡ Receiver 9 (block (negsuc 0) ∷ []) ∷ [] }
-    requires out { out.old.items ≡ [] }
-    ensures { OnOk result (out.new.items ≡ 129 ∷ 201 ∷ 0 ∷ 7 ∷ 0 ∷ 0 ∷ 0 ∷ 9 ∷ 0 ∷ 0 ∷ 0 ∷ 101 ∷ 11 ∷ 255 ∷ 255 ∷ 255 ∷ 0 ∷ 0 ∷ 255 ∷ 255 ∷ 0 ∷ 0 ∷ 0 ∷ 33 ∷ 0 ∷ 0 ∷ 202 ∷ 254 ∷ 0 ∷ 0 ∷ 1 ∷ 2 ∷ []) }
-{
-    write_compound(packets, out)
-}
-
-/// A chunk ends with a null, and is filled with nulls to 32 bits.
-pub fn a_chunk_is_filled(packets: &[Rtcp], out: &mut Vec<u8>) -> Result<(), WriteFault>
-    requires packets { packets_of packets.now ≡ Receiver 9 [] ∷ Sdes (chunk 1 (97 ∷ 98 ∷ []) ∷ []) ∷ [] }
-    requires out { out.old.items ≡ [] }
-    ensures { OnOk result (out.new.items ≡ 128 ∷ 201 ∷ 0 ∷ 1 ∷ 0 ∷ 0 ∷ 0 ∷ 9 ∷ 129 ∷ 202 ∷ 0 ∷ 3 ∷ 0 ∷ 0 ∷ 0 ∷ 9 ∷ 1 ∷ 2 ∷ 97 ∷ 98 ∷ 0 ∷ 0 ∷ 0 ∷ 0 ∷ []) }
-{
-    write_compound(packets, out)
-}
-
-/// A reason of one octet is filled with nulls to 32 bits.
-pub fn a_leave_is_filled(packets: &[Rtcp], out: &mut Vec<u8>) -> Result<(), WriteFault>
-    requires packets { packets_of packets.now ≡ Receiver 9 [] ∷ Bye (7 ∷ []) (Some (97 ∷ [])) ∷ [] }
+/// A receiver report with a block whose loss is -1.
+pub fn writes_loss_below_0(packets: &[Rtcp], out: &mut Vec<u8>) -> Result<(), WriteFault>
+    requires packets { packets_of packets.now ≡ loss_below_0 }
     requires out { out.old.items ≡ 7 ∷ [] }
-    ensures { OnOk result (out.new.items ≡ 7 ∷ 128 ∷ 201 ∷ 0 ∷ 1 ∷ 0 ∷ 0 ∷ 0 ∷ 9 ∷ 129 ∷ 203 ∷ 0 ∷ 2 ∷ 0 ∷ 0 ∷ 0 ∷ 7 ∷ 1 ∷ 97 ∷ 0 ∷ 0 ∷ []) }
+    ensures ok { OnOk result (out.new.items ≡ 7 ∷ octets_of loss_below_0_words) }
+    ensures err { OnErr result (out.new.items ≡ 7 ∷ []) }
 {
     write_compound(packets, out)
 }
 
-/// An empty reason has its length, and no reason has none.
-pub fn an_empty_reason_is_one(packets: &[Rtcp], out: &mut Vec<u8>) -> Result<(), WriteFault>
-    requires packets { packets_of packets.now ≡ Receiver 9 [] ∷ Bye (7 ∷ []) (Some []) ∷ Bye (7 ∷ []) None ∷ [] }
-    requires out { out.old.items ≡ [] }
-    ensures { OnOk result (out.new.items ≡ 128 ∷ 201 ∷ 0 ∷ 1 ∷ 0 ∷ 0 ∷ 0 ∷ 9 ∷ 129 ∷ 203 ∷ 0 ∷ 2 ∷ 0 ∷ 0 ∷ 0 ∷ 7 ∷ 0 ∷ 0 ∷ 0 ∷ 0 ∷ 129 ∷ 203 ∷ 0 ∷ 1 ∷ 0 ∷ 0 ∷ 0 ∷ 7 ∷ []) }
+/// A sender report without blocks, and a source that leaves.
+pub fn writes_sender_and_leave(packets: &[Rtcp], out: &mut Vec<u8>) -> Result<(), WriteFault>
+    requires packets { packets_of packets.now ≡ sender_and_leave }
+    requires out { out.old.items ≡ 7 ∷ [] }
+    ensures ok { OnOk result (out.new.items ≡ 7 ∷ octets_of sender_and_leave_words) }
+    ensures err { OnErr result (out.new.items ≡ 7 ∷ []) }
+{
+    write_compound(packets, out)
+}
+
+/// A report, and what two chunks say of one source.
+pub fn writes_two_sources(packets: &[Rtcp], out: &mut Vec<u8>) -> Result<(), WriteFault>
+    requires packets { packets_of packets.now ≡ two_sources }
+    requires out { out.old.items ≡ 7 ∷ [] }
+    ensures ok { OnOk result (out.new.items ≡ 7 ∷ octets_of two_sources_words) }
+    ensures err { OnErr result (out.new.items ≡ 7 ∷ []) }
+{
+    write_compound(packets, out)
+}
+
+/// A report, and a reason for leaving of one octet.
+pub fn writes_short_reason(packets: &[Rtcp], out: &mut Vec<u8>) -> Result<(), WriteFault>
+    requires packets { packets_of packets.now ≡ short_reason }
+    requires out { out.old.items ≡ 7 ∷ [] }
+    ensures ok { OnOk result (out.new.items ≡ 7 ∷ octets_of short_reason_words) }
+    ensures err { OnErr result (out.new.items ≡ 7 ∷ []) }
+{
+    write_compound(packets, out)
+}
+
+/// A report, an empty reason for leaving, which isn't none, and none.
+pub fn writes_empty_reason(packets: &[Rtcp], out: &mut Vec<u8>) -> Result<(), WriteFault>
+    requires packets { packets_of packets.now ≡ empty_reason }
+    requires out { out.old.items ≡ 7 ∷ [] }
+    ensures ok { OnOk result (out.new.items ≡ 7 ∷ octets_of empty_reason_words) }
+    ensures err { OnErr result (out.new.items ≡ 7 ∷ []) }
+{
+    write_compound(packets, out)
+}
+
+/// A report, and what an application says.
+pub fn writes_application(packets: &[Rtcp], out: &mut Vec<u8>) -> Result<(), WriteFault>
+    requires packets { packets_of packets.now ≡ application }
+    requires out { out.old.items ≡ 7 ∷ [] }
+    ensures ok { OnOk result (out.new.items ≡ 7 ∷ octets_of application_words) }
+    ensures err { OnErr result (out.new.items ≡ 7 ∷ []) }
+{
+    write_compound(packets, out)
+}
+
+/// A report, a NACK of two words and a PLI.
+pub fn writes_nack_and_pli(packets: &[Rtcp], out: &mut Vec<u8>) -> Result<(), WriteFault>
+    requires packets { packets_of packets.now ≡ nack_and_pli }
+    requires out { out.old.items ≡ 7 ∷ [] }
+    ensures ok { OnOk result (out.new.items ≡ 7 ∷ octets_of nack_and_pli_words) }
+    ensures err { OnErr result (out.new.items ≡ 7 ∷ []) }
+{
+    write_compound(packets, out)
+}
+
+/// A report, and feedback of another format.
+pub fn writes_other_format(packets: &[Rtcp], out: &mut Vec<u8>) -> Result<(), WriteFault>
+    requires packets { packets_of packets.now ≡ other_format }
+    requires out { out.old.items ≡ 7 ∷ [] }
+    ensures ok { OnOk result (out.new.items ≡ 7 ∷ octets_of other_format_words) }
+    ensures err { OnErr result (out.new.items ≡ 7 ∷ []) }
 {
     write_compound(packets, out)
 }
 
 /// Where there is room for what can be written, nothing is refused.
 pub fn with_room(packets: &[Rtcp], out: &mut Vec<u8>) -> Result<(), WriteFault>
-    requires packets { packets_of packets.now ≡ Receiver 9 [] ∷ Pli 9 101 ∷ [] }
-    requires room { vec_len out.old + 20 ≤ vec_capacity out.old }
+    requires packets { packets_of packets.now ≡ other_format }
+    requires room { vec_len out.old + 16 ≤ vec_capacity out.old }
     ensures { IsOk result }
 {
     write_compound(packets, out)
@@ -68,7 +114,7 @@ pub fn a_packet_of_65536_words(
     body: &[u8],
     out: &mut Vec<u8>,
 ) -> Result<(), WriteFault>
-    requires size { length body.now ≡ 262140 }
+    requires size { length body.now ≡ 4 * 65535 }
     requires packets { packets_of packets.now ≡ Receiver 9 [] ∷ Other 192 0 body.now ∷ [] }
     ensures { IfErr result (λ f. f ≡ WriteFault.OutOfMemory) }
 {

@@ -1,7 +1,7 @@
 //! Packets that can't be written as a compound: the first packet that has a fault tells its first.
 
-ghost use Rattle.std.specs.Prelude.{◌≡◌, [], ◌∷◌, Err, length, replicate, Some, None, pos, negsuc};
-ghost use Rattle.rtcp_codec.specs.Packet.{Receiver, Sender, Sdes, Bye, App, Nack, Pli, Other};
+ghost use Rattle.std.specs.Prelude.{◌≡◌, ◌*◌, [], ◌∷◌, Err, length, replicate, Some, None, pos, negsuc};
+ghost use Rattle.rtcp_codec.specs.Packet.{Receiver, Sdes, Bye, App, Nack, Other};
 ghost use Rattle.rtcp_codec.specs.View.{packets_of};
 ghost use Rattle.worked_codecs.specs.Packets.{block, chunk};
 
@@ -50,7 +50,7 @@ pub fn sources_32(packets: &[Rtcp], out: &mut Vec<u8>) -> Result<(), WriteFault>
 
 /// A subtype of 32, which is told before the content of three octets.
 pub fn a_subtype_of_32(packets: &[Rtcp], out: &mut Vec<u8>) -> Result<(), WriteFault>
-    requires { packets_of packets.now ≡ Receiver 9 [] ∷ App 32 9 (97 ∷ 98 ∷ 99 ∷ 100 ∷ []) (1 ∷ 2 ∷ 3 ∷ []) ∷ [] }
+    requires { packets_of packets.now ≡ Receiver 9 [] ∷ App 32 9 (replicate 4 97) (1 ∷ 2 ∷ 3 ∷ []) ∷ [] }
     ensures { result ≡ Err WriteFault.Count }
 {
     write_compound(packets, out)
@@ -90,7 +90,7 @@ pub fn a_reason_of_256(packets: &[Rtcp], out: &mut Vec<u8>) -> Result<(), WriteF
 
 /// A content that isn't whole words.
 pub fn a_content_of_three_octets(packets: &[Rtcp], out: &mut Vec<u8>) -> Result<(), WriteFault>
-    requires { packets_of packets.now ≡ Receiver 9 [] ∷ App 0 9 (97 ∷ 98 ∷ 99 ∷ 100 ∷ []) (1 ∷ 2 ∷ 3 ∷ []) ∷ [] }
+    requires { packets_of packets.now ≡ Receiver 9 [] ∷ App 0 9 (replicate 4 97) (1 ∷ 2 ∷ 3 ∷ []) ∷ [] }
     ensures { result ≡ Err WriteFault.TooLong }
 {
     write_compound(packets, out)
@@ -110,7 +110,7 @@ pub fn a_packet_of_65537_words(
     body: &[u8],
     out: &mut Vec<u8>,
 ) -> Result<(), WriteFault>
-    requires size { length body.now ≡ 262144 }
+    requires size { length body.now ≡ 4 * 65536 }
     requires packets { packets_of packets.now ≡ Receiver 9 [] ∷ Other 192 0 body.now ∷ [] }
     ensures { result ≡ Err WriteFault.TooLong }
 {

@@ -1,6 +1,7 @@
 //! RTP packets that are written.
 
-ghost use Rattle.std.specs.Prelude.{◌≡◌, ◌+◌, ◌≤◌, [], ◌∷◌, ◌++◌, OnOk, OnErr, IsOk, vec_len, vec_capacity, length};
+ghost use Rattle.std.specs.Prelude.{◌≡◌, ◌+◌, ◌≤◌, [], ◌∷◌, ◌++◌, OnOk, OnErr, IsOk, vec_len, vec_capacity};
+ghost use Rattle.worked_codecs.specs.Octets.{octets_of};
 
 use rtp_codec::{Header, write};
 use std::alloc::AllocError;
@@ -17,7 +18,7 @@ const HEADER: Header = Header {
 /// One contributing source and two octets, behind an octet that stands there.
 pub fn behind_an_octet(out: &mut Vec<u8>) -> Result<(), AllocError>
     requires { out.old.items ≡ 7 ∷ [] }
-    ensures ok { OnOk result (out.new.items ≡ 7 ∷ 129 ∷ 228 ∷ 255 ∷ 255 ∷ 0 ∷ 0 ∷ 3 ∷ 232 ∷ 0 ∷ 0 ∷ 1 ∷ 245 ∷ 0 ∷ 0 ∷ 0 ∷ 101 ∷ 170 ∷ 187 ∷ []) }
+    ensures ok { OnOk result (out.new.items ≡ 7 ∷ octets_of (0x81e4_ffff ∷ 1000 ∷ 501 ∷ 101 ∷ []) ++ 0xaa ∷ 0xbb ∷ []) }
     ensures err { OnErr result (out.new.items ≡ 7 ∷ []) }
 {
     write(&HEADER, &[101], &[0xaa, 0xbb], out)
@@ -26,7 +27,7 @@ pub fn behind_an_octet(out: &mut Vec<u8>) -> Result<(), AllocError>
 /// Nothing but a header.
 pub fn an_empty_packet(out: &mut Vec<u8>) -> Result<(), AllocError>
     requires { out.old.items ≡ [] }
-    ensures ok { OnOk result (out.new.items ≡ 128 ∷ 228 ∷ 255 ∷ 255 ∷ 0 ∷ 0 ∷ 3 ∷ 232 ∷ 0 ∷ 0 ∷ 1 ∷ 245 ∷ []) }
+    ensures ok { OnOk result (out.new.items ≡ octets_of (0x80e4_ffff ∷ 1000 ∷ 501 ∷ [])) }
 {
     write(&HEADER, &[], &[], out)
 }
@@ -42,7 +43,7 @@ pub fn with_room(out: &mut Vec<u8>) -> Result<(), AllocError>
 /// The most contributing sources.
 pub fn with_15_sources(out: &mut Vec<u8>) -> Result<(), AllocError>
     requires { out.old.items ≡ [] }
-    ensures { OnOk result (length out.new.items ≡ 73) }
+    ensures { OnOk result (out.new.items ≡ octets_of (0x8fe4_ffff ∷ 1000 ∷ 501 ∷ 1 ∷ 2 ∷ 3 ∷ 4 ∷ 5 ∷ 6 ∷ 7 ∷ 8 ∷ 9 ∷ 10 ∷ 11 ∷ 12 ∷ 13 ∷ 14 ∷ 15 ∷ []) ++ 9 ∷ []) }
 {
     write(
         &HEADER,

@@ -1,4 +1,4 @@
-use Rattle.std.proofs.Common.{rules, arith, ◌≡◌, true, Some, Err, [], refl, inl, inr}
+use Rattle.std.proofs.Common.{arith, ◌≡◌, Err, [], refl, inl}
 use Rattle.rtcp_codec.specs.declared.fault.RtcpFault.TheVariants as faults
 use Rattle.worked_codecs.proofs.reading_compound_faults.refused_as.Goals as goal
 

@@ -1,5 +1,4 @@
 use Rattle.std.proofs.Common.{rules, [], ◌∷◌, refl}
-use Rattle.rtp_codec.specs.Packet.{IsPacket}
 use Rattle.worked_codecs.specs.Packets.{extended}
 use Rattle.worked_codecs.proofs.reading_packets.an_extension_and_padding.Goals as goal
 

@@ -1,5 +1,4 @@
 use Rattle.std.proofs.Common.{rules, [], ◌∷◌, refl}
-use Rattle.rtp_codec.specs.Packet.{IsPacket}
 use Rattle.worked_codecs.specs.Packets.{padding_alone}
 use Rattle.worked_codecs.proofs.reading_packets.nothing_but_padding.Goals as goal
 
