@@ -1,7 +1,8 @@
 //! The words of NACKs, and the numbers that they name.
 #![tactic(auto, unfolding(rtcp_codec::specs::Nack::numbers_up_to))]
 
-ghost use Rattle.std.specs.Prelude.{◌≡◌, [], ◌∷◌, IfOk, IsOk};
+ghost use Rattle.std.specs.Prelude.{◌≡◌, [], ◌∷◌, ◌++◌, IfOk, IsOk};
+ghost use Rattle.std.specs.List.{range_with_len};
 ghost use Rattle.rtcp_codec.specs.Nack.{numbers_named, ArePacked};
 
 use rtcp_codec::{NackWord, nack_numbers, nack_words};
@@ -30,7 +31,7 @@ pub fn the_greatest_bit(alloc: Global) -> Result<Vec<u16>, AllocError>
 
 /// All bits.
 pub fn all_bits(alloc: Global) -> Result<Vec<u16>, AllocError>
-    ensures { IfOk result (λ v. v.items ≡ 65530 ∷ 65531 ∷ 65532 ∷ 65533 ∷ 65534 ∷ 65535 ∷ 0 ∷ 1 ∷ 2 ∷ 3 ∷ 4 ∷ 5 ∷ 6 ∷ 7 ∷ 8 ∷ 9 ∷ 10 ∷ []) }
+    ensures { IfOk result (λ v. v.items ≡ range_with_len 65530 6 ++ range_with_len 0 11) }
 {
     nack_numbers(alloc, 65_530, 0xffff)
 }

@@ -4,37 +4,37 @@ ghost use Rattle.std.specs.Prelude.{◌≡◌, IfSome, MatchResult};
 ghost use Rattle.std.specs.List.{AllByRecursion};
 ghost use Rattle.rtcp_codec.specs.Packet.{FitsFields};
 ghost use Rattle.rtcp_codec.specs.View.{packets_of};
-ghost use Rattle.worked_codecs.specs.Compounds.{report_alone, loss_below_0, sender_and_leave, two_sources, short_reason, empty_reason, application, nack_and_pli, other_format};
+ghost use Rattle.worked_codecs.specs.Compounds as compounds;
 
 use rtcp_codec::{Rtcp, RtcpFault, read_compound, write_compound, written_is_compound};
 use std::alloc::Global;
 
 /// A receiver report without blocks.
 pub fn reads_report_alone(alloc: Global) -> Result<Vec<Rtcp>, RtcpFault>
-    ensures { MatchResult result (λ v. packets_of v.items ≡ report_alone) (λ f. f ≡ RtcpFault.OutOfMemory) }
+    ensures { MatchResult result (λ v. packets_of v.items ≡ compounds.report_alone) (λ f. f ≡ RtcpFault.OutOfMemory) }
 {
     written_is_compound();
     read_compound(alloc, &[0x80, 0xc9, 0x00, 0x01, 0x00, 0x00, 0x00, 0x09])
 }
 
-/// A receiver report with a block whose loss is -1.
-pub fn reads_loss_below_0(alloc: Global) -> Result<Vec<Rtcp>, RtcpFault>
-    ensures { MatchResult result (λ v. packets_of v.items ≡ loss_below_0) (λ f. f ≡ RtcpFault.OutOfMemory) }
+/// A receiver report with a block of the least loss that 24 bits can tell.
+pub fn reads_least_loss(alloc: Global) -> Result<Vec<Rtcp>, RtcpFault>
+    ensures { MatchResult result (λ v. packets_of v.items ≡ compounds.least_loss) (λ f. f ≡ RtcpFault.OutOfMemory) }
 {
     written_is_compound();
     read_compound(
         alloc,
         &[
-            0x81, 0xc9, 0x00, 0x07, 0x00, 0x00, 0x00, 0x09, 0x00, 0x00, 0x00, 0x65, 0x0b, 0xff,
-            0xff, 0xff, 0x00, 0x00, 0xff, 0xff, 0x00, 0x00, 0x00, 0x21, 0x00, 0x00, 0xca, 0xfe,
+            0x81, 0xc9, 0x00, 0x07, 0x00, 0x00, 0x00, 0x09, 0x00, 0x00, 0x00, 0x65, 0x0b, 0x80,
+            0x00, 0x00, 0x00, 0x00, 0xff, 0xff, 0x00, 0x00, 0x00, 0x21, 0x00, 0x00, 0xca, 0xfe,
             0x00, 0x00, 0x01, 0x02,
         ],
     )
 }
 
 /// A sender report without blocks, and a source that leaves.
-pub fn reads_sender_and_leave(alloc: Global) -> Result<Vec<Rtcp>, RtcpFault>
-    ensures { MatchResult result (λ v. packets_of v.items ≡ sender_and_leave) (λ f. f ≡ RtcpFault.OutOfMemory) }
+pub fn reads_sender_leaves(alloc: Global) -> Result<Vec<Rtcp>, RtcpFault>
+    ensures { MatchResult result (λ v. packets_of v.items ≡ compounds.sender_leaves) (λ f. f ≡ RtcpFault.OutOfMemory) }
 {
     written_is_compound();
     read_compound(
@@ -47,9 +47,9 @@ pub fn reads_sender_and_leave(alloc: Global) -> Result<Vec<Rtcp>, RtcpFault>
     )
 }
 
-/// A report, and what two chunks say of one source.
-pub fn reads_two_sources(alloc: Global) -> Result<Vec<Rtcp>, RtcpFault>
-    ensures { MatchResult result (λ v. packets_of v.items ≡ two_sources) (λ f. f ≡ RtcpFault.OutOfMemory) }
+/// A report, and what two chunks say of a source.
+pub fn reads_two_chunks(alloc: Global) -> Result<Vec<Rtcp>, RtcpFault>
+    ensures { MatchResult result (λ v. packets_of v.items ≡ compounds.two_chunks) (λ f. f ≡ RtcpFault.OutOfMemory) }
 {
     written_is_compound();
     read_compound(
@@ -64,7 +64,7 @@ pub fn reads_two_sources(alloc: Global) -> Result<Vec<Rtcp>, RtcpFault>
 
 /// A report, and a reason for leaving of one octet.
 pub fn reads_short_reason(alloc: Global) -> Result<Vec<Rtcp>, RtcpFault>
-    ensures { MatchResult result (λ v. packets_of v.items ≡ short_reason) (λ f. f ≡ RtcpFault.OutOfMemory) }
+    ensures { MatchResult result (λ v. packets_of v.items ≡ compounds.short_reason) (λ f. f ≡ RtcpFault.OutOfMemory) }
 {
     written_is_compound();
     read_compound(
@@ -78,7 +78,7 @@ pub fn reads_short_reason(alloc: Global) -> Result<Vec<Rtcp>, RtcpFault>
 
 /// A report, an empty reason for leaving, which isn't none, and none.
 pub fn reads_empty_reason(alloc: Global) -> Result<Vec<Rtcp>, RtcpFault>
-    ensures { MatchResult result (λ v. packets_of v.items ≡ empty_reason) (λ f. f ≡ RtcpFault.OutOfMemory) }
+    ensures { MatchResult result (λ v. packets_of v.items ≡ compounds.empty_reason) (λ f. f ≡ RtcpFault.OutOfMemory) }
 {
     written_is_compound();
     read_compound(
@@ -90,9 +90,9 @@ pub fn reads_empty_reason(alloc: Global) -> Result<Vec<Rtcp>, RtcpFault>
     )
 }
 
-/// A report, and what an application says.
+/// A report, and what an compounds.application says.
 pub fn reads_application(alloc: Global) -> Result<Vec<Rtcp>, RtcpFault>
-    ensures { MatchResult result (λ v. packets_of v.items ≡ application) (λ f. f ≡ RtcpFault.OutOfMemory) }
+    ensures { MatchResult result (λ v. packets_of v.items ≡ compounds.application) (λ f. f ≡ RtcpFault.OutOfMemory) }
 {
     written_is_compound();
     read_compound(
@@ -106,7 +106,7 @@ pub fn reads_application(alloc: Global) -> Result<Vec<Rtcp>, RtcpFault>
 
 /// A report, a NACK of two words and a PLI.
 pub fn reads_nack_and_pli(alloc: Global) -> Result<Vec<Rtcp>, RtcpFault>
-    ensures { MatchResult result (λ v. packets_of v.items ≡ nack_and_pli) (λ f. f ≡ RtcpFault.OutOfMemory) }
+    ensures { MatchResult result (λ v. packets_of v.items ≡ compounds.nack_and_pli) (λ f. f ≡ RtcpFault.OutOfMemory) }
 {
     written_is_compound();
     read_compound(
@@ -121,7 +121,7 @@ pub fn reads_nack_and_pli(alloc: Global) -> Result<Vec<Rtcp>, RtcpFault>
 
 /// A report, and feedback of another format.
 pub fn reads_other_format(alloc: Global) -> Result<Vec<Rtcp>, RtcpFault>
-    ensures { MatchResult result (λ v. packets_of v.items ≡ other_format) (λ f. f ≡ RtcpFault.OutOfMemory) }
+    ensures { MatchResult result (λ v. packets_of v.items ≡ compounds.other_format) (λ f. f ≡ RtcpFault.OutOfMemory) }
 {
     written_is_compound();
     read_compound(

@@ -1,49 +1,49 @@
 //! Compounds that are written.
 
-ghost use Rattle.std.specs.Prelude.{◌≡◌, ◌+◌, ◌*◌, ◌≤◌, [], ◌∷◌, OnOk, OnErr, IfErr, IsOk, vec_len, vec_capacity, length};
+ghost use Rattle.std.specs.Prelude.{◌≡◌, ◌+◌, ◌*◌, ◌≤◌, [], ◌∷◌, length};
+ghost use Rattle.std.specs.Prelude.{OnOk, OnErr, IfErr, IsOk, vec_len, vec_capacity};
 ghost use Rattle.rtcp_codec.specs.Packet.{Receiver, Other};
 ghost use Rattle.rtcp_codec.specs.View.{packets_of};
 ghost use Rattle.worked_codecs.specs.Octets.{octets_of};
-ghost use Rattle.worked_codecs.specs.Compounds.{report_alone, loss_below_0, sender_and_leave, two_sources, short_reason, empty_reason, application, nack_and_pli, other_format};
-ghost use Rattle.worked_codecs.specs.Compounds.{report_alone_words, loss_below_0_words, sender_and_leave_words, two_sources_words, short_reason_words, empty_reason_words, application_words, nack_and_pli_words, other_format_words};
+ghost use Rattle.worked_codecs.specs.Compounds as compounds;
 
 use rtcp_codec::{Rtcp, WriteFault, write_compound};
 
 /// A receiver report without blocks.
 pub fn writes_report_alone(packets: &[Rtcp], out: &mut Vec<u8>) -> Result<(), WriteFault>
-    requires packets { packets_of packets.now ≡ report_alone }
+    requires packets { packets_of packets.now ≡ compounds.report_alone }
     requires out { out.old.items ≡ 7 ∷ [] }
-    ensures ok { OnOk result (out.new.items ≡ 7 ∷ octets_of report_alone_words) }
+    ensures ok { OnOk result (out.new.items ≡ 7 ∷ octets_of compounds.report_alone_words) }
     ensures err { OnErr result (out.new.items ≡ 7 ∷ []) }
 {
     write_compound(packets, out)
 }
 
-/// A receiver report with a block whose loss is -1.
-pub fn writes_loss_below_0(packets: &[Rtcp], out: &mut Vec<u8>) -> Result<(), WriteFault>
-    requires packets { packets_of packets.now ≡ loss_below_0 }
+/// A receiver report with a block of the least loss that 24 bits can tell.
+pub fn writes_least_loss(packets: &[Rtcp], out: &mut Vec<u8>) -> Result<(), WriteFault>
+    requires packets { packets_of packets.now ≡ compounds.least_loss }
     requires out { out.old.items ≡ 7 ∷ [] }
-    ensures ok { OnOk result (out.new.items ≡ 7 ∷ octets_of loss_below_0_words) }
+    ensures ok { OnOk result (out.new.items ≡ 7 ∷ octets_of compounds.least_loss_words) }
     ensures err { OnErr result (out.new.items ≡ 7 ∷ []) }
 {
     write_compound(packets, out)
 }
 
 /// A sender report without blocks, and a source that leaves.
-pub fn writes_sender_and_leave(packets: &[Rtcp], out: &mut Vec<u8>) -> Result<(), WriteFault>
-    requires packets { packets_of packets.now ≡ sender_and_leave }
+pub fn writes_sender_leaves(packets: &[Rtcp], out: &mut Vec<u8>) -> Result<(), WriteFault>
+    requires packets { packets_of packets.now ≡ compounds.sender_leaves }
     requires out { out.old.items ≡ 7 ∷ [] }
-    ensures ok { OnOk result (out.new.items ≡ 7 ∷ octets_of sender_and_leave_words) }
+    ensures ok { OnOk result (out.new.items ≡ 7 ∷ octets_of compounds.sender_leaves_words) }
     ensures err { OnErr result (out.new.items ≡ 7 ∷ []) }
 {
     write_compound(packets, out)
 }
 
-/// A report, and what two chunks say of one source.
-pub fn writes_two_sources(packets: &[Rtcp], out: &mut Vec<u8>) -> Result<(), WriteFault>
-    requires packets { packets_of packets.now ≡ two_sources }
+/// A report, and what two chunks say of a source.
+pub fn writes_two_chunks(packets: &[Rtcp], out: &mut Vec<u8>) -> Result<(), WriteFault>
+    requires packets { packets_of packets.now ≡ compounds.two_chunks }
     requires out { out.old.items ≡ 7 ∷ [] }
-    ensures ok { OnOk result (out.new.items ≡ 7 ∷ octets_of two_sources_words) }
+    ensures ok { OnOk result (out.new.items ≡ 7 ∷ octets_of compounds.two_chunks_words) }
     ensures err { OnErr result (out.new.items ≡ 7 ∷ []) }
 {
     write_compound(packets, out)
@@ -51,9 +51,9 @@ pub fn writes_two_sources(packets: &[Rtcp], out: &mut Vec<u8>) -> Result<(), Wri
 
 /// A report, and a reason for leaving of one octet.
 pub fn writes_short_reason(packets: &[Rtcp], out: &mut Vec<u8>) -> Result<(), WriteFault>
-    requires packets { packets_of packets.now ≡ short_reason }
+    requires packets { packets_of packets.now ≡ compounds.short_reason }
     requires out { out.old.items ≡ 7 ∷ [] }
-    ensures ok { OnOk result (out.new.items ≡ 7 ∷ octets_of short_reason_words) }
+    ensures ok { OnOk result (out.new.items ≡ 7 ∷ octets_of compounds.short_reason_words) }
     ensures err { OnErr result (out.new.items ≡ 7 ∷ []) }
 {
     write_compound(packets, out)
@@ -61,19 +61,19 @@ pub fn writes_short_reason(packets: &[Rtcp], out: &mut Vec<u8>) -> Result<(), Wr
 
 /// A report, an empty reason for leaving, which isn't none, and none.
 pub fn writes_empty_reason(packets: &[Rtcp], out: &mut Vec<u8>) -> Result<(), WriteFault>
-    requires packets { packets_of packets.now ≡ empty_reason }
+    requires packets { packets_of packets.now ≡ compounds.empty_reason }
     requires out { out.old.items ≡ 7 ∷ [] }
-    ensures ok { OnOk result (out.new.items ≡ 7 ∷ octets_of empty_reason_words) }
+    ensures ok { OnOk result (out.new.items ≡ 7 ∷ octets_of compounds.empty_reason_words) }
     ensures err { OnErr result (out.new.items ≡ 7 ∷ []) }
 {
     write_compound(packets, out)
 }
 
-/// A report, and what an application says.
+/// A report, and what an compounds.application says.
 pub fn writes_application(packets: &[Rtcp], out: &mut Vec<u8>) -> Result<(), WriteFault>
-    requires packets { packets_of packets.now ≡ application }
+    requires packets { packets_of packets.now ≡ compounds.application }
     requires out { out.old.items ≡ 7 ∷ [] }
-    ensures ok { OnOk result (out.new.items ≡ 7 ∷ octets_of application_words) }
+    ensures ok { OnOk result (out.new.items ≡ 7 ∷ octets_of compounds.application_words) }
     ensures err { OnErr result (out.new.items ≡ 7 ∷ []) }
 {
     write_compound(packets, out)
@@ -81,9 +81,9 @@ pub fn writes_application(packets: &[Rtcp], out: &mut Vec<u8>) -> Result<(), Wri
 
 /// A report, a NACK of two words and a PLI.
 pub fn writes_nack_and_pli(packets: &[Rtcp], out: &mut Vec<u8>) -> Result<(), WriteFault>
-    requires packets { packets_of packets.now ≡ nack_and_pli }
+    requires packets { packets_of packets.now ≡ compounds.nack_and_pli }
     requires out { out.old.items ≡ 7 ∷ [] }
-    ensures ok { OnOk result (out.new.items ≡ 7 ∷ octets_of nack_and_pli_words) }
+    ensures ok { OnOk result (out.new.items ≡ 7 ∷ octets_of compounds.nack_and_pli_words) }
     ensures err { OnErr result (out.new.items ≡ 7 ∷ []) }
 {
     write_compound(packets, out)
@@ -91,9 +91,9 @@ pub fn writes_nack_and_pli(packets: &[Rtcp], out: &mut Vec<u8>) -> Result<(), Wr
 
 /// A report, and feedback of another format.
 pub fn writes_other_format(packets: &[Rtcp], out: &mut Vec<u8>) -> Result<(), WriteFault>
-    requires packets { packets_of packets.now ≡ other_format }
+    requires packets { packets_of packets.now ≡ compounds.other_format }
     requires out { out.old.items ≡ 7 ∷ [] }
-    ensures ok { OnOk result (out.new.items ≡ 7 ∷ octets_of other_format_words) }
+    ensures ok { OnOk result (out.new.items ≡ 7 ∷ octets_of compounds.other_format_words) }
     ensures err { OnErr result (out.new.items ≡ 7 ∷ []) }
 {
     write_compound(packets, out)
@@ -101,7 +101,7 @@ pub fn writes_other_format(packets: &[Rtcp], out: &mut Vec<u8>) -> Result<(), Wr
 
 /// Where there is room for what can be written, nothing is refused.
 pub fn with_room(packets: &[Rtcp], out: &mut Vec<u8>) -> Result<(), WriteFault>
-    requires packets { packets_of packets.now ≡ other_format }
+    requires packets { packets_of packets.now ≡ compounds.other_format }
     requires room { vec_len out.old + 16 ≤ vec_capacity out.old }
     ensures { IsOk result }
 {

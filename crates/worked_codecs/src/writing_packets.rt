@@ -1,6 +1,7 @@
 //! RTP packets that are written.
 
 ghost use Rattle.std.specs.Prelude.{◌≡◌, ◌+◌, ◌≤◌, [], ◌∷◌, ◌++◌, OnOk, OnErr, IsOk, vec_len, vec_capacity};
+ghost use Rattle.std.specs.List.{range_with_len};
 ghost use Rattle.worked_codecs.specs.Octets.{octets_of};
 
 use rtp_codec::{Header, write};
@@ -43,7 +44,7 @@ pub fn with_room(out: &mut Vec<u8>) -> Result<(), AllocError>
 /// The most contributing sources.
 pub fn with_15_sources(out: &mut Vec<u8>) -> Result<(), AllocError>
     requires { out.old.items ≡ [] }
-    ensures { OnOk result (out.new.items ≡ octets_of (0x8fe4_ffff ∷ 1000 ∷ 501 ∷ 1 ∷ 2 ∷ 3 ∷ 4 ∷ 5 ∷ 6 ∷ 7 ∷ 8 ∷ 9 ∷ 10 ∷ 11 ∷ 12 ∷ 13 ∷ 14 ∷ 15 ∷ []) ++ 9 ∷ []) }
+    ensures { OnOk result (out.new.items ≡ octets_of (0x8fe4_ffff ∷ 1000 ∷ 501 ∷ range_with_len 1 15) ++ 9 ∷ []) }
 {
     write(
         &HEADER,
