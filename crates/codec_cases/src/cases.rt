@@ -3,7 +3,7 @@
 use crate::answering::answer;
 use crate::expanding::expanded;
 use crate::untried::Untried;
-use std::alloc::Global;
+use std::alloc::{AllocError, Global};
 use std::io;
 
 /// The case that is being read, and how many were tried.
@@ -29,7 +29,27 @@ fn tried(alloc: Global, case: &str) -> Result<(String, &str), Untried> {
     Ok((answer(alloc, kind, input)?, wanted))
 }
 
-/// Tries a case. Prints it if it is answered otherwise, and tells whether it is answered well.
+/// How many characters of what is wanted and got are printed.
+const PRINTED: u32 = 300;
+
+/// A text from where it differs from another on, as far as it is printed.
+fn from_difference(alloc: Global, text: &str, other: &str) -> Result<String, AllocError> {
+    let mut out = String::new(alloc);
+    let mut others = other.chars();
+    let mut left = PRINTED;
+    let mut is_same = true;
+    for c in text.chars() {
+        is_same = is_same && others.next() == Some(c);
+        if !is_same && left > 0 {
+            out.push(c)?;
+            left -= 1;
+        }
+    }
+    Ok(out)
+}
+
+/// Tries a case as it is written. Prints it if it is answered otherwise, and tells whether it is
+/// answered well.
 fn is_answered(
     rt: &HostRuntime,
     alloc: Global,
@@ -37,16 +57,20 @@ fn is_answered(
     number: u64,
     case: &str,
 ) -> io::Result<bool> {
-    let Ok(case) = expanded(alloc, case) else {
+    let Ok(whole) = expanded(alloc, case) else {
         println!(rt; "{name}:{number}: no case")?;
         return Ok(false);
     };
-    match tried(alloc, case.as_str()) {
+    match tried(alloc, whole.as_str()) {
         Ok((got, wanted)) => {
             if got.as_str() == wanted {
                 return Ok(true);
             }
-            println!(rt; "{name}:{number}: {case}\n  got {got}")?;
+            let here = from_difference(alloc, got.as_str(), wanted)?;
+            let there = from_difference(alloc, wanted, got.as_str())?;
+            println!(rt;
+                "{name}:{number}: {case}\n  from where they differ: wanted {there}\n  got {here}"
+            )?;
         }
         Err(Untried::Malformed) => println!(rt; "{name}:{number}: no case")?,
         Err(Untried::OutOfMemory) => println!(rt; "{name}:{number}: out of memory")?,
