@@ -1,9 +1,11 @@
 -- Items and chunks are read in one way, and where they can't be read there are none.
-use Rattle.std.proofs.Common.{◌≡◌, ℕ, suc, ◌+◌, ◌%◌, ◌<◌, List, [], ◌∷◌, ◌++◌, length, get_or, take, drop, refl, sym, ap, subst, ◌∙◌, append_assoc, arith, length-append}
+use Rattle.std.proofs.Common.{◌≡◌, ℕ, suc, ◌+◌, ◌%◌, ◌<◌, ◌≤◌, List, [], ◌∷◌, ◌++◌, length, get_or, take, drop, refl, sym, ap, subst, ◌∙◌, append_assoc, arith, length-append, inl, inr}
 use Rattle.std.specs.Int.{w32, to_be_bytes}
+use Rattle.std.proofs.lemmas.Bool.{cases_lt}
 use Rattle.std.proofs.lemmas.List.{take-append-drop, length-take}
 use Rattle.std.specs.List.{flat_map, AllByRecursion}
-use Rattle.rtcp_codec.specs.Description.{Item, Chunk, item_octets, chunk_octets, IsFill, Describe, FitsItem, FitsChunk, HasItems, HasChunk, HasChunks}
+use Rattle.rtcp_codec.specs.Description.{Item, Chunk, item_octets, chunk_octets, IsFill, Describe, FitsItem, FitsChunk, HasChunks}
+use Rattle.rtcp_codec.specs.inner.Reading.{HasItems, HasChunk}
 use Rattle.rtcp_codec.proofs.Lists.{front_of, same_split, same_number}
 
 parts_of : (k l m n : ℕ) (a b : List ℕ) → k ∷ l ∷ a ≡ m ∷ n ∷ b → (k ≡ m) × (l ≡ n) × (a ≡ b)
@@ -50,6 +52,42 @@ no_items octets kind short (j ∷ js, rest, all, h) =
     let len : length octets ≡ suc (suc (length (j.text ++ (flat_map item_octets js ++ 0 ∷ rest)))) = ap length f in
     omega (arith, length-append j.text (flat_map item_octets js ++ 0 ∷ rest))
 
+same_drop : (n k : ℕ) (text rest : List ℕ) → rest ≡ drop (2 + n) (k ∷ n ∷ text) → drop n text ≡ rest
+same_drop n k text rest e =
+    let two : 2 + n ≡ suc (suc n) = omega arith in
+    sym (e ∙ ap (λ (m : ℕ). drop m (k ∷ n ∷ text)) two)
+
+-- an item stands at the front
+pub item_at : (octets rest : List ℕ) → ((i : ℕ) → get_or octets i 0 < 256) → (0 < length octets → 0 < get_or octets 0 0) → 2 + get_or octets 1 0 ≤ length octets → 2 ≤ length octets → rest ≡ drop (2 + get_or octets 1 0) octets → (i : Item) × FitsItem i × (octets ≡ item_octets i ++ rest)
+item_at (k ∷ n ∷ text) rest bytes kind whole long behind =
+    let front = take n text in
+    let few : length front ≡ n = omega (arith, length-take n text) in (
+      record { kind = k; text = front },
+      record { kind = kind (omega arith); octet = bytes 0; text = omega (arith, few, bytes 1) },
+      ap (λ (l : List ℕ). k ∷ n ∷ l) (sym (take-append-drop n text)) ∙ ap (λ (m : ℕ). k ∷ m ∷ (front ++ drop n text)) (sym few) ∙ ap (λ (l : List ℕ). item_octets (record { kind = k; text = front }) ++ l) (same_drop n k text rest behind),
+    )
+item_at (k ∷ []) rest bytes kind whole long behind = absurd (omega arith)
+item_at [] rest bytes kind whole long behind = absurd (omega arith)
+
+-- the parts of the item at the front
+pub item_parts : (octets front rest text after : List ℕ) (n : ℕ) → front ≡ take 2 octets → rest ≡ drop 2 octets → n ≡ get_or front 1 0 → text ≡ take n rest → after ≡ drop n rest → 2 + get_or octets 1 0 ≤ length octets → octets ≡ get_or front 0 0 ∷ length text ∷ (text ++ after)
+item_parts (k ∷ m ∷ more) front rest text after n f r is t a whole =
+    let second : n ≡ m = is ∙ ap (λ (l : List ℕ). get_or l 1 0) f in
+    let first : get_or front 0 0 ≡ k = ap (λ (l : List ℕ). get_or l 0 0) f in
+    let few : length text ≡ m = omega (arith, ap length t, ap length r, length-take n rest, second) in
+    let joined : text ++ after ≡ more = rw (t, a) (take-append-drop n rest ∙ r) in
+    rw (first, few, joined) refl
+item_parts (k ∷ []) front rest text after n f r is t a whole = absurd (omega arith)
+item_parts [] front rest text after n f r is t a whole = absurd (omega arith)
+
+-- what has items and doesn't begin with a null begins with a whole item
+pub item_is_whole : (octets : List ℕ) → (0 < length octets → 0 < get_or octets 0 0) → HasItems octets → 2 + get_or octets 1 0 ≤ length octets
+item_is_whole octets kind h =
+    elim (cases_lt (length octets) (2 + get_or octets 1 0)) [
+      | inl short ↦ absurd (no_items octets kind short h)
+      | inr long ↦ long
+    ]
+
 -- ---- chunks
 
 chunk_front : (c : Chunk) (rest : List ℕ) → chunk_octets c ++ rest ≡ to_be_bytes w32 c.ssrc ++ (flat_map item_octets c.items ++ 0 ∷ rest)
@@ -65,11 +103,18 @@ same_chunk c d a b h k e =
     let made : ℕ → List Item → Chunk = λ ssrc items. record { ssrc = ssrc; items = items } in
     (ap (λ (m : ℕ). made m c.items) n.0 ∙ ap (λ (l : List Item). made d.ssrc l) s.0, s.1)
 
--- behind a source stand its items
-pub no_chunk_without_items : (ssrc : ℕ) (octets rest : List ℕ) → octets ≡ to_be_bytes w32 ssrc ++ rest → (HasItems rest → ⊥) → HasChunk octets → ⊥
-no_chunk_without_items ssrc octets rest e none (c, more, fits, h) =
+-- a chunk's items stand behind its source
+pub items_stand : (ssrc : ℕ) (octets rest : List ℕ) → octets ≡ to_be_bytes w32 ssrc ++ rest → HasChunk octets → HasItems rest
+items_stand ssrc octets rest e (c, more, fits, h) =
     let s = same_split (to_be_bytes w32 ssrc) (to_be_bytes w32 c.ssrc) rest (flat_map item_octets c.items ++ 0 ∷ more) refl (sym e ∙ h ∙ chunk_front c more) in
-    none (c.items, more, fits.items, s.1)
+    (c.items, more, fits.items, s.1)
+
+pub chunk_long : (octets : List ℕ) → HasChunk octets → 4 ≤ length octets
+chunk_long octets (c, rest, fits, h) = omega (arith, ap length (h ∙ chunk_front c rest))
+
+-- where there are no items, there is no chunk
+pub no_chunk_without_items : (ssrc : ℕ) (octets rest : List ℕ) → octets ≡ to_be_bytes w32 ssrc ++ rest → (HasItems rest → ⊥) → HasChunk octets → ⊥
+no_chunk_without_items ssrc octets rest e none h = none (items_stand ssrc octets rest e h)
 
 pub same_fill : (size : ℕ) (fill other : List ℕ) → IsFill size fill → IsFill size other → length fill ≡ length other
 same_fill size fill other h k = omega (arith, h.short, h.whole, k.short, k.whole)
@@ -82,6 +127,11 @@ chunks_behind c fill octets after n fits is e (d ∷ ds, len, all, h) =
     let other : IsFill (length (chunk_octets c)) h.0 = subst (λ (x : Chunk). IsFill (length (chunk_octets x)) h.0) (sym s.0) h.3 in
     let f = same_split fill h.0 after h.1 (same_fill (length (chunk_octets c)) fill h.0 is other) s.1 in
     (ds, omega arith, all.1, subst (Describe ds) (sym f.1) h.4)
+
+-- where there are chunks, there is a first
+pub chunk_stands : (octets : List ℕ) (n : ℕ) → HasChunks (suc n) octets → HasChunk octets
+chunk_stands octets n ([], len, all, h) = absurd (omega arith)
+chunk_stands octets n (d ∷ ds, len, all, h) = (d, h.0 ++ h.1, all.0, h.2)
 
 -- where there is no chunk, there are none
 pub no_chunks : (octets : List ℕ) (n : ℕ) → (HasChunk octets → ⊥) → HasChunks (suc n) octets → ⊥

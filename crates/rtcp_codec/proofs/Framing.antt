@@ -7,8 +7,9 @@ use Rattle.std.proofs.lemmas.List.{take-append-drop, length-take, length-drop, g
 use Rattle.std.proofs.lemmas.Nat.{be_bytes_2}
 use Rattle.rtp_codec.specs.Packet.{IsPadding}
 use Rattle.rtcp_codec.specs.Kind.{kind_of}
-use Rattle.rtcp_codec.specs.Packet.{Packet, Sender, Receiver, Sdes, Bye, App, Nack, Pli, Other, kind, type_of, count_of, FitsFields, IsPacket, IsOf, common_header}
-use Rattle.rtcp_codec.specs.Compound.{is_padded, count, packet_at, padding_of, IsReport, IsHead, IsGoodPadding, Takes}
+use Rattle.rtcp_codec.specs.Packet.{Packet, Sender, Receiver, Sdes, Bye, App, Nack, Pli, Other, kind, type_of, count_of, FitsFields, IsPacket, common_header}
+use Rattle.rtcp_codec.specs.Compound.{is_padded, count, packet_at, padding_of, IsReport}
+use Rattle.rtcp_codec.specs.inner.Reading.{IsHead, IsGoodPadding, IsOf, Takes}
 
 abbrev pub IsBytes : List ℕ → Type 0
 IsBytes octets = (i : ℕ) → get_or octets i 0 < 256
@@ -87,12 +88,15 @@ whole_packet a b c d n w tail body p bytes v w-is len none some counted few word
       padding_words = words;
     }
 
-IsBytes-take : (n : ℕ) (bytes : List ℕ) → IsBytes bytes → IsBytes (take n bytes)
+pub IsBytes-take : (n : ℕ) (bytes : List ℕ) → IsBytes bytes → IsBytes (take n bytes)
 IsBytes-take n bytes h i =
     elim (cases_lt i n) [
       | inl lt ↦ rw (get_or-take n bytes i 0 lt) (h i)
       | inr le ↦ rw (get_or_past (take n bytes) i 0 (omega (arith, length-take n bytes))) (omega arith)
     ]
+
+pub IsBytes-drop : (n : ℕ) (bytes : List ℕ) → IsBytes bytes → IsBytes (drop n bytes)
+IsBytes-drop n bytes h i = rw (get_or-drop n bytes i 0) (h (n + i))
 
 padded_by : (n : ℕ) (padded : Bool) → (padded ≡ false → n ≡ 0) → 0 < n → padded ≡ true
 padded_by n true none some = refl

@@ -1,7 +1,7 @@
 pub mod ReasonLemmas
+pub mod WholeBodies
 pub mod Compounds
 pub mod Descriptions
-pub mod Faults
 pub mod Framing
 pub mod Lists
 pub mod Words

@@ -8,8 +8,9 @@ use Rattle.std.proofs.lemmas.List.Concat.{flat_map-cons}
 use Rattle.rtp_codec.specs.Packet.{number_octets}
 use Rattle.rtcp_codec.specs.Description.{Chunk, chunk_octets, filled, IsFill, Describe}
 use Rattle.rtcp_codec.specs.Packet.{Packet, Sender, Receiver, Sdes, Bye, App, Nack, Pli, Other, fields, count_of, FitsFields, IsBody, IsPacket, common_header, written_packet}
-use Rattle.rtcp_codec.specs.Compound.{Reads, written}
-use Rattle.rtcp_codec.specs.WriteFault.{IsWritable, CountFits, PartsFit, BeginsWithReport}
+use Rattle.rtcp_codec.specs.Compound.{BeginsWithReport, written}
+use Rattle.rtcp_codec.specs.inner.Reading.{Reads}
+use Rattle.rtcp_codec.specs.WriteFault.{IsWritable, CountFits, PartsFit}
 use Rattle.rtcp_codec.proofs.Lists.{front_of, numbers_length, words_length}
 
 filled_length : (l : List ℕ) → length (filled l) ≡ length l + (4 - length l % 4) % 4

@@ -1,10 +1,10 @@
 -- Octets are read as packets in one way, and what is a packet has no fault.
-use Rattle.std.proofs.Common.{◌≡◌, ℕ, zero, suc, ◌+◌, ◌-◌, ◌*◌, ◌/◌, ◌%◌, ◌^◌, ◌<◌, ◌≤◌, Bool, true, false, cond, List, [], ◌∷◌, ◌++◌, length, get_or, take, Option, Some, None, ℤ, pos, negsuc, refl, sym, ap, subst, ◌∙◌, append_assoc, arith, length-append, inl, inr}
+use Rattle.std.proofs.Common.{◌≡◌, ℕ, zero, suc, ◌+◌, ◌-◌, ◌*◌, ◌/◌, ◌%◌, ◌^◌, ◌<◌, ◌≤◌, Bool, true, false, cond, List, [], ◌∷◌, ◌++◌, length, get_or, take, drop, Option, Some, None, ℤ, pos, negsuc, refl, sym, ap, subst, ◌∙◌, append_assoc, arith, length-append, inl, inr}
 use Rattle.std.specs.Prelude.{nat_lt, ◌==◌, ◌⊎◌}
 use Rattle.std.specs.Int.{w16, w32, w64, from_be_bytes, to_be_bytes}
 use Rattle.std.specs.List.{flat_map, AllByRecursion}
 use Rattle.std.proofs.lemmas.Bool.{lt-ltb, ltb-true}
-use Rattle.std.proofs.lemmas.List.{append-nil, take_at}
+use Rattle.std.proofs.lemmas.List.{append-nil, take_at, drop_at}
 use Rattle.std.proofs.lemmas.Int.{ints}
 use Rattle.std.proofs.lemmas.Nat.{from_be_bytes-to_be_bytes_2, from_be_bytes-to_be_bytes_8}
 use Rattle.std.proofs.Math.Seq.{get_or-append_seam}
@@ -19,7 +19,8 @@ use Rattle.rtcp_codec.specs.declared.kind.Kind.{Kind}
 use Rattle.rtcp_codec.specs.Description.{Chunk, chunk_octets, IsFill, Describe, FitsChunk, HasChunks}
 use Rattle.rtcp_codec.specs.Packet.{Packet, Sender, Receiver, Sdes, Bye, App, Nack, Pli, Other, kind, type_of, count_of, fields, FitsFields, IsBody, IsPacket, common_header}
 use Rattle.rtcp_codec.specs.Kind.{kind_of}
-use Rattle.rtcp_codec.specs.Compound.{Takes, Reads, IsFirstOf, in_order, Case, IsReport, IsBadPadding, IsWholeBody, IsWholeReason, version, size, count, kind_at, is_padded, padding_of, packet_at, body_of}
+use Rattle.rtcp_codec.specs.Compound.{IsFirstOf, in_order, Case, IsReport, IsBadPadding, IsWholeBody, IsWholeReason, version, size, count, kind_at, is_padded, padding_of, packet_at, body_of}
+use Rattle.rtcp_codec.specs.inner.Reading.{IsOf, Takes, Reads}
 use Rattle.rtcp_codec.proofs.Framing.{kind_is}
 use Rattle.rtcp_codec.proofs.Descriptions.{same_chunk, same_fill}
 use Rattle.rtcp_codec.proofs.Lists.{front_of, same_split, same_number, words_length, blocks_length, numbers_length, behind_numbers}
@@ -381,3 +382,55 @@ same_reading first (p ∷ ps) (q ∷ qs) a b octets h k =
     let s = same_takes first p q octets h.0 k.0 h.1 k.1 in
     let r = same_reading false ps qs a b h.0 h.2 (subst (Reads false qs b) (sym s.1) k.2) in
     (ap (λ (z : Packet). z ∷ ps) s.0 ∙ ap (λ (l : List Packet). q ∷ l) r.0, r.1)
+
+-- ---- reading what was judged
+
+-- what stands at the front, as a reader of it finds it
+pub record Stands (p : Packet) (octets rest : List ℕ) : Type 0 where
+  pub long : 4 ≤ length octets
+  pub whole : size octets ≤ length octets
+  pub behind : drop (size octets) octets ≡ rest
+  pub head : 4 ≤ length (packet_at octets)
+  pub padding : 4 + padding_of (packet_at octets) ≤ length (packet_at octets)
+  pub its_type : get_or (packet_at octets) 1 0 ≡ type_of p
+  pub its_count : count (packet_at octets) ≡ count_of p
+  pub fits : FitsFields p
+  pub is_body : IsBody p (body_of (packet_at octets))
+  pub whole_body : IsWholeBody (kind_at (packet_at octets)) (count (packet_at octets)) (body_of (packet_at octets))
+  pub words : length (body_of (packet_at octets)) % 4 ≡ 0
+
+type_said : (p : Packet) (n : ℕ) (front : List ℕ) → IsPacket p n front → get_or front 1 0 ≡ type_of p
+type_said p n front k = ap (λ (l : List ℕ). get_or l 1 0) k.parts
+
+pub stands : (p : Packet) (octets rest : List ℕ) → Takes false p octets rest → Stands p octets rest
+stands p octets rest t =
+    let k = t.is_packet in
+    let s = says p t.padding t.front k in
+    let sz = front_at octets t.front rest t.parts s.its_size s.long in
+    let len : length octets ≡ length t.front + length rest = ap length t.parts ∙ length-append t.front rest in
+    let at : packet_at octets ≡ t.front = ap (λ (z : ℕ). take z octets) sz ∙ ap (take (length t.front)) t.parts ∙ take_at t.front rest (length t.front) refl in
+    let whole : IsWholeBody (kind_at t.front) (count t.front) (body_of t.front) = whole_said p t.front k.body s.its_kind s.its_count s.its_body (whole_body p k.body k.fits k.is_body) in
+    let parts : length t.front ≡ 4 + (length k.body + t.padding) = omega (arith, ap length k.parts, length-append k.body k.padding_octets, padding_length t.padding k.padding_octets k.is_padding) in
+    record {
+      long = omega (arith, len, s.long);
+      whole = omega (arith, len, sz);
+      behind = ap (λ (z : ℕ). drop z octets) sz ∙ ap (drop (length t.front)) t.parts ∙ drop_at t.front rest (length t.front) refl;
+      head = omega (arith, ap length at, s.long);
+      padding = omega (arith, ap length at, ap padding_of at, s.its_padding, s.behind);
+      its_type = ap (λ (l : List ℕ). get_or l 1 0) at ∙ type_said p t.padding t.front k;
+      its_count = ap count at ∙ s.its_count;
+      fits = k.fits;
+      is_body = subst (IsBody p) (sym (ap body_of at ∙ s.its_body)) k.is_body;
+      whole_body = subst (λ (l : List ℕ). IsWholeBody (kind_at l) (count l) (body_of l)) (sym at) whole;
+      words = ap (λ (l : List ℕ). length l % 4) (ap body_of at ∙ s.its_body) ∙ omega (arith, k.size, parts, k.padding_words);
+    }
+
+-- what is read of the packet at the front is this packet
+pub same_stand : (p q : Packet) (octets rest packet after body : List ℕ) → Takes false p octets rest → packet ≡ packet_at octets → after ≡ drop (size octets) octets → body ≡ body_of packet → IsOf (get_or packet 1 0) (get_or packet 0 0 % 32) body q → (q ≡ p) × (after ≡ rest)
+same_stand p q octets rest packet after body t at behind body-is is =
+    let s = stands p octets rest t in
+    let its_type : type_of q ≡ type_of p = is.its_type ∙ ap (λ (l : List ℕ). get_or l 1 0) at ∙ s.its_type in
+    let its_count : count_of q ≡ count_of p = is.its_count ∙ ap count at ∙ s.its_count in
+    let kinds : kind q ≡ kind p = sym (kind_is q is.fits) ∙ ap (λ (k : ℕ). kind_of k (count_of q)) its_type ∙ ap (kind_of (type_of p)) its_count ∙ kind_is p s.fits in
+    let same : q ≡ p = same_body q p body kinds its_type its_count is.fits s.fits is.is_body (subst (IsBody p) (sym (body-is ∙ ap body_of at)) s.is_body) in
+    (same, behind ∙ s.behind)

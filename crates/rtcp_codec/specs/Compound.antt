@@ -1,6 +1,6 @@
 -- The compound grammar, and why a datagram is no compound (RFC 3550 section 6.1 and A.2).
-use Rattle.std.specs.Prelude.{◌≡◌, ◌≢◌, ℕ, ◌+◌, ◌-◌, ◌*◌, ◌/◌, ◌%◌, ◌<◌, ◌≤◌, ◌==◌, Bool, true, false, if◌then◌else◌, List, [], ◌∷◌, ◌++◌, length, take, drop, slice_index, Option, Some, None, ◌⊎◌}
-use Rattle.std.specs.List.{flat_map}
+use Rattle.std.specs.Prelude.{◌≡◌, ◌≢◌, ℕ, ◌+◌, ◌-◌, ◌*◌, ◌/◌, ◌%◌, ◌<◌, ◌≤◌, ◌==◌, Bool, true, false, if◌then◌else◌, List, [], ◌∷◌, ◌++◌, length, take, drop, map, slice_index, ◌⊎◌, ⊤}
+use Rattle.std.specs.List.{flat_map, AllByRecursion}
 use Rattle.std.specs.Int.{w16, from_be_bytes}
 use Rattle.rtcp_codec.specs.declared.kind.Kind.{Kind}
 use Rattle.rtcp_codec.specs.declared.kind.Kind.TheVariants as kinds
@@ -62,21 +62,6 @@ IsWholeBody kinds.Other n body = Unit {0}
 abbrev pub IsBadPadding : ℕ → List ℕ → Type 0
 IsBadPadding n packet = (n ≡ 0) ⊎ ((n % 4 ≢ 0) ⊎ (length packet < 4 + n))
 
--- padding that may be: none, or on the last packet whole words that follow the common header
-pub record IsGoodPadding (at_end : Bool) (n : ℕ) (packet : List ℕ) : Type 0 where
-  pub none : is_padded packet ≡ false → n ≡ 0
-  pub last : is_padded packet ≡ true → at_end ≡ true
-  pub some : is_padded packet ≡ true → 0 < n
-  pub words : n % 4 ≡ 0
-  pub size : 4 + n ≤ length packet
-
--- a packet begins here by its common header, and is all there
-pub record IsHead (first : Bool) (octets : List ℕ) : Type 0 where
-  pub long : 4 ≤ length octets
-  pub is_version : version octets ≡ 2
-  pub report : first ≡ true → IsReport (kind_at octets)
-  pub whole : size octets ≤ length octets
-
 -- the octets of the packet that begins here
 abbrev pub packet_at : List ℕ → List ℕ
 packet_at octets = take (size octets) octets
@@ -100,32 +85,62 @@ IsFirstOf (f ∷ fs) first fault octets = (Case first f octets × (fault ≡ f))
 abbrev pub in_order : List RtcpFault
 in_order = Short ∷ Version ∷ First ∷ Length ∷ Padding ∷ Body ∷ []
 
--- the packet that begins here has no fault
-abbrev pub IsFaultless : Bool → List ℕ → Type 0
-IsFaultless first octets = (fault : RtcpFault) → ¬ IsFirstOf in_order first fault octets
-
--- the octets begin with the packet, and then the rest comes: only the last packet may be padded, and the first is a report
-pub record Takes (first : Bool) (p : Packet) (octets rest : List ℕ) : Type 0 where
-  pub front : List ℕ
+-- a packet where it stands in a compound: its octets, and how many of these are padding
+pub record Part : Type 0 where
+  pub packet : Packet
+  pub octets : List ℕ
   pub padding : ℕ
-  pub parts : octets ≡ front ++ rest
-  pub is_packet : IsPacket p padding front
-  pub report : first ≡ true → IsReport (kind p)
-  pub last : 0 < padding → rest ≡ []
 
--- the octets are these packets one behind another, and then comes the end, or a packet that has this as its first fault
-abbrev pub Reads : Bool → List Packet → Option RtcpFault → List ℕ → Type 0
-Reads first [] None octets = (first ≡ false) × (octets ≡ [])
-Reads first [] (Some fault) octets = ((first ≡ true) ⊎ (0 < length octets)) × IsFirstOf in_order first fault octets
-Reads first (p ∷ ps) outcome octets = (rest : List ℕ) × Takes first p octets rest × Reads false ps outcome rest
+-- the octets are those of the packet with this padding
+abbrev pub IsPart : Part → Type 0
+IsPart p = IsPacket p.packet p.padding p.octets
 
--- the octets are the compound of these packets
-abbrev pub IsCompound : List Packet → List ℕ → Type 0
-IsCompound ps octets = Reads true ps None octets
+-- the octets of parts one behind another
+abbrev pub joined : List Part → List ℕ
+joined parts = flat_map (λ p. p.octets) parts
 
--- behind some good packets comes one that has this as its first fault
+-- the packets of parts
+abbrev pub packets_in : List Part → List Packet
+packets_in parts = map (λ p. p.packet) parts
+
+-- no part has padding
+abbrev pub AreUnpadded : List Part → Type 0
+AreUnpadded parts = AllByRecursion (λ p. p.padding ≡ 0) parts
+
+-- no part has padding but the last
+abbrev pub LastAloneIsPadded : List Part → Type 0
+LastAloneIsPadded [] = ⊤
+LastAloneIsPadded (p ∷ []) = ⊤
+LastAloneIsPadded (p ∷ q ∷ parts) = (p.padding ≡ 0) × LastAloneIsPadded (q ∷ parts)
+
+-- the first packet is a report
+abbrev pub BeginsWithReport : List Packet → Type 0
+BeginsWithReport [] = ⊥
+BeginsWithReport (p ∷ ps) = IsReport (kind p)
+
+-- the octets are the compound of these packets: they are its parts joined, the first is a report, and only the last may be padded
+pub record IsCompound (ps : List Packet) (octets : List ℕ) : Type 0 where
+  pub parts : List Part
+  pub packets : packets_in parts ≡ ps
+  pub whole : octets ≡ joined parts
+  pub each : AllByRecursion IsPart parts
+  pub report : BeginsWithReport ps
+  pub unpadded : LastAloneIsPadded parts
+
+-- behind good packets comes one that has this as its first fault
+pub record HasLaterFault (fault : RtcpFault) (octets : List ℕ) : Type 0 where
+  pub before : List Part
+  pub rest : List ℕ
+  pub whole : octets ≡ joined before ++ rest
+  pub each : AllByRecursion IsPart before
+  pub report : BeginsWithReport (packets_in before)
+  pub unpadded : AreUnpadded before
+  pub some : 0 < length rest
+  pub its_fault : IsFirstOf in_order false fault rest
+
+-- the first packet has this as its first fault, or it has none and a later one has
 abbrev pub HasFault : RtcpFault → List ℕ → Type 0
-HasFault fault octets = (ps : List Packet) × Reads true ps (Some fault) octets
+HasFault fault octets = IsFirstOf in_order true fault octets ⊎ HasLaterFault fault octets
 
 -- the written form of a compound: its packets in order
 abbrev pub written : List Packet → List ℕ

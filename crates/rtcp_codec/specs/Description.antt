@@ -46,14 +46,6 @@ pub record FitsChunk (c : Chunk) : Type 0 where
   pub ssrc : c.ssrc < 2 ^ 32
   pub items : AllByRecursion FitsItem c.items
 
--- the octets begin with items and a null
-abbrev pub HasItems : List ℕ → Type 0
-HasItems octets = (items : List Item) × (rest : List ℕ) × AllByRecursion FitsItem items × (octets ≡ flat_map item_octets items ++ 0 ∷ rest)
-
--- the octets begin with a chunk
-abbrev pub HasChunk : List ℕ → Type 0
-HasChunk octets = (c : Chunk) × (rest : List ℕ) × FitsChunk c × (octets ≡ chunk_octets c ++ rest)
-
 -- the octets begin with so many chunks
 abbrev pub HasChunks : ℕ → List ℕ → Type 0
 HasChunks n octets = (chunks : List Chunk) × (length chunks ≡ n) × AllByRecursion FitsChunk chunks × Describe chunks octets

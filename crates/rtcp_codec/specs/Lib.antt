@@ -6,3 +6,4 @@ pub mod Packet
 pub mod Report
 pub mod View
 pub mod WriteFault
+pub mod inner

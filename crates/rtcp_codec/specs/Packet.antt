@@ -119,10 +119,3 @@ pub record IsPacket (p : Packet) (padding : ℕ) (octets : List ℕ) : Type 0 wh
 -- the written form of a packet: no padding, null fill, nothing after the named parts
 abbrev pub written_packet : Packet → List ℕ
 written_packet p = common_header (nat_lt 0 0) p (length (filled (fields p)) / 4) ++ filled (fields p)
-
--- what was read of a body is a packet of this type and count
-pub record IsOf (pt n : ℕ) (body : List ℕ) (p : Packet) : Type 0 where
-  pub its_type : type_of p ≡ pt
-  pub its_count : count_of p ≡ n
-  pub fits : FitsFields p
-  pub is_body : IsBody p body

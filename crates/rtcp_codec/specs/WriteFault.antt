@@ -4,10 +4,10 @@ use Rattle.std.specs.List.{AllByRecursion}
 use Rattle.rtcp_codec.specs.declared.kind.Kind.TheVariants as kinds
 use Rattle.rtcp_codec.specs.declared.fault.WriteFault.{WriteFault}
 use Rattle.rtcp_codec.specs.declared.fault.WriteFault.TheVariants as faults
-use Rattle.rtcp_codec.specs.Compound.{IsReport}
+use Rattle.rtcp_codec.specs.Compound.{BeginsWithReport}
 use Rattle.rtcp_codec.specs.Description.{Item, filled}
 use Rattle.rtcp_codec.specs.Kind.{kind_of}
-use Rattle.rtcp_codec.specs.Packet.{Packet, Sender, Receiver, Sdes, Bye, App, Nack, Pli, Other, fields, kind}
+use Rattle.rtcp_codec.specs.Packet.{Packet, Sender, Receiver, Sdes, Bye, App, Nack, Pli, Other, fields}
 use Rattle.rtcp_codec.specs.Report.{FitsLost}
 
 -- a count that five bits can tell: of blocks, chunks or sources, a subtype or a format; a NACK has words
@@ -55,11 +55,6 @@ pub record IsWritable (p : Packet) : Type 0 where
   pub counted : CountFits p
   pub lengths : LengthFits p
   pub meaning : MeaningFits p
-
--- a compound begins with a report
-abbrev pub BeginsWithReport : List Packet → Type 0
-BeginsWithReport [] = ⊥
-BeginsWithReport (p ∷ ps) = IsReport (kind p)
 
 -- packets that can be written as a compound
 pub record AreWritable (ps : List Packet) : Type 0 where

@@ -1,17 +1,16 @@
 //! Reading the bodies of packets.
 
-ghost use Rattle.std.specs.Prelude.{◌≡◌, ◌+◌, ◌*◌, ◌%◌, ◌^◌, ◌<◌, ◌≤◌, ◌++◌, ◌⊎◌, [], ◌∷◌, length, IfOk, IfErr, IfSome, IfNone};
+ghost use Rattle.std.specs.Prelude.{◌≡◌, ◌+◌, ◌*◌, ◌%◌, ◌^◌, ◌<◌, ◌≤◌, ◌++◌, [], ◌∷◌, length, IfOk, IfSome, IfNone};
 ghost use Rattle.std.specs.List.{flat_map, AllByRecursion};
 ghost use Rattle.rtcp_codec.specs.declared.kind.Kind.TheVariants as kinds;
-ghost use Rattle.rtcp_codec.specs.declared.fault.RtcpFault.TheVariants as faults;
 ghost use Rattle.rtcp_codec.specs.Kind.{kind_of};
-ghost use Rattle.rtcp_codec.specs.Packet.{Begin, IsOf};
-ghost use Rattle.rtcp_codec.specs.Compound.{IsReport, IsWholeBody, IsWholeReason};
+ghost use Rattle.rtcp_codec.specs.Packet.{Begin, Pli as PliPacket};
+ghost use Rattle.rtcp_codec.specs.inner.Reading.{IsOf};
+ghost use Rattle.rtcp_codec.specs.Compound.{IsWholeBody, IsWholeReason};
 ghost use Rattle.rtcp_codec.specs.Nack.{word_octets, FitsWord};
 ghost use Rattle.rtcp_codec.specs.View.{packet_of};
 ghost use Rattle.rtp_codec.specs.Packet.{number_octets};
 
-use crate::fault::RtcpFault;
 use crate::fields::{u16_from, u32_from};
 use crate::kind::{Kind, kind_of};
 use crate::nack::{Nack, NackWord};
@@ -42,44 +41,34 @@ fn ssrcs_from<A: Allocator>(
 }
 
 /// The reason for leaving at the front, if there is any octet.
-fn reason_from<A: Allocator>(alloc: A, octets: &[u8]) -> Result<Option<Vec<u8, A>>, RtcpFault>
+fn reason_from<A: Allocator>(alloc: A, octets: &[u8]) -> Result<Option<Vec<u8, A>>, AllocError>
+    requires { IsWholeReason octets.now }
     ensures none { IfOk result (λ r. IfNone r (octets.now ≡ [])) }
     ensures some { IfOk result (λ r. IfSome r (λ v. Begin (length v.items ∷ v.items) octets.now)) }
     ensures fits { IfOk result (λ r. IfSome r (λ v. length v.items < 2 ^ 8)) }
-    ensures err { IfErr result (λ f. (f ≡ faults.OutOfMemory) ⊎ ((f ≡ faults.Body) × (¬ IsWholeReason octets.now))) }
 {
     let [len, text @ ..] = octets else {
         return Ok(None);
     };
-    let len = usize::from(*len);
-    if text.len() < len {
-        return Err(RtcpFault::Body);
-    }
-    let (reason, _) = text.split_at(len);
+    let (reason, _) = text.split_at(usize::from(*len));
     Ok(Some(Vec::from_slice(alloc, reason)?))
 }
 
 /// The leave that this body is.
-fn bye_from<A: Allocator + Copy>(alloc: A, count: u8, body: &[u8]) -> Result<Rtcp<A>, RtcpFault>
-    ensures ok { IfOk result (λ p. IsOf 203 count body.now (packet_of p)) }
-    ensures err { IfErr result (λ f. (f ≡ faults.OutOfMemory) ⊎ ((f ≡ faults.Body) × (¬ IsWholeBody kinds.Bye count body.now))) }
+fn bye_from<A: Allocator + Copy>(alloc: A, count: u8, body: &[u8]) -> Result<Rtcp<A>, AllocError>
+    requires { IsWholeBody kinds.Bye count body.now }
+    ensures { IfOk result (λ p. IsOf 203 count body.now (packet_of p)) }
 {
-    if body.len() < 4 * usize::from(count) {
-        return Err(RtcpFault::Body);
-    }
     let (ssrcs, rest) = ssrcs_from(alloc, count, body)?;
     let reason = reason_from(alloc, rest)?;
     Ok(Rtcp::Bye(Bye { ssrcs, reason }))
 }
 
 /// The packet of an application that this body is.
-fn app_from<A: Allocator>(alloc: A, subtype: u8, body: &[u8]) -> Result<Rtcp<A>, RtcpFault>
-    ensures ok { IfOk result (λ p. IsOf 204 subtype body.now (packet_of p)) }
-    ensures err { IfErr result (λ f. (f ≡ faults.OutOfMemory) ⊎ ((f ≡ faults.Body) × (¬ IsWholeBody kinds.App subtype body.now))) }
+fn app_from<A: Allocator>(alloc: A, subtype: u8, body: &[u8]) -> Result<Rtcp<A>, AllocError>
+    requires { IsWholeBody kinds.App subtype body.now }
+    ensures { IfOk result (λ p. IsOf 204 subtype body.now (packet_of p)) }
 {
-    if body.len() < 8 {
-        return Err(RtcpFault::Body);
-    }
     let (ssrc, rest) = u32_from(body);
     let (name, rest) = rest.split_at(4);
     let name = [name[0], name[1], name[2], name[3]];
@@ -122,14 +111,11 @@ fn words_from<A: Allocator>(alloc: A, octets: &[u8]) -> Result<Vec<NackWord, A>,
 }
 
 /// The generic NACK that this body is.
-fn nack_from<A: Allocator>(alloc: A, body: &[u8]) -> Result<Rtcp<A>, RtcpFault>
-    requires { length body.now % 4 ≡ 0 }
-    ensures ok { IfOk result (λ p. IsOf 205 1 body.now (packet_of p)) }
-    ensures err { IfErr result (λ f. (f ≡ faults.OutOfMemory) ⊎ ((f ≡ faults.Body) × (¬ IsWholeBody kinds.Nack 1 body.now))) }
+fn nack_from<A: Allocator>(alloc: A, body: &[u8]) -> Result<Rtcp<A>, AllocError>
+    requires words { length body.now % 4 ≡ 0 }
+    requires whole { IsWholeBody kinds.Nack 1 body.now }
+    ensures { IfOk result (λ p. IsOf 205 1 body.now (packet_of p)) }
 {
-    if body.len() < 12 {
-        return Err(RtcpFault::Body);
-    }
     let (sender, rest) = u32_from(body);
     let (media, rest) = u32_from(rest);
     let words = words_from(alloc, rest)?;
@@ -141,23 +127,20 @@ fn nack_from<A: Allocator>(alloc: A, body: &[u8]) -> Result<Rtcp<A>, RtcpFault>
 }
 
 /// The picture loss indication that this body is.
-fn pli_from<A: Allocator>(body: &[u8]) -> Result<Rtcp<A>, RtcpFault>
-    ensures ok { IfOk result (λ p. IsOf 206 1 body.now (packet_of p)) }
-    ensures err { IfErr result (λ f. (f ≡ faults.Body) × (¬ IsWholeBody kinds.Pli 1 body.now)) }
+fn pli_from(body: &[u8]) -> Pli
+    requires { IsWholeBody kinds.Pli 1 body.now }
+    ensures { IsOf 206 1 body.now (PliPacket result.sender result.media) }
 {
-    if body.len() < 8 {
-        return Err(RtcpFault::Body);
-    }
     let (sender, rest) = u32_from(body);
     let (media, _) = u32_from(rest);
-    Ok(Rtcp::Pli(Pli { sender, media }))
+    Pli { sender, media }
 }
 
 /// The source descriptions that this body is.
-fn sdes_from<A: Allocator + Copy>(alloc: A, count: u8, body: &[u8]) -> Result<Rtcp<A>, RtcpFault>
-    requires { length body.now % 4 ≡ 0 }
-    ensures ok { IfOk result (λ p. IsOf 202 count body.now (packet_of p)) }
-    ensures err { IfErr result (λ f. (f ≡ faults.OutOfMemory) ⊎ ((f ≡ faults.Body) × (¬ IsWholeBody kinds.Sdes count body.now))) }
+fn sdes_from<A: Allocator + Copy>(alloc: A, count: u8, body: &[u8]) -> Result<Rtcp<A>, AllocError>
+    requires words { length body.now % 4 ≡ 0 }
+    requires whole { IsWholeBody kinds.Sdes count body.now }
+    ensures { IfOk result (λ p. IsOf 202 count body.now (packet_of p)) }
 {
     Ok(Rtcp::Sdes(chunks_from(alloc, count, body)?))
 }
@@ -168,12 +151,10 @@ pub(crate) fn packet_from<A: Allocator + Copy>(
     pt: u8,
     count: u8,
     body: &[u8],
-) -> Result<Rtcp<A>, RtcpFault>
-    requires { length body.now % 4 ≡ 0 }
-    ensures ok { IfOk result (λ p. IsOf pt count body.now (packet_of p)) }
-    ensures err { IfErr result (λ f. (f ≡ faults.OutOfMemory) ⊎ ((f ≡ faults.Body) × (¬ IsWholeBody (kind_of pt count) count body.now))) }
-    // A report that lacks some of its parts wants no memory.
-    ensures memory { IsReport (kind_of pt count) → IfErr result (λ f. f ≡ faults.OutOfMemory → IsWholeBody (kind_of pt count) count body.now) }
+) -> Result<Rtcp<A>, AllocError>
+    requires words { length body.now % 4 ≡ 0 }
+    requires whole { IsWholeBody (kind_of pt count) count body.now }
+    ensures { IfOk result (λ p. IsOf pt count body.now (packet_of p)) }
 {
     match kind_of(pt, count) {
         Kind::Sender => sender_from(alloc, count, body),
@@ -182,7 +163,7 @@ pub(crate) fn packet_from<A: Allocator + Copy>(
         Kind::Bye => bye_from(alloc, count, body),
         Kind::App => app_from(alloc, count, body),
         Kind::Nack => nack_from(alloc, body),
-        Kind::Pli => pli_from(body),
+        Kind::Pli => Ok(Rtcp::Pli(pli_from(body))),
         Kind::Other => {
             let body = Vec::from_slice(alloc, body)?;
             Ok(Rtcp::Other(Other { pt, count, body }))

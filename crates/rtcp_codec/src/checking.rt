@@ -4,12 +4,12 @@ ghost use Rattle.std.specs.Prelude.{◌≡◌, ◌≢◌, ◌+◌, ◌*◌, ◌%
 ghost use Rattle.std.specs.Option.{option_map};
 ghost use Rattle.rtcp_codec.specs.declared.fault.WriteFault.TheVariants as write_faults;
 ghost use Rattle.std.specs.List.{flat_map, AllByRecursion};
-ghost use Rattle.rtcp_codec.specs.Compound.{written};
+ghost use Rattle.rtcp_codec.specs.Compound.{written, BeginsWithReport};
 ghost use Rattle.rtcp_codec.specs.Description.{item_octets, chunk_octets, filled};
 ghost use Rattle.rtcp_codec.specs.Packet.{fields, reason_octets};
 ghost use Rattle.rtcp_codec.specs.Report.{FitsLost};
 ghost use Rattle.rtcp_codec.specs.View.{item_of, chunk_of, packet_of, packets_of};
-ghost use Rattle.rtcp_codec.specs.WriteFault.{CountFits, TextsFit, PartsFit, LengthFits, ItemsTold, MeaningFits, IsWritable, AreWritable, BeginsWithReport, IsFirstFault, HasWriteFault};
+ghost use Rattle.rtcp_codec.specs.WriteFault.{CountFits, TextsFit, PartsFit, LengthFits, ItemsTold, MeaningFits, IsWritable, AreWritable, IsFirstFault, HasWriteFault};
 
 use crate::description::{SdesChunk, SdesItem};
 use crate::fault::WriteFault;

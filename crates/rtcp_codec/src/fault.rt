@@ -4,7 +4,7 @@ ghost use Rattle.std.specs.Prelude.{◌≡◌};
 ghost use Rattle.rtcp_codec.specs.declared.fault.RtcpFault.TheVariants as faults;
 ghost use Rattle.rtcp_codec.specs.declared.fault.WriteFault.TheVariants as write_faults;
 
-use std::alloc::{AllocError, AllocFailed};
+use std::alloc::AllocError;
 use thiserror::Error;
 
 /// Why a datagram is no RTCP compound (RFC 3550 section 6.1). The first packet that has a fault
@@ -38,14 +38,6 @@ impl From<AllocError> for RtcpFault {
     ghost from_gives = { λ _ e. e ≡ faults.OutOfMemory };
 
     fn from(_error: AllocError) -> RtcpFault {
-        RtcpFault::OutOfMemory
-    }
-}
-
-impl<T: Drop> From<AllocFailed<T>> for RtcpFault {
-    ghost from_gives = { λ _ e. e ≡ faults.OutOfMemory };
-
-    fn from(_error: AllocFailed<T>) -> RtcpFault {
         RtcpFault::OutOfMemory
     }
 }

@@ -7,6 +7,8 @@ mod checking;
 mod description;
 mod fault;
 mod fields;
+mod judging;
+mod judging_descriptions;
 mod kind;
 mod nack;
 mod packet;
@@ -25,6 +27,3 @@ pub use self::packet::{App, Bye, Other, Pli, Rtcp};
 pub use self::reading::read_compound;
 pub use self::report::{ReceiverReport, ReportBlock, SenderReport};
 pub use self::writing::{write_compound, written_is_compound};
-
-#[cfg(test)]
-mod tests;

@@ -1,15 +1,14 @@
 //! Reading sender and receiver reports.
 
-ghost use Rattle.std.specs.Prelude.{◌≡◌, ◌+◌, ◌*◌, ◌≤◌, ◌++◌, ◌⊎◌, length, IfOk, IfErr};
+ghost use Rattle.std.specs.Prelude.{◌≡◌, ◌+◌, ◌*◌, ◌≤◌, ◌++◌, length, IfOk};
 ghost use Rattle.std.specs.List.{flat_map, AllByRecursion};
 ghost use Rattle.rtcp_codec.specs.declared.kind.Kind.TheVariants as kinds;
-ghost use Rattle.rtcp_codec.specs.declared.fault.RtcpFault.TheVariants as faults;
-ghost use Rattle.rtcp_codec.specs.Packet.{Begin, IsOf};
+ghost use Rattle.rtcp_codec.specs.Packet.{Begin};
+ghost use Rattle.rtcp_codec.specs.inner.Reading.{IsOf};
 ghost use Rattle.rtcp_codec.specs.Compound.{IsWholeBody};
 ghost use Rattle.rtcp_codec.specs.Report.{block_octets, FitsBlock, octets_24, twos_complement, FitsLost};
 ghost use Rattle.rtcp_codec.specs.View.{packet_of};
 
-use crate::fault::RtcpFault;
 use crate::fields::{u32_from, u64_from};
 use crate::packet::Rtcp;
 use crate::report::{ReceiverReport, ReportBlock, SenderReport};
@@ -102,14 +101,10 @@ pub(crate) fn sender_from<A: Allocator>(
     alloc: A,
     count: u8,
     body: &[u8],
-) -> Result<Rtcp<A>, RtcpFault>
-    ensures ok { IfOk result (λ p. IsOf 200 count body.now (packet_of p)) }
-    ensures err { IfErr result (λ f. (f ≡ faults.OutOfMemory) ⊎ ((f ≡ faults.Body) × (¬ IsWholeBody kinds.Sender count body.now))) }
-    ensures memory { IfErr result (λ f. f ≡ faults.OutOfMemory → IsWholeBody kinds.Sender count body.now) }
+) -> Result<Rtcp<A>, AllocError>
+    requires { IsWholeBody kinds.Sender count body.now }
+    ensures { IfOk result (λ p. IsOf 200 count body.now (packet_of p)) }
 {
-    if body.len() < 24 + 24 * usize::from(count) {
-        return Err(RtcpFault::Body);
-    }
     let (ssrc, rest) = u32_from(body);
     let (ntp, rest) = u64_from(rest);
     let (ts, rest) = u32_from(rest);
@@ -131,14 +126,10 @@ pub(crate) fn receiver_from<A: Allocator>(
     alloc: A,
     count: u8,
     body: &[u8],
-) -> Result<Rtcp<A>, RtcpFault>
-    ensures ok { IfOk result (λ p. IsOf 201 count body.now (packet_of p)) }
-    ensures err { IfErr result (λ f. (f ≡ faults.OutOfMemory) ⊎ ((f ≡ faults.Body) × (¬ IsWholeBody kinds.Receiver count body.now))) }
-    ensures memory { IfErr result (λ f. f ≡ faults.OutOfMemory → IsWholeBody kinds.Receiver count body.now) }
+) -> Result<Rtcp<A>, AllocError>
+    requires { IsWholeBody kinds.Receiver count body.now }
+    ensures { IfOk result (λ p. IsOf 201 count body.now (packet_of p)) }
 {
-    if body.len() < 4 + 24 * usize::from(count) {
-        return Err(RtcpFault::Body);
-    }
     let (ssrc, rest) = u32_from(body);
     let blocks = blocks_from(alloc, count, rest)?;
     Ok(Rtcp::Receiver(ReceiverReport { ssrc, blocks }))

@@ -1,26 +1,36 @@
--- Octets are read in one way.
-use Rattle.std.proofs.Common.{◌≡◌, List, ℕ, Some, None, Result, Ok, Err, true, ap, inl, inr}
-use Rattle.std.specs.Prelude.{◌⊎◌, IfOk, IfErr, MatchResult, IsErrOf}
-use Rattle.rtcp_codec.specs.declared.fault.RtcpFault.{RtcpFault}
-use Rattle.rtcp_codec.specs.declared.fault.RtcpFault.TheVariants.{OutOfMemory}
+-- A compound has no fault, and octets have one fault at most.
+use Rattle.std.proofs.Common.{List, Err, inr, sym, subst, ap}
+use Rattle.std.proofs.lemmas.Result.{err_from_is_err_and}
 use Rattle.rtcp_codec.specs.Packet.{Packet}
-use Rattle.rtcp_codec.specs.Compound.{IsCompound, HasFault}
-use Rattle.rtcp_codec.specs.View.{packets_of}
-use Rattle.rtcp_codec.proofs.Unique.{same_reading}
+use Rattle.rtcp_codec.specs.Compound.{IsCompound}
+use Rattle.rtcp_codec.proofs.Compounds.{compound_has_no_fault, one_fault}
 use Rattle.rtcp_codec.proofs.reading.read_compound.Goals as goal
 
-only : {V : Type 0} (view : V → List Packet) (octets : List ℕ) (r : Result V RtcpFault) → IfOk r (λ v. IsCompound (view v) octets) → IfErr r (λ f. (f ≡ OutOfMemory) ⊎ HasFault f octets) → (ps : List Packet) → IsCompound ps octets → MatchResult r (λ v. view v ≡ ps) (λ f. f ≡ OutOfMemory)
-only view octets (Ok v) found fault ps h = (same_reading true (view v) ps None None octets found h).0
-only view octets (Err f) found (inl e) ps h = e
-only view octets (Err f) found (inr k) ps h = absurd (let e = (same_reading true ps k.0 None (Some f) octets h k.1).1 in cc)
+pub returns-in_err-judge-clause-only : goal.returns-in_err-judge-clause-only
+returns-in_err-judge-clause-only g c =
+    λ ps k. absurd (compound_has_no_fault ps c.in_err-judge.field-0.0 c.args.octets.now k c.in_err-judge.ensures.err)
 
-told : {V : Type 0} (view : V → List Packet) (octets : List ℕ) (r : Result V RtcpFault) → IfOk r (λ v. IsCompound (view v) octets) → IfErr r (λ f. (f ≡ OutOfMemory) ⊎ HasFault f octets) → (f : RtcpFault) → HasFault f octets → IsErrOf r f ⊎ IsErrOf r OutOfMemory
-told view octets (Ok v) found fault f h = absurd (let e = (same_reading true (view v) h.0 None (Some f) octets found h.1).1 in cc)
-told view octets (Err g) found (inl e) f h = inr (ap Err e)
-told view octets (Err g) found (inr k) f h = inl (let e = (same_reading true k.0 h.0 (Some g) (Some f) octets k.1 h.1).1 in ap Err cc)
+pub returns-in_err-judge-clause-fault : goal.returns-in_err-judge-clause-fault
+returns-in_err-judge-clause-fault g c =
+    let p = err_from_is_err_and c.from_residual.result c.from_residual.ensures.1 in
+    rw (p.1, p.2) (inr c.in_err-judge.ensures.err)
 
-pub returns-clause-only : goal.returns-clause-only
-returns-clause-only g c = only (λ v. packets_of v.items) c.args.octets.now c.packets_from.result c.packets_from.ensures.found c.packets_from.ensures.fault
+pub returns-in_err-judge-clause-told : goal.returns-in_err-judge-clause-told
+returns-in_err-judge-clause-told g c =
+    let p = err_from_is_err_and c.from_residual.result c.from_residual.ensures.1 in
+    rw (p.1, p.2) (λ f h. ap Err (one_fault c.in_err-judge.field-0.0 f c.args.octets.now c.in_err-judge.ensures.err h))
+
+pub returns-in_err-packets_from-clause-told : goal.returns-in_err-packets_from-clause-told
+returns-in_err-packets_from-clause-told g c =
+    let k = c.in_ok-judge.ensures.ok in
+    λ f h. absurd (compound_has_no_fault k.0 f c.args.octets.now k.1 h)
+
+pub returns-clause-found : goal.returns-clause-found
+returns-clause-found g c =
+    let k = c.in_ok-judge.ensures.ok in
+    subst (λ (ps : List Packet). IsCompound ps c.args.octets.now) (sym (c.in_ok-packets_from.ensures k.0 k.1)) k.1
 
 pub returns-clause-told : goal.returns-clause-told
-returns-clause-told g c = told (λ v. packets_of v.items) c.args.octets.now c.packets_from.result c.packets_from.ensures.found c.packets_from.ensures.fault
+returns-clause-told g c =
+    let k = c.in_ok-judge.ensures.ok in
+    λ f h. absurd (compound_has_no_fault k.0 f c.args.octets.now k.1 h)

@@ -1,20 +1,15 @@
 use Rattle.std.proofs.Common.{◌≡◌, ℕ, suc, ◌+◌, ◌-◌, List, [], ◌∷◌, map, subst, arith, length-append}
 use Rattle.std.proofs.lemmas.List.{append-nil}
-use Rattle.std.proofs.lemmas.Result.{err_from_is_err_and}
 use Rattle.rtcp_codec.specs.Description.{Chunk, Describe, FitsChunk, HasChunks}
 use Rattle.rtcp_codec.specs.View.{chunk_of}
-use Rattle.rtcp_codec.proofs.Descriptions.{no_chunks, chunks_behind, Describe-more}
-use Rattle.rtcp_codec.proofs.Faults.{body_fault_along}
+use Rattle.rtcp_codec.proofs.Descriptions.{chunk_stands, chunks_behind, Describe-more}
 use Rattle.rtcp_codec.proofs.Lists.{AllByRecursion-push, map_more}
 use Rattle.rtcp_codec.proofs.reading_descriptions.chunks_from.Goals as goal
 
-pub returns-in_err-chunk-clause-err : goal.returns-in_err-chunk-clause-err
-returns-in_err-chunk-clause-err g c =
-    let p = err_from_is_err_and c.from_residual-in_err-chunk.result c.from_residual-in_err-chunk.ensures.1 in
+pub chunk_from-requires-clause-whole : goal.chunk_from-requires-clause-whole
+chunk_from-requires-clause-whole g c =
     let left : c.args.count - c.loop.counter ≡ suc (c.args.count - (c.loop.counter + 1)) = omega arith in
-    rw (p.1, p.2) (body_fault_along c.in_err-chunk.field-0.0
-    (λ none many. no_chunks c.loop.rest.now _ none (subst (λ (n : ℕ). HasChunks n c.loop.rest.now) left (c.loop.invariant.whole many)))
-    c.in_err-chunk.ensures.err)
+    chunk_stands c.loop.rest.now _ (subst (λ (n : ℕ). HasChunks n c.loop.rest.now) left c.loop.invariant.whole)
 
 pub loop-preserved : goal.loop-preserved
 loop-preserved g c =
@@ -27,7 +22,7 @@ loop-preserved g c =
       count = rw e (omega (arith, length-append so_far (chunk ∷ [])));
       fits = rw (e, map_more chunk_of so_far chunk) (AllByRecursion-push FitsChunk (map chunk_of so_far) (chunk_of chunk) c.loop.invariant.fits c.in_ok-chunk.ensures.fits);
       parts = rw (e, map_more chunk_of so_far chunk) (Describe-more (map chunk_of so_far) (chunk_of chunk) c.args.octets.now c.loop.rest.now _ found.0 c.loop.invariant.parts found.1 found.2);
-      whole = λ many. chunks_behind (chunk_of chunk) found.0 c.loop.rest.now _ _ c.in_ok-chunk.ensures.fits found.1 found.2 (subst (λ (n : ℕ). HasChunks n c.loop.rest.now) left (c.loop.invariant.whole many));
+      whole = chunks_behind (chunk_of chunk) found.0 c.loop.rest.now _ _ c.in_ok-chunk.ensures.fits found.1 found.2 (subst (λ (n : ℕ). HasChunks n c.loop.rest.now) left c.loop.invariant.whole);
       words = c.in_ok-chunk.ensures.words;
     }
 

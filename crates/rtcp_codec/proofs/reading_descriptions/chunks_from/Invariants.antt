@@ -10,6 +10,6 @@ invariant-loop g l = record {
   count : length l.chunks.items ≡ l.counter;
   fits : AllByRecursion FitsChunk (map chunk_of l.chunks.items);
   parts : (more : List Chunk) → Describe more l.rest → Describe (map chunk_of l.chunks.items ++ more) l.octets;
-  whole : HasChunks l.count l.octets → HasChunks (l.count - l.counter) l.rest;
+  whole : HasChunks (l.count - l.counter) l.rest;
   words : length l.rest % 4 ≡ 0;
 }
