@@ -7,9 +7,10 @@ use Rattle.std.proofs.lemmas.List.{take-append-drop, length-take, length-drop, g
 use Rattle.std.proofs.lemmas.Nat.{be_bytes_2}
 use Rattle.rtp_codec.specs.Packet.{IsPadding}
 use Rattle.rtcp_codec.specs.Kind.{kind_of}
-use Rattle.rtcp_codec.specs.Packet.{Packet, Sender, Receiver, Sdes, Bye, App, Nack, Pli, Other, kind, type_of, count_of, FitsFields, IsPacket, common_header}
+use Rattle.rtcp_codec.specs.Packet.{Packet, Sender, Receiver, Sdes, Bye, App, Nack, Pli, Other, kind, type_of, count_of, IsPacket, common_header}
 use Rattle.rtcp_codec.specs.Compound.{is_padded, count, packet_at, padding_of, IsReport}
-use Rattle.rtcp_codec.specs.inner.Reading.{IsHead, IsGoodPadding, IsOf, Takes}
+use Rattle.rtcp_codec.specs.inner.Reading.{FitsFields, IsHead, IsGoodPadding, IsOf, Takes}
+use Rattle.rtcp_codec.proofs.Fitting.{sizes}
 
 abbrev pub IsBytes : List ℕ → Type 0
 IsBytes octets = (i : ℕ) → get_or octets i 0 < 256
@@ -71,6 +72,7 @@ whole_packet a b c d n w tail body p bytes v w-is len none some counted few word
     let first : 128 + cond (nat_lt 0 n) 32 0 + count_of p ≡ a = ap (λ (k : ℕ). 128 + cond (nat_lt 0 n) 32 0 + k) is.its_count ∙ first_is a n (is_padded (a ∷ b ∷ c ∷ d ∷ tail)) v refl none some in
     let two : to_be_bytes w16 w ≡ c ∷ d ∷ [] = be_bytes_2 (c ∷ d ∷ []) w refl (two_bytes c d (bytes 2) (bytes 3)) w-is in
     let joined : body ++ drop (length tail - n) tail ≡ tail = ap (λ (l : List ℕ). l ++ drop (length tail - n) tail) front ∙ take-append-drop (length tail - n) tail in
+    let sized = sizes p body is.fits (omega (arith, is.its_count)) is.is_body (omega (arith, len, ap length front, length-take (length tail - n) tail, words)) in
     record {
       words = w;
       body = body;
@@ -81,8 +83,10 @@ whole_packet a b c d n w tail body p bytes v w-is len none some counted few word
           ∙ ap (λ (l : List ℕ). a ∷ b ∷ l ++ tail) two);
       size = omega (arith, len);
       words_fit = omega (arith, w-is, bytes 2, bytes 3);
-      count_fits = omega (arith, is.its_count);
-      fits = is.fits;
+      types = sized.types;
+      counted = sized.counted;
+      lengths = sized.lengths;
+      meaning = sized.meaning;
       is_body = is.is_body;
       is_padding = padding_is tail n few counted;
       padding_words = words;

@@ -75,6 +75,10 @@ text_at f xs i d lt = ap (flat_map f) (left_at xs i d lt) ∙ flat_map-cons f (g
 pub all_behind : {X : Type 0} (P : X → Type 0) (xs : List X) (i : ℕ) (d : X) → i < length xs → AllByRecursion P (drop i xs) → AllByRecursion P (drop (i + 1) xs)
 all_behind P xs i d lt h = (subst (AllByRecursion P) (left_at xs i d lt) h).1
 
+-- what is true of the next value and of those behind it is true of what is left
+pub all_from : {X : Type 0} (P : X → Type 0) (xs : List X) (i : ℕ) (d : X) → i < length xs → P (get_or xs i d) → AllByRecursion P (drop (i + 1) xs) → AllByRecursion P (drop i xs)
+all_from P xs i d lt p h = subst (AllByRecursion P) (sym (left_at xs i d lt)) (p, h)
+
 -- ---- how long texts are
 
 pub blocks_length : (bs : List ReportBlock) → length (flat_map block_octets bs) ≡ 24 * length bs

@@ -1,16 +1,15 @@
 -- What is written is the compound of its packets.
-use Rattle.std.proofs.Common.{◌≡◌, ℕ, ◌+◌, ◌-◌, ◌/◌, ◌%◌, ◌≤◌, Bool, true, false, List, [], ◌∷◌, ◌++◌, length, Some, None, replicate, refl, sym, ap, ◌∙◌, append_assoc, arith, length-append}
-use Rattle.std.specs.Prelude.{nat_lt}
+use Rattle.std.proofs.Common.{◌≡◌, ℕ, ◌+◌, ◌-◌, ◌/◌, ◌%◌, Bool, true, false, List, [], ◌∷◌, ◌++◌, length, Some, None, replicate, refl, sym, ap, ◌∙◌, append_assoc, arith, length-append}
 use Rattle.std.specs.Int.{w32, to_be_bytes}
 use Rattle.std.specs.List.{flat_map, AllByRecursion}
 use Rattle.std.proofs.lemmas.List.{append-nil, length-replicate}
 use Rattle.std.proofs.lemmas.List.Concat.{flat_map-cons}
 use Rattle.rtp_codec.specs.Packet.{number_octets}
 use Rattle.rtcp_codec.specs.Description.{Chunk, chunk_octets, filled, IsFill, Describe}
-use Rattle.rtcp_codec.specs.Packet.{Packet, Sender, Receiver, Sdes, Bye, App, Nack, Pli, Other, fields, count_of, FitsFields, IsBody, IsPacket, common_header, written_packet}
+use Rattle.rtcp_codec.specs.Packet.{Packet, Sender, Receiver, Sdes, Bye, App, Nack, Pli, Other, fields, FitsTypes, IsBody, IsPacket, PartsFit, common_header, written_packet}
 use Rattle.rtcp_codec.specs.Compound.{BeginsWithReport, written}
 use Rattle.rtcp_codec.specs.inner.Reading.{Reads}
-use Rattle.rtcp_codec.specs.WriteFault.{IsWritable, CountFits, PartsFit}
+use Rattle.rtcp_codec.specs.WriteFault.{IsWritable}
 use Rattle.rtcp_codec.proofs.Lists.{front_of, numbers_length, words_length}
 
 filled_length : (l : List ℕ) → length (filled l) ≡ length l + (4 - length l % 4) % 4
@@ -36,7 +35,7 @@ written_describes (c ∷ cs) rest =
 fill_of : List ℕ → List ℕ
 fill_of l = replicate ((4 - length l % 4) % 4) 0
 
-body_written : (p : Packet) → PartsFit p → FitsFields p → IsBody p (filled (fields p))
+body_written : (p : Packet) → PartsFit p → FitsTypes p → IsBody p (filled (fields p))
 unfolding fill_of
 body_written (Sender s n t c o bs) h f = (fill_of (fields (Sender s n t c o bs)), refl)
 body_written (Receiver s bs) h f = (fill_of (fields (Receiver s bs)), refl)
@@ -48,17 +47,7 @@ body_written (Nack s m ws) h f = filled_whole (fields (Nack s m ws)) (omega (ari
 body_written (Pli s m) h f = (fill_of (fields (Pli s m)), refl)
 body_written (Other t n b) h f = filled_whole b h
 
-few : (p : Packet) → CountFits p → count_of p ≤ 31
-few (Sender s n t c o bs) h = h
-few (Receiver s bs) h = h
-few (Sdes cs) h = h
-few (Bye ns r) h = h
-few (App t s m c) h = h
-few (Nack s m ws) h = omega arith
-few (Pli s m) h = omega arith
-few (Other t n b) h = h
-
-packet_written : (p : Packet) → IsWritable p → FitsFields p → IsPacket p 0 (written_packet p)
+packet_written : (p : Packet) → IsWritable p → FitsTypes p → IsPacket p 0 (written_packet p)
 packet_written p w f =
     let body = filled (fields p) in
     let len = filled_length (fields p) in
@@ -66,17 +55,19 @@ packet_written p w f =
       words = length body / 4;
       body = body;
       padding_octets = [];
-      parts = ap (λ (l : List ℕ). common_header (nat_lt 0 0) p (length body / 4) ++ l) (sym (append-nil body));
+      parts = ap (λ (l : List ℕ). common_header false p (length body / 4) ++ l) (sym (append-nil body));
       size = omega (arith, len);
       words_fit = omega (arith, w.lengths.words);
-      count_fits = few p w.counted;
-      fits = f;
+      types = f;
+      counted = w.counted;
+      lengths = w.lengths.parts;
+      meaning = w.meaning;
       is_body = body_written p w.lengths.parts f;
       is_padding = refl;
       padding_words = refl;
     }
 
-pub compound_written : (first : Bool) (ps : List Packet) → (first ≡ true → BeginsWithReport ps) → AllByRecursion IsWritable ps → AllByRecursion FitsFields ps → Reads first ps None (written ps)
+pub compound_written : (first : Bool) (ps : List Packet) → (first ≡ true → BeginsWithReport ps) → AllByRecursion IsWritable ps → AllByRecursion FitsTypes ps → Reads first ps None (written ps)
 compound_written true [] report w f = absurd (report refl)
 compound_written false [] report w f = (refl, refl)
 compound_written first (p ∷ ps) report w f = (

@@ -13,14 +13,15 @@ use Rattle.rtcp_codec.specs.declared.fault.RtcpFault.{RtcpFault}
 use Rattle.rtcp_codec.specs.declared.fault.RtcpFault.TheVariants.{Short, Version, First, Length, Padding, Body}
 use Rattle.rtcp_codec.specs.declared.nack.NackWord.{NackWord}
 use Rattle.rtcp_codec.specs.declared.report.ReportBlock.{ReportBlock}
-use Rattle.rtcp_codec.specs.Report.{twos_complement, octets_24, block_octets, FitsLost, FitsBlock}
+use Rattle.rtcp_codec.specs.Report.{twos_complement, octets_24, block_octets, FitsLost}
 use Rattle.rtcp_codec.specs.Nack.{word_octets, FitsWord}
 use Rattle.rtcp_codec.specs.declared.kind.Kind.{Kind}
 use Rattle.rtcp_codec.specs.Description.{Chunk, chunk_octets, IsFill, Describe, FitsChunk, HasChunks}
-use Rattle.rtcp_codec.specs.Packet.{Packet, Sender, Receiver, Sdes, Bye, App, Nack, Pli, Other, kind, type_of, count_of, fields, FitsFields, IsBody, IsPacket, common_header}
+use Rattle.rtcp_codec.specs.Packet.{Packet, Sender, Receiver, Sdes, Bye, App, Nack, Pli, Other, kind, type_of, count_of, fields, IsBody, IsPacket, common_header}
 use Rattle.rtcp_codec.specs.Kind.{kind_of}
 use Rattle.rtcp_codec.specs.Compound.{IsFirstOf, in_order, Case, IsReport, IsBadPadding, IsWholeBody, IsWholeReason, version, size, count, kind_at, is_padded, padding_of, packet_at, body_of}
-use Rattle.rtcp_codec.specs.inner.Reading.{IsOf, Takes, Reads}
+use Rattle.rtcp_codec.specs.inner.Reading.{IsSoundBlock, FitsFields, IsOf, Takes, Reads}
+use Rattle.rtcp_codec.proofs.Fitting.{fields_fit, few}
 use Rattle.rtcp_codec.proofs.Framing.{kind_is}
 use Rattle.rtcp_codec.proofs.Descriptions.{same_chunk, same_fill}
 use Rattle.rtcp_codec.proofs.Lists.{front_of, same_split, same_number, words_length, blocks_length, numbers_length, behind_numbers}
@@ -83,25 +84,25 @@ same_lost y z a b h k e =
 heads : (x y : ℕ) (a b : List ℕ) → x ∷ a ≡ y ∷ b → (x ≡ y) × (a ≡ b)
 heads x y a b e = (cc, cc)
 
-same_block : (b c : ReportBlock) (r s : List ℕ) → FitsBlock b → FitsBlock c → block_octets b ++ r ≡ block_octets c ++ s → (b ≡ c) × (r ≡ s)
+same_block : (b c : ReportBlock) (r s : List ℕ) → IsSoundBlock b → IsSoundBlock c → block_octets b ++ r ≡ block_octets c ++ s → (b ≡ c) × (r ≡ s)
 same_block b c r s h k e =
     let n1 = same_number b.ssrc c.ssrc (b.fraction ∷ octets_24 (twos_complement b.lost) ++ (to_be_bytes w32 b.highest ++ (to_be_bytes w32 b.jitter ++ (to_be_bytes w32 b.lsr ++ (to_be_bytes w32 b.dlsr ++ r)))))
-    (c.fraction ∷ octets_24 (twos_complement c.lost) ++ (to_be_bytes w32 c.highest ++ (to_be_bytes w32 c.jitter ++ (to_be_bytes w32 c.lsr ++ (to_be_bytes w32 c.dlsr ++ s))))) h.ssrc k.ssrc e in
+    (c.fraction ∷ octets_24 (twos_complement c.lost) ++ (to_be_bytes w32 c.highest ++ (to_be_bytes w32 c.jitter ++ (to_be_bytes w32 c.lsr ++ (to_be_bytes w32 c.dlsr ++ s))))) h.numbers.ssrc k.numbers.ssrc e in
     let n2 = heads b.fraction c.fraction (octets_24 (twos_complement b.lost) ++ (to_be_bytes w32 b.highest ++ (to_be_bytes w32 b.jitter ++ (to_be_bytes w32 b.lsr ++ (to_be_bytes w32 b.dlsr ++ r)))))
     (octets_24 (twos_complement c.lost) ++ (to_be_bytes w32 c.highest ++ (to_be_bytes w32 c.jitter ++ (to_be_bytes w32 c.lsr ++ (to_be_bytes w32 c.dlsr ++ s))))) n1.1 in
     let n3 = same_lost b.lost c.lost (to_be_bytes w32 b.highest ++ (to_be_bytes w32 b.jitter ++ (to_be_bytes w32 b.lsr ++ (to_be_bytes w32 b.dlsr ++ r)))) (to_be_bytes w32 c.highest ++ (to_be_bytes w32 c.jitter ++ (to_be_bytes w32 c.lsr ++ (to_be_bytes w32 c.dlsr ++ s)))) h.lost k.lost n2.1 in
-    let n4 = same_number b.highest c.highest (to_be_bytes w32 b.jitter ++ (to_be_bytes w32 b.lsr ++ (to_be_bytes w32 b.dlsr ++ r))) (to_be_bytes w32 c.jitter ++ (to_be_bytes w32 c.lsr ++ (to_be_bytes w32 c.dlsr ++ s))) h.highest k.highest n3.1 in
-    let n5 = same_number b.jitter c.jitter (to_be_bytes w32 b.lsr ++ (to_be_bytes w32 b.dlsr ++ r)) (to_be_bytes w32 c.lsr ++ (to_be_bytes w32 c.dlsr ++ s)) h.jitter k.jitter n4.1 in
-    let n6 = same_number b.lsr c.lsr (to_be_bytes w32 b.dlsr ++ r) (to_be_bytes w32 c.dlsr ++ s) h.lsr k.lsr n5.1 in
-    let n7 = same_number b.dlsr c.dlsr r s h.dlsr k.dlsr n6.1 in
+    let n4 = same_number b.highest c.highest (to_be_bytes w32 b.jitter ++ (to_be_bytes w32 b.lsr ++ (to_be_bytes w32 b.dlsr ++ r))) (to_be_bytes w32 c.jitter ++ (to_be_bytes w32 c.lsr ++ (to_be_bytes w32 c.dlsr ++ s))) h.numbers.highest k.numbers.highest n3.1 in
+    let n5 = same_number b.jitter c.jitter (to_be_bytes w32 b.lsr ++ (to_be_bytes w32 b.dlsr ++ r)) (to_be_bytes w32 c.lsr ++ (to_be_bytes w32 c.dlsr ++ s)) h.numbers.jitter k.numbers.jitter n4.1 in
+    let n6 = same_number b.lsr c.lsr (to_be_bytes w32 b.dlsr ++ r) (to_be_bytes w32 c.dlsr ++ s) h.numbers.lsr k.numbers.lsr n5.1 in
+    let n7 = same_number b.dlsr c.dlsr r s h.numbers.dlsr k.numbers.dlsr n6.1 in
     let made : ℕ → ℕ → ℤ → ℕ → ℕ → ℕ → ℕ → ReportBlock = λ ssrc fraction lost highest jitter lsr dlsr. record { ssrc = ssrc; fraction = fraction; lost = lost; highest = highest; jitter = jitter; lsr = lsr; dlsr = dlsr } in
     let same : made b.ssrc b.fraction b.lost b.highest b.jitter b.lsr b.dlsr ≡ made c.ssrc c.fraction c.lost c.highest c.jitter c.lsr c.dlsr = rw (n1.0, n2.0, n3.0, n4.0, n5.0, n6.0, n7.0) refl in
     (same, n7.1)
 
 -- ---- bodies
 
-same_blocks : (bs cs : List ReportBlock) (a b : List ℕ) → length bs ≡ length cs → AllByRecursion FitsBlock bs → AllByRecursion FitsBlock cs → flat_map block_octets bs ++ a ≡ flat_map block_octets cs ++ b → (bs ≡ cs) × (a ≡ b)
-same_blocks = same_texts block_octets FitsBlock same_block
+same_blocks : (bs cs : List ReportBlock) (a b : List ℕ) → length bs ≡ length cs → AllByRecursion IsSoundBlock bs → AllByRecursion IsSoundBlock cs → flat_map block_octets bs ++ a ≡ flat_map block_octets cs ++ b → (bs ≡ cs) × (a ≡ b)
+same_blocks = same_texts block_octets IsSoundBlock same_block
 
 same_ssrcs : (ms ns : List ℕ) (a b : List ℕ) → length ms ≡ length ns → AllByRecursion (λ ssrc. ssrc < 2 ^ 32) ms → AllByRecursion (λ ssrc. ssrc < 2 ^ 32) ns → number_octets ms ++ a ≡ number_octets ns ++ b → (ms ≡ ns) × (a ≡ b)
 same_ssrcs = same_texts (λ (n : ℕ). to_be_bytes w32 n) (λ ssrc. ssrc < 2 ^ 32) (λ m n a b h k e. same_number m n a b h k e)
@@ -196,6 +197,9 @@ same_first false false c d h k e = (refl, omega (arith, e))
 same_first true false c d h k e = absurd (omega (arith, e))
 same_first false true c d h k e = absurd (omega (arith, e))
 
+fits : {n : ℕ} {octets : List ℕ} (p : Packet) → IsPacket p n octets → FitsFields p
+fits p k = fields_fit p k.types k.counted k.lengths k.meaning
+
 same_packet : (p q : Packet) (n m : ℕ) (x y r s : List ℕ) → IsPacket p n x → IsPacket q m y → x ++ r ≡ y ++ s → (p ≡ q) × (r ≡ s)
 same_packet p q n m x y r s k l e =
     let i = k.body ++ k.padding_octets in
@@ -206,12 +210,12 @@ same_packet p q n m x y r s k l e =
     let a = heads (128 + cond (nat_lt 0 n) 32 0 + count_of p) (128 + cond (nat_lt 0 m) 32 0 + count_of q) (type_of p ∷ to_be_bytes w16 k.words ++ (i ++ r)) (type_of q ∷ to_be_bytes w16 l.words ++ (j ++ s)) whole in
     let b = heads (type_of p) (type_of q) (to_be_bytes w16 k.words ++ (i ++ r)) (to_be_bytes w16 l.words ++ (j ++ s)) a.1 in
     let c = same_number_16 k.words l.words (i ++ r) (j ++ s) k.words_fit l.words_fit b.1 in
-    let first = same_first (nat_lt 0 n) (nat_lt 0 m) (count_of p) (count_of q) k.count_fits l.count_fits a.0 in
+    let first = same_first (nat_lt 0 n) (nat_lt 0 m) (count_of p) (count_of q) (few p k.counted) (few q l.counted) a.0 in
     let len : length i ≡ length j = omega (arith, ap length k.parts, ap length l.parts, k.size, l.size, c.0) in
     let d = same_split i j r s len c.1 in
     let f = same_padding n m k.body l.body k.padding_octets l.padding_octets k.is_padding l.is_padding first.0 d.0 in
-    let kinds : kind p ≡ kind q = sym (kind_is p k.fits) ∙ ap (λ (t : ℕ). kind_of t (count_of p)) b.0 ∙ ap (kind_of (type_of q)) first.1 ∙ kind_is q l.fits in
-    (same_body p q k.body kinds b.0 first.1 k.fits l.fits k.is_body (subst (IsBody q) (sym f.1) l.is_body), d.1)
+    let kinds : kind p ≡ kind q = sym (kind_is p (fits p k)) ∙ ap (λ (t : ℕ). kind_of t (count_of p)) b.0 ∙ ap (kind_of (type_of q)) first.1 ∙ kind_is q (fits q l) in
+    (same_body p q k.body kinds b.0 first.1 (fits p k) (fits q l) k.is_body (subst (IsBody q) (sym f.1) l.is_body), d.1)
 
 pub same_takes : (first : Bool) (p q : Packet) (octets r s : List ℕ) → Takes first p octets r → Takes first q octets s → (p ≡ q) × (r ≡ s)
 same_takes first p q octets r s k l = same_packet p q k.padding l.padding k.front l.front r s k.is_packet l.is_packet (sym k.parts ∙ l.parts)
@@ -272,7 +276,7 @@ says p n front k =
     let i = k.body ++ k.padding_octets in
     let whole = hdr ++ i in
     let x = 128 + cond padded 32 0 + count_of p in
-    let f = head_fields padded (count_of p) k.count_fits in
+    let f = head_fields padded (count_of p) (few p k.counted) in
     let bit : is_padded whole ≡ padded = bit_is padded (x / 32 % 2) f.1 in
     let len : length whole ≡ 4 * (k.words + 1) = ap length (sym k.parts) ∙ k.size in
     let parts : length i ≡ length k.body + n = omega (arith, length-append k.body k.padding_octets, padding_length n k.padding_octets k.is_padding) in
@@ -285,7 +289,7 @@ says p n front k =
       is_version = f.0;
       its_size = sz ∙ sym len;
       long = omega (arith, len);
-      its_kind = ap (kind_of (type_of p)) f.2 ∙ kind_is p k.fits;
+      its_kind = ap (kind_of (type_of p)) f.2 ∙ kind_is p (fits p k);
       its_count = f.2;
       padded = bit;
       its_padding = pad;
@@ -349,7 +353,7 @@ no_fault first p octets rest f t h =
     let not_first : Case first First octets → ⊥ = λ x. x.1 (subst IsReport (sym (hd.1 ∙ s.its_kind)) (t.report x.0)) in
     let not_length : Case first Length octets → ⊥ = λ x. omega (arith, x, sz, len) in
     let not_padding : Case first Padding octets → ⊥ = no_padding_fault t.padding octets t.front rest t.parts sz at s.padded s.its_padding t.last k.padding_words s.behind first in
-    let not_body : Case first Body octets → ⊥ = λ x. x (subst (λ (l : List ℕ). IsWholeBody (kind_at l) (count l) (body_of l)) (sym at) (whole_said p t.front k.body s.its_kind s.its_count s.its_body (whole_body p k.body k.fits k.is_body))) in
+    let not_body : Case first Body octets → ⊥ = λ x. x (subst (λ (l : List ℕ). IsWholeBody (kind_at l) (count l) (body_of l)) (sym at) (whole_said p t.front k.body s.its_kind s.its_count s.its_body (whole_body p k.body (fits p k) k.is_body))) in
     none_of f first octets not_short not_version not_first not_length not_padding not_body h
 
 -- ---- compounds
@@ -409,7 +413,7 @@ stands p octets rest t =
     let sz = front_at octets t.front rest t.parts s.its_size s.long in
     let len : length octets ≡ length t.front + length rest = ap length t.parts ∙ length-append t.front rest in
     let at : packet_at octets ≡ t.front = ap (λ (z : ℕ). take z octets) sz ∙ ap (take (length t.front)) t.parts ∙ take_at t.front rest (length t.front) refl in
-    let whole : IsWholeBody (kind_at t.front) (count t.front) (body_of t.front) = whole_said p t.front k.body s.its_kind s.its_count s.its_body (whole_body p k.body k.fits k.is_body) in
+    let whole : IsWholeBody (kind_at t.front) (count t.front) (body_of t.front) = whole_said p t.front k.body s.its_kind s.its_count s.its_body (whole_body p k.body (fits p k) k.is_body) in
     let parts : length t.front ≡ 4 + (length k.body + t.padding) = omega (arith, ap length k.parts, length-append k.body k.padding_octets, padding_length t.padding k.padding_octets k.is_padding) in
     record {
       long = omega (arith, len, s.long);
@@ -419,7 +423,7 @@ stands p octets rest t =
       padding = omega (arith, ap length at, ap padding_of at, s.its_padding, s.behind);
       its_type = ap (λ (l : List ℕ). get_or l 1 0) at ∙ type_said p t.padding t.front k;
       its_count = ap count at ∙ s.its_count;
-      fits = k.fits;
+      fits = fits p k;
       is_body = subst (IsBody p) (sym (ap body_of at ∙ s.its_body)) k.is_body;
       whole_body = subst (λ (l : List ℕ). IsWholeBody (kind_at l) (count l) (body_of l)) (sym at) whole;
       words = ap (λ (l : List ℕ). length l % 4) (ap body_of at ∙ s.its_body) ∙ omega (arith, k.size, parts, k.padding_words);

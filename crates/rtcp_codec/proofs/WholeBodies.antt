@@ -16,8 +16,8 @@ use Rattle.rtcp_codec.specs.Compound.{size, padding_of, packet_at, body_of, IsWh
 use Rattle.rtcp_codec.specs.Kind.{kind_of}
 use Rattle.rtcp_codec.specs.Nack.{word_octets, FitsWord}
 use Rattle.rtcp_codec.specs.Packet.{Packet, Sender, Receiver, Sdes, Bye, App, Nack, Pli, Other}
-use Rattle.rtcp_codec.specs.Report.{twos_complement, octets_24, block_octets, FitsLost, FitsBlock}
-use Rattle.rtcp_codec.specs.inner.Reading.{IsHead, IsGoodPadding, IsOf, Takes}
+use Rattle.rtcp_codec.specs.Report.{twos_complement, octets_24, block_octets, FitsLost}
+use Rattle.rtcp_codec.specs.inner.Reading.{IsSoundBlock, IsHead, IsGoodPadding, IsOf, Takes}
 use Rattle.rtcp_codec.proofs.Framing.{IsBytes, IsBytes-take, IsBytes-drop, takes_packet}
 use Rattle.rtcp_codec.proofs.Lists.{front_of, behind_numbers}
 
@@ -163,7 +163,7 @@ first_loss (a ∷ b ∷ []) bytes long = absurd (omega arith)
 first_loss (a ∷ []) bytes long = absurd (omega arith)
 first_loss [] bytes long = absurd (omega arith)
 
-first_block : (octets : List ℕ) → IsBytes octets → 24 ≤ length octets → One block_octets FitsBlock 24 octets
+first_block : (octets : List ℕ) → IsBytes octets → 24 ≤ length octets → One block_octets IsSoundBlock 24 octets
 first_block octets bytes long =
     let s = first_32 octets bytes (omega arith) in
     let l = first_loss s.rest s.bytes (omega (arith, s.left)) in
@@ -180,7 +180,7 @@ first_block octets bytes long =
           ∙ ap (λ (o : List ℕ). to_be_bytes w32 h.value ++ o) (j.parts
           ∙ ap (λ (o : List ℕ). to_be_bytes w32 j.value ++ o) (r.parts
           ∙ ap (λ (o : List ℕ). to_be_bytes w32 r.value ++ o) d.parts))));
-      fits = record { ssrc = s.fits; fraction = l.octet; lost = l.fits; highest = h.fits; jitter = j.fits; lsr = r.fits; dlsr = d.fits };
+      fits = record { numbers = record { ssrc = s.fits; fraction = l.octet; highest = h.fits; jitter = j.fits; lsr = r.fits; dlsr = d.fits }; lost = l.fits };
       left = omega (arith, s.left, l.left, h.left, j.left, r.left, d.left);
       bytes = d.bytes;
     }
@@ -208,7 +208,7 @@ some_sender n body bytes long =
     let u = first_32 t.rest t.bytes (omega (arith, s.left, t.left)) in
     let p = first_32 u.rest u.bytes (omega (arith, s.left, t.left, u.left)) in
     let o = first_32 p.rest p.bytes (omega (arith, s.left, t.left, u.left, p.left)) in
-    let m = many block_octets FitsBlock 24 first_block n o.rest o.bytes (omega (arith, s.left, t.left, u.left, p.left, o.left)) in (
+    let m = many block_octets IsSoundBlock 24 first_block n o.rest o.bytes (omega (arith, s.left, t.left, u.left, p.left, o.left)) in (
       Sender s.value t.value u.value p.value o.value m.values,
       record {
         its_type = refl;
@@ -228,7 +228,7 @@ some_sender n body bytes long =
 some_receiver : (n : ℕ) (body : List ℕ) → IsBytes body → 4 + 24 * n ≤ length body → (p : Packet) × IsOf 201 n body p
 some_receiver n body bytes long =
     let s = first_32 body bytes (omega arith) in
-    let m = many block_octets FitsBlock 24 first_block n s.rest s.bytes (omega (arith, s.left)) in (
+    let m = many block_octets IsSoundBlock 24 first_block n s.rest s.bytes (omega (arith, s.left)) in (
       Receiver s.value m.values,
       record {
         its_type = refl;

@@ -14,8 +14,8 @@ written_left l p ps e = ap written e ∙ flat_map-cons written_packet p ps
 pub written_length : (l : List Packet) (p : Packet) (ps : List Packet) → l ≡ p ∷ ps → length (written l) ≡ (4 + length (filled (fields p))) + length (written ps)
 written_length l p ps e = ap length (written_left l p ps e) ∙ length-append (written_packet p) (written ps) ∙ omega arith
 
-pub all_left : (l : List Packet) (p : Packet) (ps : List Packet) → l ≡ p ∷ ps → IsWritable p → AllByRecursion IsWritable ps → AllByRecursion IsWritable l
-all_left l p ps e h k = subst (AllByRecursion IsWritable) (sym e) (h, k)
+pub all_left : (P : Packet → Type 0) (l : List Packet) (p : Packet) (ps : List Packet) → l ≡ p ∷ ps → P p → AllByRecursion P ps → AllByRecursion P l
+all_left P l p ps e h k = subst (AllByRecursion P) (sym e) (h, k)
 
 pub first_left : (l : List Packet) (p : Packet) (ps : List Packet) → l ≡ p ∷ ps → AllByRecursion IsWritable l → IsWritable p × AllByRecursion IsWritable ps
 first_left l p ps e h = subst (AllByRecursion IsWritable) e h

@@ -44,7 +44,7 @@ IsReport k = (k ≡ kinds.Sender) ⊎ (k ≡ kinds.Receiver)
 
 -- a reason for leaving is whole: there is none, or its length isn't more than what follows
 abbrev pub IsWholeReason : List ℕ → Type 0
-IsWholeReason [] = Unit {0}
+IsWholeReason [] = ⊤
 IsWholeReason (n ∷ octets) = n ≤ length octets
 
 -- a body of a packet of this kind and count has all of its named parts
@@ -56,7 +56,7 @@ IsWholeBody kinds.Bye n body = (4 * n ≤ length body) × IsWholeReason (drop (4
 IsWholeBody kinds.App n body = 8 ≤ length body
 IsWholeBody kinds.Nack n body = 12 ≤ length body
 IsWholeBody kinds.Pli n body = 8 ≤ length body
-IsWholeBody kinds.Other n body = Unit {0}
+IsWholeBody kinds.Other n body = ⊤
 
 -- a count of padding that can't be: 0, no whole words, or more than follows the common header
 abbrev pub IsBadPadding : ℕ → List ℕ → Type 0

@@ -1,5 +1,5 @@
 -- Source descriptions and their octets (RFC 3550 section 6.5).
-use Rattle.std.specs.Prelude.{◌≡◌, ℕ, ◌+◌, ◌-◌, ◌%◌, ◌^◌, ◌<◌, List, [], ◌∷◌, ◌++◌, length, replicate}
+use Rattle.std.specs.Prelude.{◌≡◌, ℕ, ◌+◌, ◌-◌, ◌%◌, ◌^◌, ◌<◌, ◌≤◌, List, [], ◌∷◌, ◌++◌, length, replicate, ⊤}
 use Rattle.std.specs.List.{flat_map, AllByRecursion}
 use Rattle.std.specs.Int.{w32, to_be_bytes}
 
@@ -32,8 +32,20 @@ filled octets = octets ++ replicate ((4 - length octets % 4) % 4) 0
 
 -- the octets begin with the chunks, each up to its boundary
 abbrev pub Describe : List Chunk → List ℕ → Type 0
-Describe [] octets = Unit {0}
+Describe [] octets = ⊤
 Describe (c ∷ cs) octets = (fill rest : List ℕ) × (octets ≡ chunk_octets c ++ (fill ++ rest)) × IsFill (length (chunk_octets c)) fill × Describe cs rest
+
+-- the longest text whose length one octet can tell
+abbrev pub most_text : ℕ
+most_text = 255
+
+-- texts that their lengths can tell
+abbrev pub TextsFit : List Item → Type 0
+TextsFit items = AllByRecursion (λ i. length i.text ≤ most_text) items
+
+-- items that a null can end
+abbrev pub ItemsTold : List Item → Type 0
+ItemsTold items = AllByRecursion (λ i. 0 < i.kind) items
 
 -- an item that can be told from the end of the list, and whose text its length can count
 pub record FitsItem (i : Item) : Type 0 where

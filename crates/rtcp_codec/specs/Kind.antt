@@ -3,14 +3,44 @@ use Rattle.std.specs.Prelude.{ℕ, ◌==◌, ◌&&◌, if◌then◌else◌}
 use Rattle.rtcp_codec.specs.declared.kind.Kind.{Kind}
 use Rattle.rtcp_codec.specs.declared.kind.Kind.TheVariants as kinds
 
+-- packet types: SR, RR, SDES, BYE and APP (RFC 3550 section 12.1), transport and payload feedback (RFC 4585 section 6.1)
+abbrev pub sr : ℕ
+sr = 200
+
+abbrev pub rr : ℕ
+rr = 201
+
+abbrev pub sdes : ℕ
+sdes = 202
+
+abbrev pub bye : ℕ
+bye = 203
+
+abbrev pub app : ℕ
+app = 204
+
+abbrev pub rtpfb : ℕ
+rtpfb = 205
+
+abbrev pub psfb : ℕ
+psfb = 206
+
+-- the format of a generic NACK (RFC 4585 section 6.2.1)
+abbrev pub nack_format : ℕ
+nack_format = 1
+
+-- the format of a picture loss indication (RFC 4585 section 6.3.1)
+abbrev pub pli_format : ℕ
+pli_format = 1
+
 -- the kind of a packet with this type and this count, which is the format of a feedback packet
 abbrev pub kind_of : ℕ → ℕ → Kind
 kind_of pt count =
-    if pt == 200 then kinds.Sender else
-    if pt == 201 then kinds.Receiver else
-    if pt == 202 then kinds.Sdes else
-    if pt == 203 then kinds.Bye else
-    if pt == 204 then kinds.App else
-    if pt == 205 && count == 1 then kinds.Nack else
-    if pt == 206 && count == 1 then kinds.Pli else
+    if pt == sr then kinds.Sender else
+    if pt == rr then kinds.Receiver else
+    if pt == sdes then kinds.Sdes else
+    if pt == bye then kinds.Bye else
+    if pt == app then kinds.App else
+    if pt == rtpfb && count == nack_format then kinds.Nack else
+    if pt == psfb && count == pli_format then kinds.Pli else
     kinds.Other

@@ -18,16 +18,22 @@ block_octets b =
     to_be_bytes w32 b.ssrc ++ b.fraction ∷ octets_24 (twos_complement b.lost) ++ to_be_bytes w32 b.highest
     ++ to_be_bytes w32 b.jitter ++ to_be_bytes w32 b.lsr ++ to_be_bytes w32 b.dlsr
 
+-- the least and the most packets lost that 24 bits can spell (RFC 3550 section 6.4.1): negsuc n is -(n + 1)
+abbrev pub least_lost : ℤ
+least_lost = negsuc 8388607
+
+abbrev pub most_lost : ℤ
+most_lost = pos 8388607
+
 -- a signed number that 24 bits can spell
 pub record FitsLost (lost : ℤ) : Type 0 where
-  pub low : negsuc 8388607 ≤ℤ lost
-  pub high : lost ≤ℤ pos 8388607
+  pub low : least_lost ≤ℤ lost
+  pub high : lost ≤ℤ most_lost
 
--- a block whose numbers fit their fields
+-- a block whose numbers fit their fields, the loss apart
 pub record FitsBlock (b : ReportBlock) : Type 0 where
   pub ssrc : b.ssrc < 2 ^ 32
   pub fraction : b.fraction < 2 ^ 8
-  pub lost : FitsLost b.lost
   pub highest : b.highest < 2 ^ 32
   pub jitter : b.jitter < 2 ^ 32
   pub lsr : b.lsr < 2 ^ 32

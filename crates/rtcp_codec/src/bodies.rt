@@ -3,7 +3,7 @@
 ghost use Rattle.std.specs.Prelude.{◌≡◌, ◌+◌, ◌*◌, ◌%◌, ◌^◌, ◌<◌, ◌≤◌, ◌++◌, [], ◌∷◌, length, IfOk, IfSome, IfNone};
 ghost use Rattle.std.specs.List.{flat_map, AllByRecursion};
 ghost use Rattle.rtcp_codec.specs.declared.kind.Kind.TheVariants as kinds;
-ghost use Rattle.rtcp_codec.specs.Kind.{kind_of};
+ghost use Rattle.rtcp_codec.specs.Kind.{kind_of, sdes, bye, app, rtpfb, psfb, nack_format, pli_format};
 ghost use Rattle.rtcp_codec.specs.Packet.{Begin, Pli as PliPacket};
 ghost use Rattle.rtcp_codec.specs.inner.Reading.{IsOf};
 ghost use Rattle.rtcp_codec.specs.Compound.{IsWholeBody, IsWholeReason};
@@ -57,7 +57,7 @@ fn reason_from<A: Allocator>(alloc: A, octets: &[u8]) -> Result<Option<Vec<u8, A
 /// The leave that this body is.
 fn bye_from<A: Allocator + Copy>(alloc: A, count: u8, body: &[u8]) -> Result<Rtcp<A>, AllocError>
     requires { IsWholeBody kinds.Bye count body.now }
-    ensures { IfOk result (λ p. IsOf 203 count body.now (packet_of p)) }
+    ensures { IfOk result (λ p. IsOf bye count body.now (packet_of p)) }
 {
     let (ssrcs, rest) = ssrcs_from(alloc, count, body)?;
     let reason = reason_from(alloc, rest)?;
@@ -67,7 +67,7 @@ fn bye_from<A: Allocator + Copy>(alloc: A, count: u8, body: &[u8]) -> Result<Rtc
 /// The packet of an application that this body is.
 fn app_from<A: Allocator>(alloc: A, subtype: u8, body: &[u8]) -> Result<Rtcp<A>, AllocError>
     requires { IsWholeBody kinds.App subtype body.now }
-    ensures { IfOk result (λ p. IsOf 204 subtype body.now (packet_of p)) }
+    ensures { IfOk result (λ p. IsOf app subtype body.now (packet_of p)) }
 {
     let (ssrc, rest) = u32_from(body);
     let (name, rest) = rest.split_at(4);
@@ -113,8 +113,8 @@ fn words_from<A: Allocator>(alloc: A, octets: &[u8]) -> Result<Vec<NackWord, A>,
 /// The generic NACK that this body is.
 fn nack_from<A: Allocator>(alloc: A, body: &[u8]) -> Result<Rtcp<A>, AllocError>
     requires words { length body.now % 4 ≡ 0 }
-    requires whole { IsWholeBody kinds.Nack 1 body.now }
-    ensures { IfOk result (λ p. IsOf 205 1 body.now (packet_of p)) }
+    requires whole { IsWholeBody kinds.Nack nack_format body.now }
+    ensures { IfOk result (λ p. IsOf rtpfb nack_format body.now (packet_of p)) }
 {
     let (sender, rest) = u32_from(body);
     let (media, rest) = u32_from(rest);
@@ -128,8 +128,8 @@ fn nack_from<A: Allocator>(alloc: A, body: &[u8]) -> Result<Rtcp<A>, AllocError>
 
 /// The picture loss indication that this body is.
 fn pli_from(body: &[u8]) -> Pli
-    requires { IsWholeBody kinds.Pli 1 body.now }
-    ensures { IsOf 206 1 body.now (PliPacket result.sender result.media) }
+    requires { IsWholeBody kinds.Pli pli_format body.now }
+    ensures { IsOf psfb pli_format body.now (PliPacket result.sender result.media) }
 {
     let (sender, rest) = u32_from(body);
     let (media, _) = u32_from(rest);
@@ -140,7 +140,7 @@ fn pli_from(body: &[u8]) -> Pli
 fn sdes_from<A: Allocator + Copy>(alloc: A, count: u8, body: &[u8]) -> Result<Rtcp<A>, AllocError>
     requires words { length body.now % 4 ≡ 0 }
     requires whole { IsWholeBody kinds.Sdes count body.now }
-    ensures { IfOk result (λ p. IsOf 202 count body.now (packet_of p)) }
+    ensures { IfOk result (λ p. IsOf sdes count body.now (packet_of p)) }
 {
     Ok(Rtcp::Sdes(chunks_from(alloc, count, body)?))
 }

@@ -5,11 +5,11 @@ ghost use Rattle.std.specs.Option.{option_map};
 ghost use Rattle.rtcp_codec.specs.declared.fault.WriteFault.TheVariants as write_faults;
 ghost use Rattle.std.specs.List.{flat_map, AllByRecursion};
 ghost use Rattle.rtcp_codec.specs.Compound.{written, BeginsWithReport};
-ghost use Rattle.rtcp_codec.specs.Description.{item_octets, chunk_octets, filled};
-ghost use Rattle.rtcp_codec.specs.Packet.{fields, reason_octets};
+ghost use Rattle.rtcp_codec.specs.Description.{item_octets, chunk_octets, filled, most_text, TextsFit, ItemsTold};
+ghost use Rattle.rtcp_codec.specs.Packet.{fields, reason_octets, CountFits, PartsFit, MeaningFits};
 ghost use Rattle.rtcp_codec.specs.Report.{FitsLost};
 ghost use Rattle.rtcp_codec.specs.View.{item_of, chunk_of, packet_of, packets_of};
-ghost use Rattle.rtcp_codec.specs.WriteFault.{CountFits, TextsFit, PartsFit, LengthFits, ItemsTold, MeaningFits, IsWritable, AreWritable, IsFirstFault, HasWriteFault};
+ghost use Rattle.rtcp_codec.specs.WriteFault.{most_octets, LengthFits, IsWritable, AreWritable, IsFirstFault, HasWriteFault};
 
 use crate::description::{SdesChunk, SdesItem};
 use crate::fault::WriteFault;
@@ -18,9 +18,20 @@ use crate::packet::{App, Rtcp};
 use crate::report::ReportBlock;
 use std::alloc::Allocator;
 
+/// The largest count that the five bits of the common header tell.
+const MOST_COUNT: usize = 31;
+
+/// The longest text or reason whose length one octet tells.
+const MOST_TEXT: usize = 255;
+
 /// The most octets that the body of a packet has: the length of a packet in words, but for the
 /// header's one, has 16 bits.
-const MOST: usize = 4 * 65535;
+const MOST_OCTETS: usize = 4 * 65535;
+
+/// The least and the most packets lost that 24 bits tell.
+const LEAST_LOST: i32 = -8_388_608;
+
+const MOST_LOST: i32 = 8_388_607;
 
 /// Whether a count can be told: at most 31 blocks, chunks or sources, a subtype or count of at
 /// most 31, some words of a NACK.
@@ -29,14 +40,14 @@ fn has_count<A: Allocator>(packet: &Rtcp<A>) -> bool
     ensures bad { result ≡ false → ¬ CountFits (packet_of packet.now) }
 {
     match packet {
-        Rtcp::Sender(report) => report.blocks.len() <= 31,
-        Rtcp::Receiver(report) => report.blocks.len() <= 31,
-        Rtcp::Sdes(chunks) => chunks.len() <= 31,
-        Rtcp::Bye(bye) => bye.ssrcs.len() <= 31,
-        Rtcp::App(app) => app.subtype <= 31,
+        Rtcp::Sender(report) => report.blocks.len() <= MOST_COUNT,
+        Rtcp::Receiver(report) => report.blocks.len() <= MOST_COUNT,
+        Rtcp::Sdes(chunks) => chunks.len() <= MOST_COUNT,
+        Rtcp::Bye(bye) => bye.ssrcs.len() <= MOST_COUNT,
+        Rtcp::App(app) => usize::from(app.subtype) <= MOST_COUNT,
         Rtcp::Nack(nack) => !nack.words.is_empty(),
         Rtcp::Pli(_) => true,
-        Rtcp::Other(other) => other.count <= 31,
+        Rtcp::Other(other) => usize::from(other.count) <= MOST_COUNT,
     }
 }
 
@@ -44,13 +55,13 @@ fn has_count<A: Allocator>(packet: &Rtcp<A>) -> bool
 fn items_size<A: Allocator>(items: &[SdesItem<A>]) -> Option<usize>
     ensures size { IfSome result (λ n. n ≡ length (flat_map item_octets (map item_of items.now))) }
     ensures texts { IfSome result (λ n. TextsFit (map item_of items.now)) }
-    ensures none { IfNone result (¬ (TextsFit (map item_of items.now) × (length (flat_map item_octets (map item_of items.now)) ≤ 4 * 65535))) }
-    ensures most { IfSome result (λ n. n ≤ 4 * 65535) }
+    ensures none { IfNone result (¬ (TextsFit (map item_of items.now) × (length (flat_map item_octets (map item_of items.now)) ≤ most_octets))) }
+    ensures most { IfSome result (λ n. n ≤ most_octets) }
 {
     let mut size = 0;
     for item in items {
         let len = item.text.len();
-        if len > 255 || size + 2 + len > MOST {
+        if len > MOST_TEXT || size + 2 + len > MOST_OCTETS {
             return None;
         }
         size += 2 + len;
@@ -63,8 +74,8 @@ fn items_size<A: Allocator>(items: &[SdesItem<A>]) -> Option<usize>
 fn chunk_size<A: Allocator>(chunk: &SdesChunk<A>) -> Option<usize>
     ensures size { IfSome result (λ n. n ≡ length (filled (chunk_octets (chunk_of chunk.now)))) }
     ensures texts { IfSome result (λ n. TextsFit (chunk_of chunk.now).items) }
-    ensures none { IfNone result (¬ (TextsFit (chunk_of chunk.now).items × (length (filled (chunk_octets (chunk_of chunk.now))) ≤ 4 * 65535))) }
-    ensures most { IfSome result (λ n. n ≤ 4 * 65535 + 8) }
+    ensures none { IfNone result (¬ (TextsFit (chunk_of chunk.now).items × (length (filled (chunk_octets (chunk_of chunk.now))) ≤ most_octets))) }
+    ensures most { IfSome result (λ n. n ≤ most_octets + 8) }
 {
     let size = items_size(&chunk.items)?;
     Some((4 + size + 1 + 3) / 4 * 4)
@@ -74,13 +85,13 @@ fn chunk_size<A: Allocator>(chunk: &SdesChunk<A>) -> Option<usize>
 fn chunks_size<A: Allocator>(chunks: &[SdesChunk<A>]) -> Option<usize>
     ensures size { IfSome result (λ n. n ≡ length (flat_map (λ c. filled (chunk_octets c)) (map chunk_of chunks.now))) }
     ensures texts { IfSome result (λ n. AllByRecursion (λ c. TextsFit c.items) (map chunk_of chunks.now)) }
-    ensures none { IfNone result (¬ (AllByRecursion (λ c. TextsFit c.items) (map chunk_of chunks.now) × (length (flat_map (λ c. filled (chunk_octets c)) (map chunk_of chunks.now)) ≤ 4 * 65535))) }
-    ensures most { IfSome result (λ n. n ≤ 4 * 65535) }
+    ensures none { IfNone result (¬ (AllByRecursion (λ c. TextsFit c.items) (map chunk_of chunks.now) × (length (flat_map (λ c. filled (chunk_octets c)) (map chunk_of chunks.now)) ≤ most_octets))) }
+    ensures most { IfSome result (λ n. n ≤ most_octets) }
 {
     let mut size = 0;
     for chunk in chunks {
         let more = chunk_size(chunk)?;
-        if size + more > MOST {
+        if size + more > MOST_OCTETS {
             return None;
         }
         size += more;
@@ -91,13 +102,13 @@ fn chunks_size<A: Allocator>(chunks: &[SdesChunk<A>]) -> Option<usize>
 /// How many octets a reason has with its length, unless it is over 255 octets.
 fn reason_size<A: Allocator>(reason: &Option<Vec<u8, A>>) -> Option<usize>
     ensures size { IfSome result (λ n. n ≡ length (reason_octets (option_map (λ v. v.items) reason.now))) }
-    ensures text { IfSome result (λ n. IfSome (option_map (λ v. v.items) reason.now) (λ text. length text ≤ 255)) }
-    ensures none { IfNone result (¬ (IfSome (option_map (λ v. v.items) reason.now) (λ text. length text ≤ 255))) }
-    ensures most { IfSome result (λ n. n ≤ 256) }
+    ensures text { IfSome result (λ n. IfSome (option_map (λ v. v.items) reason.now) (λ text. length text ≤ most_text)) }
+    ensures none { IfNone result (¬ (IfSome (option_map (λ v. v.items) reason.now) (λ text. length text ≤ most_text))) }
+    ensures most { IfSome result (λ n. n ≤ 1 + most_text) }
 {
     match reason {
         None => Some(0),
-        Some(text) if text.len() > 255 => None,
+        Some(text) if text.len() > MOST_TEXT => None,
         Some(text) => Some(1 + text.len()),
     }
 }
@@ -109,8 +120,8 @@ fn fields_size<A: Allocator>(packet: &Rtcp<A>) -> Option<usize>
     requires { CountFits (packet_of packet.now) }
     ensures size { IfSome result (λ n. n ≡ length (fields (packet_of packet.now))) }
     ensures parts { IfSome result (λ n. PartsFit (packet_of packet.now)) }
-    ensures none { IfNone result (¬ (PartsFit (packet_of packet.now) × (length (fields (packet_of packet.now)) ≤ 4 * 65535))) }
-    ensures most { IfSome result (λ n. n ≤ 4 * 65535) }
+    ensures none { IfNone result (¬ (PartsFit (packet_of packet.now) × (length (fields (packet_of packet.now)) ≤ most_octets))) }
+    ensures most { IfSome result (λ n. n ≤ most_octets) }
 {
     match packet {
         Rtcp::Sender(report) => Some(24 + 24 * report.blocks.len()),
@@ -123,7 +134,7 @@ fn fields_size<A: Allocator>(packet: &Rtcp<A>) -> Option<usize>
         Rtcp::App(app) => app_size(app),
         Rtcp::Nack(nack) => {
             let count = nack.words.len();
-            if count <= (MOST - 8) / 4 {
+            if count <= (MOST_OCTETS - 8) / 4 {
                 Some(8 + 4 * count)
             } else {
                 None
@@ -139,8 +150,8 @@ fn fields_size<A: Allocator>(packet: &Rtcp<A>) -> Option<usize>
 fn app_size<A: Allocator>(app: &App<A>) -> Option<usize>
     ensures size { IfSome result (λ n. n ≡ 4 + (length app.now.name + length app.now.content.items)) }
     ensures whole { IfSome result (λ n. length app.now.content.items % 4 ≡ 0) }
-    ensures none { IfNone result (¬ ((length app.now.content.items % 4 ≡ 0) × (4 + (length app.now.name + length app.now.content.items) ≤ 4 * 65535))) }
-    ensures most { IfSome result (λ n. n ≤ 4 * 65535) }
+    ensures none { IfNone result (¬ ((length app.now.content.items % 4 ≡ 0) × (4 + (length app.now.name + length app.now.content.items) ≤ most_octets))) }
+    ensures most { IfSome result (λ n. n ≤ most_octets) }
 {
     let name = app.name;
     whole_words(4 + name.len(), &app.content)
@@ -151,11 +162,11 @@ fn whole_words(before: usize, octets: &[u8]) -> Option<usize>
     requires { before ≤ 8 }
     ensures size { IfSome result (λ n. n ≡ before + length octets.now) }
     ensures whole { IfSome result (λ n. length octets.now % 4 ≡ 0) }
-    ensures none { IfNone result (¬ ((length octets.now % 4 ≡ 0) × (before + length octets.now ≤ 4 * 65535))) }
-    ensures most { IfSome result (λ n. n ≤ 4 * 65535) }
+    ensures none { IfNone result (¬ ((length octets.now % 4 ≡ 0) × (before + length octets.now ≤ most_octets))) }
+    ensures most { IfSome result (λ n. n ≤ most_octets) }
 {
     let len = octets.len();
-    if len % 4 == 0 && len <= MOST - before {
+    if len % 4 == 0 && len <= MOST_OCTETS - before {
         Some(before + len)
     } else {
         None
@@ -168,11 +179,15 @@ fn body_size<A: Allocator>(packet: &Rtcp<A>) -> Option<usize>
     ensures size { IfSome result (λ n. n ≡ length (filled (fields (packet_of packet.now)))) }
     ensures fits { IfSome result (λ n. LengthFits (packet_of packet.now)) }
     ensures none { IfNone result (¬ (LengthFits (packet_of packet.now))) }
-    ensures most { IfSome result (λ n. n ≤ 4 * 65535) }
+    ensures most { IfSome result (λ n. n ≤ most_octets) }
 {
     let size = fields_size(packet)?;
     let filled = (size + 3) / 4 * 4;
-    if filled <= MOST { Some(filled) } else { None }
+    if filled <= MOST_OCTETS {
+        Some(filled)
+    } else {
+        None
+    }
 }
 
 /// Whether each loss fits 24 bits.
@@ -181,7 +196,7 @@ fn has_losses(blocks: &[ReportBlock]) -> bool
     ensures bad { result ≡ false → ¬ (AllByRecursion (λ b. FitsLost b.lost) blocks.now) }
 {
     for block in blocks {
-        if block.lost < -8_388_608 || block.lost > 8_388_607 {
+        if block.lost < LEAST_LOST || block.lost > MOST_LOST {
             return false;
         }
     }
@@ -223,8 +238,8 @@ fn has_meaning<A: Allocator>(packet: &Rtcp<A>) -> bool
         Rtcp::Sender(report) => has_losses(&report.blocks),
         Rtcp::Receiver(report) => has_losses(&report.blocks),
         Rtcp::Sdes(chunks) => has_chunks(chunks),
+        Rtcp::Bye(_) | Rtcp::App(_) | Rtcp::Nack(_) | Rtcp::Pli(_) => true,
         Rtcp::Other(other) => kind_of(other.pt, other.count) == Kind::Other,
-        _ => true,
     }
 }
 
@@ -232,7 +247,7 @@ fn has_meaning<A: Allocator>(packet: &Rtcp<A>) -> bool
 pub(crate) fn packet_size<A: Allocator>(packet: &Rtcp<A>) -> Result<usize, WriteFault>
     ensures writable { IfOk result (λ n. IsWritable (packet_of packet.now)) }
     ensures size { IfOk result (λ n. n ≡ length (filled (fields (packet_of packet.now)))) }
-    ensures most { IfOk result (λ n. n ≤ 4 * 65535) }
+    ensures most { IfOk result (λ n. n ≤ most_octets) }
     ensures err { IfErr result (λ f. IsFirstFault f (packet_of packet.now)) }
     ensures fault { IfErr result (λ f. f ≢ write_faults.OutOfMemory) }
 {

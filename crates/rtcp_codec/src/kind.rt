@@ -3,8 +3,28 @@
 ghost use Rattle.std.specs.Prelude.{◌≡◌};
 ghost use Rattle.rtcp_codec.specs.Kind.{kind_of};
 
+/// The packet types.
+pub(crate) const SR: u8 = 200;
+
+pub(crate) const RR: u8 = 201;
+
+pub(crate) const SDES: u8 = 202;
+
+pub(crate) const BYE: u8 = 203;
+
+pub(crate) const APP: u8 = 204;
+
+pub(crate) const RTPFB: u8 = 205;
+
+pub(crate) const PSFB: u8 = 206;
+
+/// The format of a generic NACK, and that of a picture loss indication.
+pub(crate) const NACK_FORMAT: u8 = 1;
+
+pub(crate) const PLI_FORMAT: u8 = 1;
+
 /// The kinds of RTCP packets that have a variant of their own, and all others.
-#[derive(Clone, Copy, Debug, PartialEq, Eq)]
+#[derive(Clone, Copy, PartialEq, Eq)]
 pub(crate) enum Kind {
     Sender,
     Receiver,
@@ -21,13 +41,13 @@ pub(crate) fn kind_of(pt: u8, count: u8) -> Kind
     ensures { result ≡ kind_of pt count }
 {
     match (pt, count) {
-        (200, _) => Kind::Sender,
-        (201, _) => Kind::Receiver,
-        (202, _) => Kind::Sdes,
-        (203, _) => Kind::Bye,
-        (204, _) => Kind::App,
-        (205, 1) => Kind::Nack,
-        (206, 1) => Kind::Pli,
+        (SR, _) => Kind::Sender,
+        (RR, _) => Kind::Receiver,
+        (SDES, _) => Kind::Sdes,
+        (BYE, _) => Kind::Bye,
+        (APP, _) => Kind::App,
+        (RTPFB, NACK_FORMAT) => Kind::Nack,
+        (PSFB, PLI_FORMAT) => Kind::Pli,
         _ => Kind::Other,
     }
 }

@@ -3,10 +3,11 @@
 ghost use Rattle.std.specs.Prelude.{◌≡◌, ◌+◌, ◌*◌, ◌≤◌, ◌++◌, length, IfOk};
 ghost use Rattle.std.specs.List.{flat_map, AllByRecursion};
 ghost use Rattle.rtcp_codec.specs.declared.kind.Kind.TheVariants as kinds;
+ghost use Rattle.rtcp_codec.specs.Kind.{sr, rr};
 ghost use Rattle.rtcp_codec.specs.Packet.{Begin};
-ghost use Rattle.rtcp_codec.specs.inner.Reading.{IsOf};
+ghost use Rattle.rtcp_codec.specs.inner.Reading.{IsOf, IsSoundBlock};
 ghost use Rattle.rtcp_codec.specs.Compound.{IsWholeBody};
-ghost use Rattle.rtcp_codec.specs.Report.{block_octets, FitsBlock, octets_24, twos_complement, FitsLost};
+ghost use Rattle.rtcp_codec.specs.Report.{block_octets, octets_24, twos_complement, FitsLost};
 ghost use Rattle.rtcp_codec.specs.View.{packet_of};
 
 use crate::fields::{u32_from, u64_from};
@@ -53,7 +54,7 @@ fn lost_from(octets: &[u8]) -> (i32, &[u8])
 fn block_from(octets: &[u8]) -> (ReportBlock, &[u8])
     requires { 24 ≤ length octets.now }
     ensures parts { octets.now ≡ block_octets result.0 ++ result.1.now }
-    ensures fits { FitsBlock result.0 }
+    ensures fits { IsSoundBlock result.0 }
     ensures left { length octets.now ≡ 24 + length result.1.now }
 {
     let (ssrc, rest) = u32_from(octets);
@@ -83,7 +84,7 @@ fn blocks_from<A: Allocator>(
 ) -> Result<Vec<ReportBlock, A>, AllocError>
     requires { 24 * count ≤ length octets.now }
     ensures count { IfOk result (λ v. length v.items ≡ count) }
-    ensures fits { IfOk result (λ v. AllByRecursion FitsBlock v.items) }
+    ensures fits { IfOk result (λ v. AllByRecursion IsSoundBlock v.items) }
     ensures parts { IfOk result (λ v. Begin (flat_map block_octets v.items) octets.now) }
 {
     let mut blocks = Vec::with_capacity(alloc, usize::from(count))?;
@@ -103,7 +104,7 @@ pub(crate) fn sender_from<A: Allocator>(
     body: &[u8],
 ) -> Result<Rtcp<A>, AllocError>
     requires { IsWholeBody kinds.Sender count body.now }
-    ensures { IfOk result (λ p. IsOf 200 count body.now (packet_of p)) }
+    ensures { IfOk result (λ p. IsOf sr count body.now (packet_of p)) }
 {
     let (ssrc, rest) = u32_from(body);
     let (ntp, rest) = u64_from(rest);
@@ -128,7 +129,7 @@ pub(crate) fn receiver_from<A: Allocator>(
     body: &[u8],
 ) -> Result<Rtcp<A>, AllocError>
     requires { IsWholeBody kinds.Receiver count body.now }
-    ensures { IfOk result (λ p. IsOf 201 count body.now (packet_of p)) }
+    ensures { IfOk result (λ p. IsOf rr count body.now (packet_of p)) }
 {
     let (ssrc, rest) = u32_from(body);
     let blocks = blocks_from(alloc, count, rest)?;

@@ -1,20 +1,21 @@
 //! Writing compounds.
 
-ghost use Rattle.std.specs.Prelude.{List, ◌≡◌, ◌+◌, ◌<◌, ◌≤◌, ◌++◌, length, IfSome, IfErr, ◌⊎◌, OnOk, OnErr, vec_len, vec_capacity};
+ghost use Rattle.std.specs.Prelude.{◌≡◌, ◌+◌, ◌^◌, ◌<◌, ◌≤◌, ◌++◌, length, IfSome, IfErr, ◌⊎◌, OnOk, OnErr, vec_len, vec_capacity};
 ghost use Rattle.std.specs.Option.{option_map};
 ghost use Rattle.std.specs.List.{flat_map, AllByRecursion};
 ghost use Rattle.rtp_codec.specs.Packet.{number_octets};
 ghost use Rattle.rtcp_codec.specs.declared.fault.WriteFault.TheVariants as write_faults;
-ghost use Rattle.rtcp_codec.specs.Description.{filled};
-ghost use Rattle.rtcp_codec.specs.Nack.{word_octets};
-ghost use Rattle.rtcp_codec.specs.Packet.{Packet, FitsFields, type_of, count_of, fields, reason_octets, written_packet};
+ghost use Rattle.rtcp_codec.specs.Description.{filled, most_text};
+ghost use Rattle.rtcp_codec.specs.Nack.{word_octets, FitsWord};
+ghost use Rattle.rtcp_codec.specs.Packet.{FitsTypes, CountFits, most_count, type_of, count_of, fields, reason_octets, written_packet};
 ghost use Rattle.rtcp_codec.specs.Compound.{written, IsCompound};
-ghost use Rattle.rtcp_codec.specs.WriteFault.{CountFits, IsWritable, AreWritable, HasWriteFault};
+ghost use Rattle.rtcp_codec.specs.WriteFault.{IsWritable, AreWritable, HasWriteFault};
 ghost use Rattle.rtcp_codec.specs.View.{packet_of, packets_of};
 
 use crate::appending::{append, append_fill};
 use crate::checking::{compound_size, packet_size};
 use crate::fault::WriteFault;
+use crate::kind::{APP, BYE, NACK_FORMAT, PLI_FORMAT, PSFB, RR, RTPFB, SDES, SR};
 use crate::nack::NackWord;
 use crate::packet::Rtcp;
 use crate::writing_descriptions::append_chunks;
@@ -27,6 +28,7 @@ fn append_words<A: Allocator>(words: &[NackWord], out: &mut Vec<u8, A>)
     ensures items { out.new.items ≡ out.old.items ++ flat_map word_octets words.now }
     ensures len { vec_len out.new ≡ vec_len out.old + length (flat_map word_octets words.now) }
     ensures capacity { vec_capacity out.old ≤ vec_capacity out.new }
+    ensures fits { AllByRecursion FitsWord words.now }
 {
     for word in words {
         append(&word.pid.to_be_bytes(), out);
@@ -40,6 +42,7 @@ fn append_ssrcs<A: Allocator>(ssrcs: &[u32], out: &mut Vec<u8, A>)
     ensures items { out.new.items ≡ out.old.items ++ number_octets ssrcs.now }
     ensures len { vec_len out.new ≡ vec_len out.old + length (number_octets ssrcs.now) }
     ensures capacity { vec_capacity out.old ≤ vec_capacity out.new }
+    ensures fits { AllByRecursion (λ ssrc. ssrc < 2 ^ 32) ssrcs.now }
 {
     for ssrc in ssrcs {
         append(&ssrc.to_be_bytes(), out);
@@ -48,7 +51,7 @@ fn append_ssrcs<A: Allocator>(ssrcs: &[u32], out: &mut Vec<u8, A>)
 
 /// Appends a reason, if there is one. There is room for it.
 fn append_reason<A: Allocator, B: Allocator>(reason: &Option<Vec<u8, A>>, out: &mut Vec<u8, B>)
-    requires text { IfSome reason.now (λ v. length v.items ≤ 255) }
+    requires text { IfSome reason.now (λ v. length v.items ≤ most_text) }
     requires room { vec_len out.old + length (reason_octets (option_map (λ v. v.items) reason.now)) ≤ vec_capacity out.old }
     ensures items { out.new.items ≡ out.old.items ++ reason_octets (option_map (λ v. v.items) reason.now) }
     ensures len { vec_len out.new ≡ vec_len out.old + length (reason_octets (option_map (λ v. v.items) reason.now)) }
@@ -67,6 +70,7 @@ fn append_fields<A: Allocator, B: Allocator>(packet: &Rtcp<A>, out: &mut Vec<u8,
     ensures items { out.new.items ≡ out.old.items ++ fields (packet_of packet.now) }
     ensures len { vec_len out.new ≡ vec_len out.old + length (fields (packet_of packet.now)) }
     ensures capacity { vec_capacity out.old ≤ vec_capacity out.new }
+    ensures types { type_of (packet_of packet.now) < 2 ^ 8 → FitsTypes (packet_of packet.now) }
 {
     match packet {
         Rtcp::Sender(report) => {
@@ -105,13 +109,13 @@ fn type_of<A: Allocator>(packet: &Rtcp<A>) -> u8
     ensures { result ≡ type_of (packet_of packet.now) }
 {
     match packet {
-        Rtcp::Sender(_) => 200,
-        Rtcp::Receiver(_) => 201,
-        Rtcp::Sdes(_) => 202,
-        Rtcp::Bye(_) => 203,
-        Rtcp::App(_) => 204,
-        Rtcp::Nack(_) => 205,
-        Rtcp::Pli(_) => 206,
+        Rtcp::Sender(_) => SR,
+        Rtcp::Receiver(_) => RR,
+        Rtcp::Sdes(_) => SDES,
+        Rtcp::Bye(_) => BYE,
+        Rtcp::App(_) => APP,
+        Rtcp::Nack(_) => RTPFB,
+        Rtcp::Pli(_) => PSFB,
         Rtcp::Other(other) => other.pt,
     }
 }
@@ -120,7 +124,7 @@ fn type_of<A: Allocator>(packet: &Rtcp<A>) -> u8
 fn count_of<A: Allocator>(packet: &Rtcp<A>) -> u8
     requires { CountFits (packet_of packet.now) }
     ensures value { result ≡ count_of (packet_of packet.now) }
-    ensures few { result ≤ 31 }
+    ensures few { result ≤ most_count }
 {
     match packet {
         Rtcp::Sender(report) => report.blocks.len() as u8,
@@ -128,7 +132,8 @@ fn count_of<A: Allocator>(packet: &Rtcp<A>) -> u8
         Rtcp::Sdes(chunks) => chunks.len() as u8,
         Rtcp::Bye(bye) => bye.ssrcs.len() as u8,
         Rtcp::App(app) => app.subtype,
-        Rtcp::Nack(_) | Rtcp::Pli(_) => 1,
+        Rtcp::Nack(_) => NACK_FORMAT,
+        Rtcp::Pli(_) => PLI_FORMAT,
         Rtcp::Other(other) => other.count,
     }
 }
@@ -150,6 +155,7 @@ fn append_packet<A: Allocator, B: Allocator>(packet: &Rtcp<A>, size: usize, out:
     ensures items { out.new.items ≡ out.old.items ++ written_packet (packet_of packet.now) }
     ensures len { vec_len out.new ≡ vec_len out.old + (4 + size) }
     ensures capacity { vec_capacity out.old ≤ vec_capacity out.new }
+    ensures types { FitsTypes (packet_of packet.now) }
 {
     let [high, low] = ((size / 4) as u16).to_be_bytes();
     append(&[128 + count_of(packet), type_of(packet), high, low], out);
@@ -174,6 +180,7 @@ fn append_packets<A: Allocator, B: Allocator>(packets: &[Rtcp<A>], out: &mut Vec
     requires writable { AllByRecursion IsWritable (packets_of packets.now) }
     requires room { vec_len out.old + length (written (packets_of packets.now)) ≤ vec_capacity out.old }
     ensures items { out.new.items ≡ out.old.items ++ written (packets_of packets.now) }
+    ensures types { AllByRecursion FitsTypes (packets_of packets.now) }
 {
     for packet in packets {
         append_packet(packet, writable_size(packet), out);
@@ -189,6 +196,8 @@ pub fn write_compound<A: Allocator, B: Allocator>(
     out: &mut Vec<u8, B>,
 ) -> Result<(), WriteFault>
     ensures ok { OnOk result (out.new.items ≡ out.old.items ++ written (packets_of packets.now)) }
+    // What was appended is the compound of these packets, so it reads back as them.
+    ensures reads { OnOk result (IsCompound (packets_of packets.now) (written (packets_of packets.now))) }
     // Only what can be written is.
     ensures writable { OnOk result (AreWritable (packets_of packets.now)) }
     ensures err { OnErr result (out.new.items ≡ out.old.items) }
@@ -207,9 +216,3 @@ pub fn write_compound<A: Allocator, B: Allocator>(
     append_packets(packets, out);
     Ok(())
 }
-
-/// What `write_compound` appends is the compound of its packets, so `read_compound` reads it back
-/// as them.
-pub fn written_is_compound()
-    ensures { (ps : List Packet) → AreWritable ps → AllByRecursion FitsFields ps → IsCompound ps (written ps) }
-{}

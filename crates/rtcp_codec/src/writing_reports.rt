@@ -1,9 +1,9 @@
 //! Writing sender and receiver reports.
 
-ghost use Rattle.std.specs.Prelude.{◌≡◌, ◌+◌, ◌≤◌, ◌++◌, length, vec_len, vec_capacity};
+ghost use Rattle.std.specs.Prelude.{◌≡◌, ◌+◌, ◌≤◌, [], ◌++◌, length, vec_len, vec_capacity};
 ghost use Rattle.std.specs.List.{flat_map, AllByRecursion};
-ghost use Rattle.rtcp_codec.specs.Packet.{Sender, fields};
-ghost use Rattle.rtcp_codec.specs.Report.{block_octets, octets_24, twos_complement, FitsLost};
+ghost use Rattle.rtcp_codec.specs.Packet.{Sender, fields, FitsTypes};
+ghost use Rattle.rtcp_codec.specs.Report.{block_octets, FitsBlock, octets_24, twos_complement, FitsLost};
 
 use crate::appending::append;
 use crate::report::{ReportBlock, SenderReport};
@@ -26,15 +26,18 @@ fn lost_octets(lost: i32) -> [u8; 3]
 /// The octets of a report block.
 fn block_array(block: &ReportBlock) -> [u8; 24]
     requires { FitsLost block.now.lost }
-    ensures { result ≡ block_octets block.now }
+    ensures octets { result ≡ block_octets block.now }
+    ensures fits { FitsBlock block.now }
 {
-    let [s0, s1, s2, s3] = block.ssrc.to_be_bytes();
-    let [n0, n1, n2] = lost_octets(block.lost);
-    let [h0, h1, h2, h3] = block.highest.to_be_bytes();
-    let [j0, j1, j2, j3] = block.jitter.to_be_bytes();
-    let [l0, l1, l2, l3] = block.lsr.to_be_bytes();
-    let [d0, d1, d2, d3] = block.dlsr.to_be_bytes();
-    let fraction = block.fraction;
+    let (ssrc, fraction, lost) = (block.ssrc, block.fraction, block.lost);
+    let (highest, jitter) = (block.highest, block.jitter);
+    let (lsr, dlsr) = (block.lsr, block.dlsr);
+    let [s0, s1, s2, s3] = ssrc.to_be_bytes();
+    let [n0, n1, n2] = lost_octets(lost);
+    let [h0, h1, h2, h3] = highest.to_be_bytes();
+    let [j0, j1, j2, j3] = jitter.to_be_bytes();
+    let [l0, l1, l2, l3] = lsr.to_be_bytes();
+    let [d0, d1, d2, d3] = dlsr.to_be_bytes();
     [
         s0, s1, s2, s3, fraction, n0, n1, n2, h0, h1, h2, h3, j0, j1, j2, j3, l0, l1, l2, l3, d0,
         d1, d2, d3,
@@ -48,6 +51,7 @@ fn append_block<A: Allocator>(block: &ReportBlock, out: &mut Vec<u8, A>)
     ensures items { out.new.items ≡ out.old.items ++ block_octets block.now }
     ensures len { vec_len out.new ≡ vec_len out.old + 24 }
     ensures capacity { vec_capacity out.old ≤ vec_capacity out.new }
+    ensures fits { FitsBlock block.now }
 {
     append(&block_array(block), out);
 }
@@ -59,6 +63,7 @@ pub(crate) fn append_blocks<A: Allocator>(blocks: &[ReportBlock], out: &mut Vec<
     ensures items { out.new.items ≡ out.old.items ++ flat_map block_octets blocks.now }
     ensures len { vec_len out.new ≡ vec_len out.old + length (flat_map block_octets blocks.now) }
     ensures capacity { vec_capacity out.old ≤ vec_capacity out.new }
+    ensures fits { AllByRecursion FitsBlock blocks.now }
 {
     for block in blocks {
         append_block(block, out);
@@ -67,13 +72,16 @@ pub(crate) fn append_blocks<A: Allocator>(blocks: &[ReportBlock], out: &mut Vec<
 
 /// What a sender report says of its sender.
 pub(crate) fn sender_array<A: Allocator>(report: &SenderReport<A>) -> [u8; 24]
-    ensures { result ++ flat_map block_octets report.now.blocks.items ≡ fields (Sender report.now.ssrc report.now.ntp report.now.ts report.now.packets report.now.octets report.now.blocks.items) }
+    ensures octets { result ++ flat_map block_octets report.now.blocks.items ≡ fields (Sender report.now.ssrc report.now.ntp report.now.ts report.now.packets report.now.octets report.now.blocks.items) }
+    ensures types { FitsTypes (Sender report.now.ssrc report.now.ntp report.now.ts report.now.packets report.now.octets []) }
 {
-    let [s0, s1, s2, s3] = report.ssrc.to_be_bytes();
-    let [n0, n1, n2, n3, n4, n5, n6, n7] = report.ntp.to_be_bytes();
-    let [t0, t1, t2, t3] = report.ts.to_be_bytes();
-    let [p0, p1, p2, p3] = report.packets.to_be_bytes();
-    let [o0, o1, o2, o3] = report.octets.to_be_bytes();
+    let (ssrc, ntp, ts) = (report.ssrc, report.ntp, report.ts);
+    let (packets, octets) = (report.packets, report.octets);
+    let [s0, s1, s2, s3] = ssrc.to_be_bytes();
+    let [n0, n1, n2, n3, n4, n5, n6, n7] = ntp.to_be_bytes();
+    let [t0, t1, t2, t3] = ts.to_be_bytes();
+    let [p0, p1, p2, p3] = packets.to_be_bytes();
+    let [o0, o1, o2, o3] = octets.to_be_bytes();
     [
         s0, s1, s2, s3, n0, n1, n2, n3, n4, n5, n6, n7, t0, t1, t2, t3, p0, p1, p2, p3, o0, o1, o2,
         o3,

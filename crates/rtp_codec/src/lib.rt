@@ -16,6 +16,3 @@ pub use self::reading::read;
 pub use self::sequence::{seq_distance, seq_next};
 pub use self::view::RtpView;
 pub use self::writing::{Header, write, written_is_packet};
-
-#[cfg(test)]
-mod tests;

@@ -1,9 +1,14 @@
 -- Words of reading, inside the crate: what stands at the front of octets.
-use Rattle.std.specs.Prelude.{◌≡◌, ℕ, ◌+◌, ◌%◌, ◌<◌, ◌≤◌, Bool, true, false, List, [], ◌∷◌, ◌++◌, length, Option, Some, None, ◌⊎◌}
+use Rattle.std.specs.Prelude.{◌≡◌, ℕ, ◌+◌, ◌%◌, ◌^◌, ◌<◌, ◌≤◌, Bool, true, false, List, [], ◌∷◌, ◌++◌, length, Option, Some, None, IfSome, ◌⊎◌}
 use Rattle.std.specs.List.{flat_map, AllByRecursion}
 use Rattle.rtcp_codec.specs.declared.fault.RtcpFault.{RtcpFault}
 use Rattle.rtcp_codec.specs.Description.{Item, Chunk, item_octets, chunk_octets, FitsItem, FitsChunk}
-use Rattle.rtcp_codec.specs.Packet.{Packet, kind, type_of, count_of, IsPacket, IsBody, FitsFields}
+use Rattle.rtcp_codec.specs.Packet.{Packet, kind, type_of, count_of, IsPacket, IsBody, Sender, Receiver, Sdes, Bye, App, Nack, Pli, Other}
+use Rattle.rtcp_codec.specs.declared.kind.Kind.TheVariants as kinds
+use Rattle.rtcp_codec.specs.declared.report.ReportBlock.{ReportBlock}
+use Rattle.rtcp_codec.specs.Kind.{kind_of}
+use Rattle.rtcp_codec.specs.Nack.{FitsWord}
+use Rattle.rtcp_codec.specs.Report.{FitsBlock, FitsLost}
 use Rattle.rtcp_codec.specs.Compound.{version, size, is_padded, kind_at, IsReport, IsFirstOf, in_order}
 
 -- the octets begin with items and a null
@@ -13,6 +18,23 @@ HasItems octets = (items : List Item) × (rest : List ℕ) × AllByRecursion Fit
 -- the octets begin with a chunk
 abbrev pub HasChunk : List ℕ → Type 0
 HasChunk octets = (c : Chunk) × (rest : List ℕ) × FitsChunk c × (octets ≡ chunk_octets c ++ rest)
+
+-- a block whose numbers all fit their fields
+pub record IsSoundBlock (b : ReportBlock) : Type 0 where
+  pub numbers : FitsBlock b
+  pub lost : FitsLost b.lost
+
+-- what fits the fields of a packet, the count apart
+abbrev pub FitsFields : Packet → Type 0
+FitsFields (Sender ssrc ntp ts packets octets blocks) =
+    (ssrc < 2 ^ 32) × (ntp < 2 ^ 64) × (ts < 2 ^ 32) × (packets < 2 ^ 32) × (octets < 2 ^ 32) × AllByRecursion IsSoundBlock blocks
+FitsFields (Receiver ssrc blocks) = (ssrc < 2 ^ 32) × AllByRecursion IsSoundBlock blocks
+FitsFields (Sdes chunks) = AllByRecursion FitsChunk chunks
+FitsFields (Bye ssrcs reason) = AllByRecursion (λ ssrc. ssrc < 2 ^ 32) ssrcs × IfSome reason (λ text. length text < 2 ^ 8)
+FitsFields (App subtype ssrc name content) = (ssrc < 2 ^ 32) × (length name ≡ 4)
+FitsFields (Nack sender media words) = (sender < 2 ^ 32) × (media < 2 ^ 32) × (0 < length words) × AllByRecursion FitsWord words
+FitsFields (Pli sender media) = (sender < 2 ^ 32) × (media < 2 ^ 32)
+FitsFields (Other pt count body) = (pt < 2 ^ 8) × (kind_of pt count ≡ kinds.Other)
 
 -- what was read of a body is a packet of this type and count
 pub record IsOf (pt n : ℕ) (body : List ℕ) (p : Packet) : Type 0 where

@@ -24,7 +24,7 @@ loop-packet-preserved g c =
     record {
       size = omega (arith, len, c.in_ok-size.ensures.size, c.loop-packet.invariant.size);
       most = omega (arith, c.in_ok-size.ensures.most, c.loop-packet.invariant.most);
-      good = λ h. c.loop-packet.invariant.good (all_left _ _ _ left c.in_ok-size.ensures.writable h);
+      good = λ h. c.loop-packet.invariant.good (all_left IsWritable _ _ _ left c.in_ok-size.ensures.writable h);
       fault = λ f h. c.loop-packet.invariant.fault f (fault_behind f _ _ _ left c.in_ok-size.ensures.writable h);
     }
 

@@ -2,7 +2,7 @@
 use Rattle.std.proofs.Common.{drop, map}
 use Rattle.std.specs.List.{AllByRecursion}
 use Rattle.rtcp_codec.specs.View.{chunk_of}
-use Rattle.rtcp_codec.specs.WriteFault.{ItemsTold}
+use Rattle.rtcp_codec.specs.Description.{ItemsTold}
 use Rattle.rtcp_codec.proofs.checking.has_chunks.Given as goal
 
 abbrev pub invariant-loop-chunk : goal.invariant-loop-chunk

@@ -1,7 +1,7 @@
 -- Each item so far is told.
 use Rattle.std.proofs.Common.{drop, map}
 use Rattle.rtcp_codec.specs.View.{item_of}
-use Rattle.rtcp_codec.specs.WriteFault.{ItemsTold}
+use Rattle.rtcp_codec.specs.Description.{ItemsTold}
 use Rattle.rtcp_codec.proofs.checking.has_items.Given as goal
 
 abbrev pub invariant-loop-item : goal.invariant-loop-item

@@ -14,5 +14,5 @@ returns-in-Sender-clause-items g c =
     c.append_blocks.ensures.items ∙ ap (λ (l : List ℕ). l ++ flat_map block_octets blocks) c.append.ensures.items
     ∙ append_assoc old c.sender_array.result (flat_map block_octets blocks)
     ∙ ap (λ (l : List ReportBlock). old ++ (c.sender_array.result ++ flat_map block_octets l)) c.deref.ensures.value
-    ∙ ap (λ (l : List ℕ). old ++ l) c.sender_array.ensures
+    ∙ ap (λ (l : List ℕ). old ++ l) c.sender_array.ensures.octets
     ∙ ap (λ (p : Rtcp g.row.A.Denot). old ++ fields (packet_of p)) (sym c.in-Sender.is)

@@ -1,9 +1,10 @@
-use Rattle.std.proofs.Common.{◌+◌, ◌++◌, ℕ, List, drop, ap, sym, ◌∙◌, append_assoc, arith}
+use Rattle.std.proofs.Common.{◌+◌, ◌++◌, ℕ, List, drop, ap, subst, sym, ◌∙◌, append_assoc, arith}
+use Rattle.std.specs.List.{AllByRecursion}
 use Rattle.rtcp_codec.specs.Compound.{written}
-use Rattle.rtcp_codec.specs.Packet.{written_packet}
+use Rattle.rtcp_codec.specs.Packet.{FitsTypes, written_packet}
 use Rattle.rtcp_codec.specs.View.{packet_of, packets_of}
-use Rattle.rtcp_codec.proofs.Lists.{mapped_left}
-use Rattle.rtcp_codec.proofs.WrittenLemmas.{written_length, written_left, first_left}
+use Rattle.rtcp_codec.proofs.Lists.{mapped_left, nothing_left}
+use Rattle.rtcp_codec.proofs.WrittenLemmas.{written_length, written_left, all_left, first_left}
 use Rattle.rtcp_codec.proofs.writing.append_packets.Goals as goal
 
 pub writable_size-requires : goal.writable_size-requires
@@ -27,4 +28,8 @@ loop-packet-preserved g c =
       len = omega (arith, written_length _ _ _ left, c.writable_size.ensures, c.loop-packet.invariant.len, c.append_packet.ensures.len);
       capacity = omega arith;
       writable = (first_left _ _ _ left c.loop-packet.invariant.writable).1;
+      types = λ h. c.loop-packet.invariant.types (all_left FitsTypes _ _ _ left c.append_packet.ensures.types h);
     }
+
+pub returns-clause-types : goal.returns-clause-types
+returns-clause-types g c = c.loop-packet.invariant.types (subst (AllByRecursion FitsTypes) (sym (nothing_left packet_of c.args.packets.now c.loop-packet.packet-index c.loop-packet-test.false)) tt)

@@ -1,8 +1,8 @@
 use Rattle.std.proofs.Common.{◌++◌, ℕ, List, drop, ◌+◌, get_or, length, pos, sym, ap, ◌∙◌, append_assoc, arith, length-append}
 use Rattle.std.specs.List.{flat_map}
 use Rattle.rtcp_codec.specs.declared.report.ReportBlock.{ReportBlock}
-use Rattle.rtcp_codec.specs.Report.{block_octets, FitsLost}
-use Rattle.rtcp_codec.proofs.Lists.{text_at, all_behind}
+use Rattle.rtcp_codec.specs.Report.{block_octets, FitsBlock, FitsLost}
+use Rattle.rtcp_codec.proofs.Lists.{text_at, all_behind, all_from}
 use Rattle.rtcp_codec.proofs.writing_reports.append_blocks.Goals as goal
 
 zeros : ReportBlock
@@ -31,4 +31,5 @@ loop-block-preserved g c =
       len = omega (arith, len, c.loop-block.invariant.len);
       lost = all_behind (λ b. FitsLost b.lost) blocks i zeros c.loop-block-test.true c.loop-block.invariant.lost;
       capacity = omega arith;
+      fits = λ h. c.loop-block.invariant.fits (all_from FitsBlock blocks i zeros c.loop-block-test.true c.append_block.ensures.fits h);
     }
