@@ -10,7 +10,7 @@ use Rattle.std.proofs.Math.Seq.{get_or-append_seam}
 use Rattle.rtp_codec.specs.declared.fault.RtpFault.TheVariants.{Extension, Padding}
 use Rattle.std.proofs.lemmas.Nat.{from_be_bytes-to_be_bytes_2, from_be_bytes-to_be_bytes_4}
 use Rattle.rtp_codec.specs.declared.writing.Header.{Header}
-use Rattle.rtp_codec.specs.Packet.{Packet, IsPacket, plain, written, number_octets, FitsHeader, FitsExtension, IsPadding, first_octet, second_octet, number_fields, fixed_header, extension_octets}
+use Rattle.rtp_codec.specs.Packet.{Packet, IsPacket, csrcs_in, header_of, most_csrcs, plain, written, number_octets, FitsHeader, FitsExtension, IsPadding, first_octet, second_octet, number_fields, fixed_header, extension_octets}
 use Rattle.rtp_codec.specs.Fault.{extension_size, lacks_extension, behind_extension, last_octet, lacks_padding, first_fault, behind_csrcs}
 
 -- the fields of the first octet
@@ -115,6 +115,12 @@ parts_joined octets fixed after csrcs rest extension left payload padding header
     let f : fixed ++ after ≡ octets = rw (front, back) (take-append-drop 12 octets) in
     sym f ∙ rw (is, ← e, third, fourth) refl
 
+-- the parts of a packet whose contributing sources are so many
+pub counted_parts : (p : Packet) (octets : List ℕ) (n : ℕ) (rest : List ℕ) → length p.csrc_octets ≡ 4 * n → octets ≡ fixed_header (nat_lt 0 p.padding) (is_some p.extension) p.header n ++ rest → octets ≡ header_of p ++ rest
+counted_parts p octets n rest len e =
+    let count : n ≡ csrcs_in p = omega (arith, len) in
+    e ∙ ap (λ (k : ℕ). fixed_header (nat_lt 0 p.padding) (is_some p.extension) p.header k ++ rest) count
+
 -- ---- the one packet of a datagram
 
 marked : (marker : Bool) (pt : ℕ) → pt ≤ 127 → ((nat_le 128 (cond marker (128 + pt) pt)) ≡ marker) × (cond marker (128 + pt) pt % 128 ≡ pt)
@@ -143,7 +149,7 @@ left_of octets = behind_extension (get_or octets 0 0 / 16 % 2 == 1) (behind_csrc
 packet_at : List ℕ → Packet
 packet_at octets = record {
   header = header_at octets;
-  csrcs = take (4 * (get_or octets 0 0 % 16)) (drop 12 octets);
+  csrc_octets = take (4 * (get_or octets 0 0 % 16)) (drop 12 octets);
   extension = extension_at (get_or octets 0 0 / 16 % 2 == 1) (behind_csrcs octets);
   payload = payload_at (get_or octets 0 0 / 32 % 2 == 1) (left_of octets);
   padding = padding_at (get_or octets 0 0 / 32 % 2 == 1) (left_of octets);
@@ -163,23 +169,25 @@ record Reads (p : Packet) (octets : List ℕ) : Type 0 where
 reads : (p : Packet) (octets : List ℕ) → IsPacket p octets → Reads p octets
 unfolding packet_at left_of
 reads p octets k =
+    let count = csrcs_in p in
+    let whole_csrcs : length p.csrc_octets ≡ 4 * count = omega (arith, k.csrcs) in
     let padded = nat_lt 0 p.padding in
     let extended = is_some p.extension in
     let left = p.payload ++ k.padding_octets in
     let rest = extension_octets p.extension ++ left in
-    let fixed = fixed_header padded extended p.header k.csrc_count in
-    let whole = fixed ++ (p.csrcs ++ rest) in
-    let x = first_octet padded extended k.csrc_count in
-    let f = first_fields padded extended k.csrc_count k.csrcs_fit in
+    let fixed = fixed_header padded extended p.header count in
+    let whole = fixed ++ (p.csrc_octets ++ rest) in
+    let x = first_octet padded extended count in
+    let f = first_fields padded extended count k.csrcs_fit in
     let p-test : (x / 32 % 2 == 1) ≡ padded = is_set padded (x / 32 % 2) f.1 in
     let e-test : (x / 16 % 2 == 1) ≡ extended = is_set extended (x / 16 % 2) f.2 in
-    let behind : behind_csrcs whole ≡ rest = ap (λ (n : ℕ). drop (12 + 4 * n) whole) f.3 ∙ behind_is fixed p.csrcs rest k.csrc_count refl k.csrcs in
+    let behind : behind_csrcs whole ≡ rest = ap (λ (n : ℕ). drop (12 + 4 * n) whole) f.3 ∙ behind_is fixed p.csrc_octets rest count refl whole_csrcs in
     let e = extends p.extension left k.extension in
     let q = pads p.payload p.padding k.padding_octets k.padding in
-    let long : length whole ≡ 12 + (4 * k.csrc_count + length rest) = omega (arith, length-append p.csrcs rest, k.csrcs) in
+    let long : length whole ≡ 12 + (4 * count + length rest) = omega (arith, length-append p.csrc_octets rest, whole_csrcs) in
     let fault : first_fault whole ≡ None = fault_behind_csrcs whole rest x refl (omega arith) f.0 (omega (arith, f.3)) (sym behind) ∙ rw (e-test, p-test, e.whole, e.behind, q.whole) refl in
-    let csrcs : take (4 * (x % 16)) (p.csrcs ++ rest) ≡ p.csrcs = take_at p.csrcs rest (4 * (x % 16)) (omega (arith, f.3, k.csrcs)) in
-    let same : packet_at whole ≡ p = rw (header_again padded extended p.header k.csrc_count (p.csrcs ++ rest) k.header, csrcs, behind, e-test, p-test, e.same, e.behind, q.same, q.count) refl in
+    let csrcs : take (4 * (x % 16)) (p.csrc_octets ++ rest) ≡ p.csrc_octets = take_at p.csrc_octets rest (4 * (x % 16)) (omega (arith, f.3, whole_csrcs)) in
+    let same : packet_at whole ≡ p = rw (header_again padded extended p.header count (p.csrc_octets ++ rest) k.header, csrcs, behind, e-test, p-test, e.same, e.behind, q.same, q.count) refl in
     record { fault = rw k.parts fault; same = rw k.parts same }
 
 pub packet_has_no_fault : (p : Packet) (octets : List ℕ) → IsPacket p octets → first_fault octets ≡ None
@@ -194,14 +202,16 @@ number_octets-length : (numbers : List ℕ) → length (number_octets numbers) �
 number_octets-length [] = refl
 number_octets-length (n ∷ ns) = ap length (flat_map-cons (λ n. to_be_bytes w32 n) n ns) ∙ omega (arith, number_octets-length ns)
 
-pub written_is_packet : (h : Header) (csrcs payload : List ℕ) → FitsHeader h → length csrcs ≤ 15 → IsPacket (plain h csrcs payload) (written h csrcs payload)
-written_is_packet h csrcs payload fits few = record {
-  csrc_count = length csrcs;
-  padding_octets = [];
-  parts = rw (append-nil payload, append_assoc (fixed_header false false h (length csrcs)) (number_octets csrcs) payload) refl;
-  header = fits;
-  csrcs = number_octets-length csrcs;
-  csrcs_fit = few;
-  extension = tt;
-  padding = refl;
-}
+pub written_is_packet : (h : Header) (csrcs payload : List ℕ) → FitsHeader h → length csrcs ≤ most_csrcs → IsPacket (plain h csrcs payload) (written h csrcs payload)
+written_is_packet h csrcs payload fits few =
+    let len = number_octets-length csrcs in
+    let count : length (number_octets csrcs) / 4 ≡ length csrcs = omega (arith, len) in
+    record {
+      padding_octets = [];
+      parts = rw (count, append-nil payload, append_assoc (fixed_header false false h (length csrcs)) (number_octets csrcs) payload) refl;
+      header = fits;
+      csrcs = omega (arith, len);
+      csrcs_fit = omega (arith, count, few);
+      extension = tt;
+      padding = refl;
+    }

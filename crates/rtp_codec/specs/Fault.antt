@@ -1,5 +1,5 @@
 -- Why a datagram is no RTP packet: the cases, and which is told (RFC 3550 section 5.1).
-use Rattle.std.specs.Prelude.{ℕ, ◌+◌, ◌-◌, ◌*◌, ◌/◌, ◌%◌, ◌==◌, nat_lt, Bool, not, ◌&&◌, ◌||◌, if◌then◌else◌, List, length, take, drop, slice_index, Option, Some, None}
+use Rattle.std.specs.Prelude.{ℕ, ◌+◌, ◌-◌, ◌*◌, ◌/◌, ◌%◌, ◌==◌, nat_lt, Bool, not, ◌&&◌, ◌||◌, if◌then◌else◌, List, [], ◌∷◌, length, take, drop, slice_index, Option, Some, None}
 use Rattle.std.specs.Int.{w16, from_be_bytes}
 use Rattle.rtp_codec.specs.declared.fault.RtpFault.{RtpFault}
 use Rattle.rtp_codec.specs.declared.fault.RtpFault.TheVariants.{Short, Version, Csrc, Extension, Padding}
@@ -44,12 +44,23 @@ last_octet octets = slice_index octets (length octets - 1)
 abbrev pub lacks_padding : Bool → List ℕ → Bool
 lacks_padding padded octets = padded && (last_octet octets == 0 || nat_lt (length octets) (last_octet octets))
 
--- the first fault, in the order of the parts of a packet
+-- the case of each fault
+abbrev pub is_case : RtpFault → List ℕ → Bool
+is_case Short octets = nat_lt (length octets) 12
+is_case Version octets = not (version octets == 2)
+is_case Csrc octets = nat_lt (length octets) (12 + 4 * csrc_count octets)
+is_case Extension octets = lacks_extension (is_extended octets) (behind_csrcs octets)
+is_case Padding octets = lacks_padding (is_padded octets) (behind_extension (is_extended octets) (behind_csrcs octets))
+
+-- the first of these faults whose case holds
+abbrev pub first_of : List RtpFault → List ℕ → Option RtpFault
+first_of [] octets = None
+first_of (fault ∷ faults) octets = if is_case fault octets then Some fault else first_of faults octets
+
+-- the faults in the order in which they are told
+abbrev pub in_order : List RtpFault
+in_order = Short ∷ Version ∷ Csrc ∷ Extension ∷ Padding ∷ []
+
+-- the first fault
 unfoldable pub first_fault : List ℕ → Option RtpFault
-first_fault octets =
-    if nat_lt (length octets) 12 then Some Short else
-    if not (version octets == 2) then Some Version else
-    if nat_lt (length octets) (12 + 4 * csrc_count octets) then Some Csrc else
-    if lacks_extension (is_extended octets) (behind_csrcs octets) then Some Extension else
-    if lacks_padding (is_padded octets) (behind_extension (is_extended octets) (behind_csrcs octets)) then Some Padding else
-    None
+first_fault octets = first_of in_order octets

@@ -1,5 +1,5 @@
 -- The packet grammar: RTP packets and their octets (RFC 3550 section 5.1).
-use Rattle.std.specs.Prelude.{◌≡◌, ℕ, zero, suc, ◌+◌, ◌*◌, ◌/◌, ◌<◌, ◌≤◌, ◌^◌, nat_lt, Bool, false, if◌then◌else◌, List, [], ◌∷◌, ◌++◌, length, Option, Some, None, is_some}
+use Rattle.std.specs.Prelude.{◌≡◌, ℕ, zero, suc, ◌+◌, ◌*◌, ◌/◌, ◌%◌, ◌<◌, ◌≤◌, ◌^◌, nat_lt, Bool, false, if◌then◌else◌, List, [], ◌∷◌, ◌++◌, length, Option, Some, None, is_some, ⊤}
 use Rattle.std.specs.List.{flat_map}
 use Rattle.std.specs.Int.{w16, w32, to_be_bytes}
 use Rattle.rtp_codec.specs.declared.writing.Header.{Header}
@@ -7,7 +7,7 @@ use Rattle.rtp_codec.specs.declared.writing.Header.{Header}
 -- a packet: its header, the octets of its contributing sources, its header extension (16 bits of the profile's and the octets of its words), its payload, and how many octets of padding it has
 pub record Packet : Type 0 where
   pub header : Header
-  pub csrcs : List ℕ
+  pub csrc_octets : List ℕ
   pub extension : Option (ℕ × List ℕ)
   pub payload : List ℕ
   pub padding : ℕ
@@ -33,16 +33,24 @@ abbrev pub extension_octets : Option (ℕ × List ℕ) → List ℕ
 extension_octets None = []
 extension_octets (Some e) = to_be_bytes w16 e.0 ++ to_be_bytes w16 (length e.1 / 4) ++ e.1
 
+-- the largest payload type, of seven bits
+abbrev pub most_pt : ℕ
+most_pt = 127
+
+-- the most contributing sources, as four bits count them
+abbrev pub most_csrcs : ℕ
+most_csrcs = 15
+
 -- what fits the fields of a header
 pub record FitsHeader (h : Header) : Type 0 where
-  pub pt : h.pt ≤ 127
+  pub pt : h.pt ≤ most_pt
   pub seq : h.seq < 2 ^ 16
   pub ts : h.ts < 2 ^ 32
   pub ssrc : h.ssrc < 2 ^ 32
 
 -- what fits a header extension: whole words, none to 65535 of them
 abbrev pub FitsExtension : Option (ℕ × List ℕ) → Type 0
-FitsExtension None = Unit {0}
+FitsExtension None = ⊤
 FitsExtension (Some e) = (e.0 < 2 ^ 16) × (words : ℕ) × (length e.1 ≡ 4 * words) × (words < 2 ^ 16)
 
 -- padding of so many octets: none, or any octets and behind them one that counts them all
@@ -50,14 +58,21 @@ abbrev pub IsPadding : ℕ → List ℕ → Type 0
 IsPadding zero octets = octets ≡ []
 IsPadding (suc n) octets = (fill : List ℕ) × (length fill ≡ n) × (octets ≡ fill ++ suc n ∷ [])
 
--- the octets are those of the packet: its parts in order, P where there is padding and X where there is an extension
+-- how many contributing sources a packet has, four octets each
+abbrev pub csrcs_in : Packet → ℕ
+csrcs_in p = length p.csrc_octets / 4
+
+-- its fixed header: P where there is padding, X where there is an extension
+abbrev pub header_of : Packet → List ℕ
+header_of p = fixed_header (nat_lt 0 p.padding) (is_some p.extension) p.header (csrcs_in p)
+
+-- the octets are those of the packet: its parts in order
 pub record IsPacket (p : Packet) (octets : List ℕ) : Type 0 where
-  pub csrc_count : ℕ
   pub padding_octets : List ℕ
-  pub parts : octets ≡ fixed_header (nat_lt 0 p.padding) (is_some p.extension) p.header csrc_count ++ (p.csrcs ++ (extension_octets p.extension ++ (p.payload ++ padding_octets)))
+  pub parts : octets ≡ header_of p ++ (p.csrc_octets ++ (extension_octets p.extension ++ (p.payload ++ padding_octets)))
   pub header : FitsHeader p.header
-  pub csrcs : length p.csrcs ≡ 4 * csrc_count
-  pub csrcs_fit : csrc_count ≤ 15
+  pub csrcs : length p.csrc_octets % 4 ≡ 0
+  pub csrcs_fit : csrcs_in p ≤ most_csrcs
   pub extension : FitsExtension p.extension
   pub padding : IsPadding p.padding padding_octets
 
@@ -67,7 +82,7 @@ number_octets numbers = flat_map (λ n. to_be_bytes w32 n) numbers
 
 -- the packet of these parts that has no padding and no extension
 abbrev pub plain : Header → List ℕ → List ℕ → Packet
-plain h csrcs payload = record { header = h; csrcs = number_octets csrcs; extension = None; payload = payload; padding = 0 }
+plain h csrcs payload = record { header = h; csrc_octets = number_octets csrcs; extension = None; payload = payload; padding = 0 }
 
 -- the written form, the case P = 0 and X = 0: the fixed header, the contributing sources, the payload
 abbrev pub written : Header → List ℕ → List ℕ → List ℕ

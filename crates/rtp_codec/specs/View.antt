@@ -13,7 +13,7 @@ extension_of extension = option_map (λ e. (e.0, e.1.now)) extension
 abbrev pub packet_of : RtpView → Packet
 packet_of v = record {
   header = record { marker = v.marker; pt = v.pt; seq = v.seq; ts = v.ts; ssrc = v.ssrc };
-  csrcs = v.csrcs.now;
+  csrc_octets = v.csrcs.now;
   extension = extension_of v.extension;
   payload = v.payload.now;
   padding = v.padding;

@@ -1,7 +1,7 @@
 //! A packet that was read.
 
 /// The parts of an RTP packet (RFC 3550 section 5.1), in the datagram that it came in.
-#[derive(Clone, Copy, Debug)]
+#[derive(Clone, Copy)]
 pub struct RtpView<'a> {
     pub marker: bool,
     /// The payload type, at most 127.

@@ -1,14 +1,13 @@
 //! Writing RTP packets.
 
-ghost use Rattle.std.specs.Prelude.{◌≡◌, ℕ, List, ◌+◌, ◌*◌, ◌<◌, ◌≤◌, ◌++◌, length, false, OnOk, OnErr, vec_len, vec_capacity};
-ghost use Rattle.rtp_codec.specs.Packet.{written, fixed_header, plain, IsPacket, FitsHeader, number_octets, size};
-ghost use Rattle.rtp_codec.specs.declared.writing.Header.{Header};
+ghost use Rattle.std.specs.Prelude.{◌≡◌, ◌+◌, ◌*◌, ◌<◌, ◌≤◌, ◌++◌, length, false, OnOk, OnErr, vec_len, vec_capacity};
+ghost use Rattle.rtp_codec.specs.Packet.{written, fixed_header, plain, IsPacket, FitsHeader, number_octets, size, most_pt, most_csrcs};
 
 use std::alloc::{AllocError, Allocator};
 
 /// The fixed part of an RTP packet's header (RFC 3550 section 5.1), but for the counts that
 /// follow from the packet.
-#[derive(Clone, Copy, Debug, PartialEq, Eq)]
+#[derive(Clone, Copy, PartialEq, Eq)]
 pub struct Header {
     pub marker: bool,
     /// The payload type, at most 127.
@@ -35,14 +34,16 @@ pub struct Header {
 /// +-+-+-+-+-+-+-+-+-+-+-+-+-+-+-+-+-+-+-+-+-+-+-+-+-+-+-+-+-+-+-+-+
 /// ```
 fn fixed_header(header: &Header, csrc_count: u8) -> [u8; 12]
-    requires pt { header.now.pt ≤ 127 }
-    requires csrcs { csrc_count ≤ 15 }
-    ensures { result ≡ fixed_header false false header.now csrc_count }
+    requires pt { header.now.pt ≤ most_pt }
+    requires csrcs { csrc_count ≤ most_csrcs }
+    ensures octets { result ≡ fixed_header false false header.now csrc_count }
+    ensures fits { FitsHeader header.now }
 {
-    let pt = header.pt;
-    let [s0, s1] = header.seq.to_be_bytes();
-    let [t0, t1, t2, t3] = header.ts.to_be_bytes();
-    let [x0, x1, x2, x3] = header.ssrc.to_be_bytes();
+    let (pt, seq) = (header.pt, header.seq);
+    let (ts, ssrc) = (header.ts, header.ssrc);
+    let [s0, s1] = seq.to_be_bytes();
+    let [t0, t1, t2, t3] = ts.to_be_bytes();
+    let [x0, x1, x2, x3] = ssrc.to_be_bytes();
     let second = if header.marker { 128 + pt } else { pt };
     [
         128 + csrc_count,
@@ -92,9 +93,11 @@ pub fn write<A: Allocator>(
     payload: &[u8],
     out: &mut Vec<u8, A>,
 ) -> Result<(), AllocError>
-    requires pt { header.now.pt ≤ 127 }
-    requires csrcs { length csrcs.now ≤ 15 }
+    requires pt { header.now.pt ≤ most_pt }
+    requires csrcs { length csrcs.now ≤ most_csrcs }
     ensures ok { OnOk result (out.new.items ≡ out.old.items ++ written header.now csrcs.now payload.now) }
+    // What was appended is the packet of these parts, so it reads back as them.
+    ensures reads { OnOk result (IsPacket (plain header.now csrcs.now payload.now) (written header.now csrcs.now payload.now)) }
     ensures err { OnErr result (out.new.items ≡ out.old.items) }
     // Memory is wanted only where the packet has no room.
     ensures full { OnErr result (vec_capacity out.old < vec_len out.old + size csrcs.now payload.now) }
@@ -106,8 +109,3 @@ pub fn write<A: Allocator>(
     append(payload, out);
     Ok(())
 }
-
-/// What `write` appends is the packet of its parts, so `read` reads it back as them.
-pub fn written_is_packet()
-    ensures { (header : Header) (csrcs payload : List ℕ) → FitsHeader header → length csrcs ≤ 15 → IsPacket (plain header csrcs payload) (written header csrcs payload) }
-{}
