@@ -9,8 +9,9 @@ use Rattle.std.proofs.Math.Seq.{get_or-append_seam}
 use Rattle.rtp_codec.specs.Sequence.{distance}
 use Rattle.rtcp_codec.specs.Packet.{Begin}
 use Rattle.rtcp_codec.specs.declared.nack.NackWord.{NackWord}
-use Rattle.rtcp_codec.specs.Nack.{numbers_up_to, numbers_of, numbers_named, TakesAll, ArePacked, AreRising, AreApart}
-use Rattle.rtcp_codec.proofs.Words.{set_bit, clear_bit}
+use Rattle.rtcp_codec.specs.Nack.{most_bits, numbers_of, numbers_named, ArePacked, AreRising, AreApart}
+use Rattle.rtcp_codec.specs.inner.Greedy.{numbers_up_to, TakesAll, AreGreedy}
+use Rattle.rtcp_codec.proofs.Words.{set_bit, clear_bit, numbers_are}
 
 -- the first of those that are left isn't a number that the word may name by a bit up to n
 abbrev pub TakesUpTo : ℕ → ℕ → ℕ → List ℕ → Type 0
@@ -53,14 +54,21 @@ takes_more false i pid blp bit now rest (x ∷ xs) some few fits power lt number
     let other : distance pid x ≡ i → ⊥ = λ e. absurd (false≢true (first (xs, parts ∙ ap (λ (n : ℕ). n ∷ xs) (sym (at_distance i pid x few fits number e))))) in
     omega (arith, ahead, other)
 
+-- a word that takes each number by a bit up to its last one takes all
+pub takes_all : (pid blp : ℕ) (rest : List ℕ) → TakesUpTo most_bits pid blp rest → TakesAll pid blp rest
+takes_all pid blp [] h = tt
+takes_all pid blp (x ∷ xs) h = λ may.
+    let P : ℕ → Type 0 = λ m. distance pid m < distance pid x in
+    omega (arith, may.1, h (All-same P _ _ (sym (numbers_are pid blp)) may.0))
+
 -- ---- words
 
 -- what is packed for the rest completes the words
 abbrev pub GoesOn : List NackWord → List ℕ → Type 0
-GoesOn so_far rest = (ws : List NackWord) → numbers_named ws ≡ rest → ArePacked ws → ArePacked (so_far ++ ws)
+GoesOn so_far rest = (ws : List NackWord) → numbers_named ws ≡ rest → AreGreedy ws → AreGreedy (so_far ++ ws)
 
-pub are_packed : (words : List NackWord) (rest : List ℕ) → GoesOn words rest → rest ≡ [] → ArePacked words
-are_packed words rest on end = subst ArePacked (append-nil words) (on [] (sym end) tt)
+pub are_greedy : (words : List NackWord) (rest : List ℕ) → GoesOn words rest → rest ≡ [] → AreGreedy words
+are_greedy words rest on end = subst AreGreedy (append-nil words) (on [] (sym end) tt)
 
 -- ---- numbers that rise
 
@@ -92,16 +100,24 @@ ahead_of_all base pid q ys tail fb fit h =
     subst (λ (x : ℕ). distance pid x < distance pid q) same (subst (λ (x : ℕ). distance pid (get_or all k 0) < distance pid x) seam it))
 
 first_apart : (base pid blp q : ℕ) (tail : List ℕ) → base < 2 ^ 16 → ((k : ℕ) → get_or (numbers_of pid blp ++ q ∷ tail) k 0 < 2 ^ 16) → AllPairs (λ m n. distance base m < distance base n) (numbers_of pid blp ++ q ∷ tail) → TakesAll pid blp (q ∷ tail) → 16 < distance pid q
-unfolding numbers_up_to
+unfolding numbers_of
 first_apart base pid blp q tail fb fit h takes =
     let near : distance pid q ≤ 16 → ⊥ = λ le. takes (ahead_of_all base pid q _ tail fb fit h, le) in
     omega (arith, near)
 
 begins : (w : NackWord) (ws : List NackWord) → Begin (w.pid ∷ []) (numbers_named (w ∷ ws))
-unfolding numbers_up_to
+unfolding numbers_of
 begins w ws = (_, flat_map-cons (λ (x : NackWord). numbers_of x.pid x.blp) w ws)
 
-apart : (base : ℕ) (w : NackWord) (ws : List NackWord) → base < 2 ^ 16 → ((k : ℕ) → get_or (numbers_named (w ∷ ws)) k 0 < 2 ^ 16) → AllPairs (λ m n. distance base m < distance base n) (numbers_named (w ∷ ws)) → ArePacked (w ∷ ws) → AreApart (w ∷ ws)
+-- the first number that is left is the next word's PID
+pub are_packed : (ws : List NackWord) → AreGreedy ws → ArePacked ws
+are_packed [] h = tt
+are_packed (w ∷ []) h = tt
+are_packed (w ∷ v ∷ ws) h =
+    let b = begins v ws in
+    (subst (TakesAll w.pid w.blp) b.1 h.0, are_packed (v ∷ ws) h.1)
+
+apart : (base : ℕ) (w : NackWord) (ws : List NackWord) → base < 2 ^ 16 → ((k : ℕ) → get_or (numbers_named (w ∷ ws)) k 0 < 2 ^ 16) → AllPairs (λ m n. distance base m < distance base n) (numbers_named (w ∷ ws)) → AreGreedy (w ∷ ws) → AreApart (w ∷ ws)
 apart base w [] fb fit h packed = tt
 apart base w (v ∷ ws) fb fit h packed =
     let xs = numbers_of w.pid w.blp in
@@ -117,7 +133,7 @@ apart base w (v ∷ ws) fb fit h packed =
     (first, apart base v ws fb (fit_behind xs rest fit') (Ahead-behind base xs rest h') packed.1)
 
 -- of numbers that rise, only one over 16 ahead of PID begins a new word
-pub are_apart : (ws : List NackWord) (numbers : List ℕ) → numbers_named ws ≡ numbers → ((k : ℕ) → get_or numbers k 0 < 2 ^ 16) → AreRising numbers → ArePacked ws → AreApart ws
+pub are_apart : (ws : List NackWord) (numbers : List ℕ) → numbers_named ws ≡ numbers → ((k : ℕ) → get_or numbers k 0 < 2 ^ 16) → AreRising numbers → AreGreedy ws → AreApart ws
 are_apart [] numbers e fit rising packed = tt
 are_apart (w ∷ ws) numbers e fit rising packed =
     let b = begins w ws in

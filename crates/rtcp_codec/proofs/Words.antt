@@ -6,7 +6,8 @@ use Rattle.std.proofs.lemmas.Bool.{ne_eqb}
 use Rattle.std.proofs.lemmas.List.Elements.{filter-append}
 use Rattle.std.proofs.Math.Nat.{pow-succ', pow-suc, add-mul-div_right}
 use Rattle.std.proofs.lemmas.Nat.{pow_pos, div_below}
-use Rattle.rtcp_codec.specs.Nack.{has_bit, numbers_up_to}
+use Rattle.rtcp_codec.specs.Nack.{has_bit, numbers_of, most_bits}
+use Rattle.rtcp_codec.specs.inner.Greedy.{numbers_up_to}
 
 range-more : (a n : ℕ) → range_with_len a (suc n) ≡ range_with_len a n ++ (a + n) ∷ []
 range-more a zero = ap (λ (x : ℕ). x ∷ []) (omega arith)
@@ -123,3 +124,8 @@ turned false i pid blp bit now rest after numbers some power lt so_far front is 
   names = ap (λ (b : ℕ). numbers_up_to (i + 1 - 1) pid b ++ after) is ∙ ap (λ (l : List ℕ). l ++ after) (clear_bit i pid blp bit some power lt) ∙ ap (λ (l : List ℕ). numbers_up_to (i - 1) pid blp ++ l) (sym front) ∙ so_far;
   below = omega (arith, is);
 }
+
+-- the numbers of a word are those up to its last bit
+pub numbers_are : (pid blp : ℕ) → numbers_of pid blp ≡ numbers_up_to most_bits pid blp
+unfolding numbers_of numbers_up_to
+numbers_are pid blp = refl

@@ -9,42 +9,38 @@ use Rattle.rtcp_codec.specs.declared.nack.NackWord.{NackWord}
 abbrev pub has_bit : ℕ → ℕ → Bool
 has_bit blp i = blp / 2 ^ (i - 1) % 2 == 1
 
--- the numbers that a word names, up to PID + n: PID, and PID + i for each bit i that is set, ascending from PID
-unfoldable pub numbers_up_to : ℕ → ℕ → ℕ → List ℕ
-numbers_up_to n pid blp = pid ∷ map (λ i. (pid + i) % 2 ^ 16) (filter (has_bit blp) (range_with_len 1 n))
+-- how many bits BLP has
+abbrev pub most_bits : ℕ
+most_bits = 16
 
--- all of them, as a word has 16 bits
-abbrev pub numbers_of : ℕ → ℕ → List ℕ
-numbers_of pid blp = numbers_up_to 16 pid blp
+-- the numbers that a word names: PID, and PID + i for each bit i that is set, ascending from PID
+unfoldable pub numbers_of : ℕ → ℕ → List ℕ
+numbers_of pid blp = pid ∷ map (λ i. (pid + i) % 2 ^ 16) (filter (has_bit blp) (range_with_len 1 most_bits))
 
 -- the numbers that words name, in order
 abbrev pub numbers_named : List NackWord → List ℕ
 numbers_named words = flat_map (λ w. numbers_of w.pid w.blp) words
 
--- a word may name this number too: it lies 1 to 16 ahead of PID, and ahead of each number that the word names (RFC 4585 section 6.2.1)
+-- a word may name this number too: it lies 1 to 16 ahead of PID, and ahead of each number that the word names (own)
 abbrev pub MayName : ℕ → ℕ → ℕ → Type 0
-MayName pid blp number = All (λ m. distance pid m < distance pid number) (numbers_of pid blp) × (distance pid number ≤ 16)
+MayName pid blp number = All (λ m. distance pid m < distance pid number) (numbers_of pid blp) × (distance pid number ≤ most_bits)
 
--- a word takes each next number that it may name: the first of those that are left isn't one
-abbrev pub TakesAll : ℕ → ℕ → List ℕ → Type 0
-TakesAll pid blp [] = ⊤
-TakesAll pid blp (number ∷ rest) = ¬ (MayName pid blp number)
-
--- words are packed greedily: only a number that the word before may not name begins a new one
+-- words are packed greedily: only a number that the word before may not name begins a new one (own)
 abbrev pub ArePacked : List NackWord → Type 0
 ArePacked [] = ⊤
-ArePacked (w ∷ ws) = TakesAll w.pid w.blp (numbers_named ws) × ArePacked ws
+ArePacked (w ∷ []) = ⊤
+ArePacked (w ∷ v ∷ ws) = (¬ MayName w.pid w.blp v.pid) × ArePacked (v ∷ ws)
 
 -- the numbers lie further and further ahead of the first of them
 abbrev pub AreRising : List ℕ → Type 0
 AreRising [] = ⊤
 AreRising (first ∷ rest) = AllPairs (λ m n. distance first m < distance first n) (first ∷ rest)
 
--- each PID lies over 16 ahead of the PID before it, whose word has no bit for it (RFC 4585 section 6.2.1)
+-- each PID lies over 16 ahead of the PID before it, whose word has no bit for it (own)
 abbrev pub AreApart : List NackWord → Type 0
 AreApart [] = ⊤
 AreApart (w ∷ []) = ⊤
-AreApart (w ∷ v ∷ ws) = (16 < distance w.pid v.pid) × AreApart (v ∷ ws)
+AreApart (w ∷ v ∷ ws) = (most_bits < distance w.pid v.pid) × AreApart (v ∷ ws)
 
 -- the four octets of a word
 abbrev pub word_octets : NackWord → List ℕ

@@ -3,7 +3,7 @@
 use std::alloc::{Allocator, Global};
 
 /// One item of a source description (SDES, RFC 3550 section 6.5).
-#[derive(Debug, Drop)]
+#[derive(Drop)]
 pub struct SdesItem<A: Allocator = Global> {
     /// The item's type, 1 for a CNAME, never 0.
     pub kind: u8,
@@ -12,7 +12,7 @@ pub struct SdesItem<A: Allocator = Global> {
 }
 
 /// What a source description says of one source (RFC 3550 section 6.5).
-#[derive(Debug, Drop)]
+#[derive(Drop)]
 pub struct SdesChunk<A: Allocator = Global> {
     /// The source that is described.
     pub ssrc: u32,

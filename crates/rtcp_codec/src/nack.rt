@@ -1,13 +1,17 @@
 //! Generic NACKs.
 
 ghost use Rattle.std.specs.Prelude.{◌≡◌, ◌≤◌, [], ◌∷◌, ◌++◌, length, if◌then◌else◌, IfOk, IsOk, IsTrue, ◌↔◌};
-ghost use Rattle.rtcp_codec.specs.Nack.{numbers_of, numbers_named, TakesAll, ArePacked, AreRising, AreApart};
+ghost use Rattle.rtcp_codec.specs.Nack.{numbers_of, numbers_named, ArePacked, AreRising, AreApart};
+ghost use Rattle.rtcp_codec.specs.inner.Greedy.{TakesAll};
 ghost use Rattle.rtcp_codec.specs.Packet.{Begin};
 
 use std::alloc::{AllocError, Allocator, Global};
 
+/// How many numbers a word names at most: its PID, and one for each bit.
+const MOST_NUMBERS: u16 = 17;
+
 /// A lost packet, and which of the 16 behind it were lost too (RFC 4585 section 6.2.1).
-#[derive(Clone, Copy, Debug, PartialEq, Eq)]
+#[derive(Clone, Copy, PartialEq, Eq)]
 pub struct NackWord {
     /// The sequence number of a lost packet.
     pub pid: u16,
@@ -16,7 +20,7 @@ pub struct NackWord {
 }
 
 /// A generic NACK (RFC 4585 section 6.2.1).
-#[derive(Debug, Drop)]
+#[derive(Drop)]
 pub struct Nack<A: Allocator = Global> {
     /// Who asks.
     pub sender: u32,
@@ -30,9 +34,9 @@ pub struct Nack<A: Allocator = Global> {
 pub fn nack_numbers<A: Allocator>(alloc: A, pid: u16, blp: u16) -> Result<Vec<u16, A>, AllocError>
     ensures { IfOk result (λ v. v.items ≡ numbers_of pid blp) }
 {
-    let mut numbers = Vec::with_capacity(alloc, 17)?;
+    let mut numbers = Vec::with_capacity(alloc, usize::from(MOST_NUMBERS))?;
     numbers.push(pid)?;
-    for i in 1..17u16 {
+    for i in 1..MOST_NUMBERS {
         if (blp >> (i - 1)) % 2 == 1 {
             numbers.push(pid.wrapping_add(i))?;
         }
@@ -40,7 +44,7 @@ pub fn nack_numbers<A: Allocator>(alloc: A, pid: u16, blp: u16) -> Result<Vec<u1
     Ok(numbers)
 }
 
-/// The words that name these numbers in order, each as many as it can (RFC 4585 section 6.2.1).
+/// The words that name these numbers in order, each as many as it can.
 ///
 /// The numbers are those of lost packets, each a step or more behind the one before. Steps are
 /// counted round the wrap, so 0 stands one behind 65535.
@@ -71,7 +75,7 @@ fn blp_from(pid: u16, numbers: &[u16]) -> (u16, &[u16])
     let mut blp: u32 = 0;
     let mut bit: u32 = 1;
     let mut rest = numbers;
-    for i in 1..17u16 {
+    for i in 1..MOST_NUMBERS {
         let (is_set, after) = without(pid.wrapping_add(i), rest);
         if is_set {
             blp += bit;

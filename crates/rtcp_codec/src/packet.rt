@@ -6,7 +6,7 @@ use crate::report::{ReceiverReport, SenderReport};
 use std::alloc::{Allocator, Global};
 
 /// Sources that leave (BYE, RFC 3550 section 6.6).
-#[derive(Debug, Drop)]
+#[derive(Drop)]
 pub struct Bye<A: Allocator = Global> {
     /// At most 31.
     pub ssrcs: Vec<u32, A>,
@@ -15,7 +15,7 @@ pub struct Bye<A: Allocator = Global> {
 }
 
 /// A packet that an application defines (APP, RFC 3550 section 6.7).
-#[derive(Debug, Drop)]
+#[derive(Drop)]
 pub struct App<A: Allocator = Global> {
     /// At most 31.
     pub subtype: u8,
@@ -28,7 +28,7 @@ pub struct App<A: Allocator = Global> {
 }
 
 /// A picture loss indication (PLI, RFC 4585 section 6.3.1).
-#[derive(Clone, Copy, Debug, PartialEq, Eq)]
+#[derive(Clone, Copy, PartialEq, Eq)]
 pub struct Pli {
     /// Who asks.
     pub sender: u32,
@@ -37,7 +37,7 @@ pub struct Pli {
 }
 
 /// A packet of a kind that has no variant of its own.
-#[derive(Debug, Drop)]
+#[derive(Drop)]
 pub struct Other<A: Allocator = Global> {
     /// The packet type.
     pub pt: u8,
@@ -48,7 +48,7 @@ pub struct Other<A: Allocator = Global> {
 }
 
 /// An RTCP packet (RFC 3550 section 6, RFC 4585 section 6).
-#[derive(Debug, Drop)]
+#[derive(Drop)]
 pub enum Rtcp<A: Allocator = Global> {
     Sender(SenderReport<A>),
     Receiver(ReceiverReport<A>),

@@ -3,7 +3,7 @@
 use std::alloc::{Allocator, Global};
 
 /// What a receiver says of one source (RFC 3550 section 6.4.1).
-#[derive(Clone, Copy, Debug, PartialEq, Eq)]
+#[derive(Clone, Copy, PartialEq, Eq)]
 pub struct ReportBlock {
     /// The source that the block is about.
     pub ssrc: u32,
@@ -22,7 +22,7 @@ pub struct ReportBlock {
 }
 
 /// A sender report (SR, RFC 3550 section 6.4.1).
-#[derive(Debug, Drop)]
+#[derive(Drop)]
 pub struct SenderReport<A: Allocator = Global> {
     /// The sender.
     pub ssrc: u32,
@@ -39,7 +39,7 @@ pub struct SenderReport<A: Allocator = Global> {
 }
 
 /// A receiver report (RR, RFC 3550 section 6.4.2).
-#[derive(Debug, Drop)]
+#[derive(Drop)]
 pub struct ReceiverReport<A: Allocator = Global> {
     /// The receiver.
     pub ssrc: u32,

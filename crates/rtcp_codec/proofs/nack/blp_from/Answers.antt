@@ -1,7 +1,8 @@
-use Rattle.std.proofs.Common.{◌≡◌, ℕ, ◌+◌, ◌-◌, ◌^◌, cond, Bool, refl, sym, ap, ◌∙◌, arith}
-use Rattle.rtcp_codec.specs.Nack.{numbers_up_to}
-use Rattle.rtcp_codec.proofs.Words.{turned, next_power}
-use Rattle.rtcp_codec.proofs.Packing.{fit_after, takes_none, takes_more}
+use Rattle.std.proofs.Common.{◌≡◌, ℕ, ◌+◌, ◌-◌, ◌^◌, suc, cond, Bool, List, ◌++◌, subst, refl, sym, ap, ◌∙◌, arith}
+use Rattle.rtcp_codec.specs.Nack.{most_bits}
+use Rattle.rtcp_codec.specs.inner.Greedy.{numbers_up_to}
+use Rattle.rtcp_codec.proofs.Words.{turned, next_power, numbers_are}
+use Rattle.rtcp_codec.proofs.Packing.{TakesUpTo, fit_after, takes_none, takes_more, takes_all}
 use Rattle.rtcp_codec.proofs.nack.blp_from.Goals as goal
 use Rattle.rtcp_codec.proofs.nack.blp_from.Goals.{then-is_set, else-is_set}
 
@@ -26,6 +27,16 @@ loop-i-preserved c =
 
 pub overflow_cast-result : goal.overflow_cast-result
 overflow_cast-result c =
-    let end : c.loop-i.i ≡ 17 = omega arith in
+    let end : c.loop-i.i ≡ suc most_bits = omega arith in
     let power : c.loop-i.bit ≡ 2 ^ 16 = c.loop-i.invariant.power ∙ ap (λ (j : ℕ). 2 ^ (j - 1)) end in
     omega (arith, power)
+
+pub returns-clause-names : goal.returns-clause-names
+returns-clause-names c =
+    let end : most_bits ≡ c.loop-i.i - 1 = omega arith in
+    ap (λ (l : List ℕ). l ++ c.loop-i.rest.now) (numbers_are c.args.pid c.loop-i.blp ∙ ap (λ (n : ℕ). numbers_up_to n c.args.pid c.loop-i.blp) end) ∙ c.loop-i.invariant.names
+
+pub returns-clause-packed : goal.returns-clause-packed
+returns-clause-packed c =
+    let end : c.loop-i.i - 1 ≡ most_bits = omega arith in
+    takes_all c.args.pid c.loop-i.blp c.loop-i.rest.now (subst (λ (n : ℕ). TakesUpTo n c.args.pid c.loop-i.blp c.loop-i.rest.now) end c.loop-i.invariant.packed)

@@ -1,6 +1,6 @@
 -- The bits so far name the numbers that were taken.
 use Rattle.std.proofs.Common.{◌≡◌, ℕ, ◌-◌, ◌^◌, ◌<◌, ◌≤◌, ◌∷◌, ◌++◌, length, get_or}
-use Rattle.rtcp_codec.specs.Nack.{numbers_up_to}
+use Rattle.rtcp_codec.specs.inner.Greedy.{numbers_up_to}
 use Rattle.rtcp_codec.proofs.Packing.{TakesUpTo}
 use Rattle.rtcp_codec.proofs.nack.blp_from.Given as goal
 

@@ -1,6 +1,6 @@
 -- The numbers so far are those up to the last bit that was looked at.
 use Rattle.std.proofs.Common.{◌≡◌, ◌-◌}
-use Rattle.rtcp_codec.specs.Nack.{numbers_up_to}
+use Rattle.rtcp_codec.specs.inner.Greedy.{numbers_up_to}
 use Rattle.rtcp_codec.proofs.nack.nack_numbers.Given as goal
 
 abbrev pub invariant-loop-i : goal.invariant-loop-i
