@@ -8,3 +8,4 @@ pub mod calling;
 pub mod framing;
 pub mod printing;
 pub mod spelling;
+pub mod stepping;
