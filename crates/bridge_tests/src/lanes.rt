@@ -7,10 +7,10 @@ use std::test::Fail;
 
 /// How many of a lane's packets are of streams whose SSRC modulo the number of lanes it is.
 fn share(sent: &[Egress], lane: u32, lanes: u32) -> usize {
-    let mut count = 0;
+    let mut count: usize = 0;
     for egress in sent {
         let Egress::Media { ssrc, .. } = egress;
-        count += usize::from(ssrc.checked_rem(lanes) == Some(lane));
+        count = count.saturating_add(usize::from(ssrc.checked_rem(lanes) == Some(lane)));
     }
     count
 }

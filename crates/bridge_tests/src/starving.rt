@@ -35,29 +35,29 @@ fn written(alloc: Global, size: usize) -> Result<Option<usize>, Fail> {
     Ok(if ended { Some(out.len()) } else { None })
 }
 
-/// The greatest number of 4 KiB at which nothing is written, as the bridge itself wants more.
+/// The greatest size, in steps of 4 KiB, at which nothing is written, as the bridge itself wants more.
 fn too_small(alloc: Global) -> Result<usize, Fail> {
-    let mut pages = 0;
-    for more in 0..1_024 {
-        if written(alloc, 4_096 * more)? != Some(0) {
+    let mut last = 0;
+    for pages in 0..1_024 {
+        if written(alloc, 4_096 * pages)? != Some(0) {
             break;
         }
-        pages = more;
+        last = 4_096 * pages;
     }
-    Ok(pages)
+    Ok(last)
 }
 
 /// Heaps that grow let a run stop before and behind its first answers, until one is ample.
 #[test]
 fn a_run_stops_between_answers(rt: HostRuntime) -> Result<(), Fail> {
-    let base = 4_096 * too_small(rt.alloc())?;
+    let base = too_small(rt.alloc())?;
     let mut most = 0;
-    let mut stops = 0;
+    let mut stops: u32 = 0;
     for step in 0..1_024 {
-        let Some(octets) = written(rt.alloc(), base + 64 * step)? else {
+        let Some(octets) = written(rt.alloc(), base.saturating_add(64 * step))? else {
             return Err(Fail::from("a part of an answer"));
         };
-        stops += u32::from(most < octets);
+        stops = stops.saturating_add(u32::from(most < octets));
         most = most.max(octets);
         if most == TEXT.len() {
             break;
@@ -100,13 +100,13 @@ fn is_printed<'a>(ample: &'a LocalHeap, heap: &'a LocalHeap) -> Result<Option<bo
 #[test]
 fn printing_without_memory_changes_nothing(rt: HostRuntime) -> Result<(), Fail> {
     let ample = LocalHeap::new(rt.alloc(), 1_024)?;
-    let mut printed = 0;
+    let mut printed: u32 = 0;
     for octets in 0..1_024 {
         let heap = LocalHeap::new(rt.alloc(), octets)?;
         let Some(is_printed) = is_printed(&ample, &heap)? else {
             return Err(Fail::from("a part of a line"));
         };
-        printed += u32::from(is_printed);
+        printed = printed.saturating_add(u32::from(is_printed));
     }
     assert!(rt; 0 < printed && printed < 1_024, "printed {printed} times");
     Ok(())
