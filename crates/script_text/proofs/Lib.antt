@@ -1,4 +1,5 @@
 pub mod Cuts
+pub mod ValueSteps
 pub mod NumberLemmas
 pub mod PacketLemmas
 pub mod Known

@@ -1,5 +1,5 @@
 -- Addresses: four numbers below 256 with dots between, a colon, and a port (own).
-use Rattle.std.specs.Prelude.{ℕ, List, [], ◌∷◌, ◌++◌, codes, slice_index, Option, Some, None}
+use Rattle.std.specs.Prelude.{◌≡◌, ℕ, ◌≤◌, length, List, [], ◌∷◌, ◌++◌, codes, slice_index, Option, Some, None}
 use Rattle.std.specs.Fmt.{decimal}
 use Rattle.rtp_codec.specs.declared.address.Address.{Address}
 use Rattle.script_text.specs.Words.{cut_of}
@@ -10,6 +10,12 @@ abbrev pub address_text : Address → List ℕ
 address_text a =
     decimal (slice_index a.ip 0) ++ codes "." ++ decimal (slice_index a.ip 1) ++ codes "." ++ decimal (slice_index a.ip 2) ++ codes "." ++ decimal (slice_index a.ip 3)
     ++ codes ":" ++ decimal a.port
+
+-- the numbers of an address are in range
+pub record IsAddress (a : Address) : Type 0 where
+  pub parts : length a.ip ≡ 4
+  pub octets : (k : ℕ) → slice_index a.ip k ≤ 255
+  pub port : a.port ≤ 65535
 
 -- a value, if there is one: what follows is read only behind it
 infixl 10 ◌>>=◌

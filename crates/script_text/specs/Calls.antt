@@ -1,108 +1,94 @@
--- The calls that desk lines spell, of which `base` words stand before them on the line (own).
-use Rattle.std.specs.Prelude.{ℕ, ◌+◌, ◌==◌, List, [], length, codes, Result, Ok, Err, if◌then◌else◌}
+-- The lines of calls: a table of their names, of the fields behind each name, and of what they are in the call (own).
+use Rattle.std.specs.Prelude.{ℕ, ◌+◌, ◌==◌, List, [], ◌∷◌, map, length, codes, Option, Result, Ok, if◌then◌else◌}
+use Rattle.std.specs.List.{find, join_with_byte}
 use Rattle.std.specs.Str.{bytes_eq}
 use Rattle.desk_edit.specs.declared.command.Call.{Call}
 use Rattle.desk_edit.specs.declared.command.Call.TheVariants.{Apply, Undo}
 use Rattle.desk_edit.specs.declared.command.Command.TheVariants.{AddRoom, AddMember, AddSource, AddSlot, RemoveSlot, Subscribe}
 use Rattle.script_text.specs.declared.fault.Fault.{Fault}
 use Rattle.script_text.specs.declared.fault.Fault.TheVariants.{UnknownWord}
-use Rattle.script_text.specs.Words.{◌>>=◌, words_of, word_at, none_left}
-use Rattle.script_text.specs.Numbers.{u16_at, u32_at, u64_at}
-use Rattle.script_text.specs.Kinds.{address_at, codec_at, media_at}
+use Rattle.script_text.specs.declared.value.Field.{Field}
+use Rattle.script_text.specs.declared.value.Field.TheVariants as fields
+use Rattle.script_text.specs.declared.value.Value.{Value}
+use Rattle.script_text.specs.declared.value.Value.TheVariants.{U16, U32, U64, Address, Codec, Media}
+use Rattle.script_text.specs.declared.name.Name.{Name}
+use Rattle.script_text.specs.declared.name.Name.TheVariants as names
+use Rattle.script_text.specs.Words.{◌>>=◌, words_of, word_at, none_left, value_or}
+use Rattle.script_text.specs.Values.{value_text, values_of, AllFit, number_at, address_at, codec_at, media_at}
 
--- ROOM
-unfoldable pub add_room_of : ℕ → List (List ℕ) → Result Call (ℕ × Fault)
-add_room_of base words = do
-  room ← u32_at (base + 2) words
-  end ← none_left (base + 3) room.1
-  Ok (Apply (AddRoom (record { room = room.0 })))
+-- how the name of a call is written
+abbrev pub name_text : Name → List ℕ
+name_text names.AddRoom = codes "add-room"
+name_text names.AddMember = codes "add-member"
+name_text names.AddSource = codes "add-source"
+name_text names.AddSlot = codes "add-slot"
+name_text names.RemoveSlot = codes "remove-slot"
+name_text names.Subscribe = codes "subscribe"
+name_text names.Undo = codes "undo"
 
--- MEMBER ROOM ADDRESS CODEC OUT_AUDIO FIRST_SEQ FIRST_TS
-unfoldable pub add_member_of : ℕ → List (List ℕ) → Result Call (ℕ × Fault)
-add_member_of base words = do
-  member ← u32_at (base + 2) words
-  room ← u32_at (base + 3) member.1
-  address ← address_at (base + 4) room.1
-  codec ← codec_at (base + 5) address.1
-  out_audio ← u32_at (base + 6) codec.1
-  first_seq ← u16_at (base + 7) out_audio.1
-  first_ts ← u32_at (base + 8) first_seq.1
-  end ← none_left (base + 9) first_ts.1
-  Ok (Apply (AddMember (record {
-    member = member.0;
-    room = room.0;
-    address = address.0;
-    codec = codec.0;
-    out_audio = out_audio.0;
-    first_seq = first_seq.0;
-    first_ts = first_ts.0;
-  })))
+-- all names
+abbrev pub all_names : List Name
+all_names = names.AddRoom ∷ names.AddMember ∷ names.AddSource ∷ names.AddSlot ∷ names.RemoveSlot ∷ names.Subscribe ∷ names.Undo ∷ []
 
--- SSRC MEMBER KIND
-unfoldable pub add_source_of : ℕ → List (List ℕ) → Result Call (ℕ × Fault)
-add_source_of base words = do
-  ssrc ← u32_at (base + 2) words
-  member ← u32_at (base + 3) ssrc.1
-  media ← media_at (base + 4) member.1
-  end ← none_left (base + 5) media.1
-  Ok (Apply (AddSource (record { ssrc = ssrc.0; member = member.0; media = media.0 })))
+-- the fields behind a name
+abbrev pub shape_of : Name → List Field
+shape_of names.AddRoom = fields.U32 ∷ []
+shape_of names.AddMember = fields.U32 ∷ fields.U32 ∷ fields.Address ∷ fields.Codec ∷ fields.U32 ∷ fields.U16 ∷ fields.U32 ∷ []
+shape_of names.AddSource = fields.U32 ∷ fields.U32 ∷ fields.Media ∷ []
+shape_of names.AddSlot = fields.U32 ∷ fields.U32 ∷ fields.U32 ∷ fields.U16 ∷ fields.U32 ∷ []
+shape_of names.RemoveSlot = fields.U32 ∷ []
+shape_of names.Subscribe = fields.U32 ∷ fields.U32 ∷ []
+shape_of names.Undo = fields.U64 ∷ []
 
--- OUT_SSRC MEMBER INDEX FIRST_SEQ FIRST_TS
-unfoldable pub add_slot_of : ℕ → List (List ℕ) → Result Call (ℕ × Fault)
-add_slot_of base words = do
-  out_ssrc ← u32_at (base + 2) words
-  member ← u32_at (base + 3) out_ssrc.1
-  index ← u32_at (base + 4) member.1
-  first_seq ← u16_at (base + 5) index.1
-  first_ts ← u32_at (base + 6) first_seq.1
-  end ← none_left (base + 7) first_ts.1
-  Ok (Apply (AddSlot (record {
-    out_ssrc = out_ssrc.0;
-    member = member.0;
-    index = index.0;
-    first_seq = first_seq.0;
-    first_ts = first_ts.0;
-  })))
+-- a name with values behind it
+pub record Spelt : Type 0 where
+  pub name : Name
+  pub values : List Value
 
--- OUT_SSRC
-unfoldable pub remove_slot_of : ℕ → List (List ℕ) → Result Call (ℕ × Fault)
-remove_slot_of base words = do
-  out_ssrc ← u32_at (base + 2) words
-  end ← none_left (base + 3) out_ssrc.1
-  Ok (Apply (RemoveSlot out_ssrc.0))
+-- what the line of a call says
+abbrev pub fields_of : Call → Spelt
+fields_of (Apply (AddRoom r)) = record { name = names.AddRoom; values = U32 r.room ∷ [] }
+fields_of (Apply (AddMember m)) = record { name = names.AddMember; values = U32 m.member ∷ U32 m.room ∷ Address m.address ∷ Codec m.codec ∷ U32 m.out_audio ∷ U16 m.first_seq ∷ U32 m.first_ts ∷ [] }
+fields_of (Apply (AddSource s)) = record { name = names.AddSource; values = U32 s.ssrc ∷ U32 s.member ∷ Media s.media ∷ [] }
+fields_of (Apply (AddSlot s)) = record { name = names.AddSlot; values = U32 s.out_ssrc ∷ U32 s.member ∷ U32 s.index ∷ U16 s.first_seq ∷ U32 s.first_ts ∷ [] }
+fields_of (Apply (RemoveSlot out_ssrc)) = record { name = names.RemoveSlot; values = U32 out_ssrc ∷ [] }
+fields_of (Apply (Subscribe s)) = record { name = names.Subscribe; values = U32 s.out_ssrc ∷ U32 s.source ∷ [] }
+fields_of (Undo last) = record { name = names.Undo; values = U64 last ∷ [] }
 
--- OUT_SSRC SOURCE
-unfoldable pub subscribe_of : ℕ → List (List ℕ) → Result Call (ℕ × Fault)
-subscribe_of base words = do
-  out_ssrc ← u32_at (base + 2) words
-  source ← u32_at (base + 3) out_ssrc.1
-  end ← none_left (base + 4) source.1
-  Ok (Apply (Subscribe (record { out_ssrc = out_ssrc.0; source = source.0 })))
+-- the call of a name with values of its fields
+abbrev pub call_with : Name → List Value → Call
+call_with names.AddRoom vs = Apply (AddRoom (record { room = number_at 0 vs }))
+call_with names.AddMember vs = Apply (AddMember (record { member = number_at 0 vs; room = number_at 1 vs; address = address_at 2 vs; codec = codec_at 3 vs; out_audio = number_at 4 vs; first_seq = number_at 5 vs; first_ts = number_at 6 vs }))
+call_with names.AddSource vs = Apply (AddSource (record { ssrc = number_at 0 vs; member = number_at 1 vs; media = media_at 2 vs }))
+call_with names.AddSlot vs = Apply (AddSlot (record { out_ssrc = number_at 0 vs; member = number_at 1 vs; index = number_at 2 vs; first_seq = number_at 3 vs; first_ts = number_at 4 vs }))
+call_with names.RemoveSlot vs = Apply (RemoveSlot (number_at 0 vs))
+call_with names.Subscribe vs = Apply (Subscribe (record { out_ssrc = number_at 0 vs; source = number_at 1 vs }))
+call_with names.Undo vs = Undo (number_at 0 vs)
 
--- LAST
-unfoldable pub undo_of : ℕ → List (List ℕ) → Result Call (ℕ × Fault)
-undo_of base words = do
-  last ← u64_at (base + 2) words
-  end ← none_left (base + 3) last.1
-  Ok (Undo last.0)
+-- the name that a word is
+abbrev pub name_of : List ℕ → Option Name
+name_of word = find (λ name. bytes_eq word (name_text name)) all_names
 
--- the call of this name, with these words behind the name
-unfoldable pub named_call : ℕ → List ℕ → List (List ℕ) → Result Call (ℕ × Fault)
-named_call base name words =
-    if bytes_eq name (codes "add-room") then add_room_of base words
-    else if bytes_eq name (codes "add-member") then add_member_of base words
-    else if bytes_eq name (codes "add-source") then add_source_of base words
-    else if bytes_eq name (codes "add-slot") then add_slot_of base words
-    else if bytes_eq name (codes "remove-slot") then remove_slot_of base words
-    else if bytes_eq name (codes "subscribe") then subscribe_of base words
-    else if bytes_eq name (codes "undo") then undo_of base words
-    else Err (base + 1, UnknownWord)
-
--- the call that words spell
+-- the call that words spell, of which `base` words stand before them on the line
 unfoldable pub call_of : ℕ → List (List ℕ) → Result Call (ℕ × Fault)
 call_of base words = do
-  name ← word_at (base + 1) words
-  named_call base name.0 name.1
+  word ← word_at (base + 1) words
+  name ← value_or (base + 1) UnknownWord (name_of word.0)
+  read ← values_of (base + 2) (shape_of name) word.1
+  end ← none_left (base + 2 + length (shape_of name)) read.1
+  Ok (call_with name read.0)
+
+-- the words of a call
+abbrev pub call_words : Call → List (List ℕ)
+call_words call = name_text (fields_of call).name ∷ map value_text (fields_of call).values
+
+-- the line of a call: its words with spaces (32) between them
+abbrev pub call_line : Call → List ℕ
+call_line call = join_with_byte 32 (call_words call)
+
+-- the numbers of a call are in range
+abbrev pub IsCall : Call → Type 0
+IsCall call = AllFit (fields_of call).values
 
 -- the words of a text that is a call and nothing else: the empty text has none
 abbrev pub spoken_words : List ℕ → List (List ℕ)

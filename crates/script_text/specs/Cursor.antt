@@ -2,10 +2,25 @@
 use Rattle.std.specs.Prelude.{◌≡◌, ◌≢◌, ℕ, ◌+◌, List, [], ◌∷◌, length, Option, Some, None, ◌++◌, Result, Ok, Err}
 use Rattle.std.specs.Borrow.{Bor}
 use Rattle.bridge_core.specs.Frame.{SourcePacket}
+use Rattle.bridge_core.specs.Sent.{input_of}
 use Rattle.script_text.specs.declared.fault.ParseFault.{ParseFault}
 use Rattle.script_text.specs.declared.packet.Parts.{Parts}
-use Rattle.script_text.specs.Words.{Fails}
+use Rattle.script_text.specs.declared.line.Line.{Line}
+use Rattle.script_text.specs.declared.line.Line.TheVariants as lines
+use Rattle.script_text.specs.Words.{Fails, words_of}
 use Rattle.script_text.specs.Packets.{packet_of}
+use Rattle.script_text.specs.Requests.{Request, Nothing, Desk, Item}
+
+-- the words that are left of a line, where nothing is left once the last was taken
+abbrev pub words_in : Option (Bor (List ℕ)) → List (List ℕ)
+words_in None = []
+words_in (Some text) = words_of text.now
+
+-- a line as it was read, without where it lies in memory
+abbrev pub view : {A : Type 0} → Line A → Request
+view lines.Nothing = Nothing
+view (lines.Desk op call) = Desk op call
+view (lines.Item item) = Item (input_of item)
 
 -- these are the four parts, or there are not four
 abbrev pub are_parts : Option Parts → List (List ℕ) → Type 0

@@ -2,10 +2,11 @@ pub mod Words
 pub mod Numbers
 pub mod Addresses
 pub mod Kinds
+pub mod Values
 pub mod Packets
-pub mod Cursor
 pub mod Calls
 pub mod Requests
+pub mod Cursor
 pub mod Text
 pub mod Lines
 pub mod Bridge

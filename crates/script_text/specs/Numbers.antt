@@ -1,12 +1,9 @@
 -- Decimal numbers without leading zeros (own).
-use Rattle.std.specs.Prelude.{ℕ, ℤ, pos, negsuc, neg_ℤ, ◌<◌, ◌+◌, ◌-◌, ◌^◌, ◌==◌, ◌&&◌, ◌||◌, not, Bool, List, [], ◌∷◌, length, slice_index, nat_lt, Option, Some, None, Result, Ok, if◌then◌else◌}
+use Rattle.std.specs.Prelude.{ℕ, ℤ, pos, negsuc, neg_ℤ, ◌<◌, ◌+◌, ◌-◌, ◌^◌, ◌==◌, ◌&&◌, ◌||◌, not, Bool, List, [], ◌∷◌, length, slice_index, nat_lt, Option, Some, None, if◌then◌else◌}
 use Rattle.std.specs.List.{list_all}
 use Rattle.std.specs.Option.{option_map}
 use Rattle.std.specs.Char.{is_ascii_digit}
 use Rattle.std.specs.Str.Parse.{digits_value}
-use Rattle.script_text.specs.declared.fault.Fault.{Fault}
-use Rattle.script_text.specs.declared.fault.Fault.TheVariants.{BadNumber}
-use Rattle.script_text.specs.Words.{◌>>=◌, word_at, value_or}
 
 -- digits, with no zero (48) in front of others
 abbrev pub is_number : List ℕ → Bool
@@ -35,22 +32,3 @@ ext_of [] = None
 ext_of (first ∷ rest) =
     if first == 45 then option_map negative (number_of (2 ^ 63) rest)
     else option_map pos (number_of (2 ^ 63 - 1) (first ∷ rest))
-
--- the next word as a number that is at most max
-abbrev pub number_at : ℕ → ℕ → List (List ℕ) → Result (ℕ × List (List ℕ)) (ℕ × Fault)
-number_at max place words = do
-  word ← word_at place words
-  n ← value_or place BadNumber (number_of max word.0)
-  Ok (n, word.1)
-
--- the next word as a number of 16 bits
-abbrev pub u16_at : ℕ → List (List ℕ) → Result (ℕ × List (List ℕ)) (ℕ × Fault)
-u16_at place words = number_at 65535 place words
-
--- the next word as a number of 32 bits
-abbrev pub u32_at : ℕ → List (List ℕ) → Result (ℕ × List (List ℕ)) (ℕ × Fault)
-u32_at place words = number_at 4294967295 place words
-
--- the next word as a number of 64 bits
-abbrev pub u64_at : ℕ → List (List ℕ) → Result (ℕ × List (List ℕ)) (ℕ × Fault)
-u64_at place words = number_at 18446744073709551615 place words

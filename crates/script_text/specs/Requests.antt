@@ -1,23 +1,26 @@
 -- What a line asks for (own).
-use Rattle.std.specs.Prelude.{ℕ, ◌&&◌, ◌||◌, ◌==◌, not, List, [], ◌∷◌, length, nat_lt, nat_le, slice_index, codes, Option, Some, None, Result, Ok, Err, if◌then◌else◌}
-use Rattle.std.specs.List.{list_all}
+use Rattle.std.specs.Prelude.{ℕ, ◌&&◌, ◌||◌, ◌==◌, not, List, [], ◌∷◌, ◌++◌, map, length, nat_lt, nat_le, slice_index, codes, Option, Some, None, Result, Ok, Err, if◌then◌else◌}
+use Rattle.std.specs.List.{list_all, find, join_with_byte}
 use Rattle.std.specs.Str.{bytes_eq}
 use Rattle.desk_edit.specs.declared.command.Call.{Call}
 use Rattle.bridge_core.specs.declared.frame.FrameFault.{FrameFault}
 use Rattle.bridge_core.specs.Frame.{SourcePacket, SourceFrame, fault_of}
-use Rattle.bridge_core.specs.Sent.{Input, input_of}
+use Rattle.bridge_core.specs.Sent.{Input}
 use Rattle.bridge_core.specs.Sent.Input.{frame}
 use Rattle.script_text.specs.declared.fault.Fault.{Fault}
 use Rattle.script_text.specs.declared.fault.Fault.TheVariants.{LineTooLong, BadByte, UnknownWord, MissingWord, BadFrame}
-use Rattle.script_text.specs.declared.line.Line.{Line}
-use Rattle.script_text.specs.declared.line.Line.TheVariants as lines
+use Rattle.script_text.specs.declared.value.Field.{Field}
+use Rattle.script_text.specs.declared.value.Field.TheVariants as fields
+use Rattle.script_text.specs.declared.value.Value.{Value}
+use Rattle.script_text.specs.declared.value.Value.TheVariants.{Operator}
+use Rattle.script_text.specs.declared.name.Kind.{Kind}
+use Rattle.script_text.specs.declared.name.Kind.TheVariants as kinds
 use Rattle.script_text.specs.declared.line.TheConstants.{LINE_LIMIT}
 use Rattle.script_text.specs.declared.line.Head.{Head}
-use Rattle.script_text.specs.Words.{◌>>=◌, words_of, word_at}
-use Rattle.script_text.specs.Numbers.{number_at, u32_at, u64_at}
-use Rattle.script_text.specs.Kinds.{address_at}
+use Rattle.script_text.specs.Words.{◌>>=◌, words_of, word_at, value_or}
+use Rattle.script_text.specs.Values.{value_text, values_of, number_at, address_at}
 use Rattle.script_text.specs.Packets.{packets_of}
-use Rattle.script_text.specs.Calls.{call_of}
+use Rattle.script_text.specs.Calls.{call_of, call_words}
 
 -- nothing, an operator's call, or an item for the lane
 pub data Request : Type 0 where
@@ -25,11 +28,19 @@ pub data Request : Type 0 where
   Desk : (op : ℕ) (call : Call) → Request
   Item : (item : Input) → Request
 
--- a line as it was read, without where it lies in memory
-abbrev pub view : {A : Type 0} → Line A → Request
-view lines.Nothing = Nothing
-view (lines.Desk op call) = Desk op call
-view (lines.Item item) = Item (input_of item)
+-- how the first word of a line is written
+abbrev pub kind_text : Kind → List ℕ
+kind_text kinds.Desk = codes "desk"
+kind_text kinds.Frame = codes "frame"
+
+-- the kind of line that a word begins
+abbrev pub kind_of : List ℕ → Option Kind
+kind_of word = find (λ kind. bytes_eq word (kind_text kind)) (kinds.Desk ∷ kinds.Frame ∷ [])
+
+-- the fields that stand first behind it: OP; MOMENT ADDRESS SSRC EPOCH TS
+abbrev pub front_of : Kind → List Field
+front_of kinds.Desk = fields.Operator ∷ []
+front_of kinds.Frame = fields.U64 ∷ fields.Address ∷ fields.U32 ∷ fields.U64 ∷ fields.U32 ∷ []
 
 -- at least one packet
 abbrev pub some_packets : ℕ → List (List ℕ) → Result (List SourcePacket) (ℕ × Fault)
@@ -45,37 +56,34 @@ abbrev pub framed : SourceFrame → Option FrameFault → Result Request (ℕ ×
 framed sighting None = Ok (Item (frame sighting))
 framed sighting (Some fault) = Err (7, BadFrame)
 
--- MOMENT ADDRESS SSRC EPOCH TS
-unfoldable pub head_of : List (List ℕ) → Result (Head × List (List ℕ)) (ℕ × Fault)
-head_of words = do
-  moment ← u64_at 2 words
-  address ← address_at 3 moment.1
-  source ← u32_at 4 address.1
-  epoch ← u64_at 5 source.1
-  ts ← u32_at 6 epoch.1
-  Ok (record { moment = moment.0; address = address.0; source = source.0; epoch = epoch.0; ts = ts.0 }, ts.1)
+-- the call of an operator that words spell
+abbrev pub desk_of : ℕ → List (List ℕ) → Result Request (ℕ × Fault)
+desk_of op words = do
+  call ← call_of 2 words
+  Ok (Desk op call)
 
--- MOMENT ADDRESS SSRC EPOCH TS EXT/M/PT/HEX ..
-unfoldable pub frame_of : List (List ℕ) → Result Request (ℕ × Fault)
-frame_of words = do
-  head ← head_of words
-  packets ← some_packets 7 head.1
-  framed (sighted head.0 packets) (fault_of packets)
+-- the frame with the packets EXT/M/PT/HEX .. that words spell
+unfoldable pub frame_of : Head → List (List ℕ) → Result Request (ℕ × Fault)
+frame_of head words = do
+  packets ← some_packets 7 words
+  framed (sighted head packets) (fault_of packets)
 
--- OP and a call
-unfoldable pub desk_of : List (List ℕ) → Result Request (ℕ × Fault)
-desk_of words = do
-  op ← number_at 15 2 words
-  call ← call_of 2 op.1
-  Ok (Desk op.0 call)
+-- what a `frame` line says before its packets
+abbrev pub head_with : List Value → Head
+head_with vs = record { moment = number_at 0 vs; address = address_at 1 vs; source = number_at 2 vs; epoch = number_at 3 vs; ts = number_at 4 vs }
+
+-- what a line of a kind asks for, with these values first and words behind them
+abbrev pub request_with : Kind → List Value → List (List ℕ) → Result Request (ℕ × Fault)
+request_with kinds.Desk vs words = desk_of (number_at 0 vs) words
+request_with kinds.Frame vs words = frame_of (head_with vs) words
 
 -- what words ask for
 unfoldable pub words_request : List (List ℕ) → Result Request (ℕ × Fault)
 words_request words = do
-  kind ← word_at 1 words
-  if bytes_eq kind.0 (codes "desk") then desk_of kind.1
-      else if bytes_eq kind.0 (codes "frame") then frame_of kind.1
-      else Err (1, UnknownWord)
+  word ← word_at 1 words
+  kind ← value_or 1 UnknownWord (kind_of word.0)
+  read ← values_of 2 (front_of kind) word.1
+  request_with kind read.0 read.1
 
 -- what a line asks for, or its first fault and the place of its word; place 0 is the whole line, and 35 is `#`
 unfoldable pub request_of : List ℕ → Result Request (ℕ × Fault)
@@ -84,3 +92,7 @@ request_of line =
     else if not (list_all (λ b. nat_le 32 b && nat_le b 126) line) then Err (0, BadByte)
     else if length line == 0 || slice_index line 0 == 35 then Ok Nothing
     else words_request (words_of line)
+
+-- the line of an operator's call: its words with spaces (32) between them
+abbrev pub desk_line : ℕ → Call → List ℕ
+desk_line op call = join_with_byte 32 (kind_text kinds.Desk ∷ value_text (Operator op) ∷ call_words call)

@@ -2,7 +2,6 @@
 use Rattle.std.specs.Prelude.{◌≡◌, ℕ, ◌+◌, ◌==◌, List, [], ◌∷◌, take, drop, position, Option, Some, None, Result, Ok, Err}
 use Rattle.std.specs.List.{slice_split}
 use Rattle.std.specs.Option.{option_map}
-use Rattle.std.specs.Borrow.{Bor}
 use Rattle.script_text.specs.declared.fault.Fault.{Fault}
 use Rattle.script_text.specs.declared.fault.Fault.TheVariants.{MissingWord, ExtraWord}
 use Rattle.script_text.specs.declared.fault.ParseFault.{ParseFault}
@@ -15,11 +14,6 @@ cut_of octet text = option_map (λ i. (take i text, drop (i + 1) text)) (positio
 -- the words of a text: what stands between single spaces (32)
 abbrev pub words_of : List ℕ → List (List ℕ)
 words_of text = slice_split (λ b. b == 32) text
-
--- the words that are left of a line, where nothing is left once the last was taken
-abbrev pub words_in : Option (Bor (List ℕ)) → List (List ℕ)
-words_in None = []
-words_in (Some text) = words_of text.now
 
 -- a value, or a fault and the place of its word: what follows is read only behind a value
 infixl 10 ◌>>=◌

@@ -4,7 +4,8 @@ ghost use Rattle.std.specs.Prelude.{◌≡◌, ◌++◌, [], OnOk, map};
 ghost use Rattle.std.specs.List.{flat_map};
 ghost use Rattle.bridge_core.specs.Sent.{sent_of, input_of};
 ghost use Rattle.script_text.specs.Text.{sent_text};
-ghost use Rattle.script_text.specs.Requests.{view, Desk, Item as ItemRequest};
+ghost use Rattle.script_text.specs.Requests.{Desk, Item as ItemRequest};
+ghost use Rattle.script_text.specs.Cursor.{view};
 ghost use Rattle.script_text.specs.Bridge.{HasLane, wants_memory};
 ghost use Rattle.script_text.specs.Steps.{AnswersRequest, AnswersLine};
 

@@ -3,21 +3,24 @@
 #![tactic(auto)]
 
 mod answer;
-mod commands;
+mod building;
 mod exits;
 mod fault;
 mod laws;
 mod line;
+mod name;
 mod number;
 mod packet;
 mod print;
+mod reading;
 mod replay;
 mod script;
 mod send;
 mod spelling;
+mod value;
 mod words;
 
-pub use self::commands::parse_desk;
+pub use self::building::parse_desk;
 pub use self::exits::status;
 pub use self::fault::{Fault, ParseFault, RunFault};
 pub use self::laws::{

@@ -1,17 +1,19 @@
 //! What lines ask for.
 
-ghost use Rattle.std.specs.Prelude.{◌≡◌, ◌≤◌, ◌+◌, ◌&&◌, nat_le, IfOk};
+ghost use Rattle.std.specs.Prelude.{◌≡◌, ◌≤◌, ◌+◌, ◌&&◌, nat_le, map};
 ghost use Rattle.std.specs.List.{list_all};
 ghost use Rattle.bridge_core.specs.Frame.{fault_of};
-ghost use Rattle.script_text.specs.Words.{Gives, words_in};
-ghost use Rattle.script_text.specs.Cursor.{size_of};
-ghost use Rattle.script_text.specs.Requests.{view, some_packets, sighted, framed, head_of, frame_of, desk_of, words_request, request_of};
+ghost use Rattle.script_text.specs.Words.{Gives};
+ghost use Rattle.script_text.specs.Cursor.{words_in, size_of, view};
+ghost use Rattle.script_text.specs.Values.{field_of};
+ghost use Rattle.script_text.specs.Requests.{some_packets, sighted, framed, frame_of, desk_of, front_of, request_with, words_request, request_of};
 
-use crate::commands::call;
+use crate::building::call;
 use crate::fault::{Fault, ParseFault};
-use crate::number::{number_word, u32_word, u64_word};
+use crate::name::{Kind, front, parse_kind};
 use crate::packet::packets;
-use crate::spelling::address_word;
+use crate::reading::read_values;
+use crate::value::{Value, address_at, operator_at, u32_at, u64_at};
 use crate::words::next_word;
 use bridge_core::{Frame, FramePacket, Item, MediaFrame};
 use desk_edit::Call;
@@ -29,14 +31,22 @@ pub(crate) enum Line<A: Allocator + Copy = Global> {
     Item(Item<A>),
 }
 
-/// `OP` and a call.
-#[tactic(auto, unfolding(crate::specs::Requests::desk_of))]
-fn desk<A: Allocator + Copy>(words: Option<&[u8]>) -> Result<Line<A>, ParseFault>
-    ensures { Gives view result (desk_of (words_in words.entry)) }
+/// The call of an operator.
+fn desk<A: Allocator + Copy>(op: u8, words: Option<&[u8]>) -> Result<Line<A>, ParseFault>
+    ensures { Gives view result (desk_of op (words_in words.entry)) }
 {
-    let (op, rest) = number_word(words, 2, 15)?;
-    let call = call(2, rest)?;
-    Ok(Line::Desk { op: op as u8, call })
+    let call = call(2, words)?;
+    Ok(Line::Desk { op, call })
+}
+
+/// What a `frame` line says before its packets.
+#[derive(Clone, Copy)]
+struct Head {
+    moment: u64,
+    address: Address,
+    source: u32,
+    epoch: u64,
+    ts: u32,
 }
 
 /// The packets of a `frame` line, which has at least one.
@@ -51,16 +61,6 @@ fn some_packets<A: Allocator + Copy>(
         None => Err(Fault::MissingWord.at(7)),
         Some(_) => packets(alloc, words),
     }
-}
-
-/// What a `frame` line says before its packets.
-#[derive(Clone, Copy)]
-struct Head {
-    moment: u64,
-    address: Address,
-    source: u32,
-    epoch: u64,
-    ts: u32,
 }
 
 /// The item of these packets, which have to make a frame.
@@ -89,36 +89,44 @@ fn framed<A: Allocator + Copy>(
     }
 }
 
-/// `MOMENT ADDRESS SSRC EPOCH TS`
-#[tactic(auto, unfolding(crate::specs::Requests::head_of))]
-fn frame_head(words: Option<&[u8]>) -> Result<(Head, Option<&[u8]>), ParseFault>
-    ensures head { Gives (λ x. (x.0, words_in x.1)) result (head_of (words_in words.entry)) }
-    ensures shorter { IfOk result (λ x. size_of x.1 ≤ size_of words.entry) }
+/// A frame with its packets.
+#[tactic(auto, unfolding(crate::specs::Requests::frame_of))]
+fn frame<A: Allocator + Copy>(
+    alloc: A,
+    head: Head,
+    words: Option<&[u8]>,
+) -> Result<Line<A>, ParseFault>
+    requires { size_of words ≤ LINE_LIMIT + 1 }
+    ensures { Gives view result (frame_of head (words_in words.entry)) }
 {
-    let (moment, rest) = u64_word(words, 2)?;
-    let (address, rest) = address_word(rest, 3)?;
-    let (source, rest) = u32_word(rest, 4)?;
-    let (epoch, rest) = u64_word(rest, 5)?;
-    let (ts, rest) = u32_word(rest, 6)?;
-    let head = Head {
-        moment,
-        address,
-        source,
-        epoch,
-        ts,
-    };
-    Ok((head, rest))
+    let packets = some_packets(alloc, words)?;
+    framed(head, packets)
 }
 
-/// `MOMENT ADDRESS SSRC EPOCH TS EXT/M/PT/HEX ..`
-#[tactic(auto, unfolding(crate::specs::Requests::frame_of))]
-fn frame<A: Allocator + Copy>(alloc: A, words: Option<&[u8]>) -> Result<Line<A>, ParseFault>
-    requires { size_of words ≤ LINE_LIMIT + 1 }
-    ensures { Gives view result (frame_of (words_in words.entry)) }
+/// What a line of this kind asks for, with these values first.
+fn line_with<A: Allocator + Copy>(
+    alloc: A,
+    kind: Kind,
+    values: &[Value],
+    words: Option<&[u8]>,
+) -> Result<Line<A>, ParseFault>
+    requires shape { map field_of values.now ≡ front_of kind }
+    requires short { size_of words ≤ LINE_LIMIT + 1 }
+    ensures { Gives view result (request_with kind values.now (words_in words.entry)) }
 {
-    let (head, rest) = frame_head(words)?;
-    let packets = some_packets(alloc, rest)?;
-    framed(head, packets)
+    match kind {
+        Kind::Desk => desk(operator_at(values, 0), words),
+        Kind::Frame => {
+            let head = Head {
+                moment: u64_at(values, 0),
+                address: address_at(values, 1),
+                source: u32_at(values, 2),
+                epoch: u64_at(values, 3),
+                ts: u32_at(values, 4),
+            };
+            frame(alloc, head, words)
+        }
+    }
 }
 
 #[tactic(auto, unfolding(crate::specs::Requests::words_request))]
@@ -126,14 +134,12 @@ fn words_line<A: Allocator + Copy>(alloc: A, words: Option<&[u8]>) -> Result<Lin
     requires { size_of words ≤ LINE_LIMIT + 1 }
     ensures { Gives view result (words_request (words_in words.entry)) }
 {
-    let (kind, rest) = next_word(words, 1)?;
-    if kind == b"desk".as_slice() {
-        desk(rest)
-    } else if kind == b"frame".as_slice() {
-        frame(alloc, rest)
-    } else {
-        Err(Fault::UnknownWord.at(1))
-    }
+    let (word, rest) = next_word(words, 1)?;
+    let Some(kind) = parse_kind(word) else {
+        return Err(Fault::UnknownWord.at(1));
+    };
+    let (values, rest) = read_values(2, front(kind), rest)?;
+    line_with(alloc, kind, values.as_slice(), rest)
 }
 
 /// Whether each octet is one that a line may hold.

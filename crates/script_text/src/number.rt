@@ -1,15 +1,10 @@
 //! Decimal numbers.
 
-ghost use Rattle.std.specs.Prelude.{◌≡◌, ◌≢◌, ◌^◌, ◌≤◌, IfSome, IfOk, true};
+ghost use Rattle.std.specs.Prelude.{◌≡◌, ◌^◌, ◌≤◌, IfSome, true};
 ghost use Rattle.std.specs.List.{list_all};
 ghost use Rattle.std.specs.Char.{is_ascii_digit};
 ghost use Rattle.std.specs.Str.Parse.{digits_value};
-ghost use Rattle.script_text.specs.Words.{Gives, words_in};
-ghost use Rattle.script_text.specs.Cursor.{size_of};
-ghost use Rattle.script_text.specs.Numbers.{is_number, below, number_of, negative, ext_of, number_at, u16_at, u32_at, u64_at};
-
-use crate::fault::{Fault, ParseFault};
-use crate::words::next_word;
+ghost use Rattle.script_text.specs.Numbers.{is_number, below, number_of, negative, ext_of};
 
 /// Whether each octet is a digit.
 fn all_digits(word: &[u8]) -> bool
@@ -80,50 +75,4 @@ pub(crate) fn parse_ext(word: &[u8]) -> Option<i64>
             Some(far) => Some(far as i64),
         },
     }
-}
-
-/// The next word as a number that is at most `max`.
-pub(crate) fn number_word(
-    words: Option<&[u8]>,
-    place: u32,
-    max: u64,
-) -> Result<(u64, Option<&[u8]>), ParseFault>
-    ensures value { Gives (λ x. (x.0, words_in x.1)) result (number_at max place (words_in words.entry)) }
-    ensures small { IfOk result (λ x. x.0 ≤ max) }
-    ensures shorter { IfOk result (λ x. size_of x.1 ≤ size_of words.entry) }
-    ensures memory { result ≢ Err ParseFault.OutOfMemory }
-{
-    let (word, rest) = next_word(words, place)?;
-    let Some(value) = number(word, max) else {
-        return Err(Fault::BadNumber.at(place));
-    };
-    Ok((value, rest))
-}
-
-/// The next word as a number of 16 bits.
-pub(crate) fn u16_word(words: Option<&[u8]>, place: u32) -> Result<(u16, Option<&[u8]>), ParseFault>
-    ensures value { Gives (λ x. (x.0, words_in x.1)) result (u16_at place (words_in words.entry)) }
-    ensures memory { result ≢ Err ParseFault.OutOfMemory }
-{
-    let (value, rest) = number_word(words, place, 65_535)?;
-    Ok((value as u16, rest))
-}
-
-/// The next word as a number of 32 bits.
-pub(crate) fn u32_word(words: Option<&[u8]>, place: u32) -> Result<(u32, Option<&[u8]>), ParseFault>
-    ensures value { Gives (λ x. (x.0, words_in x.1)) result (u32_at place (words_in words.entry)) }
-    ensures shorter { IfOk result (λ x. size_of x.1 ≤ size_of words.entry) }
-    ensures memory { result ≢ Err ParseFault.OutOfMemory }
-{
-    let (value, rest) = number_word(words, place, 4_294_967_295)?;
-    Ok((value as u32, rest))
-}
-
-/// The next word as a number of 64 bits.
-pub(crate) fn u64_word(words: Option<&[u8]>, place: u32) -> Result<(u64, Option<&[u8]>), ParseFault>
-    ensures value { Gives (λ x. (x.0, words_in x.1)) result (u64_at place (words_in words.entry)) }
-    ensures shorter { IfOk result (λ x. size_of x.1 ≤ size_of words.entry) }
-    ensures memory { result ≢ Err ParseFault.OutOfMemory }
-{
-    number_word(words, place, u64::MAX)
 }

@@ -1,15 +1,12 @@
 //! How addresses, codecs and kinds of source are spelt.
 
-ghost use Rattle.std.specs.Prelude.{◌≡◌, ◌≢◌, ◌≤◌, IfOk};
+ghost use Rattle.std.specs.Prelude.{◌≡◌};
 ghost use Rattle.std.specs.Option.{option_map};
-ghost use Rattle.script_text.specs.Words.{Gives, words_in};
-ghost use Rattle.script_text.specs.Cursor.{size_of};
 ghost use Rattle.script_text.specs.Addresses.{field_of, address_of};
-ghost use Rattle.script_text.specs.Kinds.{address_at, codec_of, media_of, codec_at, media_at};
+ghost use Rattle.script_text.specs.Kinds.{codec_of, media_of};
 
-use crate::fault::{Fault, ParseFault};
 use crate::number::number;
-use crate::words::{cut, next_word};
+use crate::words::cut;
 use desk_rows::{Codec, Media};
 use rtp_codec::Address;
 
@@ -29,7 +26,7 @@ fn field(text: &[u8], octet: u8) -> Option<(u8, &[u8])>
 
 /// The address that a word spells.
 #[tactic(auto, unfolding(crate::specs::Addresses::address_of))]
-fn parse_address(word: &[u8]) -> Option<Address>
+pub(crate) fn parse_address(word: &[u8]) -> Option<Address>
     ensures { result ≡ address_of word.now }
 {
     let Some((a, rest)) = field(word, b'.') else {
@@ -53,24 +50,8 @@ fn parse_address(word: &[u8]) -> Option<Address>
     }
 }
 
-/// The next word as an address.
-pub(crate) fn address_word(
-    words: Option<&[u8]>,
-    place: u32,
-) -> Result<(Address, Option<&[u8]>), ParseFault>
-    ensures address { Gives (λ x. (x.0, words_in x.1)) result (address_at place (words_in words.entry)) }
-    ensures shorter { IfOk result (λ x. size_of x.1 ≤ size_of words.entry) }
-    ensures memory { result ≢ Err ParseFault.OutOfMemory }
-{
-    let (word, rest) = next_word(words, place)?;
-    match parse_address(word) {
-        None => Err(Fault::BadAddress.at(place)),
-        Some(address) => Ok((address, rest)),
-    }
-}
-
 /// The codec that a word names.
-fn codec(word: &[u8]) -> Option<Codec>
+pub(crate) fn parse_codec(word: &[u8]) -> Option<Codec>
     ensures { result ≡ codec_of word.now }
 {
     if word == b"pcmu".as_slice() {
@@ -82,23 +63,8 @@ fn codec(word: &[u8]) -> Option<Codec>
     }
 }
 
-/// The next word as a codec.
-pub(crate) fn codec_word(
-    words: Option<&[u8]>,
-    place: u32,
-) -> Result<(Codec, Option<&[u8]>), ParseFault>
-    ensures codec { Gives (λ x. (x.0, words_in x.1)) result (codec_at place (words_in words.entry)) }
-    ensures memory { result ≢ Err ParseFault.OutOfMemory }
-{
-    let (word, rest) = next_word(words, place)?;
-    match codec(word) {
-        None => Err(Fault::UnknownWord.at(place)),
-        Some(codec) => Ok((codec, rest)),
-    }
-}
-
 /// The kind of source that a word names.
-fn media(word: &[u8]) -> Option<Media>
+pub(crate) fn parse_media(word: &[u8]) -> Option<Media>
     ensures { result ≡ media_of word.now }
 {
     if word == b"audio".as_slice() {
@@ -107,20 +73,5 @@ fn media(word: &[u8]) -> Option<Media>
         Some(Media::Video)
     } else {
         None
-    }
-}
-
-/// The next word as a kind of source.
-pub(crate) fn media_word(
-    words: Option<&[u8]>,
-    place: u32,
-) -> Result<(Media, Option<&[u8]>), ParseFault>
-    ensures media { Gives (λ x. (x.0, words_in x.1)) result (media_at place (words_in words.entry)) }
-    ensures memory { result ≢ Err ParseFault.OutOfMemory }
-{
-    let (word, rest) = next_word(words, place)?;
-    match media(word) {
-        None => Err(Fault::UnknownWord.at(place)),
-        Some(media) => Ok((media, rest)),
     }
 }

@@ -2,8 +2,8 @@
 
 ghost use Rattle.std.specs.Prelude.{◌≡◌, ◌≢◌, ◌==◌, ◌≤◌, ◌∷◌, length, position, IfOk};
 ghost use Rattle.std.specs.Option.{option_map};
-ghost use Rattle.script_text.specs.Words.{Gives, cut_of, words_of, words_in, word_at, none_left};
-ghost use Rattle.script_text.specs.Cursor.{size_of};
+ghost use Rattle.script_text.specs.Words.{Gives, cut_of, words_of, word_at, none_left};
+ghost use Rattle.script_text.specs.Cursor.{words_in, size_of};
 
 use crate::fault::{Fault, ParseFault};
 

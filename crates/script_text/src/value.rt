@@ -1,0 +1,166 @@
+//! The fields of lines, and the values that words spell there.
+
+ghost use Rattle.std.specs.Prelude.{◌≡◌, Some, map, slice_get, IfSome};
+ghost use Rattle.script_text.specs.Values.{value_of, fault_of, field_of, number_at, address_at, codec_at, media_at};
+
+use crate::fault::Fault;
+use crate::number::number;
+use crate::spelling::{parse_address, parse_codec, parse_media};
+use desk_rows::{Codec, Media};
+use rtp_codec::Address;
+
+/// What a word has to spell.
+#[derive(Clone, Copy)]
+pub(crate) enum Field {
+    U16,
+    U32,
+    U64,
+    /// 0 to 15.
+    Operator,
+    Address,
+    Codec,
+    Media,
+}
+
+/// What a word spells.
+#[derive(Clone, Copy)]
+pub(crate) enum Value {
+    U16(u16),
+    U32(u32),
+    U64(u64),
+    Operator(u8),
+    Address(Address),
+    Codec(Codec),
+    Media(Media),
+}
+
+impl Default for Value {
+    fn default() -> Value {
+        Value::U16(0)
+    }
+}
+
+/// The value of this field that a word spells.
+pub(crate) fn parse_value(field: Field, word: &[u8]) -> Option<Value>
+    ensures value { result ≡ value_of field word.now }
+    ensures field { IfSome result (λ value. field_of value ≡ field) }
+{
+    match field {
+        Field::U16 => match number(word, 65_535) {
+            None => None,
+            Some(n) => Some(Value::U16(n as u16)),
+        },
+        Field::U32 => match number(word, 4_294_967_295) {
+            None => None,
+            Some(n) => Some(Value::U32(n as u32)),
+        },
+        Field::U64 => match number(word, u64::MAX) {
+            None => None,
+            Some(n) => Some(Value::U64(n)),
+        },
+        Field::Operator => match number(word, 15) {
+            None => None,
+            Some(n) => Some(Value::Operator(n as u8)),
+        },
+        Field::Address => match parse_address(word) {
+            None => None,
+            Some(address) => Some(Value::Address(address)),
+        },
+        Field::Codec => match parse_codec(word) {
+            None => None,
+            Some(codec) => Some(Value::Codec(codec)),
+        },
+        Field::Media => match parse_media(word) {
+            None => None,
+            Some(media) => Some(Value::Media(media)),
+        },
+    }
+}
+
+/// What is wrong with a word that spells no value of this field.
+pub(crate) fn word_fault(field: Field) -> Fault
+    ensures { result ≡ fault_of field }
+{
+    match field {
+        Field::U16 | Field::U32 | Field::U64 | Field::Operator => Fault::BadNumber,
+        Field::Address => Fault::BadAddress,
+        Field::Codec | Field::Media => Fault::UnknownWord,
+    }
+}
+
+/// The number of 16 bits at this place.
+pub(crate) fn u16_at(values: &[Value], place: usize) -> u16
+    requires { slice_get (map field_of values.now) place ≡ Some Field.U16 }
+    ensures { result ≡ number_at place values.now }
+{
+    match values.get(place) {
+        Some(Value::U16(value)) => *value,
+        _ => unreachable!(),
+    }
+}
+
+/// The number of 32 bits at this place.
+pub(crate) fn u32_at(values: &[Value], place: usize) -> u32
+    requires { slice_get (map field_of values.now) place ≡ Some Field.U32 }
+    ensures { result ≡ number_at place values.now }
+{
+    match values.get(place) {
+        Some(Value::U32(value)) => *value,
+        _ => unreachable!(),
+    }
+}
+
+/// The number of 64 bits at this place.
+pub(crate) fn u64_at(values: &[Value], place: usize) -> u64
+    requires { slice_get (map field_of values.now) place ≡ Some Field.U64 }
+    ensures { result ≡ number_at place values.now }
+{
+    match values.get(place) {
+        Some(Value::U64(value)) => *value,
+        _ => unreachable!(),
+    }
+}
+
+/// The operator at this place.
+pub(crate) fn operator_at(values: &[Value], place: usize) -> u8
+    requires { slice_get (map field_of values.now) place ≡ Some Field.Operator }
+    ensures { result ≡ number_at place values.now }
+{
+    match values.get(place) {
+        Some(Value::Operator(value)) => *value,
+        _ => unreachable!(),
+    }
+}
+
+/// The address at this place.
+pub(crate) fn address_at(values: &[Value], place: usize) -> Address
+    requires { slice_get (map field_of values.now) place ≡ Some Field.Address }
+    ensures { result ≡ address_at place values.now }
+{
+    match values.get(place) {
+        Some(Value::Address(value)) => *value,
+        _ => unreachable!(),
+    }
+}
+
+/// The codec at this place.
+pub(crate) fn codec_at(values: &[Value], place: usize) -> Codec
+    requires { slice_get (map field_of values.now) place ≡ Some Field.Codec }
+    ensures { result ≡ codec_at place values.now }
+{
+    match values.get(place) {
+        Some(Value::Codec(value)) => *value,
+        _ => unreachable!(),
+    }
+}
+
+/// The kind of source at this place.
+pub(crate) fn media_at(values: &[Value], place: usize) -> Media
+    requires { slice_get (map field_of values.now) place ≡ Some Field.Media }
+    ensures { result ≡ media_at place values.now }
+{
+    match values.get(place) {
+        Some(Value::Media(value)) => *value,
+        _ => unreachable!(),
+    }
+}
