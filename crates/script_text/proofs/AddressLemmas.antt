@@ -1,5 +1,5 @@
 -- An address's word is what is printed of the address.
-use Rattle.std.proofs.Common.{◌≡◌, ℕ, ◌-◌, ◌<◌, ◌≤◌, ◌^◌, List, [], ◌∷◌, ◌++◌, length, get_or, Option, Some, None, refl, sym, ap, ◌∙◌, subst, append_assoc, arith, eqb, false, inl, inr, codes, eq-eqb}
+use Rattle.std.proofs.Common.{◌≡◌, ℕ, zero, suc, ◌-◌, ◌<◌, ◌≤◌, ◌^◌, List, [], ◌∷◌, ◌++◌, length, get_or, Option, Some, None, refl, sym, ap, ◌∙◌, subst, append_assoc, arith, eqb, false, inl, inr, codes, eq-eqb}
 use Rattle.std.specs.List.{All, position_or_len, before_first, after_first}
 use Rattle.std.specs.Int.{IsInRange}
 use Rattle.std.specs.Fmt.{decimal}
@@ -12,7 +12,7 @@ use Rattle.std.proofs.lemmas.Bool.{cases_Bool, cases_lt, lt-ltb, eqb-true}
 use Rattle.rtp_codec.specs.declared.address.Address.{Address}
 use Rattle.script_text.specs.Words.{cut_of}
 use Rattle.script_text.specs.Numbers.{number_of}
-use Rattle.script_text.specs.Addresses.{◌>>=◌, address_text, field_of, address_of}
+use Rattle.script_text.specs.Addresses.{◌>>=◌, address_text, IsAddress, field_of, address_of}
 use Rattle.script_text.proofs.Cuts.{cut_found, cut_none}
 use Rattle.script_text.proofs.NumberLemmas.{own, spelled, read}
 
@@ -74,9 +74,9 @@ field_spelled c text x e =
 grouped : (a b c d e : List ℕ) → a ++ codes "." ++ b ++ codes "." ++ c ++ codes "." ++ d ++ codes ":" ++ e ≡ a ++ 46 ∷ (b ++ 46 ∷ (c ++ 46 ∷ (d ++ 58 ∷ e)))
 grouped a b c d e = simp append_assoc
 
-pub address_again : (a b c d port : ℕ) → a ≤ 255 → b ≤ 255 → c ≤ 255 → d ≤ 255 → port ≤ 65535 → address_of (address_text (record { ip = a ∷ b ∷ c ∷ d ∷ []; port = port })) ≡ Some (record { ip = a ∷ b ∷ c ∷ d ∷ []; port = port })
+again : (a b c d port : ℕ) → a ≤ 255 → b ≤ 255 → c ≤ 255 → d ≤ 255 → port ≤ 65535 → address_of (address_text (record { ip = a ∷ b ∷ c ∷ d ∷ []; port = port })) ≡ Some (record { ip = a ∷ b ∷ c ∷ d ∷ []; port = port })
 unfolding address_of
-address_again a b c d port ha hb hc hd hp =
+again a b c d port ha hb hc hd hp =
     rw (
       grouped (decimal a) (decimal b) (decimal c) (decimal d) (decimal port),
       field_again 46 a (decimal b ++ 46 ∷ (decimal c ++ 46 ∷ (decimal d ++ 58 ∷ decimal port))) (λ h. omega arith) ha,
@@ -86,6 +86,26 @@ address_again a b c d port ha hb hc hd hp =
       read 65535 port (omega arith) hp,
     )
     refl
+
+four : (xs : List ℕ) → length xs ≡ 4 → xs ≡ get_or xs 0 0 ∷ get_or xs 1 0 ∷ get_or xs 2 0 ∷ get_or xs 3 0 ∷ []
+four [] h = absurd (omega (arith, h))
+four (a ∷ []) h = absurd (omega (arith, h))
+four (a ∷ b ∷ []) h = absurd (omega (arith, h))
+four (a ∷ b ∷ c ∷ []) h = absurd (omega (arith, h))
+four (a ∷ b ∷ c ∷ d ∷ []) h = refl
+four (a ∷ b ∷ c ∷ d ∷ e ∷ xs) h = absurd (omega (arith, h))
+
+pub address_again : (x : Address) → IsAddress x → address_of (address_text x) ≡ Some x
+address_again x h =
+    let is : x ≡ record { ip = get_or x.ip 0 0 ∷ get_or x.ip 1 0 ∷ get_or x.ip 2 0 ∷ get_or x.ip 3 0 ∷ []; port = x.port } = ap (λ (ip : List ℕ). record { ip = ip; port = x.port }) (four x.ip h.parts) in
+    subst (λ (y : Address). address_of (address_text y) ≡ Some y) (sym is) (again (get_or x.ip 0 0) (get_or x.ip 1 0) (get_or x.ip 2 0) (get_or x.ip 3 0) x.port (h.octets 0) (h.octets 1) (h.octets 2) (h.octets 3) h.port)
+
+four_small : (a b c d : ℕ) → a ≤ 255 → b ≤ 255 → c ≤ 255 → d ≤ 255 → (k : ℕ) → get_or (a ∷ b ∷ c ∷ d ∷ []) k 0 ≤ 255
+four_small a b c d ha hb hc hd zero = ha
+four_small a b c d ha hb hc hd (suc zero) = hb
+four_small a b c d ha hb hc hd (suc (suc zero)) = hc
+four_small a b c d ha hb hc hd (suc (suc (suc zero))) = hd
+four_small a b c d ha hb hc hd (suc (suc (suc (suc k)))) = omega arith
 
 abbrev with_port : ℕ → ℕ → ℕ → ℕ × List ℕ → Option Address
 with_port a b c d = number_of 65535 d.1 >>= λ port. Some (record { ip = a ∷ b ∷ c ∷ d.0 ∷ []; port = port })
@@ -99,7 +119,7 @@ with_c a b = field_of 46 b.1 >>= with_d a b.0
 abbrev with_b : ℕ × List ℕ → Option Address
 with_b a = field_of 46 a.1 >>= with_c a.0
 
-pub address_spelled : (word : List ℕ) (x : Address) → address_of word ≡ Some x → word ≡ address_text x
+pub address_spelled : (word : List ℕ) (x : Address) → address_of word ≡ Some x → (word ≡ address_text x) × IsAddress x
 unfolding address_of
 address_spelled word x e =
     let a = bind_some (field_of 46 word) with_b x e in
@@ -107,9 +127,16 @@ address_spelled word x e =
     let c = bind_some (field_of 46 b.0.1) (with_d a.0.0 b.0.0) x b.2 in
     let d = bind_some (field_of 58 c.0.1) (with_port a.0.0 b.0.0 c.0.0) x c.2 in
     let port = bind_some (number_of 65535 d.0.1) (λ n. Some (record { ip = a.0.0 ∷ b.0.0 ∷ c.0.0 ∷ d.0.0 ∷ []; port = n })) x d.2 in
-    let is : record { ip = a.0.0 ∷ b.0.0 ∷ c.0.0 ∷ d.0.0 ∷ []; port = port.0 } ≡ x = some_of _ _ port.2 in
-    let in_d : c.0.1 ≡ decimal d.0.0 ++ 58 ∷ decimal port.0 = (field_spelled 58 c.0.1 d.0 d.1).0 ∙ ap (λ (t : List ℕ). decimal d.0.0 ++ 58 ∷ t) (spelled 65535 port.0 d.0.1 (omega arith) port.1).0 in
-    let in_c : b.0.1 ≡ decimal c.0.0 ++ 46 ∷ (decimal d.0.0 ++ 58 ∷ decimal port.0) = (field_spelled 46 b.0.1 c.0 c.1).0 ∙ ap (λ (t : List ℕ). decimal c.0.0 ++ 46 ∷ t) in_d in
-    let in_b : a.0.1 ≡ decimal b.0.0 ++ 46 ∷ (decimal c.0.0 ++ 46 ∷ (decimal d.0.0 ++ 58 ∷ decimal port.0)) = (field_spelled 46 a.0.1 b.0 b.1).0 ∙ ap (λ (t : List ℕ). decimal b.0.0 ++ 46 ∷ t) in_c in
-    let in_a : word ≡ decimal a.0.0 ++ 46 ∷ (decimal b.0.0 ++ 46 ∷ (decimal c.0.0 ++ 46 ∷ (decimal d.0.0 ++ 58 ∷ decimal port.0))) = (field_spelled 46 word a.0 a.1).0 ∙ ap (λ (t : List ℕ). decimal a.0.0 ++ 46 ∷ t) in_b in
-    subst (λ (y : Address). word ≡ address_text y) is (in_a ∙ sym (grouped (decimal a.0.0) (decimal b.0.0) (decimal c.0.0) (decimal d.0.0) (decimal port.0)))
+    let made : Address = record { ip = a.0.0 ∷ b.0.0 ∷ c.0.0 ∷ d.0.0 ∷ []; port = port.0 } in
+    let pa = field_spelled 46 word a.0 a.1 in
+    let pb = field_spelled 46 a.0.1 b.0 b.1 in
+    let pc = field_spelled 46 b.0.1 c.0 c.1 in
+    let pd = field_spelled 58 c.0.1 d.0 d.1 in
+    let pp = spelled 65535 port.0 d.0.1 (omega arith) port.1 in
+    let in_d : c.0.1 ≡ decimal d.0.0 ++ 58 ∷ decimal port.0 = pd.0 ∙ ap (λ (t : List ℕ). decimal d.0.0 ++ 58 ∷ t) pp.0 in
+    let in_c : b.0.1 ≡ decimal c.0.0 ++ 46 ∷ (decimal d.0.0 ++ 58 ∷ decimal port.0) = pc.0 ∙ ap (λ (t : List ℕ). decimal c.0.0 ++ 46 ∷ t) in_d in
+    let in_b : a.0.1 ≡ decimal b.0.0 ++ 46 ∷ (decimal c.0.0 ++ 46 ∷ (decimal d.0.0 ++ 58 ∷ decimal port.0)) = pb.0 ∙ ap (λ (t : List ℕ). decimal b.0.0 ++ 46 ∷ t) in_c in
+    let in_a : word ≡ decimal a.0.0 ++ 46 ∷ (decimal b.0.0 ++ 46 ∷ (decimal c.0.0 ++ 46 ∷ (decimal d.0.0 ++ 58 ∷ decimal port.0))) = pa.0 ∙ ap (λ (t : List ℕ). decimal a.0.0 ++ 46 ∷ t) in_b in
+    let text : word ≡ address_text made = in_a ∙ sym (grouped (decimal a.0.0) (decimal b.0.0) (decimal c.0.0) (decimal d.0.0) (decimal port.0)) in
+    let fits : IsAddress made = record { parts = refl; octets = four_small a.0.0 b.0.0 c.0.0 d.0.0 pa.1 pb.1 pc.1 pd.1; port = pp.1 } in
+    subst (λ (y : Address). (word ≡ address_text y) × IsAddress y) (some_of made x port.2) (text, fits)

@@ -1,5 +1,5 @@
 -- The core goes on as the bridge does.
-use Rattle.std.proofs.Common.{◌≡◌, ℕ, List, [], ◌∷◌, ◌++◌, length, true, false, Some, None, Result, Ok, Err, refl, sym, ap, ◌∙◌, subst}
+use Rattle.std.proofs.Common.{◌≡◌, ℕ, List, [], ◌∷◌, ◌++◌, length, true, false, Some, None, Result, Ok, Err, refl, ap, ◌∙◌, subst}
 use Rattle.std.specs.Result.{OnOk}
 use Rattle.desk_rows.specs.Desk.{Desk}
 use Rattle.desk_edit.specs.declared.command.Call.{Call}

@@ -6,6 +6,9 @@ pub mod Known
 pub mod StepLemmas
 pub mod RunLemmas
 pub mod AddressLemmas
+pub mod Joined
+pub mod ValueLaws
+pub mod CallLaws
 pub mod ExtLemmas
 pub mod PacketLaws
 pub mod BridgeLemmas

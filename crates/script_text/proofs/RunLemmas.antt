@@ -6,7 +6,7 @@ use Rattle.std.proofs.lemmas.List.{append-nil}
 use Rattle.script_text.specs.declared.fault.RunFault.{RunFault}
 use Rattle.script_text.specs.declared.fault.RunFault.TheVariants as errors
 use Rattle.script_text.specs.Lines.{whole, ended}
-use Rattle.script_text.specs.Output.{Outcome, nothing, told, stopped, outcome_of, output_of, ended_output_of, IsFrontOf, RunEnds}
+use Rattle.script_text.specs.Output.{Outcome, nothing, told, stopped, outcome_of, output_of, ended_output_of, RunEnds}
 use Rattle.script_text.specs.Bridge.{Bridge, opening_bridge, Stands}
 use Rattle.script_text.specs.Steps.{Held, Place, place_of, opening, IsOpening, to_come, Goes, StepFails, Steps, FinishEnds, Finishes}
 use Rattle.script_text.proofs.Known.{Appends-then, Appends-same, Appends-none}

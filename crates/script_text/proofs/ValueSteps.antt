@@ -1,5 +1,5 @@
 -- Values are read one after another.
-use Rattle.std.proofs.Common.{◌≡◌, ℕ, suc, ◌+◌, ◌<◌, ◌≤◌, List, [], ◌∷◌, ◌++◌, length, map, take, drop, get_or, drop-cons, Option, Some, None, Result, Ok, Err, refl, sym, ap, ◌∙◌, append_assoc, arith}
+use Rattle.std.proofs.Common.{◌≡◌, ℕ, suc, ◌+◌, ◌<◌, ◌≤◌, List, [], ◌∷◌, ◌++◌, length, map, take, drop, get_or, drop-cons, Some, None, Result, Ok, Err, refl, sym, ap, ◌∙◌, append_assoc, arith}
 use Rattle.std.proofs.lemmas.List.{append-nil, take_more, take_all, map-append}
 use Rattle.std.proofs.lemmas.Grind.{common_steps}
 use Rattle.script_text.specs.declared.fault.Fault.{Fault}
@@ -7,7 +7,7 @@ use Rattle.script_text.specs.declared.value.Field.{Field}
 use Rattle.script_text.specs.declared.value.Value.{Value}
 use Rattle.script_text.specs.declared.fault.ParseFault.{ParseFault}
 use Rattle.script_text.specs.declared.fault.ParseFault.TheVariants as errors
-use Rattle.script_text.specs.Words.{◌>>=◌, Fails, word_at, value_or}
+use Rattle.script_text.specs.Words.{◌>>=◌, Fails, word_at}
 use Rattle.script_text.specs.Values.{field_of, value_of, fault_of, values_of}
 
 -- what is read of a line: values, and the words behind them

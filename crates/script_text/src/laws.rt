@@ -9,14 +9,17 @@ ghost use Rattle.desk_rows.specs.declared.row.Member.{Member};
 ghost use Rattle.desk_rows.specs.declared.row.Source.{Source};
 ghost use Rattle.desk_rows.specs.declared.row.Slot.{Slot};
 ghost use Rattle.desk_rows.specs.declared.row.Sub.{Sub};
-ghost use Rattle.desk_rows.specs.Desk.{Desk};
+ghost use Rattle.desk_rows.specs.Desk.{Desk as Rows};
 ghost use Rattle.desk_edit.specs.declared.command.Refusal.{Refusal};
 ghost use Rattle.desk_edit.specs.Refusals.{room_cases, member_cases, source_cases, slot_cases, removal_cases, sub_cases};
 ghost use Rattle.script_text.specs.Text.{refusal_text, refusal_number, refusal_name, refusal_detail, case_numbers};
 ghost use Rattle.script_text.specs.Words.{words_of};
 ghost use Rattle.script_text.specs.Numbers.{number_of, ext_of, IsExt};
-ghost use Rattle.script_text.specs.Addresses.{address_of, address_text};
+ghost use Rattle.script_text.specs.Addresses.{address_of, address_text, IsAddress};
 ghost use Rattle.bridge_core.specs.Frame.{SourcePacket};
+ghost use Rattle.desk_edit.specs.declared.command.Call.{Call};
+ghost use Rattle.script_text.specs.Calls.{call_of, call_line, IsCall};
+ghost use Rattle.script_text.specs.Requests.{words_request, Desk, desk_line};
 ghost use Rattle.script_text.specs.Packets.{packet_of, packet_text};
 ghost use Rattle.script_text.specs.Lines.{parts_of};
 
@@ -40,11 +43,19 @@ pub fn ext_words()
     ensures minus_zero { ext_of (codes "-0") ≡ Some (pos 0) }
 {}
 
-/// A word spells an address where it is what is printed of it.
+/// A word spells an address where it is what is printed of it, with numbers in range.
 pub fn address_words()
-    ensures spelled { (word : List ℕ) (x : Address) → address_of word ≡ Some x → word ≡ address_text x }
-    ensures read { (a b c d port : ℕ) → a ≤ 255 → b ≤ 255 → c ≤ 255 → d ≤ 255 → port ≤ 65535
-        → address_of (address_text (record { ip = a ∷ b ∷ c ∷ d ∷ []; port = port })) ≡ Some (record { ip = a ∷ b ∷ c ∷ d ∷ []; port = port }) }
+    ensures spelled { (word : List ℕ) (x : Address) → address_of word ≡ Some x → (word ≡ address_text x) × IsAddress x }
+    ensures read { (x : Address) → IsAddress x → address_of (address_text x) ≡ Some x }
+{}
+
+/// The words of a call's line are that call, and what is read as a call is spelled by its line: once
+/// for all commands. So it is with an operator's line of a script.
+pub fn call_lines()
+    ensures read { (c : Call) → IsCall c → call_of 0 (words_of (call_line c)) ≡ Ok c }
+    ensures spelled { (line : List ℕ) (c : Call) → call_of 0 (words_of line) ≡ Ok c → (line ≡ call_line c) × IsCall c }
+    ensures desk_read { (op : ℕ) (c : Call) → op ≤ 15 → IsCall c → words_request (words_of (desk_line op c)) ≡ Ok (Desk op c) }
+    ensures desk_spelled { (line : List ℕ) (op : ℕ) (c : Call) → words_request (words_of line) ≡ Ok (Desk op c) → (line ≡ desk_line op c) × (op ≤ 15) × IsCall c }
 {}
 
 /// What is printed of octets in hexadecimal reads back as these octets.
@@ -61,10 +72,10 @@ pub fn packet_words()
 /// command is asked in the order of these numbers.
 pub fn refusal_words()
     ensures printed { (why : Refusal) → refusal_text why ≡ decimal (refusal_number why) ++ codes " " ++ refusal_name why ++ refusal_detail why }
-    ensures add_room { (d : Desk) (room : ℕ) → case_numbers (room_cases d room) ≡ 1 ∷ 12 ∷ [] }
-    ensures add_member { (d : Desk) (m : Member) → case_numbers (member_cases d m) ≡ 1 ∷ 2 ∷ 8 ∷ 9 ∷ 12 ∷ [] }
-    ensures add_source { (d : Desk) (s : Source) → case_numbers (source_cases d s) ≡ 1 ∷ 3 ∷ 8 ∷ 12 ∷ 12 ∷ [] }
-    ensures add_slot { (d : Desk) (s : Slot) → case_numbers (slot_cases d s) ≡ 1 ∷ 3 ∷ 8 ∷ 9 ∷ 12 ∷ [] }
-    ensures remove_slot { (d : Desk) (ssrc : ℕ) → case_numbers (removal_cases d ssrc) ≡ 5 ∷ [] }
-    ensures subscribe { (d : Desk) (s : Sub) → case_numbers (sub_cases d s) ≡ 4 ∷ 5 ∷ 6 ∷ 7 ∷ 10 ∷ [] }
+    ensures add_room { (d : Rows) (room : ℕ) → case_numbers (room_cases d room) ≡ 1 ∷ 12 ∷ [] }
+    ensures add_member { (d : Rows) (m : Member) → case_numbers (member_cases d m) ≡ 1 ∷ 2 ∷ 8 ∷ 9 ∷ 12 ∷ [] }
+    ensures add_source { (d : Rows) (s : Source) → case_numbers (source_cases d s) ≡ 1 ∷ 3 ∷ 8 ∷ 12 ∷ 12 ∷ [] }
+    ensures add_slot { (d : Rows) (s : Slot) → case_numbers (slot_cases d s) ≡ 1 ∷ 3 ∷ 8 ∷ 9 ∷ 12 ∷ [] }
+    ensures remove_slot { (d : Rows) (ssrc : ℕ) → case_numbers (removal_cases d ssrc) ≡ 5 ∷ [] }
+    ensures subscribe { (d : Rows) (s : Sub) → case_numbers (sub_cases d s) ≡ 4 ∷ 5 ∷ 6 ∷ 7 ∷ 10 ∷ [] }
 {}

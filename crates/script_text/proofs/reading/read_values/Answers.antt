@@ -1,4 +1,4 @@
-use Rattle.std.proofs.Common.{◌≡◌, ◌+◌, ◌≤◌, ◌∷◌, [], length, length-append, arith}
+use Rattle.std.proofs.Common.{◌∷◌, [], length-append, arith}
 use Rattle.script_text.specs.declared.value.Field.TheVariants as fields
 use Rattle.script_text.proofs.ValueSteps.{reads_on, reads_bad, reads_none, reads_all, fields_on, fields_all}
 use Rattle.script_text.proofs.reading.read_values.Goals as goal

@@ -1,4 +1,4 @@
-use Rattle.std.proofs.Common.{◌<◌, ◌≤◌, length, take, arith}
+use Rattle.std.proofs.Common.{take, arith}
 use Rattle.script_text.proofs.Known.{Appends-more, Appends-then_keeps, cut_at}
 use Rattle.script_text.proofs.send.send.Goals as goal
 use Rattle.script_text.proofs.send.send.Goals.{in-Octets, in-Interrupted}
