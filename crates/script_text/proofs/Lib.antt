@@ -12,3 +12,5 @@ pub mod CallLaws
 pub mod ExtLemmas
 pub mod PacketLaws
 pub mod BridgeLemmas
+pub mod JudgedLaws
+pub mod GrowLemmas

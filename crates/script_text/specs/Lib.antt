@@ -8,6 +8,9 @@ pub mod Calls
 pub mod Requests
 pub mod Cursor
 pub mod Text
+pub mod Judged
+pub mod Shown
+pub mod Growing
 pub mod Lines
 pub mod Bridge
 pub mod Output

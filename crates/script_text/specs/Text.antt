@@ -1,8 +1,7 @@
--- What is printed (own).
-use Rattle.std.specs.Prelude.{ℕ, Bool, List, [], ◌++◌, map, codes}
-use Rattle.std.specs.Fmt.{decimal}
+-- What is printed (own): lines, as lists of words.
+use Rattle.std.specs.Prelude.{ℕ, List, [], ◌∷◌, ◌++◌, map, codes}
+use Rattle.std.specs.List.{join_with_byte}
 use Rattle.hex.specs.Hex.{encode_lower}
-use Rattle.rtp_codec.specs.declared.address.Address.{Address}
 use Rattle.desk_edit.specs.declared.command.Table.{Table}
 use Rattle.desk_edit.specs.declared.command.Table.TheVariants.{Rooms, Members, Sources, Slots, RoomAudio}
 use Rattle.desk_edit.specs.declared.command.Refusal.{Refusal}
@@ -13,7 +12,9 @@ use Rattle.bridge_core.specs.Sent.{Sent}
 use Rattle.bridge_core.specs.Sent.Sent.{media}
 use Rattle.script_text.specs.declared.fault.Fault.{Fault}
 use Rattle.script_text.specs.declared.fault.Fault.TheVariants.{LineTooLong, BadByte, UnknownWord, MissingWord, ExtraWord, BadNumber, BadAddress, BadHex, BadFrame}
-use Rattle.script_text.specs.Addresses.{address_text}
+use Rattle.script_text.specs.declared.value.Value.{Value}
+use Rattle.script_text.specs.declared.value.Value.TheVariants.{U16, U32, U64, Address}
+use Rattle.script_text.specs.Values.{value_text}
 
 -- a fault of a line by number and name
 abbrev pub fault_text : Fault → List ℕ
@@ -27,6 +28,22 @@ fault_text BadAddress = codes "7 BadAddress"
 fault_text BadHex = codes "8 BadHex"
 fault_text BadFrame = codes "9 BadFrame"
 
+-- a word of a line: as it stands, a value, or octets in hexadecimal
+pub data Word : Type 0 where
+  fixed : List ℕ → Word
+  value : Value → Word
+  hex : List ℕ → Word
+
+-- how a word is written
+abbrev pub word_text : Word → List ℕ
+word_text (fixed text) = text
+word_text (value v) = value_text v
+word_text (hex octets) = encode_lower octets
+
+-- a line: its words with spaces (32) between them, and an LF (10)
+abbrev pub line_text : List Word → List ℕ
+line_text words = join_with_byte 32 (map word_text words) ++ 10 ∷ []
+
 -- the name of what is full
 abbrev pub table_text : Table → List ℕ
 table_text Rooms = codes "rooms"
@@ -35,87 +52,47 @@ table_text Sources = codes "sources"
 table_text Slots = codes "slots"
 table_text RoomAudio = codes "room-audio"
 
--- a refusal by number and name, with what it tells
-abbrev pub refusal_text : Refusal → List ℕ
-refusal_text Exists = codes "1 Exists"
-refusal_text NoRoom = codes "2 NoRoom"
-refusal_text NoMember = codes "3 NoMember"
-refusal_text NoSource = codes "4 NoSource"
-refusal_text NoSlot = codes "5 NoSlot"
-refusal_text WrongKind = codes "6 WrongKind"
-refusal_text OtherRoom = codes "7 OtherRoom"
-refusal_text SsrcTaken = codes "8 SsrcTaken"
-refusal_text BadValue = codes "9 BadValue"
-refusal_text Already = codes "10 Already"
-refusal_text (Full table limit) = codes "12 Full " ++ table_text table ++ codes " " ++ decimal limit
-refusal_text OutOfMemory = codes "13 OutOfMemory"
-refusal_text (NewerCommand last) = codes "14 NewerCommand " ++ decimal last
-refusal_text NothingToUndo = codes "15 NothingToUndo"
-refusal_text LogFull = codes "17 LogFull"
+-- how a refusal is told: its number, its name, and what it carries
+pub record Told : Type 0 where
+  pub number : ℕ
+  pub name : List ℕ
+  pub carries : List Word
 
--- the number of a refusal
-abbrev pub refusal_number : Refusal → ℕ
-refusal_number Exists = 1
-refusal_number NoRoom = 2
-refusal_number NoMember = 3
-refusal_number NoSource = 4
-refusal_number NoSlot = 5
-refusal_number WrongKind = 6
-refusal_number OtherRoom = 7
-refusal_number SsrcTaken = 8
-refusal_number BadValue = 9
-refusal_number Already = 10
-refusal_number (Full table limit) = 12
-refusal_number OutOfMemory = 13
-refusal_number (NewerCommand last) = 14
-refusal_number NothingToUndo = 15
-refusal_number LogFull = 17
+-- the refusals
+abbrev pub told_of : Refusal → Told
+told_of Exists = record { number = 1; name = codes "Exists"; carries = [] }
+told_of NoRoom = record { number = 2; name = codes "NoRoom"; carries = [] }
+told_of NoMember = record { number = 3; name = codes "NoMember"; carries = [] }
+told_of NoSource = record { number = 4; name = codes "NoSource"; carries = [] }
+told_of NoSlot = record { number = 5; name = codes "NoSlot"; carries = [] }
+told_of WrongKind = record { number = 6; name = codes "WrongKind"; carries = [] }
+told_of OtherRoom = record { number = 7; name = codes "OtherRoom"; carries = [] }
+told_of SsrcTaken = record { number = 8; name = codes "SsrcTaken"; carries = [] }
+told_of BadValue = record { number = 9; name = codes "BadValue"; carries = [] }
+told_of Already = record { number = 10; name = codes "Already"; carries = [] }
+told_of (Full table limit) = record { number = 12; name = codes "Full"; carries = fixed (table_text table) ∷ value (U32 limit) ∷ [] }
+told_of OutOfMemory = record { number = 13; name = codes "OutOfMemory"; carries = [] }
+told_of (NewerCommand last) = record { number = 14; name = codes "NewerCommand"; carries = value (U64 last) ∷ [] }
+told_of NothingToUndo = record { number = 15; name = codes "NothingToUndo"; carries = [] }
+told_of LogFull = record { number = 17; name = codes "LogFull"; carries = [] }
 
--- the name of a refusal
-abbrev pub refusal_name : Refusal → List ℕ
-refusal_name Exists = codes "Exists"
-refusal_name NoRoom = codes "NoRoom"
-refusal_name NoMember = codes "NoMember"
-refusal_name NoSource = codes "NoSource"
-refusal_name NoSlot = codes "NoSlot"
-refusal_name WrongKind = codes "WrongKind"
-refusal_name OtherRoom = codes "OtherRoom"
-refusal_name SsrcTaken = codes "SsrcTaken"
-refusal_name BadValue = codes "BadValue"
-refusal_name Already = codes "Already"
-refusal_name (Full table limit) = codes "Full"
-refusal_name OutOfMemory = codes "OutOfMemory"
-refusal_name (NewerCommand last) = codes "NewerCommand"
-refusal_name NothingToUndo = codes "NothingToUndo"
-refusal_name LogFull = codes "LogFull"
+-- the words of what is told
+abbrev pub told_words : Told → List Word
+told_words told = value (U16 told.number) ∷ fixed told.name ∷ told.carries
 
--- what a refusal tells behind its name
-abbrev pub refusal_detail : Refusal → List ℕ
-refusal_detail (Full table limit) = codes " " ++ table_text table ++ codes " " ++ decimal limit
-refusal_detail (NewerCommand last) = codes " " ++ decimal last
-refusal_detail _ = []
+-- the words of a reply: its number, or the version and the refusal
+abbrev pub reply_words : Reply → List Word
+reply_words (Accepted number) = fixed (codes "ok") ∷ value (U64 number) ∷ []
+reply_words (Refused at why) = fixed (codes "no") ∷ value (U64 at) ∷ told_words (told_of why)
 
--- the numbers of the refusals in a list of cases
-abbrev pub case_numbers : List (Bool × Refusal) → List ℕ
-case_numbers cases = map (λ c. refusal_number c.1) cases
+-- the words of a packet that goes out: the version by which it does, the number of its item, where it goes, its stream's SSRC, its number there, and its octets
+abbrev pub sent_words : Sent → List Word
+sent_words (media p) = fixed (codes "tx") ∷ value (U64 p.version) ∷ value (U64 p.item) ∷ value (Address p.to) ∷ value (U32 p.ssrc) ∷ value (U16 p.number) ∷ hex p.bytes ∷ []
 
--- the line of a reply: its number, or the version and the refusal
+-- the line of a reply
 abbrev pub reply_text : Reply → List ℕ
-reply_text (Accepted number) = codes "ok " ++ decimal number ++ codes "\n"
-reply_text (Refused at why) = codes "no " ++ decimal at ++ codes " " ++ refusal_text why ++ codes "\n"
-
--- the version by which a packet goes out, and the number of its item
-abbrev pub cause_text : ℕ → ℕ → List ℕ
-cause_text version item = decimal version ++ codes " " ++ decimal item
-
--- where a packet goes, and its stream's SSRC and its number there
-abbrev pub way_text : Address → ℕ → ℕ → List ℕ
-way_text to ssrc number = address_text to ++ codes " " ++ decimal ssrc ++ codes " " ++ decimal number
-
--- the line of an RTP packet that goes out
-abbrev pub media_text : ℕ → ℕ → Address → ℕ → ℕ → List ℕ → List ℕ
-media_text version item to ssrc number octets = codes "tx " ++ cause_text version item ++ codes " " ++ way_text to ssrc number ++ codes " " ++ encode_lower octets ++ codes "\n"
+reply_text reply = line_text (reply_words reply)
 
 -- the line of what goes out
 abbrev pub sent_text : Sent → List ℕ
-sent_text (media p) = media_text p.version p.item p.to p.ssrc p.number p.bytes
+sent_text sent = line_text (sent_words sent)

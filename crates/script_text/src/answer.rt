@@ -50,19 +50,18 @@ fn answer_call<A: Allocator + Copy>(
     if wants_memory(&reply) {
         return Err(AllocError);
     }
-    print_reply(alloc, &reply, out)
+    print_reply(&reply, out)
 }
 
 /// Appends the lines of all that goes out.
 fn print_all<A: Allocator + Copy>(
-    alloc: A,
     egresses: &[Egress<A>],
     out: &mut Vec<u8, A>,
 ) -> Result<(), AllocError>
     ensures { OnOk result (out.new.items ≡ out.old.items ++ flat_map sent_text (map sent_of egresses.now)) }
 {
     for egress in egresses {
-        print_egress(alloc, egress, out)?;
+        print_egress(egress, out)?;
     }
     Ok(())
 }
@@ -82,7 +81,7 @@ fn answer_item<A: Allocator + Copy>(
     match core.item(alloc, LANE, item) {
         // The item numbers of a lane are never used up: a script has fewer lines.
         Err(_) => Err(AllocError),
-        Ok(egresses) => print_all(alloc, &egresses, out),
+        Ok(egresses) => print_all(&egresses, out),
     }
 }
 

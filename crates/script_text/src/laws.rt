@@ -5,14 +5,10 @@ ghost use Rattle.std.specs.Fmt.{decimal, signed_decimal};
 ghost use Rattle.std.specs.List.{join_with_byte};
 ghost use Rattle.hex.specs.Hex.{IsBytes, decode_of, encode_lower};
 ghost use Rattle.rtp_codec.specs.declared.address.Address.{Address};
-ghost use Rattle.desk_rows.specs.declared.row.Member.{Member};
-ghost use Rattle.desk_rows.specs.declared.row.Source.{Source};
-ghost use Rattle.desk_rows.specs.declared.row.Slot.{Slot};
-ghost use Rattle.desk_rows.specs.declared.row.Sub.{Sub};
 ghost use Rattle.desk_rows.specs.Desk.{Desk as Rows};
-ghost use Rattle.desk_edit.specs.declared.command.Refusal.{Refusal};
-ghost use Rattle.desk_edit.specs.Refusals.{room_cases, member_cases, source_cases, slot_cases, removal_cases, sub_cases};
-ghost use Rattle.script_text.specs.Text.{refusal_text, refusal_number, refusal_name, refusal_detail, case_numbers};
+ghost use Rattle.desk_edit.specs.Refusals.{first_case};
+ghost use Rattle.desk_edit.specs.Calls.{refusal_at};
+ghost use Rattle.script_text.specs.Judged.{call_cases, case_numbers, numbers_of, Rises};
 ghost use Rattle.script_text.specs.Words.{words_of};
 ghost use Rattle.script_text.specs.Numbers.{number_of, ext_of, IsExt};
 ghost use Rattle.script_text.specs.Addresses.{address_of, address_text, IsAddress};
@@ -68,14 +64,10 @@ pub fn packet_words()
     ensures { (place : ℕ) (p : SourcePacket) → IsExt p.ext → p.pt ≤ 255 → IsBytes p.payload → packet_of place (packet_text p) ≡ Ok p }
 {}
 
-/// A refusal is printed by its number, its name and what it tells, and what stands against a
-/// command is asked in the order of these numbers.
+/// The reason for which a call is refused is the first that holds, and they are asked in the order
+/// of the refusals' numbers.
 pub fn refusal_words()
-    ensures printed { (why : Refusal) → refusal_text why ≡ decimal (refusal_number why) ++ codes " " ++ refusal_name why ++ refusal_detail why }
-    ensures add_room { (d : Rows) (room : ℕ) → case_numbers (room_cases d room) ≡ 1 ∷ 12 ∷ [] }
-    ensures add_member { (d : Rows) (m : Member) → case_numbers (member_cases d m) ≡ 1 ∷ 2 ∷ 8 ∷ 9 ∷ 12 ∷ [] }
-    ensures add_source { (d : Rows) (s : Source) → case_numbers (source_cases d s) ≡ 1 ∷ 3 ∷ 8 ∷ 12 ∷ 12 ∷ [] }
-    ensures add_slot { (d : Rows) (s : Slot) → case_numbers (slot_cases d s) ≡ 1 ∷ 3 ∷ 8 ∷ 9 ∷ 12 ∷ [] }
-    ensures remove_slot { (d : Rows) (ssrc : ℕ) → case_numbers (removal_cases d ssrc) ≡ 5 ∷ [] }
-    ensures subscribe { (d : Rows) (s : Sub) → case_numbers (sub_cases d s) ≡ 4 ∷ 5 ∷ 6 ∷ 7 ∷ 10 ∷ [] }
+    ensures first { (version done : ℕ) (d : Rows) (call : Call) → refusal_at version d done call ≡ first_case (call_cases version d done call) }
+    ensures numbers { (version done : ℕ) (d : Rows) (call : Call) → case_numbers (call_cases version d done call) ≡ numbers_of call }
+    ensures rising { (call : Call) → Rises (numbers_of call) }
 {}

@@ -3,6 +3,7 @@
 #![tactic(auto)]
 
 mod answer;
+mod appending;
 mod building;
 mod exits;
 mod fault;

@@ -1,154 +1,134 @@
 //! What is printed for replies and for what goes out.
 
-ghost use Rattle.std.specs.Prelude.{◌≡◌, ◌++◌, Some, IfOk, OnOk, OnErr};
-ghost use Rattle.std.specs.String.{string_bytes};
-ghost use Rattle.script_text.specs.Addresses.{address_text};
-ghost use Rattle.script_text.specs.Text.{cause_text, way_text, media_text, table_text, refusal_text, reply_text, sent_text};
+ghost use Rattle.std.specs.Prelude.{◌≡◌, ◌+◌, ◌<◌, ◌∷◌, ◌++◌, codes, length, OnOk, OnErr, vec_len, vec_capacity};
+ghost use Rattle.script_text.specs.declared.value.Value.TheVariants.{U64};
+ghost use Rattle.script_text.specs.Text.{fixed, value, line_text, table_text, told_of, told_words, reply_text, sent_text};
+ghost use Rattle.script_text.specs.Shown.{told_in};
 ghost use Rattle.bridge_core.specs.Sent.{sent_of};
 
+use crate::appending::{Word, print_line};
+use crate::value::Value;
 use bridge_core::{Egress, Reply};
 use desk_edit::{Refusal, Table};
-use rtp_codec::Address;
 use std::alloc::{AllocError, Allocator};
-use std::fmt;
 
-/// An address as it is printed.
-#[derive(Clone, Copy)]
-struct Spelt(Address);
-
-impl fmt::Display for Spelt {
-    ghost output = { λ a. Some (address_text a.0) };
-
-    fn fmt<W: fmt::Write>(&self, f: &mut fmt::Formatter<W>) -> fmt::Result {
-        let [a, b, c, d] = self.0.ip;
-        let port = self.0.port;
-        write!(f, "{a}.{b}.{c}.{d}:{port}")
+/// The name of what is full.
+fn table_text(table: Table) -> &'static [u8]
+    ensures { result.now ≡ table_text table }
+{
+    match table {
+        Table::Rooms => b"rooms",
+        Table::Members => b"members",
+        Table::Sources => b"sources",
+        Table::Slots => b"slots",
+        Table::RoomAudio => b"room-audio",
     }
 }
 
-/// The version by which a packet goes out, and the number of its item.
+/// What a refusal carries behind its name.
 #[derive(Clone, Copy)]
-struct Cause {
-    version: u64,
-    item: u64,
+enum Carried {
+    Nothing,
+    /// What is full, and how much it holds.
+    Limit(Table, u32),
+    /// The last accepted call.
+    Last(u64),
 }
 
-impl fmt::Display for Cause {
-    ghost output = { λ c. Some (cause_text c.version c.item) };
-
-    fn fmt<W: fmt::Write>(&self, f: &mut fmt::Formatter<W>) -> fmt::Result {
-        let Cause { version, item } = *self;
-        write!(f, "{version} {item}")
-    }
-}
-
-/// Where a packet goes, and its stream's SSRC and its number there.
+/// How a refusal is told.
 #[derive(Clone, Copy)]
-struct Way {
-    to: Spelt,
-    ssrc: u32,
+struct Row {
     number: u16,
+    name: &'static [u8],
+    carried: Carried,
 }
 
-impl fmt::Display for Way {
-    ghost output = { λ w. Some (way_text w.to.0 w.ssrc w.number) };
-
-    fn fmt<W: fmt::Write>(&self, f: &mut fmt::Formatter<W>) -> fmt::Result {
-        let Way { to, ssrc, number } = *self;
-        write!(f, "{to} {ssrc} {number}")
+/// A refusal that carries nothing.
+fn bare(number: u16, name: &'static [u8]) -> Row
+    ensures { result ≡ record { number = number; name = name.entry; carried = Carried.Nothing } }
+{
+    Row {
+        number,
+        name,
+        carried: Carried::Nothing,
     }
 }
 
-/// What is full, as it is printed.
-#[derive(Clone, Copy)]
-struct Named(Table);
-
-impl fmt::Display for Named {
-    ghost output = { λ t. Some (table_text t.0) };
-
-    fn fmt<W: fmt::Write>(&self, f: &mut fmt::Formatter<W>) -> fmt::Result {
-        match self.0 {
-            Table::Rooms => write!(f, "rooms"),
-            Table::Members => write!(f, "members"),
-            Table::Sources => write!(f, "sources"),
-            Table::Slots => write!(f, "slots"),
-            Table::RoomAudio => write!(f, "room-audio"),
-        }
+/// The refusals by number and name.
+fn told(why: Refusal) -> Row
+    ensures { told_in result ≡ told_of why }
+{
+    match why {
+        Refusal::Exists => bare(1, b"Exists"),
+        Refusal::NoRoom => bare(2, b"NoRoom"),
+        Refusal::NoMember => bare(3, b"NoMember"),
+        Refusal::NoSource => bare(4, b"NoSource"),
+        Refusal::NoSlot => bare(5, b"NoSlot"),
+        Refusal::WrongKind => bare(6, b"WrongKind"),
+        Refusal::OtherRoom => bare(7, b"OtherRoom"),
+        Refusal::SsrcTaken => bare(8, b"SsrcTaken"),
+        Refusal::BadValue => bare(9, b"BadValue"),
+        Refusal::Already => bare(10, b"Already"),
+        Refusal::Full { table, limit } => Row {
+            number: 12,
+            name: b"Full",
+            carried: Carried::Limit(table, limit),
+        },
+        Refusal::OutOfMemory => bare(13, b"OutOfMemory"),
+        Refusal::NewerCommand { last } => Row {
+            number: 14,
+            name: b"NewerCommand",
+            carried: Carried::Last(last),
+        },
+        Refusal::NothingToUndo => bare(15, b"NothingToUndo"),
+        Refusal::LogFull => bare(17, b"LogFull"),
     }
 }
 
-/// A refusal as it is printed.
-#[derive(Clone, Copy)]
-struct Why(Refusal);
-
-impl fmt::Display for Why {
-    ghost output = { λ w. Some (refusal_text w.0) };
-
-    fn fmt<W: fmt::Write>(&self, f: &mut fmt::Formatter<W>) -> fmt::Result {
-        match self.0 {
-            Refusal::Exists => write!(f, "1 Exists"),
-            Refusal::NoRoom => write!(f, "2 NoRoom"),
-            Refusal::NoMember => write!(f, "3 NoMember"),
-            Refusal::NoSource => write!(f, "4 NoSource"),
-            Refusal::NoSlot => write!(f, "5 NoSlot"),
-            Refusal::WrongKind => write!(f, "6 WrongKind"),
-            Refusal::OtherRoom => write!(f, "7 OtherRoom"),
-            Refusal::SsrcTaken => write!(f, "8 SsrcTaken"),
-            Refusal::BadValue => write!(f, "9 BadValue"),
-            Refusal::Already => write!(f, "10 Already"),
-            Refusal::Full { table, limit } => {
-                let table = Named(table);
-                write!(f, "12 Full {table} {limit}")
-            }
-            Refusal::OutOfMemory => write!(f, "13 OutOfMemory"),
-            Refusal::NewerCommand { last } => write!(f, "14 NewerCommand {last}"),
-            Refusal::NothingToUndo => write!(f, "15 NothingToUndo"),
-            Refusal::LogFull => write!(f, "17 LogFull"),
-        }
-    }
-}
-
-/// Appends the line of a reply. An `Err` changes nothing.
-pub fn print_reply<A: Allocator + Copy>(
-    alloc: A,
-    reply: &Reply,
-    out: &mut Vec<u8, A>,
-) -> Result<(), AllocError>
+/// Appends the line of a reply. An `Err` changes nothing, and comes only where the line has no room.
+pub fn print_reply<A: Allocator>(reply: &Reply, out: &mut Vec<u8, A>) -> Result<(), AllocError>
     ensures ok { OnOk result (out.new.items ≡ out.old.items ++ reply_text reply.now) }
     ensures err { OnErr result (out.new.items ≡ out.old.items) }
+    ensures full { OnErr result (vec_capacity out.old < vec_len out.old + length (reply_text reply.now)) }
 {
-    let text = match *reply {
-        Reply::Accepted { no } => format!(in alloc; "ok {no}\n")?,
-        Reply::Refused { at, why } => {
-            let why = Why(why);
-            format!(in alloc; "no {at} {why}\n")?
+    match *reply {
+        Reply::Accepted { no } => print_line(b"ok", &[Word::Value(Value::U64(no))], out),
+        Reply::Refused { at, why } => print_refused(at, told(why), out),
+    }
+}
+
+/// Appends the line of a refused call.
+fn print_refused<A: Allocator>(at: u64, row: Row, out: &mut Vec<u8, A>) -> Result<(), AllocError>
+    ensures ok { OnOk result (out.new.items ≡ out.old.items ++ line_text (fixed (codes "no") ∷ value (U64 at) ∷ told_words (told_in row))) }
+    ensures err { OnErr result (out.new.items ≡ out.old.items) }
+    ensures full { OnErr result (vec_capacity out.old < vec_len out.old + length (line_text (fixed (codes "no") ∷ value (U64 at) ∷ told_words (told_in row)))) }
+{
+    let at = Word::Value(Value::U64(at));
+    let number = Word::Value(Value::U16(row.number));
+    let name = Word::Fixed(row.name);
+    match row.carried {
+        Carried::Nothing => print_line(b"no", &[at, number, name], out),
+        Carried::Limit(table, limit) => {
+            let table = Word::Fixed(table_text(table));
+            let limit = Word::Value(Value::U32(limit));
+            print_line(b"no", &[at, number, name, table, limit], out)
         }
-    };
-    out.extend_from_slice(text.as_bytes())
+        Carried::Last(last) => {
+            let last = Word::Value(Value::U64(last));
+            print_line(b"no", &[at, number, name, last], out)
+        }
+    }
 }
 
-/// The line of an RTP packet that goes out.
-fn media_line<A: Allocator + Copy>(
-    alloc: A,
-    cause: Cause,
-    way: Way,
-    octets: &[u8],
-) -> Result<String<A>, AllocError>
-    ensures { IfOk result (λ text. string_bytes text ≡ media_text cause.version cause.item way.to.0 way.ssrc way.number octets.now) }
-{
-    let digits = hex::encode(alloc, octets)?;
-    let text = format!(in alloc; "tx {cause} {way} {digits}\n")?;
-    Ok(text)
-}
-
-/// Appends the line of what goes out. An `Err` changes nothing.
+/// Appends the line of what goes out. An `Err` changes nothing, and comes only where the line has
+/// no room.
 pub fn print_egress<A: Allocator + Copy>(
-    alloc: A,
     egress: &Egress<A>,
     out: &mut Vec<u8, A>,
 ) -> Result<(), AllocError>
     ensures ok { OnOk result (out.new.items ≡ out.old.items ++ sent_text (sent_of egress.now)) }
     ensures err { OnErr result (out.new.items ≡ out.old.items) }
+    ensures full { OnErr result (vec_capacity out.old < vec_len out.old + length (sent_text (sent_of egress.now))) }
 {
     let Egress::Media {
         version,
@@ -158,15 +138,13 @@ pub fn print_egress<A: Allocator + Copy>(
         number,
         bytes,
     } = egress;
-    let cause = Cause {
-        version: *version,
-        item: *item,
-    };
-    let way = Way {
-        to: Spelt(*to),
-        ssrc: *ssrc,
-        number: *number,
-    };
-    let text = media_line(alloc, cause, way, bytes.as_slice())?;
-    out.extend_from_slice(text.as_bytes())
+    let words = [
+        Word::Value(Value::U64(*version)),
+        Word::Value(Value::U64(*item)),
+        Word::Value(Value::Address(*to)),
+        Word::Value(Value::U32(*ssrc)),
+        Word::Value(Value::U16(*number)),
+        Word::Hex(bytes.as_slice()),
+    ];
+    print_line(b"tx", &words, out)
 }

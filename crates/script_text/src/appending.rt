@@ -1,0 +1,174 @@
+//! Appending lines to a text.
+
+ghost use Rattle.std.specs.Prelude.{◌≡◌, ◌+◌, ◌<◌, ◌∷◌, ◌++◌, [], OnOk, OnErr, decimal, length, map, vec_len, vec_capacity};
+ghost use Rattle.hex.specs.Hex.{encode_lower};
+ghost use Rattle.script_text.specs.Addresses.{address_text};
+ghost use Rattle.script_text.specs.Kinds.{codec_text, media_text};
+ghost use Rattle.script_text.specs.Values.{value_text};
+ghost use Rattle.script_text.specs.Text.{word_text, line_text, fixed};
+ghost use Rattle.script_text.specs.Shown.{said};
+ghost use Rattle.script_text.specs.Growing.{room_of, Grows};
+
+use crate::value::Value;
+use desk_rows::{Codec, Media};
+use itoa::Buffer;
+use rtp_codec::Address;
+use std::alloc::{AllocError, Allocator};
+
+/// A word of a line that goes out.
+#[derive(Clone, Copy)]
+pub(crate) enum Word<'a> {
+    Value(Value),
+    /// As it stands.
+    Fixed(&'a [u8]),
+    /// Octets in hexadecimal.
+    Hex(&'a [u8]),
+}
+
+/// Appends a text.
+fn append<A: Allocator>(text: &[u8], out: &mut Vec<u8, A>) -> Result<(), AllocError>
+    ensures { Grows (room_of out.old) (room_of out.new) text.now result }
+{
+    out.extend_from_slice(text)
+}
+
+/// Appends a number.
+fn append_number<A: Allocator>(number: u64, out: &mut Vec<u8, A>) -> Result<(), AllocError>
+    ensures { Grows (room_of out.old) (room_of out.new) (decimal number) result }
+{
+    let mut buffer = Buffer::new();
+    append(buffer.format(number).as_bytes(), out)
+}
+
+/// Appends a number and a mark behind it.
+fn append_part<A: Allocator>(number: u8, mark: u8, out: &mut Vec<u8, A>) -> Result<(), AllocError>
+    ensures { Grows (room_of out.old) (room_of out.new) (decimal number ++ mark ∷ []) result }
+{
+    append_number(u64::from(number), out)?;
+    append(&[mark], out)
+}
+
+/// Appends two numbers with a dot between, and a mark behind them.
+fn append_half<A: Allocator>(
+    first: u8,
+    second: u8,
+    mark: u8,
+    out: &mut Vec<u8, A>,
+) -> Result<(), AllocError>
+    ensures { Grows (room_of out.old) (room_of out.new) (decimal first ++ 46 ∷ [] ++ (decimal second ++ mark ∷ [])) result }
+{
+    append_part(first, b'.', out)?;
+    append_part(second, mark, out)
+}
+
+/// Appends an address.
+fn append_address<A: Allocator>(address: Address, out: &mut Vec<u8, A>) -> Result<(), AllocError>
+    ensures { Grows (room_of out.old) (room_of out.new) (address_text address) result }
+{
+    let [a, b, c, d] = address.ip;
+    append_half(a, b, b'.', out)?;
+    append_half(c, d, b':', out)?;
+    append_number(u64::from(address.port), out)
+}
+
+/// How a codec is written.
+fn codec_text(codec: Codec) -> &'static [u8]
+    ensures { result.now ≡ codec_text codec }
+{
+    match codec {
+        Codec::Pcmu => b"pcmu",
+        Codec::L16 => b"l16",
+    }
+}
+
+/// How a kind of source is written.
+fn media_text(media: Media) -> &'static [u8]
+    ensures { result.now ≡ media_text media }
+{
+    match media {
+        Media::Audio => b"audio",
+        Media::Video => b"video",
+    }
+}
+
+/// Appends a value.
+fn append_value<A: Allocator>(value: Value, out: &mut Vec<u8, A>) -> Result<(), AllocError>
+    ensures { Grows (room_of out.old) (room_of out.new) (value_text value) result }
+{
+    match value {
+        Value::U16(n) => append_number(u64::from(n), out),
+        Value::U32(n) => append_number(u64::from(n), out),
+        Value::U64(n) => append_number(n, out),
+        Value::Operator(n) => append_number(u64::from(n), out),
+        Value::Address(address) => append_address(address, out),
+        Value::Codec(codec) => append(codec_text(codec), out),
+        Value::Media(media) => append(media_text(media), out),
+    }
+}
+
+/// The digits of hexadecimal.
+const DIGITS: [u8; 16] = *b"0123456789abcdef";
+
+/// Appends octets in hexadecimal.
+fn append_hex<A: Allocator>(octets: &[u8], out: &mut Vec<u8, A>) -> Result<(), AllocError>
+    ensures { Grows (room_of out.old) (room_of out.new) (encode_lower octets.now) result }
+{
+    for octet in octets {
+        let high = DIGITS[(*octet / 16) as usize];
+        let low = DIGITS[(*octet % 16) as usize];
+        append(&[high, low], out)?;
+    }
+    Ok(())
+}
+
+/// Appends a word.
+fn append_word<A: Allocator>(word: Word<'_>, out: &mut Vec<u8, A>) -> Result<(), AllocError>
+    ensures { Grows (room_of out.old) (room_of out.new) (word_text (said word.entry)) result }
+{
+    match word {
+        Word::Value(value) => append_value(value, out),
+        Word::Fixed(text) => append(text, out),
+        Word::Hex(octets) => append_hex(octets, out),
+    }
+}
+
+/// Appends a space and a word.
+fn append_next<A: Allocator>(word: Word<'_>, out: &mut Vec<u8, A>) -> Result<(), AllocError>
+    ensures { Grows (room_of out.old) (room_of out.new) (32 ∷ word_text (said word.entry)) result }
+{
+    append(b" ", out)?;
+    append_word(word, out)
+}
+
+/// Appends words behind a first one, each with a space before it, and an LF.
+fn append_line<A: Allocator>(
+    first: &[u8],
+    words: &[Word<'_>],
+    out: &mut Vec<u8, A>,
+) -> Result<(), AllocError>
+    ensures { Grows (room_of out.old) (room_of out.new) (line_text (fixed first.now ∷ map said words.now)) result }
+{
+    append(first, out)?;
+    for word in words {
+        append_next(*word, out)?;
+    }
+    append(b"\n", out)
+}
+
+/// Appends the line of these words, of which the first is given apart. An `Err` changes nothing.
+pub(crate) fn print_line<A: Allocator>(
+    first: &[u8],
+    words: &[Word<'_>],
+    out: &mut Vec<u8, A>,
+) -> Result<(), AllocError>
+    ensures ok { OnOk result (out.new.items ≡ out.old.items ++ line_text (fixed first.now ∷ map said words.now)) }
+    ensures err { OnErr result (out.new.items ≡ out.old.items) }
+    ensures full { OnErr result (vec_capacity out.old < vec_len out.old + length (line_text (fixed first.now ∷ map said words.now))) }
+{
+    let before = out.len();
+    let answer = append_line(first, words, out);
+    if answer.is_err() {
+        out.truncate(before);
+    }
+    answer
+}
