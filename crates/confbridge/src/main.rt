@@ -1,7 +1,7 @@
 //! The bridge's program. `confbridge replay` answers a script from standard input.
 #![tactic(auto)]
 
-use script_text::{run, status};
+use script_text::{Reader, Writer, run, status};
 use std::alloc::AllocError;
 use std::env;
 use std::io::{self, ErrorKind};
@@ -37,8 +37,8 @@ fn asks_for_replay(rt: &HostRuntime) -> Result<bool, AllocError> {
 
 /// Answers the script on standard input.
 fn replay(rt: &HostRuntime) -> u8 {
-    let mut reader = rt.reader();
-    let mut writer = io::writer(rt);
+    let mut reader = Reader(rt.reader());
+    let mut writer = Writer(io::writer(rt));
     let answer = run(rt.alloc(), &mut reader, &mut writer);
     if let Err(fault) = &answer {
         let _ = eprintln!(rt; "confbridge: {fault}");

@@ -8,9 +8,9 @@ use Rattle.script_text.specs.declared.fault.RunFault.TheVariants as errors
 use Rattle.script_text.specs.Lines.{whole, ended}
 use Rattle.script_text.specs.Output.{Outcome, nothing, told, stopped, outcome_of, output_of, ended_output_of, RunEnds}
 use Rattle.script_text.specs.Bridge.{Bridge, opening_bridge, Stands}
-use Rattle.script_text.specs.Steps.{Held, Place, place_of, opening, IsOpening, to_come, Goes, StepFails, Steps, FinishEnds, Finishes}
+use Rattle.script_text.specs.Steps.{Held, Place, place_of, opening, IsOpening, IsMidLine, to_come, Goes, StepFails, Steps, FinishEnds, Finishes}
 use Rattle.script_text.proofs.Known.{Appends-then, Appends-same, Appends-none}
-use Rattle.script_text.proofs.StepLemmas.{goes_then, fails_then, goes_none}
+use Rattle.script_text.proofs.StepLemmas.{goes_then, fails_then, goes_none, none_ended}
 
 pub if_some : {A : Type 0} (o : Option A) (P : A → Type 0) → ((x : A) → o ≡ Some x → P x) → IfSome o P
 if_some None P h = tt
@@ -86,17 +86,17 @@ run_fails input left left2 before mid now held new octets e h c k =
     let all = all_of input (h.0 ++ octets) left2 seen in
     fails_with input (h.0 ++ octets) all.0 (h.1 ++ s.0) left2 before now e seen all.2 (Appends-then before mid now h.1 s.0 h.5 s.1) (fails_then opening (place_of held h.2) h.0 octets h.1 s.0 e h.6 s.2)
 
-nothing_more : (input : List ℕ) (left before now : Option (List ℕ)) (held : Held) (h : SoFar input left before now held) → ((bridge : Bridge) → to_come ended (place_of held bridge) [] ≡ nothing) → ended_output_of h.0 ≡ told h.1 nothing
-nothing_more input left before now held h none = ap (to_come ended opening) (sym (append-nil h.0)) ∙ (h.6 ended [] ∙ ap (told h.1) (none h.2))
+nothing_more : (input : List ℕ) (left before now : Option (List ℕ)) (held : Held) (h : SoFar input left before now held) → IsMidLine held → ended_output_of h.0 ≡ told h.1 nothing
+nothing_more input left before now held h none = ap (to_come ended opening) (sym (append-nil h.0)) ∙ (h.6 ended [] ∙ ap (told h.1) (none_ended (place_of held h.2) none))
 
 -- the reader failed
-pub run_read : (input : List ℕ) (left before now : Option (List ℕ)) (held : Held) → SoFar input left before now held → ((bridge : Bridge) → to_come ended (place_of held bridge) [] ≡ nothing) → RunEnds input left before now (Err errors.Read)
+pub run_read : (input : List ℕ) (left before now : Option (List ℕ)) (held : Held) → SoFar input left before now held → IsMidLine held → RunEnds input left before now (Err errors.Read)
 run_read input left before now held h none =
     let out = nothing_more input left before now held h none in
     (h.0, h.4, ap (λ (o : Outcome). o.fault) out, Appends-same before now h.1 (ended_output_of h.0).text (sym (ap (λ (o : Outcome). o.text) out ∙ append-nil h.1)) h.5)
 
 -- memory ran out before the next octets came
-pub run_starved : (input : List ℕ) (left before now : Option (List ℕ)) (held : Held) → SoFar input left before now held → ((bridge : Bridge) → to_come ended (place_of held bridge) [] ≡ nothing) → RunEnds input left before now (Err errors.OutOfMemory)
+pub run_starved : (input : List ℕ) (left before now : Option (List ℕ)) (held : Held) → SoFar input left before now held → IsMidLine held → RunEnds input left before now (Err errors.OutOfMemory)
 run_starved input left before now held h none =
     let out = nothing_more input left before now held h none in
     (h.0, h.4, h.0, ([], sym (append-nil h.0)), ap (λ (o : Outcome). o.fault) out, Appends-same before now h.1 (ended_output_of h.0).text (sym (ap (λ (o : Outcome). o.text) out ∙ append-nil h.1)) h.5)
@@ -145,14 +145,34 @@ pub ends_exit : (first left left2 before mid now : Option (List ℕ)) (held : He
 ends_exit first left left2 before mid now held r h c at_end k =
     if_some first (λ input. RunEnds input left2 before now r) (λ input is. run_ends input left left2 before mid now held r (h input is) c at_end k)
 
-pub read_exit : (first left left2 before now : Option (List ℕ)) (held : Held) → ((input : List ℕ) → first ≡ Some input → SoFar input left before now held) → Consumes left left2 [] → ((bridge : Bridge) → to_come ended (place_of held bridge) [] ≡ nothing) → IfSome first (λ input. RunEnds input left2 before now (Err errors.Read))
+pub read_exit : (first left left2 before now : Option (List ℕ)) (held : Held) → ((input : List ℕ) → first ≡ Some input → SoFar input left before now held) → Consumes left left2 [] → IsMidLine held → IfSome first (λ input. RunEnds input left2 before now (Err errors.Read))
 read_exit first left left2 before now held h c none =
     if_some first (λ input. RunEnds input left2 before now (Err errors.Read)) (λ input is. run_read input left2 before now held (waits input left left2 before now held (h input is) c) none)
 
-pub starved_exit : (first left left2 before now : Option (List ℕ)) (held : Held) → ((input : List ℕ) → first ≡ Some input → SoFar input left before now held) → Consumes left left2 [] → ((bridge : Bridge) → to_come ended (place_of held bridge) [] ≡ nothing) → IfSome first (λ input. RunEnds input left2 before now (Err errors.OutOfMemory))
+pub starved_exit : (first left left2 before now : Option (List ℕ)) (held : Held) → ((input : List ℕ) → first ≡ Some input → SoFar input left before now held) → Consumes left left2 [] → IsMidLine held → IfSome first (λ input. RunEnds input left2 before now (Err errors.OutOfMemory))
 starved_exit first left left2 before now held h c none =
     if_some first (λ input. RunEnds input left2 before now (Err errors.OutOfMemory)) (λ input is. run_starved input left2 before now held (waits input left left2 before now held (h input is) c) none)
 
-pub stays_exit : (first left before now : Option (List ℕ)) (held : Held) → ((input : List ℕ) → first ≡ Some input → SoFar input left before now held) → ((bridge : Bridge) → to_come ended (place_of held bridge) [] ≡ nothing) → IfSome first (λ input. RunEnds input left before now (Err errors.Read))
+pub stays_exit : (first left before now : Option (List ℕ)) (held : Held) → ((input : List ℕ) → first ≡ Some input → SoFar input left before now held) → IsMidLine held → IfSome first (λ input. RunEnds input left before now (Err errors.Read))
 stays_exit first left before now held h none =
     if_some first (λ input. RunEnds input left before now (Err errors.Read)) (λ input is. run_read input left before now held (h input is) none)
+
+-- ---- a script in memory
+
+pub same_fault : {T : Type 0} (x y : RunFault) (r : Result T RunFault) → r ≡ Err x → r ≡ Err y → x ≡ y
+same_fault x y r e f = cc
+
+all_taken : (input : List ℕ) → Consumes (Some input) (Some []) input
+all_taken input = sym (append-nil input)
+
+started : (input : List ℕ) (before : Option (List ℕ)) (held : Held) → IsOpening held → SoFar input (Some input) before before held
+started input before held h = at_first input (Some input) before held h refl
+
+-- its octets ended the run
+pub fed_fails : (input : List ℕ) (held new : Held) (before now : Option (List ℕ)) (e : RunFault) → IsOpening held → Steps held input new before now (Err e) → RunEnds input (Some []) before now (Err e)
+fed_fails input held new before now e h k = run_fails input (Some input) (Some []) before before now held new input e (started input before held h) (all_taken input) k
+
+-- its end did
+pub fed_ends : (input : List ℕ) (held new : Held) (before mid now : Option (List ℕ)) (r : Result (Unit {0}) RunFault) → IsOpening held → Steps held input new before mid (Ok tt) → Finishes new mid now r → RunEnds input (Some []) before now r
+fed_ends input held new before mid now r h k f =
+    run_ends input (Some []) (Some []) before mid now new r (goes_on input (Some input) (Some []) before before mid held new input (started input before held h) (all_taken input) k) refl refl f

@@ -1,5 +1,6 @@
 -- A run between two octets: what the functions inside it say to one another.
-use Rattle.std.specs.Prelude.{◌≡◌, ℕ, List, [], ◌++◌, Option, None, Result, Ok, Err}
+use Rattle.std.specs.List.{All}
+use Rattle.std.specs.Prelude.{◌≡◌, ◌==◌, false, ℕ, List, [], ◌++◌, Option, None, Result, Ok, Err}
 use Rattle.std.specs.Io.KnownBytes.{Appends}
 use Rattle.bridge_core.specs.Steps.{CoreOf}
 use Rattle.script_text.specs.declared.fault.RunFault.{RunFault}
@@ -32,6 +33,10 @@ place_of held bridge = record { bridge = bridge; line = held.line; pending = hel
 -- a run of which no octet was read
 abbrev pub IsOpening : Held → Type 0
 IsOpening held = Stands held.core opening_bridge × (held.line ≡ 1) × (held.pending ≡ [])
+
+-- no line has ended of what has come
+abbrev pub IsMidLine : Held → Type 0
+IsMidLine held = All (λ b. (b == 10) ≡ false) held.pending
 
 -- what is still to come from a place, with these octets
 abbrev pub to_come : (List ℕ → List (List ℕ)) → Place → List ℕ → Outcome

@@ -1,6 +1,6 @@
 //! The answer to one line.
 
-ghost use Rattle.std.specs.Prelude.{◌≡◌, ◌++◌, [], OnOk, map};
+ghost use Rattle.std.specs.Prelude.{◌≡◌, ◌≢◌, ◌⊎◌, ◌^◌, ◌++◌, [], OnOk, map};
 ghost use Rattle.std.specs.List.{flat_map};
 ghost use Rattle.bridge_core.specs.Sent.{sent_of, input_of};
 ghost use Rattle.script_text.specs.Text.{sent_text};
@@ -12,11 +12,11 @@ ghost use Rattle.script_text.specs.Steps.{AnswersRequest, AnswersLine};
 use crate::fault::{ParseFault, RunFault};
 use crate::line::{Line, parse_line};
 use crate::print::{print_egress, print_reply};
-use crate::send::send;
+use crate::sending::send;
+use crate::sink::Sink;
 use bridge_core::{Core, Egress, Item, Reply};
 use desk_edit::{Call, Refusal};
 use std::alloc::{AllocError, Allocator};
-use std::io::Write;
 
 /// The lane that a script's items go to: there is this one alone.
 const LANE: u32 = 0;
@@ -106,16 +106,18 @@ fn answer_request<A: Allocator + Copy>(
 
 /// Answers the line of this number. All that it gives is sent at its end, so want of memory sends
 /// nothing of it.
-pub(crate) fn answer<W: Write, A: Allocator + Copy>(
+pub(crate) fn answer<T: Sink, A: Allocator + Copy>(
     alloc: A,
     core: &mut Core<A>,
     number: u64,
     line: &[u8],
-    writer: &mut W,
+    writer: &mut T,
 ) -> Result<(), RunFault>
     requires { HasLane core.old }
-    ensures answer { AnswersLine core.old number line.now core.new (W.contents writer.old) (W.contents writer.new) result }
+    ensures answer { AnswersLine core.old number line.now core.new (T.held writer.old) (T.held writer.new) result }
     ensures lane { HasLane core.new }
+    ensures read { result ≢ Err RunFault.Read }
+    ensures write { result ≡ Err RunFault.Write → T.may_fail ⊎ (T.may_starve × T.may_split) ⊎ ((first : T) × T.goes_on (2 ^ 32) first writer.new) }
 {
     let line = match parse_line(alloc, line) {
         Err(ParseFault::OutOfMemory) => return Err(RunFault::OutOfMemory),

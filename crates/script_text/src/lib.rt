@@ -14,9 +14,11 @@ mod number;
 mod packet;
 mod print;
 mod reading;
-mod replay;
+mod running;
 mod script;
-mod send;
+mod sending;
+mod sink;
+mod source;
 mod spelling;
 mod value;
 mod words;
@@ -28,4 +30,6 @@ pub use self::laws::{
     address_words, ext_words, hex_words, number_words, packet_words, pieces_join, refusal_words,
 };
 pub use self::print::{print_egress, print_reply};
-pub use self::replay::{output, run};
+pub use self::running::{output, run};
+pub use self::sink::{Portion, Sink, Writer};
+pub use self::source::{Piece, Reader, Source};

@@ -1,15 +1,15 @@
 //! A script between two octets.
 
-ghost use Rattle.std.specs.Prelude.{◌≡◌, ◌≢◌, ◌+◌, ◌^◌, ◌<◌, ◌≤◌, [], ◌∷◌, length, IfOk};
+ghost use Rattle.std.specs.Prelude.{◌≡◌, ◌≢◌, ◌⊎◌, ◌+◌, ◌^◌, ◌<◌, ◌≤◌, [], ◌∷◌, length, IfOk};
 ghost use Rattle.std.specs.Str.Lines.{strip_carriage_return};
 
 use crate::answer::answer;
 use crate::fault::{Fault, RunFault};
 use crate::line::LINE_LIMIT;
-use bridge_core::{Core, Settings};
+use crate::sink::Sink;
+use bridge_core::{Core, CoreFault, Settings};
 use bytes::Bytes;
 use std::alloc::{AllocError, Allocator, Global};
-use std::io::Write;
 use std::marker::Model;
 
 /// The SSRC under which the bridge of a script speaks.
@@ -50,22 +50,20 @@ fn without_cr(line: &[u8]) -> &[u8]
 }
 
 impl<A: Allocator + Copy> Script<A> {
-    ghost use Rattle.script_text.specs.Output.{nothing};
-    ghost use Rattle.script_text.specs.Steps.{Held, IsOpening, Keeps, Steps, Finishes, place_of, to_come};
-    ghost use Rattle.script_text.specs.Lines.{ended};
-    ghost use Rattle.script_text.specs.Bridge.{Bridge};
+    ghost use Rattle.script_text.specs.Steps.{IsOpening, IsMidLine, Keeps, Steps, Finishes};
 
     /// A script of which nothing has come.
     pub(crate) fn new(alloc: A) -> Result<Script<A>, AllocError>
-        ensures { IfOk result (λ s. IsOpening s) }
+        ensures opening { IfOk result (λ s. IsOpening s) }
+        ensures midline { IfOk result (λ s. IsMidLine s) }
     {
         let settings = Settings {
             bridge_ssrc: BRIDGE_SSRC,
             cname: Bytes::copy_from_slice(alloc, CNAME)?,
         };
         match Core::new(alloc, 1, settings) {
-            // The settings are good.
-            Err(_) => Err(AllocError),
+            Err(CoreFault::OutOfMemory) => Err(AllocError),
+            Err(_) => unreachable!(),
             Ok(core) => Ok(Script {
                 core,
                 line: 1,
@@ -79,6 +77,9 @@ impl<A: Allocator + Copy> Script<A> {
         requires { octet ≢ 10 }
         ensures step { Keeps self.old (octet ∷ []) self.new result }
         ensures line { self.new.line ≡ self.old.line }
+        ensures midline { IsMidLine self.new }
+        ensures read { result ≢ Err RunFault.Read }
+        ensures write { result ≢ Err RunFault.Write }
     {
         // A CR at the line's end does not count, and may be the octet that is in doubt.
         if self.pending.len() > LINE_LIMIT + 1 {
@@ -95,10 +96,13 @@ impl<A: Allocator + Copy> Script<A> {
     }
 
     /// Takes an LF: answers the line before it.
-    fn end_line<W: Write>(&mut self, alloc: A, writer: &mut W) -> Result<(), RunFault>
+    fn end_line<T: Sink>(&mut self, alloc: A, writer: &mut T) -> Result<(), RunFault>
         requires { self.old.line + 1 < 2 ^ 64 }
-        ensures step { Steps self.old (10 ∷ []) self.new (W.contents writer.old) (W.contents writer.new) result }
+        ensures step { Steps self.old (10 ∷ []) self.new (T.held writer.old) (T.held writer.new) result }
         ensures line { self.new.line ≤ self.old.line + 1 }
+        ensures midline { IsMidLine self.new }
+        ensures read { result ≢ Err RunFault.Read }
+        ensures write { result ≡ Err RunFault.Write → T.may_fail ⊎ (T.may_starve × T.may_split) ⊎ ((first : T) × T.goes_on (2 ^ 32) first writer.new) }
     {
         let number = self.line;
         let line = without_cr(&self.pending);
@@ -113,10 +117,13 @@ impl<A: Allocator + Copy> Script<A> {
     }
 
     /// Takes the next octet.
-    fn octet<W: Write>(&mut self, alloc: A, octet: u8, writer: &mut W) -> Result<(), RunFault>
+    fn octet<T: Sink>(&mut self, alloc: A, octet: u8, writer: &mut T) -> Result<(), RunFault>
         requires { self.old.line + 1 < 2 ^ 64 }
-        ensures step { Steps self.old (octet ∷ []) self.new (W.contents writer.old) (W.contents writer.new) result }
+        ensures step { Steps self.old (octet ∷ []) self.new (T.held writer.old) (T.held writer.new) result }
         ensures line { self.new.line ≤ self.old.line + 1 }
+        ensures midline { IsMidLine self.new }
+        ensures read { result ≢ Err RunFault.Read }
+        ensures write { result ≡ Err RunFault.Write → T.may_fail ⊎ (T.may_starve × T.may_split) ⊎ ((first : T) × T.goes_on (2 ^ 32) first writer.new) }
     {
         if octet == b'\n' {
             self.end_line(alloc, writer)
@@ -126,15 +133,19 @@ impl<A: Allocator + Copy> Script<A> {
     }
 
     /// Takes the next octets.
-    pub(crate) fn feed<W: Write>(
+    pub(crate) fn feed<T: Sink>(
         &mut self,
         alloc: A,
         octets: &[u8],
-        writer: &mut W,
+        writer: &mut T,
     ) -> Result<(), RunFault>
-        requires { self.old.line + length octets.now < 2 ^ 64 }
-        ensures step { Steps self.old octets.now self.new (W.contents writer.old) (W.contents writer.new) result }
+        requires line { self.old.line + length octets.now < 2 ^ 64 }
+        requires midline { IsMidLine self.old }
+        ensures step { Steps self.old octets.now self.new (T.held writer.old) (T.held writer.new) result }
         ensures line { self.new.line ≤ self.old.line + length octets.now }
+        ensures midline { IsMidLine self.new }
+        ensures read { result ≢ Err RunFault.Read }
+        ensures write { result ≡ Err RunFault.Write → T.may_fail ⊎ (T.may_starve × T.may_split) ⊎ ((first : T) × T.goes_on (2 ^ 32) first writer.new) }
     {
         for octet in octets {
             if let Err(fault) = self.octet(alloc, *octet, writer) {
@@ -144,16 +155,11 @@ impl<A: Allocator + Copy> Script<A> {
         Ok(())
     }
 
-    /// What has come of a line is none that has ended.
-    pub(crate) fn has_no_line(&self)
-        ensures { (bridge : Bridge) → to_come ended (place_of self.now bridge) [] ≡ nothing }
-    {
-        let _pending = &self.pending;
-    }
-
     /// Takes the end of the input: it ends the last line.
-    pub(crate) fn finish<W: Write>(&mut self, alloc: A, writer: &mut W) -> Result<(), RunFault>
-        ensures { Finishes self.old (W.contents writer.old) (W.contents writer.new) result }
+    pub(crate) fn finish<T: Sink>(&mut self, alloc: A, writer: &mut T) -> Result<(), RunFault>
+        ensures end { Finishes self.old (T.held writer.old) (T.held writer.new) result }
+        ensures read { result ≢ Err RunFault.Read }
+        ensures write { result ≡ Err RunFault.Write → T.may_fail ⊎ (T.may_starve × T.may_split) ⊎ ((first : T) × T.goes_on (2 ^ 32) first writer.new) }
     {
         let number = self.line;
         answer(alloc, &mut self.core, number, &self.pending, writer)

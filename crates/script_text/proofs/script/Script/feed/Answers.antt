@@ -7,6 +7,7 @@ use Rattle.script_text.proofs.script.Script.feed.Goals as goal
 
 pub loop-octet-init : goal.loop-octet-init
 loop-octet-init g c = record {
+  midline = c.requires.midline;
   line = omega arith;
   step = λ first stands. ([], first, stands, Appends-none _, goes_none (place_of c.args.self.now first));
 }
@@ -22,6 +23,7 @@ returns-in-Err-clause-step g c = λ first stands.
 
 pub loop-octet-preserved : goal.loop-octet-preserved
 loop-octet-preserved g c = record {
+  midline = c.octet.ensures.midline;
   line = omega (arith, c.octet.ensures.line, c.loop-octet.invariant.line);
   step = λ first stands.
       let before = c.loop-octet.invariant.step first stands in

@@ -1,13 +1,14 @@
 use Rattle.std.proofs.Common.{◌+◌, ◌≤◌, List, ℕ, take}
 use Rattle.std.specs.Io.KnownBytes.{Appends}
 use Rattle.script_text.specs.Bridge.{Bridge, Stands}
-use Rattle.script_text.specs.Steps.{Goes, place_of}
+use Rattle.script_text.specs.Steps.{IsMidLine, Goes, place_of}
 use Rattle.script_text.proofs.script.Script.feed.Given as goal
 
 -- the octets so far led here, and what they gave is out
 abbrev pub invariant-loop-octet : goal.invariant-loop-octet
 invariant-loop-octet g l = record {
+  midline : IsMidLine l.self;
   line : l.self.line ≤ l.fn.self.line + l.octet-index;
   step : (first : Bridge) → Stands l.fn.self.core first
-      → (sent : List ℕ) × (bridge : Bridge) × Stands l.self.core bridge × Appends (g.W.Write.contents l.fn.writer) (g.W.Write.contents l.writer) sent × Goes (place_of l.fn.self first) (take l.octet-index l.octets) (place_of l.self bridge) sent;
+      → (sent : List ℕ) × (bridge : Bridge) × Stands l.self.core bridge × Appends (g.T.Sink.held l.fn.writer) (g.T.Sink.held l.writer) sent × Goes (place_of l.fn.self first) (take l.octet-index l.octets) (place_of l.self bridge) sent;
 }

@@ -1,0 +1,13 @@
+use Rattle.std.proofs.Common.{◌≡◌, ◌+◌, ◌*◌, ◌≤◌, List, ℕ, Some}
+use Rattle.script_text.proofs.RunLemmas.{SoFar}
+use Rattle.script_text.specs.Steps.{IsMidLine}
+use Rattle.script_text.proofs.running.run_with.Given as goal
+
+-- what was read led to the script's place, and what it gave is out
+abbrev pub invariant-loop : goal.invariant-loop
+invariant-loop g l = record {
+  midline : IsMidLine l.script;
+  calls : g.S.Source.goes_on l.counter l.fn.reader l.reader;
+  line : l.script.line ≤ 1 + 4096 * l.counter;
+  so_far : (input : List ℕ) → g.S.Source.rest l.fn.reader ≡ Some input → SoFar input (g.S.Source.rest l.reader) (g.T.Sink.held l.fn.writer) (g.T.Sink.held l.writer) l.script;
+}

@@ -1,0 +1,97 @@
+//! A run over a source and a sink.
+
+ghost use Rattle.std.specs.Prelude.{◌≡◌, ◌≢◌, ◌⊎◌, ℕ, ◌^◌, ◌<◌, ◌≤◌, length, IfSome, IfOk};
+ghost use Rattle.script_text.specs.Output.{output_of, RunEnds};
+ghost use Rattle.script_text.specs.declared.fault.Fault.{Fault};
+ghost use Rattle.script_text.specs.Steps.{IsOpening, IsMidLine};
+
+use crate::fault::RunFault;
+use crate::script::Script;
+use crate::sending::MOST_CALLS;
+use crate::sink::Sink;
+use crate::source::{Piece, Source};
+use std::alloc::Allocator;
+
+/// How many octets are asked for at once.
+const CHUNK: usize = 4_096;
+
+/// Reads into this chunk, piece by piece.
+fn run_with<A: Allocator + Copy, S: Source, T: Sink>(
+    alloc: A,
+    script: &mut Script<A>,
+    chunk: &mut [u8],
+    reader: &mut S,
+    writer: &mut T,
+) -> Result<(), RunFault>
+    requires script { IsOpening script.old }
+    requires midline { IsMidLine script.old }
+    requires some { 0 < length chunk.old }
+    requires few { length chunk.old ≤ CHUNK }
+    ensures run { IfSome (S.rest reader.old) (λ input.
+        RunEnds input (S.rest reader.new) (T.held writer.old) (T.held writer.new) result) }
+    ensures read { result ≡ Err RunFault.Read → S.may_fail ⊎ S.goes_on (2 ^ 32) reader.old reader.new }
+    ensures write { result ≡ Err RunFault.Write → T.may_fail ⊎ (T.may_starve × T.may_split) ⊎ ((first : T) × T.goes_on (2 ^ 32) first writer.new) }
+{
+    for _ in 0..MOST_CALLS {
+        match reader.read_some(chunk) {
+            Piece::Octets(n) => {
+                if let Err(fault) = script.feed(alloc, &chunk[..n], writer) {
+                    return Err(fault);
+                }
+            }
+            Piece::Interrupted => {}
+            Piece::End => return script.finish(alloc, writer),
+            Piece::OutOfMemory => return Err(RunFault::OutOfMemory),
+            Piece::Failed => return Err(RunFault::Read),
+        }
+    }
+    Err(RunFault::Read)
+}
+
+/// Reads a script to its end or its first fault, over a new bridge with one lane, and writes what
+/// its lines give and nothing else.
+///
+/// Lines before a fault are answered, the faulty line and what follows are not. Where memory runs
+/// out, what was written is that of the lines before. A reader fails where a call of it does, or
+/// where 2^32 calls have not told the end; a writer where a call fails or takes nothing, where
+/// 2^32 calls have not taken a line's text, or where memory runs out behind a part of it. Only
+/// want of memory may be told at any time.
+pub fn run<A: Allocator + Copy, S: Source, T: Sink>(
+    alloc: A,
+    reader: &mut S,
+    writer: &mut T,
+) -> Result<(), RunFault>
+    ensures run { IfSome (S.rest reader.old) (λ input.
+        RunEnds input (S.rest reader.new) (T.held writer.old) (T.held writer.new) result) }
+    ensures read { result ≡ Err RunFault.Read → S.may_fail ⊎ S.goes_on (2 ^ 32) reader.old reader.new }
+    ensures write { result ≡ Err RunFault.Write → T.may_fail ⊎ (T.may_starve × T.may_split) ⊎ ((first : T) × T.goes_on (2 ^ 32) first writer.new) }
+{
+    let Ok(mut script) = Script::new(alloc) else {
+        return Err(RunFault::OutOfMemory);
+    };
+    match vec![in alloc; 0u8; CHUNK] {
+        Err(_) => Err(RunFault::OutOfMemory),
+        Ok(mut chunk) => run_with(alloc, &mut script, &mut chunk, reader, writer),
+    }
+}
+
+/// The output of a script that is in memory, or why the run over it ended: a fault of the script, or
+/// want of memory.
+pub fn output<A: Allocator + Copy>(alloc: A, script: &[u8]) -> Result<Vec<u8, A>, RunFault>
+    ensures ok { IfOk result (λ out. ((output_of script.now).fault ≡ None) × (out.items ≡ (output_of script.now).text)) }
+    ensures fault { (line word : ℕ) (fault : Fault) → result ≡ Err (RunFault.Script line word fault) → (output_of script.now).fault ≡ Some (line, word, fault) }
+    ensures read { result ≢ Err RunFault.Read }
+    ensures write { result ≢ Err RunFault.Write }
+{
+    let mut out = Vec::new(alloc);
+    let Ok(mut run) = Script::new(alloc) else {
+        return Err(RunFault::OutOfMemory);
+    };
+    if let Err(fault) = run.feed(alloc, script, &mut out) {
+        return Err(fault);
+    }
+    if let Err(fault) = run.finish(alloc, &mut out) {
+        return Err(fault);
+    }
+    Ok(out)
+}
