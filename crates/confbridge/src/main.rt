@@ -1,61 +1,48 @@
 //! The bridge's program. `confbridge replay` answers a script from standard input.
 #![tactic(auto)]
 
-use script_text::{Reader, Writer, run, status};
-use std::alloc::AllocError;
+use script_text::{Ask, Outcome, Reader, Writer, asked, exit_status, run, unread};
 use std::env;
-use std::io::{self, ErrorKind};
+use std::io;
 use std::process::ExitCode;
 
-/// The exit status where memory ran out before a run.
-const OUT_OF_MEMORY: u8 = 2;
-
-/// The exit status for arguments that the program does not know.
-const USAGE: u8 = 4;
-
-/// Whether the arguments ask for a run over a script.
-fn asks_for_replay(rt: &HostRuntime) -> Result<bool, AllocError> {
+/// What the arguments ask for.
+fn arguments(rt: &HostRuntime) -> Ask {
     match env::args(rt) {
-        Err(e) => {
-            if e.kind() == ErrorKind::OutOfMemory {
-                Err(AllocError)
-            } else {
-                Ok(false)
-            }
-        }
-        Ok(mut args) => {
-            let _program = args.next();
-            let word = args.next();
-            let more = args.next();
-            match (word, more) {
-                (Some(word), None) => Ok(word.as_str() == "replay"),
-                _ => Ok(false),
-            }
+        Err(e) => unread(e.kind()),
+        Ok(mut words) => {
+            let _program = words.next();
+            let first = words.next();
+            let second = words.next();
+            asked(first.as_deref(), second.as_deref())
         }
     }
 }
 
-/// Answers the script on standard input.
-fn replay(rt: &HostRuntime) -> u8 {
-    let mut reader = Reader(rt.reader());
-    let mut writer = Writer(io::writer(rt));
-    let answer = run(rt.alloc(), &mut reader, &mut writer);
-    if let Err(fault) = &answer {
-        let _ = eprintln!(rt; "confbridge: {fault}");
+/// Does what is asked for.
+fn outcome(rt: &HostRuntime, ask: Ask) -> Outcome {
+    match ask {
+        Ask::Replay => {
+            let mut reader = Reader(rt.reader());
+            let mut writer = Writer(io::writer(rt));
+            Outcome::Ran(run(rt.alloc(), &mut reader, &mut writer))
+        }
+        Ask::Unknown => Outcome::Usage,
+        Ask::OutOfMemory => Outcome::OutOfMemory,
     }
-    status(&answer)
+}
+
+/// Says how it ended on standard error, where that is not well, and by the exit status.
+fn tell(rt: &HostRuntime, outcome: &Outcome) -> ExitCode {
+    let status = exit_status(outcome);
+    if status != 0 {
+        let _ = eprintln!(rt; "{outcome}");
+    }
+    ExitCode::from(status)
 }
 
 fn main(rt: HostRuntime) -> ExitCode {
-    ExitCode::from(match asks_for_replay(&rt) {
-        Ok(true) => replay(&rt),
-        Ok(false) => {
-            let _ = eprintln!(rt; "usage: confbridge replay");
-            USAGE
-        }
-        Err(_) => {
-            let _ = eprintln!(rt; "confbridge: out of memory");
-            OUT_OF_MEMORY
-        }
-    })
+    let ask = arguments(&rt);
+    let outcome = outcome(&rt, ask);
+    tell(&rt, &outcome)
 }

@@ -2,10 +2,11 @@
 
 ghost use Rattle.std.specs.Prelude.{◌≡◌, Some};
 ghost use Rattle.script_text.specs.Text.{fault_text};
+ghost use Rattle.script_text.specs.Status.{run_text};
 
 use std::alloc::{AllocError, AllocFailed};
+use std::error::Error;
 use std::fmt;
-use thiserror::Error;
 
 /// What is wrong with a line. Its number and name are those that are printed.
 #[derive(Clone, Copy, Debug, PartialEq, Eq)]
@@ -53,19 +54,16 @@ impl Fault {
 }
 
 /// Why a run ended before its script.
-#[derive(Clone, Copy, Debug, PartialEq, Eq, Error)]
+#[derive(Clone, Copy, Debug, PartialEq, Eq)]
 pub enum RunFault {
     /// The first line that could not be read, from 1, and the place of its word from 1; place 0 is
     /// the whole line.
-    #[error("line {line} word {word}: {fault}")]
     Script { line: u64, word: u32, fault: Fault },
     /// The reader failed, or had not ended after 2^32 calls.
-    #[error("input or output failed")]
     Read,
-    /// The writer failed or took nothing.
-    #[error("input or output failed")]
+    /// The writer failed or took nothing, or memory ran out behind a part of a line's text, or
+    /// 2^32 calls had not taken it.
     Write,
-    #[error("out of memory")]
     OutOfMemory,
 }
 
@@ -86,6 +84,20 @@ impl fmt::Display for Fault {
         }
     }
 }
+
+impl fmt::Display for RunFault {
+    ghost output = { λ f. Some (run_text f) };
+
+    fn fmt<W: fmt::Write>(&self, f: &mut fmt::Formatter<W>) -> fmt::Result {
+        match self {
+            RunFault::Script { line, word, fault } => write!(f, "line {line} word {word}: {fault}"),
+            RunFault::Read | RunFault::Write => write!(f, "input or output failed"),
+            RunFault::OutOfMemory => write!(f, "out of memory"),
+        }
+    }
+}
+
+impl Error for RunFault {}
 
 impl From<AllocError> for ParseFault {
     ghost use Rattle.script_text.specs.declared.fault.ParseFault.TheVariants.{OutOfMemory};

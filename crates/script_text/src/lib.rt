@@ -24,7 +24,7 @@ mod value;
 mod words;
 
 pub use self::building::parse_desk;
-pub use self::exits::status;
+pub use self::exits::{Ask, Outcome, asked, exit_status, status, unread};
 pub use self::fault::{Fault, ParseFault, RunFault};
 pub use self::laws::{
     address_words, ext_words, hex_words, number_words, packet_words, pieces_join, refusal_words,
