@@ -91,7 +91,7 @@ const LINE: &str = "tx 6 1 10.0.0.2:5000 501 65535 81640ff0\n";
 fn is_printed<'a>(ample: &'a LocalHeap, heap: &'a LocalHeap) -> Result<Option<bool>, Fail> {
     let packet = packet(ample)?;
     let mut out = Vec::new(heap);
-    let is_printed = print_egress(heap, &packet, &mut out).is_ok();
+    let is_printed = print_egress(&packet, &mut out).is_ok();
     let want = if is_printed { LINE } else { "" };
     Ok((out.as_slice() == want.as_bytes()).then_some(is_printed))
 }

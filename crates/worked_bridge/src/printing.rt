@@ -9,15 +9,15 @@ use script_text::{Fault, RunFault, print_egress, print_reply, status};
 use std::alloc::{AllocError, Global};
 
 /// The line of an accepted call.
-pub fn prints_an_answer(alloc: Global, out: &mut Vec<u8>) -> Result<(), AllocError>
+pub fn prints_an_answer(out: &mut Vec<u8>) -> Result<(), AllocError>
     requires { out.old.items ≡ [] }
     ensures { OnOk result (out.new.items ≡ codes "ok 12\n") }
 {
-    print_reply(alloc, &Reply::Accepted { no: 12 }, out)
+    print_reply(&Reply::Accepted { no: 12 }, out)
 }
 
 /// The line of a refusal without a number in it.
-pub fn prints_a_refusal(alloc: Global, out: &mut Vec<u8>) -> Result<(), AllocError>
+pub fn prints_a_refusal(out: &mut Vec<u8>) -> Result<(), AllocError>
     requires { out.old.items ≡ [] }
     ensures { OnOk result (out.new.items ≡ codes "no 4 15 NothingToUndo\n") }
 {
@@ -25,7 +25,7 @@ pub fn prints_a_refusal(alloc: Global, out: &mut Vec<u8>) -> Result<(), AllocErr
         at: 4,
         why: Refusal::NothingToUndo,
     };
-    print_reply(alloc, &reply, out)
+    print_reply(&reply, out)
 }
 
 /// The line of a refused call.
@@ -37,17 +37,17 @@ pub fn prints_a_full_table(alloc: Global) -> Result<Vec<u8>, AllocError>
         table: Table::Rooms,
         limit: 64,
     };
-    print_reply(alloc, &Reply::Refused { at: 64, why }, &mut out)?;
+    print_reply(&Reply::Refused { at: 64, why }, &mut out)?;
     Ok(out)
 }
 
 /// The line of a packet behind another line.
-pub fn prints_a_packet(alloc: Global, egress: &Egress, out: &mut Vec<u8>) -> Result<(), AllocError>
+pub fn prints_a_packet(egress: &Egress, out: &mut Vec<u8>) -> Result<(), AllocError>
     requires packet { sent_of egress.now ≡ Sent.media record { version = 6; item = 1; to = record { ip = 10 ∷ 0 ∷ 0 ∷ 2 ∷ []; port = 5000 }; ssrc = 501; number = 65535; bytes = 129 ∷ 100 ∷ 15 ∷ 240 ∷ [] } }
     requires behind { out.old.items ≡ codes "ok 6\n" }
     ensures { OnOk result (out.new.items ≡ codes "ok 6\ntx 6 1 10.0.0.2:5000 501 65535 81640ff0\n") }
 {
-    print_egress(alloc, egress, out)
+    print_egress(egress, out)
 }
 
 /// A script that ended well.

@@ -7,7 +7,7 @@ use desk_rows::Codec;
 use script_text::{Fault, ParseFault, parse_desk};
 
 /// A call that undoes.
-#[tactic(auto, unfolding(script_text::specs::Calls::call_of, script_text::specs::Calls::named_call, script_text::specs::Calls::undo_of))]
+#[tactic(auto, unfolding(script_text::specs::Calls::call_of, script_text::specs::Values::values_of))]
 pub fn spells_an_undo() -> Result<Call, ParseFault>
     ensures { result ≡ Ok (Call.Undo 18) }
 {
@@ -15,7 +15,7 @@ pub fn spells_an_undo() -> Result<Call, ParseFault>
 }
 
 /// A word too many.
-#[tactic(auto, unfolding(script_text::specs::Calls::call_of, script_text::specs::Calls::named_call, script_text::specs::Calls::undo_of))]
+#[tactic(auto, unfolding(script_text::specs::Calls::call_of, script_text::specs::Values::values_of))]
 pub fn spells_a_word_too_many() -> Result<Call, ParseFault>
     ensures { result ≡ Err (ParseFault.Line 3 Fault.ExtraWord) }
 {
@@ -23,7 +23,7 @@ pub fn spells_a_word_too_many() -> Result<Call, ParseFault>
 }
 
 /// The greatest number, and one more.
-#[tactic(auto, unfolding(script_text::specs::Calls::call_of, script_text::specs::Calls::named_call, script_text::specs::Calls::undo_of))]
+#[tactic(auto, unfolding(script_text::specs::Calls::call_of, script_text::specs::Values::values_of))]
 pub fn spells_the_greatest_number() -> Result<Call, ParseFault>
     ensures { result ≡ Ok (Call.Undo 18446744073709551615) }
 {
@@ -31,7 +31,7 @@ pub fn spells_the_greatest_number() -> Result<Call, ParseFault>
 }
 
 /// One more than the greatest number.
-#[tactic(auto, unfolding(script_text::specs::Calls::call_of, script_text::specs::Calls::named_call, script_text::specs::Calls::undo_of))]
+#[tactic(auto, unfolding(script_text::specs::Calls::call_of, script_text::specs::Values::values_of))]
 pub fn spells_too_great_a_number() -> Result<Call, ParseFault>
     ensures { result ≡ Err (ParseFault.Line 2 Fault.BadNumber) }
 {
@@ -39,7 +39,7 @@ pub fn spells_too_great_a_number() -> Result<Call, ParseFault>
 }
 
 /// A room in hexadecimal.
-#[tactic(auto, unfolding(script_text::specs::Calls::call_of, script_text::specs::Calls::named_call, script_text::specs::Calls::add_room_of))]
+#[tactic(auto, unfolding(script_text::specs::Calls::call_of, script_text::specs::Values::values_of))]
 pub fn spells_no_number() -> Result<Call, ParseFault>
     ensures { result ≡ Err (ParseFault.Line 2 Fault.BadNumber) }
 {
@@ -47,7 +47,7 @@ pub fn spells_no_number() -> Result<Call, ParseFault>
 }
 
 /// Seven words of six kinds.
-#[tactic(auto, unfolding(script_text::specs::Calls::call_of, script_text::specs::Calls::named_call, script_text::specs::Calls::add_member_of, script_text::specs::Addresses::address_of, script_text::specs::Addresses::field_of))]
+#[tactic(auto, unfolding(script_text::specs::Calls::call_of, script_text::specs::Values::values_of, script_text::specs::Addresses::address_of, script_text::specs::Addresses::field_of))]
 pub fn spells_a_member() -> Result<Call, ParseFault>
     ensures { result ≡ Ok (Call.Apply (Command.AddMember (record { member = 1; room = 2; address = record { ip = 3 ∷ 4 ∷ 5 ∷ 6 ∷ []; port = 7 }; codec = Codec.L16; out_audio = 8; first_seq = 9; first_ts = 10 }))) }
 {
@@ -55,7 +55,7 @@ pub fn spells_a_member() -> Result<Call, ParseFault>
 }
 
 /// A leading zero in an address.
-#[tactic(auto, unfolding(script_text::specs::Calls::call_of, script_text::specs::Calls::named_call, script_text::specs::Calls::add_member_of, script_text::specs::Addresses::address_of, script_text::specs::Addresses::field_of))]
+#[tactic(auto, unfolding(script_text::specs::Calls::call_of, script_text::specs::Values::values_of, script_text::specs::Addresses::address_of, script_text::specs::Addresses::field_of))]
 pub fn spells_no_address() -> Result<Call, ParseFault>
     ensures { result ≡ Err (ParseFault.Line 4 Fault.BadAddress) }
 {
@@ -63,7 +63,7 @@ pub fn spells_no_address() -> Result<Call, ParseFault>
 }
 
 /// The empty text has no word.
-#[tactic(auto, unfolding(script_text::specs::Calls::call_of))]
+#[tactic(auto, unfolding(script_text::specs::Calls::call_of, script_text::specs::Values::values_of))]
 pub fn spells_nothing() -> Result<Call, ParseFault>
     ensures { result ≡ Err (ParseFault.Line 1 Fault.MissingWord) }
 {

@@ -1,9 +1,10 @@
 use Rattle.std.proofs.Common.{rules}
 use Rattle.script_text.specs.Output.{outcome_of}
-use Rattle.script_text.specs.Requests.{request_of, words_request, desk_of, head_of}
-use Rattle.script_text.specs.Calls.{call_of, named_call, add_room_of}
+use Rattle.script_text.specs.Requests.{request_of, words_request}
+use Rattle.script_text.specs.Calls.{call_of}
+use Rattle.script_text.specs.Values.{values_of}
 use Rattle.worked_bridge.proofs.answering.a_room_of_no_number.Goals as goal
 
 pub returns : goal.returns
-unfolding outcome_of request_of words_request desk_of head_of call_of named_call add_room_of
+unfolding outcome_of request_of words_request call_of values_of
 returns c = search rules

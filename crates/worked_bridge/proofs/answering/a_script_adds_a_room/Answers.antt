@@ -4,10 +4,11 @@ use Rattle.desk_edit.specs.Commands.{desk_after}
 use Rattle.desk_edit.specs.Calls.{after_call}
 use Rattle.desk_edit.specs.Refusals.{refused, room_refused}
 use Rattle.script_text.specs.Output.{outcome_of}
-use Rattle.script_text.specs.Requests.{request_of, words_request, desk_of, head_of}
-use Rattle.script_text.specs.Calls.{call_of, named_call, add_room_of}
+use Rattle.script_text.specs.Requests.{request_of, words_request}
+use Rattle.script_text.specs.Calls.{call_of}
+use Rattle.script_text.specs.Values.{values_of}
 use Rattle.worked_bridge.proofs.answering.a_script_adds_a_room.Goals as goal
 
 pub returns : goal.returns
-unfolding digits desk_after after_call refused room_refused outcome_of request_of words_request desk_of head_of call_of named_call add_room_of
+unfolding digits desk_after after_call refused room_refused outcome_of request_of words_request call_of values_of
 returns c = search rules
