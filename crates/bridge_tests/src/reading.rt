@@ -1,6 +1,6 @@
 //! Readers that give little at a time, are interrupted, and fail.
 
-use script_text::{RunFault, run};
+use script_text::{Reader, RunFault, run};
 use std::io::{self, ErrorKind, Read};
 use std::test::Fail;
 
@@ -47,11 +47,11 @@ fn octets_may_come_one_by_one(rt: HostRuntime) -> Result<(), Fail> {
         ),
     ];
     for (fails, want, text) in cases {
-        let mut reader = Slow {
+        let mut reader = Reader(Slow {
             rest: b"desk 0 add-room 1\r\ndesk 0 add-room 2",
             interrupted: false,
             fails,
-        };
+        });
         let mut out = Vec::new(rt.alloc());
         let answer = run(rt.alloc(), &mut reader, &mut out);
         assert!(rt; answer == want && out.as_slice() == text.as_bytes());

@@ -1,6 +1,6 @@
 //! Writers that take little at a time, are interrupted, and fail.
 
-use script_text::{RunFault, run};
+use script_text::{RunFault, Writer, run};
 use std::alloc::Global;
 use std::io::{self, ErrorKind, Write};
 use std::test::Fail;
@@ -44,14 +44,14 @@ const TEXT: &str = "ok 1\nok 2\n";
 /// Whether two replies end so where the writer has room for so many octets, all of which are used.
 fn ends(alloc: Global, room: usize, fails: Option<ErrorKind>, want: Result<(), RunFault>) -> bool {
     let mut reader = b"desk 0 add-room 1\ndesk 0 add-room 2\n".as_slice();
-    let mut writer = Narrow {
+    let mut writer = Writer(Narrow {
         taken: Vec::new(alloc),
         room,
         interrupted: false,
         fails,
-    };
+    });
     let answer = run(alloc, &mut reader, &mut writer);
-    answer == want && TEXT.as_bytes().get(..room) == Some(writer.taken.as_slice())
+    answer == want && TEXT.as_bytes().get(..room) == Some(writer.0.taken.as_slice())
 }
 
 /// A writer that tells want of memory between two lines ends the run so; within a line it has failed.
