@@ -1,6 +1,8 @@
 -- The written form of packets, one behind another.
-use Rattle.std.proofs.Common.{◌≡◌, ◌+◌, List, ◌∷◌, ◌++◌, length, ap, ◌∙◌, length-append, arith, inl, inr, subst, sym}
+use Rattle.std.proofs.Common.{◌≡◌, ℕ, ◌+◌, List, [], ◌∷◌, ◌++◌, length, ap, ◌∙◌, append_assoc, length-append, arith, inl, inr, subst, sym}
 use Rattle.std.proofs.lemmas.List.Concat.{flat_map-cons}
+use Rattle.std.proofs.Math.ListN.{set}
+use Rattle.std.proofs.lemmas.List.{set_at}
 use Rattle.std.specs.List.{AllByRecursion}
 use Rattle.rtcp_codec.specs.Description.{filled}
 use Rattle.rtcp_codec.specs.Packet.{Packet, fields, written_packet}
@@ -13,6 +15,18 @@ written_left l p ps e = ap written e ∙ flat_map-cons written_packet p ps
 
 pub written_length : (l : List Packet) (p : Packet) (ps : List Packet) → l ≡ p ∷ ps → length (written l) ≡ (4 + length (filled (fields p))) + length (written ps)
 written_length l p ps e = ap length (written_left l p ps e) ∙ length-append (written_packet p) (written ps) ∙ omega arith
+
+pub written_size : (l : List Packet) (p : Packet) (ps : List Packet) → l ≡ p ∷ ps → length (written l) ≡ length (written_packet p) + length (written ps)
+written_size l p ps e = ap length (written_left l p ps e) ∙ length-append (written_packet p) (written ps)
+
+-- a header whose length was put in behind the body
+pub headed : (old body : List ℕ) (a t h l n : ℕ) → length old ≡ n → set (set ((old ++ a ∷ t ∷ 0 ∷ 0 ∷ []) ++ body) (n + 2) h) (n + 3) l ≡ old ++ (a ∷ t ∷ h ∷ l ∷ body)
+headed old body a t h l n len =
+    let before : (old ++ a ∷ t ∷ 0 ∷ 0 ∷ []) ++ body ≡ (old ++ a ∷ t ∷ []) ++ 0 ∷ 0 ∷ body = append_assoc old (a ∷ t ∷ 0 ∷ 0 ∷ []) body ∙ sym (append_assoc old (a ∷ t ∷ []) (0 ∷ 0 ∷ body)) in
+    let first : set ((old ++ a ∷ t ∷ []) ++ 0 ∷ 0 ∷ body) (n + 2) h ≡ (old ++ a ∷ t ∷ []) ++ h ∷ 0 ∷ body = set_at (old ++ a ∷ t ∷ []) 0 (0 ∷ body) h (n + 2) (omega (arith, length-append old (a ∷ t ∷ []))) in
+    let between : (old ++ a ∷ t ∷ []) ++ h ∷ 0 ∷ body ≡ (old ++ a ∷ t ∷ h ∷ []) ++ 0 ∷ body = append_assoc old (a ∷ t ∷ []) (h ∷ 0 ∷ body) ∙ sym (append_assoc old (a ∷ t ∷ h ∷ []) (0 ∷ body)) in
+    let second : set ((old ++ a ∷ t ∷ h ∷ []) ++ 0 ∷ body) (n + 3) l ≡ (old ++ a ∷ t ∷ h ∷ []) ++ l ∷ body = set_at (old ++ a ∷ t ∷ h ∷ []) 0 body l (n + 3) (omega (arith, length-append old (a ∷ t ∷ h ∷ []))) in
+    ap (λ (x : List ℕ). set (set x (n + 2) h) (n + 3) l) before ∙ ap (λ (x : List ℕ). set x (n + 3) l) (first ∙ between) ∙ second ∙ append_assoc old (a ∷ t ∷ h ∷ []) (l ∷ body)
 
 pub all_left : (P : Packet → Type 0) (l : List Packet) (p : Packet) (ps : List Packet) → l ≡ p ∷ ps → P p → AllByRecursion P ps → AllByRecursion P l
 all_left P l p ps e h k = subst (AllByRecursion P) (sym e) (h, k)

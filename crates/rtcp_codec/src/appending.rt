@@ -1,6 +1,6 @@
 //! Appending octets where there is room for them.
 
-ghost use Rattle.std.specs.Prelude.{◌≡◌, ◌+◌, ◌-◌, ◌%◌, ◌≤◌, ◌++◌, length, replicate, vec_len, vec_capacity};
+ghost use Rattle.std.specs.Prelude.{◌≡◌, ◌+◌, ◌-◌, ◌%◌, ◌<◌, ◌≤◌, ◌++◌, length, replicate, slice_set, vec_len, vec_capacity};
 
 use std::alloc::Allocator;
 
@@ -11,6 +11,7 @@ pub(crate) fn append<A: Allocator>(octets: &[u8], out: &mut Vec<u8, A>)
     ensures len { vec_len out.new ≡ vec_len out.old + length octets.now }
     ensures capacity { vec_capacity out.old ≤ vec_capacity out.new }
 {
+    // There is room, so this wants no memory and can't fail.
     let _ = out.extend_from_slice(octets);
 }
 
@@ -27,4 +28,14 @@ pub(crate) fn append_fill<A: Allocator>(size: usize, out: &mut Vec<u8, A>)
         3 => append(&[0], out),
         _ => {}
     }
+}
+
+/// Puts an octet in the place of another.
+pub(crate) fn put<A: Allocator>(at: usize, octet: u8, out: &mut Vec<u8, A>)
+    requires { at < vec_len out.old }
+    ensures items { out.new.items ≡ slice_set out.old.items at octet }
+    ensures len { vec_len out.new ≡ vec_len out.old }
+    ensures capacity { vec_capacity out.old ≤ vec_capacity out.new }
+{
+    out[at] = octet;
 }

@@ -54,7 +54,7 @@ fn reason_from<A: Allocator>(alloc: A, octets: &[u8]) -> Result<Option<Vec<u8, A
     Ok(Some(Vec::from_slice(alloc, reason)?))
 }
 
-/// The leave that this body is.
+/// The BYE in this body.
 fn bye_from<A: Allocator + Copy>(alloc: A, count: u8, body: &[u8]) -> Result<Rtcp<A>, AllocError>
     requires { IsWholeBody kinds.Bye count body.now }
     ensures { IfOk result (λ p. IsOf bye count body.now (packet_of p)) }
@@ -64,7 +64,7 @@ fn bye_from<A: Allocator + Copy>(alloc: A, count: u8, body: &[u8]) -> Result<Rtc
     Ok(Rtcp::Bye(Bye { ssrcs, reason }))
 }
 
-/// The packet of an application that this body is.
+/// The APP in this body.
 fn app_from<A: Allocator>(alloc: A, subtype: u8, body: &[u8]) -> Result<Rtcp<A>, AllocError>
     requires { IsWholeBody kinds.App subtype body.now }
     ensures { IfOk result (λ p. IsOf app subtype body.now (packet_of p)) }
@@ -110,7 +110,7 @@ fn words_from<A: Allocator>(alloc: A, octets: &[u8]) -> Result<Vec<NackWord, A>,
     Ok(words)
 }
 
-/// The generic NACK that this body is.
+/// The generic NACK in this body.
 fn nack_from<A: Allocator>(alloc: A, body: &[u8]) -> Result<Rtcp<A>, AllocError>
     requires words { length body.now % 4 ≡ 0 }
     requires whole { IsWholeBody kinds.Nack nack_format body.now }
@@ -126,7 +126,7 @@ fn nack_from<A: Allocator>(alloc: A, body: &[u8]) -> Result<Rtcp<A>, AllocError>
     }))
 }
 
-/// The picture loss indication that this body is.
+/// The PLI in this body.
 fn pli_from(body: &[u8]) -> Pli
     requires { IsWholeBody kinds.Pli pli_format body.now }
     ensures { IsOf psfb pli_format body.now (PliPacket result.sender result.media) }
@@ -136,7 +136,7 @@ fn pli_from(body: &[u8]) -> Pli
     Pli { sender, media }
 }
 
-/// The source descriptions that this body is.
+/// The source descriptions in this body.
 fn sdes_from<A: Allocator + Copy>(alloc: A, count: u8, body: &[u8]) -> Result<Rtcp<A>, AllocError>
     requires words { length body.now % 4 ≡ 0 }
     requires whole { IsWholeBody kinds.Sdes count body.now }
@@ -145,7 +145,7 @@ fn sdes_from<A: Allocator + Copy>(alloc: A, count: u8, body: &[u8]) -> Result<Rt
     Ok(Rtcp::Sdes(chunks_from(alloc, count, body)?))
 }
 
-/// The packet of this type and count, or format, that this body is.
+/// The packet of this type and count, or format, in this body, which is whole.
 pub(crate) fn packet_from<A: Allocator + Copy>(
     alloc: A,
     pt: u8,

@@ -153,8 +153,7 @@ fn app_size<A: Allocator>(app: &App<A>) -> Option<usize>
     ensures none { IfNone result (¬ ((length app.now.content.items % 4 ≡ 0) × (4 + (length app.now.name + length app.now.content.items) ≤ most_octets))) }
     ensures most { IfSome result (λ n. n ≤ most_octets) }
 {
-    let name = app.name;
-    whole_words(4 + name.len(), &app.content)
+    whole_words(4 + app.name.len(), &app.content)
 }
 
 /// How many octets there are behind so many, unless they aren't whole words or are too many.
@@ -229,7 +228,8 @@ fn has_chunks<A: Allocator>(chunks: &[SdesChunk<A>]) -> bool
     true
 }
 
-/// Whether each value means on the wire what it says.
+/// Whether each value reads back as it is: losses of 24 bits, items that aren't of type 0, an
+/// `Other` that is of no other kind.
 fn has_meaning<A: Allocator>(packet: &Rtcp<A>) -> bool
     ensures good { result ≡ true → MeaningFits (packet_of packet.now) }
     ensures bad { result ≡ false → ¬ (MeaningFits (packet_of packet.now)) }
@@ -244,7 +244,7 @@ fn has_meaning<A: Allocator>(packet: &Rtcp<A>) -> bool
 }
 
 /// How many octets the body of the written packet has, or the packet's first fault.
-pub(crate) fn packet_size<A: Allocator>(packet: &Rtcp<A>) -> Result<usize, WriteFault>
+fn packet_size<A: Allocator>(packet: &Rtcp<A>) -> Result<usize, WriteFault>
     ensures writable { IfOk result (λ n. IsWritable (packet_of packet.now)) }
     ensures size { IfOk result (λ n. n ≡ length (filled (fields (packet_of packet.now)))) }
     ensures most { IfOk result (λ n. n ≤ most_octets) }

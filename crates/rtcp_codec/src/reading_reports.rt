@@ -97,7 +97,7 @@ fn blocks_from<A: Allocator>(
     Ok(blocks)
 }
 
-/// The sender report that this body is.
+/// The sender report in this body.
 pub(crate) fn sender_from<A: Allocator>(
     alloc: A,
     count: u8,
@@ -122,7 +122,7 @@ pub(crate) fn sender_from<A: Allocator>(
     }))
 }
 
-/// The receiver report that this body is.
+/// The receiver report in this body.
 pub(crate) fn receiver_from<A: Allocator>(
     alloc: A,
     count: u8,

@@ -12,8 +12,8 @@ ghost use Rattle.rtcp_codec.specs.Compound.{written, IsCompound};
 ghost use Rattle.rtcp_codec.specs.WriteFault.{IsWritable, AreWritable, HasWriteFault};
 ghost use Rattle.rtcp_codec.specs.View.{packet_of, packets_of};
 
-use crate::appending::{append, append_fill};
-use crate::checking::{compound_size, packet_size};
+use crate::appending::{append, append_fill, put};
+use crate::checking::compound_size;
 use crate::fault::WriteFault;
 use crate::kind::{APP, BYE, NACK_FORMAT, PLI_FORMAT, PSFB, RR, RTPFB, SDES, SR};
 use crate::nack::NackWord;
@@ -104,6 +104,20 @@ fn append_fields<A: Allocator, B: Allocator>(packet: &Rtcp<A>, out: &mut Vec<u8,
     }
 }
 
+/// Appends the fields of a packet and their fill. There is room for them.
+fn append_body<A: Allocator, B: Allocator>(packet: &Rtcp<A>, out: &mut Vec<u8, B>)
+    requires writable { IsWritable (packet_of packet.now) }
+    requires room { vec_len out.old + length (filled (fields (packet_of packet.now))) ≤ vec_capacity out.old }
+    ensures items { out.new.items ≡ out.old.items ++ filled (fields (packet_of packet.now)) }
+    ensures len { vec_len out.new ≡ vec_len out.old + length (filled (fields (packet_of packet.now))) }
+    ensures capacity { vec_capacity out.old ≤ vec_capacity out.new }
+    ensures types { type_of (packet_of packet.now) < 2 ^ 8 → FitsTypes (packet_of packet.now) }
+{
+    let before = out.len();
+    append_fields(packet, out);
+    append_fill(out.len() - before, out);
+}
+
 /// The packet type.
 fn type_of<A: Allocator>(packet: &Rtcp<A>) -> u8
     ensures { result ≡ type_of (packet_of packet.now) }
@@ -138,7 +152,7 @@ fn count_of<A: Allocator>(packet: &Rtcp<A>) -> u8
     }
 }
 
-/// Appends a packet whose body has so many octets, without padding. There is room for it.
+/// Appends a packet without padding. There is room for it.
 ///
 /// ```text
 ///  0                   1                   2                   3
@@ -148,31 +162,21 @@ fn count_of<A: Allocator>(packet: &Rtcp<A>) -> u8
 /// +-+-+-+-+-+-+-+-+-+-+-+-+-+-+-+-+-+-+-+-+-+-+-+-+-+-+-+-+-+-+-+-+
 /// |                             body                              |
 /// ```
-fn append_packet<A: Allocator, B: Allocator>(packet: &Rtcp<A>, size: usize, out: &mut Vec<u8, B>)
+fn append_packet<A: Allocator, B: Allocator>(packet: &Rtcp<A>, out: &mut Vec<u8, B>)
     requires writable { IsWritable (packet_of packet.now) }
-    requires size { size ≡ length (filled (fields (packet_of packet.now))) }
-    requires room { vec_len out.old + (4 + size) ≤ vec_capacity out.old }
+    requires room { vec_len out.old + length (written_packet (packet_of packet.now)) ≤ vec_capacity out.old }
     ensures items { out.new.items ≡ out.old.items ++ written_packet (packet_of packet.now) }
-    ensures len { vec_len out.new ≡ vec_len out.old + (4 + size) }
+    ensures len { vec_len out.new ≡ vec_len out.old + length (written_packet (packet_of packet.now)) }
     ensures capacity { vec_capacity out.old ≤ vec_capacity out.new }
     ensures types { FitsTypes (packet_of packet.now) }
 {
-    let [high, low] = ((size / 4) as u16).to_be_bytes();
-    append(&[128 + count_of(packet), type_of(packet), high, low], out);
-    let before = out.len();
-    append_fields(packet, out);
-    append_fill(out.len() - before, out);
-}
-
-/// How many octets the body of a packet that can be written has.
-fn writable_size<A: Allocator>(packet: &Rtcp<A>) -> usize
-    requires { IsWritable (packet_of packet.now) }
-    ensures { result ≡ length (filled (fields (packet_of packet.now))) }
-{
-    match packet_size(packet) {
-        Ok(size) => size,
-        Err(_) => unreachable!(),
-    }
+    let start = out.len();
+    append(&[128 + count_of(packet), type_of(packet), 0, 0], out);
+    append_body(packet, out);
+    // How long the body is shows once it stands there.
+    let [high, low] = (((out.len() - start - 4) / 4) as u16).to_be_bytes();
+    put(start + 2, high, out);
+    put(start + 3, low, out);
 }
 
 /// Appends packets. There is room for them.
@@ -183,7 +187,7 @@ fn append_packets<A: Allocator, B: Allocator>(packets: &[Rtcp<A>], out: &mut Vec
     ensures types { AllByRecursion FitsTypes (packets_of packets.now) }
 {
     for packet in packets {
-        append_packet(packet, writable_size(packet), out);
+        append_packet(packet, out);
     }
 }
 

@@ -68,6 +68,7 @@ fn append<A: Allocator>(octets: &[u8], out: &mut Vec<u8, A>)
     ensures len { vec_len out.new ≡ vec_len out.old + length octets.now }
     ensures capacity { vec_capacity out.old ≤ vec_capacity out.new }
 {
+    // There is room, so this wants no memory and can't fail.
     let _ = out.extend_from_slice(octets);
 }
 
