@@ -26,4 +26,4 @@ pub use self::nack::{Nack, NackWord, nack_numbers, nack_words};
 pub use self::packet::{App, Bye, Other, Pli, Rtcp};
 pub use self::reading::read_compound;
 pub use self::report::{ReceiverReport, ReportBlock, SenderReport};
-pub use self::writing::write_compound;
+pub use self::writing::{write_compound, written_is_compound};

@@ -1,13 +1,13 @@
 //! Writing compounds.
 
-ghost use Rattle.std.specs.Prelude.{◌≡◌, ◌+◌, ◌^◌, ◌<◌, ◌≤◌, ◌++◌, length, IfSome, IfErr, ◌⊎◌, OnOk, OnErr, vec_len, vec_capacity};
+ghost use Rattle.std.specs.Prelude.{◌≡◌, List, ◌+◌, ◌^◌, ◌<◌, ◌≤◌, ◌++◌, length, IfSome, IfErr, ◌⊎◌, OnOk, OnErr, vec_len, vec_capacity};
 ghost use Rattle.std.specs.Option.{option_map};
 ghost use Rattle.std.specs.List.{flat_map, AllByRecursion};
 ghost use Rattle.rtp_codec.specs.Packet.{number_octets};
 ghost use Rattle.rtcp_codec.specs.declared.fault.WriteFault.TheVariants as write_faults;
 ghost use Rattle.rtcp_codec.specs.Description.{filled, most_text};
 ghost use Rattle.rtcp_codec.specs.Nack.{word_octets, FitsWord};
-ghost use Rattle.rtcp_codec.specs.Packet.{FitsTypes, CountFits, most_count, type_of, count_of, fields, reason_octets, written_packet};
+ghost use Rattle.rtcp_codec.specs.Packet.{Packet, FitsTypes, CountFits, most_count, type_of, count_of, fields, reason_octets, written_packet};
 ghost use Rattle.rtcp_codec.specs.Compound.{written, IsCompound};
 ghost use Rattle.rtcp_codec.specs.WriteFault.{IsWritable, AreWritable, HasWriteFault};
 ghost use Rattle.rtcp_codec.specs.View.{packet_of, packets_of};
@@ -220,3 +220,9 @@ pub fn write_compound<A: Allocator, B: Allocator>(
     append_packets(packets, out);
     Ok(())
 }
+
+/// What `write_compound` appends is the compound of its packets, so `read_compound` reads it back
+/// as them.
+pub fn written_is_compound()
+    ensures { (ps : List Packet) → AreWritable ps → AllByRecursion FitsTypes ps → IsCompound ps (written ps) }
+{}

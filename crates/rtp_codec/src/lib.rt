@@ -15,4 +15,4 @@ pub use self::fault::RtpFault;
 pub use self::reading::read;
 pub use self::sequence::{seq_distance, seq_next};
 pub use self::view::RtpView;
-pub use self::writing::{Header, write};
+pub use self::writing::{Header, write, written_is_packet};

@@ -1,6 +1,6 @@
 //! Writing RTP packets.
 
-ghost use Rattle.std.specs.Prelude.{◌≡◌, ◌+◌, ◌*◌, ◌<◌, ◌≤◌, ◌++◌, length, false, OnOk, OnErr, vec_len, vec_capacity};
+ghost use Rattle.std.specs.Prelude.{◌≡◌, ℕ, ◌+◌, ◌*◌, ◌<◌, ◌≤◌, List, ◌++◌, length, false, OnOk, OnErr, vec_len, vec_capacity};
 ghost use Rattle.rtp_codec.specs.Packet.{written, fixed_header, plain, IsPacket, FitsHeader, number_octets, size, most_pt, most_csrcs};
 
 use std::alloc::{AllocError, Allocator};
@@ -110,3 +110,8 @@ pub fn write<A: Allocator>(
     append(payload, out);
     Ok(())
 }
+
+/// What `write` appends is the packet of its parts, so `read` reads it back as them.
+pub fn written_is_packet()
+    ensures { (header : Header) (csrcs payload : List ℕ) → FitsHeader header → length csrcs ≤ most_csrcs → IsPacket (plain header csrcs payload) (written header csrcs payload) }
+{}

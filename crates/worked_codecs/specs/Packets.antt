@@ -17,7 +17,7 @@ from_101 = plain (record { marker = false; pt = 100; seq = 65535; ts = 1000; ssr
 abbrev pub extended : Packet
 extended = record {
   header = record { marker = false; pt = 100; seq = 1; ts = 2; ssrc = 3 };
-  csrcs = [];
+  csrc_octets = [];
   extension = Some (0xbede, 1 ∷ 2 ∷ 3 ∷ 4 ∷ []);
   payload = 170 ∷ [];
   padding = 2;
@@ -27,7 +27,7 @@ extended = record {
 abbrev pub padding_alone : Packet
 padding_alone = record {
   header = record { marker = false; pt = 100; seq = 1; ts = 2; ssrc = 3 };
-  csrcs = [];
+  csrc_octets = [];
   extension = None;
   payload = [];
   padding = 1;

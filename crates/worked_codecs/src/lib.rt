@@ -4,6 +4,7 @@
 
 pub mod classes;
 pub mod distances;
+pub mod later_faults;
 pub mod nacking;
 pub mod reading_compound_faults;
 pub mod reading_compounds;

@@ -1,5 +1,5 @@
 //! The words of NACKs, and the numbers that they name.
-#![tactic(auto, unfolding(rtcp_codec::specs::Nack::numbers_up_to))]
+#![tactic(auto, unfolding(rtcp_codec::specs::Nack::numbers_of))]
 
 ghost use Rattle.std.specs.Prelude.{◌≡◌, [], ◌∷◌, ◌++◌, IfOk, IsOk};
 ghost use Rattle.std.specs.List.{range_with_len};

@@ -1,8 +1,6 @@
 //! RTCP compounds that are read, and what was written read back. Only memory may be wanted.
 
 ghost use Rattle.std.specs.Prelude.{◌≡◌, IfSome, MatchResult};
-ghost use Rattle.std.specs.List.{AllByRecursion};
-ghost use Rattle.rtcp_codec.specs.Packet.{FitsFields};
 ghost use Rattle.rtcp_codec.specs.View.{packets_of};
 ghost use Rattle.worked_codecs.specs.Compounds as compounds;
 
@@ -90,7 +88,7 @@ pub fn reads_empty_reason(alloc: Global) -> Result<Vec<Rtcp>, RtcpFault>
     )
 }
 
-/// A report, and what an compounds.application says.
+/// A report, and what an application says.
 pub fn reads_application(alloc: Global) -> Result<Vec<Rtcp>, RtcpFault>
     ensures { MatchResult result (λ v. packets_of v.items ≡ compounds.application) (λ f. f ≡ RtcpFault.OutOfMemory) }
 {
@@ -135,11 +133,9 @@ pub fn reads_other_format(alloc: Global) -> Result<Vec<Rtcp>, RtcpFault>
 
 /// What was written reads back as the same packets.
 pub fn what_was_written_reads_back(alloc: Global, packets: &[Rtcp]) -> Option<Vec<Rtcp>>
-    requires { AllByRecursion FitsFields (packets_of packets.now) }
     ensures { IfSome result (λ v. packets_of v.items ≡ packets_of packets.now) }
 {
     let mut out = Vec::new(alloc);
     write_compound(packets, &mut out).ok()?;
-    written_is_compound();
     read_compound(alloc, &out).ok()
 }

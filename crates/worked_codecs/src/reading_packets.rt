@@ -55,11 +55,6 @@ pub fn what_was_written_reads_back<'a>(
     requires out { out.old.items ≡ [] }
     ensures { IfSome result (λ v. packet_of v ≡ plain header.now csrcs.now payload.now) }
 {
-    // Numbers that are read are known to fit their types.
-    let _seq = header.seq;
-    let _ts = header.ts;
-    let _ssrc = header.ssrc;
     write(header, csrcs, payload, out).ok()?;
-    written_is_packet();
     read(out).ok()
 }

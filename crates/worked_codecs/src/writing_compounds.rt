@@ -69,7 +69,7 @@ pub fn writes_empty_reason(packets: &[Rtcp], out: &mut Vec<u8>) -> Result<(), Wr
     write_compound(packets, out)
 }
 
-/// A report, and what an compounds.application says.
+/// A report, and what an application says.
 pub fn writes_application(packets: &[Rtcp], out: &mut Vec<u8>) -> Result<(), WriteFault>
     requires packets { packets_of packets.now ≡ compounds.application }
     requires out { out.old.items ≡ 7 ∷ [] }

@@ -4,7 +4,6 @@ use Rattle.worked_codecs.proofs.reading_packets.an_extension_and_padding.Goals a
 
 pub returns : goal.returns
 returns c = c.read.ensures.only extended (record {
-  csrc_count = 0;
   padding_octets = 7 ∷ 2 ∷ [];
   parts = refl;
   header = search rules;

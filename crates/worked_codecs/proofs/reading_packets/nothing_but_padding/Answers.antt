@@ -4,7 +4,6 @@ use Rattle.worked_codecs.proofs.reading_packets.nothing_but_padding.Goals as goa
 
 pub returns : goal.returns
 returns c = c.read.ensures.only padding_alone (record {
-  csrc_count = 0;
   padding_octets = 1 ∷ [];
   parts = refl;
   header = search rules;
