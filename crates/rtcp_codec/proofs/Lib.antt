@@ -6,6 +6,7 @@ pub mod Fitting
 pub mod Framing
 pub mod Lists
 pub mod Words
+pub mod PackedOnce
 pub mod Packing
 pub mod WrittenLemmas
 pub mod Unique

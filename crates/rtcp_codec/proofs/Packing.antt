@@ -21,7 +21,7 @@ TakesUpTo n pid blp (x ∷ xs) = All (λ m. distance pid m < distance pid x) (nu
 All-last : (P : ℕ → Type 0) (xs : List ℕ) (y : ℕ) → All P (xs ++ y ∷ []) → P y
 All-last P xs y h = subst P (get_or-append_seam xs y [] y) (All-get_or P (xs ++ y ∷ []) (length xs) y (omega (arith, length-append xs (y ∷ []))) h)
 
-distance-ahead : (i pid : ℕ) → i ≤ 16 → pid < 2 ^ 16 → distance pid ((pid + i) % 2 ^ 16) ≡ i
+pub distance-ahead : (i pid : ℕ) → i ≤ 16 → pid < 2 ^ 16 → distance pid ((pid + i) % 2 ^ 16) ≡ i
 distance-ahead i pid few fits = omega arith
 
 at_distance : (i pid x : ℕ) → i ≤ 16 → pid < 2 ^ 16 → x < 2 ^ 16 → distance pid x ≡ i → (pid + i) % 2 ^ 16 ≡ x
@@ -105,7 +105,7 @@ first_apart base pid blp q tail fb fit h takes =
     let near : distance pid q ≤ 16 → ⊥ = λ le. takes (ahead_of_all base pid q _ tail fb fit h, le) in
     omega (arith, near)
 
-begins : (w : NackWord) (ws : List NackWord) → Begin (w.pid ∷ []) (numbers_named (w ∷ ws))
+pub begins : (w : NackWord) (ws : List NackWord) → Begin (w.pid ∷ []) (numbers_named (w ∷ ws))
 unfolding numbers_of
 begins w ws = (_, flat_map-cons (λ (x : NackWord). numbers_of x.pid x.blp) w ws)
 
