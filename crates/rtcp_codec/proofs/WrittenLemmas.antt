@@ -19,6 +19,10 @@ written_length l p ps e = ap length (written_left l p ps e) ∙ length-append (w
 pub written_size : (l : List Packet) (p : Packet) (ps : List Packet) → l ≡ p ∷ ps → length (written l) ≡ length (written_packet p) + length (written ps)
 written_size l p ps e = ap length (written_left l p ps e) ∙ length-append (written_packet p) (written ps)
 
+-- two texts appended in turn
+pub appended : (old front after back whole new : List ℕ) → after ≡ old ++ front → new ≡ after ++ back → front ++ back ≡ whole → new ≡ old ++ whole
+appended old front after back whole new e f g = f ∙ ap (λ (l : List ℕ). l ++ back) e ∙ append_assoc old front back ∙ ap (λ (l : List ℕ). old ++ l) g
+
 -- a header whose length was put in behind the body
 pub headed : (old body : List ℕ) (a t h l n : ℕ) → length old ≡ n → set (set ((old ++ a ∷ t ∷ 0 ∷ 0 ∷ []) ++ body) (n + 2) h) (n + 3) l ≡ old ++ (a ∷ t ∷ h ∷ l ∷ body)
 headed old body a t h l n len =

@@ -1,5 +1,5 @@
 -- The length stands in the header once the body is there.
-use Rattle.std.proofs.Common.{◌≡◌, ◌+◌, ◌-◌, ◌*◌, ◌/◌, ◌∙◌, ℕ, length, get_or, refl, arith}
+use Rattle.std.proofs.Common.{◌≡◌, ◌+◌, ◌-◌, ◌/◌, ◌∙◌, length, get_or, refl, arith}
 use Rattle.rtcp_codec.specs.Description.{filled}
 use Rattle.rtcp_codec.specs.Packet.{fields}
 use Rattle.rtcp_codec.specs.View.{packet_of}
