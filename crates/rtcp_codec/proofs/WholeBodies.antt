@@ -1,5 +1,5 @@
 -- A whole body is the body of a packet.
-use Rattle.std.proofs.Common.{◌≡◌, Bool, true, ℕ, zero, suc, ◌+◌, ◌-◌, ◌*◌, ◌/◌, ◌%◌, ◌^◌, ◌<◌, ◌≤◌, List, [], ◌∷◌, ◌++◌, length, get_or, take, drop, Some, None, ℤ, pos, negsuc, refl, sym, ap, subst, ◌∙◌, append_assoc, arith, inl, inr}
+use Rattle.std.proofs.Common.{◌≡◌, Bool, true, ℕ, zero, suc, ◌+◌, ◌-◌, ◌*◌, ◌/◌, ◌%◌, ◌^◌, ◌<◌, ◌≤◌, List, [], ◌∷◌, ◌++◌, length, get_or, take, drop, Some, None, ℤ, pos, negsuc, refl, sym, ap, subst, ◌∙◌, append_assoc, arith, inl, inr, false, length-append}
 use Rattle.std.specs.Int.{w16, w32, w64, from_be_bytes, to_be_bytes}
 use Rattle.std.specs.List.{flat_map, AllByRecursion}
 use Rattle.std.proofs.lemmas.Bool.{cases_lt}
@@ -8,11 +8,13 @@ use Rattle.std.proofs.lemmas.List.{append-nil, take-append-drop, length-take, le
 use Rattle.std.proofs.lemmas.Int.{ints}
 use Rattle.std.proofs.lemmas.Nat.{be_bytes_2, be_bytes_4, be_bytes_8}
 use Rattle.rtp_codec.specs.Packet.{number_octets}
+use Rattle.std.specs.Prelude.{◌⊎◌}
+use Rattle.rtcp_codec.specs.declared.fault.RtcpFault.TheVariants.{Padding, Body}
 use Rattle.rtcp_codec.specs.declared.kind.Kind.{Kind}
 use Rattle.rtcp_codec.specs.declared.kind.Kind.TheVariants as kinds
 use Rattle.rtcp_codec.specs.declared.nack.NackWord.{NackWord}
 use Rattle.rtcp_codec.specs.declared.report.ReportBlock.{ReportBlock}
-use Rattle.rtcp_codec.specs.Compound.{size, padding_of, packet_at, body_of, IsWholeReason, IsWholeBody}
+use Rattle.rtcp_codec.specs.Compound.{is_padded, count, kind_at, size, padding_of, packet_at, body_of, IsBadPadding, Case, IsFirstOf, in_order, IsWholeReason, IsWholeBody}
 use Rattle.rtcp_codec.specs.Kind.{kind_of}
 use Rattle.rtcp_codec.specs.Nack.{word_octets, FitsWord}
 use Rattle.rtcp_codec.specs.Packet.{Packet, Sender, Receiver, Sdes, Bye, App, Nack, Pli, Other}
@@ -337,3 +339,35 @@ judged_packet first at_end octets packet rest body bytes head at parts end good 
     let inside : IsBytes body = subst IsBytes (sym body-is) (IsBytes-take (length packet - padding_of packet - 4) (drop 4 packet) (IsBytes-drop 4 packet within)) in
     let b = some_body (get_or packet 1 0) (get_or packet 0 0 % 32) body (within 1) inside (body_words first at_end octets packet body head at good body-is) whole in
     (b.0, takes_packet first at_end octets packet rest body (padding_of packet) b.0 bytes head at parts end refl good body-is b.1)
+
+-- ---- the first fault of a packet that is all there
+
+front_size : (first : Bool) (octets packet rest : List ℕ) → IsHead first octets → packet ≡ packet_at octets → octets ≡ packet ++ rest → length octets ≡ size octets + length rest
+front_size first octets packet rest head at parts = omega (arith, ap length at, length-take (size octets) octets, head.whole, ap length parts, length-append packet rest)
+
+pub padding_first : (first at_end : Bool) (octets packet rest : List ℕ) → IsHead first octets → packet ≡ packet_at octets → octets ≡ packet ++ rest → (at_end ≡ false → 0 < length rest) → (is_padded packet ≡ true) × ((at_end ≡ false) ⊎ IsBadPadding (padding_of packet) packet) → IsFirstOf in_order first Padding octets
+padding_first first at_end octets packet rest head at parts more bad =
+    let len = front_size first octets packet rest head at parts in
+    let found : Case first Padding octets = elim bad.1 [
+      | inl last ↦ (sym (ap is_padded at) ∙ bad.0, inl (omega (arith, len, more last)))
+      | inr b ↦ (sym (ap is_padded at) ∙ bad.0, inr (subst (λ (l : List ℕ). IsBadPadding (padding_of l) l) at b))
+    ] in
+    inr (λ h. omega (arith, h.1, head.long), inr (λ h. h.1 head.is_version, inr (λ h. h.1 (head.report h.0), inr (λ h. omega (arith, h, head.whole), inl (found, refl)))))
+
+good_padding : (n : ℕ) (packet : List ℕ) → 0 < n → n % 4 ≡ 0 → 4 + n ≤ length packet → IsBadPadding n packet → ⊥
+good_padding n packet some words size (inl h) = omega (arith, some, h)
+good_padding n packet some words size (inr (inl h)) = h words
+good_padding n packet some words size (inr (inr h)) = omega (arith, size, h)
+
+pub body_first : (first at_end : Bool) (octets packet rest body : List ℕ) → IsHead first octets → packet ≡ packet_at octets → octets ≡ packet ++ rest → (at_end ≡ true → rest ≡ []) → IsGoodPadding at_end (padding_of packet) packet → body ≡ body_of packet → (IsWholeBody (kind_of (get_or packet 1 0) (get_or packet 0 0 % 32)) (get_or packet 0 0 % 32) body → ⊥) → IsFirstOf in_order first Body octets
+body_first first at_end octets packet rest body head at parts end good body-is lacks =
+    let len = front_size first octets packet rest head at parts in
+    let n = padding_of packet in
+    let none : Case first Padding octets → ⊥ = λ h.
+        let set : is_padded packet ≡ true = ap is_padded at ∙ h.0 in
+        elim h.1 [
+          | inl longer ↦ omega (arith, len, longer, ap length (end (good.last set)))
+          | inr bad ↦ good_padding n packet (good.some set) good.words good.size (subst (λ (l : List ℕ). IsBadPadding (padding_of l) l) (sym at) bad)
+        ] in
+    let missing : Case first Body octets = λ whole. lacks (subst (IsWholeBody (kind_at packet) (count packet)) (sym body-is) (subst (λ (l : List ℕ). IsWholeBody (kind_at l) (count l) (body_of l)) (sym at) whole)) in
+    inr (λ h. omega (arith, h.1, head.long), inr (λ h. h.1 head.is_version, inr (λ h. h.1 (head.report h.0), inr (λ h. omega (arith, h, head.whole), inr (none, inl (missing, refl))))))
