@@ -364,10 +364,10 @@ body_first first at_end octets packet rest body head at parts end good body-is l
     let len = front_size first octets packet rest head at parts in
     let n = padding_of packet in
     let none : Case first Padding octets → ⊥ = λ h.
-        let set : is_padded packet ≡ true = ap is_padded at ∙ h.0 in
-        elim h.1 [
-          | inl longer ↦ omega (arith, len, longer, ap length (end (good.last set)))
-          | inr bad ↦ good_padding n packet (good.some set) good.words good.size (subst (λ (l : List ℕ). IsBadPadding (padding_of l) l) (sym at) bad)
-        ] in
+    let set : is_padded packet ≡ true = ap is_padded at ∙ h.0 in
+    elim h.1 [
+      | inl longer ↦ omega (arith, len, longer, ap length (end (good.last set)))
+      | inr bad ↦ good_padding n packet (good.some set) good.words good.size (subst (λ (l : List ℕ). IsBadPadding (padding_of l) l) (sym at) bad)
+    ] in
     let missing : Case first Body octets = λ whole. lacks (subst (IsWholeBody (kind_at packet) (count packet)) (sym body-is) (subst (λ (l : List ℕ). IsWholeBody (kind_at l) (count l) (body_of l)) (sym at) whole)) in
     inr (λ h. omega (arith, h.1, head.long), inr (λ h. h.1 head.is_version, inr (λ h. h.1 (head.report h.0), inr (λ h. omega (arith, h, head.whole), inr (none, inl (missing, refl))))))

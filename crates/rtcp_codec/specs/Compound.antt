@@ -72,14 +72,18 @@ Case first Short octets = (first ≡ true) × (length octets < 4)
 Case first Version octets = (4 ≤ length octets) × (version octets ≢ 2)
 Case first First octets = (first ≡ true) × (¬ IsReport (kind_at octets))
 Case first Length octets = length octets < size octets
-Case first Padding octets = (is_padded (packet_at octets) ≡ true) × ((size octets < length octets) ⊎ IsBadPadding (padding_of (packet_at octets)) (packet_at octets))
-Case first Body octets = ¬ IsWholeBody (kind_at (packet_at octets)) (count (packet_at octets)) (body_of (packet_at octets))
+Case first Padding octets =
+    (is_padded (packet_at octets) ≡ true)
+    × ((size octets < length octets) ⊎ IsBadPadding (padding_of (packet_at octets)) (packet_at octets))
+Case first Body octets =
+    ¬ IsWholeBody (kind_at (packet_at octets)) (count (packet_at octets)) (body_of (packet_at octets))
 Case first OutOfMemory octets = ⊥
 
 -- the fault is the first of these whose case holds
 abbrev pub IsFirstOf : List RtcpFault → Bool → RtcpFault → List ℕ → Type 0
 IsFirstOf [] first fault octets = ⊥
-IsFirstOf (f ∷ fs) first fault octets = (Case first f octets × (fault ≡ f)) ⊎ ((¬ Case first f octets) × IsFirstOf fs first fault octets)
+IsFirstOf (f ∷ fs) first fault octets =
+    (Case first f octets × (fault ≡ f)) ⊎ ((¬ Case first f octets) × IsFirstOf fs first fault octets)
 
 -- the faults in the order in which they are told
 abbrev pub in_order : List RtcpFault
@@ -118,7 +122,7 @@ abbrev pub BeginsWithReport : List Packet → Type 0
 BeginsWithReport [] = ⊥
 BeginsWithReport (p ∷ ps) = IsReport (kind p)
 
--- the octets are the compound of these packets: they are its parts joined, the first is a report, and only the last may be padded
+-- the octets are the compound of these packets: its parts joined, the first a report, none padded but the last
 pub record IsCompound (ps : List Packet) (octets : List ℕ) : Type 0 where
   pub parts : List Part
   pub packets : packets_in parts ≡ ps

@@ -33,7 +33,9 @@ filled octets = octets ++ replicate ((4 - length octets % 4) % 4) 0
 -- the octets begin with the chunks, each up to its boundary
 abbrev pub Describe : List Chunk → List ℕ → Type 0
 Describe [] octets = ⊤
-Describe (c ∷ cs) octets = (fill rest : List ℕ) × (octets ≡ chunk_octets c ++ (fill ++ rest)) × IsFill (length (chunk_octets c)) fill × Describe cs rest
+Describe (c ∷ cs) octets =
+    (fill rest : List ℕ) × (octets ≡ chunk_octets c ++ (fill ++ rest))
+    × IsFill (length (chunk_octets c)) fill × Describe cs rest
 
 -- the longest text whose length one octet can tell
 abbrev pub most_text : ℕ
@@ -60,4 +62,5 @@ pub record FitsChunk (c : Chunk) : Type 0 where
 
 -- the octets begin with so many chunks
 abbrev pub HasChunks : ℕ → List ℕ → Type 0
-HasChunks n octets = (chunks : List Chunk) × (length chunks ≡ n) × AllByRecursion FitsChunk chunks × Describe chunks octets
+HasChunks n octets =
+    (chunks : List Chunk) × (length chunks ≡ n) × AllByRecursion FitsChunk chunks × Describe chunks octets

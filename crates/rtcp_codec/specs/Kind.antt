@@ -3,7 +3,8 @@ use Rattle.std.specs.Prelude.{ℕ, ◌==◌, ◌&&◌, if◌then◌else◌}
 use Rattle.rtcp_codec.specs.declared.kind.Kind.{Kind}
 use Rattle.rtcp_codec.specs.declared.kind.Kind.TheVariants as kinds
 
--- packet types: SR, RR, SDES, BYE and APP (RFC 3550 section 12.1), transport and payload feedback (RFC 4585 section 6.1)
+-- packet types: SR, RR, SDES, BYE and APP (RFC 3550 section 12.1), and feedback on transport and payload (RFC 4585
+-- section 6.1)
 abbrev pub sr : ℕ
 sr = 200
 

@@ -23,7 +23,8 @@ numbers_named words = flat_map (λ w. numbers_of w.pid w.blp) words
 
 -- a word may name this number too: it lies 1 to 16 ahead of PID, and ahead of each number that the word names (own)
 abbrev pub MayName : ℕ → ℕ → ℕ → Type 0
-MayName pid blp number = All (λ m. distance pid m < distance pid number) (numbers_of pid blp) × (distance pid number ≤ most_bits)
+MayName pid blp number =
+    All (λ m. distance pid m < distance pid number) (numbers_of pid blp) × (distance pid number ≤ most_bits)
 
 -- words are packed greedily: only a number that the word before may not name begins a new one (own)
 abbrev pub ArePacked : List NackWord → Type 0

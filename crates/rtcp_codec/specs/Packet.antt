@@ -64,7 +64,8 @@ reason_octets (Some reason) = length reason ∷ reason
 -- the named parts of a packet's body in order, with null fill
 abbrev pub fields : Packet → List ℕ
 fields (Sender ssrc ntp ts packets octets blocks) =
-    to_be_bytes w32 ssrc ++ to_be_bytes w64 ntp ++ to_be_bytes w32 ts ++ to_be_bytes w32 packets ++ to_be_bytes w32 octets ++ flat_map block_octets blocks
+    to_be_bytes w32 ssrc ++ to_be_bytes w64 ntp ++ to_be_bytes w32 ts ++ to_be_bytes w32 packets
+    ++ to_be_bytes w32 octets ++ flat_map block_octets blocks
 fields (Receiver ssrc blocks) = to_be_bytes w32 ssrc ++ flat_map block_octets blocks
 fields (Sdes chunks) = flat_map (λ c. filled (chunk_octets c)) chunks
 fields (Bye ssrcs reason) = number_octets ssrcs ++ reason_octets reason
@@ -77,7 +78,8 @@ fields (Other pt count body) = body
 abbrev pub Begin : List ℕ → List ℕ → Type 0
 Begin front octets = (more : List ℕ) × (octets ≡ front ++ more)
 
--- the octets are the body of the packet: what is named in order, with any fill, and behind it anything where more may follow
+-- the octets are the body of the packet: what is named in order, with any fill, and anything behind it where more may
+-- follow
 abbrev pub IsBody : Packet → List ℕ → Type 0
 IsBody (Sender ssrc ntp ts packets octets blocks) body = Begin (fields (Sender ssrc ntp ts packets octets blocks)) body
 IsBody (Receiver ssrc blocks) body = Begin (fields (Receiver ssrc blocks)) body
@@ -97,7 +99,8 @@ pub record FitsTypesOfChunk (c : Chunk) : Type 0 where
 -- each number fits its field, the count and losses apart
 abbrev pub FitsTypes : Packet → Type 0
 FitsTypes (Sender ssrc ntp ts packets octets blocks) =
-    (ssrc < 2 ^ 32) × (ntp < 2 ^ 64) × (ts < 2 ^ 32) × (packets < 2 ^ 32) × (octets < 2 ^ 32) × AllByRecursion FitsBlock blocks
+    (ssrc < 2 ^ 32) × (ntp < 2 ^ 64) × (ts < 2 ^ 32) × (packets < 2 ^ 32) × (octets < 2 ^ 32)
+    × AllByRecursion FitsBlock blocks
 FitsTypes (Receiver ssrc blocks) = (ssrc < 2 ^ 32) × AllByRecursion FitsBlock blocks
 FitsTypes (Sdes chunks) = AllByRecursion FitsTypesOfChunk chunks
 FitsTypes (Bye ssrcs reason) = AllByRecursion (λ ssrc. ssrc < 2 ^ 32) ssrcs
@@ -143,7 +146,7 @@ MeaningFits (Nack sender media words) = ⊤
 MeaningFits (Pli sender media) = ⊤
 MeaningFits (Other pt count body) = kind_of pt count ≡ kinds.Other
 
--- the four octets of the common header: the version 2, P and the count; the type; the number of 32-bit words behind these
+-- the four octets of the common header: the version 2, P and the count; the type; the number of 32-bit words behind
 abbrev pub common_header : Bool → Packet → ℕ → List ℕ
 common_header padded p words = (128 + (if padded then 32 else 0) + count_of p) ∷ type_of p ∷ to_be_bytes w16 words
 

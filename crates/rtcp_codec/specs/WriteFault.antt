@@ -42,4 +42,5 @@ HasPacketFault fault (p ∷ ps) = IsFirstFault fault p ⊎ (IsWritable p × HasP
 
 -- why packets can't be written as a compound: they don't begin with a report, or a packet has a fault
 abbrev pub HasWriteFault : WriteFault → List Packet → Type 0
-HasWriteFault fault ps = ((fault ≡ faults.First) × (¬ BeginsWithReport ps)) ⊎ (BeginsWithReport ps × HasPacketFault fault ps)
+HasWriteFault fault ps =
+    ((fault ≡ faults.First) × (¬ BeginsWithReport ps)) ⊎ (BeginsWithReport ps × HasPacketFault fault ps)

@@ -30,7 +30,8 @@ extension_size octets = 4 + 4 * from_be_bytes w16 (take 2 (drop 2 octets))
 
 -- an extension is due, and its four octets or its words aren't there
 abbrev pub lacks_extension : Bool → List ℕ → Bool
-lacks_extension extended octets = extended && (nat_lt (length octets) 4 || nat_lt (length octets) (extension_size octets))
+lacks_extension extended octets =
+    extended && (nat_lt (length octets) 4 || nat_lt (length octets) (extension_size octets))
 
 -- what follows the extension, if there is one
 abbrev pub behind_extension : Bool → List ℕ → List ℕ

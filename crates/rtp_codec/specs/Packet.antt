@@ -4,7 +4,8 @@ use Rattle.std.specs.List.{flat_map}
 use Rattle.std.specs.Int.{w16, w32, to_be_bytes}
 use Rattle.rtp_codec.specs.declared.writing.Header.{Header}
 
--- a packet: its header, the octets of its contributing sources, its header extension (16 bits of the profile's and the octets of its words), its payload, and how many octets of padding it has
+-- a packet: its header, the octets of its contributing sources, its header extension (16 bits of the profile's and the
+-- octets of its words), its payload, and how many octets of padding it has
 pub record Packet : Type 0 where
   pub header : Header
   pub csrc_octets : List ℕ
@@ -26,7 +27,8 @@ number_fields h = to_be_bytes w16 h.seq ++ to_be_bytes w32 h.ts ++ to_be_bytes w
 
 -- the twelve octets that each packet begins with
 abbrev pub fixed_header : Bool → Bool → Header → ℕ → List ℕ
-fixed_header padded extended h csrc_count = first_octet padded extended csrc_count ∷ second_octet h ∷ number_fields h
+fixed_header padded extended h csrc_count =
+    first_octet padded extended csrc_count ∷ second_octet h ∷ number_fields h
 
 -- a header extension: the profile's 16 bits, the number of its 32-bit words, the words
 abbrev pub extension_octets : Option (ℕ × List ℕ) → List ℕ
@@ -69,7 +71,8 @@ header_of p = fixed_header (nat_lt 0 p.padding) (is_some p.extension) p.header (
 -- the octets are those of the packet: its parts in order
 pub record IsPacket (p : Packet) (octets : List ℕ) : Type 0 where
   pub padding_octets : List ℕ
-  pub parts : octets ≡ header_of p ++ (p.csrc_octets ++ (extension_octets p.extension ++ (p.payload ++ padding_octets)))
+  pub parts :
+    octets ≡ header_of p ++ (p.csrc_octets ++ (extension_octets p.extension ++ (p.payload ++ padding_octets)))
   pub header : FitsHeader p.header
   pub csrcs : length p.csrc_octets % 4 ≡ 0
   pub csrcs_fit : csrcs_in p ≤ most_csrcs
@@ -82,7 +85,8 @@ number_octets numbers = flat_map (λ n. to_be_bytes w32 n) numbers
 
 -- the packet of these parts that has no padding and no extension
 abbrev pub plain : Header → List ℕ → List ℕ → Packet
-plain h csrcs payload = record { header = h; csrc_octets = number_octets csrcs; extension = None; payload = payload; padding = 0 }
+plain h csrcs payload =
+    record { header = h; csrc_octets = number_octets csrcs; extension = None; payload = payload; padding = 0 }
 
 -- the written form, the case P = 0 and X = 0: the fixed header, the contributing sources, the payload
 abbrev pub written : Header → List ℕ → List ℕ → List ℕ

@@ -13,7 +13,8 @@ use Rattle.rtcp_codec.specs.Compound.{version, size, is_padded, kind_at, IsRepor
 
 -- the octets begin with items and a null
 abbrev pub HasItems : List ℕ → Type 0
-HasItems octets = (items : List Item) × (rest : List ℕ) × AllByRecursion FitsItem items × (octets ≡ flat_map item_octets items ++ 0 ∷ rest)
+HasItems octets =
+    (items : List Item) × (rest : List ℕ) × AllByRecursion FitsItem items × (octets ≡ flat_map item_octets items ++ 0 ∷ rest)
 
 -- the octets begin with a chunk
 abbrev pub HasChunk : List ℕ → Type 0
@@ -27,12 +28,15 @@ pub record IsSoundBlock (b : ReportBlock) : Type 0 where
 -- what fits the fields of a packet, the count apart
 abbrev pub FitsFields : Packet → Type 0
 FitsFields (Sender ssrc ntp ts packets octets blocks) =
-    (ssrc < 2 ^ 32) × (ntp < 2 ^ 64) × (ts < 2 ^ 32) × (packets < 2 ^ 32) × (octets < 2 ^ 32) × AllByRecursion IsSoundBlock blocks
+    (ssrc < 2 ^ 32) × (ntp < 2 ^ 64) × (ts < 2 ^ 32) × (packets < 2 ^ 32) × (octets < 2 ^ 32)
+    × AllByRecursion IsSoundBlock blocks
 FitsFields (Receiver ssrc blocks) = (ssrc < 2 ^ 32) × AllByRecursion IsSoundBlock blocks
 FitsFields (Sdes chunks) = AllByRecursion FitsChunk chunks
-FitsFields (Bye ssrcs reason) = AllByRecursion (λ ssrc. ssrc < 2 ^ 32) ssrcs × IfSome reason (λ text. length text < 2 ^ 8)
+FitsFields (Bye ssrcs reason) =
+    AllByRecursion (λ ssrc. ssrc < 2 ^ 32) ssrcs × IfSome reason (λ text. length text < 2 ^ 8)
 FitsFields (App subtype ssrc name content) = (ssrc < 2 ^ 32) × (length name ≡ 4)
-FitsFields (Nack sender media words) = (sender < 2 ^ 32) × (media < 2 ^ 32) × (0 < length words) × AllByRecursion FitsWord words
+FitsFields (Nack sender media words) =
+    (sender < 2 ^ 32) × (media < 2 ^ 32) × (0 < length words) × AllByRecursion FitsWord words
 FitsFields (Pli sender media) = (sender < 2 ^ 32) × (media < 2 ^ 32)
 FitsFields (Other pt count body) = (pt < 2 ^ 8) × (kind_of pt count ≡ kinds.Other)
 
@@ -58,7 +62,7 @@ pub record IsHead (first : Bool) (octets : List ℕ) : Type 0 where
   pub report : first ≡ true → IsReport (kind_at octets)
   pub whole : size octets ≤ length octets
 
--- the octets begin with the packet, and then the rest comes: only the last packet may be padded, and the first is a report
+-- the octets begin with the packet, and then the rest comes: only the last may be padded, and the first is a report
 pub record Takes (first : Bool) (p : Packet) (octets rest : List ℕ) : Type 0 where
   pub front : List ℕ
   pub padding : ℕ
