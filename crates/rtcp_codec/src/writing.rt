@@ -205,10 +205,11 @@ pub fn write_compound<A: Allocator, B: Allocator>(
     // Only what can be written is.
     ensures writable { OnOk result (AreWritable (packets_of packets.now)) }
     ensures err { OnErr result (out.new.items ≡ out.old.items) }
-    // A fault is told where its case is the first, at the first packet that has one; want of memory
-    // where there is none.
-    ensures fault { IfErr result (λ f. ((f ≡ write_faults.OutOfMemory) × AreWritable (packets_of packets.now)) ⊎ HasWriteFault f (packets_of packets.now)) }
-    // Memory is wanted only where the compound has no room.
+    // A fault is told where its case is the first, at the first packet that has one.
+    ensures fault { IfErr result (λ f. (f ≡ write_faults.OutOfMemory) ⊎ HasWriteFault f (packets_of packets.now)) }
+    // Memory is wanted only for packets that can be written.
+    ensures memory { IfErr result (λ f. f ≡ write_faults.OutOfMemory → AreWritable (packets_of packets.now)) }
+    // It is wanted only where the compound has no room.
     ensures full { IfErr result (λ f. f ≡ write_faults.OutOfMemory → vec_capacity out.old < vec_len out.old + length (written (packets_of packets.now))) }
 {
     let size = compound_size(packets)?;
