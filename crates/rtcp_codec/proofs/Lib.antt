@@ -2,6 +2,7 @@ pub mod ReasonLemmas
 pub mod WholeBodies
 pub mod Compounds
 pub mod Descriptions
+pub mod FirstFaults
 pub mod Fitting
 pub mod Framing
 pub mod Lists

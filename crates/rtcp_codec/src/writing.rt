@@ -1,9 +1,10 @@
 //! Writing compounds.
 
-ghost use Rattle.std.specs.Prelude.{◌≡◌, List, ◌+◌, ◌^◌, ◌<◌, ◌≤◌, ◌++◌, length, IfSome, IfErr, ◌⊎◌, OnOk, OnErr, vec_len, vec_capacity};
+ghost use Rattle.std.specs.Prelude.{◌≡◌, List, ◌+◌, ◌^◌, ◌<◌, ◌≤◌, ◌++◌, length, IfSome, IfErr, ◌⊎◌, IsErrOf, OnOk, OnErr, vec_len, vec_capacity};
 ghost use Rattle.std.specs.Option.{option_map};
 ghost use Rattle.std.specs.List.{flat_map, AllByRecursion};
 ghost use Rattle.rtp_codec.specs.Packet.{number_octets};
+ghost use Rattle.rtcp_codec.specs.declared.fault.WriteFault.{WriteFault as Fault};
 ghost use Rattle.rtcp_codec.specs.declared.fault.WriteFault.TheVariants as write_faults;
 ghost use Rattle.rtcp_codec.specs.Description.{filled, most_text};
 ghost use Rattle.rtcp_codec.specs.Nack.{word_octets, FitsWord};
@@ -207,6 +208,8 @@ pub fn write_compound<A: Allocator, B: Allocator>(
     ensures err { OnErr result (out.new.items ≡ out.old.items) }
     // A fault is told where its case is the first, at the first packet that has one.
     ensures fault { IfErr result (λ f. (f ≡ write_faults.OutOfMemory) ⊎ HasWriteFault f (packets_of packets.now)) }
+    // What has a fault is told so, and that takes no memory.
+    ensures told { (f : Fault) → HasWriteFault f (packets_of packets.now) → IsErrOf result f }
     // Memory is wanted only for packets that can be written.
     ensures memory { IfErr result (λ f. f ≡ write_faults.OutOfMemory → AreWritable (packets_of packets.now)) }
     // It is wanted only where the compound has no room.
