@@ -72,7 +72,7 @@ header_of p = fixed_header (nat_lt 0 p.padding) (is_some p.extension) p.header (
 pub record IsPacket (p : Packet) (octets : List ℕ) : Type 0 where
   pub padding_octets : List ℕ
   pub parts :
-    octets ≡ header_of p ++ (p.csrc_octets ++ (extension_octets p.extension ++ (p.payload ++ padding_octets)))
+      octets ≡ header_of p ++ (p.csrc_octets ++ (extension_octets p.extension ++ (p.payload ++ padding_octets)))
   pub header : FitsHeader p.header
   pub csrcs : length p.csrc_octets % 4 ≡ 0
   pub csrcs_fit : csrcs_in p ≤ most_csrcs

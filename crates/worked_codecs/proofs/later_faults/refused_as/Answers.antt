@@ -1,9 +1,9 @@
 -- A receiver report without blocks is a packet, and what stands behind it has the fault.
-use Rattle.std.proofs.Common.{◌≡◌, ℕ, ◌<◌, ◌^◌, List, [], ◌∷◌, ◌++◌, take, drop, length, refl, sym, ◌∙◌, ap, inr, arith, length-drop, false}
+use Rattle.std.proofs.Common.{◌≡◌, ℕ, ◌<◌, List, [], ◌∷◌, ◌++◌, take, drop, length, refl, sym, ◌∙◌, ap, inr, arith, length-drop, false}
 use Rattle.std.proofs.lemmas.List.{take-append-drop}
 use Rattle.rtcp_codec.specs.declared.fault.RtcpFault.{RtcpFault}
 use Rattle.rtcp_codec.specs.Packet.{Receiver, IsPacket}
-use Rattle.rtcp_codec.specs.Compound.{Part, HasLaterFault, IsFirstOf, in_order}
+use Rattle.rtcp_codec.specs.Compound.{HasLaterFault, IsFirstOf, in_order}
 use Rattle.worked_codecs.proofs.later_faults.refused_as.Goals as goal
 
 abbrev report : List ℕ
