@@ -2,9 +2,8 @@
 #![tactic(auto)]
 
 use script_text::{Ask, Outcome, Reader, Writer, asked, exit_status, run, unread};
-use std::env;
-use std::io;
 use std::process::ExitCode;
+use std::{env, io};
 
 /// What the arguments ask for.
 fn arguments(rt: &HostRuntime) -> Ask {
