@@ -1,5 +1,8 @@
-//! The codecs where there is little memory: what no contract can say.
+//! The codecs and the jitter buffer where there is little memory, and where there is enough: what no
+//! contract can say.
 #![tactic(auto)]
 
+#[cfg(test)]
+mod playing;
 #[cfg(test)]
 mod small_heaps;

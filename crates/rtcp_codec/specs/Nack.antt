@@ -1,6 +1,6 @@
 -- Generic NACKs: their words, and the sequence numbers that these name (RFC 4585 section 6.2.1).
-use Rattle.std.specs.Prelude.{ℕ, ◌+◌, ◌-◌, ◌/◌, ◌%◌, ◌^◌, ◌<◌, ◌≤◌, ◌==◌, Bool, List, [], ◌∷◌, ◌++◌, map, filter, All, AllPairs, ⊤}
-use Rattle.std.specs.List.{flat_map, range_with_len}
+use Rattle.std.specs.Prelude.{◌≡◌, ℕ, ◌+◌, ◌-◌, ◌/◌, ◌%◌, ◌^◌, ◌<◌, ◌≤◌, ◌==◌, Bool, List, [], ◌∷◌, ◌++◌, map, filter, All, AllPairs, ⊤}
+use Rattle.std.specs.List.{flat_map, range_with_len, AllByRecursion}
 use Rattle.std.specs.Int.{w16, to_be_bytes}
 use Rattle.rtp_codec.specs.Sequence.{distance}
 use Rattle.rtcp_codec.specs.declared.nack.NackWord.{NackWord}
@@ -51,3 +51,9 @@ word_octets w = to_be_bytes w16 w.pid ++ to_be_bytes w16 w.blp
 pub record FitsWord (w : NackWord) : Type 0 where
   pub pid : w.pid < 2 ^ 16
   pub blp : w.blp < 2 ^ 16
+
+-- words that fit their fields, name these numbers and are packed
+pub record IsPacking (numbers : List ℕ) (words : List NackWord) : Type 0 where
+  pub names : numbers_named words ≡ numbers
+  pub packed : ArePacked words
+  pub fits : AllByRecursion FitsWord words

@@ -22,7 +22,7 @@ mod writing_reports;
 
 pub use self::description::{SdesChunk, SdesItem};
 pub use self::fault::{RtcpFault, WriteFault};
-pub use self::nack::{Nack, NackWord, nack_numbers, nack_words, packed_once};
+pub use self::nack::{Nack, NackWord, nack_numbers, nack_words};
 pub use self::packet::{App, Bye, Other, Pli, Rtcp};
 pub use self::reading::read_compound;
 pub use self::report::{ReceiverReport, ReportBlock, SenderReport};

@@ -1,8 +1,7 @@
 //! Generic NACKs.
 
 ghost use Rattle.std.specs.Prelude.{◌≡◌, ◌≤◌, List, [], ◌∷◌, ◌++◌, length, if◌then◌else◌, IfOk, IsOk, IsTrue, ◌↔◌};
-ghost use Rattle.std.specs.List.{AllByRecursion};
-ghost use Rattle.rtcp_codec.specs.Nack.{FitsWord, numbers_of, numbers_named, ArePacked, AreRising, AreApart};
+ghost use Rattle.rtcp_codec.specs.Nack.{numbers_of, numbers_named, ArePacked, IsPacking, AreRising, AreApart};
 ghost use Rattle.rtcp_codec.specs.inner.Greedy.{TakesAll};
 ghost use Rattle.rtcp_codec.specs.Packet.{Begin};
 
@@ -52,7 +51,8 @@ pub fn nack_numbers<A: Allocator>(alloc: A, pid: u16, blp: u16) -> Result<Vec<u1
 pub fn nack_words<A: Allocator>(alloc: A, numbers: &[u16]) -> Result<Vec<NackWord, A>, AllocError>
     ensures names { IfOk result (λ v. numbers_named v.items ≡ numbers.now) }
     ensures packed { IfOk result (λ v. ArePacked v.items) }
-    ensures fits { IfOk result (λ v. AllByRecursion FitsWord v.items) }
+    // No other words that fit their fields name these numbers and are packed.
+    ensures only { (words : List NackWord) → IsPacking numbers.now words → IfOk result (λ v. v.items ≡ words) }
     ensures apart { AreRising numbers.now → IfOk result (λ v. AreApart v.items) }
     // An empty list wants no memory.
     ensures none { numbers.now ≡ [] → IsOk result }
@@ -66,11 +66,6 @@ pub fn nack_words<A: Allocator>(alloc: A, numbers: &[u16]) -> Result<Vec<NackWor
     }
     Ok(words)
 }
-
-/// Only one list of words is packed for the same numbers, so what `nack_words` answers is known.
-pub fn packed_once()
-    ensures { (words others : List NackWord) → AllByRecursion FitsWord words → AllByRecursion FitsWord others → ArePacked words → ArePacked others → numbers_named words ≡ numbers_named others → words ≡ others }
-{}
 
 /// The bits for the numbers that stand at the front and that a word of `pid` can name, and the
 /// other numbers.

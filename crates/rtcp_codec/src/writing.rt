@@ -1,6 +1,6 @@
 //! Writing compounds.
 
-ghost use Rattle.std.specs.Prelude.{◌≡◌, List, ◌+◌, ◌^◌, ◌<◌, ◌≤◌, ◌++◌, length, IfSome, IfErr, ◌⊎◌, IsErrOf, OnOk, OnErr, vec_len, vec_capacity};
+ghost use Rattle.std.specs.Prelude.{List, ◌≡◌, ◌+◌, ◌^◌, ◌<◌, ◌≤◌, ◌++◌, length, IfSome, IfErr, ◌⊎◌, IsErrOf, OnOk, OnErr, vec_len, vec_capacity};
 ghost use Rattle.std.specs.Option.{option_map};
 ghost use Rattle.std.specs.List.{flat_map, AllByRecursion};
 ghost use Rattle.rtp_codec.specs.Packet.{number_octets};
@@ -225,8 +225,9 @@ pub fn write_compound<A: Allocator, B: Allocator>(
     Ok(())
 }
 
-/// What `write_compound` appends is the compound of its packets, so `read_compound` reads it back
-/// as them.
+/// The written form of packets that can be written and whose numbers fit is the compound of these
+/// packets, so `read_compound` reads it as them: for who knows packets and not how they were
+/// written.
 pub fn written_is_compound()
     ensures { (ps : List Packet) → AreWritable ps → AllByRecursion FitsTypes ps → IsCompound ps (written ps) }
 {}

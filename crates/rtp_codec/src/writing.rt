@@ -1,7 +1,8 @@
 //! Writing RTP packets.
 
-ghost use Rattle.std.specs.Prelude.{◌≡◌, ℕ, ◌+◌, ◌*◌, ◌<◌, ◌≤◌, List, ◌++◌, length, false, OnOk, OnErr, vec_len, vec_capacity};
+ghost use Rattle.std.specs.Prelude.{◌≡◌, ℕ, List, ◌+◌, ◌*◌, ◌<◌, ◌≤◌, ◌++◌, length, false, OnOk, OnErr, vec_len, vec_capacity};
 ghost use Rattle.rtp_codec.specs.Packet.{written, fixed_header, plain, IsPacket, FitsHeader, number_octets, size, most_pt, most_csrcs};
+ghost use Rattle.rtp_codec.specs.declared.writing.Header.{Header};
 
 use std::alloc::{AllocError, Allocator};
 
@@ -111,7 +112,8 @@ pub fn write<A: Allocator>(
     Ok(())
 }
 
-/// What `write` appends is the packet of its parts, so `read` reads it back as them.
+/// The written form of parts that fit their fields is the packet of these parts, so `read` reads
+/// it as them: for who knows a packet and not how it was written.
 pub fn written_is_packet()
     ensures { (header : Header) (csrcs payload : List ℕ) → FitsHeader header → length csrcs ≤ most_csrcs → IsPacket (plain header csrcs payload) (written header csrcs payload) }
 {}

@@ -2,11 +2,10 @@
 #![tactic(auto, unfolding(rtcp_codec::specs::Nack::numbers_of))]
 
 ghost use Rattle.std.specs.Prelude.{◌≡◌, [], ◌∷◌, ◌++◌, IfOk, IsOk};
-ghost use Rattle.std.specs.List.{range_with_len, AllByRecursion};
-ghost use Rattle.rtcp_codec.specs.Nack.{numbers_named, ArePacked, FitsWord};
+ghost use Rattle.std.specs.List.{range_with_len};
 ghost use Rattle.worked_codecs.specs.Packets.{word};
 
-use rtcp_codec::{NackWord, nack_numbers, nack_words, packed_once};
+use rtcp_codec::{NackWord, nack_numbers, nack_words};
 use std::alloc::{AllocError, Global};
 
 /// A word without bits names its PID alone.
@@ -37,67 +36,34 @@ pub fn all_bits(alloc: Global) -> Result<Vec<u16>, AllocError>
     nack_numbers(alloc, 65_530, 0xffff)
 }
 
-/// Words that are packed and that name these numbers are the answer: there are no others.
-fn packed_as(
-    alloc: Global,
-    _words: &[NackWord],
-    numbers: &[u16],
-) -> Result<Vec<NackWord>, AllocError>
-    requires named { numbers_named _words.now ≡ numbers.now }
-    requires packed { ArePacked _words.now }
-    requires fits { AllByRecursion FitsWord _words.now }
-    ensures same { IfOk result (λ v. v.items ≡ _words.now) }
-    ensures none { numbers.now ≡ [] → IsOk result }
-{
-    packed_once();
-    nack_words(alloc, numbers)
-}
-
 /// An empty list needs no word, and so no memory.
 pub fn no_numbers(alloc: Global) -> Result<Vec<NackWord>, AllocError>
     ensures same { IfOk result (λ v. v.items ≡ []) }
     ensures ok { IsOk result }
 {
-    packed_as(alloc, &[], &[])
+    nack_words(alloc, &[])
 }
 
 /// One number is a word without bits.
 pub fn one_number(alloc: Global) -> Result<Vec<NackWord>, AllocError>
     ensures { IfOk result (λ v. v.items ≡ word 7 0 ∷ []) }
 {
-    packed_as(alloc, &[NackWord { pid: 7, blp: 0 }], &[7])
+    nack_words(alloc, &[7])
 }
 
 /// Over the wrap: 0 lies one ahead of 65535, 15 lies 16 ahead, and 16 begins a word.
 pub fn over_the_wrap(alloc: Global) -> Result<Vec<NackWord>, AllocError>
     ensures { IfOk result (λ v. v.items ≡ word 65535 0x8001 ∷ word 16 0 ∷ []) }
 {
-    packed_as(
-        alloc,
-        &[
-            NackWord {
-                pid: 65_535,
-                blp: 0x8001,
-            },
-            NackWord { pid: 16, blp: 0 },
-        ],
-        &[65_535, 0, 15, 16],
-    )
+    nack_words(alloc, &[65_535, 0, 15, 16])
 }
 
 /// All numbers that a word can name, and one more.
 pub fn a_full_word(alloc: Global) -> Result<Vec<NackWord>, AllocError>
     ensures { IfOk result (λ v. v.items ≡ word 1 0xffff ∷ word 18 0 ∷ []) }
 {
-    packed_as(
+    nack_words(
         alloc,
-        &[
-            NackWord {
-                pid: 1,
-                blp: 0xffff,
-            },
-            NackWord { pid: 18, blp: 0 },
-        ],
         &[
             1, 2, 3, 4, 5, 6, 7, 8, 9, 10, 11, 12, 13, 14, 15, 16, 17, 18,
         ],
@@ -108,13 +74,5 @@ pub fn a_full_word(alloc: Global) -> Result<Vec<NackWord>, AllocError>
 pub fn numbers_that_do_not_rise(alloc: Global) -> Result<Vec<NackWord>, AllocError>
     ensures { IfOk result (λ v. v.items ≡ word 7 2 ∷ word 8 0 ∷ word 8 0 ∷ []) }
 {
-    packed_as(
-        alloc,
-        &[
-            NackWord { pid: 7, blp: 2 },
-            NackWord { pid: 8, blp: 0 },
-            NackWord { pid: 8, blp: 0 },
-        ],
-        &[7, 9, 8, 8],
-    )
+    nack_words(alloc, &[7, 9, 8, 8])
 }

@@ -131,6 +131,18 @@ pub fn reads_other_format(alloc: Global) -> Result<Vec<Rtcp>, RtcpFault>
     )
 }
 
+/// A report and four octets of padding, of which the last counts them.
+pub fn reads_padding(alloc: Global) -> Result<Vec<Rtcp>, RtcpFault>
+    ensures { MatchResult result (λ v. packets_of v.items ≡ compounds.report_alone) (λ f. f ≡ RtcpFault.OutOfMemory) }
+{
+    read_compound(
+        alloc,
+        &[
+            0xa0, 0xc9, 0x00, 0x02, 0x00, 0x00, 0x00, 0x09, 0xff, 0xff, 0xff, 0x04,
+        ],
+    )
+}
+
 /// What was written reads back as the same packets.
 pub fn what_was_written_reads_back(alloc: Global, packets: &[Rtcp]) -> Option<Vec<Rtcp>>
     ensures { IfSome result (λ v. packets_of v.items ≡ packets_of packets.now) }

@@ -1,9 +1,0 @@
-use Rattle.std.proofs.Common.{arith}
-use Rattle.std.proofs.lemmas.Grind.{common_steps}
-use Rattle.rtcp_codec.proofs.checking.items_size.Goals as goal
-
-pub loop-item-init : goal.loop-item-init
-loop-item-init g c = grind (arith, common_steps)
-
-pub loop-item-preserved : goal.loop-item-preserved
-loop-item-preserved g c = grind (arith, common_steps)
