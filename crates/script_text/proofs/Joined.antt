@@ -1,7 +1,11 @@
 -- Words without spaces, joined and cut again.
-use Rattle.std.proofs.Common.{◌≡◌, ℕ, ◌<◌, ◌^◌, ◌&&◌, suc, List, [], ◌∷◌, ◌++◌, refl, ap, ◌∙◌, arith, eqb, not, Bool, true, false}
+use Rattle.std.proofs.Common.{◌≡◌, ℕ, ◌<◌, ◌^◌, ◌&&◌, suc, List, [], ◌∷◌, ◌++◌, refl, ap, ◌∙◌, arith, eqb, not, Bool, true, false, inl, inr}
 use Rattle.std.specs.List.{All, list_all, join_with_byte, slice_split}
 use Rattle.std.specs.Fmt.{decimal}
+use Rattle.std.specs.List.{onto_first}
+use Rattle.std.proofs.lemmas.List.Elements.{All-cons, All-nil, All-head, All-tail}
+use Rattle.std.proofs.lemmas.Bool.{cases_Bool, eqb-false, ne_eqb}
+use Rattle.script_text.specs.Words.{Lacks}
 use Rattle.script_text.proofs.AddressLemmas.{digits_free}
 
 -- no such octet
@@ -52,3 +56,29 @@ split_first c (x ∷ xs) ys h = rw (h.0, split_first c xs ys h.1) refl
 pub parts_joined : (c : ℕ) (w : List ℕ) (ws : List (List ℕ)) → Free c w → AllFree c ws → slice_split (λ b. eqb b c) (join_with_byte c (w ∷ ws)) ≡ w ∷ ws
 parts_joined c w [] h k = split_last c w h
 parts_joined c w (y ∷ ys) h k = split_first c w (join_with_byte c (y ∷ ys)) h ∙ ap (λ (t : List (List ℕ)). w ∷ t) (parts_joined c y ys k.0 k.1)
+
+-- ---- the same, in the words of the law
+
+all_free : (c : ℕ) (xs : List ℕ) → Lacks c xs → Free c xs
+all_free c [] h = tt
+all_free c (x ∷ xs) h = (ne_eqb x c (h 0 x (omega arith)), all_free c xs (λ k d lt. h (suc k) d (omega arith)))
+
+all_free_words : (c : ℕ) (ws : List (List ℕ)) → All (Lacks c) ws → AllFree c ws
+all_free_words c [] h = tt
+all_free_words c (w ∷ ws) h = (all_free c w (h 0 w (omega arith)), all_free_words c ws (λ k d lt. h (suc k) d (omega arith)))
+
+pub cut_again : (c : ℕ) (w : List ℕ) (ws : List (List ℕ)) → All (Lacks c) (w ∷ ws) → slice_split (λ b. eqb b c) (join_with_byte c (w ∷ ws)) ≡ w ∷ ws
+cut_again c w ws h = let f = all_free_words c (w ∷ ws) h in parts_joined c w ws f.0 f.1
+
+onto_lacks : (c x : ℕ) (parts : List (List ℕ)) → (x ≡ c → ⊥) → All (Lacks c) parts → All (Lacks c) (onto_first x parts)
+onto_lacks c x [] ne h = All-cons (Lacks c) (x ∷ []) [] (All-cons (λ b. b ≡ c → ⊥) x [] ne (All-nil (λ b. b ≡ c → ⊥))) (All-nil (Lacks c))
+onto_lacks c x (w ∷ ws) ne h = All-cons (Lacks c) (x ∷ w) ws (All-cons (λ b. b ≡ c → ⊥) x w ne (All-head (Lacks c) w ws h)) (All-tail (Lacks c) w ws h)
+
+-- no part has the octet at which the text was cut
+pub parts_lack : (c : ℕ) (text : List ℕ) → All (Lacks c) (slice_split (λ b. eqb b c) text)
+parts_lack c [] = All-cons (Lacks c) [] [] (All-nil (λ b. b ≡ c → ⊥)) (All-nil (Lacks c))
+parts_lack c (x ∷ xs) =
+    elim (cases_Bool (eqb x c)) [
+      | inl is ↦ rw is (All-cons (Lacks c) [] (slice_split (λ b. eqb b c) xs) (All-nil (λ b. b ≡ c → ⊥)) (parts_lack c xs))
+      | inr isnt ↦ rw isnt (onto_lacks c x (slice_split (λ b. eqb b c) xs) (eqb-false x c isnt) (parts_lack c xs))
+    ]

@@ -13,6 +13,7 @@ use Rattle.bridge_core.specs.Sent.{Sent, Input}
 use Rattle.bridge_core.specs.Lanes.{sends_at}
 use Rattle.bridge_core.specs.Steps.{CoreOf, Step, visits, visit_after, HasTaken}
 use Rattle.bridge_core.specs.Following.{HasCalled}
+use Rattle.script_text.specs.declared.script.TheConstants.{BRIDGE_SSRC}
 use Rattle.script_text.specs.Requests.{Request, Nothing, Desk as DeskRequest, Item}
 use Rattle.script_text.specs.Text.{reply_text, sent_text}
 
@@ -21,9 +22,9 @@ pub record Bridge : Type 0 where
   pub calls : CallHistory
   pub steps : List Step
 
--- the desk before any call: the bridge speaks as SSRC 1
+-- the desk before any call
 abbrev pub first_desk : Desk
-first_desk = blank 1
+first_desk = blank BRIDGE_SSRC
 
 -- the bridge before any line
 abbrev pub opening_bridge : Bridge

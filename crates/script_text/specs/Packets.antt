@@ -1,14 +1,15 @@
 -- Words that spell a packet, EXT/M/PT/HEX, and octets in hexadecimal (own).
-use Rattle.std.specs.Prelude.{ℕ, ◌+◌, ◌==◌, List, [], ◌∷◌, Result, Ok, Err, ◌++◌, codes, Bool, if◌then◌else◌}
+use Rattle.std.specs.Prelude.{◌≡◌, ◌⊎◌, ◌≤◌, ℕ, ℤ, pos, ◌+◌, ◌==◌, List, [], ◌∷◌, Result, Ok, Err, ◌++◌, codes, Bool, if◌then◌else◌}
 use Rattle.std.specs.List.{slice_split}
 use Rattle.std.specs.Fmt.{decimal, signed_decimal}
-use Rattle.hex.specs.Hex.{decode_of, encode_lower}
+use Rattle.std.specs.Str.{str_to_ascii_lowercase}
+use Rattle.hex.specs.Hex.{IsBytes, decode_of, encode_lower}
 use Rattle.hex.specs.declared.error.FromHexError.{FromHexError}
 use Rattle.bridge_core.specs.Frame.{SourcePacket}
 use Rattle.script_text.specs.declared.fault.Fault.{Fault}
 use Rattle.script_text.specs.declared.fault.Fault.TheVariants.{BadNumber, BadHex}
 use Rattle.script_text.specs.Words.{◌>>=◌, value_or}
-use Rattle.script_text.specs.Numbers.{number_of, ext_of}
+use Rattle.script_text.specs.Numbers.{number_of, ext_of, IsExt}
 
 -- how a marker is written
 abbrev pub marker_text : Bool → List ℕ
@@ -17,6 +18,26 @@ marker_text marker = if marker then decimal 1 else decimal 0
 -- how a packet is written
 abbrev pub packet_text : SourcePacket → List ℕ
 packet_text p = signed_decimal p.ext ++ codes "/" ++ marker_text p.marker ++ codes "/" ++ decimal p.pt ++ codes "/" ++ encode_lower p.payload
+
+-- how a sequence number may be written: `-0` is 0 too
+abbrev pub SpellsExt : List ℕ → ℤ → Type 0
+SpellsExt word z = (word ≡ signed_decimal z) ⊎ ((word ≡ codes "-0") × (z ≡ pos 0))
+
+-- how octets may be written: in hexadecimal of either case
+abbrev pub SpellsHex : List ℕ → List ℕ → Type 0
+SpellsHex word octets = str_to_ascii_lowercase word ≡ encode_lower octets
+
+-- how a packet may be written
+abbrev pub SpellsPacket : List ℕ → SourcePacket → Type 0
+SpellsPacket word p =
+    (ext : List ℕ) × (payload : List ℕ) × SpellsExt ext p.ext × SpellsHex payload p.payload
+    × (word ≡ ext ++ codes "/" ++ marker_text p.marker ++ codes "/" ++ decimal p.pt ++ codes "/" ++ payload)
+
+-- the numbers of a packet are in range
+pub record IsReadable (p : SourcePacket) : Type 0 where
+  pub ext : IsExt p.ext
+  pub pt : p.pt ≤ 255
+  pub payload : IsBytes p.payload
 
 -- octets in hexadecimal of either case, or the fault of the word at this place
 abbrev pub octets_or : ℕ → Result (List ℕ) FromHexError → Result (List ℕ) (ℕ × Fault)

@@ -1,6 +1,6 @@
 -- Words of a line, from left to right, with the first fault that is met (own).
-use Rattle.std.specs.Prelude.{◌≡◌, ℕ, ◌+◌, ◌==◌, List, [], ◌∷◌, take, drop, position, Option, Some, None, Result, Ok, Err}
-use Rattle.std.specs.List.{slice_split}
+use Rattle.std.specs.Prelude.{◌≡◌, ◌≢◌, ℕ, ◌+◌, ◌==◌, List, [], ◌∷◌, take, drop, position, Option, Some, None, Result, Ok, Err}
+use Rattle.std.specs.List.{slice_split, All}
 use Rattle.std.specs.Option.{option_map}
 use Rattle.script_text.specs.declared.fault.Fault.{Fault}
 use Rattle.script_text.specs.declared.fault.Fault.TheVariants.{MissingWord, ExtraWord}
@@ -10,6 +10,10 @@ use Rattle.script_text.specs.declared.fault.ParseFault.TheVariants as errors
 -- what stands before and behind the first such octet
 abbrev pub cut_of : ℕ → List ℕ → Option (List ℕ × List ℕ)
 cut_of octet text = option_map (λ i. (take i text, drop (i + 1) text)) (position (λ b. b == octet) text)
+
+-- the text has no such octet
+abbrev pub Lacks : ℕ → List ℕ → Type 0
+Lacks octet text = All (λ b. b ≢ octet) text
 
 -- the words of a text: what stands between single spaces (32)
 abbrev pub words_of : List ℕ → List (List ℕ)

@@ -2,28 +2,35 @@
 
 ghost use Rattle.std.specs.Prelude.{◌≡◌, ◌⊎◌, ℕ, ℤ, pos, ◌^◌, ◌<◌, ◌≤◌, List, [], ◌∷◌, ◌++◌, Some, Ok, codes};
 ghost use Rattle.std.specs.Fmt.{decimal, signed_decimal};
-ghost use Rattle.std.specs.List.{join_with_byte};
+ghost use Rattle.std.specs.List.{join_with_byte, All};
 ghost use Rattle.hex.specs.Hex.{IsBytes, decode_of, encode_lower};
 ghost use Rattle.rtp_codec.specs.declared.address.Address.{Address};
-ghost use Rattle.desk_rows.specs.Desk.{Desk as Rows};
+ghost use Rattle.desk_rows.specs.Desk.{Desk as Rows, blank};
+ghost use Rattle.script_text.specs.Bridge.{first_desk};
 ghost use Rattle.desk_edit.specs.Refusals.{first_case};
 ghost use Rattle.desk_edit.specs.Calls.{refusal_at};
 ghost use Rattle.script_text.specs.Judged.{call_cases, case_numbers, numbers_of, Rises};
-ghost use Rattle.script_text.specs.Words.{words_of};
+ghost use Rattle.script_text.specs.Words.{words_of, Lacks};
 ghost use Rattle.script_text.specs.Numbers.{number_of, ext_of, IsExt};
 ghost use Rattle.script_text.specs.Addresses.{address_of, address_text, IsAddress};
 ghost use Rattle.bridge_core.specs.Frame.{SourcePacket};
 ghost use Rattle.desk_edit.specs.declared.command.Call.{Call};
 ghost use Rattle.script_text.specs.Calls.{call_of, call_line, IsCall};
 ghost use Rattle.script_text.specs.Requests.{words_request, Desk, desk_line};
-ghost use Rattle.script_text.specs.Packets.{packet_of, packet_text};
+ghost use Rattle.script_text.specs.Packets.{packet_of, packet_text, SpellsExt, SpellsHex, SpellsPacket, IsReadable};
 ghost use Rattle.script_text.specs.Lines.{parts_of};
 
-/// The words with single spaces between them are the line, and the parts with LFs between them the
-/// script.
+use crate::script::{BRIDGE_SSRC, CNAME};
+
+/// The words of a line have no space, and with single spaces between them they are the line; no
+/// others do. So it is with the parts of a script between its LFs.
 pub fn pieces_join()
     ensures words { (line : List ℕ) → join_with_byte 32 (words_of line) ≡ line }
+    ensures no_space { (line : List ℕ) → All (Lacks 32) (words_of line) }
+    ensures only_words { (word : List ℕ) (words : List (List ℕ)) → All (Lacks 32) (word ∷ words) → words_of (join_with_byte 32 (word ∷ words)) ≡ word ∷ words }
     ensures parts { (text : List ℕ) → join_with_byte 10 (parts_of text) ≡ text }
+    ensures no_lf { (text : List ℕ) → All (Lacks 10) (parts_of text) }
+    ensures only_parts { (part : List ℕ) (parts : List (List ℕ)) → All (Lacks 10) (part ∷ parts) → parts_of (join_with_byte 10 (part ∷ parts)) ≡ part ∷ parts }
 {}
 
 /// A word spells a number where it is what is printed of it, and the number is in range.
@@ -34,7 +41,7 @@ pub fn number_words()
 
 /// A word spells an extended sequence number where it is what is printed of it; `-0` spells 0 too.
 pub fn ext_words()
-    ensures spelled { (word : List ℕ) (z : ℤ) → ext_of word ≡ Some z → IsExt z × ((word ≡ signed_decimal z) ⊎ ((word ≡ codes "-0") × (z ≡ pos 0))) }
+    ensures spelled { (word : List ℕ) (z : ℤ) → ext_of word ≡ Some z → IsExt z × SpellsExt word z }
     ensures read { (z : ℤ) → IsExt z → ext_of (signed_decimal z) ≡ Some z }
     ensures minus_zero { ext_of (codes "-0") ≡ Some (pos 0) }
 {}
@@ -54,14 +61,24 @@ pub fn call_lines()
     ensures desk_spelled { (line : List ℕ) (op : ℕ) (c : Call) → words_request (words_of line) ≡ Ok (Desk op c) → (line ≡ desk_line op c) × (op ≤ 15) × IsCall c }
 {}
 
-/// What is printed of octets in hexadecimal reads back as these octets.
+/// What is printed of octets in hexadecimal reads back as these octets, and a word that is read
+/// spells its octets, in either case.
 pub fn hex_words()
-    ensures { (octets : List ℕ) → IsBytes octets → decode_of (encode_lower octets) ≡ Ok octets }
+    ensures read { (octets : List ℕ) → IsBytes octets → decode_of (encode_lower octets) ≡ Ok octets }
+    ensures spelled { (word octets : List ℕ) → decode_of word ≡ Ok octets → SpellsHex word octets × IsBytes octets }
 {}
 
-/// What is printed of a packet reads back as this packet.
+/// What is printed of a packet reads back as this packet, and a word that is read spells its packet.
 pub fn packet_words()
-    ensures { (place : ℕ) (p : SourcePacket) → IsExt p.ext → p.pt ≤ 255 → IsBytes p.payload → packet_of place (packet_text p) ≡ Ok p }
+    ensures read { (place : ℕ) (p : SourcePacket) → IsReadable p → packet_of place (packet_text p) ≡ Ok p }
+    ensures spelled { (place : ℕ) (word : List ℕ) (p : SourcePacket) → packet_of place word ≡ Ok p → SpellsPacket word p × IsReadable p }
+{}
+
+/// The bridge of a script speaks as SSRC 1, under the canonical name `bridge`.
+pub fn script_bridge()
+    ensures ssrc { BRIDGE_SSRC ≡ 1 }
+    ensures name { CNAME.now ≡ codes "bridge" }
+    ensures desk { first_desk ≡ blank BRIDGE_SSRC }
 {}
 
 /// The reason for which a call is refused is the first that holds, and they are asked in the order

@@ -13,10 +13,10 @@ use std::alloc::{AllocError, Allocator, Global};
 use std::marker::Model;
 
 /// The SSRC under which the bridge of a script speaks.
-const BRIDGE_SSRC: u32 = 1;
+pub(crate) const BRIDGE_SSRC: u32 = 1;
 
 /// The canonical name of the bridge of a script.
-const CNAME: &[u8] = b"bridge";
+pub(crate) const CNAME: &[u8] = b"bridge";
 
 /// The bridge, the number of the line that is being read, and what has come of it.
 #[derive(Drop)]
