@@ -12,5 +12,6 @@ pub mod CallLaws
 pub mod ExtLemmas
 pub mod PacketLaws
 pub mod BridgeLemmas
+pub mod ScriptLaws
 pub mod JudgedLaws
 pub mod GrowLemmas

@@ -1,18 +1,15 @@
 -- The bridge of a script: the history of its calls and the steps so far, what is written for a request, and what the
 -- bridge is afterwards.
-use Rattle.std.specs.Prelude.{◌≡◌, ℕ, ◌+◌, ◌<◌, Bool, true, false, List, [], ◌∷◌, ◌++◌, length, Option, Some, None}
+use Rattle.std.specs.Prelude.{ℕ, ◌+◌, List, [], ◌∷◌, ◌++◌, Option, Some, None}
 use Rattle.std.specs.List.{flat_map}
 use Rattle.desk_rows.specs.Desk.{Desk, blank}
-use Rattle.desk_edit.specs.declared.command.Call.{Call}
 use Rattle.desk_edit.specs.declared.command.Refusal.{Refusal}
-use Rattle.desk_edit.specs.declared.command.Refusal.TheVariants.{OutOfMemory}
 use Rattle.desk_edit.specs.Calls.{CallHistory, no_calls, desk_now, refusal_of, after_call as history_after}
 use Rattle.bridge_core.specs.declared.reply.Reply.{Reply}
 use Rattle.bridge_core.specs.declared.reply.Reply.TheVariants.{Accepted, Refused}
 use Rattle.bridge_core.specs.Sent.{Sent, Input}
 use Rattle.bridge_core.specs.Lanes.{sends_at}
-use Rattle.bridge_core.specs.Steps.{CoreOf, Step, visits, visit_after, HasTaken}
-use Rattle.bridge_core.specs.Following.{HasCalled}
+use Rattle.bridge_core.specs.Steps.{Step, visits, visit_after}
 use Rattle.script_text.specs.declared.script.TheConstants.{BRIDGE_SSRC}
 use Rattle.script_text.specs.Requests.{Request, Nothing, Desk as DeskRequest, Item}
 use Rattle.script_text.specs.Text.{reply_text, sent_text}
@@ -30,55 +27,40 @@ first_desk = blank BRIDGE_SSRC
 abbrev pub opening_bridge : Bridge
 opening_bridge = record { calls = no_calls first_desk; steps = [] }
 
--- an accepted call takes the next number, a refused one names the version
-abbrev pub settled : ℕ → Option Refusal → Reply
-settled version None = Accepted (version + 1)
-settled version (Some why) = Refused version why
+-- what is answered to a request: nothing, a reply, or what goes out
+pub data Answer : Type 0 where
+  silence : Answer
+  replied : Reply → Answer
+  sent : List Sent → Answer
 
--- the reply tells of want of memory
-abbrev pub wants_memory : Reply → Bool
-wants_memory (Refused at OutOfMemory) = true
-wants_memory reply = false
+-- how an answer is written
+abbrev pub text_of : Answer → List ℕ
+text_of silence = []
+text_of (replied reply) = reply_text reply
+text_of (sent out) = flat_map sent_text out
 
--- the reply to a call
-abbrev pub reply_of : Bridge → Call → Reply
-reply_of bridge call = settled bridge.calls.accepted (refusal_of bridge.calls call)
+-- an accepted call takes the next number and publishes the desk that it leaves; a refused one names the version and changes nothing
+abbrev pub answer_call : Bridge → CallHistory → Option Refusal → Answer × Bridge
+answer_call bridge next None = (replied (Accepted (bridge.calls.accepted + 1)), record { calls = next; steps = bridge.steps ++ Step.publish (desk_now next) ∷ [] })
+answer_call bridge next (Some why) = (replied (Refused bridge.calls.accepted why), bridge)
 
--- an accepted call publishes the desk that it leaves, a refused one nothing
-abbrev pub published : Bridge → CallHistory → Option Refusal → Bridge
-published bridge next None = record { calls = next; steps = bridge.steps ++ Step.publish (desk_now next) ∷ [] }
-published bridge next (Some why) = bridge
+-- lane 0 of 1 sends what an item gives
+abbrev pub answer_item : Bridge → Input → Answer × Bridge
+answer_item bridge item = (
+  sent (sends_at 0 1 (visits 0 first_desk bridge.steps) (visit_after first_desk bridge.steps 0 item)),
+  record bridge { steps = bridge.steps ++ Step.item 0 item ∷ [] },
+)
 
--- the bridge after a call
-abbrev pub after_call : Bridge → Call → Bridge
-after_call bridge call = published bridge (history_after bridge.calls call) (refusal_of bridge.calls call)
-
--- what goes out for an item: lane 0 of 1 sends it
-abbrev pub sends_of : Bridge → Input → List Sent
-sends_of bridge item = sends_at 0 1 (visits 0 first_desk bridge.steps) (visit_after first_desk bridge.steps 0 item)
-
--- the bridge after an item
-abbrev pub after_item : Bridge → Input → Bridge
-after_item bridge item = record bridge { steps = bridge.steps ++ Step.item 0 item ∷ [] }
+-- the answer to a request, and the bridge after it
+abbrev pub answer : Bridge → Request → Answer × Bridge
+answer bridge Nothing = (silence, bridge)
+answer bridge (DeskRequest op call) = answer_call bridge (history_after bridge.calls call) (refusal_of bridge.calls call)
+answer bridge (Item item) = answer_item bridge item
 
 -- what is written for a request
 abbrev pub answer_text : Bridge → Request → List ℕ
-answer_text bridge Nothing = []
-answer_text bridge (DeskRequest op call) = reply_text (reply_of bridge call)
-answer_text bridge (Item item) = flat_map sent_text (sends_of bridge item)
+answer_text bridge request = text_of (answer bridge request).0
 
 -- the bridge after a request
 abbrev pub after : Bridge → Request → Bridge
-after bridge Nothing = bridge
-after bridge (DeskRequest op call) = after_call bridge call
-after bridge (Item item) = after_item bridge item
-
--- the core is this bridge
-pub record Stands (core : CoreOf) (bridge : Bridge) : Type 0 where
-  pub taken : HasTaken core first_desk bridge.steps
-  pub called : HasCalled core bridge.calls
-  pub lanes : length core.lanes ≡ 1
-
--- the core has the lane that a script's items go to
-abbrev pub HasLane : CoreOf → Type 0
-HasLane core = 0 < length core.lanes
+after bridge request = (answer bridge request).1

@@ -14,6 +14,7 @@ pub mod Growing
 pub mod Lines
 pub mod Bridge
 pub mod Output
+pub mod Scripts
 pub mod Steps
 pub mod Pieces
 pub mod Status

@@ -1,14 +1,33 @@
 -- A run between two octets: what the functions inside it say to one another.
 use Rattle.std.specs.List.{All}
-use Rattle.std.specs.Prelude.{◌≡◌, ◌==◌, false, ℕ, List, [], ◌++◌, Option, None, Result, Ok, Err}
+use Rattle.std.specs.Prelude.{◌≡◌, ◌==◌, ◌<◌, Bool, true, false, ℕ, length, List, [], ◌++◌, Option, None, Result, Ok, Err}
 use Rattle.std.specs.Io.KnownBytes.{Appends}
-use Rattle.bridge_core.specs.Steps.{CoreOf}
+use Rattle.desk_edit.specs.declared.command.Refusal.TheVariants.{OutOfMemory}
+use Rattle.bridge_core.specs.declared.reply.Reply.{Reply}
+use Rattle.bridge_core.specs.declared.reply.Reply.TheVariants.{Refused}
+use Rattle.bridge_core.specs.Following.{HasCalled}
+use Rattle.bridge_core.specs.Steps.{CoreOf, HasTaken}
 use Rattle.script_text.specs.declared.fault.RunFault.{RunFault}
 use Rattle.script_text.specs.declared.fault.RunFault.TheVariants as errors
 use Rattle.script_text.specs.Requests.{Request, request_of}
 use Rattle.script_text.specs.Lines.{lines_by, whole, ended, parts_of}
-use Rattle.script_text.specs.Bridge.{Bridge, opening_bridge, answer_text, after, Stands}
+use Rattle.script_text.specs.Bridge.{Bridge, first_desk, opening_bridge, answer_text, after}
 use Rattle.script_text.specs.Output.{Outcome, told, stopped, outcome_of, IsFrontOf, IsCutOf}
+
+-- the reply tells of want of memory
+abbrev pub wants_memory : Reply → Bool
+wants_memory (Refused at OutOfMemory) = true
+wants_memory reply = false
+
+-- the core is this bridge
+pub record Stands (core : CoreOf) (bridge : Bridge) : Type 0 where
+  pub taken : HasTaken core first_desk bridge.steps
+  pub called : HasCalled core bridge.calls
+  pub lanes : length core.lanes ≡ 1
+
+-- the core has the lane that a script's items go to
+abbrev pub HasLane : CoreOf → Type 0
+HasLane core = 0 < length core.lanes
 
 -- what a run holds: the core, the number of the line that is being read, and what has come of it
 pub record Held : Type 0 where

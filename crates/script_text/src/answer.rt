@@ -6,8 +6,7 @@ ghost use Rattle.bridge_core.specs.Sent.{sent_of, input_of};
 ghost use Rattle.script_text.specs.Text.{sent_text};
 ghost use Rattle.script_text.specs.Requests.{Desk, Item as ItemRequest};
 ghost use Rattle.script_text.specs.Cursor.{view};
-ghost use Rattle.script_text.specs.Bridge.{HasLane, wants_memory};
-ghost use Rattle.script_text.specs.Steps.{AnswersRequest, AnswersLine};
+ghost use Rattle.script_text.specs.Steps.{HasLane, wants_memory, AnswersRequest, AnswersLine};
 
 use crate::fault::{ParseFault, RunFault};
 use crate::line::{Line, parse_line};

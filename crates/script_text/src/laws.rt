@@ -2,11 +2,14 @@
 
 ghost use Rattle.std.specs.Prelude.{◌≡◌, ◌⊎◌, ℕ, ℤ, pos, ◌^◌, ◌<◌, ◌≤◌, List, [], ◌∷◌, ◌++◌, Some, Ok, codes};
 ghost use Rattle.std.specs.Fmt.{decimal, signed_decimal};
-ghost use Rattle.std.specs.List.{join_with_byte, All};
+ghost use Rattle.std.specs.List.{join_with_byte, flat_map, All};
 ghost use Rattle.hex.specs.Hex.{IsBytes, decode_of, encode_lower};
 ghost use Rattle.rtp_codec.specs.declared.address.Address.{Address};
 ghost use Rattle.desk_rows.specs.Desk.{Desk as Rows, blank};
-ghost use Rattle.script_text.specs.Bridge.{first_desk};
+ghost use Rattle.script_text.specs.Bridge.{first_desk, text_of};
+ghost use Rattle.script_text.specs.Output.{output_of};
+ghost use Rattle.script_text.specs.Scripts.{answers_of, sent_in, steps_of};
+ghost use Rattle.bridge_core.specs.Steps.{sends};
 ghost use Rattle.desk_edit.specs.Refusals.{first_case};
 ghost use Rattle.desk_edit.specs.Calls.{refusal_at};
 ghost use Rattle.script_text.specs.Judged.{call_cases, case_numbers, numbers_of, Rises};
@@ -87,4 +90,12 @@ pub fn refusal_words()
     ensures first { (version done : ℕ) (d : Rows) (call : Call) → refusal_at version d done call ≡ first_case (call_cases version d done call) }
     ensures numbers { (version done : ℕ) (d : Rows) (call : Call) → case_numbers (call_cases version d done call) ≡ numbers_of call }
     ensures rising { (call : Call) → Rises (numbers_of call) }
+{}
+
+/// The output of a script is what its requests are answered, and what goes out among it is all that
+/// the core's definition sends over the script's accepted calls and items: so the core's laws on
+/// streams and choices speak of scripts.
+pub fn script_sends()
+    ensures text { (input : List ℕ) → (output_of input).text ≡ flat_map text_of (answers_of input) }
+    ensures sends { (input : List ℕ) → sent_in (answers_of input) ≡ sends 1 first_desk (steps_of input) }
 {}

@@ -29,8 +29,7 @@ pub(crate) struct Script<A: Allocator + Copy = Global> {
 impl<A: Allocator + Copy> Model for Script<A> {
     ghost use Rattle.std.specs.Prelude.{◌≡◌, ◌==◌, false};
     ghost use Rattle.std.specs.List.{All};
-    ghost use Rattle.script_text.specs.Bridge.{HasLane};
-    ghost use Rattle.script_text.specs.Steps.{Held};
+    ghost use Rattle.script_text.specs.Steps.{HasLane, Held};
 
     ghost Value = { Held };
 

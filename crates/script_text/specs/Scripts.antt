@@ -1,0 +1,43 @@
+-- What a script asks for, and what it is answered, request by request.
+use Rattle.std.specs.Prelude.{ℕ, List, [], ◌∷◌, Result, Ok, Err}
+use Rattle.bridge_core.specs.Sent.{Sent}
+use Rattle.bridge_core.specs.Steps.{Step}
+use Rattle.script_text.specs.declared.fault.Fault.{Fault}
+use Rattle.script_text.specs.Requests.{Request, request_of}
+use Rattle.script_text.specs.Lines.{lines_of}
+use Rattle.script_text.specs.Bridge.{Bridge, opening_bridge, Answer, silence, replied, sent, answer, after}
+
+-- a request before others; a line with a fault ends them
+abbrev pub followed : Result Request (ℕ × Fault) → List Request → List Request
+followed (Ok request) others = request ∷ others
+followed (Err e) others = []
+
+-- what lines ask for, up to the first fault
+unfoldable pub requests_of : List (List ℕ) → List Request
+requests_of [] = []
+requests_of (line ∷ lines) = followed (request_of line) (requests_of lines)
+
+-- the answers to requests, one after another
+abbrev pub answers_to : Bridge → List Request → List Answer
+answers_to bridge [] = []
+answers_to bridge (request ∷ requests) = (answer bridge request).0 ∷ answers_to (after bridge request) requests
+
+-- the bridge after them
+abbrev pub after_all : Bridge → List Request → Bridge
+after_all bridge [] = bridge
+after_all bridge (request ∷ requests) = after_all (after bridge request) requests
+
+-- what goes out for items, and nothing for what else is answered
+abbrev pub sent_in : List Answer → List (List Sent)
+sent_in [] = []
+sent_in (silence ∷ answers) = sent_in answers
+sent_in (replied reply ∷ answers) = sent_in answers
+sent_in (sent out ∷ answers) = out ∷ sent_in answers
+
+-- the answers to a script
+abbrev pub answers_of : List ℕ → List Answer
+answers_of input = answers_to opening_bridge (requests_of (lines_of input))
+
+-- the accepted calls of a script, as the desks that they leave, and its items
+abbrev pub steps_of : List ℕ → List Step
+steps_of input = (after_all opening_bridge (requests_of (lines_of input))).steps
