@@ -39,7 +39,7 @@ shaped : (c : Call) → map field_of (fields_of c).values ≡ shape_of (fields_o
 shaped c = grind arith
 
 -- a value of a field, read from a value
-with_field : Field → Value → Value
+unfoldable pub with_field : Field → Value → Value
 with_field fields.U16 v = values.U16 (number_in v)
 with_field fields.U32 v = values.U32 (number_in v)
 with_field fields.U64 v = values.U64 (number_in v)
@@ -49,7 +49,7 @@ with_field fields.Codec v = values.Codec (codec_in v)
 with_field fields.Media v = values.Media (media_in v)
 
 -- values of fields, read from values from a place on
-read_from : ℕ → List Field → List Value → List Value
+unfoldable pub read_from : ℕ → List Field → List Value → List Value
 read_from k [] vs = []
 read_from k (f ∷ shape) vs = with_field f (value_at k vs) ∷ read_from (k + 1) shape vs
 
@@ -57,7 +57,7 @@ says : (n : Name) (vs : List Value) → fields_of (call_with n vs) ≡ record { 
 unfolding read_from with_field
 says n vs = grind arith
 
-kind_free : (k : Kind) → list_all (λ b. not (eqb b 32)) (kind_text k) ≡ true
+pub kind_free : (k : Kind) → list_all (λ b. not (eqb b 32)) (kind_text k) ≡ true
 kind_free k = grind arith
 
 -- ---- once for all commands
@@ -93,7 +93,7 @@ read_drop k (f ∷ shape) vs h =
           absurd cc
     ]
 
-read_all : (shape : List Field) (vs : List Value) → map field_of vs ≡ shape → read_from 0 shape vs ≡ vs
+pub read_all : (shape : List Field) (vs : List Value) → map field_of vs ≡ shape → read_from 0 shape vs ≡ vs
 read_all shape vs h = read_drop 0 shape vs h
 
 -- values of a name's fields are what the call says

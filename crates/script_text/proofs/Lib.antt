@@ -11,6 +11,7 @@ pub mod ValueLaws
 pub mod CallLaws
 pub mod ExtLemmas
 pub mod PacketLaws
+pub mod FrameLaws
 pub mod BridgeLemmas
 pub mod ScriptLaws
 pub mod JudgedLaws

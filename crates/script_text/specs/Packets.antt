@@ -39,6 +39,18 @@ pub record IsReadable (p : SourcePacket) : Type 0 where
   pub pt : p.pt ≤ 255
   pub payload : IsBytes p.payload
 
+-- those of all packets
+abbrev pub AllReadable : List SourcePacket → Type 0
+AllReadable [] = Unit {0}
+AllReadable (p ∷ ps) = IsReadable p × AllReadable ps
+
+-- how packets may be written, word by word
+abbrev pub SpellPackets : List (List ℕ) → List SourcePacket → Type 0
+SpellPackets [] [] = Unit {0}
+SpellPackets (word ∷ words) (p ∷ ps) = SpellsPacket word p × SpellPackets words ps
+SpellPackets [] (p ∷ ps) = ⊥
+SpellPackets (word ∷ words) [] = ⊥
+
 -- octets in hexadecimal of either case, or the fault of the word at this place
 abbrev pub octets_or : ℕ → Result (List ℕ) FromHexError → Result (List ℕ) (ℕ × Fault)
 octets_or place (Ok octets) = Ok octets

@@ -1,5 +1,5 @@
 -- What a line asks for (own).
-use Rattle.std.specs.Prelude.{ℕ, ◌&&◌, ◌||◌, ◌==◌, not, List, [], ◌∷◌, length, nat_lt, nat_le, slice_index, codes, Option, Some, None, Result, Ok, Err, if◌then◌else◌}
+use Rattle.std.specs.Prelude.{◌≡◌, ℕ, ◌&&◌, ◌||◌, ◌==◌, not, List, [], ◌∷◌, ◌++◌, map, length, nat_lt, nat_le, slice_index, codes, Option, Some, None, Result, Ok, Err, if◌then◌else◌}
 use Rattle.std.specs.List.{list_all, find, join_with_byte}
 use Rattle.std.specs.Str.{bytes_eq}
 use Rattle.desk_edit.specs.declared.command.Call.{Call}
@@ -12,14 +12,14 @@ use Rattle.script_text.specs.declared.fault.Fault.TheVariants.{LineTooLong, BadB
 use Rattle.script_text.specs.declared.value.Field.{Field}
 use Rattle.script_text.specs.declared.value.Field.TheVariants as fields
 use Rattle.script_text.specs.declared.value.Value.{Value}
-use Rattle.script_text.specs.declared.value.Value.TheVariants.{Operator}
+use Rattle.script_text.specs.declared.value.Value.TheVariants.{U32, U64, Operator, Address}
 use Rattle.script_text.specs.declared.name.Kind.{Kind}
 use Rattle.script_text.specs.declared.name.Kind.TheVariants as kinds
 use Rattle.script_text.specs.declared.line.TheConstants.{LINE_LIMIT}
 use Rattle.script_text.specs.declared.line.Head.{Head}
 use Rattle.script_text.specs.Words.{◌>>=◌, words_of, word_at, value_or}
-use Rattle.script_text.specs.Values.{value_text, values_of, number_at, address_at}
-use Rattle.script_text.specs.Packets.{packets_of}
+use Rattle.script_text.specs.Values.{value_text, values_of, number_at, address_at, AllFit}
+use Rattle.script_text.specs.Packets.{packet_text, packets_of, AllReadable}
 use Rattle.script_text.specs.Calls.{call_of, call_words}
 
 -- nothing, an operator's call, or an item for the lane
@@ -96,3 +96,21 @@ request_of line =
 -- the line of an operator's call: its words with spaces (32) between them
 abbrev pub desk_line : ℕ → Call → List ℕ
 desk_line op call = join_with_byte 32 (kind_text kinds.Desk ∷ value_text (Operator op) ∷ call_words call)
+
+-- the values that stand first on the line of a frame
+abbrev pub front_values : SourceFrame → List Value
+front_values f = U64 f.moment ∷ Address f.address ∷ U32 f.source ∷ U64 f.epoch ∷ U32 f.frame.ts ∷ []
+
+-- the words of a frame whose packets are written so
+abbrev pub frame_words : SourceFrame → List (List ℕ) → List (List ℕ)
+frame_words f packets = kind_text kinds.Frame ∷ map value_text (front_values f) ++ packets
+
+-- the line of a frame
+abbrev pub frame_line : SourceFrame → List ℕ
+frame_line f = join_with_byte 32 (frame_words f (map packet_text f.frame.packets))
+
+-- the packets make a frame, and all numbers are in range
+pub record IsFrame (f : SourceFrame) : Type 0 where
+  pub front : AllFit (front_values f)
+  pub packets : AllReadable f.frame.packets
+  pub made : fault_of f.frame.packets ≡ None

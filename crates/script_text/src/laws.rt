@@ -16,11 +16,12 @@ ghost use Rattle.script_text.specs.Judged.{call_cases, case_numbers, numbers_of,
 ghost use Rattle.script_text.specs.Words.{words_of, Lacks};
 ghost use Rattle.script_text.specs.Numbers.{number_of, ext_of, IsExt};
 ghost use Rattle.script_text.specs.Addresses.{address_of, address_text, IsAddress};
-ghost use Rattle.bridge_core.specs.Frame.{SourcePacket};
+ghost use Rattle.bridge_core.specs.Frame.{SourcePacket, SourceFrame};
+ghost use Rattle.bridge_core.specs.Sent.Input.{frame};
 ghost use Rattle.desk_edit.specs.declared.command.Call.{Call};
 ghost use Rattle.script_text.specs.Calls.{call_of, call_line, IsCall};
-ghost use Rattle.script_text.specs.Requests.{words_request, Desk, desk_line};
-ghost use Rattle.script_text.specs.Packets.{packet_of, packet_text, SpellsExt, SpellsHex, SpellsPacket, IsReadable};
+ghost use Rattle.script_text.specs.Requests.{words_request, Desk, desk_line, Item, frame_words, frame_line, IsFrame};
+ghost use Rattle.script_text.specs.Packets.{SpellPackets, packet_of, packet_text, SpellsExt, SpellsHex, SpellsPacket, IsReadable};
 ghost use Rattle.script_text.specs.Lines.{parts_of};
 
 use crate::script::{BRIDGE_SSRC, CNAME};
@@ -75,6 +76,14 @@ pub fn hex_words()
 pub fn packet_words()
     ensures read { (place : ℕ) (p : SourcePacket) → IsReadable p → packet_of place (packet_text p) ≡ Ok p }
     ensures spelled { (place : ℕ) (word : List ℕ) (p : SourcePacket) → packet_of place word ≡ Ok p → SpellsPacket word p × IsReadable p }
+{}
+
+/// The words of a frame's line are that frame, and what is read as a frame is spelled by its line,
+/// its packets being written in any of their ways.
+pub fn frame_lines()
+    ensures read { (f : SourceFrame) → IsFrame f → words_request (words_of (frame_line f)) ≡ Ok (Item (frame f)) }
+    ensures spelled { (line : List ℕ) (f : SourceFrame) → words_request (words_of line) ≡ Ok (Item (frame f))
+        → (packets : List (List ℕ)) × (line ≡ join_with_byte 32 (frame_words f packets)) × SpellPackets packets f.frame.packets × IsFrame f }
 {}
 
 /// The bridge of a script speaks as SSRC 1, under the canonical name `bridge`.
