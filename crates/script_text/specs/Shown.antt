@@ -5,7 +5,7 @@ use Rattle.script_text.specs.declared.appending.Word.TheVariants as words
 use Rattle.script_text.specs.declared.value.Value.TheVariants.{U32, U64}
 use Rattle.script_text.specs.declared.print.Carried.{Carried}
 use Rattle.script_text.specs.declared.print.Carried.TheVariants as carries
-use Rattle.script_text.specs.declared.print.Row.{Row}
+use Rattle.script_text.specs.declared.print.RefusalRow.{RefusalRow}
 use Rattle.script_text.specs.Text.{Word, fixed, value, hex, table_text, Told}
 
 -- a word
@@ -21,5 +21,5 @@ carried_words (carries.Limit table limit) = fixed (table_text table) ∷ value (
 carried_words (carries.Last last) = value (U64 last) ∷ []
 
 -- how it is told
-abbrev pub told_in : Row → Told
+abbrev pub told_in : RefusalRow → Told
 told_in row = record { number = row.number; name = row.name.now; carries = carried_words row.carried }

@@ -1,6 +1,6 @@
 //! Laws of the definitions, in the words of a script's grammar.
 
-ghost use Rattle.std.specs.Prelude.{◌≡◌, ◌⊎◌, ℕ, ℤ, pos, ◌^◌, ◌<◌, ◌≤◌, List, [], ◌∷◌, ◌++◌, Some, Ok, codes};
+ghost use Rattle.std.specs.Prelude.{◌≡◌, ℕ, ℤ, pos, ◌^◌, ◌<◌, ◌≤◌, List, ◌∷◌, Some, Ok, codes};
 ghost use Rattle.std.specs.Fmt.{decimal, signed_decimal};
 ghost use Rattle.std.specs.List.{join_with_byte, flat_map, All};
 ghost use Rattle.hex.specs.Hex.{IsBytes, decode_of, encode_lower};

@@ -37,17 +37,17 @@ enum Carried {
 
 /// How a refusal is told.
 #[derive(Clone, Copy)]
-struct Row {
+struct RefusalRow {
     number: u16,
     name: &'static [u8],
     carried: Carried,
 }
 
 /// A refusal that carries nothing.
-fn bare(number: u16, name: &'static [u8]) -> Row
+fn bare(number: u16, name: &'static [u8]) -> RefusalRow
     ensures { result ≡ record { number = number; name = name.entry; carried = Carried.Nothing } }
 {
-    Row {
+    RefusalRow {
         number,
         name,
         carried: Carried::Nothing,
@@ -55,7 +55,7 @@ fn bare(number: u16, name: &'static [u8]) -> Row
 }
 
 /// The refusals by number and name.
-fn told(why: Refusal) -> Row
+fn told(why: Refusal) -> RefusalRow
     ensures { told_in result ≡ told_of why }
 {
     match why {
@@ -69,13 +69,13 @@ fn told(why: Refusal) -> Row
         Refusal::SsrcTaken => bare(8, b"SsrcTaken"),
         Refusal::BadValue => bare(9, b"BadValue"),
         Refusal::Already => bare(10, b"Already"),
-        Refusal::Full { table, limit } => Row {
+        Refusal::Full { table, limit } => RefusalRow {
             number: 12,
             name: b"Full",
             carried: Carried::Limit(table, limit),
         },
         Refusal::OutOfMemory => bare(13, b"OutOfMemory"),
-        Refusal::NewerCommand { last } => Row {
+        Refusal::NewerCommand { last } => RefusalRow {
             number: 14,
             name: b"NewerCommand",
             carried: Carried::Last(last),
@@ -98,7 +98,7 @@ pub fn print_reply<A: Allocator>(reply: &Reply, out: &mut Vec<u8, A>) -> Result<
 }
 
 /// Appends the line of a refused call.
-fn print_refused<A: Allocator>(at: u64, row: Row, out: &mut Vec<u8, A>) -> Result<(), AllocError>
+fn print_refused<A: Allocator>(at: u64, row: RefusalRow, out: &mut Vec<u8, A>) -> Result<(), AllocError>
     ensures ok { OnOk result (out.new.items ≡ out.old.items ++ line_text (fixed (codes "no") ∷ value (U64 at) ∷ told_words (told_in row))) }
     ensures err { OnErr result (out.new.items ≡ out.old.items) }
     ensures full { OnErr result (vec_capacity out.old < vec_len out.old + length (line_text (fixed (codes "no") ∷ value (U64 at) ∷ told_words (told_in row)))) }

@@ -14,14 +14,14 @@ use arrayvec::ArrayVec;
 const MOST_VALUES: usize = 8;
 
 /// The values that stand first, and the text behind them.
-pub(crate) type Read<'a> = (ArrayVec<Value, MOST_VALUES>, Option<&'a [u8]>);
+pub(crate) type Front<'a> = (ArrayVec<Value, MOST_VALUES>, Option<&'a [u8]>);
 
 /// The values of these fields, of which the first stands at this place.
 pub(crate) fn read_values<'a>(
     place: u32,
     shape: &[Field],
     words: Option<&'a [u8]>,
-) -> Result<Read<'a>, ParseFault>
+) -> Result<Front<'a>, ParseFault>
     requires few { length shape.now ≤ MOST_VALUES }
     requires near { place ≤ 4 }
     ensures values { Gives (λ x. (x.0.items, words_in x.1)) result (values_of place shape.now (words_in words.entry)) }
