@@ -116,7 +116,8 @@ pub(crate) fn answer<T: Sink, A: Allocator + Copy>(
     ensures answer { AnswersLine core.old number line.now core.new (T.held writer.old) (T.held writer.new) result }
     ensures lane { HasLane core.new }
     ensures read { result ≢ Err RunFault.Read }
-    ensures write { result ≡ Err RunFault.Write → T.may_fail ⊎ (T.may_starve × T.may_split) ⊎ ((first : T) × T.goes_on (2 ^ 32) first writer.new) }
+    ensures write { result ≡ Err RunFault.Write →
+        T.may_fail ⊎ (T.may_starve × T.may_split) ⊎ ((first : T) × T.goes_on (2 ^ 32) first writer.new) }
 {
     let line = match parse_line(alloc, line) {
         Err(ParseFault::OutOfMemory) => return Err(RunFault::OutOfMemory),

@@ -55,7 +55,8 @@ fn append_half<A: Allocator>(
     mark: u8,
     out: &mut Vec<u8, A>,
 ) -> Result<(), AllocError>
-    ensures { Grows (room_of out.old) (room_of out.new) (decimal first ++ 46 ∷ [] ++ (decimal second ++ mark ∷ [])) result }
+    ensures { Grows (room_of out.old) (room_of out.new) (decimal first ++ 46 ∷ [] ++ (decimal second
+        ++ mark ∷ [])) result }
 {
     append_part(first, b'.', out)?;
     append_part(second, mark, out)
@@ -163,7 +164,8 @@ pub(crate) fn print_line<A: Allocator>(
 ) -> Result<(), AllocError>
     ensures ok { OnOk result (out.new.items ≡ out.old.items ++ line_text (fixed first.now ∷ map said words.now)) }
     ensures err { OnErr result (out.new.items ≡ out.old.items) }
-    ensures full { OnErr result (vec_capacity out.old < vec_len out.old + length (line_text (fixed first.now ∷ map said words.now))) }
+    ensures full { OnErr result (vec_capacity out.old
+        < vec_len out.old + length (line_text (fixed first.now ∷ map said words.now))) }
 {
     let before = out.len();
     let answer = append_line(first, words, out);

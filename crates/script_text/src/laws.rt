@@ -31,15 +31,18 @@ use crate::script::{BRIDGE_SSRC, CNAME};
 pub fn pieces_join()
     ensures words { (line : List ℕ) → join_with_byte 32 (words_of line) ≡ line }
     ensures no_space { (line : List ℕ) → All (Lacks 32) (words_of line) }
-    ensures only_words { (word : List ℕ) (words : List (List ℕ)) → All (Lacks 32) (word ∷ words) → words_of (join_with_byte 32 (word ∷ words)) ≡ word ∷ words }
+    ensures only_words { (word : List ℕ) (words : List (List ℕ)) → All (Lacks 32) (word ∷ words)
+        → words_of (join_with_byte 32 (word ∷ words)) ≡ word ∷ words }
     ensures parts { (text : List ℕ) → join_with_byte 10 (parts_of text) ≡ text }
     ensures no_lf { (text : List ℕ) → All (Lacks 10) (parts_of text) }
-    ensures only_parts { (part : List ℕ) (parts : List (List ℕ)) → All (Lacks 10) (part ∷ parts) → parts_of (join_with_byte 10 (part ∷ parts)) ≡ part ∷ parts }
+    ensures only_parts { (part : List ℕ) (parts : List (List ℕ)) → All (Lacks 10) (part ∷ parts)
+        → parts_of (join_with_byte 10 (part ∷ parts)) ≡ part ∷ parts }
 {}
 
 /// A word spells a number where it is what is printed of it, and the number is in range.
 pub fn number_words()
-    ensures spelled { (max n : ℕ) (word : List ℕ) → max < 2 ^ 64 → number_of max word ≡ Some n → (word ≡ decimal n) × (n ≤ max) }
+    ensures spelled { (max n : ℕ) (word : List ℕ) → max < 2 ^ 64 → number_of max word ≡ Some n
+        → (word ≡ decimal n) × (n ≤ max) }
     ensures read { (max n : ℕ) → max < 2 ^ 64 → n ≤ max → number_of max (decimal n) ≡ Some n }
 {}
 
@@ -61,8 +64,10 @@ pub fn address_words()
 pub fn call_lines()
     ensures read { (c : Call) → IsCall c → call_of 0 (words_of (call_line c)) ≡ Ok c }
     ensures spelled { (line : List ℕ) (c : Call) → call_of 0 (words_of line) ≡ Ok c → (line ≡ call_line c) × IsCall c }
-    ensures desk_read { (op : ℕ) (c : Call) → op ≤ 15 → IsCall c → words_request (words_of (desk_line op c)) ≡ Ok (Desk op c) }
-    ensures desk_spelled { (line : List ℕ) (op : ℕ) (c : Call) → words_request (words_of line) ≡ Ok (Desk op c) → (line ≡ desk_line op c) × (op ≤ 15) × IsCall c }
+    ensures desk_read { (op : ℕ) (c : Call) → op ≤ 15 → IsCall c
+        → words_request (words_of (desk_line op c)) ≡ Ok (Desk op c) }
+    ensures desk_spelled { (line : List ℕ) (op : ℕ) (c : Call) → words_request (words_of line) ≡ Ok (Desk op c)
+        → (line ≡ desk_line op c) × (op ≤ 15) × IsCall c }
 {}
 
 /// What is printed of octets in hexadecimal reads back as these octets, and a word that is read
@@ -75,7 +80,8 @@ pub fn hex_words()
 /// What is printed of a packet reads back as this packet, and a word that is read spells its packet.
 pub fn packet_words()
     ensures read { (place : ℕ) (p : SourcePacket) → IsReadable p → packet_of place (packet_text p) ≡ Ok p }
-    ensures spelled { (place : ℕ) (word : List ℕ) (p : SourcePacket) → packet_of place word ≡ Ok p → SpellsPacket word p × IsReadable p }
+    ensures spelled { (place : ℕ) (word : List ℕ) (p : SourcePacket) → packet_of place word ≡ Ok p
+        → SpellsPacket word p × IsReadable p }
 {}
 
 /// The words of a frame's line are that frame, and what is read as a frame is spelled by its line,
@@ -83,7 +89,8 @@ pub fn packet_words()
 pub fn frame_lines()
     ensures read { (f : SourceFrame) → IsFrame f → words_request (words_of (frame_line f)) ≡ Ok (Item (frame f)) }
     ensures spelled { (line : List ℕ) (f : SourceFrame) → words_request (words_of line) ≡ Ok (Item (frame f))
-        → (packets : List (List ℕ)) × (line ≡ join_with_byte 32 (frame_words f packets)) × SpellPackets packets f.frame.packets × IsFrame f }
+        → (packets : List (List ℕ)) × (line ≡ join_with_byte 32 (frame_words f packets))
+        × SpellPackets packets f.frame.packets × IsFrame f }
 {}
 
 /// The bridge of a script speaks as SSRC 1, under the canonical name `bridge`.
@@ -96,8 +103,10 @@ pub fn script_bridge()
 /// The reason for which a call is refused is the first that holds, and they are asked in the order
 /// of the refusals' numbers.
 pub fn refusal_words()
-    ensures first { (version done : ℕ) (d : Rows) (call : Call) → refusal_at version d done call ≡ first_case (call_cases version d done call) }
-    ensures numbers { (version done : ℕ) (d : Rows) (call : Call) → case_numbers (call_cases version d done call) ≡ numbers_of call }
+    ensures first { (version done : ℕ) (d : Rows) (call : Call)
+        → refusal_at version d done call ≡ first_case (call_cases version d done call) }
+    ensures numbers { (version done : ℕ) (d : Rows) (call : Call)
+        → case_numbers (call_cases version d done call) ≡ numbers_of call }
     ensures rising { (call : Call) → Rises (numbers_of call) }
 {}
 

@@ -98,10 +98,16 @@ pub fn print_reply<A: Allocator>(reply: &Reply, out: &mut Vec<u8, A>) -> Result<
 }
 
 /// Appends the line of a refused call.
-fn print_refused<A: Allocator>(at: u64, row: RefusalRow, out: &mut Vec<u8, A>) -> Result<(), AllocError>
-    ensures ok { OnOk result (out.new.items ≡ out.old.items ++ line_text (fixed (codes "no") ∷ value (U64 at) ∷ told_words (told_in row))) }
+fn print_refused<A: Allocator>(
+    at: u64,
+    row: RefusalRow,
+    out: &mut Vec<u8, A>,
+) -> Result<(), AllocError>
+    ensures ok { OnOk result (out.new.items ≡ out.old.items
+        ++ line_text (fixed (codes "no") ∷ value (U64 at) ∷ told_words (told_in row))) }
     ensures err { OnErr result (out.new.items ≡ out.old.items) }
-    ensures full { OnErr result (vec_capacity out.old < vec_len out.old + length (line_text (fixed (codes "no") ∷ value (U64 at) ∷ told_words (told_in row)))) }
+    ensures full { OnErr result (vec_capacity out.old
+        < vec_len out.old + length (line_text (fixed (codes "no") ∷ value (U64 at) ∷ told_words (told_in row)))) }
 {
     let at = Word::Value(Value::U64(at));
     let number = Word::Value(Value::U16(row.number));

@@ -30,7 +30,8 @@ fn run_with<A: Allocator + Copy, S: Source, T: Sink>(
     ensures run { IfSome (S.rest reader.old) (λ input.
         RunEnds input (S.rest reader.new) (T.held writer.old) (T.held writer.new) result) }
     ensures read { result ≡ Err RunFault.Read → S.may_fail ⊎ S.goes_on (2 ^ 32) reader.old reader.new }
-    ensures write { result ≡ Err RunFault.Write → T.may_fail ⊎ (T.may_starve × T.may_split) ⊎ ((first : T) × T.goes_on (2 ^ 32) first writer.new) }
+    ensures write { result ≡ Err RunFault.Write →
+        T.may_fail ⊎ (T.may_starve × T.may_split) ⊎ ((first : T) × T.goes_on (2 ^ 32) first writer.new) }
 {
     for _ in 0..MOST_CALLS {
         match reader.read_some(chunk) {
@@ -64,7 +65,8 @@ pub fn run<A: Allocator + Copy, S: Source, T: Sink>(
     ensures run { IfSome (S.rest reader.old) (λ input.
         RunEnds input (S.rest reader.new) (T.held writer.old) (T.held writer.new) result) }
     ensures read { result ≡ Err RunFault.Read → S.may_fail ⊎ S.goes_on (2 ^ 32) reader.old reader.new }
-    ensures write { result ≡ Err RunFault.Write → T.may_fail ⊎ (T.may_starve × T.may_split) ⊎ ((first : T) × T.goes_on (2 ^ 32) first writer.new) }
+    ensures write { result ≡ Err RunFault.Write →
+        T.may_fail ⊎ (T.may_starve × T.may_split) ⊎ ((first : T) × T.goes_on (2 ^ 32) first writer.new) }
 {
     let Ok(mut script) = Script::new(alloc) else {
         return Err(RunFault::OutOfMemory);
@@ -78,8 +80,10 @@ pub fn run<A: Allocator + Copy, S: Source, T: Sink>(
 /// The output of a script that is in memory, or why the run over it ended: a fault of the script, or
 /// want of memory.
 pub fn output<A: Allocator + Copy>(alloc: A, script: &[u8]) -> Result<Vec<u8, A>, RunFault>
-    ensures ok { IfOk result (λ out. ((output_of script.now).fault ≡ None) × (out.items ≡ (output_of script.now).text)) }
-    ensures fault { (line word : ℕ) (fault : Fault) → result ≡ Err (RunFault.Script line word fault) → (output_of script.now).fault ≡ Some (line, word, fault) }
+    ensures ok { IfOk result (λ out. ((output_of script.now).fault ≡ None) × (out.items
+        ≡ (output_of script.now).text)) }
+    ensures fault { (line word : ℕ) (fault : Fault) → result ≡ Err (RunFault.Script line word fault)
+        → (output_of script.now).fault ≡ Some (line, word, fault) }
     ensures read { result ≢ Err RunFault.Read }
     ensures write { result ≢ Err RunFault.Write }
 {

@@ -101,7 +101,8 @@ impl<A: Allocator + Copy> Script<A> {
         ensures line { self.new.line ≤ self.old.line + 1 }
         ensures midline { IsMidLine self.new }
         ensures read { result ≢ Err RunFault.Read }
-        ensures write { result ≡ Err RunFault.Write → T.may_fail ⊎ (T.may_starve × T.may_split) ⊎ ((first : T) × T.goes_on (2 ^ 32) first writer.new) }
+        ensures write { result ≡ Err RunFault.Write →
+            T.may_fail ⊎ (T.may_starve × T.may_split) ⊎ ((first : T) × T.goes_on (2 ^ 32) first writer.new) }
     {
         let number = self.line;
         let line = without_cr(&self.pending);
@@ -122,7 +123,8 @@ impl<A: Allocator + Copy> Script<A> {
         ensures line { self.new.line ≤ self.old.line + 1 }
         ensures midline { IsMidLine self.new }
         ensures read { result ≢ Err RunFault.Read }
-        ensures write { result ≡ Err RunFault.Write → T.may_fail ⊎ (T.may_starve × T.may_split) ⊎ ((first : T) × T.goes_on (2 ^ 32) first writer.new) }
+        ensures write { result ≡ Err RunFault.Write →
+            T.may_fail ⊎ (T.may_starve × T.may_split) ⊎ ((first : T) × T.goes_on (2 ^ 32) first writer.new) }
     {
         if octet == b'\n' {
             self.end_line(alloc, writer)
@@ -144,7 +146,8 @@ impl<A: Allocator + Copy> Script<A> {
         ensures line { self.new.line ≤ self.old.line + length octets.now }
         ensures midline { IsMidLine self.new }
         ensures read { result ≢ Err RunFault.Read }
-        ensures write { result ≡ Err RunFault.Write → T.may_fail ⊎ (T.may_starve × T.may_split) ⊎ ((first : T) × T.goes_on (2 ^ 32) first writer.new) }
+        ensures write { result ≡ Err RunFault.Write →
+            T.may_fail ⊎ (T.may_starve × T.may_split) ⊎ ((first : T) × T.goes_on (2 ^ 32) first writer.new) }
     {
         for octet in octets {
             if let Err(fault) = self.octet(alloc, *octet, writer) {
@@ -158,7 +161,8 @@ impl<A: Allocator + Copy> Script<A> {
     pub(crate) fn finish<T: Sink>(&mut self, alloc: A, writer: &mut T) -> Result<(), RunFault>
         ensures end { Finishes self.old (T.held writer.old) (T.held writer.new) result }
         ensures read { result ≢ Err RunFault.Read }
-        ensures write { result ≡ Err RunFault.Write → T.may_fail ⊎ (T.may_starve × T.may_split) ⊎ ((first : T) × T.goes_on (2 ^ 32) first writer.new) }
+        ensures write { result ≡ Err RunFault.Write →
+            T.may_fail ⊎ (T.may_starve × T.may_split) ⊎ ((first : T) × T.goes_on (2 ^ 32) first writer.new) }
     {
         let number = self.line;
         answer(alloc, &mut self.core, number, &self.pending, writer)

@@ -14,7 +14,8 @@ pub(crate) const MOST_CALLS: u64 = 1 << 32;
 pub(crate) fn send<T: Sink>(writer: &mut T, octets: &[u8]) -> Result<(), RunFault>
     ensures sends { Sends octets.now (T.held writer.old) (T.held writer.new) result }
     ensures read { result ≢ Err RunFault.Read }
-    ensures write { result ≡ Err RunFault.Write → T.may_fail ⊎ (T.may_starve × T.may_split) ⊎ ((first : T) × T.goes_on (2 ^ 32) first writer.new) }
+    ensures write { result ≡ Err RunFault.Write →
+        T.may_fail ⊎ (T.may_starve × T.may_split) ⊎ ((first : T) × T.goes_on (2 ^ 32) first writer.new) }
 {
     let mut at = 0;
     for _ in 0..MOST_CALLS {

@@ -43,7 +43,8 @@ pub trait Sink {
         ensures failed { result ≡ portions.Failed → may_fail }
         ensures starved { result ≡ portions.OutOfMemory → may_starve }
         ensures whole { (n : ℕ) → result ≡ portions.Octets n → (n ≡ length octets.now) ⊎ may_split }
-        ensures counted { (n : ℕ) (first : Self) → goes_on n first self.old → IsLeft octets.now result → goes_on (n + 1) first self.new };
+        ensures counted { (n : ℕ) (first : Self) → goes_on n first self.old → IsLeft octets.now result
+            → goes_on (n + 1) first self.new };
 
     /// No call leads nowhere.
     ghost at_first: { (s : Self) → goes_on 0 s s };

@@ -38,7 +38,8 @@ pub trait Source {
         ensures piece { IsPiece (rest self.old) (rest self.new) chunk.new result }
         ensures failed { result ≡ pieces.Failed → may_fail }
         ensures starved { result ≡ pieces.OutOfMemory → may_starve }
-        ensures counted { (n : ℕ) (first : Self) → goes_on n first self.old → result ≢ pieces.End → goes_on (n + 1) first self.new };
+        ensures counted { (n : ℕ) (first : Self) → goes_on n first self.old → result ≢ pieces.End
+            → goes_on (n + 1) first self.new };
 
     /// No call leads nowhere.
     ghost at_first: { (s : Self) → goes_on 0 s s };
