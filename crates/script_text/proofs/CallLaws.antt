@@ -17,10 +17,9 @@ use Rattle.script_text.specs.declared.name.Kind.TheVariants as kinds
 use Rattle.script_text.specs.Words.{words_of, word_at, none_left, value_or}
 use Rattle.script_text.specs.Values.{field_of, value_text, AllFit, values_of, value_at, number_in, address_in, codec_in, media_in}
 use Rattle.script_text.specs.Calls.{name_text, all_names, name_of, shape_of, Spelt, fields_of, call_with, call_of, call_words, call_line, IsCall}
-use Rattle.script_text.specs.declared.line.Head.{Head}
 use Rattle.bridge_core.specs.declared.frame.FrameFault.{FrameFault}
 use Rattle.bridge_core.specs.Frame.{SourceFrame, fault_of}
-use Rattle.script_text.specs.Requests.{Desk, kind_text, kind_of, front_of, some_packets, sighted, framed, frame_of, head_with, request_with, words_request, desk_line}
+use Rattle.script_text.specs.Requests.{Desk, kind_text, kind_of, front_of, some_packets, sighted, framed, frame_of, request_with, words_request, desk_line}
 use Rattle.script_text.proofs.Joined.{AllFree, free_test, parts_joined}
 use Rattle.script_text.proofs.ValueLaws.{found_text, free_values, bind_ok, word_back, or_back, values_back, values_again}
 
@@ -151,11 +150,11 @@ line_back line c e =
 
 -- ---- the line of an operator
 
-frame_is_none : (words : List (List ℕ)) (h : Head) (op : ℕ) (c : Call) {P : Type 0} → frame_of h words ≡ Ok (Desk op c) → P
+frame_is_none : (words : List (List ℕ)) (vs : List Value) (op : ℕ) (c : Call) {P : Type 0} → frame_of (sighted vs) words ≡ Ok (Desk op c) → P
 unfolding frame_of
-frame_is_none words h op c e =
+frame_is_none words vs op c e =
     let p = bind_ok (some_packets 7 words) _ (Desk op c) e in
-    never (sighted h p.0) (fault_of p.0) p.2
+    never (sighted vs p.0) (fault_of p.0) p.2
   where
     never : (sighting : SourceFrame) (fault : Option FrameFault) {P : Type 0} → framed sighting fault ≡ Ok (Desk op c) → P
     never sighting None e = absurd cc
@@ -167,7 +166,7 @@ desk_by kinds.Desk vs words op c e =
     let is : Desk (number_in (value_at 0 vs)) r.0 ≡ Desk op c = cc (r.2) in
     let same : r.0 ≡ c = cc in
     (refl, cc, r.1 ∙ ap Ok same)
-desk_by kinds.Frame vs words op c e = frame_is_none words (head_with vs) op c e
+desk_by kinds.Frame vs words op c e = frame_is_none words vs op c e
 
 desk_words : (op : ℕ) (c : Call) → op ≤ 15 → IsCall c → words_request (kind_text kinds.Desk ∷ value_text (values.Operator op) ∷ call_words c) ≡ Ok (Desk op c)
 unfolding words_request

@@ -18,7 +18,7 @@ use Rattle.script_text.specs.Numbers.{IsExt}
 use Rattle.script_text.specs.Values.{field_of, value_text, AllFit, values_of}
 use Rattle.script_text.specs.Packets.{marker_text, packet_text, packet_of, packets_of, IsReadable, AllReadable, SpellPackets}
 use Rattle.script_text.specs.Calls.{call_of}
-use Rattle.script_text.specs.Requests.{Request, Item, kind_text, kind_of, front_of, some_packets, sighted, framed, frame_of, head_with, request_with, words_request, front_values, frame_words, frame_line, IsFrame}
+use Rattle.script_text.specs.Requests.{Request, Item, kind_text, kind_of, front_of, some_packets, sighted, framed, frame_of, request_with, words_request, front_values, frame_words, frame_line, IsFrame}
 use Rattle.script_text.proofs.Joined.{Free, AllFree, free_test, free_append, free_number, parts_joined}
 use Rattle.script_text.proofs.ValueLaws.{found_text, free_values, bind_ok, word_back, or_back, values_back, values_again}
 use Rattle.script_text.proofs.PacketLaws.{packet_read, packet_spelled}
@@ -113,15 +113,15 @@ framed_back : (sighting f : SourceFrame) (fault : Option FrameFault) → framed 
 framed_back sighting f None e = (refl, same_frame sighting f (same_item (frame sighting) (frame f) _ refl e))
 framed_back sighting f (Some fault) e = absurd cc
 
-frame_by : (kind : Kind) (vs : List Value) (words : List (List ℕ)) (f : SourceFrame) → request_with kind vs words ≡ Ok (Item (frame f)) → (kind ≡ kinds.Frame) × (ps : List SourcePacket) × (packets_of 7 words ≡ Ok ps) × (fault_of ps ≡ None) × (sighted (head_with vs) ps ≡ f)
+frame_by : (kind : Kind) (vs : List Value) (words : List (List ℕ)) (f : SourceFrame) → request_with kind vs words ≡ Ok (Item (frame f)) → (kind ≡ kinds.Frame) × (ps : List SourcePacket) × (packets_of 7 words ≡ Ok ps) × (fault_of ps ≡ None) × (sighted vs ps ≡ f)
 unfolding frame_of
 frame_by kinds.Desk vs words f e = let c = bind_ok (call_of 2 words) _ (Item (frame f)) e in absurd cc
 frame_by kinds.Frame vs words f e =
     let p = bind_ok (some_packets 7 words) _ (Item (frame f)) e in
-    let made = framed_back (sighted (head_with vs) p.0) f (fault_of p.0) p.2 in
+    let made = framed_back (sighted vs p.0) f (fault_of p.0) p.2 in
     (refl, p.0, some_back 7 words p.0 p.1, made.0, made.1)
 
-front_is : (vs : List Value) (ps : List SourcePacket) → map field_of vs ≡ front_of kinds.Frame → vs ≡ front_values (sighted (head_with vs) ps)
+front_is : (vs : List Value) (ps : List SourcePacket) → map field_of vs ≡ front_of kinds.Frame → vs ≡ front_values (sighted vs ps)
 unfolding read_from with_field
 front_is vs ps h = sym (read_all (front_of kinds.Frame) vs h)
 

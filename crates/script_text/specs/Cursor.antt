@@ -1,10 +1,11 @@
 -- What the parser holds of a line.
 use Rattle.std.specs.Prelude.{◌≡◌, ◌≢◌, ℕ, ◌+◌, List, [], ◌∷◌, length, Option, Some, None, ◌++◌, Result, Ok, Err}
 use Rattle.std.specs.Borrow.{Bor}
-use Rattle.bridge_core.specs.Frame.{SourcePacket}
+use Rattle.bridge_core.specs.Frame.{SourcePacket, SourceFrame}
 use Rattle.bridge_core.specs.Sent.{input_of}
 use Rattle.script_text.specs.declared.fault.ParseFault.{ParseFault}
 use Rattle.script_text.specs.declared.packet.Parts.{Parts}
+use Rattle.script_text.specs.declared.line.Head.{Head}
 use Rattle.script_text.specs.declared.line.Line.{Line}
 use Rattle.script_text.specs.declared.line.Line.TheVariants as lines
 use Rattle.script_text.specs.Words.{Fails, words_of}
@@ -21,6 +22,10 @@ abbrev pub view : {A : Type 0} → Line A → Request
 view lines.Nothing = Nothing
 view (lines.Desk op call) = Desk op call
 view (lines.Item item) = Item (input_of item)
+
+-- the frame of these packets, with what stands before them
+abbrev pub sighting : Head → List SourcePacket → SourceFrame
+sighting h packets = record { source = h.source; address = h.address; epoch = h.epoch; moment = h.moment; frame = record { ts = h.ts; packets = packets } }
 
 -- these are the four parts, or there are not four
 abbrev pub are_parts : Option Parts → List (List ℕ) → Type 0

@@ -16,7 +16,6 @@ use Rattle.script_text.specs.declared.value.Value.TheVariants.{U32, U64, Operato
 use Rattle.script_text.specs.declared.name.Kind.{Kind}
 use Rattle.script_text.specs.declared.name.Kind.TheVariants as kinds
 use Rattle.script_text.specs.declared.line.TheConstants.{LINE_LIMIT}
-use Rattle.script_text.specs.declared.line.Head.{Head}
 use Rattle.script_text.specs.Words.{◌>>=◌, words_of, word_at, value_or}
 use Rattle.script_text.specs.Values.{value_text, values_of, number_at, address_at, AllFit}
 use Rattle.script_text.specs.Packets.{packet_text, packets_of, AllReadable}
@@ -47,10 +46,6 @@ abbrev pub some_packets : ℕ → List (List ℕ) → Result (List SourcePacket)
 some_packets place [] = Err (place, MissingWord)
 some_packets place (word ∷ words) = packets_of place (word ∷ words)
 
--- the frame that these words and packets say
-abbrev pub sighted : Head → List SourcePacket → SourceFrame
-sighted h packets = record { source = h.source; address = h.address; epoch = h.epoch; moment = h.moment; frame = record { ts = h.ts; packets = packets } }
-
 -- packets that make no frame are told last, at the place of the first of them
 abbrev pub framed : SourceFrame → Option FrameFault → Result Request (ℕ × Fault)
 framed sighting None = Ok (Item (frame sighting))
@@ -62,20 +57,20 @@ desk_of op words = do
   call ← call_of 2 words
   Ok (Desk op call)
 
--- the frame with the packets EXT/M/PT/HEX .. that words spell
-unfoldable pub frame_of : Head → List (List ℕ) → Result Request (ℕ × Fault)
-frame_of head words = do
+-- what words EXT/M/PT/HEX .. ask for, where this is the frame of their packets
+unfoldable pub frame_of : (List SourcePacket → SourceFrame) → List (List ℕ) → Result Request (ℕ × Fault)
+frame_of sighted words = do
   packets ← some_packets 7 words
-  framed (sighted head packets) (fault_of packets)
+  framed (sighted packets) (fault_of packets)
 
--- what a `frame` line says before its packets
-abbrev pub head_with : List Value → Head
-head_with vs = record { moment = number_at 0 vs; address = address_at 1 vs; source = number_at 2 vs; epoch = number_at 3 vs; ts = number_at 4 vs }
+-- the frame of these packets, with the values MOMENT ADDRESS SSRC EPOCH TS
+abbrev pub sighted : List Value → List SourcePacket → SourceFrame
+sighted vs packets = record { moment = number_at 0 vs; address = address_at 1 vs; source = number_at 2 vs; epoch = number_at 3 vs; frame = record { ts = number_at 4 vs; packets = packets } }
 
 -- what a line of a kind asks for, with these values first and words behind them
 abbrev pub request_with : Kind → List Value → List (List ℕ) → Result Request (ℕ × Fault)
 request_with kinds.Desk vs words = desk_of (number_at 0 vs) words
-request_with kinds.Frame vs words = frame_of (head_with vs) words
+request_with kinds.Frame vs words = frame_of (sighted vs) words
 
 -- what words ask for
 unfoldable pub words_request : List (List ℕ) → Result Request (ℕ × Fault)

@@ -4,9 +4,9 @@ ghost use Rattle.std.specs.Prelude.{◌≡◌, ◌≤◌, ◌+◌, ◌&&◌, nat
 ghost use Rattle.std.specs.List.{list_all};
 ghost use Rattle.bridge_core.specs.Frame.{fault_of};
 ghost use Rattle.script_text.specs.Words.{Gives};
-ghost use Rattle.script_text.specs.Cursor.{words_in, size_of, view};
+ghost use Rattle.script_text.specs.Cursor.{words_in, size_of, view, sighting};
 ghost use Rattle.script_text.specs.Values.{field_of};
-ghost use Rattle.script_text.specs.Requests.{some_packets, sighted, framed, frame_of, desk_of, front_of, request_with, words_request, request_of};
+ghost use Rattle.script_text.specs.Requests.{some_packets, framed, frame_of, desk_of, front_of, request_with, words_request, request_of};
 
 use crate::building::call;
 use crate::fault::{Fault, ParseFault};
@@ -68,7 +68,7 @@ fn framed<A: Allocator + Copy>(
     head: Head,
     packets: Vec<FramePacket<A>, A>,
 ) -> Result<Line<A>, ParseFault>
-    ensures { Gives view result (framed (sighted head packets.items) (fault_of packets.items)) }
+    ensures { Gives view result (framed (sighting head packets.items) (fault_of packets.items)) }
 {
     let Head {
         moment,
@@ -97,7 +97,7 @@ fn frame<A: Allocator + Copy>(
     words: Option<&[u8]>,
 ) -> Result<Line<A>, ParseFault>
     requires { size_of words ≤ LINE_LIMIT + 1 }
-    ensures { Gives view result (frame_of head (words_in words.entry)) }
+    ensures { Gives view result (frame_of (sighting head) (words_in words.entry)) }
 {
     let packets = some_packets(alloc, words)?;
     framed(head, packets)
