@@ -6,7 +6,7 @@ use Rattle.undo_log.specs.Timeline.{rewound}
 use Rattle.desk_rows.specs.Desk.{Desk}
 use Rattle.desk_rows.specs.Edit.{EditOf, inverse}
 use Rattle.desk_rows.specs.Exchange.{fits, after}
-use Rattle.desk_rows.specs.Laws.{undoes}
+use Rattle.desk_rows.specs.laws.Laws.{undoes}
 use Rattle.desk_edit.specs.declared.command.Command.{Command}
 use Rattle.desk_edit.specs.declared.command.Call.{Call}
 use Rattle.desk_edit.specs.declared.command.Call.TheVariants.{Apply, Undo}

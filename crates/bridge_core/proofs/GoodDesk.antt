@@ -8,10 +8,10 @@ use Rattle.desk_rows.specs.declared.row.Row.TheVariants.{Room, Member, Source, S
 use Rattle.desk_rows.specs.declared.row.Member.{Member as MemberRow}
 use Rattle.desk_rows.specs.declared.row.Slot.{Slot as SlotRow}
 use Rattle.desk_rows.specs.declared.row.Key.TheVariants as keys
-use Rattle.desk_rows.specs.Row.{has_key, key_of, rank, number}
-use Rattle.desk_rows.specs.Equal.{number_itself}
-use Rattle.desk_rows.specs.PlaceLaws.{count_next}
-use Rattle.desk_rows.specs.Laws.{claims_key, count_by-append, good_parts}
+use Rattle.desk_rows.specs.Row.{has_key, key_of}
+use Rattle.desk_rows.specs.laws.Equal.{key_itself}
+use Rattle.desk_rows.specs.laws.PlaceLaws.{count_next}
+use Rattle.desk_rows.specs.laws.Laws.{claims_key, count_by-append, good_parts}
 use Rattle.desk_rows.specs.Desk.{Desk, good, is_alone, rows_of}
 use Rattle.bridge_core.specs.Receivers.{slot_in, slots_of}
 use Rattle.bridge_core.proofs.Distinct.{at, Distinct, from_past}
@@ -34,7 +34,7 @@ not_counted p (r ∷ rs) e = by (p r) refl (not_counted p rs)
         ap (λ b. b || list_any p rs) h ∙ later none
 
 has_its_key : (r : Row) → has_key (key_of r) r ≡ true
-has_its_key r = and_from _ _ (number_itself (rank (key_of r))) (number_itself (number (key_of r)))
+has_its_key r = key_itself (key_of r)
 
 -- rows that have their keys alone have distinct keys
 alone_apart : (d : Desk) (before rs : List Row) → rows_of d ≡ before ++ rs → list_all (is_alone d) rs ≡ true → distinct_keys rs ≡ true

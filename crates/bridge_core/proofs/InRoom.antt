@@ -7,7 +7,7 @@ use Rattle.desk_rows.specs.declared.row.Row.TheVariants.{Room, Member, Source, S
 use Rattle.desk_rows.specs.declared.row.Key.{Key}
 use Rattle.desk_rows.specs.declared.row.Key.TheVariants as keys
 use Rattle.desk_rows.specs.Row.{has_key}
-use Rattle.desk_rows.specs.Laws.{good_parts}
+use Rattle.desk_rows.specs.laws.Laws.{good_parts}
 use Rattle.desk_rows.specs.Desk.{Desk, good, rows_of, row_at, obeys, is_slot_beside}
 use Rattle.bridge_core.specs.Choice.{choice, subscribed, unless_own, is_own}
 

@@ -13,7 +13,7 @@ use Rattle.desk_rows.specs.declared.row.Row.{Row}
 use Rattle.desk_rows.specs.declared.row.Row.TheVariants.{Room, Member, Source, Slot, Sub}
 use Rattle.desk_rows.specs.declared.row.Kind.TheVariants as kinds
 use Rattle.desk_rows.specs.Kinds.{is_of}
-use Rattle.desk_rows.specs.Laws.{good_order, good_parts}
+use Rattle.desk_rows.specs.laws.Laws.{good_order, good_parts}
 use Rattle.desk_rows.specs.Desk.{Desk, good, obeys}
 use Rattle.bridge_core.specs.declared.lane_place.LanePlace.{LanePlace}
 use Rattle.bridge_core.specs.declared.receivers.Receiver.{Receiver}

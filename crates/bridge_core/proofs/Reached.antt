@@ -14,7 +14,7 @@ use Rattle.desk_rows.specs.declared.row.Key.TheVariants as keys
 use Rattle.desk_rows.specs.Row.{has_key}
 use Rattle.desk_rows.specs.Kinds.{is_of}
 use Rattle.desk_rows.specs.Order.{in_order}
-use Rattle.desk_rows.specs.Laws.{good_parts}
+use Rattle.desk_rows.specs.laws.Laws.{good_parts}
 use Rattle.desk_rows.specs.Desk.{Desk, good, obeys, is_named_there}
 use Rattle.bridge_core.specs.declared.receivers.Receiver.{Receiver}
 use Rattle.bridge_core.specs.Choice.{choice, comes_from, same_number, address_in}

@@ -12,7 +12,7 @@ use Rattle.desk_rows.specs.declared.row.Row.TheVariants.{Room, Member, Source, S
 use Rattle.desk_rows.specs.declared.row.Key.TheVariants as keys
 use Rattle.desk_rows.specs.declared.row.Kind.TheVariants as kinds
 use Rattle.desk_rows.specs.Row.{has_key}
-use Rattle.desk_rows.specs.Equal.{number_itself}
+use Rattle.desk_rows.specs.laws.Equal.{number_itself}
 use Rattle.desk_rows.specs.Kinds.{is_of}
 use Rattle.desk_rows.specs.Order.{precedes, in_order}
 use Rattle.desk_rows.specs.Desk.{Desk, row_at}

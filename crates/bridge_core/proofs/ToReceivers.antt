@@ -2,7 +2,7 @@
 use Rattle.std.proofs.Common.{◌≡◌, ℕ, Bool, true, false, cond, nat_eq, List, [], ◌∷◌, map, None, Some, refl, sym, ap, ◌∙◌, eqb-true}
 use Rattle.std.specs.Prelude.{option_map}
 use Rattle.std.specs.List.{flat_map, AllByRecursion}
-use Rattle.desk_rows.specs.Equal.{number_itself}
+use Rattle.desk_rows.specs.laws.Equal.{number_itself}
 use Rattle.desk_rows.specs.Desk.{Desk, good}
 use Rattle.bridge_core.specs.declared.receivers.Receiver.{Receiver}
 use Rattle.bridge_core.specs.OwnStreams.{is_mine}

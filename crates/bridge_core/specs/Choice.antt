@@ -4,7 +4,7 @@ use Rattle.rtp_codec.specs.declared.address.Address.{Address}
 use Rattle.desk_rows.specs.declared.row.Row.{Row}
 use Rattle.desk_rows.specs.declared.row.Row.TheVariants.{Member, Source, Slot, Sub}
 use Rattle.desk_rows.specs.declared.row.Key.TheVariants as keys
-use Rattle.desk_rows.specs.Row.{same_address}
+use Rattle.rtp_codec.specs.Address.{same_address}
 use Rattle.desk_rows.specs.Desk.{Desk, row_at}
 
 -- the source that a subscription names

@@ -1,6 +1,6 @@
 -- How a stream goes on from what it keeps.
 use Rattle.std.specs.Prelude.{◌≡◌, ℕ, ◌+◌, ◌%◌, ◌^◌, Bool, ◌&&◌, if◌then◌else◌, nat_eq, List, length, map, Option, None, Some}
-use Rattle.desk_rows.specs.Row.{same_address}
+use Rattle.rtp_codec.specs.Address.{same_address}
 use Rattle.bridge_core.specs.declared.stream.LastSent.{LastSent}
 use Rattle.bridge_core.specs.declared.stream.Stream.{Stream}
 use Rattle.bridge_core.specs.Frame.{SourceFrame}

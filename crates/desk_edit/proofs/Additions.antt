@@ -1,34 +1,30 @@
 -- Rooms, sources and slots that are not refused can come.
-use Rattle.std.proofs.Common.{◌≡◌, ℕ, ◌+◌, ◌<◌, ◌≤◌, nat_le, nat_eq, nat_lt, Bool, true, false, not, cond, ◌&&◌, ◌||◌, List, [], ◌∷◌, ◌++◌, map, refl, sym, ap, ◌∙◌, inl, inr, ◌⊎◌, Some, None, arith}
-use Rattle.std.specs.Prelude.{count_by, Option}
+use Rattle.std.proofs.Common.{◌≡◌, ℕ, ◌+◌, ◌<◌, ◌≤◌, nat_le, nat_eq, nat_lt, Bool, true, false, not, cond, ◌&&◌, ◌||◌, List, [], ◌∷◌, map, refl, sym, ap, ◌∙◌, inl, inr, ◌⊎◌, Some, None, arith}
+use Rattle.std.specs.Prelude.{count_by}
 use Rattle.std.specs.List.{list_any, list_all}
-use Rattle.std.proofs.lemmas.Bool.{and_parts, and_from, or_left, or_right, or_cases, cases_Bool}
-use borrow.Author.Tests.{eqb-true, eq-eqb}
+use Rattle.std.proofs.lemmas.Bool.{and_parts, and_from, or_cases, cases_Bool}
+use borrow.Author.Tests.{eqb-true}
 use Rattle.desk_rows.specs.declared.row.Row.{Row}
 use Rattle.desk_rows.specs.declared.row.Row.TheVariants.{Room, Member, Source, Slot, Sub}
 use Rattle.desk_rows.specs.declared.row.Member.{Member as MemberRow}
 use Rattle.desk_rows.specs.declared.row.Room.{Room as RoomRow}
 use Rattle.desk_rows.specs.declared.row.Source.{Source as SourceRow}
 use Rattle.desk_rows.specs.declared.row.Slot.{Slot as SlotRow}
-use Rattle.desk_rows.specs.declared.row.Media.TheVariants.{Audio, Video}
-use Rattle.desk_rows.specs.declared.row.Key.{Key}
+use Rattle.desk_rows.specs.declared.row.Media.TheVariants.{Audio}
 use Rattle.desk_rows.specs.declared.row.Key.TheVariants as keys
 use Rattle.desk_rows.specs.declared.row.Kind.TheVariants as kinds
 use Rattle.desk_rows.specs.declared.claim.Claim.TheVariants as claims
 use Rattle.desk_rows.specs.Limits.{room_limit, source_limit, slot_limit, room_audio_limit, index_limit}
-use Rattle.desk_rows.specs.Row.{key_of, has_key, names, same_row, same_media}
-use Rattle.desk_rows.specs.Equal.{row_itself}
-use Rattle.desk_rows.specs.Kinds.{is_of}
+use Rattle.desk_rows.specs.Row.{has_key, same_media}
 use Rattle.desk_rows.specs.Order.{is_in, with_row}
-use Rattle.desk_rows.specs.OrderLaws.{at_each, from_each, count_by-with_row}
-use Rattle.desk_rows.specs.Desk.{Desk, good, rows_of, count_of, is_named_there, is_bridges, is_member_in, is_audio_in, obeys}
-use Rattle.desk_rows.specs.Laws.{Good, good_parts, is_in-append, any_counts}
-use Rattle.desk_rows.proofs.Counts.{true_false, any_count, witness, count_some, list_all-append, list_all-map}
-use Rattle.desk_rows.proofs.Keys.{its_key}
+use Rattle.desk_rows.specs.laws.OrderLaws.{count_by-with_row}
+use Rattle.desk_rows.specs.Desk.{Desk, good, rows_of, count_of, is_named_there, is_member_in, is_audio_in}
+use Rattle.desk_rows.specs.laws.Laws.{good_parts, is_in-append, any_counts}
+use Rattle.desk_rows.proofs.Counts.{true_false, witness, count_some, two_alls}
 use Rattle.desk_edit.specs.declared.command.Refusal.{Refusal}
-use Rattle.desk_edit.specs.Commands.{with_other}
-use Rattle.desk_edit.specs.Refusals.{has, is_claimed, ssrc_is_taken, is_full_room, fills_room, first_case, room_cases, source_cases, slot_cases, room_refused, source_refused, slot_refused}
-use Rattle.desk_edit.proofs.Fitting.{Within, within_parts, none_counts}
+use Rattle.desk_edit.specs.Refusals.{has, is_claimed, is_full_room, fills_room, first_case, room_cases, source_cases, slot_cases, room_refused, source_refused, slot_refused}
+use Rattle.desk_rows.proofs.KindLemmas.{within_parts}
+use Rattle.desk_edit.proofs.Fitting.{none_counts}
 use Rattle.desk_edit.proofs.Putting.{CanCome}
 
 -- ---- refusals that do not hold
@@ -80,7 +76,7 @@ member_room d g (m ∷ ms) all member room h =
 pub members_named : (d : Desk) → good d ≡ true → list_all (λ m. is_named_there d (Member m)) d.members ≡ true
 members_named d g =
     (and_parts (list_all (λ m. is_named_there d (Member m)) d.members) (list_all (is_named_there d) d.others)
-    (sym (list_all-append (is_named_there d) (map Member d.members) d.others ∙ ap (λ b. b && list_all (is_named_there d) d.others) (list_all-map Member (is_named_there d) d.members)) ∙ (good_parts d g).named)).0
+    (sym (two_alls Member (is_named_there d) d.members d.others) ∙ (good_parts d g).named)).0
 
 pub room_of_member : (d : Desk) → good d ≡ true → (member room : ℕ) → is_member_in d member room ≡ true → has d (keys.Room room) ≡ true
 room_of_member d g member room h = member_room d g d.members (members_named d g) member room h

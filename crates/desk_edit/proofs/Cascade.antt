@@ -1,30 +1,19 @@
 -- What goes with a slot is the slot and its sub.
-use Rattle.std.proofs.Common.{◌≡◌, ℕ, zero, suc, ◌+◌, ◌<◌, ◌≤◌, nat_eq, Bool, true, false, not, cond, ◌&&◌, ◌||◌, List, [], ◌∷◌, ◌++◌, map, filter, refl, sym, ap, ◌∙◌, inl, inr, ◌⊎◌, arith}
-use Rattle.std.specs.List.{list_any, list_all}
-use Rattle.std.proofs.lemmas.Bool.{and_parts, and_from, or_left, or_right, or_cases, cases_Bool}
+use Rattle.std.proofs.Common.{◌≡◌, ℕ, zero, suc, nat_eq, Bool, true, false, not, cond, ◌&&◌, ◌||◌, List, [], ◌∷◌, filter, refl, sym, ap, ◌∙◌, inl, inr, ◌⊎◌}
+use Rattle.std.specs.List.{list_any}
+use Rattle.std.proofs.lemmas.Bool.{cases_Bool}
 use borrow.Author.Tests.{eqb-true, eq-eqb}
 use Rattle.desk_rows.specs.declared.row.Row.{Row}
 use Rattle.desk_rows.specs.declared.row.Row.TheVariants.{Room, Member, Source, Slot, Sub}
 use Rattle.desk_rows.specs.declared.row.Member.{Member as MemberRow}
 use Rattle.desk_rows.specs.declared.row.Key.{Key}
 use Rattle.desk_rows.specs.declared.row.Key.TheVariants as keys
-use Rattle.desk_rows.specs.Row.{has_key, names}
-use Rattle.desk_rows.specs.Order.{is_in}
-use Rattle.desk_rows.specs.OrderLaws.{from_each, filter_all}
+use Rattle.desk_rows.specs.Row.{has_key}
 use Rattle.desk_rows.specs.Desk.{Desk, rows_of}
-use Rattle.desk_rows.proofs.Counts.{true_false}
 use Rattle.desk_edit.specs.Depends.{goes_within, goes_with, without}
 use Rattle.desk_edit.specs.Edits.{goes_with_slot}
 use Rattle.desk_edit.specs.Refusals.{has}
 use Rattle.desk_edit.proofs.Removing.{left, filter_alike}
-
--- a row that slots stand on
-is_below : Row → Bool
-is_below (Room r) = true
-is_below (Member r) = true
-is_below (Source r) = true
-is_below (Slot r) = false
-is_below (Sub r) = false
 
 module _ (d : Desk) (out : ℕ) where
   none_among : (n : ℕ) (k : Key) → ((s : Row) → has_key k s ≡ true → goes_within n d (keys.Slot out) s ≡ false) → (rs : List Row) → list_any (λ s. has_key k s && goes_within n d (keys.Slot out) s) rs ≡ false

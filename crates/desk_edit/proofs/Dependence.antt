@@ -6,7 +6,7 @@ use Rattle.desk_rows.specs.declared.row.Row.{Row}
 use Rattle.desk_rows.specs.declared.row.Row.TheVariants as rows
 use Rattle.desk_rows.specs.declared.row.Key.{Key}
 use Rattle.desk_rows.specs.Row.{has_key, names, same_row}
-use Rattle.desk_rows.specs.Equal.{same_row_is}
+use Rattle.desk_rows.specs.laws.Equal.{same_row_is}
 use Rattle.desk_rows.specs.Order.{is_in}
 use Rattle.desk_rows.specs.Desk.{Desk, rows_of, holds}
 use Rattle.desk_rows.proofs.Counts.{true_false, witness}

@@ -1,30 +1,23 @@
 -- An edit fits where the rows that come are sound and those that stay remain so.
-use Rattle.std.proofs.Common.{◌≡◌, ℕ, ◌+◌, ◌-◌, ◌<◌, ◌≤◌, nat_le, nat_eq, nat_lt, Bool, true, false, not, cond, ◌&&◌, ◌||◌, List, [], ◌∷◌, ◌++◌, map, length, filter, refl, sym, ap, ◌∙◌, inl, inr, ◌⊎◌, arith}
+use Rattle.std.proofs.Common.{◌≡◌, ◌+◌, ◌≤◌, nat_lt, Bool, true, false, not, List, [], ◌∷◌, refl, sym, ap, ◌∙◌, arith}
 use Rattle.std.specs.Prelude.{count_by}
 use Rattle.std.specs.List.{list_any, list_all}
-use Rattle.std.proofs.lemmas.Bool.{and_parts, and_from, or_cases, or_left, or_right, cases_Bool}
-use borrow.Author.Tests.{eqb-true, eq-eqb}
+use Rattle.std.proofs.lemmas.Bool.{and_from, or_left, or_right}
 use Rattle.desk_rows.specs.declared.row.Row.{Row}
-use Rattle.desk_rows.specs.declared.row.Row.TheVariants.{Room, Member, Source, Slot, Sub}
+use Rattle.desk_rows.specs.declared.row.Row.TheVariants.{Member}
 use Rattle.desk_rows.specs.declared.row.Member.{Member as MemberRow}
-use Rattle.desk_rows.specs.declared.row.Key.{Key}
-use Rattle.desk_rows.specs.declared.row.Key.TheVariants as keys
-use Rattle.desk_rows.specs.declared.row.Kind.{Kind}
 use Rattle.desk_rows.specs.declared.row.Kind.TheVariants as kinds
-use Rattle.desk_rows.specs.declared.claim.Claim.{Claim}
-use Rattle.desk_rows.specs.Limits.{room_limit, member_limit, source_limit, slot_limit, room_audio_limit}
-use Rattle.desk_rows.specs.Row.{key_of, has_key, names, makes, claims_of}
 use Rattle.desk_rows.specs.Kinds.{is_of}
 use Rattle.desk_rows.specs.Order.{is_in, without_rows}
-use Rattle.desk_rows.specs.OrderLaws.{from_each}
+use Rattle.desk_rows.specs.laws.OrderLaws.{from_each}
 use Rattle.desk_rows.specs.Places.{take_at}
 use Rattle.desk_rows.specs.Edit.{EditOf, outs, ins}
-use Rattle.desk_rows.specs.Desk.{Desk, good, rows_of, count_of, is_within_limits, is_named_there, is_made_once, is_bridges, is_alone, obeys}
-use Rattle.desk_rows.specs.Exchange.{is_apt, exchanged, fits}
-use Rattle.desk_rows.specs.Judged.{keeps_names, moves, is_shaken, all_come, all_stay, is_sound, stays_sound, judged}
-use Rattle.desk_rows.specs.Laws.{Apt, apt_from, Good, good_parts, good_order, fits_from}
-use Rattle.desk_rows.proofs.Counts.{stay_count, go_count, come_count, before_count, after_count, any_count, some_count, count_some, rows_count}
-use Rattle.desk_rows.proofs.Judging.{judged_right}
+use Rattle.desk_rows.specs.Desk.{Desk, good, rows_of, is_within_limits, is_named_there, is_alone, obeys}
+use Rattle.desk_rows.specs.Exchange.{exchanged, fits}
+use Rattle.desk_rows.specs.inner.Judged.{keeps_names, moves, is_shaken, all_come, all_stay, is_sound, stays_sound, go_count, come_count}
+use Rattle.desk_rows.specs.laws.Laws.{Apt, good_order, fits_from}
+use Rattle.desk_rows.proofs.Counts.{before_count, after_count, any_count, some_count, count_some, two_alls}
+use Rattle.desk_rows.proofs.Judging.{sound_good}
 
 -- what is to be shown of an edit
 pub record Carries (d : Desk) (e : EditOf) : Type 0 where
@@ -35,37 +28,9 @@ pub record Carries (d : Desk) (e : EditOf) : Type 0 where
   pub stay : all_stay (stays_sound (moves d e) d e) d e ≡ true
 
 pub fits_carried : (d : Desk) (e : EditOf) → good d ≡ true → Carries d e → fits d e ≡ true
-unfolding judged
-fits_carried d e g c =
-    fits_from d e record {
-      before = g;
-      apt = c.apt;
-      later = judged_right d e g c.apt ∙ and_from _ _ (and_from _ _ c.plain c.within) (and_from _ _ c.come c.stay);
-    }
+fits_carried d e g c = fits_from d e record { before = g; apt = c.apt; later = sound_good d e g c.apt c.plain c.within c.come c.stay }
 
--- ---- limits
-
-pub record Within (d : Desk) : Type 0 where
-  pub rooms : count_of kinds.Room d ≤ room_limit
-  pub members : count_of kinds.Member d ≤ member_limit
-  pub sources : count_of kinds.Source d ≤ source_limit
-  pub slots : count_of kinds.Slot d ≤ slot_limit
-
-at_most : (m n : ℕ) → nat_le m n ≡ true → m ≤ n
-at_most m n h = grind (arith, h)
-
-most : (m n : ℕ) → m ≤ n → nat_le m n ≡ true
-most m n h = grind (arith, h)
-
-pub within_parts : (d : Desk) → good d ≡ true → Within d
-within_parts d g =
-    let both = and_parts (nat_le (count_of kinds.Room d) room_limit && nat_le (count_of kinds.Member d) member_limit) (nat_le (count_of kinds.Source d) source_limit && nat_le (count_of kinds.Slot d) slot_limit) (good_parts d g).within in
-    let one = and_parts (nat_le (count_of kinds.Room d) room_limit) (nat_le (count_of kinds.Member d) member_limit) both.0 in
-    let two = and_parts (nat_le (count_of kinds.Source d) source_limit) (nat_le (count_of kinds.Slot d) slot_limit) both.1 in
-    record { rooms = at_most _ _ one.0; members = at_most _ _ one.1; sources = at_most _ _ two.0; slots = at_most _ _ two.1 }
-
-pub within_from : (d : Desk) → Within d → is_within_limits d ≡ true
-within_from d w = and_from _ _ (and_from _ _ (most _ _ w.rooms) (most _ _ w.members)) (and_from _ _ (most _ _ w.sources) (most _ _ w.slots))
+-- ---- counts
 
 -- no kind has more rows than before and those that come
 pub count_grows : (p : Row → Bool) (d : Desk) (e : EditOf) → good d ≡ true → Apt d e → count_by p (rows_of (exchanged d e)) ≤ count_by p (rows_of d) + come_count p e
@@ -108,7 +73,7 @@ stays_asked moved d e r a b = and_from _ _ a (or_right _ _ b)
 
 -- what holds of every member that stays and of every other row holds of all that stay
 pub all_remain : (q : Row → Bool) (d : Desk) (e : EditOf) → ((m : MemberRow) → q (Member m) ≡ true) → ((r : Row) → is_in (without_rows (outs e) d.others) r ≡ true → q r ≡ true) → all_stay q d e ≡ true
-all_remain q d e members others = and_from _ _ (each (take_at e.taken.members d.members)) (from_each q (without_rows (outs e) d.others) others) where
+all_remain q d e members others = two_alls Member q (take_at e.taken.members d.members) (without_rows (outs e) d.others) ∙ and_from _ _ (each (take_at e.taken.members d.members)) (from_each q (without_rows (outs e) d.others) others) where
   each : (ms : List MemberRow) → list_all (λ m. q (Member m)) ms ≡ true
   each [] = refl
   each (m ∷ ms) = and_from _ _ (members m) (each ms)

@@ -1,35 +1,30 @@
 -- A member that joins.
-use Rattle.std.proofs.Common.{◌≡◌, ℕ, zero, suc, ◌+◌, ◌<◌, ◌≤◌, nat_le, nat_eq, nat_lt, Bool, true, false, not, cond, ◌&&◌, ◌||◌, List, [], ◌∷◌, ◌++◌, map, length, filter, insert, refl, sym, ap, ◌∙◌, inl, inr, ◌⊎◌, None, arith}
-use Rattle.std.specs.Prelude.{count_by}
-use Rattle.std.specs.List.{list_any, list_all}
-use Rattle.std.proofs.lemmas.Bool.{and_parts, and_from, or_left, or_right, or_cases, cases_Bool}
-use Rattle.std.proofs.lemmas.List.Folds.{list_any-append}
-use borrow.Author.Tests.{eqb-true, eq-eqb}
+use Rattle.std.proofs.Common.{◌≡◌, ℕ, nat_le, nat_eq, Bool, true, false, not, cond, ◌&&◌, ◌||◌, List, [], ◌∷◌, ◌++◌, length, insert, refl, ap, ◌∙◌, None, arith}
+use Rattle.std.specs.List.{list_all}
+use Rattle.std.proofs.lemmas.Bool.{and_from}
 use Rattle.desk_rows.specs.declared.row.Row.{Row}
 use Rattle.desk_rows.specs.declared.row.Row.TheVariants.{Room, Member, Source, Slot, Sub}
 use Rattle.desk_rows.specs.declared.row.Member.{Member as MemberRow}
-use Rattle.desk_rows.specs.declared.edit.Placed.{Placed}
-use Rattle.desk_rows.specs.declared.row.Media.TheVariants.{Audio, Video}
 use Rattle.desk_rows.specs.declared.row.Key.TheVariants as keys
 use Rattle.desk_rows.specs.declared.row.Kind.TheVariants as kinds
 use Rattle.desk_rows.specs.declared.claim.Claim.TheVariants as claims
 use Rattle.desk_rows.specs.Limits.{member_limit}
-use Rattle.desk_rows.specs.Row.{has_key, names, makes, claims_of, same_media}
-use Rattle.desk_rows.specs.Equal.{row_itself}
+use Rattle.desk_rows.specs.Row.{has_key, names, makes, claims_of}
 use Rattle.desk_rows.specs.Kinds.{is_of}
-use Rattle.desk_rows.specs.Order.{is_in}
-use Rattle.desk_rows.specs.OrderLaws.{from_each, filter_all}
-use Rattle.desk_rows.specs.PlaceLaws.{count_next}
-use Rattle.desk_rows.specs.Desk.{Desk, good, rows_of, count_of, is_named_there, is_made_once, is_bridges, obeys}
+use Rattle.desk_rows.specs.laws.OrderLaws.{from_each, filter_all}
+use Rattle.desk_rows.specs.laws.PlaceLaws.{count_next}
+use Rattle.desk_rows.specs.Desk.{Desk, good, rows_of, count_of, is_made_once, is_bridges}
 use Rattle.desk_rows.specs.Exchange.{exchanged}
-use Rattle.desk_rows.specs.Judged.{moves, all_stay, is_sound, stays_sound}
-use Rattle.desk_rows.specs.Laws.{Apt}
-use Rattle.desk_rows.proofs.Counts.{true_false, list_any-map, come_count}
-use Rattle.desk_rows.proofs.Unshaken.{one_of}
+use Rattle.desk_rows.specs.inner.Judged.{moves, all_stay, stays_sound, come_count}
+use Rattle.desk_rows.specs.laws.Laws.{Apt}
+use Rattle.desk_rows.specs.inner.Found.{finds, is_elsewhere}
+use Rattle.desk_rows.proofs.KeyedLemmas.{elsewhere_found}
+use Rattle.desk_rows.proofs.Finding.{keyed_good, found_nothing}
 use Rattle.desk_rows.proofs.Judging.{own_claims, each_claim}
 use Rattle.desk_edit.specs.Edits.{puts_member}
 use Rattle.desk_edit.specs.Refusals.{has, is_claimed, member_cases, member_refused}
-use Rattle.desk_edit.proofs.Fitting.{Carries, Within, within_parts, within_from, count_stays, sound, stays_calm, all_remain}
+use Rattle.desk_rows.proofs.KindLemmas.{within_parts, within_from}
+use Rattle.desk_edit.proofs.Fitting.{Carries, count_stays, sound, stays_calm, all_remain}
 use Rattle.desk_edit.proofs.Putting.{keys_stay, claimed_once}
 use Rattle.desk_edit.proofs.Additions.{none_holds, neither, not_false, below, is_free}
 
@@ -52,23 +47,12 @@ join_apt : (d : Desk) (m : MemberRow) → Apt d (puts_member (length d.members) 
 join_apt d m = record { take_rise = refl; take = refl; put_rise = refl; put = and_from _ _ (le_itself (length d.members)) refl; outs_apart = refl; outs_there = refl; ins_apart = refl; paired = refl }
 
 one_joins : (p : Row → Bool) (n : ℕ) (m : MemberRow) → come_count p (puts_member n m) ≡ cond (p (Member m)) 1 0
-one_joins p n m = let k = count_next (λ (q : Placed). p (Member q.row)) record { place = n; row = m } [] in omega (arith, k)
+one_joins p n m = let k = count_next p (Member m) [] in omega (arith, k)
 
 -- a member who was not there moves from no room
-nobody_moves : (d : Desk) (m : MemberRow) → has d (keys.Member m.member) ≡ false → moves d (puts_member (length d.members) m) ≡ false
-nobody_moves d m new = ap (λ b. b || false) none where
-  elsewhere : MemberRow → Bool
-  elsewhere x = nat_eq x.member m.member && not (nat_eq x.room m.room)
-
-  none : list_any elsewhere d.members ≡ false
-  none = elim (cases_Bool (list_any elsewhere d.members)) [
-    | inl e ↦
-        let w = one_of elsewhere d.members e in
-        let same = (and_parts (nat_eq w.0.member m.member) (not (nat_eq w.0.room m.room)) w.1).0 in
-        let there : list_any (has_key (keys.Member m.member)) (map Member d.members) ≡ true = list_any-map Member (has_key (keys.Member m.member)) d.members ∙ w.2 (λ x. has_key (keys.Member m.member) (Member x)) same in
-        absurd (true_false (sym (list_any-append (has_key (keys.Member m.member)) (map Member d.members) d.others ∙ or_left _ _ there) ∙ new))
-    | inr e ↦ e
-  ]
+nobody_moves : (d : Desk) (m : MemberRow) → good d ≡ true → has d (keys.Member m.member) ≡ false → moves d (puts_member (length d.members) m) ≡ false
+nobody_moves d m g new =
+    ap (λ b. b || false) (elsewhere_found d (keyed_good d g) m.member m.room ∙ ap (finds (is_elsewhere m.room)) (found_nothing (has_key (keys.Member m.member)) (rows_of d) new))
 
 -- so every row stays sound
 stays : (d : Desk) (m : MemberRow) (x : Row) → stays_sound false d (puts_member (length d.members) m) x ≡ true
@@ -104,10 +88,10 @@ join_carries d m g h =
         sources = (let k = count_stays (is_of kinds.Source) d e g a refl in omega (arith, k, one_joins (is_of kinds.Source) n m, w.sources));
         slots = (let k = count_stays (is_of kinds.Slot) d e g a refl in omega (arith, k, one_joins (is_of kinds.Slot) n m, w.slots));
       };
-      come = and_from _ _ (and_from _ _ (sound d' (Member m)
+      come = and_from _ _ (sound d' (Member m)
           (keys_stay d e g a (λ p. refl) (names (Member m)) (and_from _ _ (not_false (has d (keys.Room m.room)) cases.1.0) refl))
           (each_claim (λ k. makes k (Member m)) (λ k. not (is_claimed d k) && not (is_bridges d k)) (is_made_once d') (claims_of (Member m))
           (λ k own free. claimed_once d e g a (λ p. refl) k (one_joins (makes k) n m ∙ ap (λ b. cond b 1 0) own) free) (own_claims (Member m)) free)
-          (ap not cases.1.1.1.0)) refl) refl;
-      stay = ap (λ b. all_stay (stays_sound b d e) d e) (nobody_moves d m keys_free.0) ∙ all_remain (stays_sound false d e) d e (λ x. stays d m (Member x)) (λ x one. stays d m x);
+          (ap not cases.1.1.1.0)) refl;
+      stay = ap (λ b. all_stay (stays_sound b d e) d e) (nobody_moves d m g keys_free.0) ∙ all_remain (stays_sound false d e) d e (λ x. stays d m (Member x)) (λ x one. stays d m x);
     }

@@ -1,5 +1,5 @@
 -- A slot and a video source in one room are there still, as other rows come and go.
-use Rattle.std.proofs.Common.{◌≡◌, ℕ, Bool, true, false, ◌&&◌, List, nat_eq, refl, sym, ap, ◌∙◌}
+use Rattle.std.proofs.Common.{◌≡◌, ℕ, Bool, true, false, List, nat_eq, refl}
 use Rattle.std.specs.List.{list_any}
 use Rattle.std.proofs.lemmas.Bool.{and_parts, and_from}
 use Rattle.desk_rows.specs.declared.row.Row.{Row}
@@ -8,7 +8,7 @@ use Rattle.desk_rows.specs.declared.row.Kind.TheVariants as kinds
 use Rattle.desk_rows.specs.Kinds.{is_of}
 use Rattle.desk_rows.specs.Order.{is_in}
 use Rattle.desk_rows.specs.Desk.{Desk, is_video_beside, is_slot_beside}
-use Rattle.desk_rows.specs.Laws.{any_counts}
+use Rattle.desk_rows.specs.laws.Laws.{any_counts}
 use Rattle.desk_rows.proofs.Counts.{witness, count_some}
 
 -- what passes in a list passes in another that has it too

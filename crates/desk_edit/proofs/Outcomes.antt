@@ -1,5 +1,5 @@
 -- A command that is not refused is carried out by an edit that fits.
-use Rattle.std.proofs.Common.{◌≡◌, ℕ, false, ◌&&◌, ◌||◌, [], ◌∷◌, ◌++◌, map, Bool, true, not, List, length, filter, refl, sym, ap, ◌∙◌, inl, inr, Some, None}
+use Rattle.std.proofs.Common.{◌≡◌, ℕ, false, map, true, not, length, refl, sym, ap, ◌∙◌, inl, inr, Some, None}
 use Rattle.std.specs.Prelude.{Option}
 use Rattle.desk_rows.specs.declared.row.Row.{Row}
 use Rattle.desk_rows.specs.declared.row.Row.TheVariants as rows
@@ -7,7 +7,7 @@ use Rattle.desk_rows.specs.declared.row.Sub.{Sub as SubRow}
 use Rattle.desk_rows.specs.declared.row.Key.TheVariants as keys
 use Rattle.desk_rows.specs.Row.{has_key}
 use Rattle.desk_rows.specs.Order.{with_row}
-use Rattle.desk_rows.specs.OrderLaws.{from_each, filter_all}
+use Rattle.desk_rows.specs.laws.OrderLaws.{from_each, filter_all}
 use Rattle.desk_rows.specs.Edit.{EditOf}
 use Rattle.desk_rows.specs.Desk.{Desk, good, rows_of, row_at}
 use Rattle.desk_rows.specs.Exchange.{exchanged, fits, after}
@@ -15,11 +15,11 @@ use Rattle.std.specs.List.{list_any, list_all}
 use Rattle.std.proofs.lemmas.Bool.{or_right, cases_Bool}
 use Rattle.desk_rows.specs.declared.row.Key.{Key}
 use Rattle.desk_rows.proofs.Counts.{true_false, count_some}
-use Rattle.desk_rows.specs.Laws.{after_fits, any_counts, is_in-append}
+use Rattle.desk_rows.specs.laws.Laws.{after_fits, any_counts, is_in-append}
 use Rattle.desk_edit.specs.declared.command.Command.{Command}
 use Rattle.desk_edit.specs.declared.command.Command.TheVariants.{AddRoom, AddMember, AddSource, AddSlot, RemoveSlot, Subscribe}
 use Rattle.desk_edit.specs.Commands.{desk_after, with_other, with_replaced}
-use Rattle.desk_edit.specs.Edits.{puts_other, puts_member, takes_others, replaces, puts_in_place, goes_with_slot}
+use Rattle.desk_edit.specs.Edits.{puts_other, puts_member, takes_others, replaces, puts_in_place}
 use Rattle.desk_edit.specs.Planned.{edit_for}
 use Rattle.desk_edit.specs.Refusals.{has, refused, removal_refused, removal_cases, sub_refused}
 use Rattle.desk_edit.proofs.Fitting.{Carries, fits_carried}

@@ -1,31 +1,31 @@
 -- A row that is no member's is put.
-use Rattle.std.proofs.Common.{◌≡◌, ℕ, ◌+◌, ◌<◌, ◌≤◌, nat_le, nat_eq, nat_lt, Bool, true, false, not, cond, ◌&&◌, ◌||◌, List, [], ◌∷◌, ◌++◌, map, filter, refl, sym, ap, subst, ◌∙◌, inl, inr, ◌⊎◌, arith}
+use Rattle.std.proofs.Common.{◌≡◌, ℕ, ◌+◌, ◌≤◌, nat_le, Bool, true, false, not, cond, ◌&&◌, List, [], ◌∷◌, map, refl, sym, ap, ◌∙◌, arith}
 use Rattle.std.specs.Prelude.{count_by}
 use Rattle.std.specs.List.{list_any, list_all}
-use Rattle.std.proofs.lemmas.Bool.{and_parts, and_from, or_cases, or_left, or_right, cases_Bool}
-use borrow.Author.Tests.{eqb-true, eq-eqb}
+use Rattle.std.proofs.lemmas.Bool.{and_parts, and_from, or_right}
+use borrow.Author.Tests.{eq-eqb}
 use Rattle.desk_rows.specs.declared.row.Row.{Row}
 use Rattle.desk_rows.specs.declared.row.Row.TheVariants.{Room, Member, Source, Slot, Sub}
 use Rattle.desk_rows.specs.declared.row.Key.{Key}
 use Rattle.desk_rows.specs.declared.row.Kind.TheVariants as kinds
 use Rattle.desk_rows.specs.declared.claim.Claim.{Claim}
-use Rattle.desk_rows.specs.Row.{key_of, has_key, names, makes, claims_of, same_row}
+use Rattle.desk_rows.specs.Row.{has_key, names, makes, claims_of}
 use Rattle.desk_rows.specs.Kinds.{is_of}
-use Rattle.desk_rows.specs.Order.{in_order, is_in, with_row, without_rows}
-use Rattle.desk_rows.specs.OrderLaws.{at_each, from_each, filter_all, is_in-filter, count_by-with_row}
-use Rattle.desk_rows.specs.PlaceLaws.{count_next}
-use Rattle.desk_rows.specs.Edit.{EditOf, outs, ins}
+use Rattle.desk_rows.specs.Order.{is_in, with_row}
+use Rattle.desk_rows.specs.laws.OrderLaws.{at_each, from_each, filter_all, is_in-filter, count_by-with_row}
+use Rattle.desk_rows.specs.laws.PlaceLaws.{count_next}
+use Rattle.desk_rows.specs.Edit.{EditOf}
 use Rattle.desk_rows.specs.Limits.{room_limit, source_limit, slot_limit, room_audio_limit}
-use Rattle.desk_rows.specs.Desk.{Desk, good, rows_of, count_of, is_within_limits, is_named_there, is_made_once, is_bridges, is_alone, is_audio_in, obeys}
+use Rattle.desk_rows.specs.Desk.{Desk, good, rows_of, count_of, is_made_once, is_bridges, is_audio_in, obeys}
 use Rattle.desk_rows.specs.Exchange.{exchanged}
-use Rattle.desk_rows.specs.Judged.{is_sound, stays_sound}
-use Rattle.desk_rows.specs.Laws.{Apt, Good, good_parts, is_in-append}
-use Rattle.desk_rows.proofs.Counts.{any_count, go_count, come_count}
+use Rattle.desk_rows.specs.inner.Judged.{stays_sound, go_count, come_count}
+use Rattle.desk_rows.specs.laws.Laws.{Apt, good_parts, is_in-append}
 use Rattle.desk_rows.proofs.Judging.{own_claims, each_claim, bridge_same}
 use Rattle.desk_edit.specs.Commands.{with_other}
 use Rattle.desk_edit.specs.Edits.{puts_other}
 use Rattle.desk_edit.specs.Refusals.{has, is_claimed}
-use Rattle.desk_edit.proofs.Fitting.{Carries, Within, within_parts, within_from, count_stays, any_stays, none_counts, sound, stays_calm, stays_asked, all_remain}
+use Rattle.desk_rows.proofs.KindLemmas.{within_parts, within_from}
+use Rattle.desk_edit.proofs.Fitting.{Carries, count_stays, any_stays, none_counts, sound, stays_calm, stays_asked, all_remain}
 
 -- what is asked of a row that is put
 pub record CanCome (d : Desk) (r : Row) : Type 0 where

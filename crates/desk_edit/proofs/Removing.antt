@@ -1,33 +1,25 @@
 -- A slot that goes, with its sub.
-use Rattle.std.proofs.Common.{◌≡◌, ℕ, zero, suc, ◌+◌, ◌<◌, ◌≤◌, nat_le, nat_eq, nat_lt, Bool, true, false, not, cond, ◌&&◌, ◌||◌, List, [], ◌∷◌, ◌++◌, map, length, filter, refl, sym, ap, ◌∙◌, inl, inr, ◌⊎◌, None, arith}
-use Rattle.std.specs.Prelude.{count_by}
-use Rattle.std.specs.List.{list_any, list_all}
+use Rattle.std.proofs.Common.{◌≡◌, ℕ, Bool, true, false, not, cond, ◌&&◌, ◌||◌, List, [], ◌∷◌, filter, refl, sym, ap, ◌∙◌, inl, inr, ◌⊎◌, arith}
 use Rattle.std.proofs.lemmas.Bool.{and_parts, and_from, or_left, or_right, or_cases, cases_Bool}
-use borrow.Author.Tests.{eqb-true, eq-eqb}
 use Rattle.desk_rows.specs.declared.row.Row.{Row}
 use Rattle.desk_rows.specs.declared.row.Row.TheVariants.{Room, Member, Source, Slot, Sub}
-use Rattle.desk_rows.specs.declared.row.Member.{Member as MemberRow}
 use Rattle.desk_rows.specs.declared.row.Sub.{Sub as SubRow}
-use Rattle.desk_rows.specs.declared.row.Media.TheVariants.{Audio, Video}
 use Rattle.desk_rows.specs.declared.row.Key.{Key}
 use Rattle.desk_rows.specs.declared.row.Key.TheVariants as keys
 use Rattle.desk_rows.specs.declared.row.Kind.TheVariants as kinds
-use Rattle.desk_rows.specs.Row.{key_of, has_key, names, same_media, same_row}
-use Rattle.desk_rows.specs.Equal.{row_itself, key_itself}
+use Rattle.desk_rows.specs.Row.{has_key}
+use Rattle.desk_rows.specs.laws.Equal.{row_itself, key_itself, its_key}
 use Rattle.desk_rows.specs.Kinds.{is_of}
-use Rattle.desk_rows.specs.Order.{in_order, is_in, without_rows}
-use Rattle.desk_rows.specs.OrderLaws.{at_each, from_each, is_in-filter, in_order-filter, filter_all}
-use Rattle.desk_rows.specs.PlaceLaws.{count_next}
-use Rattle.desk_rows.specs.Edit.{EditOf, outs, ins}
-use Rattle.desk_rows.specs.Desk.{Desk, good, rows_of, count_of, is_named_there}
+use Rattle.desk_rows.specs.Order.{is_in, without_rows}
+use Rattle.desk_rows.specs.laws.OrderLaws.{from_each, is_in-filter, in_order-filter}
+use Rattle.desk_rows.specs.Desk.{Desk, good}
 use Rattle.desk_rows.specs.Exchange.{exchanged}
-use Rattle.desk_rows.specs.Judged.{takes, puts, keeps_names, is_shaken, stays_sound}
-use Rattle.desk_rows.specs.Laws.{Apt, Good, good_parts, good_order, any_counts, is_in-append}
-use Rattle.desk_rows.proofs.Counts.{true_false, witness, some_count, count_some, come_count}
-use Rattle.desk_rows.proofs.Keys.{its_key}
+use Rattle.desk_rows.specs.inner.Judged.{takes, puts, keeps_names, is_shaken, stays_sound}
+use Rattle.desk_rows.specs.laws.Laws.{Apt, good_order}
+use Rattle.desk_rows.proofs.Counts.{true_false, witness}
 use Rattle.desk_edit.specs.Edits.{takes_others, goes_with_slot}
-use Rattle.desk_edit.specs.Refusals.{has}
-use Rattle.desk_edit.proofs.Fitting.{Carries, Within, within_parts, within_from, count_grows, stays_calm, all_remain}
+use Rattle.desk_rows.proofs.KindLemmas.{within_parts, within_from}
+use Rattle.desk_edit.proofs.Fitting.{Carries, count_grows, stays_calm, all_remain}
 
 pub filter_alike : (p q : Row → Bool) (xs : List Row) → ((x : Row) → is_in xs x ≡ true → p x ≡ q x) → filter p xs ≡ filter q xs
 filter_alike p q [] each = refl

@@ -1,37 +1,34 @@
 -- A sub that is put, also in place of another.
-use Rattle.std.proofs.Common.{◌≡◌, ℕ, zero, suc, ◌+◌, ◌<◌, ◌≤◌, nat_le, nat_eq, nat_lt, Bool, true, false, not, cond, ◌&&◌, ◌||◌, List, [], ◌∷◌, ◌++◌, map, length, filter, refl, sym, ap, ◌∙◌, inl, inr, ◌⊎◌, Some, None, arith}
-use Rattle.std.specs.Prelude.{count_by, Option}
+use Rattle.std.proofs.Common.{◌≡◌, ℕ, Bool, true, false, not, cond, ◌&&◌, ◌||◌, List, [], ◌∷◌, map, filter, refl, sym, ap, ◌∙◌, inl, inr, ◌⊎◌, Some, None, arith}
+use Rattle.std.specs.Prelude.{count_by}
 use Rattle.std.specs.List.{list_any, list_all, find}
-use Rattle.std.proofs.lemmas.Bool.{and_parts, and_from, or_left, or_right, or_cases, cases_Bool}
-use borrow.Author.Tests.{eqb-true, eq-eqb}
+use Rattle.std.proofs.lemmas.Bool.{and_parts, and_from, or_left, or_right, or_cases}
+use borrow.Author.Tests.{eq-eqb}
 use Rattle.desk_rows.specs.declared.row.Row.{Row}
 use Rattle.desk_rows.specs.declared.row.Row.TheVariants.{Room, Member, Source, Slot, Sub}
 use Rattle.desk_rows.specs.declared.row.Member.{Member as MemberRow}
 use Rattle.desk_rows.specs.declared.row.Sub.{Sub as SubRow}
-use Rattle.desk_rows.specs.declared.row.Media.TheVariants.{Audio, Video}
 use Rattle.desk_rows.specs.declared.row.Key.{Key}
 use Rattle.desk_rows.specs.declared.row.Key.TheVariants as keys
 use Rattle.desk_rows.specs.declared.row.Kind.TheVariants as kinds
-use Rattle.desk_rows.specs.declared.claim.Claim.{Claim}
 use Rattle.desk_rows.specs.declared.claim.Claim.TheVariants as claims
-use Rattle.desk_rows.specs.Row.{key_of, same_key, has_key, names, makes, claims_of, same_media, same_row}
-use Rattle.desk_rows.specs.Equal.{row_itself, key_itself, same_row_is}
+use Rattle.desk_rows.specs.Row.{key_of, same_key, has_key, names, same_row}
+use Rattle.desk_rows.specs.laws.Equal.{row_itself, key_itself, same_row_is, its_key, not_before_itself}
 use Rattle.desk_rows.specs.Kinds.{is_of}
 use Rattle.desk_rows.specs.Order.{key_precedes as precedes_key, precedes, in_order, is_in, with_row, without_rows}
-use Rattle.desk_rows.specs.OrderLaws.{at_each, from_each, is_in-filter, is_in-with_row, count_by-with_row, not_before_itself, both_ways}
-use Rattle.desk_rows.specs.PlaceLaws.{count_next}
-use Rattle.desk_rows.specs.Edit.{EditOf, outs, ins}
-use Rattle.desk_rows.specs.Desk.{Desk, good, rows_of, row_at, count_of, is_named_there, is_made_once, is_bridges, is_slot_beside, obeys}
+use Rattle.desk_rows.specs.laws.OrderLaws.{at_each, is_in-filter, is_in-with_row, both_ways}
+use Rattle.desk_rows.specs.laws.PlaceLaws.{count_next}
+use Rattle.desk_rows.specs.Desk.{Desk, good, rows_of, row_at, is_slot_beside, obeys}
 use Rattle.desk_rows.specs.Exchange.{exchanged}
-use Rattle.desk_rows.specs.Judged.{keeps_names, is_shaken, is_sound, stays_sound}
-use Rattle.desk_rows.specs.Laws.{Apt, Good, good_parts, good_order, any_counts, is_in-append, one_key}
-use Rattle.desk_rows.proofs.Counts.{true_false, witness, some_count, count_some, go_count, come_count, stay_count, before_count, after_count, rows_count}
-use Rattle.desk_rows.proofs.Keys.{its_key}
+use Rattle.desk_rows.specs.inner.Judged.{keeps_names, is_shaken, stays_sound, go_count, come_count}
+use Rattle.desk_rows.specs.laws.Laws.{Apt, good_order, is_in-append, one_key}
+use Rattle.desk_rows.proofs.Counts.{true_false, before_count, after_count}
 use Rattle.desk_rows.proofs.Judging.{bridge_same}
-use Rattle.desk_edit.specs.Commands.{with_other, with_replaced}
-use Rattle.desk_edit.specs.Edits.{puts_other, replaces, puts_in_place}
+use Rattle.desk_edit.specs.Commands.{with_replaced}
+use Rattle.desk_edit.specs.Edits.{replaces}
 use Rattle.desk_edit.specs.Refusals.{has, is_claimed, sub_cases, sub_refused}
-use Rattle.desk_edit.proofs.Fitting.{Carries, Within, within_parts, within_from, any_stays, sound, stays_calm, all_remain}
+use Rattle.desk_rows.proofs.KindLemmas.{within_parts, within_from}
+use Rattle.desk_edit.proofs.Fitting.{Carries, any_stays, sound, stays_calm, all_remain}
 use Rattle.desk_edit.proofs.Obeying.{one_room_still}
 use Rattle.desk_edit.proofs.Putting.{CanCome}
 use Rattle.desk_edit.proofs.Additions.{none_holds, not_false, is_free}

@@ -1,9 +1,11 @@
 -- The edits that carry commands out. No public clause cites them.
-use Rattle.std.specs.Prelude.{ℕ, Bool, ◌||◌, List, [], ◌∷◌, Option, Some, None}
+use Rattle.std.specs.Prelude.{ℕ, Bool, false, ◌||◌, List, [], ◌∷◌, Option, Some, None}
 use Rattle.desk_rows.specs.declared.row.Row.{Row}
 use Rattle.desk_rows.specs.declared.row.Member.{Member}
 use Rattle.desk_rows.specs.declared.row.Key.TheVariants as keys
-use Rattle.desk_rows.specs.Row.{has_key}
+use Rattle.desk_rows.specs.declared.row.Row.TheVariants as rows
+use Rattle.desk_rows.specs.declared.row.Media.TheVariants.{Video}
+use Rattle.desk_rows.specs.Row.{has_key, same_media}
 use Rattle.desk_rows.specs.Edit.{EditOf, PartOf, ReplacedOf}
 
 -- no rows
@@ -38,3 +40,8 @@ goes_with_slot out_ssrc r = has_key (keys.Slot out_ssrc) r || has_key (keys.Sub 
 abbrev pub puts_in_place : Option Row → Row → EditOf
 puts_in_place None r = puts_other r
 puts_in_place (Some old) r = replaces old r
+
+-- a source that sends video
+abbrev pub is_video : Row → Bool
+is_video (rows.Source s) = same_media s.media Video
+is_video _ = false

@@ -3,11 +3,11 @@
 ghost use Rattle.std.specs.Prelude.{◌≡◌, ◌≢◌, IfErr, OnOk};
 ghost use Rattle.desk_edit.specs.Refusals.{room_refused, member_refused, source_refused, slot_refused, removal_refused, sub_refused};
 
-use crate::asking::{any_sends_video, are_in_one_room, fills_room, has, is_claimed, ssrc_is_taken};
+use crate::asking::{fills_room, has, is_claimed, sends_video, ssrc_is_taken};
 use crate::command::{Refusal, Table};
 use desk_rows::{
     Claim, Key, Kind, MAX_INDEX, MAX_MEMBERS, MAX_ROOM_AUDIO, MAX_ROOMS, MAX_SLOTS, MAX_SOURCES,
-    Member, Row, Rows, Slot, Source, Sub,
+    Member, Row, Rows, Slot, Source, Sub, are_in_one_room,
 };
 use std::alloc::Allocator;
 
@@ -156,10 +156,10 @@ pub(crate) fn may_subscribe<A: Allocator + Copy>(rows: &Rows<A>, sub: &Sub) -> R
     if !has(rows, Key::Slot(sub.out_ssrc)) {
         return Err(Refusal::NoSlot);
     }
-    if !any_sends_video(rows.others(), sub.source) {
+    if !sends_video(rows, sub.source) {
         return Err(Refusal::WrongKind);
     }
-    if !are_in_one_room(rows, rows.others(), sub) {
+    if !are_in_one_room(rows, sub) {
         return Err(Refusal::OtherRoom);
     }
     if rows.holds(&Row::Sub(*sub)) {

@@ -1,5 +1,5 @@
 -- The tests of an exchange, and what absorbing an edit that fits finds and leaves.
-use Rattle.std.proofs.Common.{◌≡◌, ℕ, ◌+◌, ◌-◌, ◌<◌, ◌≤◌, nat_le, nat_eq, nat_lt, Bool, true, false, not, cond, ◌&&◌, ◌||◌, List, [], ◌∷◌, map, length, filter, refl, sym, ap, ◌∙◌, inl, inr, ◌⊎◌, arith}
+use Rattle.std.proofs.Common.{◌≡◌, ℕ, ◌+◌, ◌-◌, ◌≤◌, nat_eq, nat_lt, Bool, true, false, not, cond, ◌&&◌, ◌||◌, List, [], ◌∷◌, map, length, filter, refl, sym, ap, ◌∙◌, inl, inr, arith}
 use Rattle.std.specs.Prelude.{count_by}
 use Rattle.std.specs.List.{list_any, list_all}
 use Rattle.std.proofs.lemmas.Bool.{and_parts, and_from, cases_Bool}
@@ -11,54 +11,32 @@ use Rattle.desk_rows.specs.declared.row.Key.TheVariants as keys
 use Rattle.desk_rows.specs.declared.row.Kind.TheVariants as kinds
 use Rattle.desk_rows.specs.declared.edit.Placed.{Placed}
 use Rattle.desk_rows.specs.Row.{key_of, has_key, same_key}
-use Rattle.desk_rows.specs.Equal.{key_itself}
+use Rattle.desk_rows.specs.laws.Equal.{key_itself, same_key_is, its_key}
 use Rattle.desk_rows.specs.Kinds.{is_of}
-use Rattle.desk_rows.specs.Order.{precedes, in_order, key_is_new, are_apart, have_same_keys, is_in, with_row, with_rows, without_rows}
-use Rattle.desk_rows.specs.OrderLaws.{at_each, from_each, is_in-filter, in_order-filter, list_all-with_rows}
+use Rattle.desk_rows.specs.Order.{precedes, in_order, key_is_new, is_in, with_row, with_rows, without_rows}
+use Rattle.desk_rows.specs.laws.OrderLaws.{at_each, from_each, is_in-filter, in_order-filter}
 use Rattle.desk_rows.specs.Places.{take_at, put_at, can_take, can_put, places_rise, put_within}
-use Rattle.desk_rows.specs.PlaceLaws.{count_next, length-take_at, length-put_at, can_put_within}
+use Rattle.desk_rows.specs.laws.PlaceLaws.{count_next, length-take_at, length-put_at, can_put_within}
 use Rattle.desk_rows.specs.Edit.{EditOf}
-use Rattle.desk_rows.specs.Limits.{room_limit, member_limit, source_limit, slot_limit, other_limit}
-use Rattle.desk_rows.specs.Desk.{Desk, blank, good, rows_of, count_of, is_named_there}
-use Rattle.desk_rows.specs.Exchange.{is_apt, exchanged, fits, after}
-use Rattle.desk_rows.specs.AfterEdit.{desk_of, edit_of}
-use Rattle.desk_rows.specs.Laws.{good_parts, good_order, fits_parts, after_fits, any_counts, is_in-append}
-use Rattle.desk_rows.proofs.KindLemmas.{filter_length}
+use Rattle.desk_rows.specs.Limits.{member_limit, other_limit}
+use Rattle.desk_rows.specs.Desk.{Desk, blank, good, rows_of, is_named_there}
+use Rattle.desk_rows.specs.Exchange.{exchanged, fits, after}
+use Rattle.desk_rows.specs.inner.AfterEdit.{desk_of, edit_of}
+use Rattle.desk_rows.specs.laws.Laws.{good_parts, good_order, fits_parts, after_fits, any_counts, is_in-append, count_by-append}
+use Rattle.desk_rows.proofs.KindLemmas.{filter_length, map_length, within_parts}
 use Rattle.desk_rows.proofs.Merging.{put_in_turn}
 use Rattle.desk_rows.proofs.Counts.{true_false, rows_count, witness, some_count, count_some}
-use Rattle.desk_rows.proofs.Keys.{same_key_is, its_key}
 
--- ---- the tests, one after another
-
-abbrev pub apt_test : ℕ → List Member → List Row → List Placed → List Row → List Row → List Placed → List Row → List Row → Bool
-apt_test bridge ms os tm taken old pm put new =
-    ((places_rise tm && can_take tm ms) && (places_rise pm && put_within (length ms - length tm) pm))
-    && ((are_apart taken old && (list_all (is_in os) old && list_all (is_in os) taken)) && (are_apart put new && have_same_keys old new))
-
-pub apt_tests : (bridge : ℕ) (ms : List Member) (os : List Row) (tm : List Placed) (taken old : List Row) (pm : List Placed) (put new : List Row) →
-    is_apt (desk_of bridge ms os) (edit_of tm taken old pm put new) ≡ apt_test bridge ms os tm taken old pm put new
-unfolding is_apt
-apt_tests bridge ms os tm taken old pm put new =
-    (λ i. ((places_rise tm && can_take tm ms) && (places_rise pm && can_put pm (take_at tm ms))) && ((are_apart taken old && list_all-with_rows (is_in os) old taken i) && (are_apart put new && have_same_keys old new)))
-    ∙ by (cases_Bool (can_take tm ms)) where
-      rest : Bool
-      rest = (are_apart taken old && (list_all (is_in os) old && list_all (is_in os) taken)) && (are_apart put new && have_same_keys old new)
-
-      by : (can_take tm ms ≡ true) ⊎ (can_take tm ms ≡ false) →
-          ((places_rise tm && can_take tm ms) && (places_rise pm && can_put pm (take_at tm ms))) && ((are_apart taken old && (list_all (is_in os) old && list_all (is_in os) taken)) && (are_apart put new && have_same_keys old new))
-          ≡ apt_test bridge ms os tm taken old pm put new
-      by (inl e) =
-          let l = length-take_at tm ms e in
-          let n : length (take_at tm ms) ≡ length ms - length tm = omega (arith, l) in
-          let same = can_put_within pm (take_at tm ms) ∙ ap (λ n. put_within n pm) n in
-          λ i. ((places_rise tm && can_take tm ms) && (places_rise pm && same i)) && ((are_apart taken old && (list_all (is_in os) old && list_all (is_in os) taken)) && (are_apart put new && have_same_keys old new))
-      by (inr e) = neither (places_rise tm) (can_take tm ms) _ _ _ e where
-        neither : (a b x y r : Bool) → b ≡ false → (((a && b) && x) && r) ≡ (((a && b) && y) && r)
-        neither true b x y r e = ap (λ z. (z && x) && r) e ∙ sym (ap (λ z. (z && y) && r) e)
-        neither false b x y r e = refl
+-- ---- places
 
 pub taken_few : (tm : List Placed) (ms : List Member) → (places_rise tm && can_take tm ms) ≡ true → length tm ≤ length ms
 taken_few tm ms h = let l = length-take_at tm ms (and_parts (places_rise tm) (can_take tm ms) h).1 in omega (arith, l)
+
+pub put_places : (tm : List Placed) (ms : List Member) (pm : List Placed) → (places_rise tm && can_take tm ms) ≡ true → put_within (length ms - length tm) pm ≡ can_put pm (take_at tm ms)
+put_places tm ms pm h =
+    let l = length-take_at tm ms (and_parts (places_rise tm) (can_take tm ms) h).1 in
+    let n : length (take_at tm ms) ≡ length ms - length tm = omega (arith, l) in
+    sym (can_put_within pm (take_at tm ms) ∙ ap (λ n. put_within n pm) n)
 
 -- ---- how many rows there may be
 
@@ -77,11 +55,8 @@ slot_key r = key_of r
 
 sub_keys_differ : (x z : Row) → is_of kinds.Sub x ≡ true → is_of kinds.Sub z ≡ true → precedes x z ≡ true → same_key (slot_key x) (slot_key z) ≡ false
 unfolding slot_key
-sub_keys_differ (rows.Sub x) (rows.Sub z) a b h = less x.out_ssrc z.out_ssrc (sub_numbers x.out_ssrc z.out_ssrc h) where
-  sub_numbers : (m n : ℕ) → (nat_lt 4 4 || (nat_eq 4 4 && nat_lt m n)) ≡ true → m < n
-  sub_numbers m n h = grind (arith, h)
-
-  less : (m n : ℕ) → m < n → (nat_eq 3 3 && nat_eq m n) ≡ false
+sub_keys_differ (rows.Sub x) (rows.Sub z) a b h = less x.out_ssrc z.out_ssrc h where
+  less : (m n : ℕ) → nat_lt m n ≡ true → nat_eq m n ≡ false
   less m n h = grind (arith, h)
 sub_keys_differ (rows.Room x) z a b h = absurd (true_false (sym a))
 sub_keys_differ (rows.Member x) z a b h = absurd (true_false (sym a))
@@ -187,20 +162,19 @@ all_members (m ∷ ms) = let rest = all_members ms in omega (arith, rest, count_
 -- the tables of a good desk have room for its rows
 pub few_rows : (d : Desk) → good d ≡ true → (length d.members ≤ member_limit) × (length d.others ≤ other_limit)
 few_rows d g =
-    let within = (good_parts d g).within in
-    let both = and_parts (nat_le (count_of kinds.Room d) room_limit && nat_le (count_of kinds.Member d) member_limit) (nat_le (count_of kinds.Source d) source_limit && nat_le (count_of kinds.Slot d) slot_limit) within in
-    let one = and_parts (nat_le (count_of kinds.Room d) room_limit) (nat_le (count_of kinds.Member d) member_limit) both.0 in
-    let two = and_parts (nat_le (count_of kinds.Source d) source_limit) (nat_le (count_of kinds.Slot d) slot_limit) both.1 in
-    let plain = (and_parts (in_order d.others) (list_all (λ r. not (is_of kinds.Member r)) d.others) (good_parts d g).listed).1 in
-    let rooms : count_of kinds.Room d ≤ room_limit = at_most _ _ one.0 in
-    let members : count_of kinds.Member d ≤ member_limit = at_most _ _ one.1 in
-    let sources : count_of kinds.Source d ≤ source_limit = at_most _ _ two.0 in
-    let slots : count_of kinds.Slot d ≤ slot_limit = at_most _ _ two.1 in (
-      omega (arith, members, rows_count (is_of kinds.Member) d, all_members d.members),
-      omega (arith, rooms, sources, slots, subs_few d g, of_four_kinds d.others plain, rows_count (is_of kinds.Room) d, rows_count (is_of kinds.Source) d, rows_count (is_of kinds.Slot) d),
-    ) where
-      at_most : (m n : ℕ) → nat_le m n ≡ true → m ≤ n
-      at_most m n h = grind (arith, h)
+    let w = within_parts d g in
+    let plain = (and_parts (in_order d.others) (list_all (λ r. not (is_of kinds.Member r)) d.others) (good_parts d g).listed).1 in (
+      omega (arith, w.members, rows_count (is_of kinds.Member) d, all_members d.members),
+      omega (arith, w.rooms, w.sources, w.slots, subs_few d g, of_four_kinds d.others plain, rows_count (is_of kinds.Room) d, rows_count (is_of kinds.Source) d, rows_count (is_of kinds.Slot) d),
+    )
+
+-- and so has each number of them
+pub rows_few : (p : Row → Bool) (d : Desk) → good d ≡ true → count_by p (rows_of d) ≤ member_limit + other_limit
+rows_few p d g =
+    let few = few_rows d g in
+    let members = filter_count p (map rows.Member d.members) in
+    let others = filter_count p d.others in
+    omega (arith, few.0, few.1, members, others, count_by-append p (map rows.Member d.members) d.others, map_length d.members)
 
 -- ---- absorbing
 

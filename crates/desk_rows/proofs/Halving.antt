@@ -1,19 +1,70 @@
--- What halving finds among rows in order.
-use Rattle.std.proofs.Common.{◌≡◌, ℕ, zero, suc, ◌<◌, ◌≤◌, ◌⊎◌, inl, inr, Bool, true, false, cond, not, ◌&&◌, ◌||◌, List, [], ◌∷◌, length, get_or, take, drop, filter, nat_eq, nat_lt, nat_le, refl, sym, ap, ◌∙◌, arith, Some, None}
+-- What halving finds among elements whose numbers do not fall.
+use Rattle.std.proofs.Common.{◌≡◌, ℕ, zero, suc, ◌<◌, ◌≤◌, ◌⊎◌, inl, inr, Bool, true, false, cond, not, ◌||◌, List, [], ◌∷◌, length, get_or, take, drop, filter, nat_eq, nat_lt, nat_le, refl, sym, ap, ◌∙◌, arith, Some, None}
 use Rattle.std.specs.List.{find, list_all}
 use Rattle.std.proofs.lemmas.Bool.{and_parts, and_from, cases_Bool}
 use Rattle.desk_rows.specs.declared.row.Row.{Row}
-use Rattle.desk_rows.specs.declared.row.Row.TheVariants as rows
 use Rattle.desk_rows.specs.declared.row.Key.{Key}
 use Rattle.desk_rows.specs.declared.row.Kind.{Kind}
-use Rattle.desk_rows.specs.declared.row.Kind.TheVariants as kinds
-use Rattle.desk_rows.specs.Row.{key_of, rank, has_key, same_key, same_row}
-use Rattle.desk_rows.specs.Kinds.{is_of, kind_rank}
-use Rattle.desk_rows.specs.Equal.{same_row_is, key_itself}
+use Rattle.desk_rows.specs.Numbers.{same_numbers, numbers_precede}
+use Rattle.desk_rows.specs.Row.{rank, kind_of, key_of, key_numbers, own_numbers, has_key, same_key, same_row}
+use Rattle.desk_rows.specs.Kinds.{is_of}
+use Rattle.desk_rows.specs.laws.NumberLaws.{same_numbers_is, numbers_not_before, one_list_precedes, first_rises}
+use Rattle.desk_rows.specs.laws.Equal.{same_row_is, key_itself, keys_precede_on, not_before_itself, same_key_is, three_numbers}
 use Rattle.desk_rows.specs.Order.{key_precedes, precedes, in_order, is_in}
-use Rattle.desk_rows.specs.OrderLaws.{at_each, keys_precede_on, not_before_itself}
+use Rattle.desk_rows.specs.laws.OrderLaws.{at_each, one_way}
 use Rattle.desk_rows.proofs.Counts.{true_false}
-use Rattle.desk_rows.proofs.Keys.{same_key_is}
+
+-- ---- elements told apart by their numbers
+
+-- elements before the place pass and the others fail
+abbrev pub Parts : {A : Type 0} (p : A → Bool) (xs : List A) (i : ℕ) → Type 0
+Parts {A} p xs i = ((k : ℕ) (d : A) → 0 ≤ k → k < i → p (get_or xs k d) ≡ true) × ((k : ℕ) (d : A) → i ≤ k → k < length xs → p (get_or xs k d) ≡ false)
+
+later_parts : {A : Type 0} (p : A → Bool) (x : A) (xs : List A) (i : ℕ) → Parts p (x ∷ xs) (suc i) → Parts p xs i
+later_parts p x xs i h = (λ k d a b. h.0 (suc k) d (omega arith) (omega arith), λ k d a b. h.1 (suc k) d (omega arith) (omega arith))
+
+-- no element stands before one ahead of it
+abbrev pub Rises : {A : Type 0} (f : A → List ℕ) (xs : List A) → Type 0
+Rises {A} f xs = (i j : ℕ) (d : A) → i ≤ j → j < length xs → numbers_precede (f (get_or xs j d)) (f (get_or xs i d)) ≡ false
+
+before_is_other : (xs ys : List ℕ) → numbers_precede xs ys ≡ true → same_numbers xs ys ≡ false
+before_is_other xs ys e =
+    elim (cases_Bool (same_numbers xs ys)) [
+      | inl f ↦ absurd (true_false (sym (ap (λ zs. numbers_precede zs ys) (sym (same_numbers_is xs ys f)) ∙ e) ∙ numbers_not_before ys))
+      | inr f ↦ f
+    ]
+
+-- the element at the place, where it has these numbers
+pub found_here : {A : Type 0} (f : A → List ℕ) (k : List ℕ) (xs : List A) (i : ℕ) (d : A) → Parts (λ x. numbers_precede (f x) k) xs i → i < length xs → same_numbers (f (get_or xs i d)) k ≡ true →
+    find (λ x. same_numbers (f x) k) xs ≡ Some (get_or xs i d)
+found_here f k [] i d parts l e = absurd (omega arith)
+found_here f k (x ∷ xs) zero d parts l e = ap (λ b. cond b (Some x) (find (λ x. same_numbers (f x) k) xs)) e
+found_here f k (x ∷ xs) (suc i) d parts l e =
+    ap (λ b. cond b (Some x) (find (λ x. same_numbers (f x) k) xs)) (before_is_other (f x) k (parts.0 zero d (omega arith) (omega arith)))
+    ∙ found_here f k xs i d (later_parts (λ y. numbers_precede (f y) k) x xs i parts) (omega arith) e
+
+none_there : {A : Type 0} (f : A → List ℕ) (k : List ℕ) (xs : List A) → ((j : ℕ) (d : A) → j < length xs → same_numbers (f (get_or xs j d)) k ≡ false) → find (λ x. same_numbers (f x) k) xs ≡ None
+none_there f k [] h = refl
+none_there f k (x ∷ xs) h = ap (λ b. cond b (Some x) (find (λ x. same_numbers (f x) k) xs)) (h zero x (omega arith)) ∙ none_there f k xs (λ j d l. h (suc j) d (omega arith))
+
+-- and else none
+pub found_none : {A : Type 0} (f : A → List ℕ) (k : List ℕ) (xs : List A) (i : ℕ) (d : A) → Rises f xs → ((x : A) → length (f x) ≡ length k) → Parts (λ x. numbers_precede (f x) k) xs i →
+    (i < length xs → same_numbers (f (get_or xs i d)) k ≡ false) → find (λ x. same_numbers (f x) k) xs ≡ None
+found_none f k [] i d rises long parts e = refl
+found_none {A} f k (x ∷ xs) zero d rises long parts e = none_there f k (x ∷ xs) each where
+  before : numbers_precede k (f x) ≡ true
+  before = ap (λ b. b || numbers_precede k (f x)) (sym (parts.1 zero x (omega arith) (omega arith))) ∙ one_list_precedes (f x) k (long x) (e (omega arith))
+
+  each : (j : ℕ) (d : A) → j < length (x ∷ xs) → same_numbers (f (get_or (x ∷ xs) j d)) k ≡ false
+  each j d l = elim (cases_Bool (same_numbers (f (get_or (x ∷ xs) j d)) k)) [
+    | inl g ↦ absurd (true_false (sym (ap (λ ys. numbers_precede ys (f x)) (same_numbers_is (f (get_or (x ∷ xs) j d)) k g) ∙ before) ∙ rises zero j d (omega arith) l))
+    | inr g ↦ g
+  ]
+found_none f k (x ∷ xs) (suc i) d rises long parts e =
+    ap (λ b. cond b (Some x) (find (λ x. same_numbers (f x) k) xs)) (before_is_other (f x) k (parts.0 zero x (omega arith) (omega arith)))
+    ∙ found_none f k xs i d (λ a b c l m. rises (suc a) (suc b) c (omega arith) (omega arith)) long (later_parts (λ y. numbers_precede (f y) k) x xs i parts) (λ l. e (omega arith))
+
+-- ---- rows in order, by key
 
 each_at : (p : Row → Bool) (xs : List Row) (i : ℕ) (d : Row) → list_all p xs ≡ true → i < length xs → p (get_or xs i d) ≡ true
 each_at p [] i d h l = absurd (omega arith)
@@ -31,52 +82,21 @@ parted p falls (x ∷ xs) h zero (suc j) d le lt e =
 parted p falls (x ∷ xs) h (suc i) zero d le lt e = absurd (omega arith)
 parted p falls (x ∷ xs) h (suc i) (suc j) d le lt e = parted p falls xs (and_parts (list_all (precedes x) xs) (in_order xs) h).1 i j d (omega arith) (omega arith) e
 
--- rows before the place pass and the others fail
-abbrev pub Parts : (p : Row → Bool) (xs : List Row) (i : ℕ) → Type 0
-Parts p xs i = ((k : ℕ) (d : Row) → 0 ≤ k → k < i → p (get_or xs k d) ≡ true) × ((k : ℕ) (d : Row) → i ≤ k → k < length xs → p (get_or xs k d) ≡ false)
-
-later_parts : (p : Row → Bool) (x : Row) (xs : List Row) (i : ℕ) → Parts p (x ∷ xs) (suc i) → Parts p xs i
-later_parts p x xs i h = (λ k d a b. h.0 (suc k) d (omega arith) (omega arith), λ k d a b. h.1 (suc k) d (omega arith) (omega arith))
-
--- ---- by key
-
 pub key_falls : (key : Key) (a b : Row) → precedes a b ≡ true → key_precedes (key_of b) key ≡ true → key_precedes (key_of a) key ≡ true
 key_falls key a b e f = keys_precede_on (key_of a) (key_of b) key e f
 
-none_behind : (key : Key) (x : Row) (xs : List Row) → list_all (precedes x) xs ≡ true → key_precedes (key_of x) key ≡ false → find (has_key key) xs ≡ None
-none_behind key x [] h e = refl
-none_behind key x (y ∷ ys) h e =
-    let both = and_parts (precedes x y) (list_all (precedes x) ys) h in
-    elim (cases_Bool (has_key key y)) [
-      | inl f ↦ absurd (true_false (sym both.0 ∙ ap (key_precedes (key_of x)) (same_key_is (key_of y) key f) ∙ e))
-      | inr f ↦ ap (λ b. cond b (Some y) (find (has_key key) ys)) f ∙ none_behind key x ys both.1 e
-    ]
+rows_rise : (xs : List Row) → in_order xs ≡ true → Rises (λ x. key_numbers (key_of x)) xs
+rows_rise [] h i j d le lt = absurd (omega arith)
+rows_rise (x ∷ xs) h zero zero d le lt = not_before_itself x
+rows_rise (x ∷ xs) h zero (suc j) d le lt = one_way x (get_or xs j d) (each_at (precedes x) xs j d (and_parts (list_all (precedes x) xs) (in_order xs) h).0 (omega arith))
+rows_rise (x ∷ xs) h (suc i) zero d le lt = absurd (omega arith)
+rows_rise (x ∷ xs) h (suc i) (suc j) d le lt = rows_rise xs (and_parts (list_all (precedes x) xs) (in_order xs) h).1 i j d (omega arith) (omega arith)
 
-before_is_other : (key : Key) (x : Row) → key_precedes (key_of x) key ≡ true → has_key key x ≡ false
-before_is_other key x e =
-    elim (cases_Bool (has_key key x)) [
-      | inl f ↦ absurd (true_false (sym (ap (key_precedes (key_of x)) (same_key_is (key_of x) key f) ∙ e) ∙ not_before_itself x))
-      | inr f ↦ f
-    ]
+pub row_here : (key : Key) (xs : List Row) (i : ℕ) (d : Row) → Parts (λ x. key_precedes (key_of x) key) xs i → i < length xs → has_key key (get_or xs i d) ≡ true → find (has_key key) xs ≡ Some (get_or xs i d)
+row_here key xs i d parts l e = found_here (λ x. key_numbers (key_of x)) (key_numbers key) xs i d parts l e
 
--- the row at the place, where it has the key
-pub found_here : (key : Key) (xs : List Row) (i : ℕ) (d : Row) → in_order xs ≡ true → Parts (λ x. key_precedes (key_of x) key) xs i → i < length xs → has_key key (get_or xs i d) ≡ true →
-    find (has_key key) xs ≡ Some (get_or xs i d)
-found_here key [] i d h parts l e = absurd (omega arith)
-found_here key (x ∷ xs) zero d h parts l e = ap (λ b. cond b (Some x) (find (has_key key) xs)) e
-found_here key (x ∷ xs) (suc i) d h parts l e =
-    ap (λ b. cond b (Some x) (find (has_key key) xs)) (before_is_other key x (parts.0 zero d (omega arith) (omega arith)))
-    ∙ found_here key xs i d (and_parts (list_all (precedes x) xs) (in_order xs) h).1 (later_parts (λ y. key_precedes (key_of y) key) x xs i parts) (omega arith) e
-
--- and else none
-pub found_none : (key : Key) (xs : List Row) (i : ℕ) (d : Row) → in_order xs ≡ true → Parts (λ x. key_precedes (key_of x) key) xs i → (i < length xs → has_key key (get_or xs i d) ≡ false) → find (has_key key) xs ≡ None
-found_none key [] i d h parts e = refl
-found_none key (x ∷ xs) zero d h parts e =
-    let order = and_parts (list_all (precedes x) xs) (in_order xs) h in
-    ap (λ b. cond b (Some x) (find (has_key key) xs)) (e (omega arith)) ∙ none_behind key x xs order.0 (parts.1 zero x (omega arith) (omega arith))
-found_none key (x ∷ xs) (suc i) d h parts e =
-    ap (λ b. cond b (Some x) (find (has_key key) xs)) (before_is_other key x (parts.0 zero x (omega arith) (omega arith)))
-    ∙ found_none key xs i d (and_parts (list_all (precedes x) xs) (in_order xs) h).1 (later_parts (λ y. key_precedes (key_of y) key) x xs i parts) (λ l. e (omega arith))
+pub row_none : (key : Key) (xs : List Row) (i : ℕ) (d : Row) → in_order xs ≡ true → Parts (λ x. key_precedes (key_of x) key) xs i → (i < length xs → has_key key (get_or xs i d) ≡ false) → find (has_key key) xs ≡ None
+row_none key xs i d h parts e = found_none (λ x. key_numbers (key_of x)) (key_numbers key) xs i d (rows_rise xs h) (λ x. three_numbers (key_of x) ∙ sym (three_numbers key)) parts e
 
 -- a row is among others in order where the row of its key is the same
 pub among_none : (xs : List Row) (q : Row) → find (has_key (key_of q)) xs ≡ None → is_in xs q ≡ false
@@ -129,45 +149,11 @@ among_found (x ∷ xs) q r h e = by (cases_Bool (has_key (key_of q) x)) (among_f
 
 -- ---- by kind
 
-pub kind_is_rank : (kind : Kind) (r : Row) → is_of kind r ≡ nat_eq (rank (key_of r)) (kind_rank kind)
-kind_is_rank kinds.Room (rows.Room r) = refl
-kind_is_rank kinds.Room (rows.Member r) = refl
-kind_is_rank kinds.Room (rows.Source r) = refl
-kind_is_rank kinds.Room (rows.Slot r) = refl
-kind_is_rank kinds.Room (rows.Sub r) = refl
-kind_is_rank kinds.Member (rows.Room r) = refl
-kind_is_rank kinds.Member (rows.Member r) = refl
-kind_is_rank kinds.Member (rows.Source r) = refl
-kind_is_rank kinds.Member (rows.Slot r) = refl
-kind_is_rank kinds.Member (rows.Sub r) = refl
-kind_is_rank kinds.Source (rows.Room r) = refl
-kind_is_rank kinds.Source (rows.Member r) = refl
-kind_is_rank kinds.Source (rows.Source r) = refl
-kind_is_rank kinds.Source (rows.Slot r) = refl
-kind_is_rank kinds.Source (rows.Sub r) = refl
-kind_is_rank kinds.Slot (rows.Room r) = refl
-kind_is_rank kinds.Slot (rows.Member r) = refl
-kind_is_rank kinds.Slot (rows.Source r) = refl
-kind_is_rank kinds.Slot (rows.Slot r) = refl
-kind_is_rank kinds.Slot (rows.Sub r) = refl
-kind_is_rank kinds.Sub (rows.Room r) = refl
-kind_is_rank kinds.Sub (rows.Member r) = refl
-kind_is_rank kinds.Sub (rows.Source r) = refl
-kind_is_rank kinds.Sub (rows.Slot r) = refl
-kind_is_rank kinds.Sub (rows.Sub r) = refl
+pub below_falls : (n : ℕ) (a b : Row) → precedes a b ≡ true → nat_lt (rank (kind_of (key_of b))) n ≡ true → nat_lt (rank (kind_of (key_of a))) n ≡ true
+below_falls n a b e f = let l = first_rises (rank (kind_of (key_of a))) (rank (kind_of (key_of b))) (own_numbers (key_of a)) (own_numbers (key_of b)) e in grind (arith, l, f)
 
-rank_rises : (ra na rb nb : ℕ) → (nat_lt ra rb || (nat_eq ra rb && nat_lt na nb)) ≡ true → ra ≤ rb
-rank_rises ra na rb nb h = grind (arith, h)
-
-pub below_falls : (n : ℕ) (a b : Row) → precedes a b ≡ true → nat_lt (rank (key_of b)) n ≡ true → nat_lt (rank (key_of a)) n ≡ true
-below_falls n a b e f = let l = rank_rises (rank (key_of a)) _ (rank (key_of b)) _ e in lower (rank (key_of a)) (rank (key_of b)) n l f where
-  lower : (a b n : ℕ) → a ≤ b → nat_lt b n ≡ true → nat_lt a n ≡ true
-  lower a b n l f = grind (arith, l, f)
-
-pub within_falls : (n : ℕ) (a b : Row) → precedes a b ≡ true → nat_le (rank (key_of b)) n ≡ true → nat_le (rank (key_of a)) n ≡ true
-within_falls n a b e f = let l = rank_rises (rank (key_of a)) _ (rank (key_of b)) _ e in lower (rank (key_of a)) (rank (key_of b)) n l f where
-  lower : (a b n : ℕ) → a ≤ b → nat_le b n ≡ true → nat_le a n ≡ true
-  lower a b n l f = grind (arith, l, f)
+pub within_falls : (n : ℕ) (a b : Row) → precedes a b ≡ true → nat_le (rank (kind_of (key_of b))) n ≡ true → nat_le (rank (kind_of (key_of a))) n ≡ true
+within_falls n a b e f = let l = first_rises (rank (kind_of (key_of a))) (rank (kind_of (key_of b))) (own_numbers (key_of a)) (own_numbers (key_of b)) e in grind (arith, l, f)
 
 pub order_of_rest : (i : ℕ) (xs : List Row) → in_order xs ≡ true → in_order (drop i xs) ≡ true
 order_of_rest zero xs h = h
@@ -180,36 +166,33 @@ rest_fails p [] (suc i) h = refl
 rest_fails p (x ∷ xs) zero h = and_from _ _ (ap not (h.1 zero x (omega arith) (omega arith))) (rest_fails p xs zero (λ k d a b. absurd (omega arith), λ k d a b. h.1 (suc k) d (omega arith) (omega arith)))
 rest_fails p (x ∷ xs) (suc i) h = rest_fails p xs i (later_parts p x xs i h)
 
-other_kind : (kind : Kind) (r : Row) → nat_lt (rank (key_of r)) (kind_rank kind) ≡ true → is_of kind r ≡ false
-other_kind kind r h = kind_is_rank kind r ∙ less (rank (key_of r)) (kind_rank kind) h where
-  less : (a b : ℕ) → nat_lt a b ≡ true → nat_eq a b ≡ false
-  less a b h = grind (arith, h)
-
-none_in_front : (kind : Kind) (xs : List Row) (i : ℕ) → Parts (λ x. nat_lt (rank (key_of x)) (kind_rank kind)) xs i → filter (is_of kind) xs ≡ filter (is_of kind) (drop i xs)
+none_in_front : (kind : Kind) (xs : List Row) (i : ℕ) → Parts (λ x. nat_lt (rank (kind_of (key_of x))) (rank kind)) xs i → filter (is_of kind) xs ≡ filter (is_of kind) (drop i xs)
 none_in_front kind xs zero h = refl
 none_in_front kind [] (suc i) h = refl
 none_in_front kind (x ∷ xs) (suc i) h =
-    ap (λ b. cond b (x ∷ filter (is_of kind) xs) (filter (is_of kind) xs)) (other_kind kind x (h.0 zero x (omega arith) (omega arith)))
-    ∙ none_in_front kind xs i (later_parts (λ y. nat_lt (rank (key_of y)) (kind_rank kind)) x xs i h)
+    ap (λ b. cond b (x ∷ filter (is_of kind) xs) (filter (is_of kind) xs)) (less (rank (kind_of (key_of x))) (rank kind) (h.0 zero x (omega arith) (omega arith)))
+    ∙ none_in_front kind xs i (later_parts (λ y. nat_lt (rank (kind_of (key_of y))) (rank kind)) x xs i h) where
+      less : (a b : ℕ) → nat_lt a b ≡ true → nat_eq a b ≡ false
+      less a b h = grind (arith, h)
 
-all_in_front : (kind : Kind) (ys : List Row) (j : ℕ) → list_all (λ x. not (nat_lt (rank (key_of x)) (kind_rank kind))) ys ≡ true → Parts (λ x. nat_le (rank (key_of x)) (kind_rank kind)) ys j →
+all_in_front : (kind : Kind) (ys : List Row) (j : ℕ) → list_all (λ x. not (nat_lt (rank (kind_of (key_of x))) (rank kind))) ys ≡ true → Parts (λ x. nat_le (rank (kind_of (key_of x))) (rank kind)) ys j →
     filter (is_of kind) ys ≡ take j ys
 all_in_front kind [] zero all h = refl
 all_in_front kind [] (suc j) all h = refl
 all_in_front kind (y ∷ ys) zero all h =
-    let both = and_parts (not (nat_lt (rank (key_of y)) (kind_rank kind))) (list_all (λ x. not (nat_lt (rank (key_of x)) (kind_rank kind))) ys) all in
-    ap (λ b. cond b (y ∷ filter (is_of kind) ys) (filter (is_of kind) ys)) (kind_is_rank kind y ∙ more (rank (key_of y)) (kind_rank kind) (h.1 zero y (omega arith) (omega arith)))
+    let both = and_parts (not (nat_lt (rank (kind_of (key_of y))) (rank kind))) (list_all (λ x. not (nat_lt (rank (kind_of (key_of x))) (rank kind))) ys) all in
+    ap (λ b. cond b (y ∷ filter (is_of kind) ys) (filter (is_of kind) ys)) (more (rank (kind_of (key_of y))) (rank kind) (h.1 zero y (omega arith) (omega arith)))
     ∙ all_in_front kind ys zero both.1 (λ k d a b. absurd (omega arith), λ k d a b. h.1 (suc k) d (omega arith) (omega arith)) where
       more : (a b : ℕ) → nat_le a b ≡ false → nat_eq a b ≡ false
       more a b h = grind (arith, h)
 all_in_front kind (y ∷ ys) (suc j) all h =
-    let both = and_parts (not (nat_lt (rank (key_of y)) (kind_rank kind))) (list_all (λ x. not (nat_lt (rank (key_of x)) (kind_rank kind))) ys) all in
-    ap (λ b. cond b (y ∷ filter (is_of kind) ys) (filter (is_of kind) ys)) (kind_is_rank kind y ∙ equal (rank (key_of y)) (kind_rank kind) both.0 (h.0 zero y (omega arith) (omega arith)))
-    ∙ ap (λ zs. y ∷ zs) (all_in_front kind ys j both.1 (later_parts (λ x. nat_le (rank (key_of x)) (kind_rank kind)) y ys j h)) where
+    let both = and_parts (not (nat_lt (rank (kind_of (key_of y))) (rank kind))) (list_all (λ x. not (nat_lt (rank (kind_of (key_of x))) (rank kind))) ys) all in
+    ap (λ b. cond b (y ∷ filter (is_of kind) ys) (filter (is_of kind) ys)) (equal (rank (kind_of (key_of y))) (rank kind) both.0 (h.0 zero y (omega arith) (omega arith)))
+    ∙ ap (λ zs. y ∷ zs) (all_in_front kind ys j both.1 (later_parts (λ x. nat_le (rank (kind_of (key_of x))) (rank kind)) y ys j h)) where
       equal : (a b : ℕ) → not (nat_lt a b) ≡ true → nat_le a b ≡ true → nat_eq a b ≡ true
       equal a b h k = grind (arith, h, k)
 
 -- the rows of a kind stand together
-pub of_kind : (kind : Kind) (xs : List Row) (i j : ℕ) → Parts (λ x. nat_lt (rank (key_of x)) (kind_rank kind)) xs i → Parts (λ x. nat_le (rank (key_of x)) (kind_rank kind)) (drop i xs) j →
+pub of_kind : (kind : Kind) (xs : List Row) (i j : ℕ) → Parts (λ x. nat_lt (rank (kind_of (key_of x))) (rank kind)) xs i → Parts (λ x. nat_le (rank (kind_of (key_of x))) (rank kind)) (drop i xs) j →
     take j (drop i xs) ≡ filter (is_of kind) xs
-of_kind kind xs i j h k = sym (none_in_front kind xs i h ∙ all_in_front kind (drop i xs) j (rest_fails (λ x. nat_lt (rank (key_of x)) (kind_rank kind)) xs i h) k)
+of_kind kind xs i j h k = sym (none_in_front kind xs i h ∙ all_in_front kind (drop i xs) j (rest_fails (λ x. nat_lt (rank (kind_of (key_of x))) (rank kind)) xs i h) k)

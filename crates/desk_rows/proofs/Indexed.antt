@@ -1,5 +1,5 @@
 -- An index of members, made and asked.
-use Rattle.std.proofs.Common.{◌≡◌, ℕ, zero, suc, ◌+◌, ◌<◌, ◌≤◌, inl, inr, Bool, true, false, cond, ◌||◌, List, [], ◌∷◌, ◌++◌, map, length, get_or, nat_eq, nat_lt, Option, None, Some, refl, sym, ap, subst, ◌∙◌, arith, append_assoc, eqb-true}
+use Rattle.std.proofs.Common.{◌≡◌, ℕ, suc, ◌+◌, ◌≤◌, inl, inr, Bool, true, false, cond, ◌||◌, List, [], ◌∷◌, ◌++◌, map, length, nat_eq, Option, None, Some, refl, sym, ap, subst, ◌∙◌, arith, append_assoc, eqb-true}
 use Rattle.std.specs.Prelude.{count_by}
 use Rattle.std.specs.Option.{option_map, option_and_then}
 use Rattle.std.specs.List.{All, find, list_any, slice_get}
@@ -8,21 +8,19 @@ use Rattle.std.proofs.lemmas.Bool.{cases_Bool, or_left}
 use Rattle.std.proofs.lemmas.Bool.Decides.{nat_tests}
 use Rattle.std.proofs.lemmas.List.Elements.{All-nil, All-cons, All-head, All-tail, All-weaker}
 use Rattle.std.proofs.lemmas.List.Sorted.{All-permutation, list_any-IsPermutation}
+use Rattle.desk_rows.specs.laws.Equal.{number_itself, its_key}
 use Rattle.desk_rows.specs.declared.row.Member.{Member}
 use Rattle.desk_rows.specs.declared.row.Row.TheVariants as rows
 use Rattle.desk_rows.specs.declared.row.Key.TheVariants as keys
 use Rattle.desk_rows.specs.declared.index.Entry.{Entry}
 use Rattle.desk_rows.specs.Row.{has_key, key_of}
 use Rattle.desk_rows.specs.Places.{place_in}
-use Rattle.desk_rows.specs.PlaceLaws.{count_next}
-use Rattle.desk_rows.specs.Index.{entries_from, entry_in, IsIndex}
+use Rattle.desk_rows.specs.laws.PlaceLaws.{count_next}
+use Rattle.desk_rows.specs.inner.Index.{entries_from, entry_in, IsIndex}
 use Rattle.desk_rows.specs.Desk.{Desk, good, rows_of}
-use Rattle.desk_rows.specs.Laws.{one_key, is_in-append}
+use Rattle.desk_rows.specs.laws.Laws.{one_key, is_in-append}
+use Rattle.desk_rows.proofs.Halving.{Rises}
 use Rattle.desk_rows.proofs.Counts.{true_false, witness, no_count, rows_count, count_by-map}
-use Rattle.desk_rows.proofs.Keys.{its_key}
-
-number_itself : (n : ℕ) → nat_eq n n ≡ true
-number_itself n = grind (arith, nat_tests)
 
 -- ---- the row at a place
 
@@ -42,45 +40,8 @@ member_at (m ∷ ms) n = by (nat_eq m.member n) (member_at ms n)
 
 -- ---- halving
 
--- entries before the place have lesser numbers and the others have not
-abbrev pub Parts : ℕ → List Entry → ℕ → Type 0
-Parts n es i = ((k : ℕ) (d : Entry) → 0 ≤ k → k < i → nat_lt (get_or es k d).member n ≡ true) × ((k : ℕ) (d : Entry) → i ≤ k → k < length es → nat_lt (get_or es k d).member n ≡ false)
-
-later_parts : (n : ℕ) (x : Entry) (es : List Entry) (i : ℕ) → Parts n (x ∷ es) (suc i) → Parts n es i
-later_parts n x es i h = (λ k d a b. h.0 (suc k) d (omega arith) (omega arith), λ k d a b. h.1 (suc k) d (omega arith) (omega arith))
-
-differs : (a b : ℕ) → nat_lt a b ≡ true → nat_eq a b ≡ false
-differs a b h = grind (arith, nat_tests)
-
-differs_above : (a b : ℕ) → b < a → nat_eq a b ≡ false
-differs_above a b h = grind (arith, nat_tests)
-
-greater : (a b : ℕ) → nat_lt a b ≡ false → nat_eq a b ≡ false → b < a
-greater a b h k = grind (arith, nat_tests)
-
-pub found_here : (n : ℕ) (es : List Entry) (i : ℕ) (d : Entry) → Parts n es i → i < length es → nat_eq (get_or es i d).member n ≡ true → entry_in es n ≡ Some (get_or es i d)
-found_here n [] i d h l e = absurd (omega arith)
-found_here n (x ∷ es) zero d h l e = ap (λ b. cond b (Some x) (entry_in es n)) e
-found_here n (x ∷ es) (suc i) d h l e =
-    ap (λ b. cond b (Some x) (entry_in es n)) (differs x.member n (h.0 zero d (omega arith) (omega arith)))
-    ∙ found_here n es i d (later_parts n x es i h) (omega arith) e
-
-all_greater : (n : ℕ) (es : List Entry) → ((k : ℕ) (d : Entry) → k < length es → n < (get_or es k d).member) → entry_in es n ≡ None
-all_greater n [] h = refl
-all_greater n (x ∷ es) h =
-    ap (λ b. cond b (Some x) (entry_in es n)) (differs_above x.member n (h zero x (omega arith)))
-    ∙ all_greater n es (λ k d l. h (suc k) d (omega arith))
-
-pub found_none : (n : ℕ) (es : List Entry) (i : ℕ) (d : Entry) → IsNonDecreasingBy (λ e. e.member) es → Parts n es i → (i < length es → nat_eq (get_or es i d).member n ≡ false) → entry_in es n ≡ None
-found_none n [] i d up h e = refl
-found_none n (x ∷ es) zero d up h e =
-    all_greater n (x ∷ es) (λ k d' l.
-    let first = up zero k d' (omega arith) l in
-    let more = greater x.member n (h.1 zero d (omega arith) (omega arith)) (e (omega arith)) in
-    omega arith)
-found_none n (x ∷ es) (suc i) d up h e =
-    ap (λ b. cond b (Some x) (entry_in es n)) (differs x.member n (h.0 zero d (omega arith) (omega arith)))
-    ∙ found_none n es i d (λ a b d' le lt. up (suc a) (suc b) d' (omega arith) (omega arith)) (later_parts n x es i h) (λ l. e (omega arith))
+pub entries_rise : (es : List Entry) → IsNonDecreasingBy (λ e. e.member) es → Rises (λ e. e.member ∷ []) es
+entries_rise es up i j d le lt = let rises = up i j d le lt in grind (arith, nat_tests, rises)
 
 pub row_found : (ms : List Member) (es : List Entry) (n : ℕ) (o : Option Entry) → IsIndex ms es → entry_in es n ≡ o →
     find (has_key (keys.Member n)) (map rows.Member ms) ≡ option_and_then (slice_get (map rows.Member ms)) (option_map (λ e. e.place) o)

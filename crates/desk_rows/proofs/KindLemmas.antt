@@ -1,8 +1,8 @@
 -- The rows of one kind, and the row of a key.
-use Rattle.std.proofs.Common.{◌≡◌, ℕ, zero, suc, ◌<◌, ◌≤◌, Bool, true, false, cond, not, append-nil, List, [], ◌∷◌, ◌++◌, map, filter, length, get_or, refl, sym, ap, ◌∙◌, arith, Some, None}
+use Rattle.std.proofs.Common.{◌≡◌, ℕ, ◌≤◌, nat_le, Bool, true, false, cond, not, append-nil, List, [], ◌∷◌, ◌++◌, map, filter, length, refl, sym, ap, ◌∙◌, arith, Some, None}
 use Rattle.std.specs.Prelude.{count_by}
-use Rattle.std.specs.List.{find, list_all, slice_get}
-use Rattle.std.proofs.lemmas.Bool.{and_parts}
+use Rattle.std.specs.List.{find, list_all}
+use Rattle.std.proofs.lemmas.Bool.{and_parts, and_from}
 use Rattle.desk_rows.specs.declared.row.Row.{Row}
 use Rattle.desk_rows.specs.declared.row.Row.TheVariants as rows
 use Rattle.desk_rows.specs.declared.row.Member.{Member}
@@ -13,10 +13,11 @@ use Rattle.desk_rows.specs.declared.row.Key.TheVariants as keys
 use Rattle.desk_rows.specs.Row.{has_key}
 use Rattle.desk_rows.specs.Kinds.{is_of}
 use Rattle.desk_rows.specs.Order.{in_order}
-use Rattle.desk_rows.specs.OrderLaws.{not_true}
-use Rattle.desk_rows.specs.PlaceLaws.{count_next}
-use Rattle.desk_rows.specs.Desk.{Desk, good}
-use Rattle.desk_rows.specs.Laws.{good_parts}
+use Rattle.desk_rows.specs.Limits.{room_limit, member_limit, source_limit, slot_limit}
+use Rattle.desk_rows.specs.laws.OrderLaws.{not_true}
+use Rattle.desk_rows.specs.laws.PlaceLaws.{count_next}
+use Rattle.desk_rows.specs.Desk.{Desk, good, count_of, is_within_limits}
+use Rattle.desk_rows.specs.laws.Laws.{good_parts}
 
 members_first : (ms : List Member) (os : List Row) → filter (is_of kinds.Member) (map rows.Member ms ++ os) ≡ map rows.Member ms ++ filter (is_of kinds.Member) os
 members_first [] os = refl
@@ -35,16 +36,6 @@ members_only ms os h = members_first ms os ∙ ap (λ rs. map rows.Member ms ++ 
 members_skipped : (p : Row → Bool) → ((m : Member) → p (rows.Member m) ≡ false) → (ms : List Member) (os : List Row) → filter p (map rows.Member ms ++ os) ≡ filter p os
 members_skipped p none [] os = refl
 members_skipped p none (m ∷ ms) os = ap (λ b. cond b (rows.Member m ∷ filter p (map rows.Member ms ++ os)) (filter p (map rows.Member ms ++ os))) (none m) ∙ members_skipped p none ms os
-
-pub read_member : (ms : List Member) (i : ℕ) (d : Member) → i < length ms → Some (rows.Member (get_or ms i d)) ≡ slice_get (map rows.Member ms) i
-read_member [] i d h = absurd (omega arith)
-read_member (m ∷ ms) zero d h = refl
-read_member (m ∷ ms) (suc i) d h = read_member ms i d (omega arith)
-
-pub none_past : (ms : List Member) (i : ℕ) → length ms ≤ i → None ≡ slice_get (map rows.Member ms) i
-none_past [] i h = refl
-none_past (m ∷ ms) zero h = absurd (omega arith)
-none_past (m ∷ ms) (suc i) h = none_past ms i (omega arith)
 
 pub others_only : (kind : Kind) → (kind ≡ kinds.Member → ⊥) → (ms : List Member) (os : List Row) → filter (is_of kind) (map rows.Member ms ++ os) ≡ filter (is_of kind) os
 others_only kinds.Member not ms os = absurd (not refl)
@@ -65,7 +56,7 @@ filter_length p (x ∷ xs) = by (p x) refl (filter_length p xs) where
   by true e rest = let here : ◌≡◌ {A = ℕ} (cond (p x) 1 0) 1 = ap (λ b. cond b 1 0) e in omega (arith, rest, count_next p x xs, here)
   by false e rest = let here : ◌≡◌ {A = ℕ} (cond (p x) 1 0) 0 = ap (λ b. cond b 1 0) e in omega (arith, rest, count_next p x xs, here)
 
-map_length : (ms : List Member) → length (map rows.Member ms) ≡ length ms
+pub map_length : (ms : List Member) → length (map rows.Member ms) ≡ length ms
 map_length [] = refl
 map_length (m ∷ ms) = let rest = map_length ms in omega (arith, rest)
 
@@ -104,3 +95,26 @@ skipped (keys.Slot n) not [] os = refl
 skipped (keys.Slot n) not (m ∷ ms) os = skipped (keys.Slot n) not ms os
 skipped (keys.Sub n) not [] os = refl
 skipped (keys.Sub n) not (m ∷ ms) os = skipped (keys.Sub n) not ms os
+
+-- ---- limits
+
+pub record Within (d : Desk) : Type 0 where
+  pub rooms : count_of kinds.Room d ≤ room_limit
+  pub members : count_of kinds.Member d ≤ member_limit
+  pub sources : count_of kinds.Source d ≤ source_limit
+  pub slots : count_of kinds.Slot d ≤ slot_limit
+
+pub within_parts : (d : Desk) → good d ≡ true → Within d
+within_parts d g =
+    let rooms = and_parts (nat_le (count_of kinds.Room d) room_limit) _ (good_parts d g).within in
+    let members = and_parts (nat_le (count_of kinds.Member d) member_limit) _ rooms.1 in
+    let sources = and_parts (nat_le (count_of kinds.Source d) source_limit) _ members.1 in
+    let slots = and_parts (nat_le (count_of kinds.Slot d) slot_limit) true sources.1 in
+    record { rooms = at_most _ _ rooms.0; members = at_most _ _ members.0; sources = at_most _ _ sources.0; slots = at_most _ _ slots.0 } where
+      at_most : (m n : ℕ) → nat_le m n ≡ true → m ≤ n
+      at_most m n h = grind (arith, h)
+
+pub within_from : (d : Desk) → Within d → is_within_limits d ≡ true
+within_from d w = and_from _ _ (most _ _ w.rooms) (and_from _ _ (most _ _ w.members) (and_from _ _ (most _ _ w.sources) (and_from _ _ (most _ _ w.slots) refl))) where
+  most : (m n : ℕ) → m ≤ n → nat_le m n ≡ true
+  most m n h = grind (arith, h)

@@ -1,11 +1,14 @@
 pub mod Counts
 pub mod Merging
 pub mod Indexed
-pub mod Keys
 pub mod Halving
 pub mod Unshaken
 pub mod Judging
-pub mod AfterLemmas
 pub mod Loops
 pub mod ExchangeLemmas
 pub mod KindLemmas
+pub mod KeyedLemmas
+pub mod Finding
+pub mod NewKeys
+pub mod ChangeLemmas
+pub mod OverlayLemmas

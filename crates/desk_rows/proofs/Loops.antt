@@ -2,18 +2,19 @@
 use Rattle.std.proofs.Common.{◌≡◌, ℕ, zero, suc, ◌<◌, ◌≤◌, ◌⊎◌, inl, inr, Bool, true, false, not, ◌&&◌, ◌||◌, List, [], ◌∷◌, ◌++◌, length, get_or, nat_eq, refl, sym, ap, ◌∙◌, arith}
 use Rattle.std.specs.List.{list_all, remove}
 use Rattle.std.proofs.lemmas.Bool.{and_parts, and_from, cases_Bool}
-use Rattle.desk_rows.specs.Row.{key_of, same_key, same_member}
+use Rattle.desk_rows.specs.Row.{same_row}
+use Rattle.desk_rows.specs.declared.row.Row.TheVariants as rows
 use Rattle.desk_rows.specs.Places.{take_at, can_take, is_at}
-use Rattle.desk_rows.specs.PlaceLaws.{at_within}
+use Rattle.desk_rows.specs.laws.PlaceLaws.{at_within}
 use Rattle.desk_rows.specs.Order.{precedes, precedes_head, in_order, have_same_keys, is_in, with_rows}
-use Rattle.desk_rows.specs.OrderLaws.{at_each, from_each, precedes_on, is_in-with_rows}
+use Rattle.desk_rows.specs.laws.OrderLaws.{at_each, from_each, precedes_on, is_in-with_rows}
 use Rattle.desk_rows.specs.declared.row.Member.{Member}
 use Rattle.desk_rows.specs.declared.row.Row.{Row}
 use Rattle.desk_rows.specs.declared.edit.Placed.{Placed}
 
 -- ---- places
 
-pub is_at_read : (xs : List Member) (i : ℕ) (m d : Member) → i < length xs → same_member (get_or xs i d) m ≡ is_at xs i m
+pub is_at_read : (xs : List Member) (i : ℕ) (m d : Member) → i < length xs → same_row (rows.Member (get_or xs i d)) (rows.Member m) ≡ is_at xs i m
 is_at_read [] i m d h = absurd (omega arith)
 is_at_read (x ∷ xs) zero m d h = refl
 is_at_read (x ∷ xs) (suc i) m d h = is_at_read xs i m d (omega arith)
@@ -52,12 +53,6 @@ in_order_next r (x ∷ xs) h = by (cases_Bool (in_order (x ∷ xs))) where
       and_from _ _ before e ∙ sym e
   by (inr e) = and_false (list_all (precedes r) (x ∷ xs)) (in_order (x ∷ xs)) e ∙ sym e
 
-pub not_in_order : (r : Row) (rs : List Row) → precedes_head r rs ≡ false → in_order (r ∷ rs) ≡ false
-not_in_order r [] h = sym (cc_no h) where
-  cc_no : true ≡ false → false ≡ true
-  cc_no e = cc
-not_in_order r (x ∷ xs) h = ap (λ b. (b && list_all (precedes r) xs) && in_order (x ∷ xs)) h
-
 pub neither_in : (taken old : List Row) (r : Row) → (not (is_in old r) && not (is_in taken r)) ≡ not (is_in (with_rows old taken) r)
 neither_in taken old r = turned (is_in old r) (is_in taken r) ∙ ap not (sym (is_in-with_rows old taken r)) where
   turned : (a b : Bool) → (not a && not b) ≡ not (a || b)
@@ -65,12 +60,6 @@ neither_in taken old r = turned (is_in old r) (is_in taken r) ∙ ap not (sym (i
   turned false b = refl
 
 -- ---- pairs
-
-pub pairs_next : (x y : Row) (xs ys : List Row) → same_key (key_of x) (key_of y) ≡ true → have_same_keys (x ∷ xs) (y ∷ ys) ≡ have_same_keys xs ys
-pairs_next x y xs ys e = ap (λ b. b && have_same_keys xs ys) e
-
-pub pairs_differ : (x y : Row) (xs ys : List Row) → same_key (key_of x) (key_of y) ≡ false → have_same_keys (x ∷ xs) (y ∷ ys) ≡ false
-pairs_differ x y xs ys e = ap (λ b. b && have_same_keys xs ys) e
 
 pub none_left : (ys : List Row) → nat_eq (length ys) 0 ≡ have_same_keys [] ys
 none_left [] = refl

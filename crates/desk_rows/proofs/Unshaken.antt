@@ -1,66 +1,35 @@
 -- The rule of a row that stays holds on where the edit does not touch what it looks at.
-use Rattle.std.proofs.Common.{◌≡◌, ℕ, ◌+◌, ◌≤◌, nat_le, nat_lt, nat_eq, Bool, true, false, not, cond, ◌&&◌, ◌||◌, List, [], ◌∷◌, map, refl, sym, ap, ◌∙◌, inl, inr, ◌⊎◌, arith}
+use Rattle.std.proofs.Common.{◌≡◌, ℕ, ◌≤◌, nat_le, nat_eq, Bool, true, false, not, cond, ◌&&◌, ◌||◌, List, [], ◌∷◌, map, refl, sym, ap, ◌∙◌, inl, inr, arith, Option, Some, None}
 use Rattle.std.specs.Prelude.{count_by}
+use Rattle.std.specs.Option.{is_some}
 use Rattle.std.specs.List.{list_any, list_all}
 use Rattle.std.proofs.lemmas.Bool.{and_parts, and_from, or_left, or_right, or_cases, cases_Bool}
-use Rattle.std.proofs.lemmas.List.Folds.{list_any-append}
-use borrow.Author.Tests.{eqb-true, eq-eqb}
+use borrow.Author.Tests.{eqb-true}
 use Rattle.desk_rows.specs.declared.row.Row.{Row}
 use Rattle.desk_rows.specs.declared.row.Row.TheVariants.{Room, Member, Source, Slot, Sub}
 use Rattle.desk_rows.specs.declared.row.Member.{Member as MemberRow}
-use Rattle.desk_rows.specs.declared.row.Sub.{Sub as SubRow}
 use Rattle.desk_rows.specs.declared.row.Media.TheVariants.{Audio, Video}
-use Rattle.desk_rows.specs.declared.row.Key.{Key}
 use Rattle.desk_rows.specs.declared.row.Key.TheVariants as keys
 use Rattle.desk_rows.specs.declared.row.Kind.TheVariants as kinds
 use Rattle.desk_rows.specs.declared.edit.Placed.{Placed}
-use Rattle.desk_rows.specs.declared.limits.TheConstants.{MAX_ROOM_AUDIO}
 use Rattle.desk_rows.specs.Row.{has_key, same_media}
-use Rattle.desk_rows.specs.Equal.{number_itself, row_itself}
-use Rattle.desk_rows.specs.Order.{in_order, is_in, with_rows, without_rows}
-use Rattle.desk_rows.specs.OrderLaws.{at_each, is_in-with_rows, is_in-without_rows, count_by-with_rows, count_by-without_rows}
+use Rattle.desk_rows.specs.Order.{is_in, with_rows, without_rows}
+use Rattle.desk_rows.specs.Limits.{room_audio_limit}
 use Rattle.desk_rows.specs.Places.{take_at}
-use Rattle.desk_rows.specs.PlaceLaws.{count_next, count_by-take_at, count_by-put_at}
 use Rattle.desk_rows.specs.Edit.{EditOf, outs, ins}
-use Rattle.desk_rows.specs.Desk.{Desk, good, rows_of, is_member_in, is_audio_in, share_room, is_video_beside, is_slot_beside, is_named_there, obeys}
+use Rattle.desk_rows.specs.Desk.{Desk, good, rows_of, row_at, is_member_in, is_audio_in, share_room, is_slot_beside, is_named_there, obeys}
 use Rattle.desk_rows.specs.Kinds.{is_of}
 use Rattle.desk_rows.specs.Exchange.{exchanged}
-use Rattle.desk_rows.specs.Laws.{Apt, outs_order, good_parts, good_order, any_counts}
-use Rattle.desk_rows.specs.Judged.{takes, puts, keeps_names, moves, is_shaken}
-use Rattle.desk_rows.proofs.Counts.{true_false, any_count, witness, list_any-map}
-
--- ---- elements that pass
-
--- an element that passes, which stands for itself in every test of all
-abbrev pub Witness : {X : Type 0} (p : X → Bool) (xs : List X) → Type 0
-Witness {X} p xs = (x : X) × (p x ≡ true) × ((q : X → Bool) → q x ≡ true → list_any q xs ≡ true)
-
-pub one_of : {X : Type 0} (p : X → Bool) (xs : List X) → list_any p xs ≡ true → Witness p xs
-one_of p [] h = absurd (true_false (sym h))
-one_of p (x ∷ xs) h =
-    elim (or_cases (p x) (list_any p xs) h) [
-      | inl e ↦ (x, e, λ q f. or_left _ _ f)
-      | inr e ↦ let w = one_of p xs e in (w.0, w.1, λ q f. or_right _ _ (w.2 q f))
-    ]
-
-some_counts : {X : Type 0} (p : X → Bool) (xs : List X) → list_any p xs ≡ true → 1 ≤ count_by p xs
-some_counts p xs h = let e : nat_lt 0 (count_by p xs) ≡ true = sym (any_count p xs) ∙ h in grind (arith, e)
-
-counts_some : {X : Type 0} (p : X → Bool) (xs : List X) → 1 ≤ count_by p xs → list_any p xs ≡ true
-counts_some p xs h = any_count p xs ∙ positive (count_by p xs) h where
-  positive : (n : ℕ) → 1 ≤ n → nat_lt 0 n ≡ true
-  positive n h = grind arith
-
-none_counts : {X : Type 0} (p : X → Bool) (xs : List X) → list_any p xs ≡ false → count_by p xs ≡ 0
-none_counts p xs h = let e : nat_lt 0 (count_by p xs) ≡ false = sym (any_count p xs) ∙ h in grind (arith, e)
-
--- where none passes the wider test, none passes
-none_narrower : {X : Type 0} (p q : X → Bool) (xs : List X) → ((x : X) → p x ≡ true → q x ≡ true) → list_any q xs ≡ false → list_any p xs ≡ false
-none_narrower p q xs each h =
-    elim (cases_Bool (list_any p xs)) [
-      | inl e ↦ let w = one_of p xs e in absurd (true_false (sym (w.2 q (each w.0 w.1)) ∙ h))
-      | inr e ↦ e
-    ]
+use Rattle.desk_rows.specs.Keyed.{IsKeyed}
+use Rattle.desk_rows.specs.inner.Found.{finds, is_elsewhere, is_in_room, is_beside, sends_beside, takes_beside}
+use Rattle.desk_rows.specs.inner.Judged.{stay_rows, come_rows, takes, puts, keeps_names, moves, is_shaken}
+use Rattle.desk_rows.specs.laws.Equal.{row_itself}
+use Rattle.desk_rows.specs.laws.OrderLaws.{not_true, at_each, count_by-with_rows, count_by-without_rows}
+use Rattle.desk_rows.specs.laws.PlaceLaws.{count_next}
+use Rattle.desk_rows.specs.laws.Laws.{Apt, outs_order, good_parts, good_order, any_counts, is_in-append}
+use Rattle.desk_rows.proofs.Counts.{true_false, witness, count_some, no_count, list_any-map}
+use Rattle.desk_rows.proofs.KeyedLemmas.{in_room_found, elsewhere_found, beside_found, video_found, slot_found}
+use Rattle.desk_rows.proofs.Finding.{is_found, found_there, keyed_good, was_there, untaken, found_coming, found_kept}
 
 no_more : (p q : Row → Bool) (rs : List Row) → ((r : Row) → is_in rs r ≡ true → p r ≡ true → q r ≡ true) → count_by p rs ≤ count_by q rs
 no_more p q [] each = omega arith
@@ -74,220 +43,172 @@ no_more p q (r ∷ rs) each =
       one false true f = omega arith
       one false false f = omega arith
 
--- ---- given a good desk and an apt edit that puts no member beside the members
+-- the row of a member's key is a member's
+member_of : (n : ℕ) (r : Row) → has_key (keys.Member n) r ≡ true → (m : MemberRow) × (r ≡ Member m)
+member_of n (Member m) e = (m, refl)
+member_of n (Room r) e = cc
+member_of n (Source r) e = cc
+member_of n (Slot r) e = cc
+member_of n (Sub r) e = cc
 
-member_key : (n : ℕ) (r : Row) → has_key (keys.Member n) r ≡ true → is_of kinds.Member r ≡ true
-member_key n (Room r) e = cc
-member_key n (Member r) e = refl
-member_key n (Source r) e = cc
-member_key n (Slot r) e = cc
-member_key n (Sub r) e = cc
+some_row : (o : Option Row) → is_some o ≡ true → (r : Row) × (o ≡ Some r)
+some_row None h = absurd (true_false (sym h))
+some_row (Some r) h = (r, refl)
 
-not_true : (b : Bool) → not b ≡ true → b ≡ false
-not_true true e = sym e
-not_true false e = refl
+-- a test that finds a row which passes
+found_row : (q : Row → Bool) (o : Option Row) → finds q o ≡ true → (r : Row) × (o ≡ Some r) × (q r ≡ true)
+found_row q None h = absurd (true_false (sym h))
+found_row q (Some r) h = (r, refl, h)
 
-no_member : (n : ℕ) (rs : List Row) → list_all (λ r. not (is_of kinds.Member r)) rs ≡ true → list_any (has_key (keys.Member n)) rs ≡ false
-no_member n rs h =
-    elim (cases_Bool (list_any (has_key (keys.Member n)) rs)) [
-      | inl e ↦
-          let w = witness (has_key (keys.Member n)) rs e in
-          absurd (true_false (sym (member_key n w.0 w.2) ∙ not_true _ (at_each (λ r. not (is_of kinds.Member r)) rs w.0 h w.1)))
-      | inr e ↦ e
-    ]
+-- a member of the desk that was in another room
+was_elsewhere : Desk → Row → Bool
+was_elsewhere d (Member p) = list_any (λ m. nat_eq m.member p.member && not (nat_eq m.room p.room)) d.members
+was_elsewhere d _ = false
 
-or_false : (a b : Bool) → (a || b) ≡ true → b ≡ false → a ≡ true
-or_false true b e f = refl
-or_false false b e f = sym f ∙ e
+-- ---- given a good desk and an apt edit by which no row comes under the key of another and no member moves
 
-module _ (d : Desk) (e : EditOf) (g : good d ≡ true) (a : Apt d e) (plain : list_all (λ r. not (is_of kinds.Member r)) (ins e) ≡ true) (still : moves d e ≡ false) where
-  members_before : (q : MemberRow → Bool) → count_by q (take_at e.taken.members d.members) + count_by (λ p. q p.row) e.taken.members ≡ count_by q d.members
-  members_before q = count_by-take_at q e.taken.members d.members a.take
+module _ (d : Desk) (e : EditOf) (g : good d ≡ true) (a : Apt d e) (keyed : IsKeyed (exchanged d e)) (plain : list_all (λ r. not (is_of kinds.Member r)) (ins e) ≡ true) (still : moves d e ≡ false) where
+  -- a member, and its row afterwards, in one room
+  record Stays (n : ℕ) : Type 0 where
+    before : MemberRow
+    after : MemberRow
+    was : row_at d (keys.Member n) ≡ Some (Member before)
+    is : row_at (exchanged d e) (keys.Member n) ≡ Some (Member after)
+    same : after.room ≡ before.room
 
-  members_later : (q : MemberRow → Bool) → count_by q (exchanged d e).members ≡ count_by q (take_at e.taken.members d.members) + count_by (λ p. q p.row) e.put.members
-  unfolding exchanged
-  members_later q = count_by-put_at q e.put.members (take_at e.taken.members d.members) a.put
-
-  -- a member that is put comes into the room that it was in
-  same_room : (n : ℕ) (p : Placed) → list_any (λ m. nat_eq m.member p.row.member && not (nat_eq m.room p.row.room)) d.members ≡ false →
-      nat_eq p.row.member n ≡ true → (m : MemberRow) → nat_eq m.member n ≡ true → ((q : MemberRow → Bool) → q m ≡ true → list_any q d.members ≡ true) → nat_eq m.room p.row.room ≡ true
-  same_room n p none this m that there =
-      elim (cases_Bool (nat_eq m.room p.row.room)) [
-        | inl e ↦ e
-        | inr e ↦
-            let same : nat_eq m.member p.row.member ≡ true = eq-eqb m.member p.row.member (eqb-true m.member n that ∙ sym (eqb-true p.row.member n this)) in
-            absurd (true_false (sym (there (λ m. nat_eq m.member p.row.member && not (nat_eq m.room p.row.room)) (and_from _ _ same (ap not e))) ∙ none))
+  not_elsewhere : (r : Row) → is_in (map (λ (p : Placed). Member p.row) e.put.members) r ≡ true → was_elsewhere d r ≡ false
+  unfolding was_elsewhere
+  not_elsewhere r one =
+      elim (cases_Bool (was_elsewhere d r)) [
+        | inl moved ↦
+            let joining = map (λ (p : Placed). Member p.row) e.put.members in
+            let some = any_counts (was_elsewhere d) joining r one moved in
+            absurd (true_false (sym (count_some (was_elsewhere d) joining some) ∙ list_any-map (λ (p : Placed). Member p.row) (was_elsewhere d) e.put.members ∙ still))
+        | inr stays ↦ stays
       ]
 
-  none_moved : (p : Placed) → ((q : Placed → Bool) → q p ≡ true → list_any q e.put.members ≡ true) → list_any (λ m. nat_eq m.member p.row.member && not (nat_eq m.room p.row.room)) d.members ≡ false
-  none_moved p there =
-      let q : Placed → Bool = λ p. list_any (λ m. nat_eq m.member p.row.member && not (nat_eq m.room p.row.room)) d.members in
-      elim (cases_Bool (q p)) [
-        | inl e ↦ absurd (true_false (sym (there q e) ∙ still))
-        | inr e ↦ e
-      ]
+  -- a member that does not go for good stays in its room
+  stays_in : (n : ℕ) → list_any (has_key (keys.Member n)) (rows_of d) ≡ true → not (takes e (keys.Member n) && not (puts e (keys.Member n))) ≡ true → Stays n
+  unfolding was_elsewhere
+  stays_in n there keep =
+      let key = keys.Member n in
+      let old = some_row (row_at d key) (sym (is_found (has_key key) (rows_of d)) ∙ there) in
+      let m = member_of n old.0 (found_there (has_key key) (rows_of d) old.0 old.1).1 in
+      let was = old.1 ∙ ap Some m.1 in
+      elim (cases_Bool (takes e key)) [
+        | inr none ↦ record { before = m.0; after = m.0; was = was; is = found_kept d e g a keyed key (Member m.0) none was; same = refl }
+        | inl goes ↦
+            let w = witness (has_key key) (come_rows e) (must (takes e key) (puts e key) keep goes) in
+            let p = member_of n w.0 w.2 in
+            let joins : is_in (map (λ (p : Placed). Member p.row) e.put.members) (Member p.0) ≡ true = joined (Member p.0) refl (ap (is_in (come_rows e)) (sym p.1) ∙ w.1) in
+            let own : nat_eq p.0.member n ≡ true = ap (has_key key) (sym p.1) ∙ w.2 in
+            let none : not (nat_eq m.0.room p.0.room) ≡ false =
+            sym (elsewhere_found d (keyed_good d g) p.0.member p.0.room ∙ ap (λ k. finds (is_elsewhere p.0.room) (row_at d (keys.Member k))) (eqb-true p.0.member n own) ∙ ap (finds (is_elsewhere p.0.room)) was)
+            ∙ not_elsewhere (Member p.0) joins in
+            record { before = m.0; after = p.0; was = was; is = found_coming d e g a keyed key (Member p.0) (ap (is_in (come_rows e)) (sym p.1) ∙ w.1) own; same = sym (eqb-true m.0.room p.0.room (not_false _ none)) }
+      ] where
+        must : (s t : Bool) → not (s && not t) ≡ true → s ≡ true → t ≡ true
+        must true true h k = refl
+        must true false h k = h
+        must false t h k = absurd (true_false (sym k))
 
-  -- a member that does not go for good is in its room still
-  pub still_in : (n room : ℕ) → not (takes e (keys.Member n) && not (puts e (keys.Member n))) ≡ true → is_member_in d n room ≡ true → is_member_in (exchanged d e) n room ≡ true
-  still_in n room keep h = by (cases_Bool (takes e (keys.Member n))) where
-    inside : MemberRow → Bool
-    inside m = nat_eq m.member n && nat_eq m.room room
+        not_false : (b : Bool) → not b ≡ false → b ≡ true
+        not_false true h = refl
+        not_false false h = sym h
 
-    by : (takes e (keys.Member n) ≡ true) ⊎ (takes e (keys.Member n) ≡ false) → is_member_in (exchanged d e) n room ≡ true
-    by (inr none) =
-        let go : list_any (λ (p : Placed). has_key (keys.Member n) (Member p.row)) e.taken.members ≡ false = left_false _ _ none in
-        let nobody : list_any (λ (p : Placed). inside p.row) e.taken.members ≡ false =
-        none_narrower (λ (p : Placed). inside p.row) (λ (p : Placed). has_key (keys.Member n) (Member p.row)) e.taken.members (λ p t. (and_parts (nat_eq p.row.member n) (nat_eq p.row.room room) t).0) go in
-        let zero : count_by (λ (p : Placed). inside p.row) e.taken.members ≡ 0 = none_counts (λ (p : Placed). inside p.row) e.taken.members nobody in
-        let some = some_counts inside d.members h in
-        counts_some inside (exchanged d e).members (omega (arith, some, zero, members_before inside, members_later inside)) where
-          left_false : (a b : Bool) → (a || b) ≡ false → a ≡ false
-          left_false true b e = e
-          left_false false b e = refl
-    by (inl some) =
-        let comes : puts e (keys.Member n) ≡ true = must (takes e (keys.Member n)) (puts e (keys.Member n)) keep some in
-        let put : list_any (λ (p : Placed). has_key (keys.Member n) (Member p.row)) e.put.members ≡ true = or_false _ _ comes (no_member n (ins e) plain) in
-        let w = one_of (λ (p : Placed). has_key (keys.Member n) (Member p.row)) e.put.members put in
-        let v = one_of inside d.members h in
-        let both = and_parts (nat_eq v.0.member n) (nat_eq v.0.room room) v.1 in
-        let same = same_room n w.0 (none_moved w.0 w.2) w.1 v.0 both.0 v.2 in
-        let room' : nat_eq w.0.row.room room ≡ true = eq-eqb w.0.row.room room (sym (eqb-true v.0.room w.0.row.room same) ∙ eqb-true v.0.room room both.1) in
-        let one = some_counts (λ (p : Placed). inside p.row) e.put.members (w.2 (λ p. inside p.row) (and_from _ _ w.1 room')) in
-        counts_some inside (exchanged d e).members (omega (arith, one, members_later inside)) where
-          must : (a b : Bool) → not (a && not b) ≡ true → a ≡ true → b ≡ true
-          must true true h k = refl
-          must true false h k = h
-          must false b h k = absurd (true_false (sym k))
+        joined : (r : Row) → is_of kinds.Member r ≡ true → is_in (come_rows e) r ≡ true → is_in (map (λ (p : Placed). Member p.row) e.put.members) r ≡ true
+        joined r kind one =
+            elim (or_cases (is_in (map (λ (p : Placed). Member p.row) e.put.members) r) (is_in (ins e) r) (sym (is_in-append (map (λ (p : Placed). Member p.row) e.put.members) (ins e) r) ∙ one)) [
+              | inl here ↦ here
+              | inr beside ↦ absurd (true_false (sym kind ∙ not_true _ (at_each (λ x. not (is_of kinds.Member x)) (ins e) r plain beside)))
+            ]
 
-  -- a member that was there is in no other room
-  pub was_in : (n room : ℕ) → list_any (has_key (keys.Member n)) (rows_of d) ≡ true → is_member_in (exchanged d e) n room ≡ true → is_member_in d n room ≡ true
-  was_in n room there h = by (cases_Bool (list_any (λ (p : Placed). inside p.row) e.put.members)) where
-    inside : MemberRow → Bool
-    inside m = nat_eq m.member n && nat_eq m.room room
+  in_room_same : (n room : ℕ) → Stays n → is_member_in (exchanged d e) n room ≡ is_member_in d n room
+  in_room_same n room s =
+      in_room_found (exchanged d e) keyed n room ∙ ap (finds (is_in_room room)) s.is ∙ ap (λ r. nat_eq r room) s.same
+      ∙ sym (in_room_found d (keyed_good d g) n room ∙ ap (finds (is_in_room room)) s.was)
 
-    member_there : list_any (λ (m : MemberRow). has_key (keys.Member n) (Member m)) d.members ≡ true
-    member_there =
-        let p = has_key (keys.Member n) in
-        let others = no_member n d.others (and_parts (in_order d.others) (list_all (λ r. not (is_of kinds.Member r)) d.others) (good_parts d g).listed).1 in
-        sym (list_any-map Member p d.members) ∙ or_false (list_any p (map Member d.members)) (list_any p d.others) (sym (list_any-append p (map Member d.members) d.others) ∙ there) others
+  share_same : (m n : ℕ) → Stays m → Stays n → share_room (exchanged d e) m n ≡ share_room d m n
+  share_same m n s t =
+      beside_found (exchanged d e) keyed m n ∙ ap (finds (is_beside (exchanged d e) n)) s.is
+      ∙ in_room_same n s.after.room t ∙ ap (is_member_in d n) s.same
+      ∙ sym (beside_found d (keyed_good d g) m n ∙ ap (finds (is_beside d n)) s.was)
 
-    by : (list_any (λ (p : Placed). inside p.row) e.put.members ≡ true) ⊎ (list_any (λ (p : Placed). inside p.row) e.put.members ≡ false) → is_member_in d n room ≡ true
-    by (inr none) =
-        let zero : count_by (λ (p : Placed). inside p.row) e.put.members ≡ 0 = none_counts (λ (p : Placed). inside p.row) e.put.members none in
-        let some = some_counts inside (exchanged d e).members h in
-        counts_some inside d.members (omega (arith, some, zero, members_before inside, members_later inside))
-    by (inl put) =
-        let w = one_of (λ (p : Placed). inside p.row) e.put.members put in
-        let both = and_parts (nat_eq w.0.row.member n) (nat_eq w.0.row.room room) w.1 in
-        let v = one_of (λ (m : MemberRow). has_key (keys.Member n) (Member m)) d.members member_there in
-        let same = same_room n w.0 (none_moved w.0 w.2) both.0 v.0 v.1 v.2 in
-        v.2 inside (and_from _ _ v.1 (eq-eqb v.0.room room (eqb-true v.0.room w.0.row.room same ∙ eqb-true w.0.row.room room both.1)))
+  module _ (keep : list_all (keeps_names e) (stay_rows d e) ≡ true) where
+    -- what a row that stays names stays
+    named : (r : Row) → is_in (stay_rows d e) r ≡ true → (is_named_there d r ≡ true) × (keeps_names e r ≡ true)
+    named r one = (at_each (is_named_there d) (rows_of d) r (good_parts d g).named (was_there d e g a r one), at_each (keeps_names e) (stay_rows d e) r keep one)
 
-  -- two members that share a room share it still
-  pub still_share : (m n : ℕ) → not (takes e (keys.Member m) && not (puts e (keys.Member m))) ≡ true → not (takes e (keys.Member n) && not (puts e (keys.Member n))) ≡ true →
-      share_room d m n ≡ true → share_room (exchanged d e) m n ≡ true
-  still_share m n keep keep' h =
-      let w = one_of (λ (x : MemberRow). nat_eq x.member m && is_member_in d n x.room) d.members h in
-      let both = and_parts (nat_eq w.0.member m) (is_member_in d n w.0.room) w.1 in
-      let here : is_member_in d m w.0.room ≡ true = w.2 (λ x. nat_eq x.member m && nat_eq x.room w.0.room) (and_from _ _ both.0 (number_itself w.0.room)) in
-      let v = one_of (λ (x : MemberRow). nat_eq x.member m && nat_eq x.room w.0.room) (exchanged d e).members (still_in m w.0.room keep here) in
-      let two = and_parts (nat_eq v.0.member m) (nat_eq v.0.room w.0.room) v.1 in
-      v.2 (λ x. nat_eq x.member m && is_member_in (exchanged d e) n x.room)
-      (and_from _ _ two.0 (ap (is_member_in (exchanged d e) n) (eqb-true v.0.room w.0.room two.1) ∙ still_in n w.0.room keep' both.1))
+    source_stays : (s : _) → is_in (stay_rows d e) (Source s) ≡ true → Stays s.member
+    source_stays s one = let both = named (Source s) one in stays_in s.member (and_parts (list_any (has_key (keys.Member s.member)) (rows_of d)) true both.0).0 (and_parts _ true both.1).0
 
-  -- a room's rule
-  pub room_obeys : (room : ℕ) → list_all (is_named_there d) (without_rows (outs e) d.others) ≡ true →
-      list_any (is_audio_in (exchanged d e) room) (ins e) ≡ false → nat_le (count_by (is_audio_in d room) d.others) MAX_ROOM_AUDIO ≡ true → nat_le (count_by (is_audio_in (exchanged d e) room) (exchanged d e).others) MAX_ROOM_AUDIO ≡ true
-  unfolding exchanged
-  room_obeys room named none few =
-      let now = is_audio_in (exchanged d e) room in
-      let left = without_rows (outs e) d.others in
-      let parts = count_by-with_rows now (ins e) left in
-      let zero : count_by now (ins e) ≡ 0 = none_counts now (ins e) none in
-      let stay = no_more now (is_audio_in d room) left (λ r one. was_audio r (at_each (is_named_there d) left r named one)) in
-      let less = count_by-without_rows (is_audio_in d room) (outs e) d.others (good_order d g) (outs_order a) a.outs_there in
-      at_most (count_by (is_audio_in d room) d.others) (count_by now (with_rows (ins e) left)) MAX_ROOM_AUDIO few (omega (arith, parts, zero, stay, less)) where
-        at_most : (m n l : ℕ) → nat_le m l ≡ true → n ≤ m → nat_le n l ≡ true
-        at_most m n l h k = grind (arith, h, k)
+    slot_stays : (s : _) → is_in (stay_rows d e) (Slot s) ≡ true → Stays s.member
+    slot_stays s one = let both = named (Slot s) one in stays_in s.member (and_parts (list_any (has_key (keys.Member s.member)) (rows_of d)) true both.0).0 (and_parts _ true both.1).0
 
-        was_audio : (r : Row) → is_named_there d r ≡ true → is_audio_in (exchanged d e) room r ≡ true → is_audio_in d room r ≡ true
-        was_audio (Source s) there h =
-            let both = and_parts (same_media s.media Audio) (is_member_in (exchanged d e) s.member room) h in
-            and_from _ _ both.0 (was_in s.member room (and_parts (list_any (has_key (keys.Member s.member)) (rows_of d)) true there).0 both.1)
-        was_audio (Room s) there h = cc
-        was_audio (Member s) there h = cc
-        was_audio (Slot s) there h = cc
-        was_audio (Sub s) there h = cc
+    beside_members : (r : Row) → is_in (without_rows (outs e) d.others) r ≡ true → is_in (stay_rows d e) r ≡ true
+    beside_members r one = is_in-append (map Member (take_at e.taken.members d.members)) (without_rows (outs e) d.others) r ∙ or_right _ _ one
 
-  -- a row of a key that is not taken stays
-  untaken : (k : Key) (r : Row) → has_key k r ≡ true → takes e k ≡ false → is_in d.others r ≡ true → is_in (without_rows (outs e) d.others) r ≡ true
-  untaken k r its none one =
-      let out : list_any (has_key k) (outs e) ≡ false = right_false _ _ none in
-      let not_out : is_in (outs e) r ≡ false = absent (cases_Bool (is_in (outs e) r)) out in
-      is_in-without_rows (outs e) d.others r ∙ and_from _ _ one (ap not not_out) where
-        right_false : (a b : Bool) → (a || b) ≡ false → b ≡ false
-        right_false true b e = absurd (true_false e)
-        right_false false b e = e
+    -- a room's rule
+    room_obeys : (room : ℕ) → list_any (is_audio_in (exchanged d e) room) (ins e) ≡ false → nat_le (count_by (is_audio_in d room) d.others) room_audio_limit ≡ true → nat_le (count_by (is_audio_in (exchanged d e) room) (exchanged d e).others) room_audio_limit ≡ true
+    unfolding exchanged
+    room_obeys room none few =
+        let now = is_audio_in (exchanged d e) room in
+        let left = without_rows (outs e) d.others in
+        let parts = count_by-with_rows now (ins e) left in
+        let zero = no_count now (ins e) none in
+        let stay = no_more now (is_audio_in d room) left was_audio in
+        let less = count_by-without_rows (is_audio_in d room) (outs e) d.others (good_order d g) (outs_order a) a.outs_there in
+        at_most (count_by (is_audio_in d room) d.others) (count_by now (with_rows (ins e) left)) room_audio_limit few (omega (arith, parts, zero, stay, less)) where
+          at_most : (m n l : ℕ) → nat_le m l ≡ true → n ≤ m → nat_le n l ≡ true
+          at_most m n l h k = grind (arith, h, k)
 
-        absent : (is_in (outs e) r ≡ true) ⊎ (is_in (outs e) r ≡ false) → list_any (has_key k) (outs e) ≡ false → is_in (outs e) r ≡ false
-        absent (inr f) none = f
-        absent (inl f) none = let n = any_counts (has_key k) (outs e) r f its in let z = none_counts (has_key k) (outs e) none in absurd (omega (arith, n, z))
+          was_audio : (r : Row) → is_in (without_rows (outs e) d.others) r ≡ true → is_audio_in (exchanged d e) room r ≡ true → is_audio_in d room r ≡ true
+          was_audio (Source s) one h =
+              let both = and_parts (same_media s.media Audio) (is_member_in (exchanged d e) s.member room) h in
+              and_from _ _ both.0 (sym (in_room_same s.member room (source_stays s (beside_members (Source s) one))) ∙ both.1)
+          was_audio (Room s) one h = cc
+          was_audio (Member s) one h = cc
+          was_audio (Slot s) one h = cc
+          was_audio (Sub s) one h = cc
 
-  stays_on : (r : Row) → is_in (without_rows (outs e) d.others) r ≡ true → is_in (exchanged d e).others r ≡ true
-  unfolding exchanged
-  stays_on r one = is_in-with_rows (ins e) (without_rows (outs e) d.others) r ∙ or_right _ _ one
+    -- a source that is found still, and sends video beside a member
+    video_still : (member ssrc : ℕ) → Stays member → takes e (keys.Source ssrc) ≡ false → finds (sends_beside d member) (row_at d (keys.Source ssrc)) ≡ true → finds (sends_beside (exchanged d e) member) (row_at (exchanged d e) (keys.Source ssrc)) ≡ true
+    video_still member ssrc stays none h =
+        let f = found_row (sends_beside d member) (row_at d (keys.Source ssrc)) h in
+        let there = found_there (has_key (keys.Source ssrc)) (rows_of d) f.0 f.1 in
+        ap (finds (sends_beside (exchanged d e) member)) (found_kept d e g a keyed (keys.Source ssrc) f.0 none f.1)
+        ∙ by f.0 (untaken d e g a (keys.Source ssrc) f.0 none there.0 there.1) f.2 where
+          by : (r : Row) → is_in (stay_rows d e) r ≡ true → sends_beside d member r ≡ true → sends_beside (exchanged d e) member r ≡ true
+          by (Source s) one h =
+              let both = and_parts (same_media s.media Video) (share_room d member s.member) h in
+              and_from _ _ both.0 (share_same member s.member stays (source_stays s one) ∙ both.1)
+          by (Room s) one h = cc
+          by (Member s) one h = cc
+          by (Slot s) one h = cc
+          by (Sub s) one h = cc
 
-  -- a sub's rule
-  pub sub_obeys : (s : SubRow) → list_all (keeps_names e) (without_rows (outs e) d.others) ≡ true →
-      takes e (keys.Slot s.out_ssrc) ≡ false → takes e (keys.Source s.source) ≡ false → obeys d (Sub s) ≡ true → obeys (exchanged d e) (Sub s) ≡ true
-  sub_obeys s keep slot source h =
-      let w = witness (is_slot_beside d s.out_ssrc s.source) d.others h in
-      by_slot w.0 w.1 w.2 where
-        d' : Desk
-        d' = exchanged d e
+    -- a sub's rule
+    sub_obeys : (out source : ℕ) → takes e (keys.Slot out) ≡ false → takes e (keys.Source source) ≡ false → list_any (is_slot_beside d out source) d.others ≡ true → list_any (is_slot_beside (exchanged d e) out source) (exchanged d e).others ≡ true
+    sub_obeys out source none none' h =
+        let f = found_row (takes_beside d source) (row_at d (keys.Slot out)) (sym (slot_found d (keyed_good d g) out source) ∙ h) in
+        let there = found_there (has_key (keys.Slot out)) (rows_of d) f.0 f.1 in
+        slot_found (exchanged d e) keyed out source ∙ ap (finds (takes_beside (exchanged d e) source)) (found_kept d e g a keyed (keys.Slot out) f.0 none f.1)
+        ∙ by f.0 (untaken d e g a (keys.Slot out) f.0 none there.0 there.1) f.2 where
+          by : (r : Row) → is_in (stay_rows d e) r ≡ true → takes_beside d source r ≡ true → takes_beside (exchanged d e) source r ≡ true
+          by (Slot s) one h =
+              video_found (exchanged d e) keyed s.member source
+              ∙ video_still s.member source (slot_stays s one) none' (sym (video_found d (keyed_good d g) s.member source) ∙ h)
+          by (Room s) one h = cc
+          by (Member s) one h = cc
+          by (Source s) one h = cc
+          by (Sub s) one h = cc
 
-        left : List Row
-        left = without_rows (outs e) d.others
-
-        among : (p : Row → Bool) (r : Row) → is_in d'.others r ≡ true → p r ≡ true → list_any p d'.others ≡ true
-        among p r one t = counts_some p d'.others (any_counts p d'.others r one t)
-
-        by_source : (m : ℕ) → not (takes e (keys.Member m) && not (puts e (keys.Member m))) ≡ true → (r : Row) → is_in d.others r ≡ true → is_video_beside d m s.source r ≡ true → list_any (is_video_beside d' m s.source) d'.others ≡ true
-        by_source m kept (Source y) one t =
-            let both = and_parts (nat_eq y.ssrc s.source && same_media y.media Video) (share_room d m y.member) t in
-            let own = (and_parts (nat_eq y.ssrc s.source) (same_media y.media Video) both.0).0 in
-            let stays = untaken (keys.Source s.source) (Source y) own source one in
-            let keeps = (and_parts (not (takes e (keys.Member y.member) && not (puts e (keys.Member y.member)))) true (at_each (keeps_names e) left (Source y) keep stays)).0 in
-            among (is_video_beside d' m s.source) (Source y) (stays_on (Source y) stays) (and_from _ _ both.0 (still_share m y.member kept keeps both.1))
-        by_source m kept (Room y) one t = cc
-        by_source m kept (Member y) one t = cc
-        by_source m kept (Slot y) one t = cc
-        by_source m kept (Sub y) one t = cc
-
-        by_slot : (r : Row) → is_in d.others r ≡ true → is_slot_beside d s.out_ssrc s.source r ≡ true → list_any (is_slot_beside d' s.out_ssrc s.source) d'.others ≡ true
-        by_slot (Slot y) one t =
-            let both = and_parts (nat_eq y.out_ssrc s.out_ssrc) (list_any (is_video_beside d y.member s.source) d.others) t in
-            let stays = untaken (keys.Slot s.out_ssrc) (Slot y) both.0 slot one in
-            let keeps = (and_parts (not (takes e (keys.Member y.member) && not (puts e (keys.Member y.member)))) true (at_each (keeps_names e) left (Slot y) keep stays)).0 in
-            let w = witness (is_video_beside d y.member s.source) d.others both.1 in
-            among (is_slot_beside d' s.out_ssrc s.source) (Slot y) (stays_on (Slot y) stays) (and_from _ _ both.0 (by_source y.member keeps w.0 w.1 w.2))
-        by_slot (Room y) one t = cc
-        by_slot (Member y) one t = cc
-        by_slot (Source y) one t = cc
-        by_slot (Sub y) one t = cc
-
-  -- every row that stays obeys its rule where it did before and nothing shakes it
-  pub unshaken : list_all (is_named_there d) (without_rows (outs e) d.others) ≡ true → list_all (keeps_names e) (without_rows (outs e) d.others) ≡ true →
-      (r : Row) → is_shaken false d e r ≡ false → obeys d r ≡ true → obeys (exchanged d e) r ≡ true
-  unshaken named keep (Room r) calm h = room_obeys r.room named calm h
-  unshaken named keep (Member m) calm h = h
-  unshaken named keep (Source s) calm h = h
-  unshaken named keep (Slot s) calm h = h
-  unshaken named keep (Sub s) calm h = sub_obeys s keep (first_no _ _ calm) (second_no _ _ calm) h where
-    first_no : (a b : Bool) → (a || b) ≡ false → a ≡ false
-    first_no true b e = e
-    first_no false b e = refl
-
-    second_no : (a b : Bool) → (a || b) ≡ false → b ≡ false
-    second_no true b e = absurd (true_false e)
-    second_no false b e = e
+    pub unshaken : (r : Row) → is_shaken false d e r ≡ false → obeys d r ≡ true → obeys (exchanged d e) r ≡ true
+    unshaken (Room r) calm h = room_obeys r.room calm h
+    unshaken (Member r) calm h = h
+    unshaken (Source r) calm h = h
+    unshaken (Slot r) calm h = h
+    unshaken (Sub s) calm h = let both = neither (takes e (keys.Slot s.out_ssrc)) (takes e (keys.Source s.source)) calm in sub_obeys s.out_ssrc s.source both.0 both.1 h where
+      neither : (b c : Bool) → (b || c) ≡ false → (b ≡ false) × (c ≡ false)
+      neither true c e = absurd (true_false e)
+      neither false c e = (refl, e)

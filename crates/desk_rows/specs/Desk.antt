@@ -11,9 +11,9 @@ use Rattle.desk_rows.specs.declared.row.Kind.TheVariants as kinds
 use Rattle.desk_rows.specs.declared.claim.Claim.{Claim}
 use Rattle.desk_rows.specs.declared.claim.Claim.TheVariants as claims
 use Rattle.desk_rows.specs.Row.{has_key, names, claims_of, makes, same_media}
-use Rattle.desk_rows.specs.Kinds.{is_of}
+use Rattle.desk_rows.specs.Kinds.{is_of, limits}
 use Rattle.desk_rows.specs.Order.{in_order, is_in}
-use Rattle.desk_rows.specs.Limits.{room_limit, member_limit, source_limit, slot_limit, room_audio_limit, index_limit}
+use Rattle.desk_rows.specs.Limits.{room_audio_limit, index_limit}
 
 -- the members of all rooms in joining order, and the set of all other rows, listed in the one order of kinds and keys
 pub record Desk : Type 0 where
@@ -105,9 +105,7 @@ obeys d (rows.Sub s) = list_any (is_slot_beside d s.out_ssrc s.source) d.others
 
 -- no table is over its limit; subs have the keys of slots, so there are no more of them
 abbrev pub is_within_limits : Desk → Bool
-is_within_limits d =
-    (nat_le (count_of kinds.Room d) room_limit && nat_le (count_of kinds.Member d) member_limit)
-    && (nat_le (count_of kinds.Source d) source_limit && nat_le (count_of kinds.Slot d) slot_limit)
+is_within_limits d = list_all (λ limit. nat_le (count_of limit.0 d) limit.1) limits
 
 -- the other rows are listed in order, and none of them is a member's
 abbrev pub is_listed : Desk → Bool

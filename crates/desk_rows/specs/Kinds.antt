@@ -1,23 +1,20 @@
--- The kinds of row.
-use Rattle.std.specs.Prelude.{ℕ, Bool, true, false}
+-- Kinds of row.
+use Rattle.std.specs.Prelude.{ℕ, Bool, List, [], ◌∷◌, nat_eq}
 use Rattle.desk_rows.specs.declared.row.Row.{Row}
-use Rattle.desk_rows.specs.declared.row.Row.TheVariants as rows
 use Rattle.desk_rows.specs.declared.row.Kind.{Kind}
 use Rattle.desk_rows.specs.declared.row.Kind.TheVariants as kinds
+use Rattle.desk_rows.specs.Limits.{room_limit, member_limit, source_limit, slot_limit}
+use Rattle.desk_rows.specs.Row.{rank, kind_of, key_of}
 
 -- whether a row is of a kind
 abbrev pub is_of : Kind → Row → Bool
-is_of kinds.Room (rows.Room r) = true
-is_of kinds.Member (rows.Member r) = true
-is_of kinds.Source (rows.Source r) = true
-is_of kinds.Slot (rows.Slot r) = true
-is_of kinds.Sub (rows.Sub r) = true
-is_of _ _ = false
+is_of kind r = nat_eq (rank (kind_of (key_of r))) (rank kind)
 
--- the place of a kind among the kinds
-abbrev pub kind_rank : Kind → ℕ
-kind_rank kinds.Room = 0
-kind_rank kinds.Member = 1
-kind_rank kinds.Source = 2
-kind_rank kinds.Slot = 3
-kind_rank kinds.Sub = 4
+-- how many rows of a kind there may be (own)
+abbrev pub limits : List (Kind × ℕ)
+limits =
+    (kinds.Room, room_limit)
+    ∷ (kinds.Member, member_limit)
+    ∷ (kinds.Source, source_limit)
+    ∷ (kinds.Slot, slot_limit)
+    ∷ []

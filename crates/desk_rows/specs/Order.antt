@@ -1,13 +1,14 @@
 -- The one order of rows: by kind, and within a kind by key.
-use Rattle.std.specs.Prelude.{Bool, true, false, ◌&&◌, ◌||◌, not, List, [], ◌∷◌, filter, nat_eq, nat_lt, if◌then◌else◌}
+use Rattle.std.specs.Prelude.{Bool, true, false, ◌&&◌, ◌||◌, not, List, [], ◌∷◌, filter, if◌then◌else◌}
 use Rattle.std.specs.List.{list_any, list_all}
 use Rattle.desk_rows.specs.declared.row.Row.{Row}
 use Rattle.desk_rows.specs.declared.row.Key.{Key}
-use Rattle.desk_rows.specs.Row.{rank, number, key_of, same_key, same_row}
+use Rattle.desk_rows.specs.Numbers.{numbers_precede}
+use Rattle.desk_rows.specs.Row.{key_numbers, key_of, same_key, same_row}
 
 -- whether a key stands before another
 abbrev pub key_precedes : Key → Key → Bool
-key_precedes a b = nat_lt (rank a) (rank b) || (nat_eq (rank a) (rank b) && nat_lt (number a) (number b))
+key_precedes a b = numbers_precede (key_numbers a) (key_numbers b)
 
 abbrev pub precedes : Row → Row → Bool
 precedes a b = key_precedes (key_of a) (key_of b)

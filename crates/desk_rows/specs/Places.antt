@@ -2,7 +2,8 @@
 use Rattle.std.specs.Prelude.{ℕ, zero, suc, ◌+◌, Bool, true, false, ◌&&◌, if◌then◌else◌, List, [], ◌∷◌, length, nat_eq, nat_le, nat_lt, insert, remove, Option, None, Some}
 use Rattle.std.specs.Option.{option_map}
 use Rattle.std.specs.List.{list_all}
-use Rattle.desk_rows.specs.Row.{same_member}
+use Rattle.desk_rows.specs.Row.{same_row}
+use Rattle.desk_rows.specs.declared.row.Row.TheVariants as rows
 use Rattle.desk_rows.specs.declared.row.Member.{Member}
 use Rattle.desk_rows.specs.declared.edit.Placed.{Placed}
 
@@ -16,9 +17,10 @@ abbrev pub put_at : List Placed → List Member → List Member
 put_at [] xs = xs
 put_at (p ∷ ps) xs = put_at ps (insert xs p.place p.row)
 
+-- whether this row stands at a place
 abbrev pub is_at : List Member → ℕ → Member → Bool
 is_at [] i m = false
-is_at (x ∷ xs) zero m = same_member x m
+is_at (x ∷ xs) zero m = same_row (rows.Member x) (rows.Member m)
 is_at (x ∷ xs) (suc i) m = is_at xs i m
 
 abbrev pub can_take : List Placed → List Member → Bool

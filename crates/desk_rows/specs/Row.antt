@@ -1,52 +1,53 @@
--- Rows: their keys, what they name and what they claim.
-use Rattle.std.specs.Prelude.{ℕ, Bool, true, false, ◌&&◌, List, [], ◌∷◌, nat_eq}
-use Rattle.std.specs.Str.{bytes_eq}
-use Rattle.rtp_codec.specs.declared.address.Address.{Address}
+-- Rows: each kind is told here once, by its numbers, its key, what it names and what it claims.
+use Rattle.std.specs.Prelude.{ℕ, Bool, List, [], ◌∷◌, ◌++◌, nat_eq}
+use Rattle.std.specs.List.{list_any}
 use Rattle.desk_rows.specs.declared.row.Codec.{Codec}
 use Rattle.desk_rows.specs.declared.row.Codec.TheVariants as codecs
 use Rattle.desk_rows.specs.declared.row.Media.{Media}
 use Rattle.desk_rows.specs.declared.row.Media.TheVariants as medias
-use Rattle.desk_rows.specs.declared.row.Member.{Member as MemberRow}
 use Rattle.desk_rows.specs.declared.row.Row.{Row}
 use Rattle.desk_rows.specs.declared.row.Row.TheVariants.{Room, Member, Source, Slot, Sub}
+use Rattle.desk_rows.specs.declared.row.Kind.{Kind}
+use Rattle.desk_rows.specs.declared.row.Kind.TheVariants as kinds
 use Rattle.desk_rows.specs.declared.row.Key.{Key}
 use Rattle.desk_rows.specs.declared.row.Key.TheVariants as keys
 use Rattle.desk_rows.specs.declared.claim.Claim.{Claim}
 use Rattle.desk_rows.specs.declared.claim.Claim.TheVariants as claims
-
--- ---- equality
-
-abbrev pub same_address : Address → Address → Bool
-same_address a b = bytes_eq a.ip b.ip && nat_eq a.port b.port
-
-abbrev pub same_codec : Codec → Codec → Bool
-same_codec codecs.Pcmu codecs.Pcmu = true
-same_codec codecs.L16 codecs.L16 = true
-same_codec _ _ = false
-
-abbrev pub same_media : Media → Media → Bool
-same_media medias.Audio medias.Audio = true
-same_media medias.Video medias.Video = true
-same_media _ _ = false
-
--- whether two member rows are one
-abbrev pub same_member : MemberRow → MemberRow → Bool
-same_member a b =
-    (nat_eq a.member b.member && nat_eq a.room b.room) && (same_address a.address b.address && same_codec a.codec b.codec)
-    && (nat_eq a.out_audio b.out_audio && (nat_eq a.first_seq b.first_seq && nat_eq a.first_ts b.first_ts))
-
--- whether two rows are one
-abbrev pub same_row : Row → Row → Bool
-same_row (Room a) (Room b) = nat_eq a.room b.room
-same_row (Member a) (Member b) = same_member a b
-same_row (Source a) (Source b) = nat_eq a.ssrc b.ssrc && (nat_eq a.member b.member && same_media a.media b.media)
-same_row (Slot a) (Slot b) =
-    (nat_eq a.out_ssrc b.out_ssrc && nat_eq a.member b.member)
-    && (nat_eq a.index b.index && (nat_eq a.first_seq b.first_seq && nat_eq a.first_ts b.first_ts))
-same_row (Sub a) (Sub b) = nat_eq a.out_ssrc b.out_ssrc && nat_eq a.source b.source
-same_row _ _ = false
+use Rattle.desk_rows.specs.Numbers.{same_numbers}
 
 -- ---- keys
+
+-- the place of a kind among the kinds
+abbrev pub rank : Kind → ℕ
+rank kinds.Room = 0
+rank kinds.Member = 1
+rank kinds.Source = 2
+rank kinds.Slot = 3
+rank kinds.Sub = 4
+
+-- the kind of the row that a key names
+abbrev pub kind_of : Key → Kind
+kind_of (keys.Room n) = kinds.Room
+kind_of (keys.Member n) = kinds.Member
+kind_of (keys.Source n) = kinds.Source
+kind_of (keys.Slot n) = kinds.Slot
+kind_of (keys.Sub n) = kinds.Sub
+
+-- a key's one or two numbers within its kind, behind a 0 where it is one
+abbrev pub own_numbers : Key → List ℕ
+own_numbers (keys.Room n) = 0 ∷ n ∷ []
+own_numbers (keys.Member n) = 0 ∷ n ∷ []
+own_numbers (keys.Source n) = 0 ∷ n ∷ []
+own_numbers (keys.Slot n) = 0 ∷ n ∷ []
+own_numbers (keys.Sub n) = 0 ∷ n ∷ []
+
+-- the numbers that tell a key from all others: its kind's, and its own
+abbrev pub key_numbers : Key → List ℕ
+key_numbers k = rank (kind_of k) ∷ own_numbers k
+
+-- whether two keys are one
+abbrev pub same_key : Key → Key → Bool
+same_key a b = same_numbers (key_numbers a) (key_numbers b)
 
 -- a row's key
 abbrev pub key_of : Row → Key
@@ -56,29 +57,34 @@ key_of (Source s) = keys.Source s.ssrc
 key_of (Slot s) = keys.Slot s.out_ssrc
 key_of (Sub s) = keys.Sub s.out_ssrc
 
--- the place of the key's kind among the kinds
-abbrev pub rank : Key → ℕ
-rank (keys.Room _) = 0
-rank (keys.Member _) = 1
-rank (keys.Source _) = 2
-rank (keys.Slot _) = 3
-rank (keys.Sub _) = 4
-
--- the key's number within its kind
-abbrev pub number : Key → ℕ
-number (keys.Room n) = n
-number (keys.Member n) = n
-number (keys.Source n) = n
-number (keys.Slot n) = n
-number (keys.Sub n) = n
-
--- whether two keys are one
-abbrev pub same_key : Key → Key → Bool
-same_key a b = nat_eq (rank a) (rank b) && nat_eq (number a) (number b)
-
 -- whether this is the row's key
 abbrev pub has_key : Key → Row → Bool
 has_key key r = same_key (key_of r) key
+
+-- ---- rows
+
+abbrev pub codec_number : Codec → ℕ
+codec_number codecs.Pcmu = 0
+codec_number codecs.L16 = 1
+
+abbrev pub media_number : Media → ℕ
+media_number medias.Audio = 0
+media_number medias.Video = 1
+
+abbrev pub same_media : Media → Media → Bool
+same_media a b = nat_eq (media_number a) (media_number b)
+
+-- the numbers that tell a row from all others: its kind's, and those of its fields before as many 0 as make twelve
+abbrev pub row_numbers : Row → List ℕ
+row_numbers (Room r) = 0 ∷ r.room ∷ 0 ∷ 0 ∷ 0 ∷ 0 ∷ 0 ∷ 0 ∷ 0 ∷ 0 ∷ 0 ∷ 0 ∷ []
+row_numbers (Member m) = 1 ∷ m.member ∷ m.room ∷ codec_number m.codec ∷ m.out_audio ∷ m.first_seq ∷ m.first_ts ∷ m.address.port ∷ m.address.ip
+row_numbers (Source s) = 2 ∷ s.ssrc ∷ s.member ∷ media_number s.media ∷ 0 ∷ 0 ∷ 0 ∷ 0 ∷ 0 ∷ 0 ∷ 0 ∷ 0 ∷ []
+row_numbers (Slot s) = 3 ∷ s.out_ssrc ∷ s.member ∷ s.index ∷ s.first_seq ∷ s.first_ts ∷ 0 ∷ 0 ∷ 0 ∷ 0 ∷ 0 ∷ 0 ∷ []
+row_numbers (Sub s) = 4 ∷ s.out_ssrc ∷ s.source ∷ 0 ∷ 0 ∷ 0 ∷ 0 ∷ 0 ∷ 0 ∷ 0 ∷ 0 ∷ 0 ∷ []
+
+-- whether two rows are one
+abbrev pub same_row : Row → Row → Bool
+same_row a b = same_numbers (row_numbers a) (row_numbers b)
 
 -- ---- what a row needs of others
 
@@ -90,20 +96,30 @@ names (Source s) = keys.Member s.member ∷ []
 names (Slot s) = keys.Member s.member ∷ []
 names (Sub s) = keys.Slot s.out_ssrc ∷ keys.Source s.source ∷ []
 
--- what a row has to itself: its key; a member its address and the SSRC of its mix; a source its SSRC; a slot its SSRC and its place among its member's
+-- what a row has to itself beside its key: a member its address and the SSRC of its mix; a source its SSRC; a slot its SSRC and its place among its member's
+abbrev pub other_claims : Row → List Claim
+other_claims (Room r) = []
+other_claims (Member m) = claims.Address m.address ∷ claims.Ssrc m.out_audio ∷ []
+other_claims (Source s) = claims.Ssrc s.ssrc ∷ []
+other_claims (Slot s) = claims.Ssrc s.out_ssrc ∷ claims.Place s.member s.index ∷ []
+other_claims (Sub s) = []
+
+-- what a row has to itself
 abbrev pub claims_of : Row → List Claim
-claims_of (Room r) = claims.Key (keys.Room r.room) ∷ []
-claims_of (Member m) = claims.Key (keys.Member m.member) ∷ claims.Address m.address ∷ claims.Ssrc m.out_audio ∷ []
-claims_of (Source s) = claims.Key (keys.Source s.ssrc) ∷ claims.Ssrc s.ssrc ∷ []
-claims_of (Slot s) = claims.Key (keys.Slot s.out_ssrc) ∷ claims.Ssrc s.out_ssrc ∷ claims.Place s.member s.index ∷ []
-claims_of (Sub s) = claims.Key (keys.Sub s.out_ssrc) ∷ []
+claims_of r = claims.Key (key_of r) ∷ other_claims r
+
+-- the numbers that tell a claim from all others: which it is, and its own before as many 0 as make six
+abbrev pub claim_numbers : Claim → List ℕ
+claim_numbers (claims.Key k) = 0 ∷ rank (kind_of k) ∷ own_numbers k ++ (0 ∷ 0 ∷ [])
+claim_numbers (claims.Address a) = 1 ∷ a.port ∷ a.ip
+claim_numbers (claims.Ssrc ssrc) = 2 ∷ ssrc ∷ 0 ∷ 0 ∷ 0 ∷ 0 ∷ []
+claim_numbers (claims.Place member index) = 3 ∷ member ∷ index ∷ 0 ∷ 0 ∷ 0 ∷ []
+
+-- whether two claims are one
+abbrev pub same_claim : Claim → Claim → Bool
+same_claim a b = same_numbers (claim_numbers a) (claim_numbers b)
 
 -- whether a row makes this claim
 abbrev pub makes : Claim → Row → Bool
 makes (claims.Key key) r = has_key key r
-makes (claims.Address a) (Member m) = same_address m.address a
-makes (claims.Ssrc ssrc) (Member m) = nat_eq m.out_audio ssrc
-makes (claims.Ssrc ssrc) (Source s) = nat_eq s.ssrc ssrc
-makes (claims.Ssrc ssrc) (Slot s) = nat_eq s.out_ssrc ssrc
-makes (claims.Place member index) (Slot s) = nat_eq s.member member && nat_eq s.index index
-makes _ _ = false
+makes claim r = list_any (same_claim claim) (other_claims r)

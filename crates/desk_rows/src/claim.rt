@@ -1,5 +1,11 @@
 //! What a row has to itself.
 
+ghost use Rattle.std.specs.Prelude.{◌≡◌};
+ghost use Rattle.std.specs.List.{list_any};
+ghost use Rattle.desk_rows.specs.Few.{listed};
+ghost use Rattle.desk_rows.specs.Row.{claim_numbers, same_claim};
+
+use crate::few::Few;
 use crate::row::Key;
 use rtp_codec::Address;
 
@@ -12,4 +18,44 @@ pub enum Claim {
     Ssrc(u32),
     /// A slot's place among those of its member.
     Place { member: u32, index: u32 },
+}
+
+impl Claim {
+    /// The numbers that tell the claim from all others.
+    fn numbers(&self) -> [u32; 6]
+        ensures { result ≡ claim_numbers self.now }
+    {
+        match self {
+            Claim::Key(key) => {
+                let [kind, first, second] = key.numbers();
+                [0, kind, first, second, 0, 0]
+            }
+            Claim::Address(address) => {
+                let [a, b, c, d] = address.ip;
+                let ip = [u32::from(a), u32::from(b), u32::from(c), u32::from(d)];
+                let [a, b, c, d] = ip;
+                [1, u32::from(address.port), a, b, c, d]
+            }
+            Claim::Ssrc(ssrc) => [2, *ssrc, 0, 0, 0, 0],
+            Claim::Place { member, index } => [3, *member, *index, 0, 0, 0],
+        }
+    }
+
+    /// Whether the other claim is the same.
+    fn is_same(&self, other: &Claim) -> bool
+        ensures { result ≡ same_claim self.now other.now }
+    {
+        self.numbers() == other.numbers()
+    }
+
+    /// Whether it is one of these.
+    pub(crate) fn is_among(&self, claims: Few<Claim>) -> bool
+        ensures { result ≡ list_any (same_claim self.now) (listed claims) }
+    {
+        match claims {
+            Few::Nothing => false,
+            Few::One(claim) => self.is_same(&claim),
+            Few::Two(claim, other) => self.is_same(&claim) || self.is_same(&other),
+        }
+    }
 }

@@ -2,7 +2,7 @@
 
 ghost use Rattle.std.specs.Prelude.{◌≡◌, count_by};
 ghost use Rattle.desk_rows.specs.declared.row.Row.TheVariants.{Member as MemberRow};
-ghost use Rattle.desk_rows.specs.Tests.{passes};
+ghost use Rattle.desk_rows.specs.inner.Tests.{passes};
 
 use crate::claim::Claim;
 use crate::edit::Placed;

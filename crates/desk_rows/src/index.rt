@@ -3,7 +3,7 @@
 ghost use Rattle.std.specs.Prelude.{◌≡◌, ℕ, ◌+◌, ◌≤◌, true, count_by, length, nat_eq, vec_capacity};
 ghost use Rattle.std.specs.List.Sorted.{IsNonDecreasingBy};
 ghost use Rattle.desk_rows.specs.Places.{can_take, can_put, take_at, put_at};
-ghost use Rattle.desk_rows.specs.Index.{entries_from, entry_in, IsIndex};
+ghost use Rattle.desk_rows.specs.inner.Index.{entries_from, entry_in, IsIndex};
 
 use crate::edit::Placed;
 use crate::places::{put_members, take_members};

@@ -91,9 +91,9 @@ pub(crate) fn rows_of_kind(rows: &[Row], kind: Kind) -> &[Row]
     requires { in_order rows.now ≡ true }
     ensures { result.now ≡ filter (is_of kind) rows.now }
 {
-    let before = rows.partition_point(|row| row.key().rank() < kind.rank());
+    let before = rows.partition_point(|row| row.key().kind().rank() < kind.rank());
     let (_, from) = rows.split_at(before);
-    let count = from.partition_point(|row| row.key().rank() <= kind.rank());
+    let count = from.partition_point(|row| row.key().kind().rank() <= kind.rank());
     let (these, _) = from.split_at(count);
     these
 }

@@ -5,7 +5,7 @@ ghost use Rattle.std.specs.List.{list_all};
 ghost use Rattle.desk_rows.specs.Places.{is_at, places_rise, put_within, can_take, can_put, take_at, put_at};
 
 use crate::edit::Placed;
-use crate::row::Member;
+use crate::row::{Member, Row};
 use std::alloc::Allocator;
 
 fn all_above(placed: &[Placed], place: usize) -> bool
@@ -30,7 +30,7 @@ fn rise(placed: &[Placed]) -> bool
 fn stands_at(members: &[Member], place: usize, row: &Member) -> bool
     ensures { result ≡ is_at members.now place row.now }
 {
-    place < members.len() && members[place].is_same(row)
+    place < members.len() && Row::Member(members[place]).is_same(&Row::Member(*row))
 }
 
 fn all_stand(placed: &[Placed], members: &[Member]) -> bool

@@ -1,11 +1,13 @@
 //! The kinds of row.
 
-ghost use Rattle.std.specs.Prelude.{◌≡◌};
-ghost use Rattle.desk_rows.specs.Kinds.{is_of, kind_rank};
+ghost use Rattle.std.specs.Prelude.{◌≡◌, ◌∷◌, []};
+ghost use Rattle.desk_rows.specs.Few.{listed};
+ghost use Rattle.desk_rows.specs.Kinds.{is_of};
 ghost use Rattle.desk_rows.specs.Order.{key_precedes, precedes};
-ghost use Rattle.desk_rows.specs.Row.{same_codec, same_media, same_member, same_row, key_of, rank, number, same_key, has_key, makes};
+ghost use Rattle.desk_rows.specs.Row.{codec_number, media_number, same_media, row_numbers, same_row, kind_of, key_of, rank, key_numbers, same_key, has_key, names, other_claims, makes};
 
 use crate::claim::Claim;
+use crate::few::Few;
 use rtp_codec::Address;
 
 /// How a member's mix is encoded.
@@ -104,42 +106,75 @@ pub enum Kind {
     Sub,
 }
 
-impl Member {
-    /// Whether the other row is the same.
-    pub fn is_same(&self, other: &Member) -> bool
-        ensures { result ≡ same_member self.now other.now }
-    {
-        let numbers = self.member == other.member && self.room == other.room;
-        let sound = self.address == other.address && self.codec.is_same(other.codec);
-        let stream = self.out_audio == other.out_audio
-            && self.first_seq == other.first_seq
-            && self.first_ts == other.first_ts;
-        numbers && sound && stream
-    }
-}
-
 impl Codec {
-    fn is_same(self, other: Codec) -> bool
-        ensures { result ≡ same_codec self other }
+    fn number(self) -> u32
+        ensures { result ≡ codec_number self }
     {
-        match (self, other) {
-            (Codec::Pcmu, Codec::Pcmu) => true,
-            (Codec::L16, Codec::L16) => true,
-            _ => false,
+        match self {
+            Codec::Pcmu => 0,
+            Codec::L16 => 1,
         }
     }
 }
 
 impl Media {
+    fn number(self) -> u32
+        ensures { result ≡ media_number self }
+    {
+        match self {
+            Media::Audio => 0,
+            Media::Video => 1,
+        }
+    }
+
     /// Whether the other is the same.
     pub fn is_same(self, other: Media) -> bool
         ensures { result ≡ same_media self other }
     {
-        match (self, other) {
-            (Media::Audio, Media::Audio) => true,
-            (Media::Video, Media::Video) => true,
-            _ => false,
-        }
+        self.number() == other.number()
+    }
+}
+
+impl Member {
+    fn numbers(&self) -> [u32; 12]
+        ensures { result ≡ row_numbers (Row.Member self.now) }
+    {
+        let [a, b, c, d] = self.address.ip;
+        [
+            1,
+            self.member,
+            self.room,
+            self.codec.number(),
+            self.out_audio,
+            u32::from(self.first_seq),
+            self.first_ts,
+            u32::from(self.address.port),
+            u32::from(a),
+            u32::from(b),
+            u32::from(c),
+            u32::from(d),
+        ]
+    }
+}
+
+impl Slot {
+    fn numbers(&self) -> [u32; 12]
+        ensures { result ≡ row_numbers (Row.Slot self.now) }
+    {
+        [
+            3,
+            self.out_ssrc,
+            self.member,
+            self.index,
+            u32::from(self.first_seq),
+            self.first_ts,
+            0,
+            0,
+            0,
+            0,
+            0,
+            0,
+        ]
     }
 }
 
@@ -157,24 +192,64 @@ impl Row {
         }
     }
 
+    /// The numbers that tell the row from all others.
+    fn numbers(&self) -> [u32; 12]
+        ensures { result ≡ row_numbers self.now }
+    {
+        match self {
+            Row::Room(room) => [0, room.room, 0, 0, 0, 0, 0, 0, 0, 0, 0, 0],
+            Row::Member(member) => member.numbers(),
+            Row::Source(source) => {
+                let media = source.media.number();
+                [2, source.ssrc, source.member, media, 0, 0, 0, 0, 0, 0, 0, 0]
+            }
+            Row::Slot(slot) => slot.numbers(),
+            Row::Sub(sub) => [4, sub.out_ssrc, sub.source, 0, 0, 0, 0, 0, 0, 0, 0, 0],
+        }
+    }
+
+    /// The keys of the rows that it names.
+    pub fn names(&self) -> Few<Key>
+        ensures { listed result ≡ names self.now }
+    {
+        match self {
+            Row::Room(_) => Few::Nothing,
+            Row::Member(member) => Few::One(Key::Room(member.room)),
+            Row::Source(source) => Few::One(Key::Member(source.member)),
+            Row::Slot(slot) => Few::One(Key::Member(slot.member)),
+            Row::Sub(sub) => Few::Two(Key::Slot(sub.out_ssrc), Key::Source(sub.source)),
+        }
+    }
+
+    /// What it has to itself beside its key.
+    pub fn claims(&self) -> Few<Claim>
+        ensures { listed result ≡ other_claims self.now }
+    {
+        match self {
+            Row::Room(_) => Few::Nothing,
+            Row::Member(member) => {
+                Few::Two(
+                    Claim::Address(member.address),
+                    Claim::Ssrc(member.out_audio),
+                )
+            }
+            Row::Source(source) => Few::One(Claim::Ssrc(source.ssrc)),
+            Row::Slot(slot) => Few::Two(
+                Claim::Ssrc(slot.out_ssrc),
+                Claim::Place {
+                    member: slot.member,
+                    index: slot.index,
+                },
+            ),
+            Row::Sub(_) => Few::Nothing,
+        }
+    }
+
     /// Whether the other row is the same.
     pub fn is_same(&self, other: &Row) -> bool
         ensures { result ≡ same_row self.now other.now }
     {
-        match (self, other) {
-            (Row::Room(a), Row::Room(b)) => a.room == b.room,
-            (Row::Member(a), Row::Member(b)) => a.is_same(b),
-            (Row::Source(a), Row::Source(b)) => {
-                a.ssrc == b.ssrc && (a.member == b.member && a.media.is_same(b.media))
-            }
-            (Row::Slot(a), Row::Slot(b)) => {
-                (a.out_ssrc == b.out_ssrc && a.member == b.member)
-                    && (a.index == b.index
-                        && (a.first_seq == b.first_seq && a.first_ts == b.first_ts))
-            }
-            (Row::Sub(a), Row::Sub(b)) => a.out_ssrc == b.out_ssrc && a.source == b.source,
-            _ => false,
-        }
+        self.numbers() == other.numbers()
     }
 
     /// Whether this row stands before the other in the order of kinds and keys.
@@ -195,30 +270,16 @@ impl Row {
     pub fn is_of(&self, kind: Kind) -> bool
         ensures { result ≡ is_of kind self.now }
     {
-        match (kind, self) {
-            (Kind::Room, Row::Room(_)) => true,
-            (Kind::Member, Row::Member(_)) => true,
-            (Kind::Source, Row::Source(_)) => true,
-            (Kind::Slot, Row::Slot(_)) => true,
-            (Kind::Sub, Row::Sub(_)) => true,
-            _ => false,
-        }
+        self.key().kind().rank() == kind.rank()
     }
 
     /// Whether the row makes this claim.
     pub fn makes(&self, claim: &Claim) -> bool
         ensures { result ≡ makes claim.now self.now }
     {
-        match (claim, self) {
-            (Claim::Key(key), _) => self.has_key(*key),
-            (Claim::Address(address), Row::Member(member)) => member.address == *address,
-            (Claim::Ssrc(ssrc), Row::Member(member)) => member.out_audio == *ssrc,
-            (Claim::Ssrc(ssrc), Row::Source(source)) => source.ssrc == *ssrc,
-            (Claim::Ssrc(ssrc), Row::Slot(slot)) => slot.out_ssrc == *ssrc,
-            (Claim::Place { member, index }, Row::Slot(slot)) => {
-                slot.member == *member && slot.index == *index
-            }
-            _ => false,
+        match claim {
+            Claim::Key(key) => self.has_key(*key),
+            _ => claim.is_among(self.claims()),
         }
     }
 }
@@ -226,7 +287,7 @@ impl Row {
 impl Kind {
     /// The place of the kind among the kinds.
     pub(crate) fn rank(self) -> u32
-        ensures { result ≡ kind_rank self }
+        ensures { result ≡ rank self }
     {
         match self {
             Kind::Room => 0,
@@ -239,29 +300,31 @@ impl Kind {
 }
 
 impl Key {
-    /// The place of the key's kind among the kinds.
-    pub(crate) fn rank(self) -> u32
-        ensures { result ≡ rank self }
+    /// The kind of the row that it names.
+    pub(crate) fn kind(self) -> Kind
+        ensures { result ≡ kind_of self }
     {
         match self {
-            Key::Room(_) => 0,
-            Key::Member(_) => 1,
-            Key::Source(_) => 2,
-            Key::Slot(_) => 3,
-            Key::Sub(_) => 4,
+            Key::Room(_) => Kind::Room,
+            Key::Member(_) => Kind::Member,
+            Key::Source(_) => Kind::Source,
+            Key::Slot(_) => Kind::Slot,
+            Key::Sub(_) => Kind::Sub,
         }
     }
 
-    /// The key's number within its kind.
-    fn number(self) -> u32
-        ensures { result ≡ number self }
+    /// The numbers that tell the key from all others: its kind's, and its own one or two, behind a
+    /// 0 where it is one.
+    pub(crate) fn numbers(self) -> [u32; 3]
+        ensures { result ≡ key_numbers self }
     {
+        let kind = self.kind().rank();
         match self {
-            Key::Room(number) => number,
-            Key::Member(number) => number,
-            Key::Source(number) => number,
-            Key::Slot(number) => number,
-            Key::Sub(number) => number,
+            Key::Room(number) => [kind, 0, number],
+            Key::Member(number) => [kind, 0, number],
+            Key::Source(number) => [kind, 0, number],
+            Key::Slot(number) => [kind, 0, number],
+            Key::Sub(number) => [kind, 0, number],
         }
     }
 
@@ -269,16 +332,21 @@ impl Key {
     pub fn is_same(self, other: Key) -> bool
         ensures { result ≡ same_key self other }
     {
-        self.rank() == other.rank() && self.number() == other.number()
+        self.numbers() == other.numbers()
     }
 
-    /// Whether this key stands before the other, by kind and then by number.
+    /// Whether this key stands before the other: the first numbers that differ decide.
     pub(crate) fn precedes(self, other: Key) -> bool
         ensures { result ≡ key_precedes self other }
     {
-        if self.rank() < other.rank() {
-            return true;
+        let [kind, first, second] = self.numbers();
+        let [other_kind, other_first, other_second] = other.numbers();
+        if kind != other_kind {
+            return kind < other_kind;
         }
-        self.rank() == other.rank() && self.number() < other.number()
+        if first != other_first {
+            return first < other_first;
+        }
+        second < other_second
     }
 }

@@ -6,17 +6,18 @@ ghost use Rattle.desk_rows.specs.declared.row.Row.TheVariants.{Member as MemberR
 ghost use Rattle.desk_rows.specs.Row.{has_key};
 ghost use Rattle.desk_rows.specs.Kinds.{is_of};
 ghost use Rattle.desk_rows.specs.Order.{in_order, is_in};
-ghost use Rattle.desk_rows.specs.Index.{IsIndex};
+ghost use Rattle.desk_rows.specs.inner.Index.{IsIndex};
 ghost use Rattle.desk_rows.specs.Places.{place_in};
 ghost use Rattle.desk_rows.specs.Desk.{blank, good, holds, row_at, rows_of_kind, count_of, roster};
 ghost use Rattle.desk_rows.specs.Edit.{inverse};
 ghost use Rattle.desk_rows.specs.Exchange.{fits, after};
-ghost use Rattle.desk_rows.specs.Laws.{inverse_fits, undoes, stays};
+ghost use Rattle.desk_rows.specs.laws.Laws.{inverse_fits, undoes, stays};
 
 use crate::edit::Edit;
-use crate::exchange::Exchange;
+use crate::exchange::fits;
 use crate::index::{Entry, entry_of, move_members};
 use crate::limits::{MAX_MEMBERS, MAX_OTHERS};
+use crate::looking::Look;
 use crate::ordering::{contains, find_row, put_rows, rows_of_kind, take_rows};
 use crate::row::{Key, Kind, Member, Row};
 use std::alloc::{AllocError, Allocator, Global};
@@ -42,8 +43,8 @@ impl<A: Allocator + Copy> Model for Rows<A> {
     ghost use Rattle.std.specs.Prelude.{◌≡◌, ◌≤◌, true, vec_capacity};
     ghost use Rattle.desk_rows.specs.declared.limits.TheConstants.{MAX_MEMBERS, MAX_OTHERS};
     ghost use Rattle.desk_rows.specs.Desk.{Desk, good};
-    ghost use Rattle.desk_rows.specs.AfterEdit.{desk_of};
-    ghost use Rattle.desk_rows.specs.Index.{IsIndex};
+    ghost use Rattle.desk_rows.specs.inner.AfterEdit.{desk_of};
+    ghost use Rattle.desk_rows.specs.inner.Index.{IsIndex};
 
     ghost Value = { Desk };
 
@@ -59,8 +60,6 @@ impl<A: Allocator + Copy> Model for Rows<A> {
 }
 
 impl<A: Allocator + Copy> Rows<A> {
-    ghost use Rattle.desk_rows.specs.Exchanges.{desk_in, edit_in};
-
     /// The desk without rows, for a bridge that speaks under this SSRC.
     pub fn new(alloc: A, bridge_ssrc: u32) -> Result<Self, AllocError>
         ensures { IfOk result (λ rows. rows ≡ blank bridge_ssrc) }
@@ -161,23 +160,6 @@ impl<A: Allocator + Copy> Rows<A> {
     {
         numbers_in(alloc, &self.members, room)
     }
-
-    fn exchange<'a>(&'a self, edit: &'a Edit<A>) -> Exchange<'a>
-        ensures desk { desk_in result ≡ self.now }
-        ensures edit { edit_in result ≡ edit.now }
-    {
-        Exchange {
-            bridge_ssrc: self.bridge_ssrc,
-            members: &self.members,
-            others: &self.others,
-            taken_members: edit.taken_members(),
-            taken: edit.taken_others(),
-            old: edit.old(),
-            put_members: edit.put_members(),
-            put: edit.put_others(),
-            new: edit.new(),
-        }
-    }
 }
 
 fn is_member_among(members: &[Member], row: &Row) -> bool
@@ -254,6 +236,15 @@ fn other_row(others: &[Row], i: usize) -> Option<Row>
     Some(others[i])
 }
 
+impl<A: Allocator + Copy> Look for Rows<A> {
+    ghost desk = { λ d. d };
+
+    fn look(&self, key: Key) -> Option<Row> {
+        self.known();
+        self.find(&key)
+    }
+}
+
 impl<A: Allocator + Copy> Reversible for Rows<A> {
     type Edit = Edit<A>;
 
@@ -267,7 +258,7 @@ impl<A: Allocator + Copy> Reversible for Rows<A> {
 
     fn fits(&self, edit: &Edit<A>) -> bool {
         self.known();
-        self.exchange(edit).fits()
+        fits(self, edit)
     }
 
     fn absorb(&mut self, edit: &Edit<A>) {

@@ -1,3 +1,4 @@
+pub mod Address
 pub mod Class
 pub mod Fault
 pub mod Packet

@@ -1,7 +1,8 @@
-use Rattle.std.proofs.Common.{nat_lt, sym, arith, rules}
+use Rattle.std.proofs.Common.{[], ◌∷◌, nat_lt, refl, sym, arith, rules}
 use Rattle.std.proofs.lemmas.List.Sorted.{IsPartitionPoint-from_clause, IsPartitionedBy-ltb}
 use Rattle.desk_rows.specs.declared.index.Entry.{Entry}
-use Rattle.desk_rows.proofs.Indexed.{found_here, found_none}
+use Rattle.desk_rows.proofs.Halving.{found_here, found_none}
+use Rattle.desk_rows.proofs.Indexed.{entries_rise}
 use Rattle.desk_rows.proofs.index.entry_of.Goals as goal
 
 abbrev nothing : Entry
@@ -14,7 +15,7 @@ returns-then-at-index c =
     let split = IsPartitionedBy-ltb (λ (e : Entry). e.member) es n c.requires in
     let point = IsPartitionPoint-from_clause (λ (e : Entry). nat_lt e.member n) es c.partition_point-at.result c.partition_point-at.ensures.partitioned split (λ a r q k. search rules) in
     let past = c.if-at-index.true in
-    sym (found_none n es c.partition_point-at.result nothing c.requires point (λ l. absurd (omega (arith, l, past))))
+    sym (found_none (λ (e : Entry). e.member ∷ []) (n ∷ []) es c.partition_point-at.result nothing (entries_rise es c.requires) (λ x. refl) point (λ l. absurd (omega (arith, l, past))))
 
 pub returns-then-entry-member : goal.returns-then-entry-member
 returns-then-entry-member c =
@@ -23,7 +24,7 @@ returns-then-entry-member c =
     let split = IsPartitionedBy-ltb (λ (e : Entry). e.member) es n c.requires in
     let point = IsPartitionPoint-from_clause (λ (e : Entry). nat_lt e.member n) es c.partition_point-at.result c.partition_point-at.ensures.partitioned split (λ a r q k. search rules) in
     let within = c.if-at-index.false in
-    sym (found_here n es c.partition_point-at.result nothing point (omega (arith, within)) (grind (arith, c.if-entry-member.true)))
+    sym (found_here (λ (e : Entry). e.member ∷ []) (n ∷ []) es c.partition_point-at.result nothing point (omega (arith, within)) (grind (arith, c.if-entry-member.true)))
 
 pub returns-else-entry-member : goal.returns-else-entry-member
 returns-else-entry-member c =
@@ -31,4 +32,4 @@ returns-else-entry-member c =
     let n = c.args.member in
     let split = IsPartitionedBy-ltb (λ (e : Entry). e.member) es n c.requires in
     let point = IsPartitionPoint-from_clause (λ (e : Entry). nat_lt e.member n) es c.partition_point-at.result c.partition_point-at.ensures.partitioned split (λ a r q k. search rules) in
-    sym (found_none n es c.partition_point-at.result nothing c.requires point (λ l. grind (arith, c.if-entry-member.false)))
+    sym (found_none (λ (e : Entry). e.member ∷ []) (n ∷ []) es c.partition_point-at.result nothing (entries_rise es c.requires) (λ x. refl) point (λ l. grind (arith, c.if-entry-member.false)))

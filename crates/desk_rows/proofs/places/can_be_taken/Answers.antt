@@ -1,6 +1,6 @@
 use Rattle.std.proofs.Common.{◌≡◌, true, ◌&&◌, sym, ap, ◌∙◌}
 use Rattle.desk_rows.specs.Places.{places_rise, can_take}
-use Rattle.desk_rows.specs.PlaceLaws.{can_take_places}
+use Rattle.desk_rows.specs.laws.PlaceLaws.{can_take_places}
 use Rattle.desk_rows.proofs.places.can_be_taken.Goals as goal
 
 pub returns-then-rise : goal.returns-then-rise

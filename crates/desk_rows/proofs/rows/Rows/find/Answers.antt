@@ -1,7 +1,7 @@
 use Rattle.std.proofs.Common.{sym, ap, subst, ◌∙◌}
 use Rattle.desk_rows.specs.Order.{in_order}
-use Rattle.desk_rows.specs.Index.{IsIndex}
-use Rattle.desk_rows.specs.Laws.{good_order}
+use Rattle.desk_rows.specs.inner.Index.{IsIndex}
+use Rattle.desk_rows.specs.laws.Laws.{good_order}
 use Rattle.desk_rows.proofs.rows.Rows.find.Goals as goal
 
 pub row_with-requires-clause-index : goal.row_with-requires-clause-index

@@ -1,5 +1,5 @@
 use Rattle.std.proofs.Common.{[], refl, arith}
-use Rattle.desk_rows.specs.Index.{IsIndex}
+use Rattle.desk_rows.specs.inner.Index.{IsIndex}
 use Rattle.desk_rows.proofs.ExchangeLemmas.{good_blank}
 use Rattle.desk_rows.proofs.rows.Rows.new.Goals as goal
 

@@ -1,6 +1,6 @@
 use Rattle.std.proofs.Common.{ap, ◌∙◌}
 use Rattle.desk_rows.specs.Order.{in_order}
-use Rattle.desk_rows.specs.Laws.{good_order}
+use Rattle.desk_rows.specs.laws.Laws.{good_order}
 use Rattle.desk_rows.proofs.rows.Rows.others_of.Goals as goal
 
 pub rows_of_kind-requires : goal.rows_of_kind-requires

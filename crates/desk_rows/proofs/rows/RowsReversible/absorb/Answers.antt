@@ -2,8 +2,8 @@ use Rattle.std.proofs.Common.{length, ap, sym, ◌∙◌, arith}
 use Rattle.desk_rows.specs.declared.limits.TheConstants.{MAX_OTHERS}
 use Rattle.desk_rows.specs.Order.{with_rows}
 use Rattle.desk_rows.specs.Desk.{good}
-use Rattle.desk_rows.specs.AfterEdit.{desk_of}
-use Rattle.desk_rows.specs.Laws.{stays}
+use Rattle.desk_rows.specs.inner.AfterEdit.{desk_of}
+use Rattle.desk_rows.specs.laws.Laws.{stays}
 use Rattle.desk_rows.proofs.ExchangeLemmas.{absorbs_at}
 use Rattle.desk_rows.proofs.Indexed.{once_each}
 use Rattle.desk_rows.proofs.rows.RowsReversible.absorb.Goals as goal

@@ -1,0 +1,52 @@
+-- What an edit takes and puts, found by keys.
+use Rattle.std.proofs.Common.{◌≡◌, ℕ, Bool, true, false, ◌||◌, List, [], ◌∷◌, ◌++◌, map, refl, sym, ap, ◌∙◌, Some, None}
+use Rattle.std.specs.Option.{is_some}
+use Rattle.std.specs.List.{find, list_any}
+use Rattle.std.proofs.lemmas.List.Folds.{list_any-append}
+use Rattle.desk_rows.specs.declared.row.Row.{Row}
+use Rattle.desk_rows.specs.declared.row.Row.TheVariants.{Member}
+use Rattle.desk_rows.specs.declared.row.Key.{Key}
+use Rattle.desk_rows.specs.declared.row.Key.TheVariants as keys
+use Rattle.desk_rows.specs.declared.edit.Placed.{Placed}
+use Rattle.desk_rows.specs.Row.{has_key, same_row}
+use Rattle.desk_rows.specs.Order.{is_in, with_rows}
+use Rattle.desk_rows.specs.Edit.{EditOf}
+use Rattle.desk_rows.specs.inner.Judged.{listed_rows, change_rows, come_rows, takes, puts}
+use Rattle.desk_rows.specs.laws.OrderLaws.{list_any-with_rows}
+use Rattle.desk_rows.proofs.Finding.{is_found, found_there}
+
+-- only the key of a member is a member's
+pub no_placed : (key : Key) → ((n : ℕ) → key ≡ keys.Member n → ⊥) → (ps : List Placed) → find (has_key key) (map (λ p. Member p.row) ps) ≡ None
+no_placed (keys.Member n) not ps = absurd (not n refl)
+no_placed (keys.Room n) not [] = refl
+no_placed (keys.Room n) not (p ∷ ps) = no_placed (keys.Room n) not ps
+no_placed (keys.Source n) not [] = refl
+no_placed (keys.Source n) not (p ∷ ps) = no_placed (keys.Source n) not ps
+no_placed (keys.Slot n) not [] = refl
+no_placed (keys.Slot n) not (p ∷ ps) = no_placed (keys.Slot n) not ps
+no_placed (keys.Sub n) not [] = refl
+no_placed (keys.Sub n) not (p ∷ ps) = no_placed (keys.Sub n) not ps
+
+-- some row passes, in whatever order they are listed
+any_change : (q : Row → Bool) (ps : List Placed) (rs more : List Row) → list_any q (listed_rows ps rs more) ≡ list_any q (change_rows ps rs more)
+any_change q ps rs more =
+    let members = map (λ (p : Placed). Member p.row) ps in
+    list_any-append q members (rs ++ more)
+    ∙ ap (λ b. list_any q members || b) (list_any-append q rs more ∙ turned (list_any q rs) (list_any q more) ∙ sym (list_any-with_rows q more rs))
+    ∙ sym (list_any-append q members (with_rows more rs)) where
+      turned : (a b : Bool) → (a || b) ≡ (b || a)
+      turned true true = refl
+      turned true false = refl
+      turned false true = refl
+      turned false false = refl
+
+pub takes_is : (e : EditOf) (key : Key) → is_some (find (has_key key) (listed_rows e.taken.members e.taken.others e.replaced.old)) ≡ takes e key
+takes_is e key = sym (is_found (has_key key) _) ∙ any_change (has_key key) e.taken.members e.taken.others e.replaced.old
+
+pub puts_is : (e : EditOf) (key : Key) → is_some (find (has_key key) (listed_rows e.put.members e.put.others e.replaced.new)) ≡ puts e key
+puts_is e key = sym (is_found (has_key key) _) ∙ any_change (has_key key) e.put.members e.put.others e.replaced.new
+
+pub coming_is : (e : EditOf) (key : Key) (r : Row) → find (has_key key) (listed_rows e.put.members e.put.others e.replaced.new) ≡ Some r → (is_in (come_rows e) r ≡ true) × (has_key key r ≡ true)
+coming_is e key r h =
+    let there = found_there (has_key key) (listed_rows e.put.members e.put.others e.replaced.new) r h in
+    (sym (any_change (same_row r) e.put.members e.put.others e.replaced.new) ∙ there.0, there.1)

@@ -1,0 +1,5 @@
+pub mod Index
+pub mod Judged
+pub mod Tests
+pub mod AfterEdit
+pub mod Found

@@ -1,0 +1,5 @@
+pub mod NumberLaws
+pub mod Equal
+pub mod PlaceLaws
+pub mod OrderLaws
+pub mod Laws

@@ -1,0 +1,149 @@
+-- The tests of equality say what they mean.
+use Rattle.std.specs.Prelude.{◌≡◌, ℕ, zero, suc, Bool, true, false, ◌||◌, List, [], ◌∷◌, ◌++◌, length, nat_eq, refl}
+use Rattle.std.proofs.Common.{sym, ap, ◌∙◌}
+use borrow.Author.Tests.{eq-eqb}
+use Rattle.desk_rows.specs.declared.row.Codec.{Codec}
+use Rattle.desk_rows.specs.declared.row.Codec.TheVariants as codecs
+use Rattle.desk_rows.specs.declared.row.Media.{Media}
+use Rattle.desk_rows.specs.declared.row.Media.TheVariants as medias
+use Rattle.desk_rows.specs.declared.row.Row.{Row}
+use Rattle.desk_rows.specs.declared.row.Row.TheVariants.{Room, Member, Source, Slot, Sub}
+use Rattle.desk_rows.specs.declared.row.Key.{Key}
+use Rattle.desk_rows.specs.declared.row.Key.TheVariants as keys
+use Rattle.desk_rows.specs.declared.claim.Claim.{Claim}
+use Rattle.desk_rows.specs.declared.claim.Claim.TheVariants as claims
+use Rattle.desk_rows.specs.Row.{rank, kind_of, own_numbers, key_numbers, same_key, has_key, key_of, codec_number, media_number, row_numbers, same_row, claim_numbers, same_claim}
+use Rattle.desk_rows.specs.Order.{key_precedes, precedes}
+use Rattle.desk_rows.specs.laws.NumberLaws.{same_numbers_is, numbers_themselves, numbers_not_before, numbers_precede_on, one_list_precedes}
+
+pub number_itself : (n : ℕ) → nat_eq n n ≡ true
+number_itself n = eq-eqb n n refl
+
+-- ---- keys
+
+key_by : ℕ → ℕ → Key
+key_by zero n = keys.Room n
+key_by (suc zero) n = keys.Member n
+key_by (suc (suc zero)) n = keys.Source n
+key_by (suc (suc (suc zero))) n = keys.Slot n
+key_by _ n = keys.Sub n
+
+key_from : List ℕ → Key
+key_from (kind ∷ first ∷ second ∷ xs) = key_by kind second
+key_from _ = keys.Room 0
+
+-- a key is read off its numbers
+key_back : (k : Key) → key_from (key_numbers k) ≡ k
+unfolding key_from key_by
+key_back (keys.Room n) = refl
+key_back (keys.Member n) = refl
+key_back (keys.Source n) = refl
+key_back (keys.Slot n) = refl
+key_back (keys.Sub n) = refl
+
+pub same_key_is : (a b : Key) → same_key a b ≡ true → a ≡ b
+same_key_is a b e = sym (key_back a) ∙ ap key_from (same_numbers_is (key_numbers a) (key_numbers b) e) ∙ key_back b
+
+pub key_itself : (k : Key) → same_key k k ≡ true
+key_itself k = numbers_themselves (key_numbers k)
+
+-- the row that has a key has no other
+pub its_key : (k : Key) (r : Row) → has_key k r ≡ true → key_of r ≡ k
+its_key k r e = same_key_is (key_of r) k e
+
+pub keys_precede_on : (x y z : Key) → key_precedes x y ≡ true → key_precedes y z ≡ true → key_precedes x z ≡ true
+keys_precede_on x y z e f = numbers_precede_on (key_numbers x) (key_numbers y) (key_numbers z) e f
+
+-- no key stands before itself
+pub not_before_itself : (r : Row) → precedes r r ≡ false
+not_before_itself r = numbers_not_before (key_numbers (key_of r))
+
+pub three_numbers : (k : Key) → ◌≡◌ {A = ℕ} (length (key_numbers k)) 3
+three_numbers (keys.Room n) = refl
+three_numbers (keys.Member n) = refl
+three_numbers (keys.Source n) = refl
+three_numbers (keys.Slot n) = refl
+three_numbers (keys.Sub n) = refl
+
+-- of two keys that differ one stands before the other
+pub one_precedes : (a b : Row) → has_key (key_of a) b ≡ false → (precedes a b || precedes b a) ≡ true
+one_precedes a b e = or_turned (precedes b a) (precedes a b) (one_list_precedes (key_numbers (key_of b)) (key_numbers (key_of a)) (three_numbers (key_of b) ∙ sym (three_numbers (key_of a))) e) where
+  or_turned : (s t : Bool) → (s || t) ≡ true → (t || s) ≡ true
+  or_turned true true e = refl
+  or_turned true false e = refl
+  or_turned false t e = ap (λ b. b || false) e
+
+-- ---- rows
+
+codec_from : ℕ → Codec
+codec_from zero = codecs.Pcmu
+codec_from _ = codecs.L16
+
+media_from : ℕ → Media
+media_from zero = medias.Audio
+media_from _ = medias.Video
+
+row_by : ℕ → ℕ → ℕ → ℕ → ℕ → ℕ → ℕ → ℕ → List ℕ → Row
+row_by zero a b c d e f g h = Room record { room = a }
+row_by (suc zero) a b c d e f g h = Member record { member = a; room = b; codec = codec_from c; out_audio = d; first_seq = e; first_ts = f; address = record { ip = h; port = g } }
+row_by (suc (suc zero)) a b c d e f g h = Source record { ssrc = a; member = b; media = media_from c }
+row_by (suc (suc (suc zero))) a b c d e f g h = Slot record { out_ssrc = a; member = b; index = c; first_seq = d; first_ts = e }
+row_by _ a b c d e f g h = Sub record { out_ssrc = a; source = b }
+
+row_from : List ℕ → Row
+row_from (kind ∷ a ∷ b ∷ c ∷ d ∷ e ∷ f ∷ g ∷ h) = row_by kind a b c d e f g h
+row_from _ = Room record { room = 0 }
+
+-- a row is read off its numbers
+row_back : (r : Row) → row_from (row_numbers r) ≡ r
+unfolding row_from row_by codec_from media_from
+row_back (Room r) = refl
+row_back (Member m) = ap (λ codec. Member record m { codec = codec }) (codec_back m.codec) where
+  codec_back : (c : Codec) → codec_from (codec_number c) ≡ c
+  codec_back codecs.Pcmu = refl
+  codec_back codecs.L16 = refl
+row_back (Source s) = ap (λ media. Source record s { media = media }) (media_back s.media) where
+  media_back : (m : Media) → media_from (media_number m) ≡ m
+  media_back medias.Audio = refl
+  media_back medias.Video = refl
+row_back (Slot s) = refl
+row_back (Sub s) = refl
+
+pub same_row_is : (a b : Row) → same_row a b ≡ true → a ≡ b
+same_row_is a b e = sym (row_back a) ∙ ap row_from (same_numbers_is (row_numbers a) (row_numbers b) e) ∙ row_back b
+
+pub row_itself : (r : Row) → same_row r r ≡ true
+row_itself r = numbers_themselves (row_numbers r)
+
+-- ---- claims
+
+claim_by : ℕ → List ℕ → Claim
+claim_by zero xs = claims.Key (key_from xs)
+claim_by (suc zero) (port ∷ ip) = claims.Address record { ip = ip; port = port }
+claim_by (suc (suc zero)) (ssrc ∷ xs) = claims.Ssrc ssrc
+claim_by _ (member ∷ index ∷ xs) = claims.Place member index
+claim_by _ xs = claims.Ssrc 0
+
+claim_from : List ℕ → Claim
+claim_from (which ∷ xs) = claim_by which xs
+claim_from [] = claims.Ssrc 0
+
+-- a claim is read off its numbers
+claim_back : (c : Claim) → claim_from (claim_numbers c) ≡ c
+unfolding claim_from claim_by key_from key_by
+claim_back (claims.Key k) = ap claims.Key (padded k) where
+  padded : (k : Key) → key_from (rank (kind_of k) ∷ own_numbers k ++ (0 ∷ 0 ∷ [])) ≡ k
+  padded (keys.Room n) = refl
+  padded (keys.Member n) = refl
+  padded (keys.Source n) = refl
+  padded (keys.Slot n) = refl
+  padded (keys.Sub n) = refl
+claim_back (claims.Address a) = refl
+claim_back (claims.Ssrc s) = refl
+claim_back (claims.Place m i) = refl
+
+pub same_claim_is : (a b : Claim) → same_claim a b ≡ true → a ≡ b
+same_claim_is a b e = sym (claim_back a) ∙ ap claim_from (same_numbers_is (claim_numbers a) (claim_numbers b) e) ∙ claim_back b
+
+pub claim_itself : (c : Claim) → same_claim c c ≡ true
+claim_itself c = numbers_themselves (claim_numbers c)

@@ -1,0 +1,310 @@
+//! The desk that an edit would lead to, without making it.
+
+ghost use Rattle.std.specs.Prelude.{◌≡◌, ◌≤◌, ◌+◌, ◌&&◌, not, count_by, nat_eq, nat_le};
+ghost use Rattle.std.specs.List.{list_any, list_all};
+ghost use Rattle.desk_rows.specs.declared.row.Row.TheVariants.{Member as MemberRow};
+ghost use Rattle.desk_rows.specs.Few.{listed};
+ghost use Rattle.desk_rows.specs.Limits.{slot_limit, room_audio_limit};
+ghost use Rattle.desk_rows.specs.Kinds.{is_of};
+ghost use Rattle.desk_rows.specs.Row.{has_key};
+ghost use Rattle.desk_rows.specs.Desk.{rows_of, is_bridges, is_within_limits, is_named_there, is_made_once, is_audio_in, obeys};
+ghost use Rattle.desk_rows.specs.Edit.{ins};
+ghost use Rattle.desk_rows.specs.Exchange.{exchanged};
+ghost use Rattle.desk_rows.specs.Keyed.{IsKeyed};
+ghost use Rattle.desk_rows.specs.inner.Tests.{passes};
+ghost use Rattle.desk_rows.specs.inner.Found.{finds, is_elsewhere};
+ghost use Rattle.desk_rows.specs.inner.Judged.{takes, puts, keeps_names, moves, is_shaken, is_sound_beside, stays_sound, all_come, all_stay};
+
+use crate::claim::Claim;
+use crate::counting::{Test, count_members, count_rows};
+use crate::edit::Placed;
+use crate::exchange::Exchange;
+use crate::few::Few;
+use crate::limits::{MAX_INDEX, MAX_MEMBERS, MAX_ROOM_AUDIO, MAX_ROOMS, MAX_SLOTS, MAX_SOURCES};
+use crate::looking::{Look, are_in_one_room, count_audio, has_audio};
+use crate::row::{Key, Kind, Member, Row};
+use std::alloc::Allocator;
+
+/// A desk, and an edit of it by which no row comes under the key of another.
+#[derive(Drop)]
+pub(crate) struct Overlay<'a, A: Allocator + Copy> {
+    pub(crate) of: Exchange<'a, A>,
+    ghost keyed: { IsKeyed (exchanged of.rows.now of.edit.now) },
+}
+
+impl<A: Allocator + Copy> Look for Overlay<'_, A> {
+    ghost desk = { λ x. exchanged x.of.rows.now x.of.edit.now };
+
+    fn look(&self, key: Key) -> Option<Row> {
+        if let Some(row) = self.of.coming(key) {
+            return Some(row);
+        }
+        if self.of.takes(key) {
+            return None;
+        }
+        self.of.rows.find(&key)
+    }
+}
+
+impl<A: Allocator + Copy> Overlay<'_, A> {
+    // ---- what comes
+
+    /// Whether the kind has no more rows than its limit: with what comes it has no more than the
+    /// limit and what goes.
+    fn is_within(&self, kind: Kind, limit: usize) -> bool
+        requires { limit ≤ slot_limit }
+        ensures { result ≡ nat_le (count_by (is_of kind) (rows_of (exchanged self.now.of.rows.now self.now.of.edit.now))) limit }
+    {
+        let test = Test::IsOf(kind);
+        self.of.rows.count(kind) + self.of.edit.count_coming(&test)
+            <= limit + self.of.edit.count_going(&test)
+    }
+
+    pub(crate) fn is_within_limits(&self) -> bool
+        ensures { result ≡ is_within_limits (exchanged self.now.of.rows.now self.now.of.edit.now) }
+    {
+        self.is_within(Kind::Room, MAX_ROOMS)
+            && (self.is_within(Kind::Member, MAX_MEMBERS)
+                && (self.is_within(Kind::Source, MAX_SOURCES)
+                    && self.is_within(Kind::Slot, MAX_SLOTS)))
+    }
+
+    fn has(&self, key: Key) -> bool
+        ensures { result ≡ list_any (has_key key) (rows_of (exchanged self.now.of.rows.now self.now.of.edit.now)) }
+    {
+        self.look(key).is_some()
+    }
+
+    fn is_named_there(&self, row: &Row) -> bool
+        ensures { result ≡ is_named_there (exchanged self.now.of.rows.now self.now.of.edit.now) row.now }
+    {
+        match row.names() {
+            Few::Nothing => true,
+            Few::One(key) => self.has(key),
+            Few::Two(key, other) => self.has(key) && self.has(other),
+        }
+    }
+
+    fn is_bridges(&self, claim: &Claim) -> bool
+        ensures { result ≡ is_bridges (exchanged self.now.of.rows.now self.now.of.edit.now) claim.now }
+    {
+        match claim {
+            Claim::Ssrc(ssrc) => *ssrc == self.of.rows.bridge_ssrc(),
+            _ => false,
+        }
+    }
+
+    /// Whether just one row makes the claim: with what comes there is one and what goes.
+    fn has_one(&self, claim: Claim) -> bool
+        ensures { result ≡ nat_eq (count_by (passes (Test.Makes claim)) (rows_of (exchanged self.now.of.rows.now self.now.of.edit.now))) 1 }
+    {
+        let test = Test::Makes(claim);
+        let before = count_members(self.of.rows.members(), &test)
+            + count_rows(self.of.rows.others(), &test);
+        before + self.of.edit.count_coming(&test) == 1 + self.of.edit.count_going(&test)
+    }
+
+    fn is_made_once(&self, claim: Claim) -> bool
+        ensures { result ≡ is_made_once (exchanged self.now.of.rows.now self.now.of.edit.now) claim }
+    {
+        self.has_one(claim) && !self.is_bridges(&claim)
+    }
+
+    fn are_made_once(&self, claims: Few<Claim>) -> bool
+        ensures { result ≡ list_all (is_made_once (exchanged self.now.of.rows.now self.now.of.edit.now)) (listed claims) }
+    {
+        match claims {
+            Few::Nothing => true,
+            Few::One(claim) => self.is_made_once(claim),
+            Few::Two(claim, other) => self.is_made_once(claim) && self.is_made_once(other),
+        }
+    }
+
+    /// How many audio sources the room has with those that come, and how many of them go.
+    fn is_room_full(&self, room: u32) -> bool
+        ensures { result ≡ not (nat_le (count_by (is_audio_in (exchanged self.now.of.rows.now self.now.of.edit.now) room) (exchanged self.now.of.rows.now self.now.of.edit.now).others) room_audio_limit) }
+    {
+        let coming = count_audio(self, self.of.edit.put_others(), room)
+            + count_audio(self, self.of.edit.new(), room);
+        let going = count_audio(self, self.of.edit.taken_others(), room)
+            + count_audio(self, self.of.edit.old(), room);
+        count_audio(self, self.of.rows.others(), room) + coming > MAX_ROOM_AUDIO + going
+    }
+
+    fn obeys(&self, row: &Row) -> bool
+        ensures { result ≡ obeys (exchanged self.now.of.rows.now self.now.of.edit.now) row.now }
+    {
+        match row {
+            Row::Room(room) => !self.is_room_full(room.room),
+            Row::Member(member) => member.address.port != 0,
+            Row::Source(_) => true,
+            Row::Slot(slot) => slot.index <= MAX_INDEX,
+            Row::Sub(sub) => are_in_one_room(self, sub),
+        }
+    }
+
+    #[tactic(auto, unfolding(crate::specs::inner::Judged::is_sound_beside))]
+    fn is_sound(&self, row: &Row) -> bool
+        ensures { result ≡ is_sound_beside (exchanged self.now.of.rows.now self.now.of.edit.now) row.now }
+    {
+        self.is_named_there(row) && (self.are_made_once(row.claims()) && self.obeys(row))
+    }
+
+    fn all_members_come(&self) -> bool
+        ensures { result ≡ list_all (λ p. is_sound_beside (exchanged self.now.of.rows.now self.now.of.edit.now) (MemberRow p.row)) self.now.of.edit.now.put.members }
+    {
+        self.of
+            .edit
+            .put_members()
+            .iter()
+            .all(|one| self.is_sound(&Row::Member(one.row)))
+    }
+
+    fn are_sound(&self, rows: &[Row]) -> bool
+        ensures { result ≡ list_all (is_sound_beside (exchanged self.now.of.rows.now self.now.of.edit.now)) rows.now }
+    {
+        rows.iter().all(|row| self.is_sound(row))
+    }
+
+    fn all_others_come(&self) -> bool
+        ensures { result ≡ list_all (is_sound_beside (exchanged self.now.of.rows.now self.now.of.edit.now)) (ins self.now.of.edit.now) }
+    {
+        self.are_sound(self.of.edit.new()) && self.are_sound(self.of.edit.put_others())
+    }
+
+    /// Whether each row that comes is sound.
+    pub(crate) fn all_come(&self) -> bool
+        ensures { result ≡ all_come (is_sound_beside (exchanged self.now.of.rows.now self.now.of.edit.now)) self.now.of.edit.now }
+    {
+        self.all_members_come() && self.all_others_come()
+    }
+
+    // ---- what stays
+
+    /// Whether a row with this key is there afterwards, if one was before.
+    fn keeps(&self, key: Key) -> bool
+        ensures { result ≡ not (takes self.now.of.edit.now key && not (puts self.now.of.edit.now key)) }
+    {
+        !self.of.takes(key) || self.of.puts(key)
+    }
+
+    fn keeps_names(&self, row: &Row) -> bool
+        ensures { result ≡ keeps_names self.now.of.edit.now row.now }
+    {
+        match row.names() {
+            Few::Nothing => true,
+            Few::One(key) => self.keeps(key),
+            Few::Two(key, other) => self.keeps(key) && self.keeps(other),
+        }
+    }
+
+    /// Whether the member was in another room.
+    fn is_moved(&self, placed: &Placed) -> bool
+        ensures { result ≡ list_any (λ m. nat_eq m.member placed.now.row.member && not (nat_eq m.room placed.now.row.room)) self.now.of.rows.now.members }
+    {
+        is_elsewhere(
+            self.of.rows.look(Key::Member(placed.row.member)),
+            placed.row.room,
+        )
+    }
+
+    /// Whether a member comes into another room than it was in.
+    pub(crate) fn moves(&self) -> bool
+        ensures { result ≡ moves self.now.of.rows.now self.now.of.edit.now }
+    {
+        self.of
+            .edit
+            .put_members()
+            .iter()
+            .any(|one| self.is_moved(one))
+    }
+
+    /// Whether an audio source comes into the room.
+    fn gains_audio(&self, room: u32) -> bool
+        ensures { result ≡ list_any (is_audio_in (exchanged self.now.of.rows.now self.now.of.edit.now) room) (ins self.now.of.edit.now) }
+    {
+        has_audio(self, self.of.edit.new(), room)
+            || has_audio(self, self.of.edit.put_others(), room)
+    }
+
+    /// Whether what the row's rule looks at may have changed.
+    fn is_shaken(&self, row: &Row, moved: bool) -> bool
+        ensures { result ≡ is_shaken moved self.now.of.rows.now self.now.of.edit.now row.now }
+    {
+        match row {
+            Row::Room(room) => moved || self.gains_audio(room.room),
+            Row::Sub(sub) => {
+                moved
+                    || (self.of.takes(Key::Slot(sub.out_ssrc))
+                        || self.of.takes(Key::Source(sub.source)))
+            }
+            _ => false,
+        }
+    }
+
+    /// Whether a row that stays is sound.
+    #[tactic(auto, unfolding(crate::specs::inner::Judged::stays_sound))]
+    fn stays_sound(&self, row: &Row, moved: bool) -> bool
+        ensures { result ≡ stays_sound moved self.now.of.rows.now self.now.of.edit.now row.now }
+    {
+        self.keeps_names(row) && (!self.is_shaken(row, moved) || self.obeys(row))
+    }
+
+    fn count_unsound(&self, rows: &[Row], moved: bool) -> usize
+        ensures { result ≡ count_by (λ r. not (stays_sound moved self.now.of.rows.now self.now.of.edit.now r)) rows.now }
+    {
+        rows.iter()
+            .filter(|row| !self.stays_sound(row, moved))
+            .count()
+    }
+
+    fn count_unsound_members(&self, members: &[Member], moved: bool) -> usize
+        ensures { result ≡ count_by (λ m. not (stays_sound moved self.now.of.rows.now self.now.of.edit.now (MemberRow m))) members.now }
+    {
+        members
+            .iter()
+            .filter(|member| !self.stays_sound(&Row::Member(**member), moved))
+            .count()
+    }
+
+    fn count_unsound_placed(&self, placed: &[Placed], moved: bool) -> usize
+        ensures { result ≡ count_by (λ p. not (stays_sound moved self.now.of.rows.now self.now.of.edit.now (MemberRow p.row))) placed.now }
+    {
+        placed
+            .iter()
+            .filter(|one| !self.stays_sound(&Row::Member(one.row), moved))
+            .count()
+    }
+
+    fn members_stay(&self, moved: bool) -> bool
+        ensures { result ≡ nat_eq (count_by (λ m. not (stays_sound moved self.now.of.rows.now self.now.of.edit.now (MemberRow m))) self.now.of.rows.now.members) (count_by (λ p. not (stays_sound moved self.now.of.rows.now self.now.of.edit.now (MemberRow p.row))) self.now.of.edit.now.taken.members) }
+    {
+        self.count_unsound_members(self.of.rows.members(), moved)
+            == self.count_unsound_placed(self.of.edit.taken_members(), moved)
+    }
+
+    fn others_stay(&self, moved: bool) -> bool
+        ensures { result ≡ nat_eq (count_by (λ r. not (stays_sound moved self.now.of.rows.now self.now.of.edit.now r)) self.now.of.rows.now.others) (count_by (λ r. not (stays_sound moved self.now.of.rows.now self.now.of.edit.now r)) self.now.of.edit.now.taken.others + count_by (λ r. not (stays_sound moved self.now.of.rows.now self.now.of.edit.now r)) self.now.of.edit.now.replaced.old) }
+    {
+        let going = self.count_unsound(self.of.edit.taken_others(), moved)
+            + self.count_unsound(self.of.edit.old(), moved);
+        self.count_unsound(self.of.rows.others(), moved) == going
+    }
+
+    /// Whether each row that stays is sound: those that are not all go.
+    pub(crate) fn all_stay(&self, moved: bool) -> bool
+        ensures { result ≡ all_stay (stays_sound moved self.now.of.rows.now self.now.of.edit.now) self.now.of.rows.now self.now.of.edit.now }
+    {
+        self.members_stay(moved) && self.others_stay(moved)
+    }
+}
+
+/// Whether a member of another room is found.
+fn is_elsewhere(found: Option<Row>, room: u32) -> bool
+    ensures { result ≡ finds (is_elsewhere room) found }
+{
+    match found {
+        Some(Row::Member(row)) => row.room != room,
+        _ => false,
+    }
+}
