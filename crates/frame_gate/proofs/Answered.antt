@@ -1,23 +1,23 @@
 -- What is answered is the definition's answer.
-use Rattle.std.proofs.Common.{◌≡◌, ℕ, zero, suc, ◌+◌, ◌-◌, ◌%◌, ◌<◌, ◌≤◌, Bool, true, false, cond, nat_lt, nat_le, max, List, [], ◌∷◌, ◌++◌, length, set, Option, None, Some, refl, sym, ap, ◌∙◌, arith, subst, append-nil}
+use Rattle.std.proofs.Common.{◌≡◌, ℕ, zero, suc, ◌+◌, ◌-◌, ◌%◌, ◌<◌, ◌≤◌, Bool, true, false, cond, nat_lt, nat_le, max, List, [], ◌∷◌, ◌++◌, map, set, Option, None, Some, refl, sym, ap, ◌∙◌, arith, subst, append-nil}
 use Rattle.std.specs.Prelude.{is_some, unwrap_or}
 use Rattle.std.specs.Option.{option_copied}
 use Rattle.std.proofs.Common.{Bor}
 use Rattle.std.proofs.lemmas.Bool.Decides.{nat_tests}
 use Rattle.std.proofs.lemmas.List.Sums.{fold-append}
-use Rattle.frame_gate.specs.declared.packet.Packet.{Packet}
+use Rattle.frame_gate.specs.Packets.{NumberedPacket, ext_of}
+use Rattle.frame_gate.specs.Frame.{WholeFrame}
 use Rattle.frame_gate.specs.declared.packet.Place.{Place}
 use Rattle.frame_gate.specs.declared.packet.Place.TheVariants.{Taken, Late, Duplicate}
 use Rattle.frame_gate.specs.declared.walk.Walk.{Walk}
-use Rattle.frame_gate.specs.declared.prepared.Admitted.{Admitted}
-use Rattle.frame_gate.specs.declared.prepared.Prepared.{Prepared}
-use Rattle.frame_gate.specs.Runs.{undivided, divided, divide_on, frames_in, row}
-use Rattle.frame_gate.specs.Cells.{held}
-use Rattle.frame_gate.specs.Walks.{Stands, packets_of}
-use Rattle.frame_gate.specs.Epochs.{Epoch, blank, packet_at, greatest, run, pieces, next_of, frames_of, placed, resynced, opened, place_of, taking, if_taken, after, epoch_of, gives_up, top, missing_above, nacks_of}
-use Rattle.frame_gate.specs.Ties.{Tied, begun_at}
-use Rattle.frame_gate.specs.Kept.{Kept}
-use Rattle.frame_gate.specs.Admits.{IsAt, Represents, Answers, Admits, committed}
+use Rattle.frame_gate.specs.Answer.{Answer}
+use Rattle.frame_gate.specs.Runs.{divided, frames_in, row}
+use Rattle.frame_gate.specs.inner.Cells.{held}
+use Rattle.frame_gate.specs.inner.Walks.{Stands}
+use Rattle.frame_gate.specs.Epochs.{Epoch, blank, packet_at, greatest, next_of, frames_of, placed, resynced, opened, place_of, taking, if_taken, after, epoch_of, top, missing_above}
+use Rattle.frame_gate.specs.inner.Ties.{Tied, begun_at}
+use Rattle.frame_gate.specs.inner.Kept.{Kept, PreparedOf}
+use Rattle.frame_gate.specs.Admits.{IsAt, Answers, Admits, committed}
 use Rattle.frame_gate.proofs.Rows.{row-none}
 use Rattle.frame_gate.proofs.Cuts.{begun_stands}
 use Rattle.frame_gate.proofs.Taken.{greatest-push}
@@ -27,18 +27,18 @@ resynced-taken zero e n = refl
 resynced-taken (suc most) e n =
     elim (nat_le (next_of e + 256) n) as (λ b. (cond b (resynced most (placed e n) n) e).taken ≡ e.taken) [ true ↦ resynced-taken most (placed e n) n | false ↦ refl ]
 
-pub top-greatest : (ps : List Packet) → unwrap_or (top ps) 0 ≡ greatest ps
+pub top-greatest : (ps : List NumberedPacket) → unwrap_or (top ps) 0 ≡ greatest ps
 top-greatest [] = refl
 top-greatest (p ∷ ps) = refl
 
-top-push : (ps : List Packet) (p : Packet) → top (ps ++ p ∷ []) ≡ Some (greatest (ps ++ p ∷ []))
+top-push : (ps : List NumberedPacket) (p : NumberedPacket) → top (ps ++ p ∷ []) ≡ Some (greatest (ps ++ p ∷ []))
 top-push [] p = refl
 top-push (q ∷ qs) p = refl
 
-abbrev of : List Packet → ℕ → List (List Packet) → Epoch
+abbrev of : List NumberedPacket → ℕ → List WholeFrame → Epoch
 of taken cut earlier = record { taken = taken; cut = cut; earlier = earlier }
 
-pub opened-taken : (taken : List Packet) (cut : ℕ) (earlier : List (List Packet)) (p : Packet) → (opened (of taken cut earlier) p).taken ≡ taken
+pub opened-taken : (taken : List NumberedPacket) (cut : ℕ) (earlier : List WholeFrame) (p : NumberedPacket) → (opened (of taken cut earlier) p).taken ≡ taken
 opened-taken [] cut earlier p = refl
 opened-taken (q ∷ qs) cut earlier p = refl
 
@@ -46,16 +46,16 @@ opened-taken (q ∷ qs) cut earlier p = refl
 run-nil : (cut n : ℕ) → row (packet_at []) cut n ≡ []
 run-nil cut n = row-none (packet_at []) cut n refl
 
-opened_first : (cells : List (Option Packet)) (cut : ℕ) (earlier : List (List Packet)) (p : Packet)
+opened_first : (cells : List (Option NumberedPacket)) (cut : ℕ) (earlier : List WholeFrame) (p : NumberedPacket)
     → ((n : ℕ) → held cells None n ≡ None)
     → Tied (held cells None) (frames_of (of [] cut earlier)) (opened (of [] cut earlier) p) (begun_at p.number) []
 opened_first cells cut earlier p empty =
     let frames : frames_of (of [] cut earlier) ++ [] ≡ earlier =
     append-nil (frames_of (of [] cut earlier))
-    ∙ ap (λ (r : List Packet). earlier ++ frames_in (divided r)) (run-nil cut (greatest [] + 1 - cut))
+    ∙ ap (λ (r : List NumberedPacket). earlier ++ frames_in (divided r)) (run-nil cut (greatest [] + 1 - cut))
     ∙ append-nil earlier in
     record {
-      stands = subst (λ (r : List Packet). Stands (held cells None) p.number (frames_of (of [] cut earlier)) earlier (divided r) (begun_at p.number) [])
+      stands = subst (λ (r : List NumberedPacket). Stands (held cells None) p.number (frames_of (of [] cut earlier)) earlier (divided r) (begun_at p.number) [])
           (sym (run-nil p.number (greatest [] + 1 - p.number)))
           (begun_stands (held cells None) (frames_of (of [] cut earlier)) earlier [] p.number frames);
       agrees = λ n a. empty n;
@@ -63,28 +63,28 @@ opened_first cells cut earlier p empty =
     }
 
 -- the walk of a gate that was given nothing begins at the first packet; another gate's is its own
-pub opened_none : (k : Kept) (taken : List Packet) (cut : ℕ) (earlier : List (List Packet)) (p : Packet)
+pub opened_none : (k : Kept) (taken : List NumberedPacket) (cut : ℕ) (earlier : List WholeFrame) (p : NumberedPacket)
     → IsAt k (of taken cut earlier) → k.greatest ≡ None → Tied (held k.cells None) (frames_of (of taken cut earlier)) (opened (of taken cut earlier) p) (begun_at p.number) []
 opened_none k [] cut earlier p h none = opened_first k.cells cut earlier p (h.empty none)
 opened_none k (q ∷ qs) cut earlier p h none = absurd (let e : None ≡ Some (greatest (q ∷ qs)) = sym none ∙ h.greatest in cc)
 
-pub opened_some : (k : Kept) (taken : List Packet) (cut : ℕ) (earlier : List (List Packet)) (p : Packet)
+pub opened_some : (k : Kept) (taken : List NumberedPacket) (cut : ℕ) (earlier : List WholeFrame) (p : NumberedPacket)
     → IsAt k (of taken cut earlier) → is_some k.greatest ≡ true → Tied (held k.cells None) (frames_of (of taken cut earlier)) (opened (of taken cut earlier) p) k.walk []
 opened_some k [] cut earlier p h some = absurd (let e : false ≡ true = sym (ap is_some h.greatest) ∙ some in cc)
 opened_some k (q ∷ qs) cut earlier p h some = h.tied
 
-place_late : (e : Epoch) (p : Packet) → p.number < next_of (opened e p) → place_of e p ≡ Late
+pub place_late : (e : Epoch) (p : NumberedPacket) → p.number < next_of (opened e p) → place_of e p ≡ Late
 place_late e p h =
     let b : nat_lt p.number (next_of (opened e p)) ≡ true = grind (arith, nat_tests) in
     ap (λ x. cond x Late (cond (is_some (packet_at e.taken p.number)) Duplicate Taken)) b
 
-place_by : (e : Epoch) (p : Packet) (b : Bool) → next_of (opened e p) ≤ p.number → is_some (packet_at e.taken p.number) ≡ b → place_of e p ≡ cond b Duplicate Taken
+place_by : (e : Epoch) (p : NumberedPacket) (b : Bool) → next_of (opened e p) ≤ p.number → is_some (packet_at e.taken p.number) ≡ b → place_of e p ≡ cond b Duplicate Taken
 place_by e p b h is =
     let f : nat_lt p.number (next_of (opened e p)) ≡ false = grind (arith, nat_tests) in
     ap (λ x. cond x Late (cond (is_some (packet_at e.taken p.number)) Duplicate Taken)) f ∙ ap (λ x. cond x Duplicate Taken) is
 
 -- the same walk, with all frames given already
-rebased : (at : ℕ → Option Packet) (given : List (List Packet)) (e : Epoch) (w : Walk) (out : List (List Packet)) → Tied at given e w out → Tied at (frames_of e) e w []
+rebased : (at : ℕ → Option NumberedPacket) (given : List WholeFrame) (e : Epoch) (w : Walk) (out : List WholeFrame) → Tied at given e w out → Tied at (frames_of e) e w []
 rebased at given e w out h = record {
   stands = record {
     after = h.stands.after;
@@ -98,14 +98,14 @@ rebased at given e w out h = record {
   room = h.room;
 }
 
-abbrev with_taken : Kept → Walk → Packet → Kept
+abbrev with_taken : Kept → Walk → NumberedPacket → Kept
 with_taken k w p = record { cells = set k.cells (p.number % 256) (Some p); walk = w; greatest = Some (max (unwrap_or k.greatest 0) p.number) }
 
 -- the answer to a packet that is taken
-pub something_new : (k : Kept) (e : Epoch) (p : Packet) (r : Prepared) (walk : Walk) → IsAt k e
+pub something_new : (k : Kept) (e : Epoch) (p : NumberedPacket) (r : PreparedOf) (walk : Walk) → IsAt k e
     → Tied (held k.cells None) (frames_of e) (opened e p) walk [] → walk.next ≤ p.number → held k.cells None p.number ≡ None
-    → Tied (held (set k.cells (p.number % 256) (Some p)) None) (frames_of e) (taking (resynced p.number (opened e p) p.number) p) r.walk (packets_of r.answer.frames.items)
-    → r.answer.nacks.items ≡ missing_above k.greatest r.walk.next p.number
+    → Tied (held (set k.cells (p.number % 256) (Some p)) None) (frames_of e) (taking (resynced p.number (opened e p) p.number) p) r.walk r.answer.frames
+    → r.answer.nacks ≡ map ext_of (missing_above k.greatest r.walk.next p.number)
     → r.answer.pli ≡ nat_le (walk.next + 256) p.number
     → r.answer.place ≡ Taken → r.packet ≡ p
     → Answers e p r.answer × IsAt (committed k r) (after e p)
@@ -115,7 +115,7 @@ something_new k e p r walk h begun above new tied nacks pli place packet =
     let more = taking mid p in
     let same : mid.taken ≡ e.taken = resynced-taken n (opened e p) n ∙ opened-taken e.taken e.cut e.earlier p in
     let none : is_some (packet_at e.taken n) ≡ false =
-    ap (λ (ps : List Packet). is_some (packet_at ps n)) (sym (opened-taken e.taken e.cut e.earlier p)) ∙ ap is_some (sym (begun.agrees n above) ∙ new) in
+    ap (λ (ps : List NumberedPacket). is_some (packet_at ps n)) (sym (opened-taken e.taken e.cut e.earlier p)) ∙ ap is_some (sym (begun.agrees n above) ∙ new) in
     let next : walk.next ≡ next_of (opened e p) = begun.stands.next in
     let is : place_of e p ≡ Taken = place_by e p false (omega arith) none in
     let goes : after e p ≡ more = ap (λ q. if_taken q more e) is in
@@ -124,59 +124,79 @@ something_new k e p r walk h begun above new tied nacks pli place packet =
     let most : unwrap_or k.greatest 0 ≡ greatest mid.taken = ap (λ o. unwrap_or o 0) h.greatest ∙ top-greatest e.taken ∙ ap greatest (sym same) in
     let g : max (unwrap_or k.greatest 0) n ≡ greatest (mid.taken ++ p ∷ []) = (let x = greatest-push mid.taken p in omega arith) in
     let at : IsAt (with_taken k r.walk p) more = record {
-      tied = rebased (held (set k.cells (n % 256) (Some p)) None) (frames_of e) more r.walk (packets_of r.answer.frames.items) tied;
+      tied = rebased (held (set k.cells (n % 256) (Some p)) None) (frames_of e) more r.walk r.answer.frames tied;
       greatest = ap Some g ∙ sym (top-push mid.taken p);
       empty = λ nothing. absurd (let x : Some (max (unwrap_or k.greatest 0) n) ≡ None = nothing in cc);
-    } in
-    (
+    } in (
       record {
         place = place ∙ sym is;
         frames = ap frames_of goes ∙ sym tied.stands.frames;
         nacks = nacks
-            ∙ ap (λ o. missing_above o r.walk.next n) h.greatest
-            ∙ ap (λ m. missing_above (top e.taken) m n) (tied.stands.next ∙ ap next_of (sym goes))
-            ∙ sym (ap (λ q. if_taken q (missing_above (top e.taken) (next_of (after e p)) n) []) is);
+            ∙ ap (λ o. map ext_of (missing_above o r.walk.next n)) h.greatest
+            ∙ ap (λ m. map ext_of (missing_above (top e.taken) m n)) (tied.stands.next ∙ ap next_of (sym goes))
+            ∙ sym (ap (λ q. if_taken q (map ext_of (missing_above (top e.taken) (next_of (after e p)) n)) []) is);
         pli = pli ∙ ap (λ m. nat_le (m + 256) n) next ∙ sym (ap (λ q. if_taken q (nat_le (next_of (opened e p) + 256) n) false) is);
       },
-      subst (IsAt (committed k r)) (sym goes) (subst (λ x. IsAt x more) (sym left) at)
+      subst (IsAt (committed k r)) (sym goes) (subst (λ x. IsAt x more) (sym left) at),
     )
 
-pub epoch_of-push : (before : List Packet) (p : Packet) → epoch_of (before ++ p ∷ []) ≡ after (epoch_of before) p
+pub epoch_of-push : (before : List NumberedPacket) (p : NumberedPacket) → epoch_of (before ++ p ∷ []) ≡ after (epoch_of before) p
 epoch_of-push before p = fold-append after blank before (p ∷ [])
 
 -- what holds of the epoch holds of the packets
-pub admits : (k new : Kept) (p : Packet) (a : Admitted) → ((e : Epoch) → IsAt k e → Answers e p a × IsAt new (after e p)) → Admits k new p a
+pub admits : (k new : Kept) (p : NumberedPacket) (a : Answer) → ((e : Epoch) → IsAt k e → Answers e p a × IsAt new (after e p)) → Admits k new p a
 admits k new p a f before h =
     let x = f (epoch_of before) h in
     (x.0, subst (IsAt new) (sym (epoch_of-push before p)) x.1)
 
-pub none_of : (o : Option (Bor Packet)) → is_some o ≡ false → option_copied o ≡ None
+pub none_there : {X : Type 0} (o : Option X) → is_some o ≡ false → o ≡ None
+none_there None h = refl
+none_there (Some x) h = cc
+
+pub none_of : (o : Option (Bor NumberedPacket)) → is_some o ≡ false → option_copied o ≡ None
 none_of None h = refl
 none_of (Some p) h = cc
 
-pub some_copied : (o : Option (Bor Packet)) → is_some (option_copied o) ≡ is_some o
+pub some_copied : (o : Option (Bor NumberedPacket)) → is_some (option_copied o) ≡ is_some o
 some_copied None = refl
 some_copied (Some p) = refl
 
--- the answer to a packet whose number is taken already
-pub nothing_new : (k : Kept) (e : Epoch) (p : Packet) (r : Prepared) (walk : Walk) → IsAt k e
-    → Tied (held k.cells None) (frames_of e) (opened e p) walk [] → walk.next ≤ p.number → is_some (held k.cells None p.number) ≡ true
-    → r.answer.place ≡ Duplicate → r.answer.frames.items ≡ [] → r.answer.nacks.items ≡ [] → r.answer.pli ≡ false
-    → Answers e p r.answer × IsAt (committed k r) (after e p)
-nothing_new k e p r walk h begun above there place frames nacks pli =
+pub place_duplicate : (k : Kept) (e : Epoch) (p : NumberedPacket) (walk : Walk)
+    → Tied (held k.cells None) (frames_of e) (opened e p) walk [] → walk.next ≤ p.number → is_some (held k.cells None p.number) ≡ true → place_of e p ≡ Duplicate
+place_duplicate k e p walk begun above there =
     let n = p.number in
     let some : is_some (packet_at e.taken n) ≡ true =
-    ap (λ (ps : List Packet). is_some (packet_at ps n)) (sym (opened-taken e.taken e.cut e.earlier p)) ∙ ap is_some (sym (begun.agrees n above)) ∙ there in
+    ap (λ (ps : List NumberedPacket). is_some (packet_at ps n)) (sym (opened-taken e.taken e.cut e.earlier p)) ∙ ap is_some (sym (begun.agrees n above)) ∙ there in
     let next : walk.next ≡ next_of (opened e p) = begun.stands.next in
-    let is : place_of e p ≡ Duplicate = place_by e p true (omega arith) some in
-    let stays : after e p ≡ e = ap (λ q. if_taken q (taking (resynced n (opened e p) n) p) e) is in
-    let left : committed k r ≡ k = ap (λ q. if_taken q (with_taken k r.walk r.packet) k) place in
-    (
+    place_by e p true (omega arith) some
+
+-- The packet is not taken.
+abbrev pub IsOther : Place → Type 0
+IsOther Taken = ⊥
+IsOther Late = Unit {0}
+IsOther Duplicate = Unit {0}
+
+not_taken : {X : Type 0} (q : Place) (x y : X) → IsOther q → if_taken q x y ≡ y
+not_taken Taken x y other = absurd other
+not_taken Late x y other = refl
+not_taken Duplicate x y other = refl
+
+-- the answer to a packet that changes nothing
+pub nothing_new : (k : Kept) (e : Epoch) (p : NumberedPacket) (r : PreparedOf) (q : Place) → IsOther q → place_of e p ≡ q → IsAt k e
+    → r.answer.place ≡ q → r.answer.frames ≡ [] → r.answer.nacks ≡ [] → r.answer.pli ≡ false
+    → Answers e p r.answer × IsAt (committed k r) (after e p)
+nothing_new k e p r q other is h place frames nacks pli =
+    let n = p.number in
+    let on = taking (resynced n (opened e p) n) p in
+    let missing = map ext_of (missing_above (top e.taken) (next_of (after e p)) n) in
+    let far = nat_le (next_of (opened e p) + 256) n in
+    let stays : after e p ≡ e = ap (λ z. if_taken z on e) is ∙ not_taken q on e other in
+    let left : committed k r ≡ k = ap (λ z. if_taken z (with_taken k r.walk r.packet) k) place ∙ not_taken q (with_taken k r.walk r.packet) k other in (
       record {
         place = place ∙ sym is;
-        frames = ap frames_of stays ∙ sym (append-nil (frames_of e)) ∙ ap (λ fs. frames_of e ++ packets_of fs) (sym frames);
-        nacks = nacks ∙ sym (ap (λ q. if_taken q (missing_above (top e.taken) (next_of (after e p)) n) []) is);
-        pli = pli ∙ sym (ap (λ q. if_taken q (nat_le (next_of (opened e p) + 256) n) false) is);
+        frames = ap frames_of stays ∙ sym (append-nil (frames_of e)) ∙ ap (λ (fs : List WholeFrame). frames_of e ++ fs) (sym frames);
+        nacks = nacks ∙ sym (ap (λ z. if_taken z missing []) is ∙ not_taken q missing [] other);
+        pli = pli ∙ sym (ap (λ z. if_taken z far false) is ∙ not_taken q far false other);
       },
-      subst (IsAt (committed k r)) (sym stays) (subst (λ x. IsAt x e) (sym left) h)
+      subst (IsAt (committed k r)) (sym stays) (subst (λ x. IsAt x e) (sym left) h),
     )

@@ -1,18 +1,17 @@
 -- A packet that has just come, and then lies in its cell.
-use Rattle.std.proofs.Common.{◌≡◌, ℕ, zero, suc, ◌+◌, ◌-◌, ◌%◌, ◌<◌, ◌≤◌, Bool, true, false, cond, nat_eq, List, [], ◌∷◌, ◌++◌, length, set, get_or, Option, None, Some, refl, sym, ap, ◌∙◌, arith, subst, ◌⊎◌, inl, inr, get_or-set_same, get_or-set_other, ◌≢◌, replicate}
+use Rattle.std.proofs.Common.{◌≡◌, ℕ, zero, suc, ◌+◌, ◌%◌, ◌<◌, ◌≤◌, true, false, cond, nat_eq, List, [], ◌∷◌, ◌++◌, length, set, get_or, Option, None, Some, refl, sym, ap, ◌∙◌, arith, ◌⊎◌, inl, inr, get_or-set_same, get_or-set_other, ◌≢◌, replicate}
 use Rattle.std.specs.Option.{option_or}
-use Rattle.std.proofs.lemmas.Bool.{cases_lt}
 use Rattle.std.proofs.lemmas.Bool.Decides.{nat_tests}
-use Rattle.frame_gate.specs.declared.packet.Packet.{Packet}
-use Rattle.frame_gate.specs.Cells.{held, of_number}
+use Rattle.frame_gate.specs.Packets.{NumberedPacket}
+use Rattle.frame_gate.specs.inner.Cells.{held, of_number}
 use Rattle.frame_gate.specs.Epochs.{packet_at}
 use Rattle.frame_gate.proofs.Taken.{found-push, none-push}
 
 eq_cases : (m n : ℕ) → (m ≡ n) ⊎ (m ≢ n)
 eq_cases m n = elim (nat_eq m n) as (λ b. nat_eq m n ≡ b → (m ≡ n) ⊎ (m ≢ n)) [
-    | true ↦ λ is. (let e : m ≡ n = grind (arith, nat_tests) in inl e)
-    | false ↦ λ is. inr (λ same. (let e : nat_eq m n ≡ true = grind (arith, nat_tests) in let x : false ≡ true = sym is ∙ e in cc))
-  ] refl
+  | true ↦ λ is. (let e : m ≡ n = grind (arith, nat_tests) in inl e)
+  | false ↦ λ is. inr (λ same. (let e : nat_eq m n ≡ true = grind (arith, nat_tests) in let x : false ≡ true = sym is ∙ e in cc))
+] refl
 
 eq_yes : (m n : ℕ) → m ≡ n → nat_eq m n ≡ true
 eq_yes m n h = grind (arith, nat_tests)
@@ -21,37 +20,37 @@ eq_no : (m n : ℕ) → m ≢ n → nat_eq m n ≡ false
 eq_no m n h = grind (arith, nat_tests)
 
 -- another number's packet is what it was
-other-push : (ps : List Packet) (p : Packet) (k : ℕ) → p.number ≢ k → packet_at ps k ≡ packet_at (ps ++ p ∷ []) k
+other-push : (ps : List NumberedPacket) (p : NumberedPacket) (k : ℕ) → p.number ≢ k → packet_at ps k ≡ packet_at (ps ++ p ∷ []) k
 other-push ps p k other = by (packet_at ps k) refl
   where
-    by : (o : Option Packet) → packet_at ps k ≡ o → packet_at ps k ≡ packet_at (ps ++ p ∷ []) k
+    by : (o : Option NumberedPacket) → packet_at ps k ≡ o → packet_at ps k ≡ packet_at (ps ++ p ∷ []) k
     by None h = h ∙ sym (none-push ps p k h ∙ ap (λ b. cond b (Some p) None) (eq_no p.number k other))
     by (Some q) h = h ∙ sym (found-push ps p k q h)
 
 -- this number's packet is the new one
-this-push : (ps : List Packet) (p : Packet) (k : ℕ) → p.number ≡ k → packet_at ps k ≡ None → packet_at (ps ++ p ∷ []) k ≡ Some p
+this-push : (ps : List NumberedPacket) (p : NumberedPacket) (k : ℕ) → p.number ≡ k → packet_at ps k ≡ None → packet_at (ps ++ p ∷ []) k ≡ Some p
 this-push ps p k same none = none-push ps p k none ∙ ap (λ b. cond b (Some p) None) (eq_yes p.number k same)
 
 -- what is held with the newcomer is what was taken with it
-pub newcomer : (cells : List (Option Packet)) (ps : List Packet) (p : Packet) (k : ℕ)
+pub newcomer : (cells : List (Option NumberedPacket)) (ps : List NumberedPacket) (p : NumberedPacket) (k : ℕ)
     → packet_at ps p.number ≡ None → held cells None k ≡ packet_at ps k → held cells (Some p) k ≡ packet_at (ps ++ p ∷ []) k
 newcomer cells ps p k none agrees = elim (eq_cases p.number k) [
-    | inl same ↦
+  | inl same ↦
       ap (λ b. option_or (cond b (Some p) None) (held cells None k)) (eq_yes p.number k same)
       ∙ sym (this-push ps p k same (ap (packet_at ps) (sym same) ∙ none))
-    | inr other ↦
+  | inr other ↦
       ap (λ b. option_or (cond b (Some p) None) (held cells None k)) (eq_no p.number k other)
       ∙ agrees
       ∙ other-push ps p k other
-  ]
+]
 
 -- and so it is when the packet lies in its cell
-pub kept : (cells : List (Option Packet)) (ps : List Packet) (p : Packet) (next k : ℕ) → length cells ≡ 256
+pub kept : (cells : List (Option NumberedPacket)) (ps : List NumberedPacket) (p : NumberedPacket) (next k : ℕ) → length cells ≡ 256
     → next ≤ p.number → p.number < next + 256 → next ≤ k
     → packet_at ps p.number ≡ None → held cells None k ≡ packet_at ps k → ((n : ℕ) → next + 256 ≤ n → packet_at ps n ≡ None)
     → held (set cells (p.number % 256) (Some p)) None k ≡ packet_at (ps ++ p ∷ []) k
 kept cells ps p next k long above below from none agrees room = elim (eq_cases (k % 256) (p.number % 256)) [
-    | inl cell ↦
+  | inl cell ↦
       let lt : p.number % 256 < length cells = omega arith in
       let there : get_or (set cells (p.number % 256) (Some p)) (k % 256) None ≡ Some p =
       ap (λ i. get_or (set cells (p.number % 256) (Some p)) i None) cell ∙ get_or-set_same cells (p.number % 256) (Some p) None lt in
@@ -59,19 +58,19 @@ kept cells ps p next k long above below from none agrees room = elim (eq_cases (
       ∙ (elim (eq_cases p.number k) [
         | inl same ↦ ap (λ b. cond b (Some p) None) (eq_yes p.number k same) ∙ sym (this-push ps p k same (ap (packet_at ps) (sym same) ∙ none))
         | inr other ↦
-          let far : next + 256 ≤ k = apart p.number k next above below from other (sym cell) in
-          ap (λ b. cond b (Some p) None) (eq_no p.number k other) ∙ sym (room k far) ∙ other-push ps p k other
+            let far : next + 256 ≤ k = apart p.number k next above below from other (sym cell) in
+            ap (λ b. cond b (Some p) None) (eq_no p.number k other) ∙ sym (room k far) ∙ other-push ps p k other
       ])
-    | inr cell ↦
+  | inr cell ↦
       ap (λ o. of_number o k) (get_or-set_other cells (p.number % 256) (k % 256) (Some p) None cell)
       ∙ agrees
       ∙ other-push ps p k (λ same. cell (sym (ap (λ n. n % 256) same)))
-  ]
+]
   where
     apart : (n k next : ℕ) → next ≤ n → n < next + 256 → next ≤ k → n ≢ k → n % 256 ≡ k % 256 → next + 256 ≤ k
     apart n k next above below from other same = omega arith
 
-abbrev nothing : ℕ → List (Option Packet)
+abbrev nothing : ℕ → List (Option NumberedPacket)
 nothing m = replicate m None
 
 get_or-nothing : (m i : ℕ) → get_or (nothing m) i None ≡ None
@@ -79,5 +78,5 @@ get_or-nothing zero i = refl
 get_or-nothing (suc m) zero = refl
 get_or-nothing (suc m) (suc i) = get_or-nothing m i
 
-pub nothing_held : (m : ℕ) (cells : List (Option Packet)) (n : ℕ) → cells ≡ replicate m None → held cells None n ≡ None
-nothing_held m cells n h = ap (λ (cs : List (Option Packet)). of_number (get_or cs (n % 256) None) n) h ∙ ap (λ o. of_number o n) (get_or-nothing m (n % 256))
+pub nothing_held : (m : ℕ) (cells : List (Option NumberedPacket)) (n : ℕ) → cells ≡ replicate m None → held cells None n ≡ None
+nothing_held m cells n h = ap (λ (cs : List (Option NumberedPacket)). of_number (get_or cs (n % 256) None) n) h ∙ ap (λ o. of_number o n) (get_or-nothing m (n % 256))

@@ -1,19 +1,21 @@
 //! The room of a gate: each packet lies in the cell of its number modulo the room, and keeps its number.
 
-ghost use Rattle.std.specs.Prelude.{◌≡◌, ℕ, ◌+◌, ◌-◌, ◌<◌, ◌≤◌, ◌^◌, length, IfOk, OnOk, IsSome, List, ◌++◌, None, vec_len};
+ghost use Rattle.std.specs.Prelude.{◌≡◌, ℕ, ◌+◌, ◌-◌, ◌<◌, ◌≤◌, ◌^◌, length, IfOk, OnOk, IsSome, List, ◌++◌, None, vec_len, map, false};
 ghost use Rattle.std.specs.Option.{option_to_list, option_copied};
 ghost use Rattle.frame_gate.specs.Runs.{full, IsRow};
-ghost use Rattle.frame_gate.specs.Cells.{held};
-ghost use Rattle.frame_gate.specs.declared.packet.Packet.{Packet as AnyPacket};
+ghost use Rattle.frame_gate.specs.inner.Cells.{held};
+ghost use Rattle.frame_gate.specs.Packets.{NumberedPacket, frame_packet};
+ghost use Rattle.frame_gate.specs.Frame.{has_bad_kind};
 
-use crate::packet::Packet;
-use std::alloc::{AllocError, Global};
+use crate::frame::FramePacket;
+use crate::held::Held;
+use std::alloc::{AllocError, Allocator};
 
 /// How many numbers from the first undecided one on a gate has room for.
 pub const ROOM: u64 = 256;
 
 /// Cells that hold nothing.
-pub fn empty_cells(alloc: Global) -> Result<Vec<Option<Packet>>, AllocError>
+pub fn empty_cells<A: Allocator + Copy>(alloc: A) -> Result<Vec<Option<Held<A>>, A>, AllocError>
     ensures len { IfOk result (λ cells. vec_len cells ≡ 256) }
     ensures empty { IfOk result (λ cells. (n : ℕ) → held cells.items None n ≡ None) }
 {
@@ -25,11 +27,11 @@ pub fn empty_cells(alloc: Global) -> Result<Vec<Option<Packet>>, AllocError>
 }
 
 /// The packet of this number that is held, or has just come.
-pub fn find_held<'a>(
-    cells: &'a [Option<Packet>],
-    newcomer: Option<&'a Packet>,
+pub fn find_held<'a, A: Allocator + Copy>(
+    cells: &'a [Option<Held<A>>],
+    newcomer: Option<&'a Held<A>>,
     number: u64,
-) -> Option<&'a Packet>
+) -> Option<&'a Held<A>>
     requires { length cells.now ≡ 256 }
     ensures { option_copied result ≡ held cells.now (option_copied newcomer.entry) number }
 {
@@ -47,27 +49,32 @@ pub fn find_held<'a>(
 }
 
 /// Keeps the packet, where there is one and it isn't empty.
-fn keep(out: &mut Vec<Packet>, found: Option<&Packet>) -> Result<(), AllocError>
-    ensures { OnOk result (out.new.items ≡ out.old.items ++ full (option_to_list (option_copied found.entry))) }
+fn keep<A: Allocator + Copy>(
+    out: &mut Vec<FramePacket<A>, A>,
+    found: Option<&Held<A>>,
+) -> Result<(), AllocError>
+    ensures items { OnOk result (out.new.items ≡ out.old.items ++ map frame_packet (full (option_to_list (option_copied found.entry)))) }
+    ensures kinds { OnOk result (has_bad_kind out.old.items ≡ false → has_bad_kind out.new.items ≡ false) }
 {
     if let Some(packet) = found {
-        if !packet.empty {
-            out.push(packet.copy()?)?;
+        if !packet.is_empty() {
+            out.push(packet.frame_packet()?)?;
         }
     }
     Ok(())
 }
 
-/// The non-empty packets from one number to before another.
-pub fn piece(
-    alloc: Global,
-    cells: &[Option<Packet>],
-    newcomer: Option<&Packet>,
+/// The non-empty packets, as a frame has them, from one number to before another.
+pub fn piece<A: Allocator + Copy>(
+    alloc: A,
+    cells: &[Option<Held<A>>],
+    newcomer: Option<&Held<A>>,
     from: u64,
     to: u64,
-) -> Result<Vec<Packet>, AllocError>
+) -> Result<Vec<FramePacket<A>, A>, AllocError>
     requires { length cells.now ≡ 256 }
-    ensures { IfOk result (λ out. (packets : List AnyPacket) → IsRow (held cells.now (option_copied newcomer.entry)) from packets → to ≡ from + length packets → out.items ≡ full packets) }
+    ensures kinds { IfOk result (λ out. has_bad_kind out.items ≡ false) }
+    ensures items { IfOk result (λ out. (packets : List NumberedPacket) → IsRow (held cells.now (option_copied newcomer.entry)) from packets → to ≡ from + length packets → out.items ≡ map frame_packet (full packets)) }
 {
     let mut out = Vec::new(alloc);
     for number in from..to {
@@ -77,11 +84,12 @@ pub fn piece(
 }
 
 /// The least number from `from` on that is held, or `number` where there is none below it.
-pub fn least_held(cells: &[Option<Packet>], from: u64, number: u64) -> u64
+pub fn least_held<A: Allocator + Copy>(cells: &[Option<Held<A>>], from: u64, number: u64) -> u64
     requires cells { length cells.now ≡ 256 }
     requires far { from + 256 ≤ number }
     ensures bounds { (from ≤ result) × (result ≤ number) }
     ensures none { (n : ℕ) → from ≤ n → n < result → n < from + 256 → held cells.now None n ≡ None }
+    ensures near { result < number → result < from + 256 }
     ensures some { result < number → IsSome (held cells.now None result) }
 {
     for n in from..from + ROOM {

@@ -1,29 +1,29 @@
 //! Where reassembly starts afresh.
 
 ghost use Rattle.std.specs.Prelude.{◌≡◌, ℕ, ◌+◌, ◌<◌, ◌≤◌, ◌^◌, length, IfOk, List, None};
-ghost use Rattle.frame_gate.specs.Cells.{held};
-ghost use Rattle.frame_gate.specs.Walks.{packets_of};
+ghost use Rattle.frame_gate.specs.inner.Cells.{held};
 ghost use Rattle.frame_gate.specs.Epochs.{Epoch, placed, resynced};
-ghost use Rattle.frame_gate.specs.Ties.{Tied};
-ghost use Rattle.frame_gate.specs.declared.packet.Packet.{Packet as AnyPacket};
+ghost use Rattle.frame_gate.specs.inner.Ties.{Tied};
+ghost use Rattle.frame_gate.specs.Frame.{WholeFrame};
 
-use crate::cells::{least_held, ROOM};
-use crate::packet::{Frame, Packet};
-use crate::walk::{drain, Walk};
-use std::alloc::{AllocError, Global};
+use crate::cells::{ROOM, least_held};
+use crate::frame::Frame;
+use crate::held::Held;
+use crate::walk::{Walk, drain};
+use std::alloc::{AllocError, Allocator};
 
 /// Places one cut.
-fn cut(
-    alloc: Global,
-    cells: &[Option<Packet>],
+fn cut<A: Allocator + Copy>(
+    alloc: A,
+    cells: &[Option<Held<A>>],
     walk: Walk,
     number: u64,
-    frames: &mut Vec<Frame>,
+    frames: &mut Vec<Frame<A>, A>,
 ) -> Result<Walk, AllocError>
     requires cells { length cells.now ≡ 256 }
-    requires number { number ≤ 2 ^ 62 }
+    requires number { number ≤ 2 ^ 63 }
     requires far { walk.next + 256 ≤ number }
-    ensures tied { IfOk result (λ w. (given : List (List AnyPacket)) (e : Epoch) → Tied (held cells.now None) given e walk (packets_of frames.old.items) → Tied (held cells.now None) given (placed e number) w (packets_of frames.new.items)) }
+    ensures tied { IfOk result (λ w. (given : List WholeFrame) (e : Epoch) → Tied (held cells.now None) given e walk frames.old.items → Tied (held cells.now None) given (placed e number) w frames.new.items) }
     ensures next { IfOk result (λ w. (walk.next < w.next) × (w.next ≤ w.after) × (w.after ≤ number)) }
 {
     let place = least_held(cells, walk.next, number);
@@ -33,21 +33,21 @@ fn cut(
         first: true,
         stamp: None,
     };
-    drain(alloc, cells, None, begun, number, frames)
+    drain(alloc, cells, None, begun, walk.next + ROOM, frames)
 }
 
 /// Places cuts until there is room for the number.
-pub fn resync(
-    alloc: Global,
-    cells: &[Option<Packet>],
+pub fn resync<A: Allocator + Copy>(
+    alloc: A,
+    cells: &[Option<Held<A>>],
     from: Walk,
     number: u64,
-    frames: &mut Vec<Frame>,
+    frames: &mut Vec<Frame<A>, A>,
 ) -> Result<Walk, AllocError>
     requires cells { length cells.now ≡ 256 }
-    requires number { number ≤ 2 ^ 62 }
+    requires number { number ≤ 2 ^ 63 }
     requires ordered { (from.next ≤ from.after) × (from.next ≤ number) }
-    ensures tied { IfOk result (λ w. (given : List (List AnyPacket)) (e : Epoch) (most : ℕ) → Tied (held cells.now None) given e from (packets_of frames.old.items) → number < from.next + 256 + most → Tied (held cells.now None) given (resynced most e number) w (packets_of frames.new.items)) }
+    ensures tied { IfOk result (λ w. (given : List WholeFrame) (e : Epoch) (most : ℕ) → Tied (held cells.now None) given e from frames.old.items → number < from.next + 256 + most → Tied (held cells.now None) given (resynced most e number) w frames.new.items) }
     ensures next { IfOk result (λ w. (from.next ≤ w.next) × (w.next ≤ w.after) × (w.next ≤ number)) }
     ensures room { IfOk result (λ w. number < w.next + 256) }
 {

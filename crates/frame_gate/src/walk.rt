@@ -1,18 +1,20 @@
 //! How far a gate has come along the run.
 
 ghost use Rattle.std.specs.Prelude.{◌≡◌, ℕ, ◌+◌, ◌-◌, ◌<◌, ◌≤◌, ◌^◌, length, IfOk, List, Option, Some, None, true, IsSome};
-ghost use Rattle.frame_gate.specs.Runs.{Divided as AnyDivided, closes, joins, parted, ended, with_packet, differs, row, divide_on};
+ghost use Rattle.frame_gate.specs.Runs.{Divided as AnyDivided, closes, parted, ended, with_packet, row, divide_on, is_full};
 ghost use Rattle.std.specs.Option.{option_copied};
-ghost use Rattle.frame_gate.specs.Cells.{held};
-ghost use Rattle.frame_gate.specs.declared.packet.Packet.{Packet as AnyPacket};
-ghost use Rattle.frame_gate.specs.Walks.{Stands, tells_apart_at, packets_of, closed_at, joined_at};
+ghost use Rattle.frame_gate.specs.inner.Cells.{held};
+ghost use Rattle.frame_gate.specs.Packets.{NumberedPacket};
+ghost use Rattle.frame_gate.specs.Frame.{WholeFrame};
+ghost use Rattle.frame_gate.specs.inner.Walks.{Stands, tells_apart_at, closed_at, joined_at, GoesOn, MayEnd};
 
 use crate::cells::{find_held, piece};
-use crate::packet::{Frame, Packet};
-use std::alloc::{AllocError, Global};
+use crate::frame::Frame;
+use crate::held::Held;
+use std::alloc::{AllocError, Allocator};
 
 /// How far the run was followed from the last cut.
-#[derive(Clone, Copy, Debug)]
+#[derive(Clone, Copy)]
 pub struct Walk {
     /// Every number below is decided.
     pub next: u64,
@@ -24,34 +26,33 @@ pub struct Walk {
     pub stamp: Option<u32>,
 }
 
-/// Whether the packet begins a piece by its timestamp.
-fn tells_apart(stamp: Option<u32>, packet: &Packet) -> bool
-    ensures { result ≡ tells_apart_at stamp packet.now }
+/// Whether the packet begins a piece behind packets of this timestamp.
+fn tells_apart<A: Allocator + Copy>(ts: u32, packet: &Held<A>) -> bool
+    ensures { result ≡ tells_apart_at (Some ts) packet.now }
 {
-    if packet.empty {
-        return false;
-    }
-    match stamp {
-        Some(ts) => ts != packet.ts,
-        None => false,
-    }
+    !packet.is_empty() && ts != packet.ts
 }
 
-/// Divides the run after what was followed; the piece is a frame, unless it is the first.
-fn close(
-    alloc: Global,
-    cells: &[Option<Packet>],
-    newcomer: Option<&Packet>,
+/// Divides the run after what was followed; the piece, of this timestamp, is a frame, unless it is the first.
+fn close<A: Allocator + Copy>(
+    alloc: A,
+    cells: &[Option<Held<A>>],
+    newcomer: Option<&Held<A>>,
     walk: Walk,
-    frames: &mut Vec<Frame>,
+    ts: u32,
+    frames: &mut Vec<Frame<A>, A>,
 ) -> Result<Walk, AllocError>
-    requires { length cells.now ≡ 256 }
-    ensures stands { IfOk result (λ w. (cut : ℕ) (given earlier : List (List AnyPacket)) (d : AnyDivided) → Stands (held cells.now (option_copied newcomer.entry)) cut given earlier d walk (packets_of frames.old.items) → Stands (held cells.now (option_copied newcomer.entry)) cut given earlier (closes d) w (packets_of frames.new.items)) }
+    requires cells { length cells.now ≡ 256 }
+    requires few { walk.after ≤ walk.next + 256 }
+    requires stamp { walk.stamp ≡ Some ts }
+    ensures stands { IfOk result (λ w. (cut : ℕ) (given earlier : List WholeFrame) (d : AnyDivided) → Stands (held cells.now (option_copied newcomer.entry)) cut given earlier d walk frames.old.items → MayEnd d.unclosed → Stands (held cells.now (option_copied newcomer.entry)) cut given earlier (closes d) w frames.new.items) }
     ensures walk { IfOk result (λ w. w ≡ closed_at walk) }
 {
     if !walk.first {
         let packets = piece(alloc, cells, newcomer, walk.next, walk.after)?;
-        frames.push(Frame { packets })?;
+        if let Ok(frame) = Frame::new(ts, packets) {
+            frames.push(frame)?;
+        }
     }
     Ok(Walk {
         next: walk.after,
@@ -62,15 +63,19 @@ fn close(
 }
 
 /// One more packet of the unclosed piece.
-fn join(walk: Walk, packet: &Packet) -> Walk
-    requires { walk.after < 2 ^ 62 }
+fn join<A: Allocator + Copy>(walk: Walk, packet: &Held<A>) -> Walk
+    requires { walk.after < 2 ^ 63 + 256 }
     ensures { result ≡ joined_at walk packet.now }
 {
     Walk {
-        next: if walk.first { walk.after + 1 } else { walk.next },
+        next: if walk.first {
+            walk.after + 1
+        } else {
+            walk.next
+        },
         after: walk.after + 1,
         first: walk.first,
-        stamp: if packet.empty {
+        stamp: if packet.is_empty() {
             walk.stamp
         } else {
             Some(packet.ts)
@@ -79,60 +84,66 @@ fn join(walk: Walk, packet: &Packet) -> Walk
 }
 
 /// Divides before the packet, where its timestamp tells it apart from the unclosed piece.
-fn part(
-    alloc: Global,
-    cells: &[Option<Packet>],
-    newcomer: Option<&Packet>,
+fn part<A: Allocator + Copy>(
+    alloc: A,
+    cells: &[Option<Held<A>>],
+    newcomer: Option<&Held<A>>,
     walk: Walk,
-    packet: &Packet,
-    frames: &mut Vec<Frame>,
+    packet: &Held<A>,
+    frames: &mut Vec<Frame<A>, A>,
 ) -> Result<Walk, AllocError>
-    requires { length cells.now ≡ 256 }
-    ensures stands { IfOk result (λ w. (cut : ℕ) (given earlier : List (List AnyPacket)) (d : AnyDivided) → Stands (held cells.now (option_copied newcomer.entry)) cut given earlier d walk (packets_of frames.old.items) → Stands (held cells.now (option_copied newcomer.entry)) cut given earlier (parted d packet.now) w (packets_of frames.new.items)) }
+    requires cells { length cells.now ≡ 256 }
+    requires few { walk.after ≤ walk.next + 256 }
+    ensures stands { IfOk result (λ w. (cut : ℕ) (given earlier : List WholeFrame) (d : AnyDivided) → Stands (held cells.now (option_copied newcomer.entry)) cut given earlier d walk frames.old.items → MayEnd d.unclosed → Stands (held cells.now (option_copied newcomer.entry)) cut given earlier (parted d packet.now) w frames.new.items) }
     ensures after { IfOk result (λ w. w.after ≡ walk.after) }
     ensures next { IfOk result (λ w. walk.next ≤ walk.after → (walk.next ≤ w.next) × (w.next ≤ w.after)) }
     ensures fresh { IfOk result (λ w. walk.first ≡ true → walk.stamp ≡ None → w ≡ walk) }
 {
-    if tells_apart(walk.stamp, packet) {
-        close(alloc, cells, newcomer, walk, frames)
-    } else {
-        Ok(walk)
+    if let Some(ts) = walk.stamp {
+        if tells_apart(ts, packet) {
+            return close(alloc, cells, newcomer, walk, ts, frames);
+        }
     }
+    Ok(walk)
 }
 
 /// Divides after the packet, where it ends a piece.
-fn end(
-    alloc: Global,
-    cells: &[Option<Packet>],
-    newcomer: Option<&Packet>,
+fn end<A: Allocator + Copy>(
+    alloc: A,
+    cells: &[Option<Held<A>>],
+    newcomer: Option<&Held<A>>,
     walk: Walk,
-    packet: &Packet,
-    frames: &mut Vec<Frame>,
+    packet: &Held<A>,
+    frames: &mut Vec<Frame<A>, A>,
 ) -> Result<Walk, AllocError>
-    requires { length cells.now ≡ 256 }
-    ensures stands { IfOk result (λ w. (cut : ℕ) (given earlier : List (List AnyPacket)) (d : AnyDivided) → Stands (held cells.now (option_copied newcomer.entry)) cut given earlier d walk (packets_of frames.old.items) → Stands (held cells.now (option_copied newcomer.entry)) cut given earlier (ended d packet.now) w (packets_of frames.new.items)) }
+    requires cells { length cells.now ≡ 256 }
+    requires few { walk.after ≤ walk.next + 256 }
+    requires stamp { is_full packet.now ≡ true → walk.stamp ≡ Some packet.now.ts }
+    ensures stands { IfOk result (λ w. (cut : ℕ) (given earlier : List WholeFrame) (d : AnyDivided) → Stands (held cells.now (option_copied newcomer.entry)) cut given earlier d walk frames.old.items → MayEnd d.unclosed → Stands (held cells.now (option_copied newcomer.entry)) cut given earlier (ended d packet.now) w frames.new.items) }
     ensures after { IfOk result (λ w. w.after ≡ walk.after) }
     ensures next { IfOk result (λ w. walk.next ≤ walk.after → (walk.next ≤ w.next) × (w.next ≤ w.after)) }
 {
-    if !packet.empty && packet.marker {
-        close(alloc, cells, newcomer, walk, frames)
+    if !packet.is_empty() && packet.marker {
+        close(alloc, cells, newcomer, walk, packet.ts, frames)
     } else {
         Ok(walk)
     }
 }
 
 /// One packet more of the run.
-fn follow(
-    alloc: Global,
-    cells: &[Option<Packet>],
-    newcomer: Option<&Packet>,
+fn follow<A: Allocator + Copy>(
+    alloc: A,
+    cells: &[Option<Held<A>>],
+    newcomer: Option<&Held<A>>,
     walk: Walk,
-    packet: &Packet,
-    frames: &mut Vec<Frame>,
+    packet: &Held<A>,
+    frames: &mut Vec<Frame<A>, A>,
 ) -> Result<Walk, AllocError>
     requires cells { length cells.now ≡ 256 }
-    requires after { walk.after < 2 ^ 62 }
-    ensures stands { IfOk result (λ w. (cut : ℕ) (given earlier : List (List AnyPacket)) (d : AnyDivided) → Stands (held cells.now (option_copied newcomer.entry)) cut given earlier d walk (packets_of frames.old.items) → held cells.now (option_copied newcomer.entry) walk.after ≡ Some packet.now → Stands (held cells.now (option_copied newcomer.entry)) cut given earlier (with_packet d packet.now) w (packets_of frames.new.items)) }
+    requires after { walk.after < 2 ^ 63 + 256 }
+    requires ordered { walk.next ≤ walk.after }
+    requires few { walk.after < walk.next + 256 }
+    ensures stands { IfOk result (λ w. (cut : ℕ) (given earlier : List WholeFrame) (d : AnyDivided) → Stands (held cells.now (option_copied newcomer.entry)) cut given earlier d walk frames.old.items → GoesOn d.unclosed → held cells.now (option_copied newcomer.entry) walk.after ≡ Some packet.now → Stands (held cells.now (option_copied newcomer.entry)) cut given earlier (with_packet d packet.now) w frames.new.items) }
     ensures after { IfOk result (λ w. w.after ≡ walk.after + 1) }
     ensures next { IfOk result (λ w. walk.next ≤ walk.after → (walk.next ≤ w.next) × (w.next ≤ w.after)) }
     ensures fresh { IfOk result (λ w. walk.first ≡ true → walk.stamp ≡ None → walk.after + 1 ≤ w.next) }
@@ -143,20 +154,21 @@ fn follow(
 }
 
 /// Follows the run as far as it goes below `to`.
-pub fn drain(
-    alloc: Global,
-    cells: &[Option<Packet>],
-    newcomer: Option<&Packet>,
+pub fn drain<'a, A: Allocator + Copy>(
+    alloc: A,
+    cells: &'a [Option<Held<A>>],
+    newcomer: Option<&'a Held<A>>,
     from: Walk,
     to: u64,
-    frames: &mut Vec<Frame>,
+    frames: &mut Vec<Frame<A>, A>,
 ) -> Result<Walk, AllocError>
     requires cells { length cells.now ≡ 256 }
-    requires to { to ≤ 2 ^ 62 }
+    requires to { to ≤ 2 ^ 63 + 256 }
     requires ordered { from.next ≤ from.after }
-    ensures stands { IfOk result (λ w. (cut : ℕ) (given earlier : List (List AnyPacket)) (d : AnyDivided) → Stands (held cells.now (option_copied newcomer.entry)) cut given earlier d from (packets_of frames.old.items) → Stands (held cells.now (option_copied newcomer.entry)) cut given earlier (divide_on d (row (held cells.now (option_copied newcomer.entry)) from.after (to - from.after))) w (packets_of frames.new.items)) }
+    requires few { to ≤ from.next + 256 }
+    ensures stands { IfOk result (λ w. (cut : ℕ) (given earlier : List WholeFrame) (d : AnyDivided) → Stands (held cells.now (option_copied newcomer.entry)) cut given earlier d from frames.old.items → GoesOn d.unclosed → Stands (held cells.now (option_copied newcomer.entry)) cut given earlier (divide_on d (row (held cells.now (option_copied newcomer.entry)) from.after (to - from.after))) w frames.new.items) }
     ensures next { IfOk result (λ w. (from.next ≤ w.next) × (w.next ≤ w.after)) }
-    ensures after { IfOk result (λ w. (from.after ≤ to → w.after ≤ to) × (from.after ≤ w.after)) }
+    ensures after { IfOk result (λ w. (from.after ≤ to → w.after ≤ to) × (from.after ≤ w.after) × (to < from.after → w.after ≡ from.after)) }
     ensures fresh { IfOk result (λ w. from.first ≡ true → from.stamp ≡ None → from.after < to → IsSome (held cells.now (option_copied newcomer.entry) from.after) → from.after + 1 ≤ w.next) }
 {
     let mut walk = from;

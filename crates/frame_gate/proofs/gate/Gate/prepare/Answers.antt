@@ -1,53 +1,13 @@
-use Rattle.std.proofs.Common.{◌≡◌, ℕ, ◌%◌, [], List, Option, None, Some, set, sym, ap, ◌∙◌, subst}
-use Rattle.frame_gate.specs.declared.packet.Packet.{Packet}
-use Rattle.std.specs.Prelude.{is_some}
-use Rattle.frame_gate.specs.Kept.{Kept}
-use Rattle.frame_gate.specs.Cells.{held}
-use Rattle.frame_gate.specs.Walks.{packets_of}
-use Rattle.frame_gate.specs.Epochs.{frames_of, opened, taking, resynced, top, missing_above}
-use Rattle.frame_gate.specs.Ties.{Tied}
-use Rattle.frame_gate.specs.Admits.{committed}
-use Rattle.frame_gate.proofs.Results.{if_ok_five}
-use Rattle.frame_gate.proofs.Answered.{admits, something_new, opened-taken, none_of, some_copied, nothing_new}
+use Rattle.std.proofs.Common.{◌≡◌, ℤ, arith, ap, ◌∙◌, subst, to_z, of_z, w64}
+use Rattle.std.specs.Prelude.{IfOk}
+use Rattle.std.proofs.lemmas.Int.{to_z-of_z}
+use Rattle.frame_gate.specs.Packets.{NumberedPacket, numbered}
+use Rattle.frame_gate.specs.Admits.{Admits, committed}
 use Rattle.frame_gate.proofs.gate.Gate.prepare.Goals as goal
 
 pub returns : goal.returns
-returns c =
+returns g c =
     let k = c.args.self.now in
-    let p = c.args.packet in
-    let n = p.number in
-    let walk = c.opened-walk.result in
-    let seen = ap (λ (x : Kept). x.cells) c.self.view_is in
-    let first : c.deref.result.now ≡ k.cells = c.deref.ensures.value ∙ seen in
-    let second : c.deref-2.result.now ≡ k.cells = c.deref-2.ensures.value ∙ seen in
-    let most : c.self.inside.greatest ≡ k.greatest = ap (λ (x : Kept). x.greatest) c.self.view_is in
-    let new : held k.cells None n ≡ None =
-    sym (ap (λ (cs : List (Option Packet)). held cs None n) first) ∙ sym c.find_held.ensures ∙ none_of c.find_held.result (sym c.is_some.ensures ∙ c.if-is_some.false) in
-    if_ok_five c.take.result _ _ _ _ _ _
-    (λ r tied nacks pli place packet.
-     admits k (committed k r) p r.answer
-     (λ e h.
-      let begun = c.opened-walk.ensures.tied e h in
-      let there = subst (λ (cs : List (Option Packet)). Tied (held cs None) (frames_of e) (opened e p) walk []) (sym second) begun in
-      let after = tied (frames_of e) (opened e p) there (most ∙ h.greatest ∙ ap top (sym (opened-taken e.taken e.cut e.earlier p))) in
-      something_new k e p r walk h begun c.if-packet-walk.false new
-      (subst (λ (cs : List (Option Packet)). Tied (held (set cs (n % 256) (Some p)) None) (frames_of e) (taking (resynced n (opened e p) n) p) r.walk (packets_of r.answer.frames.items)) second after)
-      (nacks ∙ ap (λ o. missing_above o r.walk.next n) most) pli place packet))
-    c.take.ensures.tied c.take.ensures.nacks c.take.ensures.pli c.take.ensures.place c.take.ensures.packet
-
-pub returns-then-is_some : goal.returns-then-is_some
-returns-then-is_some c =
-    let k = c.args.self.now in
-    let p = c.args.packet in
-    let n = p.number in
-    let r = c.unchanged-then-is_some.result in
-    let gives = c.unchanged-then-is_some.ensures in
-    let first : c.deref.result.now ≡ k.cells = c.deref.ensures.value ∙ ap (λ (x : Kept). x.cells) c.self.view_is in
-    let there =
-    sym (ap (λ (cs : List (Option Packet)). is_some (held cs None n)) first)
-    ∙ ap is_some (sym c.find_held.ensures)
-    ∙ some_copied c.find_held.result
-    ∙ sym c.is_some.ensures
-    ∙ c.if-is_some.true in
-    admits k (committed k r) p r.answer
-    (λ e h. nothing_new k e p r c.opened-walk.result h (c.opened-walk.ensures.tied e h) c.if-packet-walk.false there gives.place gives.frames gives.nacks gives.pli)
+    let same : to_z w64 (of_z w64 c.args.ext) ≡ c.args.ext = grind (arith, to_z-of_z) in
+    let is : c.new.result ≡ numbered c.args.ext c.args.packet = c.new.ensures ∙ ap (λ (ext : ℤ). numbered ext c.args.packet) same in
+    subst (λ (p : NumberedPacket). IfOk c.judge.result (λ r. Admits k (committed k r) p r.answer)) is c.judge.ensures

@@ -1,12 +1,13 @@
 -- How a gate stands to an epoch.
-use Rattle.std.specs.Prelude.{◌≡◌, ℕ, ◌+◌, ◌≤◌, true, List, Option, None, Some}
-use Rattle.frame_gate.specs.declared.packet.Packet.{Packet}
+use Rattle.std.specs.Prelude.{◌≡◌, ℕ, ◌+◌, ◌≤◌, true, List, Option, None}
+use Rattle.frame_gate.specs.Packets.{NumberedPacket}
+use Rattle.frame_gate.specs.Frame.{WholeFrame}
 use Rattle.frame_gate.specs.declared.walk.Walk.{Walk}
-use Rattle.frame_gate.specs.Walks.{Stands}
-use Rattle.frame_gate.specs.Epochs.{Epoch, pieces, frames_of, packet_at}
+use Rattle.frame_gate.specs.inner.Walks.{Stands}
+use Rattle.frame_gate.specs.Epochs.{Epoch, pieces, packet_at}
 
 -- The walk has come as far as the epoch's run goes, and `at` finds what was taken from next on, which lies in the room.
-pub record Tied (at : ℕ → Option Packet) (given : List (List Packet)) (e : Epoch) (w : Walk) (out : List (List Packet)) : Type 0 where
+pub record Tied (at : ℕ → Option NumberedPacket) (given : List WholeFrame) (e : Epoch) (w : Walk) (out : List WholeFrame) : Type 0 where
   pub stands : Stands at e.cut given e.earlier (pieces e) w out
   pub agrees : (n : ℕ) → w.next ≤ n → at n ≡ packet_at e.taken n
   pub room : (n : ℕ) → w.next + 256 ≤ n → packet_at e.taken n ≡ None

@@ -1,5 +1,5 @@
 -- Numbers that are missing.
-use Rattle.std.proofs.Common.{◌≡◌, ℕ, zero, suc, ◌+◌, ◌-◌, ◌<◌, ◌≤◌, Bool, true, false, cond, nat_le, max, List, [], ◌∷◌, ◌++◌, Option, None, Some, refl, sym, ap, ◌∙◌, arith}
+use Rattle.std.proofs.Common.{◌≡◌, ℕ, zero, suc, ◌+◌, ◌-◌, ◌<◌, ◌≤◌, true, false, cond, nat_le, max, List, [], ◌∷◌, Some, refl, sym, ap, ◌∙◌, arith}
 use Rattle.std.specs.Prelude.{filter}
 use Rattle.std.specs.List.{range_with_len}
 use Rattle.std.proofs.lemmas.Bool.Decides.{nat_tests}
@@ -20,17 +20,17 @@ filter-range next a zero = sym (between-none (max a next) (a + 0) (omega arith))
 filter-range next a (suc m) =
     elim (nat_le next a) as (λ b. nat_le next a ≡ b → cond b (a ∷ filter (λ k. nat_le next k) (range_with_len (a + 1) m)) (filter (λ k. nat_le next k) (range_with_len (a + 1) m)) ≡ between (max a next) (a + suc m)) [
       | true ↦ λ is.
-        let le : next ≤ a = grind (arith, nat_tests) in
-        let e : max a next ≡ a = omega arith in
-        let f : max (a + 1) next ≡ a + 1 = omega arith in
-        let g : a + 1 + m ≡ a + suc m = omega arith in
-        ap (λ (xs : List ℕ). a ∷ xs) (filter-range next (a + 1) m ∙ ap (λ k. between k (a + 1 + m)) f ∙ ap (between (a + 1)) g)
-        ∙ sym (ap (λ k. between k (a + suc m)) e ∙ between-more a (a + suc m) (omega arith))
+          let le : next ≤ a = grind (arith, nat_tests) in
+          let e : max a next ≡ a = omega arith in
+          let f : max (a + 1) next ≡ a + 1 = omega arith in
+          let g : a + 1 + m ≡ a + suc m = omega arith in
+          ap (λ (xs : List ℕ). a ∷ xs) (filter-range next (a + 1) m ∙ ap (λ k. between k (a + 1 + m)) f ∙ ap (between (a + 1)) g)
+          ∙ sym (ap (λ k. between k (a + suc m)) e ∙ between-more a (a + suc m) (omega arith))
       | false ↦ λ is.
-        let lt : a < next = grind (arith, nat_tests) in
-        let f : max (a + 1) next ≡ max a next = omega arith in
-        let g : a + 1 + m ≡ a + suc m = omega arith in
-        filter-range next (a + 1) m ∙ ap (λ k. between k (a + 1 + m)) f ∙ ap (between (max a next)) g
+          let lt : a < next = grind (arith, nat_tests) in
+          let f : max (a + 1) next ≡ max a next = omega arith in
+          let g : a + 1 + m ≡ a + suc m = omega arith in
+          filter-range next (a + 1) m ∙ ap (λ k. between k (a + 1 + m)) f ∙ ap (between (max a next)) g
     ] refl
 
 pub missing-is : (g next n : ℕ) → between (max (g + 1) next) n ≡ missing_above (Some g) next n

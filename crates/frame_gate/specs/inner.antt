@@ -1,0 +1,4 @@
+pub mod Cells
+pub mod Kept
+pub mod Ties
+pub mod Walks
