@@ -25,7 +25,7 @@ all-closes d =
     ∙ flat_map-append (λ (piece : List NumberedPacket). piece) d.closed (d.unclosed ∷ [])
     ∙ ap (λ (xs : List NumberedPacket). joined d.closed ++ xs) (append-nil d.unclosed)
 
-all-with : (d : Divided) (p : NumberedPacket) → all_of (with_packet d p) ≡ all_of d ++ p ∷ []
+pub all-with : (d : Divided) (p : NumberedPacket) → all_of (with_packet d p) ≡ all_of d ++ p ∷ []
 all-with d p =
     let whole = joins (parted d p) p in
     let last : all_of (ended whole p) ≡ all_of whole = elim (ends p) as (λ b. all_of (cond b (closes whole) whole) ≡ all_of whole) [ true ↦ all-closes whole | false ↦ refl ] in
