@@ -1,0 +1,7 @@
+//! Worked calls over the reassembly of frames: each answer is proved from the contract of the call alone.
+#![tactic(auto)]
+
+pub mod cuts;
+mod fixtures;
+pub mod frames;
+pub mod numbers;
