@@ -1,6 +1,6 @@
 //! Packets that come too late, twice, or from before the first wrap.
 
-ghost use Rattle.std.specs.Prelude.{◌≡◌, pos, negsuc, IfOk, [], ◌∷◌, false};
+ghost use Rattle.std.specs.Prelude.{◌≡◌, pos, negsuc, IfOk, [], ◌∷◌, true, false};
 ghost use Rattle.worked_frames.specs.Fixtures.{frame, sent};
 
 use crate::fixtures::give;
