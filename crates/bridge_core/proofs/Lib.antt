@@ -1,4 +1,3 @@
-pub mod FrameFacts
 pub mod Numbers
 pub mod Stamps
 pub mod Next

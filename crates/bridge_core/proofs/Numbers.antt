@@ -1,7 +1,7 @@
 -- Packets numbered in a row.
 use Rattle.std.proofs.Common.{◌≡◌, ℕ, ◌+◌, ◌%◌, ◌^◌, ◌<◌, List, [], ◌∷◌, ◌++◌, length, map, drop, get_or, refl, sym, ap, ◌∙◌, arith, append_assoc}
 use Rattle.std.proofs.lemmas.List.{drop_more}
-use Rattle.bridge_core.specs.Frame.{SourcePacket}
+use Rattle.frame_gate.specs.Frame.{SourcePacket}
 use Rattle.bridge_core.specs.Sending.{Numbered}
 use Rattle.bridge_core.specs.RoutedList.{Part, numbered, out_packet}
 

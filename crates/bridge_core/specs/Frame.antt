@@ -1,29 +1,7 @@
--- Video frames: packets of one source and one timestamp.
-use Rattle.std.specs.Prelude.{ℕ, ℤ, Bool, true, false, not, ◌&&◌, ◌||◌, if◌then◌else◌, nat_eq, nat_lt, int_lt, List, [], ◌∷◌, length, Option, None, Some}
-use Rattle.std.specs.List.{list_any}
+-- Video frames on their way through the bridge.
+use Rattle.std.specs.Prelude.{ℕ}
 use Rattle.rtp_codec.specs.declared.address.Address.{Address}
-use Rattle.bridge_core.specs.declared.frame.FrameFault.{FrameFault}
-use Rattle.bridge_core.specs.declared.frame.FrameFault.TheVariants.{Empty, Order, TooMany, NoPayload, BadKind, Marker}
-
--- the most packets that a frame may have (own)
-abbrev pub most_packets : ℕ
-most_packets = 256
-
--- the highest payload type, of 7 bits (RFC 3550 section 5.1)
-abbrev pub highest_pt : ℕ
-highest_pt = 127
-
--- a packet of a frame, with its extended sequence number (RFC 3550 section A.1)
-pub record SourcePacket : Type 0 where
-  pub ext : ℤ
-  pub marker : Bool
-  pub pt : ℕ
-  pub payload : List ℕ
-
--- packets of one timestamp
-pub record WholeFrame : Type 0 where
-  pub ts : ℕ
-  pub packets : List SourcePacket
+use Rattle.frame_gate.specs.Frame.{WholeFrame}
 
 -- a frame of a source at an address, in one of its epochs, with the moment in nanoseconds at which it came
 pub record SourceFrame : Type 0 where
@@ -32,37 +10,3 @@ pub record SourceFrame : Type 0 where
   pub epoch : ℕ
   pub moment : ℕ
   pub frame : WholeFrame
-
--- the numbers rise, the first being above this one
-abbrev pub rise_from : ℤ → List SourcePacket → Bool
-rise_from before [] = true
-rise_from before (p ∷ ps) = int_lt before p.ext && rise_from p.ext ps
-
--- each number is above the one before it
-abbrev pub numbers_rise : List SourcePacket → Bool
-numbers_rise [] = true
-numbers_rise (p ∷ ps) = rise_from p.ext ps
-
--- a packet has no payload
-abbrev pub lacks_payload : List SourcePacket → Bool
-lacks_payload ps = list_any (λ p. nat_eq (length p.payload) 0) ps
-
--- a payload type is above the highest one
-abbrev pub has_bad_kind : List SourcePacket → Bool
-has_bad_kind ps = list_any (λ p. nat_lt highest_pt p.pt) ps
-
--- a packet before the last one has the marker
-abbrev pub marker_is_early : List SourcePacket → Bool
-marker_is_early [] = false
-marker_is_early (p ∷ ps) = p.marker && nat_lt 0 (length ps) || marker_is_early ps
-
--- the first fault that holds of these packets
-unfoldable pub fault_of : List SourcePacket → Option FrameFault
-fault_of ps =
-    if nat_eq (length ps) 0 then Some Empty
-    else (if not (numbers_rise ps) then Some Order
-    else (if nat_lt most_packets (length ps) then Some TooMany
-    else (if lacks_payload ps then Some NoPayload
-    else (if has_bad_kind ps then Some BadKind
-    else (if marker_is_early ps then Some Marker
-    else None)))))

@@ -3,7 +3,7 @@ use Rattle.std.specs.Prelude.{ℕ, ◌+◌, ◌%◌, ◌^◌, List, [], ◌∷�
 use Rattle.std.specs.List.{flat_map}
 use Rattle.rtp_codec.specs.declared.writing.Header.{Header}
 use Rattle.rtp_codec.specs.Packet.{written}
-use Rattle.bridge_core.specs.Frame.{SourcePacket}
+use Rattle.frame_gate.specs.Frame.{SourcePacket}
 use Rattle.bridge_core.specs.Sending.{Sending, Numbered}
 use Rattle.bridge_core.specs.Timestamps.{Stamped, stamped}
 

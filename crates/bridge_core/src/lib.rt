@@ -20,7 +20,7 @@ mod stream_table;
 pub use self::bridge::Core;
 pub use self::egress::Egress;
 pub use self::fault::{CoreFault, LaneFault};
-pub use self::frame::{Frame, FrameFault, FramePacket, MediaFrame};
+pub use self::frame::MediaFrame;
 pub use self::item::Item;
 pub use self::lane::LaneState;
 pub use self::laws::{
@@ -29,3 +29,4 @@ pub use self::laws::{
 };
 pub use self::reply::Reply;
 pub use self::settings::Settings;
+pub use frame_gate::{Frame, FrameFault, FramePacket};

@@ -2,14 +2,15 @@
 
 ghost use Rattle.std.specs.Prelude.{◌≡◌, ◌+◌, ◌≤◌, ◌∷◌, [], length, map, IfOk};
 ghost use Rattle.std.specs.List.{All};
-ghost use Rattle.bridge_core.specs.Frame.{highest_pt};
+ghost use Rattle.frame_gate.specs.Frame.{highest_pt};
 ghost use Rattle.bridge_core.specs.RoutedList.{octets, part_of, numbered};
 ghost use Rattle.bridge_core.specs.Streams.{state_of, sent, SendsNext, committed};
 ghost use Rattle.bridge_core.specs.Counters.{ts_after, goes_on, IsPrepared};
 ghost use Rattle.rtp_codec.specs.Packet.{written};
 
-use crate::frame::{FramePacket, MediaFrame};
+use crate::frame::MediaFrame;
 use bytes::Bytes;
+use frame_gate::FramePacket;
 use rtp_codec::{Address, Header, seq_next, write};
 use std::alloc::{AllocError, Allocator, Global};
 use std::marker::Model;

@@ -17,8 +17,9 @@ use Rattle.script_text.specs.declared.name.Kind.TheVariants as kinds
 use Rattle.script_text.specs.Words.{words_of, word_at, none_left, value_or}
 use Rattle.script_text.specs.Values.{field_of, value_text, AllFit, values_of, value_at, number_in, address_in, codec_in, media_in}
 use Rattle.script_text.specs.Calls.{name_text, all_names, name_of, shape_of, Spelt, fields_of, call_with, call_of, call_words, call_line, IsCall}
-use Rattle.bridge_core.specs.declared.frame.FrameFault.{FrameFault}
-use Rattle.bridge_core.specs.Frame.{SourceFrame, fault_of}
+use Rattle.frame_gate.specs.declared.frame.FrameFault.{FrameFault}
+use Rattle.frame_gate.specs.Frame.{fault_of}
+use Rattle.bridge_core.specs.Frame.{SourceFrame}
 use Rattle.script_text.specs.Requests.{Desk, kind_text, kind_of, front_of, some_packets, sighted, framed, frame_of, request_with, words_request, desk_line}
 use Rattle.script_text.proofs.Joined.{AllFree, free_test, parts_joined}
 use Rattle.script_text.proofs.ValueLaws.{found_text, free_values, bind_ok, word_back, or_back, values_back, values_again}

@@ -4,8 +4,9 @@ use Rattle.std.specs.List.{list_all, join_with_byte}
 use Rattle.std.specs.Fmt.{signed_decimal}
 use Rattle.std.proofs.lemmas.List.Splits.{join_with_byte-slice_split}
 use Rattle.hex.specs.Hex.{encode_lower, encode_with, lower_digits}
-use Rattle.bridge_core.specs.declared.frame.FrameFault.{FrameFault}
-use Rattle.bridge_core.specs.Frame.{SourcePacket, SourceFrame, fault_of}
+use Rattle.frame_gate.specs.declared.frame.FrameFault.{FrameFault}
+use Rattle.frame_gate.specs.Frame.{SourcePacket, fault_of}
+use Rattle.bridge_core.specs.Frame.{SourceFrame}
 use Rattle.bridge_core.specs.Sent.{Input}
 use Rattle.bridge_core.specs.Sent.Input.{frame}
 use Rattle.script_text.specs.declared.fault.Fault.{Fault}

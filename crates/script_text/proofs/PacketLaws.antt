@@ -14,7 +14,7 @@ use Rattle.hex.specs.Hex.{◌>>=◌, IsBytes, encode_lower, encode_with, lower_d
 use Rattle.hex.proofs.HexLemmas.{decode_of-encode_lower, decode_of-even, decode_of-ok}
 use Rattle.script_text.specs.declared.fault.Fault.TheVariants.{BadNumber}
 use Rattle.script_text.specs.Words.{value_or}
-use Rattle.bridge_core.specs.Frame.{SourcePacket}
+use Rattle.frame_gate.specs.Frame.{SourcePacket}
 use Rattle.script_text.specs.Numbers.{IsExt, number_of, ext_of}
 use Rattle.script_text.specs.Packets.{packet_from, packet_of, packet_of_parts, packet_text, marker_text, octets_or, SpellsHex, SpellsPacket, IsReadable}
 use Rattle.script_text.proofs.NumberLemmas.{read, spelled}

@@ -5,7 +5,7 @@ use Rattle.std.specs.Fmt.{decimal, signed_decimal}
 use Rattle.std.specs.Str.{str_to_ascii_lowercase}
 use Rattle.hex.specs.Hex.{IsBytes, decode_of, encode_lower}
 use Rattle.hex.specs.declared.error.FromHexError.{FromHexError}
-use Rattle.bridge_core.specs.Frame.{SourcePacket}
+use Rattle.frame_gate.specs.Frame.{SourcePacket}
 use Rattle.script_text.specs.declared.fault.Fault.{Fault}
 use Rattle.script_text.specs.declared.fault.Fault.TheVariants.{BadNumber, BadHex}
 use Rattle.script_text.specs.Words.{◌>>=◌, value_or}

@@ -3,8 +3,9 @@ use Rattle.std.specs.Prelude.{◌≡◌, ℕ, ◌&&◌, ◌||◌, ◌==◌, not,
 use Rattle.std.specs.List.{list_all, find, join_with_byte}
 use Rattle.std.specs.Str.{bytes_eq}
 use Rattle.desk_edit.specs.declared.command.Call.{Call}
-use Rattle.bridge_core.specs.declared.frame.FrameFault.{FrameFault}
-use Rattle.bridge_core.specs.Frame.{SourcePacket, SourceFrame, fault_of}
+use Rattle.frame_gate.specs.declared.frame.FrameFault.{FrameFault}
+use Rattle.frame_gate.specs.Frame.{SourcePacket, fault_of}
+use Rattle.bridge_core.specs.Frame.{SourceFrame}
 use Rattle.bridge_core.specs.Sent.{Input}
 use Rattle.bridge_core.specs.Sent.Input.{frame}
 use Rattle.script_text.specs.declared.fault.Fault.{Fault}

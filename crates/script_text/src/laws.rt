@@ -16,7 +16,8 @@ ghost use Rattle.script_text.specs.Judged.{call_cases, case_numbers, numbers_of,
 ghost use Rattle.script_text.specs.Words.{words_of, Lacks};
 ghost use Rattle.script_text.specs.Numbers.{number_of, ext_of, IsExt};
 ghost use Rattle.script_text.specs.Addresses.{address_of, address_text, IsAddress};
-ghost use Rattle.bridge_core.specs.Frame.{SourcePacket, SourceFrame};
+ghost use Rattle.frame_gate.specs.Frame.{SourcePacket};
+ghost use Rattle.bridge_core.specs.Frame.{SourceFrame};
 ghost use Rattle.bridge_core.specs.Sent.Input.{frame};
 ghost use Rattle.desk_edit.specs.declared.command.Call.{Call};
 ghost use Rattle.script_text.specs.Calls.{call_of, call_line, IsCall};

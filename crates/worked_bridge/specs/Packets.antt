@@ -1,6 +1,6 @@
 -- Packets that worked calls make frames of.
 use Rattle.std.specs.Prelude.{ℕ, ℤ, zero, suc, ◌+◌, Bool, false, List, [], ◌∷◌, pos}
-use Rattle.bridge_core.specs.Frame.{SourcePacket}
+use Rattle.frame_gate.specs.Frame.{SourcePacket}
 
 -- a packet by its number, marker, payload type and payload
 abbrev pub packet : ℤ → Bool → ℕ → List ℕ → SourcePacket

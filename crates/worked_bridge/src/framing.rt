@@ -7,7 +7,7 @@ use bridge_core::{Frame, FrameFault, FramePacket};
 use std::alloc::Global;
 
 /// A frame has a packet.
-#[tactic(auto, unfolding(bridge_core::specs::Frame::fault_of))]
+#[tactic(auto, unfolding(frame_gate::specs::Frame::fault_of))]
 pub fn no_packet(alloc: Global) -> Option<FrameFault>
     ensures { result ≡ Some FrameFault.Empty }
 {
@@ -15,7 +15,7 @@ pub fn no_packet(alloc: Global) -> Option<FrameFault>
 }
 
 /// Two packets of a frame: the marker at the end, and the greatest type.
-#[tactic(auto, unfolding(bridge_core::specs::Frame::fault_of))]
+#[tactic(auto, unfolding(frame_gate::specs::Frame::fault_of))]
 pub fn two_packets(packets: Vec<FramePacket>) -> Option<FrameFault>
     requires { packets.items ≡ packet (pos 7) false 0 (1 ∷ []) ∷ packet (pos 8) true 127 (1 ∷ []) ∷ [] }
     ensures { result ≡ None }
@@ -24,7 +24,7 @@ pub fn two_packets(packets: Vec<FramePacket>) -> Option<FrameFault>
 }
 
 /// A number that stands twice comes before a payload that is missing.
-#[tactic(auto, unfolding(bridge_core::specs::Frame::fault_of))]
+#[tactic(auto, unfolding(frame_gate::specs::Frame::fault_of))]
 pub fn a_number_twice(packets: Vec<FramePacket>) -> Option<FrameFault>
     requires { packets.items ≡ packet (pos 8) true 128 [] ∷ packet (pos 8) true 100 (1 ∷ []) ∷ [] }
     ensures { result ≡ Some FrameFault.Order }
@@ -33,7 +33,7 @@ pub fn a_number_twice(packets: Vec<FramePacket>) -> Option<FrameFault>
 }
 
 /// Numbers that fall.
-#[tactic(auto, unfolding(bridge_core::specs::Frame::fault_of))]
+#[tactic(auto, unfolding(frame_gate::specs::Frame::fault_of))]
 pub fn numbers_that_fall(packets: Vec<FramePacket>) -> Option<FrameFault>
     requires { packets.items ≡ packet (pos 9) false 100 (1 ∷ []) ∷ packet (pos 8) true 100 (1 ∷ []) ∷ [] }
     ensures { result ≡ Some FrameFault.Order }
@@ -42,7 +42,7 @@ pub fn numbers_that_fall(packets: Vec<FramePacket>) -> Option<FrameFault>
 }
 
 /// A payload that is missing comes before a type that is too great.
-#[tactic(auto, unfolding(bridge_core::specs::Frame::fault_of))]
+#[tactic(auto, unfolding(frame_gate::specs::Frame::fault_of))]
 pub fn no_payload(packets: Vec<FramePacket>) -> Option<FrameFault>
     requires { packets.items ≡ packet (pos 7) true 128 [] ∷ packet (pos 8) true 100 (1 ∷ []) ∷ [] }
     ensures { result ≡ Some FrameFault.NoPayload }
@@ -51,7 +51,7 @@ pub fn no_payload(packets: Vec<FramePacket>) -> Option<FrameFault>
 }
 
 /// A type that is too great comes before a marker that is too early.
-#[tactic(auto, unfolding(bridge_core::specs::Frame::fault_of))]
+#[tactic(auto, unfolding(frame_gate::specs::Frame::fault_of))]
 pub fn the_type_128(packets: Vec<FramePacket>) -> Option<FrameFault>
     requires { packets.items ≡ packet (pos 7) true 128 (1 ∷ []) ∷ packet (pos 8) true 100 (1 ∷ []) ∷ [] }
     ensures { result ≡ Some FrameFault.BadKind }
@@ -60,7 +60,7 @@ pub fn the_type_128(packets: Vec<FramePacket>) -> Option<FrameFault>
 }
 
 /// The marker stands at the last packet alone.
-#[tactic(auto, unfolding(bridge_core::specs::Frame::fault_of))]
+#[tactic(auto, unfolding(frame_gate::specs::Frame::fault_of))]
 pub fn a_marker_too_early(packets: Vec<FramePacket>) -> Option<FrameFault>
     requires { packets.items ≡ packet (pos 7) true 127 (1 ∷ []) ∷ packet (pos 8) true 100 (1 ∷ []) ∷ [] }
     ensures { result ≡ Some FrameFault.Marker }
@@ -69,7 +69,7 @@ pub fn a_marker_too_early(packets: Vec<FramePacket>) -> Option<FrameFault>
 }
 
 /// A frame has 256 packets at most.
-#[tactic(auto, unfolding(bridge_core::specs::Frame::fault_of))]
+#[tactic(auto, unfolding(frame_gate::specs::Frame::fault_of))]
 pub fn packets_to_the_limit(packets: Vec<FramePacket>) -> Option<FrameFault>
     requires { packets.items ≡ packets_from 0 256 }
     ensures { result ≡ None }
@@ -78,7 +78,7 @@ pub fn packets_to_the_limit(packets: Vec<FramePacket>) -> Option<FrameFault>
 }
 
 /// One packet too many.
-#[tactic(auto, unfolding(bridge_core::specs::Frame::fault_of))]
+#[tactic(auto, unfolding(frame_gate::specs::Frame::fault_of))]
 pub fn a_packet_too_many(packets: Vec<FramePacket>) -> Option<FrameFault>
     requires { packets.items ≡ packets_from 0 257 }
     ensures { result ≡ Some FrameFault.TooMany }

@@ -1,5 +1,5 @@
 use Rattle.std.proofs.Common.{List, ℕ, Result, subst}
-use Rattle.bridge_core.specs.Frame.{SourcePacket}
+use Rattle.frame_gate.specs.Frame.{SourcePacket}
 use Rattle.script_text.specs.declared.fault.Fault.{Fault}
 use Rattle.script_text.specs.Words.{Gives}
 use Rattle.script_text.proofs.PacketLemmas.{some_same}
