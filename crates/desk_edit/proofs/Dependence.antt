@@ -1,12 +1,14 @@
 -- What goes with a row is what depends on it.
-use Rattle.std.proofs.Common.{◌≡◌, ℕ, ◌<◌, ◌≤◌, zero, suc, Bool, true, ◌&&◌, List, [], ◌∷◌, sym, subst, ◌⊎◌, inl, inr, arith}
-use Rattle.std.specs.List.{list_any}
+use Rattle.std.proofs.Common.{◌≡◌, ℕ, ◌<◌, ◌≤◌, nat_lt, zero, suc, Bool, true, ◌&&◌, List, [], ◌∷◌, refl, sym, ap, ◌∙◌, subst, ◌⊎◌, inl, inr, arith}
+use Rattle.std.specs.List.{list_any, list_all}
 use Rattle.std.proofs.lemmas.Bool.{and_parts, and_from, or_left, or_right, or_cases}
 use Rattle.desk_rows.specs.declared.row.Row.{Row}
 use Rattle.desk_rows.specs.declared.row.Row.TheVariants as rows
 use Rattle.desk_rows.specs.declared.row.Key.{Key}
-use Rattle.desk_rows.specs.Row.{has_key, names, same_row}
-use Rattle.desk_rows.specs.laws.Equal.{same_row_is}
+use Rattle.desk_rows.specs.declared.row.Kind.{Kind}
+use Rattle.desk_rows.specs.declared.row.Kind.TheVariants as kinds
+use Rattle.desk_rows.specs.Row.{kind_of, key_of, has_key, names, same_row}
+use Rattle.desk_rows.specs.laws.Equal.{its_key, same_row_is}
 use Rattle.desk_rows.specs.Order.{is_in}
 use Rattle.desk_rows.specs.Desk.{Desk, rows_of, holds}
 use Rattle.desk_rows.proofs.Counts.{true_false, witness}
@@ -55,47 +57,43 @@ own_goes : (n : ℕ) (d : Desk) (key : Key) (s : Row) → has_key key s ≡ true
 own_goes zero d key s h = h
 own_goes (suc n) d key s h = or_left _ _ h
 
--- how many rows there can be below a row
-level : Row → ℕ
-level (rows.Room r) = 0
-level (rows.Member m) = 1
-level (rows.Source s) = 2
-level (rows.Slot s) = 2
-level (rows.Sub s) = 3
+-- how many rows there can be below a row of a kind
+level : Kind → ℕ
+level kinds.Room = 0
+level kinds.Member = 1
+level kinds.Source = 2
+level kinds.Slot = 2
+level kinds.Sub = 3
 
-three_at_most : (r : Row) → level r ≤ 3
+three_at_most : (kind : Kind) → level kind ≤ 3
 unfolding level
-three_at_most (rows.Room r) = omega arith
-three_at_most (rows.Member m) = omega arith
-three_at_most (rows.Source s) = omega arith
-three_at_most (rows.Slot s) = omega arith
-three_at_most (rows.Sub s) = omega arith
+three_at_most kinds.Room = omega arith
+three_at_most kinds.Member = omega arith
+three_at_most kinds.Source = omega arith
+three_at_most kinds.Slot = omega arith
+three_at_most kinds.Sub = omega arith
 
-lower : (r t : Row) → Names r t → level t < level r
+names_lower : (r : Row) → list_all (λ k. nat_lt (level (kind_of k)) (level (kind_of (key_of r)))) (names r) ≡ true
 unfolding level
-lower (rows.Room r) t h = absurd (true_false (sym h))
-lower (rows.Member m) (rows.Room t) h = omega arith
-lower (rows.Member m) (rows.Member t) h = absurd (true_false (sym h))
-lower (rows.Member m) (rows.Source t) h = absurd (true_false (sym h))
-lower (rows.Member m) (rows.Slot t) h = absurd (true_false (sym h))
-lower (rows.Member m) (rows.Sub t) h = absurd (true_false (sym h))
-lower (rows.Source s) (rows.Room t) h = omega arith
-lower (rows.Source s) (rows.Member t) h = omega arith
-lower (rows.Source s) (rows.Source t) h = absurd (true_false (sym h))
-lower (rows.Source s) (rows.Slot t) h = absurd (true_false (sym h))
-lower (rows.Source s) (rows.Sub t) h = absurd (true_false (sym h))
-lower (rows.Slot s) (rows.Room t) h = omega arith
-lower (rows.Slot s) (rows.Member t) h = omega arith
-lower (rows.Slot s) (rows.Source t) h = absurd (true_false (sym h))
-lower (rows.Slot s) (rows.Slot t) h = absurd (true_false (sym h))
-lower (rows.Slot s) (rows.Sub t) h = absurd (true_false (sym h))
-lower (rows.Sub s) (rows.Room t) h = omega arith
-lower (rows.Sub s) (rows.Member t) h = omega arith
-lower (rows.Sub s) (rows.Source t) h = omega arith
-lower (rows.Sub s) (rows.Slot t) h = omega arith
-lower (rows.Sub s) (rows.Sub t) h = absurd (true_false (sym h))
+names_lower (rows.Room r) = refl
+names_lower (rows.Member m) = refl
+names_lower (rows.Source s) = refl
+names_lower (rows.Slot s) = refl
+names_lower (rows.Sub s) = refl
 
-within : (n : ℕ) (d : Desk) (key : Key) (r s : Row) → level r ≤ n → holds d s ≡ true → has_key key s ≡ true → Depends d r s → goes_within n d key r ≡ true
+lower_key : (n : ℕ) (t : Row) (ks : List Key) → list_all (λ k. nat_lt (level (kind_of k)) n) ks ≡ true → list_any (λ k. has_key k t) ks ≡ true → level (kind_of (key_of t)) < n
+lower_key n t [] all h = absurd (true_false (sym h))
+lower_key n t (k ∷ ks) all h =
+    let both = and_parts (nat_lt (level (kind_of k)) n) (list_all (λ k. nat_lt (level (kind_of k)) n) ks) all in
+    elim (or_cases (has_key k t) (list_any (λ k. has_key k t) ks) h) [
+      | inl e ↦ let less : nat_lt (level (kind_of (key_of t))) n ≡ true = ap (λ q. nat_lt (level (kind_of q)) n) (its_key k t e) ∙ both.0 in grind (arith, less)
+      | inr e ↦ lower_key n t ks both.1 e
+    ]
+
+lower : (r t : Row) → Names r t → level (kind_of (key_of t)) < level (kind_of (key_of r))
+lower r t named = lower_key (level (kind_of (key_of r))) t (names r) (names_lower r) named
+
+within : (n : ℕ) (d : Desk) (key : Key) (r s : Row) → level (kind_of (key_of r)) ≤ n → holds d s ≡ true → has_key key s ≡ true → Depends d r s → goes_within n d key r ≡ true
 within zero d key r s few held own (Depends.direct _ _ named) = absurd (let less = lower r s named in omega (arith, less, few))
 within zero d key r s few held own (Depends.through _ t _ named there rest) = absurd (let less = lower r t named in omega (arith, less, few))
 within (suc n) d key r s few held own (Depends.direct _ _ named) = one_further n d key r s named held (own_goes n d key s own)
@@ -103,4 +101,4 @@ within (suc n) d key r s few held own (Depends.through _ t _ named there rest) =
     one_further n d key r t named there (within n d key t s (let less = lower r t named in omega (arith, less, few)) held own rest)
 
 pub dependent_goes : (d : Desk) (key : Key) (r : Row) → IsDependent d key r → goes_with d key r ≡ true
-dependent_goes d key r h = within 3 d key r h.0 (three_at_most r) h.1 h.2 h.3
+dependent_goes d key r h = within 3 d key r h.0 (three_at_most (kind_of (key_of r))) h.1 h.2 h.3

@@ -7,8 +7,8 @@ use Rattle.desk_rows.specs.declared.row.Row.{Row}
 use Rattle.desk_rows.specs.declared.row.Row.TheVariants.{Member}
 use Rattle.desk_rows.specs.declared.edit.Placed.{Placed}
 use Rattle.desk_rows.specs.laws.Equal.{row_itself}
-use Rattle.desk_rows.specs.Order.{in_order, is_in, without_rows}
-use Rattle.desk_rows.specs.laws.OrderLaws.{count_by-with_rows, count_by-without_rows}
+use Rattle.desk_rows.specs.Order.{in_order, is_in, with_rows, without_rows}
+use Rattle.desk_rows.specs.laws.OrderLaws.{count_by-with_rows, count_by-without_rows, list_all-with_rows, list_any-with_rows}
 use Rattle.desk_rows.specs.Places.{take_at}
 use Rattle.desk_rows.specs.laws.PlaceLaws.{count_next, count_by-take_at, count_by-put_at}
 use Rattle.desk_rows.specs.Edit.{EditOf, outs, ins}
@@ -123,3 +123,13 @@ two_alls f q (x ∷ xs) rs = ap (λ b. q (f x) && b) (two_alls f q xs rs) ∙ al
 pub list_all-map : {X : Type 0} (f : X → Row) (p : Row → Bool) (xs : List X) → list_all p (map f xs) ≡ list_all (λ x. p (f x)) xs
 list_all-map f p [] = refl
 list_all-map f p (x ∷ xs) = ap (λ b. p (f x) && b) (list_all-map f p xs)
+
+-- the rows of two lists in one
+pub all_of_both : (q : Row → Bool) (rs ts : List Row) → list_all q (with_rows rs ts) ≡ (list_all q rs && list_all q ts)
+all_of_both q rs ts = list_all-with_rows q rs ts
+
+pub any_of_both : (q : Row → Bool) (rs ts : List Row) → list_any q (with_rows rs ts) ≡ (list_any q rs || list_any q ts)
+any_of_both q rs ts = list_any-with_rows q rs ts
+
+pub count_of_both : (q : Row → Bool) (rs ts : List Row) → count_by q (with_rows rs ts) ≡ count_by q rs + count_by q ts
+count_of_both q rs ts = count_by-with_rows q rs ts

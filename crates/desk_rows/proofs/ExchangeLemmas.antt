@@ -13,18 +13,14 @@ use Rattle.desk_rows.specs.declared.edit.Placed.{Placed}
 use Rattle.desk_rows.specs.Row.{key_of, has_key, same_key}
 use Rattle.desk_rows.specs.laws.Equal.{key_itself, same_key_is, its_key}
 use Rattle.desk_rows.specs.Kinds.{is_of}
-use Rattle.desk_rows.specs.Order.{precedes, in_order, key_is_new, is_in, with_row, with_rows, without_rows}
+use Rattle.desk_rows.specs.Order.{precedes, in_order, is_in, with_row, with_rows}
 use Rattle.desk_rows.specs.laws.OrderLaws.{at_each, from_each, is_in-filter, in_order-filter}
-use Rattle.desk_rows.specs.Places.{take_at, put_at, can_take, can_put, places_rise, put_within}
-use Rattle.desk_rows.specs.laws.PlaceLaws.{count_next, length-take_at, length-put_at, can_put_within}
-use Rattle.desk_rows.specs.Edit.{EditOf}
+use Rattle.desk_rows.specs.Places.{take_at, can_take, can_put, places_rise, put_within}
+use Rattle.desk_rows.specs.laws.PlaceLaws.{count_next, length-take_at, can_put_within}
 use Rattle.desk_rows.specs.Limits.{member_limit, other_limit}
 use Rattle.desk_rows.specs.Desk.{Desk, blank, good, rows_of, is_named_there}
-use Rattle.desk_rows.specs.Exchange.{exchanged, fits, after}
-use Rattle.desk_rows.specs.inner.AfterEdit.{desk_of, edit_of}
-use Rattle.desk_rows.specs.laws.Laws.{good_parts, good_order, fits_parts, after_fits, any_counts, is_in-append, count_by-append}
+use Rattle.desk_rows.specs.laws.Laws.{good_parts, good_order, any_counts, is_in-append, count_by-append}
 use Rattle.desk_rows.proofs.KindLemmas.{filter_length, map_length, within_parts}
-use Rattle.desk_rows.proofs.Merging.{put_in_turn}
 use Rattle.desk_rows.proofs.Counts.{true_false, rows_count, witness, some_count, count_some}
 
 -- ---- places
@@ -178,17 +174,6 @@ rows_few p d g =
 
 -- ---- absorbing
 
--- what absorbing an edit that fits finds and leaves, by lists
-pub record Absorbs (bridge : ℕ) (ms : List Member) (os : List Row) (tm : List Placed) (taken old : List Row) (pm : List Placed) (put new : List Row) : Type 0 where
-  pub can_take_first : can_take tm ms ≡ true
-  pub can_put_then : can_put pm (take_at tm ms) ≡ true
-  pub orders : (in_order os ≡ true) × (in_order taken ≡ true) × (in_order old ≡ true) × (in_order put ≡ true) × (in_order new ≡ true)
-  pub members_room : length (take_at tm ms) + length pm ≤ member_limit
-  pub put_room : length (without_rows (with_rows old taken) os) + length put ≤ other_limit
-  pub new_room : length (with_rows put (without_rows (with_rows old taken) os)) + length new ≤ other_limit
-  pub after_is : desk_of bridge (put_at pm (take_at tm ms)) (with_rows new (with_rows put (without_rows (with_rows old taken) os))) ≡ after (desk_of bridge ms os) (edit_of tm taken old pm put new)
-  pub good_after : good (desk_of bridge (put_at pm (take_at tm ms)) (with_rows new (with_rows put (without_rows (with_rows old taken) os)))) ≡ true
-
 length-with_row : (r : Row) (xs : List Row) → length (with_row r xs) ≡ length xs + 1
 length-with_row r [] = refl
 length-with_row r (x ∷ xs) = by (precedes r x) (length-with_row r xs) where
@@ -196,49 +181,11 @@ length-with_row r (x ∷ xs) = by (precedes r x) (length-with_row r xs) where
   by true rest = omega arith
   by false rest = omega (arith, rest)
 
-length-with_rows : (rs xs : List Row) → length (with_rows rs xs) ≡ length xs + length rs
+pub length-with_rows : (rs xs : List Row) → length (with_rows rs xs) ≡ length xs + length rs
 length-with_rows [] xs = omega arith
 length-with_rows (r ∷ rs) xs = let rest = length-with_rows rs (with_row r xs) in omega (arith, rest, length-with_row r xs)
-
-pub absorbs : (bridge : ℕ) (ms : List Member) (os : List Row) (tm : List Placed) (taken old : List Row) (pm : List Placed) (put new : List Row) →
-    fits (desk_of bridge ms os) (edit_of tm taken old pm put new) ≡ true → Absorbs bridge ms os tm taken old pm put new
-unfolding exchanged
-absorbs bridge ms os tm taken old pm put new k =
-    let d = desk_of bridge ms os in
-    let e = edit_of tm taken old pm put new in
-    let f = fits_parts d e k in
-    let members = put_at pm (take_at tm ms) in
-    let left = without_rows (with_rows old taken) os in
-    let is : desk_of bridge members (with_rows new (with_rows put left)) ≡ exchanged d e = λ i. desk_of bridge members (sym (put_in_turn put new left f.apt.ins_apart) i) in
-    let few = few_rows (exchanged d e) f.later in
-    let come = length-with_rows (with_rows new put) left in
-    let both = length-with_rows new put in
-    let first = length-with_rows put left in
-    record {
-      can_take_first = f.apt.take;
-      can_put_then = f.apt.put;
-      orders =
-          let outs = and_parts (in_order taken && in_order old) (list_all (λ y. key_is_new y taken) old) f.apt.outs_apart in
-          let ins = and_parts (in_order put && in_order new) (list_all (λ y. key_is_new y put) new) f.apt.ins_apart in
-          let goes = and_parts (in_order taken) (in_order old) outs.0 in
-          let comes = and_parts (in_order put) (in_order new) ins.0 in
-          (good_order d f.before, goes.0, goes.1, comes.0, comes.1);
-      members_room = (let l = length-put_at pm (take_at tm ms) f.apt.put in omega (arith, few.0, l));
-      put_room = omega (arith, few.1, come, both);
-      new_room = omega (arith, few.1, come, both, first);
-      after_is = is ∙ sym (after_fits d e k);
-      good_after = ap good is ∙ f.later;
-    }
 
 -- a desk without rows is good
 pub good_blank : (bridge : ℕ) → good (blank bridge) ≡ true
 unfolding good
 good_blank bridge = refl
-
--- the same of lists that are those of a desk and an edit
-pub absorbs_at : (bridge : ℕ) (ms : List Member) (os : List Row) (tm : List Placed) (taken old : List Row) (pm : List Placed) (put new : List Row) (d : Desk) (e : EditOf) →
-    desk_of bridge ms os ≡ d → (tm ≡ e.taken.members) × (taken ≡ e.taken.others) × (old ≡ e.replaced.old) × (pm ≡ e.put.members) × (put ≡ e.put.others) × (new ≡ e.replaced.new) →
-    fits d e ≡ true → (Absorbs bridge ms os tm taken old pm put new) × (after (desk_of bridge ms os) (edit_of tm taken old pm put new) ≡ after d e)
-absorbs_at bridge ms os tm taken old pm put new d e desk is h =
-    let edit : edit_of tm taken old pm put new ≡ e = λ i. edit_of (is.0 i) (is.1 i) (is.2 i) (is.3 i) (is.4 i) (is.5 i) in
-    (absorbs bridge ms os tm taken old pm put new ((λ i. fits (desk i) (edit i)) ∙ h), (λ i. after (desk i) (edit i)))

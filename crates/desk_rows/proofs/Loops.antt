@@ -1,13 +1,13 @@
 -- Steps of loops over rows.
-use Rattle.std.proofs.Common.{◌≡◌, ℕ, zero, suc, ◌<◌, ◌≤◌, ◌⊎◌, inl, inr, Bool, true, false, not, ◌&&◌, ◌||◌, List, [], ◌∷◌, ◌++◌, length, get_or, nat_eq, refl, sym, ap, ◌∙◌, arith}
+use Rattle.std.proofs.Common.{◌≡◌, ℕ, zero, suc, ◌<◌, ◌≤◌, ◌⊎◌, inl, inr, Bool, true, false, ◌&&◌, List, [], ◌∷◌, ◌++◌, length, get_or, nat_eq, refl, sym, ap, ◌∙◌, arith}
 use Rattle.std.specs.List.{list_all, remove}
 use Rattle.std.proofs.lemmas.Bool.{and_parts, and_from, cases_Bool}
 use Rattle.desk_rows.specs.Row.{same_row}
 use Rattle.desk_rows.specs.declared.row.Row.TheVariants as rows
 use Rattle.desk_rows.specs.Places.{take_at, can_take, is_at}
 use Rattle.desk_rows.specs.laws.PlaceLaws.{at_within}
-use Rattle.desk_rows.specs.Order.{precedes, precedes_head, in_order, have_same_keys, is_in, with_rows}
-use Rattle.desk_rows.specs.laws.OrderLaws.{at_each, from_each, precedes_on, is_in-with_rows}
+use Rattle.desk_rows.specs.Order.{precedes, precedes_head, in_order, have_same_keys}
+use Rattle.desk_rows.specs.laws.OrderLaws.{at_each, from_each, precedes_on}
 use Rattle.desk_rows.specs.declared.row.Member.{Member}
 use Rattle.desk_rows.specs.declared.row.Row.{Row}
 use Rattle.desk_rows.specs.declared.edit.Placed.{Placed}
@@ -52,12 +52,6 @@ in_order_next r (x ∷ xs) h = by (cases_Bool (in_order (x ∷ xs))) where
       let before : list_all (precedes r) (x ∷ xs) ≡ true = and_from _ _ h (from_each (precedes r) xs (λ q one. precedes_on r x q h (at_each (precedes x) xs q both.0 one))) in
       and_from _ _ before e ∙ sym e
   by (inr e) = and_false (list_all (precedes r) (x ∷ xs)) (in_order (x ∷ xs)) e ∙ sym e
-
-pub neither_in : (taken old : List Row) (r : Row) → (not (is_in old r) && not (is_in taken r)) ≡ not (is_in (with_rows old taken) r)
-neither_in taken old r = turned (is_in old r) (is_in taken r) ∙ ap not (sym (is_in-with_rows old taken r)) where
-  turned : (a b : Bool) → (not a && not b) ≡ not (a || b)
-  turned true b = refl
-  turned false b = refl
 
 -- ---- pairs
 

@@ -1,5 +1,5 @@
 -- What is asked of rows and an edit to judge the desk that it leads to.
-use Rattle.std.proofs.Common.{◌≡◌, ℕ, ◌+◌, nat_lt, nat_eq, nat_le, Bool, true, false, not, ◌&&◌, ◌||◌, refl, ap, ◌∙◌, arith}
+use Rattle.std.proofs.Common.{◌≡◌, ℕ, ◌+◌, ◌≤◌, nat_lt, nat_eq, nat_le, Bool, true, false, not, ◌&&◌, ◌||◌, length, refl, sym, ap, ◌∙◌, arith}
 use Rattle.std.specs.Prelude.{count_by}
 use Rattle.std.specs.Option.{is_some}
 use Rattle.std.specs.List.{list_all}
@@ -9,26 +9,23 @@ use Rattle.desk_rows.specs.declared.row.Row.TheVariants.{Member}
 use Rattle.desk_rows.specs.declared.row.Key.{Key}
 use Rattle.desk_rows.specs.declared.row.Kind.TheVariants as kinds
 use Rattle.desk_rows.specs.Kinds.{is_of}
-use Rattle.desk_rows.specs.Order.{in_order, key_is_new, without_rows}
-use Rattle.desk_rows.specs.Places.{take_at}
+use Rattle.desk_rows.specs.Limits.{member_limit, other_limit}
+use Rattle.desk_rows.specs.Order.{in_order, key_is_new, are_apart, with_rows, without_rows}
+use Rattle.desk_rows.specs.Places.{take_at, put_at, can_take, can_put}
 use Rattle.desk_rows.specs.Edit.{EditOf, outs, ins}
 use Rattle.desk_rows.specs.Desk.{Desk, good, rows_of, row_at, is_within_limits}
-use Rattle.desk_rows.specs.Exchange.{is_apt, exchanged}
-use Rattle.desk_rows.specs.inner.Judged.{stay_rows, takes, is_free, stay_count, go_count, come_count, keys_are_new, moves, is_sound_beside, stays_sound, all_come, all_stay, judged}
+use Rattle.desk_rows.specs.Exchange.{is_apt, exchanged, fits, after}
+use Rattle.desk_rows.specs.inner.Judged.{HasOrders, stay_rows, takes, is_free, stay_count, go_count, come_count, keys_are_new, moves, is_sound_beside, stays_sound, all_come, all_stay, judged}
 use Rattle.desk_rows.specs.laws.OrderLaws.{count_by-with_rows, count_by-without_rows}
-use Rattle.desk_rows.specs.laws.PlaceLaws.{count_by-take_at}
-use Rattle.desk_rows.specs.laws.Laws.{apt_parts, outs_order, good_order}
+use Rattle.desk_rows.specs.laws.PlaceLaws.{count_by-take_at, length-put_at}
+use Rattle.desk_rows.specs.laws.Laws.{apt_parts, apt_from, outs_order, good_order, fits_parts, after_fits}
+use Rattle.desk_rows.proofs.ExchangeLemmas.{few_rows}
+use Rattle.desk_rows.proofs.Indexed.{once_each}
 use Rattle.desk_rows.proofs.Counts.{before_count, after_count, others_after, all_count, two_counts}
 use Rattle.desk_rows.proofs.NewKeys.{stays_found, judged_right}
 
 -- the lists of an apt edit are in order
-pub record Orders (e : EditOf) : Type 0 where
-  pub taken : in_order e.taken.others ≡ true
-  pub old : in_order e.replaced.old ≡ true
-  pub put : in_order e.put.others ≡ true
-  pub new : in_order e.replaced.new ≡ true
-
-pub orders_of : (d : Desk) (e : EditOf) → is_apt d e ≡ true → Orders e
+pub orders_of : (d : Desk) (e : EditOf) → is_apt d e ≡ true → HasOrders e
 orders_of d e h =
     let a = apt_parts d e h in
     let outs = and_parts (in_order e.taken.others && in_order e.replaced.old) (list_all (λ y. key_is_new y e.taken.others) e.replaced.old) a.outs_apart in
@@ -105,3 +102,32 @@ pub good_tests : (d : Desk) (e : EditOf) → good d ≡ true → is_apt d e ≡ 
     && (is_within_limits (exchanged d e) && (all_come (is_sound_beside (exchanged d e)) e && all_stay (stays_sound (moves d e) d e) d e)))
 unfolding judged
 good_tests d e g h = judged_right d e g (apt_parts d e h)
+
+-- what absorbing an edit that fits finds and leaves
+pub record Absorbs (d : Desk) (e : EditOf) : Type 0 where
+  pub take : can_take e.taken.members d.members ≡ true
+  pub put : can_put e.put.members (take_at e.taken.members d.members) ≡ true
+  pub numbers : (n : ℕ) → count_by (λ m. nat_eq m.member n) (put_at e.put.members (take_at e.taken.members d.members)) ≤ 1
+  pub members_few : length (take_at e.taken.members d.members) + length e.put.members ≤ member_limit
+  pub orders : HasOrders e
+  pub apart : are_apart e.put.others e.replaced.new ≡ true
+  pub others_few : length (with_rows (ins e) (without_rows (outs e) d.others)) ≤ other_limit
+  pub good_after : good (exchanged d e) ≡ true
+  pub after_is : exchanged d e ≡ after d e
+
+pub absorbs : (d : Desk) (e : EditOf) → fits d e ≡ true → Absorbs d e
+unfolding exchanged
+absorbs d e h =
+    let f = fits_parts d e h in
+    let few = few_rows (exchanged d e) f.later in
+    record {
+      take = f.apt.take;
+      put = f.apt.put;
+      numbers = once_each (exchanged d e) f.later;
+      members_few = (let l = length-put_at e.put.members (take_at e.taken.members d.members) f.apt.put in omega (arith, few.0, l));
+      orders = orders_of d e (apt_from d e f.apt);
+      apart = f.apt.ins_apart;
+      others_few = few.1;
+      good_after = f.later;
+      after_is = sym (after_fits d e h);
+    }

@@ -1,5 +1,5 @@
 pub mod Index
 pub mod Judged
 pub mod Tests
-pub mod AfterEdit
+pub mod Listed
 pub mod Found

@@ -16,6 +16,7 @@ use std::alloc::Allocator;
 
 impl<A: Allocator + Copy> Edit<A> {
     /// Whether it takes a row with this key.
+    #[tactic(auto, using(crate::proofs::ChangeLemmas::takes_is))]
     pub(crate) fn takes(&self, key: Key) -> bool
         requires taken { in_order self.now.taken.others ≡ true }
         requires old { in_order self.now.replaced.old ≡ true }
@@ -34,6 +35,7 @@ impl<A: Allocator + Copy> Edit<A> {
     }
 
     /// How many rows that come pass the test.
+    #[tactic(auto, using(crate::proofs::Counts::two_counts, crate::proofs::Counts::count_of_both))]
     pub(crate) fn count_coming(&self, test: &Test) -> usize
         ensures count { result ≡ come_count (passes test.now) self.now }
         ensures few { result < 2 ^ 62 }
@@ -43,6 +45,7 @@ impl<A: Allocator + Copy> Edit<A> {
     }
 
     /// How many rows that go pass the test.
+    #[tactic(auto, using(crate::proofs::Counts::two_counts, crate::proofs::Counts::count_of_both))]
     pub(crate) fn count_going(&self, test: &Test) -> usize
         ensures count { result ≡ go_count (passes test.now) self.now }
         ensures few { result < 2 ^ 62 }

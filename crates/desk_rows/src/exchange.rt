@@ -1,20 +1,22 @@
 //! Rows, and an edit of them.
 
-ghost use Rattle.std.specs.Prelude.{◌≡◌, ◌&&◌, true, not, count_by};
+ghost use Rattle.std.specs.Prelude.{◌≡◌, ℕ, ◌+◌, ◌≤◌, ◌&&◌, true, not, count_by, nat_eq, length, vec_capacity};
 ghost use Rattle.std.specs.List.{list_any, list_all};
 ghost use Rattle.desk_rows.specs.declared.row.Kind.TheVariants as kinds;
 ghost use Rattle.desk_rows.specs.declared.row.Row.TheVariants.{Member as MemberRow};
 ghost use Rattle.desk_rows.specs.Row.{key_of, has_key};
 ghost use Rattle.desk_rows.specs.Kinds.{is_of};
-ghost use Rattle.desk_rows.specs.Order.{in_order, is_in, are_apart, have_same_keys, with_rows};
-ghost use Rattle.desk_rows.specs.Places.{places_rise, can_take, can_put, take_at};
+ghost use Rattle.desk_rows.specs.Order.{in_order, is_in, are_apart, have_same_keys, with_rows, without_rows};
+ghost use Rattle.desk_rows.specs.Places.{places_rise, can_take, can_put, take_at, put_at};
 ghost use Rattle.desk_rows.specs.Edit.{outs, ins};
 ghost use Rattle.desk_rows.specs.Exchange.{is_apt, exchanged, fits};
 ghost use Rattle.desk_rows.specs.Desk.{good};
-ghost use Rattle.desk_rows.specs.inner.Judged.{takes, puts, coming, is_free, comes_once, keys_are_new};
+ghost use Rattle.desk_rows.specs.inner.Index.{IsIndex};
+ghost use Rattle.desk_rows.specs.inner.Judged.{HasOrders, takes, puts, coming, is_free, comes_once, keys_are_new};
 
 use crate::edit::{Edit, Placed};
-use crate::ordering::{are_apart, contains_all, have_same_keys};
+use crate::index::{Entry, move_members};
+use crate::ordering::{are_apart, contains_all, have_same_keys, put_rows, take_rows};
 use crate::overlay::Overlay;
 use crate::places::{can_be_put, can_be_taken};
 use crate::row::{Key, Kind, Member, Row};
@@ -47,6 +49,7 @@ impl<A: Allocator + Copy> Exchange<'_, A> {
     }
 
     /// Whether the edit puts a row with this key.
+    #[tactic(auto, using(crate::proofs::ChangeLemmas::puts_is))]
     pub(crate) fn puts(&self, key: Key) -> bool
         ensures { result ≡ puts self.now.edit.now key }
     {
@@ -54,6 +57,7 @@ impl<A: Allocator + Copy> Exchange<'_, A> {
     }
 
     /// Whether no row that stays has this key.
+    #[tactic(auto, using(crate::proofs::OverlayLemmas::free_is))]
     fn is_free(&self, key: Key) -> bool
         ensures { result ≡ is_free self.now.rows.now self.now.edit.now key }
     {
@@ -86,6 +90,7 @@ impl<A: Allocator + Copy> Exchange<'_, A> {
         rows.iter().all(|row| self.is_free(row.key()))
     }
 
+    #[tactic(auto, using(crate::proofs::Counts::all_of_both))]
     fn are_new_others(&self) -> bool
         ensures { result ≡ list_all (λ r. is_free self.now.rows.now self.now.edit.now (key_of r)) (ins self.now.edit.now) }
     {
@@ -101,6 +106,7 @@ impl<A: Allocator + Copy> Exchange<'_, A> {
     }
 
     /// Whether no row that comes beside the members is a member's.
+    #[tactic(auto, using(crate::proofs::Counts::all_of_both))]
     fn is_plain(&self) -> bool
         ensures { result ≡ list_all (λ r. not (is_of kinds.Member r)) (ins self.now.edit.now) }
     {
@@ -108,6 +114,7 @@ impl<A: Allocator + Copy> Exchange<'_, A> {
     }
 
     /// Whether the new desk is good.
+    #[tactic(auto, using(crate::proofs::OverlayLemmas::good_tests))]
     fn is_good(self) -> bool
         ensures { result ≡ good (exchanged self.entry.rows.now self.entry.edit.now) }
     {
@@ -152,6 +159,7 @@ fn can_move(members: &[Member], taken: &[Placed], put: &[Placed]) -> bool
 }
 
 /// Whether the rows of both lists are there.
+#[tactic(auto, using(crate::proofs::Counts::all_of_both))]
 fn are_there(others: &[Row], taken: &[Row], old: &[Row]) -> bool
     requires { in_order others.now ≡ true }
     ensures { result ≡ list_all (is_in others.now) (with_rows old.now taken.now) }
@@ -181,6 +189,7 @@ fn is_apt<A: Allocator + Copy>(rows: &Rows<A>, edit: &Edit<A>) -> bool
 }
 
 /// Whether the edit fits: the desk stays good.
+#[tactic(auto, using(crate::specs::laws::Laws::fits_test))]
 pub(crate) fn fits<A: Allocator + Copy>(rows: &Rows<A>, edit: &Edit<A>) -> bool
     requires { good rows.now ≡ true }
     ensures { result ≡ fits rows.now edit.now }
@@ -190,4 +199,42 @@ pub(crate) fn fits<A: Allocator + Copy>(rows: &Rows<A>, edit: &Edit<A>) -> bool
     }
     let exchange = Exchange { rows, edit };
     exchange.is_good()
+}
+
+/// Takes the members that go from their places, and puts those that come at theirs.
+pub(crate) fn exchange_members<A: Allocator + Copy>(
+    members: &mut Vec<Member, A>,
+    index: &mut Vec<Entry, A>,
+    edit: &Edit<A>,
+)
+    requires index { IsIndex members.old.items index.old.items }
+    requires take { can_take edit.now.taken.members members.old.items ≡ true }
+    requires put { can_put edit.now.put.members (take_at edit.now.taken.members members.old.items) ≡ true }
+    requires numbers { (n : ℕ) → count_by (λ m. nat_eq m.member n) (put_at edit.now.put.members (take_at edit.now.taken.members members.old.items)) ≤ 1 }
+    requires few { length (take_at edit.now.taken.members members.old.items) + length edit.now.put.members ≤ 1024 }
+    requires room { (1024 ≤ vec_capacity members.old) × (1024 ≤ vec_capacity index.old) }
+    ensures items { members.new.items ≡ put_at edit.now.put.members (take_at edit.now.taken.members members.old.items) }
+    ensures index { IsIndex members.new.items index.new.items }
+    ensures room { (1024 ≤ vec_capacity members.new) × (1024 ≤ vec_capacity index.new) }
+{
+    move_members(members, index, edit.taken_members(), edit.put_members());
+}
+
+/// Takes the other rows that go, and puts those that come, each where it keeps the order. There is
+/// room for them.
+pub(crate) fn exchange_rows<A: Allocator + Copy>(
+    others: &mut Vec<Row, A>,
+    spare: &mut Vec<Row, A>,
+    edit: &Edit<A>,
+)
+    requires orders { HasOrders edit.now }
+    requires apart { are_apart edit.now.put.others edit.now.replaced.new ≡ true }
+    requires few { length (with_rows (ins edit.now) (without_rows (outs edit.now) others.old.items)) ≤ 10304 }
+    requires room { (10304 ≤ vec_capacity others.old) × (10304 ≤ vec_capacity spare.old) }
+    ensures items { others.new.items ≡ with_rows (ins edit.now) (without_rows (outs edit.now) others.old.items) }
+    ensures room { (10304 ≤ vec_capacity others.new) × (10304 ≤ vec_capacity spare.new) }
+{
+    take_rows(others, edit.taken_others(), edit.old());
+    put_rows(others, spare, edit.put_others());
+    put_rows(others, spare, edit.new());
 }

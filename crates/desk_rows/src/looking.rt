@@ -29,6 +29,7 @@ fn is_in_room(found: Option<Row>, room: u32) -> bool
 }
 
 /// Whether the member is in the room.
+#[tactic(auto, using(crate::proofs::KeyedLemmas::in_room_found))]
 pub fn is_member_in<D: Look>(rows: &D, member: u32, room: u32) -> bool
     ensures { result ≡ is_member_in (D.desk rows.now) member room }
 {
@@ -46,6 +47,7 @@ fn is_beside<D: Look>(rows: &D, found: Option<Row>, member: u32) -> bool
 }
 
 /// Whether the two members are in one room.
+#[tactic(auto, using(crate::proofs::KeyedLemmas::beside_found))]
 fn share_room<D: Look>(rows: &D, a: u32, b: u32) -> bool
     ensures { result ≡ share_room (D.desk rows.now) a b }
 {

@@ -98,6 +98,7 @@ pub(crate) fn rows_of_kind(rows: &[Row], kind: Kind) -> &[Row]
     these
 }
 
+#[tactic(auto, using(crate::proofs::Halving::among_none, crate::proofs::Halving::among_found))]
 pub(crate) fn contains(rows: &[Row], row: &Row) -> bool
     requires { in_order rows.now ≡ true }
     ensures { result ≡ is_in rows.now row.now }
@@ -117,6 +118,7 @@ pub(crate) fn contains_all(others: &[Row], rows: &[Row]) -> bool
 }
 
 /// Whether the row is in neither list.
+#[tactic(auto, using(crate::proofs::Counts::any_of_both))]
 fn is_left(row: &Row, taken: &[Row], old: &[Row]) -> bool
     requires taken { in_order taken.now ≡ true }
     requires old { in_order old.now ≡ true }

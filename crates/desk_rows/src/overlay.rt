@@ -51,6 +51,7 @@ impl<A: Allocator + Copy> Overlay<'_, A> {
 
     /// Whether the kind has no more rows than its limit: with what comes it has no more than the
     /// limit and what goes.
+    #[tactic(auto, using(crate::proofs::OverlayLemmas::most_is, crate::proofs::ExchangeLemmas::rows_few))]
     fn is_within(&self, kind: Kind, limit: usize) -> bool
         requires { limit ≤ slot_limit }
         ensures { result ≡ nat_le (count_by (is_of kind) (rows_of (exchanged self.now.of.rows.now self.now.of.edit.now))) limit }
@@ -69,6 +70,7 @@ impl<A: Allocator + Copy> Overlay<'_, A> {
                     && self.is_within(Kind::Slot, MAX_SLOTS)))
     }
 
+    #[tactic(auto, using(crate::proofs::Finding::is_found))]
     fn has(&self, key: Key) -> bool
         ensures { result ≡ list_any (has_key key) (rows_of (exchanged self.now.of.rows.now self.now.of.edit.now)) }
     {
@@ -85,6 +87,7 @@ impl<A: Allocator + Copy> Overlay<'_, A> {
         }
     }
 
+    #[tactic(auto, using(crate::proofs::Judging::bridge_same))]
     fn is_bridges(&self, claim: &Claim) -> bool
         ensures { result ≡ is_bridges (exchanged self.now.of.rows.now self.now.of.edit.now) claim.now }
     {
@@ -120,7 +123,9 @@ impl<A: Allocator + Copy> Overlay<'_, A> {
         }
     }
 
-    /// How many audio sources the room has with those that come, and how many of them go.
+    /// Whether the room has more audio sources than it may: with those that come there are more than
+    /// may be and go.
+    #[tactic(auto, using(crate::proofs::OverlayLemmas::over_is))]
     fn is_room_full(&self, room: u32) -> bool
         ensures { result ≡ not (nat_le (count_by (is_audio_in (exchanged self.now.of.rows.now self.now.of.edit.now) room) (exchanged self.now.of.rows.now self.now.of.edit.now).others) room_audio_limit) }
     {
@@ -166,6 +171,7 @@ impl<A: Allocator + Copy> Overlay<'_, A> {
         rows.iter().all(|row| self.is_sound(row))
     }
 
+    #[tactic(auto, using(crate::proofs::Counts::all_of_both))]
     fn all_others_come(&self) -> bool
         ensures { result ≡ list_all (is_sound_beside (exchanged self.now.of.rows.now self.now.of.edit.now)) (ins self.now.of.edit.now) }
     {
@@ -173,6 +179,7 @@ impl<A: Allocator + Copy> Overlay<'_, A> {
     }
 
     /// Whether each row that comes is sound.
+    #[tactic(auto, using(crate::proofs::Counts::two_alls))]
     pub(crate) fn all_come(&self) -> bool
         ensures { result ≡ all_come (is_sound_beside (exchanged self.now.of.rows.now self.now.of.edit.now)) self.now.of.edit.now }
     {
@@ -220,6 +227,7 @@ impl<A: Allocator + Copy> Overlay<'_, A> {
     }
 
     /// Whether an audio source comes into the room.
+    #[tactic(auto, using(crate::proofs::Counts::any_of_both))]
     fn gains_audio(&self, room: u32) -> bool
         ensures { result ≡ list_any (is_audio_in (exchanged self.now.of.rows.now self.now.of.edit.now) room) (ins self.now.of.edit.now) }
     {
@@ -292,6 +300,7 @@ impl<A: Allocator + Copy> Overlay<'_, A> {
     }
 
     /// Whether each row that stays is sound: those that are not all go.
+    #[tactic(auto, using(crate::proofs::OverlayLemmas::stay_test))]
     pub(crate) fn all_stay(&self, moved: bool) -> bool
         ensures { result ≡ all_stay (stays_sound moved self.now.of.rows.now self.now.of.edit.now) self.now.of.rows.now self.now.of.edit.now }
     {

@@ -42,6 +42,7 @@ fn all_stand(placed: &[Placed], members: &[Member]) -> bool
 }
 
 /// Whether these rows stand at their places, which rise.
+#[tactic(auto, using(crate::specs::laws::PlaceLaws::can_take_places))]
 pub(crate) fn can_be_taken(placed: &[Placed], members: &[Member]) -> bool
     ensures { result ≡ (places_rise placed.now && can_take placed.now members.now) }
 {

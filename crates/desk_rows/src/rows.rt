@@ -14,11 +14,11 @@ ghost use Rattle.desk_rows.specs.Exchange.{fits, after};
 ghost use Rattle.desk_rows.specs.laws.Laws.{inverse_fits, undoes, stays};
 
 use crate::edit::Edit;
-use crate::exchange::fits;
-use crate::index::{Entry, entry_of, move_members};
+use crate::exchange::{exchange_members, exchange_rows, fits};
+use crate::index::{Entry, entry_of};
 use crate::limits::{MAX_MEMBERS, MAX_OTHERS};
 use crate::looking::Look;
-use crate::ordering::{contains, find_row, put_rows, rows_of_kind, take_rows};
+use crate::ordering::{contains, find_row, rows_of_kind};
 use crate::row::{Key, Kind, Member, Row};
 use std::alloc::{AllocError, Allocator, Global};
 use std::marker::Model;
@@ -43,7 +43,7 @@ impl<A: Allocator + Copy> Model for Rows<A> {
     ghost use Rattle.std.specs.Prelude.{◌≡◌, ◌≤◌, true, vec_capacity};
     ghost use Rattle.desk_rows.specs.declared.limits.TheConstants.{MAX_MEMBERS, MAX_OTHERS};
     ghost use Rattle.desk_rows.specs.Desk.{Desk, good};
-    ghost use Rattle.desk_rows.specs.inner.AfterEdit.{desk_of};
+    ghost use Rattle.desk_rows.specs.inner.Listed.{desk_of};
     ghost use Rattle.desk_rows.specs.inner.Index.{IsIndex};
 
     ghost Value = { Desk };
@@ -265,13 +265,8 @@ impl<A: Allocator + Copy> Reversible for Rows<A> {
         if !self.fits(edit) {
             return;
         }
-        let (leaving, joining) = (edit.taken_members(), edit.put_members());
-        let (taken, put) = (edit.taken_others(), edit.put_others());
-        let (old, new) = (edit.old(), edit.new());
-        move_members(&mut self.members, &mut self.index, leaving, joining);
-        take_rows(&mut self.others, taken, old);
-        put_rows(&mut self.others, &mut self.spare, put);
-        put_rows(&mut self.others, &mut self.spare, new);
+        exchange_members(&mut self.members, &mut self.index, edit);
+        exchange_rows(&mut self.others, &mut self.spare, edit);
     }
 
     fn invert(edit: Edit<A>) -> Edit<A> {

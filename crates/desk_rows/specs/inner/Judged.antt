@@ -1,6 +1,6 @@
 -- How the desk after an edit is judged by the rows that come and by those that the edit touches, given that the desk
 -- before it is good. No public clause cites this.
-use Rattle.std.specs.Prelude.{ℕ, Bool, false, ◌&&◌, ◌||◌, not, List, ◌++◌, map, nat_eq, count_by, Option}
+use Rattle.std.specs.Prelude.{◌≡◌, true, ℕ, Bool, false, ◌&&◌, ◌||◌, not, List, ◌++◌, map, nat_eq, count_by, Option}
 use Rattle.std.specs.List.{find, list_any, list_all}
 use Rattle.desk_rows.specs.declared.row.Row.{Row}
 use Rattle.desk_rows.specs.declared.row.Row.TheVariants.{Room, Member, Sub}
@@ -9,12 +9,19 @@ use Rattle.desk_rows.specs.declared.row.Key.TheVariants as keys
 use Rattle.desk_rows.specs.declared.row.Kind.TheVariants as kinds
 use Rattle.desk_rows.specs.Row.{key_of, has_key, names, other_claims}
 use Rattle.desk_rows.specs.declared.edit.Placed.{Placed}
-use Rattle.desk_rows.specs.Order.{with_rows, without_rows}
+use Rattle.desk_rows.specs.Order.{in_order, with_rows, without_rows}
 use Rattle.desk_rows.specs.Places.{take_at}
 use Rattle.desk_rows.specs.Edit.{EditOf, outs, ins}
 use Rattle.desk_rows.specs.Desk.{Desk, is_within_limits, is_named_there, is_made_once, is_alone, is_audio_in, obeys}
 use Rattle.desk_rows.specs.Kinds.{is_of}
 use Rattle.desk_rows.specs.Exchange.{exchanged}
+
+-- the lists of an edit are in order
+pub record HasOrders (e : EditOf) : Type 0 where
+  pub taken : in_order e.taken.others ≡ true
+  pub old : in_order e.replaced.old ≡ true
+  pub put : in_order e.put.others ≡ true
+  pub new : in_order e.replaced.new ≡ true
 
 -- ---- the rows that stay, those that go and those that come
 

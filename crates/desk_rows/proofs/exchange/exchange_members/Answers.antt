@@ -1,0 +1,8 @@
+use Rattle.std.proofs.Common.{sym, subst}
+use Rattle.desk_rows.specs.Places.{take_at, put_at}
+use Rattle.desk_rows.proofs.Indexed.{Once}
+use Rattle.desk_rows.proofs.exchange.exchange_members.Goals as goal
+
+pub move_members-requires-clause-numbers : goal.move_members-requires-clause-numbers
+move_members-requires-clause-numbers g c =
+    subst Once (λ i. put_at (sym c.put_members.ensures i) (take_at (sym c.taken_members.ensures i) c.args.members.now.items)) c.requires.numbers
