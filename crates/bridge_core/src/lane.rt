@@ -101,9 +101,8 @@ impl<A: Allocator + Copy> LaneState<A> {
         let receivers = receivers_of(alloc, rows, frame.source, &frame.address, &self.place)?;
         let ready = prepare_all(alloc, &self.streams, &receivers, frame)?;
         let whole = &frame.frame;
-        let Some(packets) = ready.len().checked_mul(whole.len().into()) else {
-            return Err(LaneFault::OutOfMemory);
-        };
+        // Where there are more packets than can be counted, this much can't be had either.
+        let packets = ready.len().saturating_mul(whole.len().into());
         let mut out = Vec::with_capacity(alloc, packets)?;
         self.streams.reserve(ready.len())?;
         self.handled += 1;
