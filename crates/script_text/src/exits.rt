@@ -9,7 +9,7 @@ use std::fmt;
 use std::io::ErrorKind;
 
 /// What the arguments of the program ask for.
-#[derive(Clone, Copy, Debug, PartialEq, Eq)]
+#[derive(Clone, Copy, PartialEq, Eq)]
 pub enum Ask {
     /// A run over the script on standard input.
     Replay,
@@ -19,7 +19,7 @@ pub enum Ask {
 }
 
 /// How the program ended.
-#[derive(Clone, Copy, Debug, PartialEq, Eq)]
+#[derive(Clone, Copy, PartialEq, Eq)]
 pub enum Outcome {
     /// The arguments are not known.
     Usage,
