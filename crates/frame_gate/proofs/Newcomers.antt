@@ -3,11 +3,11 @@ use Rattle.std.proofs.Common.{◌≡◌, ℕ, zero, suc, ◌+◌, ◌%◌, ◌<�
 use Rattle.std.specs.Option.{option_or}
 use Rattle.std.proofs.lemmas.Bool.Decides.{nat_tests}
 use Rattle.frame_gate.specs.Packets.{NumberedPacket}
-use Rattle.frame_gate.specs.inner.Cells.{held, of_number}
+use Rattle.frame_gate.specs.inner.Cells.{held, of_number, cell, ArePlaced}
 use Rattle.frame_gate.specs.Epochs.{packet_at}
 use Rattle.frame_gate.proofs.Taken.{found-push, none-push}
 
-eq_cases : (m n : ℕ) → (m ≡ n) ⊎ (m ≢ n)
+pub eq_cases : (m n : ℕ) → (m ≡ n) ⊎ (m ≢ n)
 eq_cases m n = elim (nat_eq m n) as (λ b. nat_eq m n ≡ b → (m ≡ n) ⊎ (m ≢ n)) [
   | true ↦ λ is. (let e : m ≡ n = grind (arith, nat_tests) in inl e)
   | false ↦ λ is. inr (λ same. (let e : nat_eq m n ≡ true = grind (arith, nat_tests) in let x : false ≡ true = sym is ∙ e in cc))
@@ -78,5 +78,30 @@ get_or-nothing zero i = refl
 get_or-nothing (suc m) zero = refl
 get_or-nothing (suc m) (suc i) = get_or-nothing m i
 
-pub nothing_held : (m : ℕ) (cells : List (Option NumberedPacket)) (n : ℕ) → cells ≡ replicate m None → held cells None n ≡ None
-nothing_held m cells n h = ap (λ (cs : List (Option NumberedPacket)). of_number (get_or cs (n % 256) None) n) h ∙ ap (λ o. of_number o n) (get_or-nothing m (n % 256))
+pub nothing_there : (m : ℕ) (cells : List (Option NumberedPacket)) (i : ℕ) → cells ≡ replicate m None → get_or cells i None ≡ None
+nothing_there m cells i h = ap (λ (cs : List (Option NumberedPacket)). get_or cs i None) h ∙ get_or-nothing m i
+
+some_is : (p q : NumberedPacket) → Some p ≡ Some q → p ≡ q
+some_is p q h = cc
+
+-- with one more packet in its cell
+pub placed-set : (cells : List (Option NumberedPacket)) (p : NumberedPacket) → length cells ≡ 256 → ArePlaced cells → ArePlaced (set cells (p.number % 256) (Some p))
+placed-set cells p long h i q is = elim (eq_cases i (p.number % 256)) [
+  | inl same ↦
+      let lt : p.number % 256 < length cells = omega arith in
+      let there : Some p ≡ Some q = sym (get_or-set_same cells (p.number % 256) (Some p) None lt) ∙ ap (λ j. get_or (set cells (p.number % 256) (Some p)) j None) (sym same) ∙ is in
+      ap (λ (r : NumberedPacket). r.number % 256) (sym (some_is p q there)) ∙ sym same
+  | inr other ↦ h i q (sym (get_or-set_other cells (p.number % 256) i (Some p) None other) ∙ is)
+]
+
+pub from-set : (cells : List (Option NumberedPacket)) (p : NumberedPacket) (from : ℕ) → length cells ≡ 256 → from ≤ p.number
+    → ((i : ℕ) (q : NumberedPacket) → cell cells i ≡ Some q → from ≤ q.number)
+    → (i : ℕ) (q : NumberedPacket) → cell (set cells (p.number % 256) (Some p)) i ≡ Some q → from ≤ q.number
+from-set cells p from long le h i q is = elim (eq_cases i (p.number % 256)) [
+  | inl same ↦
+      let lt : p.number % 256 < length cells = omega arith in
+      let there : Some p ≡ Some q = sym (get_or-set_same cells (p.number % 256) (Some p) None lt) ∙ ap (λ j. get_or (set cells (p.number % 256) (Some p)) j None) (sym same) ∙ is in
+      let number : p.number ≡ q.number = ap (λ (r : NumberedPacket). r.number) (some_is p q there) in
+      omega arith
+  | inr other ↦ h i q (sym (get_or-set_other cells (p.number % 256) i (Some p) None other) ∙ is)
+]

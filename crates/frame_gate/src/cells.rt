@@ -1,9 +1,9 @@
 //! The room of a gate: each packet lies in the cell of its number modulo the room, and keeps its number.
 
-ghost use Rattle.std.specs.Prelude.{◌≡◌, ℕ, ◌+◌, ◌-◌, ◌<◌, ◌≤◌, ◌^◌, length, IfOk, OnOk, IsSome, List, ◌++◌, None, vec_len, map, false};
+ghost use Rattle.std.specs.Prelude.{◌≡◌, ℕ, ◌+◌, ◌-◌, ◌<◌, ◌≤◌, ◌^◌, length, IfOk, OnOk, IsSome, List, ◌++◌, None, vec_len, map, false, ◌%◌};
 ghost use Rattle.std.specs.Option.{option_to_list, option_copied};
 ghost use Rattle.frame_gate.specs.Runs.{full, IsRow};
-ghost use Rattle.frame_gate.specs.inner.Cells.{held};
+ghost use Rattle.frame_gate.specs.inner.Cells.{held, cell, from_on, MayForget, Forgets};
 ghost use Rattle.frame_gate.specs.Packets.{NumberedPacket, frame_packet};
 ghost use Rattle.frame_gate.specs.Frame.{has_bad_kind};
 
@@ -17,7 +17,7 @@ pub const ROOM: u64 = 256;
 /// Cells that hold nothing.
 pub fn empty_cells<A: Allocator + Copy>(alloc: A) -> Result<Vec<Option<Held<A>>, A>, AllocError>
     ensures len { IfOk result (λ cells. vec_len cells ≡ 256) }
-    ensures empty { IfOk result (λ cells. (n : ℕ) → held cells.items None n ≡ None) }
+    ensures empty { IfOk result (λ cells. (i : ℕ) → cell cells.items i ≡ None) }
 {
     let mut cells = Vec::with_capacity(alloc, ROOM as usize)?;
     for _ in 0..ROOM {
@@ -98,4 +98,31 @@ pub fn least_held<A: Allocator + Copy>(cells: &[Option<Held<A>>], from: u64, num
         }
     }
     number
+}
+
+/// Forgets what lies in the cell of a number, where its own number is below `to`.
+fn forget<A: Allocator + Copy>(cells: &mut [Option<Held<A>>], number: u64, to: u64)
+    requires { length cells.old ≡ 256 }
+    ensures len { length cells.new ≡ 256 }
+    ensures here { cell cells.new (number % 256) ≡ from_on to (cell cells.old (number % 256)) }
+    ensures others { (i : ℕ) → ¬ (i ≡ number % 256) → cell cells.new i ≡ cell cells.old i }
+{
+    let i = (number % ROOM) as usize;
+    if let Some(packet) = &cells[i] {
+        if packet.number < to {
+            cells[i] = None;
+        }
+    }
+}
+
+/// Forgets what is numbered from one number to before another.
+pub fn forget_between<A: Allocator + Copy>(cells: &mut [Option<Held<A>>], from: u64, to: u64)
+    requires { length cells.old ≡ 256 }
+    ensures len { length cells.new ≡ 256 }
+    ensures others { MayForget to cells.old cells.new }
+    ensures gone { Forgets from to cells.old cells.new }
+{
+    for k in 0..to.saturating_sub(from).min(ROOM) {
+        forget(cells, from + k, to);
+    }
 }

@@ -4,11 +4,11 @@ ghost use Rattle.std.specs.Prelude.{◌≡◌, ℕ, ◌+◌, ◌-◌, ◌<◌, �
 ghost use Rattle.frame_gate.specs.inner.Cells.{held};
 ghost use Rattle.frame_gate.specs.Epochs.{Epoch, resynced, taking, top, missing_above, opened, frames_of};
 ghost use Rattle.frame_gate.specs.inner.Ties.{Tied};
-ghost use Rattle.frame_gate.specs.Admits.{Admits, Represents, IsAt, committed};
+ghost use Rattle.frame_gate.specs.Admits.{Admits, Represents, IsAt, Takes, Commits, Prepares};
 ghost use Rattle.frame_gate.specs.Packets.{NumberedPacket, numbered, ext_of, IsExt};
 ghost use Rattle.frame_gate.specs.Frame.{WholeFrame, highest_pt};
 
-use crate::cells::{ROOM, empty_cells, find_held};
+use crate::cells::{ROOM, empty_cells, find_held, forget_between};
 use crate::held::Held;
 use crate::missing::missing;
 use crate::packet::{Packet, Place};
@@ -122,6 +122,7 @@ impl<A: Allocator + Copy> Gate<A> {
     /// The walk, begun at this number by the first packet.
     fn opened(&self, packet: &Held<A>) -> Walk
         ensures tied { (e : Epoch) → IsAt self.now e → Tied (held self.now.cells None) (frames_of e) (opened e packet.now) result [] }
+        ensures above { (e : Epoch) → IsAt self.now e → self.now.walk.next ≤ result.next }
         ensures ordered { result.next ≤ result.after }
     {
         if self.greatest.is_some() {
@@ -138,7 +139,7 @@ impl<A: Allocator + Copy> Gate<A> {
 
     /// What the gate answers to a packet in its place, and would remember.
     fn judge(&self, alloc: A, packet: Held<A>) -> Result<Prepared<A>, AllocError>
-        ensures { IfOk result (λ r. Admits self.now (committed self.now r) packet r.answer) }
+        ensures { IfOk result (λ r. Prepares self.now packet r) }
     {
         let walk = self.opened(&packet);
         if packet.number < walk.next {
@@ -154,14 +155,27 @@ impl<A: Allocator + Copy> Gate<A> {
     pub fn prepare(&self, alloc: A, ext: i64, packet: Packet<A>) -> Result<Prepared<A>, AllocError>
         requires ext { IsExt ext }
         requires pt { packet.pt ≤ highest_pt }
-        ensures { IfOk result (λ r. Admits self.now (committed self.now r) (numbered ext packet) r.answer) }
+        ensures { IfOk result (λ r. Prepares self.now (numbered ext packet) r) }
     {
         self.judge(alloc, Held::new(ext, packet))
     }
 
+    /// Keeps a packet, and lets go of what is decided.
+    fn keep(&mut self, packet: Held<A>, walk: Walk)
+        requires ordered { walk.next ≤ walk.after }
+        requires number { packet.number < 2 ^ 63 }
+        ensures { Takes self.old packet walk self.new }
+    {
+        let number = packet.number;
+        self.cells[(number % ROOM) as usize] = Some(packet);
+        forget_between(&mut self.cells, self.walk.next, walk.next);
+        self.walk = walk;
+        self.greatest = Some(self.greatest.unwrap_or(0).max(number));
+    }
+
     /// Gives the answer that was prepared for the gate as it is.
     pub fn commit(&mut self, prepared: Prepared<A>) -> Admitted<A>
-        ensures gate { self.new ≡ committed self.old prepared }
+        ensures gate { Commits self.old prepared self.new }
         ensures answer { result ≡ prepared.answer }
     {
         let Prepared {
@@ -170,10 +184,7 @@ impl<A: Allocator + Copy> Gate<A> {
             answer,
         } = prepared;
         if answer.place == Place::Taken {
-            let number = packet.number;
-            self.cells[(number % ROOM) as usize] = Some(packet);
-            self.walk = walk;
-            self.greatest = Some(self.greatest.unwrap_or(0).max(number));
+            self.keep(packet, walk);
         }
         answer
     }

@@ -1,10 +1,9 @@
-use Rattle.std.proofs.Common.{◌≡◌, ℤ, ◌++◌, ◌∷◌, [], arith, sym, subst, to_z, of_z, w64}
+use Rattle.std.proofs.Common.{◌≡◌, ℤ, arith, sym, subst, to_z, of_z, w64}
 use Rattle.std.proofs.lemmas.Int.{to_z-of_z}
 use Rattle.frame_gate.specs.Packets.{numbered}
 use Rattle.frame_gate.specs.Answer.{Answer}
 use Rattle.frame_gate.specs.Epochs.{epoch_of}
-use Rattle.frame_gate.specs.Admits.{Admits, Answers, Represents, committed}
-use Rattle.frame_gate.specs.inner.Kept.{Kept}
+use Rattle.frame_gate.specs.Admits.{Answers, Prepares}
 use Rattle.frame_gate.proofs.gate.Gate.admit.Goals as goal
 
 pub returns-clause-ok : goal.returns-clause-ok
@@ -13,9 +12,7 @@ returns-clause-ok g c = λ before h.
     let p = numbered c.args.ext c.args.packet in
     let prepared = c.in_ok-prepared.prepared in
     let same : to_z w64 (of_z w64 c.args.ext) ≡ c.args.ext = grind (arith, to_z-of_z) in
-    let all : Admits k (committed k prepared) p prepared.answer =
-    subst (λ (ext : ℤ). Admits k (committed k prepared) (numbered ext c.args.packet) prepared.answer) same c.in_ok-prepared.ensures in
-    let x = all before h in (
-      subst (λ (a : Answer). Answers (epoch_of before) p a) (sym c.commit.ensures.answer) x.0,
-      subst (λ (k : Kept). Represents k (before ++ p ∷ [])) (sym c.commit.ensures.gate) x.1,
-    )
+    let all : Prepares k p prepared =
+    subst (λ (ext : ℤ). Prepares k (numbered ext c.args.packet) prepared) same c.in_ok-prepared.ensures in
+    let x = all c.commit.new.self c.commit.ensures.gate before h in
+    (subst (λ (a : Answer). Answers (epoch_of before) p a) (sym c.commit.ensures.answer) x.0, x.1)
