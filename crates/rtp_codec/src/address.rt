@@ -1,7 +1,7 @@
 //! Addresses.
 
 /// An IPv4 address and a UDP port.
-#[derive(Clone, Copy, Debug, PartialEq, Eq)]
+#[derive(Clone, Copy, PartialEq, Eq)]
 pub struct Address {
     /// The four octets in network order.
     pub ip: [u8; 4],

@@ -32,7 +32,7 @@ pub enum Fault {
 }
 
 /// Why a line could not be read.
-#[derive(Clone, Copy, Debug, PartialEq, Eq)]
+#[derive(Clone, Copy, PartialEq, Eq)]
 pub enum ParseFault {
     /// The fault, and the place of its word from 1; place 0 is the whole line.
     Line { word: u32, fault: Fault },
