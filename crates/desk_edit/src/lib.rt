@@ -9,5 +9,5 @@ mod planning;
 mod refusing;
 
 pub use self::command::{Call, Command, Refusal, Table};
-pub use self::laws::dependent_rows_go;
+pub use self::laws::{dependent_rows_go, good_desks_stay_good};
 pub use self::planning::plan;

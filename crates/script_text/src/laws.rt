@@ -9,6 +9,7 @@ ghost use Rattle.desk_rows.specs.Desk.{Desk as Rows, blank};
 ghost use Rattle.script_text.specs.Bridge.{first_desk, text_of};
 ghost use Rattle.script_text.specs.Output.{output_of};
 ghost use Rattle.script_text.specs.Scripts.{answers_of, sent_in, steps_of};
+ghost use Rattle.bridge_core.specs.Headline.{AreGood, HaveNoGap, numbers, sent_on};
 ghost use Rattle.bridge_core.specs.Steps.{sends};
 ghost use Rattle.desk_edit.specs.Refusals.{first_case};
 ghost use Rattle.desk_edit.specs.Calls.{refusal_at};
@@ -26,6 +27,8 @@ ghost use Rattle.script_text.specs.Packets.{SpellPackets, packet_of, packet_text
 ghost use Rattle.script_text.specs.Lines.{parts_of};
 
 use crate::script::{BRIDGE_SSRC, CNAME};
+use bridge_core::streams_have_no_gap;
+use desk_edit::good_desks_stay_good;
 
 /// The words of a line have no space, and with single spaces between them they are the line; no
 /// others do. So it is with the parts of a script between its LFs.
@@ -118,3 +121,14 @@ pub fn script_sends()
     ensures text { (input : List ℕ) → (output_of input).text ≡ flat_map text_of (answers_of input) }
     ensures sends { (input : List ℕ) → sent_in (answers_of input) ≡ sends 1 first_desk (steps_of input) }
 {}
+
+/// Each desk that a script publishes is good, so the core's laws on good desks speak of scripts: each
+/// stream of a script numbers its packets without a gap modulo 65536.
+pub fn script_streams_have_no_gap()
+    ensures good { (input : List ℕ) → AreGood (steps_of input) }
+    ensures no_gap { (input : List ℕ) (ssrc : ℕ) → HaveNoGap (numbers (sent_on ssrc (sent_in (answers_of input)))) }
+{
+    good_desks_stay_good();
+    streams_have_no_gap();
+    script_sends();
+}

@@ -1,0 +1,82 @@
+-- The desks of a script are good.
+use Rattle.std.proofs.Common.{◌≡◌, ℕ, true, List, [], ◌∷◌, ◌++◌, Option, Some, None, refl}
+use Rattle.std.specs.Prelude.{fold}
+use Rattle.std.specs.List.{AllByRecursion}
+use Rattle.desk_rows.specs.Desk.{Desk as Rows, good, blank}
+use Rattle.desk_edit.specs.declared.command.Command.{Command}
+use Rattle.desk_edit.specs.declared.command.Call.{Call}
+use Rattle.desk_edit.specs.declared.command.Call.TheVariants.{Apply, Undo}
+use Rattle.desk_edit.specs.declared.command.Refusal.{Refusal}
+use Rattle.desk_edit.specs.Commands.{desk_after}
+use Rattle.desk_edit.specs.Refusals.{refused}
+use Rattle.desk_edit.specs.Calls.{CallHistory, desk_now, front, or_log_full, refusal_of, after_call as history_after}
+use Rattle.bridge_core.specs.Steps.{Step}
+use Rattle.bridge_core.specs.Headline.{IsGood, AreGood}
+use Rattle.script_text.specs.Requests.{Request, Nothing, Desk, Item}
+use Rattle.script_text.specs.Lines.{lines_of}
+use Rattle.script_text.specs.Bridge.{Bridge, first_desk, opening_bridge, answer_call, after}
+use Rattle.script_text.specs.Scripts.{requests_of, after_all, steps_of}
+
+-- a command that is not refused leaves a good desk
+abbrev pub Keeps : Type 0
+Keeps = (d : Rows) (command : Command) → good d ≡ true → refused d command ≡ None → good (desk_after d command) ≡ true
+
+-- each desk on the way is good
+abbrev GoodAlong : Rows → List Command → Type 0
+GoodAlong d [] = good d ≡ true
+GoodAlong d (c ∷ cs) = (good d ≡ true) × GoodAlong (desk_after d c) cs
+
+now_good : (d : Rows) (cs : List Command) → GoodAlong d cs → good (fold desk_after d cs) ≡ true
+now_good d [] h = h
+now_good d (c ∷ cs) (g, h) = now_good (desk_after d c) cs h
+
+one_more : (d : Rows) (cs : List Command) (c : Command) → GoodAlong d cs → good (desk_after (fold desk_after d cs) c) ≡ true → GoodAlong d (cs ++ c ∷ [])
+one_more d [] c g next = (g, next)
+one_more d (b ∷ cs) c (g, h) next = (g, one_more (desk_after d b) cs c h next)
+
+one_less : (d : Rows) (cs : List Command) → GoodAlong d cs → GoodAlong d (front cs)
+one_less d [] h = h
+one_less d (c ∷ []) (g, h) = g
+one_less d (c ∷ b ∷ cs) (g, h) = (g, one_less (desk_after d c) (b ∷ cs) h)
+
+no_reason : (reason : Option Refusal) (version : ℕ) → or_log_full reason version ≡ None → reason ≡ None
+no_reason None version h = refl
+no_reason (Some why) version h = absurd cc
+
+call_good : Keeps → (h : CallHistory) (call : Call) → GoodAlong h.start h.done → refusal_of h call ≡ None → GoodAlong (history_after h call).start (history_after h call).done
+unfolding history_after
+call_good keeps h (Apply c) along none =
+    one_more h.start h.done c along (keeps (desk_now h) c (now_good h.start h.done along) (no_reason (refused (desk_now h) c) h.accepted none))
+call_good keeps h (Undo last) along none = one_less h.start h.done along
+
+step_good : (steps : List Step) (step : Step) → AreGood steps → IsGood step → AreGood (steps ++ step ∷ [])
+step_good [] step h g = (g, h)
+step_good (s ∷ steps) step (gs, h) g = (gs, step_good steps step h g)
+
+-- its desks so far are good
+record Fine (b : Bridge) : Type 0 where
+  calls : GoodAlong b.calls.start b.calls.done
+  steps : AreGood b.steps
+
+after_good : Keeps → (b : Bridge) (request : Request) → Fine b → Fine (after b request)
+after_good keeps b Nothing fine = fine
+after_good keeps b (Desk op call) fine = by (refusal_of b.calls call) refl
+  where
+    by : (reason : Option Refusal) → refusal_of b.calls call ≡ reason → Fine (answer_call b (history_after b.calls call) reason).1
+    by None none =
+        let along = call_good keeps b.calls call fine.calls none in
+        let next = history_after b.calls call in
+        record { calls = along; steps = step_good b.steps (Step.publish (desk_now next)) fine.steps (now_good next.start next.done along) }
+    by (Some why) is = fine
+after_good keeps b (Item item) fine = record { calls = fine.calls; steps = step_good b.steps (Step.item 0 item) fine.steps tt }
+
+all_good : Keeps → (b : Bridge) (requests : List Request) → Fine b → Fine (after_all b requests)
+all_good keeps b [] fine = fine
+all_good keeps b (request ∷ requests) fine = all_good keeps (after b request) requests (after_good keeps b request fine)
+
+pub first_good : good first_desk ≡ true
+unfolding good
+first_good = refl
+
+pub steps_good : Keeps → (input : List ℕ) → AreGood (steps_of input)
+steps_good keeps input = (all_good keeps opening_bridge (requests_of (lines_of input)) (record { calls = first_good; steps = tt })).steps
