@@ -1,8 +1,7 @@
 -- The desks of a script are good.
 use Rattle.std.proofs.Common.{◌≡◌, ℕ, true, List, [], ◌∷◌, ◌++◌, Option, Some, None, refl}
 use Rattle.std.specs.Prelude.{fold}
-use Rattle.std.specs.List.{AllByRecursion}
-use Rattle.desk_rows.specs.Desk.{Desk as Rows, good, blank}
+use Rattle.desk_rows.specs.Desk.{Desk as Rows, good}
 use Rattle.desk_edit.specs.declared.command.Command.{Command}
 use Rattle.desk_edit.specs.declared.command.Call.{Call}
 use Rattle.desk_edit.specs.declared.command.Call.TheVariants.{Apply, Undo}
