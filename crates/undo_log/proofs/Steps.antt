@@ -1,6 +1,6 @@
 -- The steps of a timeline: an edit is pushed, undone and done again.
 use Rattle.std.proofs.Common.{◌≡◌, Bool, true, ◌&&◌, List, [], ◌∷◌, ◌++◌, reverse, fold, refl, sym, ap, subst, ◌∙◌, arith}
-use Rattle.std.proofs.lemmas.List.{reverse-append}
+use Rattle.std.proofs.lemmas.List.{reverse-append, reverse-reverse}
 use Rattle.std.proofs.lemmas.List.Sums.{fold_push}
 use Rattle.std.proofs.lemmas.Bool.{and_parts, and_from}
 use Rattle.undo_log.specs.Timeline.{IsTimeline, all_fit, rewound}
@@ -61,6 +61,11 @@ module _ {S E : Type 0} (fits : S → E → Bool) (after : S → E → S) where
     restored x done undone e is =
         let was = before_last x done undone e is in ap (λ y. after y e) was.3 ∙ was.2
 
+    -- and the last edit taken back fits
+    pub last_fits : (x : S) (done undone : List E) (e : E) → IsTimeline fits after (start_of x (done ++ e ∷ [])) x (done ++ e ∷ []) undone → fits x (inverse e) ≡ true
+    last_fits x done undone e is =
+        let was = before_last x done undone e is in ap (λ y. fits y (inverse e)) (sym was.2) ∙ inverse_fits was.0 e was.1
+
     pub undone_once : (x : S) (done undone : List E) (e : E) → IsTimeline fits after (start_of x (done ++ e ∷ [])) x (done ++ e ∷ []) undone →
         IsTimeline fits after (start_of (after x (inverse e)) done) (after x (inverse e)) done (undone ++ e ∷ [])
     undone_once x done undone e is =
@@ -70,3 +75,23 @@ module _ {S E : Type 0} (fits : S → E → Bool) (after : S → E → S) where
           done_leads = was.4;
           undone_fit = ap (all_fit fits after was.0) (reverse_push undone e) ∙ and_from _ _ was.1 (ap (λ z. all_fit fits after z (reverse undone)) was.2 ∙ is.undone_fit);
         }
+
+    -- what a redo finds: the edit fits, and what is undone beside it leads on from there
+    pub next_fits : (x : S) (undone : List E) (e : E) → all_fit fits after x (reverse (undone ++ e ∷ [])) ≡ true →
+        (fits x e ≡ true) × (all_fit fits after (after x e) (reverse undone) ≡ true)
+    next_fits x undone e ahead = and_parts (fits x e) _ (sym (ap (all_fit fits after x) (reverse_push undone e)) ∙ ahead)
+
+    pub done_again : (x : S) (done undone : List E) (e : E) → IsTimeline fits after (start_of x done) x done (undone ++ e ∷ []) →
+        IsTimeline fits after (start_of (after x e) (done ++ e ∷ [])) (after x e) (done ++ e ∷ []) undone
+    done_again x done undone e is =
+        let next = next_fits x undone e is.undone_fit in pushed x done (undone ++ e ∷ []) undone e next.0 is next.1
+
+-- what is done again after all was taken back is what was done, where nothing was undone
+pub done_again_all : {E : Type 0} (was before back undone done : List E) → before ≡ [] → back ≡ [] → undone ≡ before ++ reverse was → done ≡ back ++ reverse undone → done ≡ was
+done_again_all was before back undone done none is_empty turned is =
+    let all : undone ≡ reverse was = turned ∙ ap (λ es. es ++ reverse was) none in
+    is ∙ ap (λ es. es ++ reverse undone) is_empty ∙ ap reverse all ∙ reverse-reverse was
+
+-- the same edits lead from the same start to the same state
+pub same_end : {S E : Type 0} (after : S → E → S) (start begin state end : S) (es ds : List E) → fold after start es ≡ state → fold after begin ds ≡ end → start ≡ begin → es ≡ ds → state ≡ end
+same_end after start begin state end es ds leads to same all = sym leads ∙ ap (λ s. fold after s es) same ∙ ap (fold after begin) all ∙ to
