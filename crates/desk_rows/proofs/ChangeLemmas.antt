@@ -1,5 +1,5 @@
 -- What an edit takes and puts, found by keys.
-use Rattle.std.proofs.Common.{◌≡◌, ℕ, Bool, true, false, ◌||◌, List, [], ◌∷◌, ◌++◌, map, refl, sym, ap, ◌∙◌, Some, None}
+use Rattle.std.proofs.Common.{◌≡◌, ℕ, Bool, true, false, cond, ◌||◌, List, [], ◌∷◌, ◌++◌, map, refl, sym, ap, ◌∙◌, Some, None}
 use Rattle.std.specs.Option.{is_some}
 use Rattle.std.specs.List.{find, list_any}
 use Rattle.std.proofs.lemmas.List.Folds.{list_any-append}
@@ -14,18 +14,12 @@ use Rattle.desk_rows.specs.Edit.{EditOf}
 use Rattle.desk_rows.specs.inner.Judged.{listed_rows, change_rows, come_rows, takes, puts}
 use Rattle.desk_rows.specs.laws.OrderLaws.{list_any-with_rows}
 use Rattle.desk_rows.proofs.Finding.{is_found, found_there}
+use Rattle.desk_rows.proofs.KindLemmas.{not_its}
 
 -- only the key of a member is a member's
 pub no_placed : (key : Key) → ((n : ℕ) → key ≡ keys.Member n → ⊥) → (ps : List Placed) → find (has_key key) (map (λ p. Member p.row) ps) ≡ None
-no_placed (keys.Member n) not ps = absurd (not n refl)
-no_placed (keys.Room n) not [] = refl
-no_placed (keys.Room n) not (p ∷ ps) = no_placed (keys.Room n) not ps
-no_placed (keys.Source n) not [] = refl
-no_placed (keys.Source n) not (p ∷ ps) = no_placed (keys.Source n) not ps
-no_placed (keys.Slot n) not [] = refl
-no_placed (keys.Slot n) not (p ∷ ps) = no_placed (keys.Slot n) not ps
-no_placed (keys.Sub n) not [] = refl
-no_placed (keys.Sub n) not (p ∷ ps) = no_placed (keys.Sub n) not ps
+no_placed key not [] = refl
+no_placed key not (p ∷ ps) = ap (λ b. cond b (Some (Member p.row)) (find (has_key key) (map (λ p. Member p.row) ps))) (not_its key not p.row) ∙ no_placed key not ps
 
 -- some row passes, in whatever order they are listed
 any_change : (q : Row → Bool) (ps : List Placed) (rs more : List Row) → list_any q (listed_rows ps rs more) ≡ list_any q (change_rows ps rs more)

@@ -1,16 +1,20 @@
 -- The tests of an exchange, and what absorbing an edit that fits finds and leaves.
-use Rattle.std.proofs.Common.{◌≡◌, ℕ, ◌+◌, ◌-◌, ◌≤◌, nat_eq, nat_lt, Bool, true, false, not, cond, ◌&&◌, ◌||◌, List, [], ◌∷◌, map, length, filter, refl, sym, ap, ◌∙◌, inl, inr, arith}
+use Rattle.std.proofs.Common.{◌≡◌, ℕ, zero, suc, ◌+◌, ◌-◌, ◌≤◌, nat_eq, Bool, true, false, not, cond, ◌&&◌, List, [], ◌∷◌, map, length, filter, refl, sym, ap, ◌∙◌, inl, inr, arith}
 use Rattle.std.specs.Prelude.{count_by}
 use Rattle.std.specs.List.{list_any, list_all}
-use Rattle.std.proofs.lemmas.Bool.{and_parts, and_from, cases_Bool}
+use Rattle.std.proofs.lemmas.Bool.{and_parts, and_from, or_right, or_cases, cases_Bool}
+use borrow.Author.Tests.{eqb-true, eq-eqb}
 use Rattle.desk_rows.specs.declared.row.Row.{Row}
 use Rattle.desk_rows.specs.declared.row.Row.TheVariants as rows
 use Rattle.desk_rows.specs.declared.row.Member.{Member}
 use Rattle.desk_rows.specs.declared.row.Key.{Key}
 use Rattle.desk_rows.specs.declared.row.Key.TheVariants as keys
+use Rattle.desk_rows.specs.declared.row.Kind.{Kind}
 use Rattle.desk_rows.specs.declared.row.Kind.TheVariants as kinds
 use Rattle.desk_rows.specs.declared.edit.Placed.{Placed}
-use Rattle.desk_rows.specs.Row.{key_of, has_key, same_key}
+use Rattle.desk_rows.specs.Row.{rank, kind_of, own_numbers, key_numbers, key_of, owner_of, has_key, same_key}
+use Rattle.desk_rows.specs.Numbers.{numbers_precede}
+use Rattle.desk_rows.specs.laws.NumberLaws.{numbers_not_before}
 use Rattle.desk_rows.specs.laws.Equal.{key_itself, same_key_is, its_key}
 use Rattle.desk_rows.specs.Kinds.{is_of}
 use Rattle.desk_rows.specs.Order.{precedes, in_order, is_in, with_row, with_rows}
@@ -44,41 +48,47 @@ filter_count p (x ∷ xs) = by (p x) refl (filter_count p xs) where
   by true e rest = let here : ◌≡◌ {A = ℕ} (cond (p x) 1 0) 1 = ap (λ b. cond b 1 0) e in omega (arith, rest, count_next p x xs, here)
   by false e rest = let here : ◌≡◌ {A = ℕ} (cond (p x) 1 0) 0 = ap (λ b. cond b 1 0) e in omega (arith, rest, count_next p x xs, here)
 
--- the key of the slot that a sub names
-slot_key : Row → Key
-slot_key (rows.Sub s) = keys.Slot s.out_ssrc
-slot_key r = key_of r
+-- the key of the row whose number a row has
+abbrev owner_key : Row → Key
+owner_key r = owner_of (key_of r)
 
-sub_keys_differ : (x z : Row) → is_of kinds.Sub x ≡ true → is_of kinds.Sub z ≡ true → precedes x z ≡ true → same_key (slot_key x) (slot_key z) ≡ false
-unfolding slot_key
-sub_keys_differ (rows.Sub x) (rows.Sub z) a b h = less x.out_ssrc z.out_ssrc h where
-  less : (m n : ℕ) → nat_lt m n ≡ true → nat_eq m n ≡ false
-  less m n h = grind (arith, h)
-sub_keys_differ (rows.Room x) z a b h = absurd (true_false (sym a))
-sub_keys_differ (rows.Member x) z a b h = absurd (true_false (sym a))
-sub_keys_differ (rows.Source x) z a b h = absurd (true_false (sym a))
-sub_keys_differ (rows.Slot x) z a b h = absurd (true_false (sym a))
-sub_keys_differ (rows.Sub x) (rows.Room z) a b h = absurd (true_false (sym b))
-sub_keys_differ (rows.Sub x) (rows.Member z) a b h = absurd (true_false (sym b))
-sub_keys_differ (rows.Sub x) (rows.Source z) a b h = absurd (true_false (sym b))
-sub_keys_differ (rows.Sub x) (rows.Slot z) a b h = absurd (true_false (sym b))
+own_kept : (k : Key) → own_numbers (owner_of k) ≡ own_numbers k
+own_kept (keys.Room n) = refl
+own_kept (keys.Member n) = refl
+own_kept (keys.Source n) = refl
+own_kept (keys.Slot n) = refl
+own_kept (keys.Sub n) = refl
+own_kept (keys.Mute n) = refl
+own_kept (keys.Gain m n) = refl
+own_kept (keys.Pin n) = refl
+own_kept (keys.Floor n) = refl
+
+-- rows of one kind in order have the numbers of differing rows
+owners_differ : (kind : Kind) (x z : Row) → is_of kind x ≡ true → is_of kind z ≡ true → precedes x z ≡ true → same_key (owner_key x) (owner_key z) ≡ false
+owners_differ kind x z f g h = elim (cases_Bool (same_key (owner_key x) (owner_key z))) [
+  | inl e ↦
+      let own : own_numbers (key_of x) ≡ own_numbers (key_of z) = sym (own_kept (key_of x)) ∙ ap own_numbers (same_key_is (owner_key x) (owner_key z) e) ∙ own_kept (key_of z) in
+      let ranks : rank (kind_of (key_of x)) ≡ rank (kind_of (key_of z)) = eqb-true _ _ f ∙ sym (eqb-true _ _ g) in
+      absurd (true_false (sym h ∙ (λ i. numbers_precede (ranks i ∷ own i) (key_numbers (key_of z))) ∙ numbers_not_before (key_numbers (key_of z))))
+  | inr e ↦ e
+]
 
 -- rows of differing keys that each have a row among others are no more than these
-each_has_its_own : (xs ys : List Row) → in_order xs ≡ true → list_all (is_of kinds.Sub) xs ≡ true → list_all (λ x. list_any (has_key (slot_key x)) ys) xs ≡ true → length xs ≤ length ys
-each_has_its_own [] ys h k each = omega arith
-each_has_its_own (x ∷ xs) ys h k each =
+each_has_its_own : (kind : Kind) (xs ys : List Row) → in_order xs ≡ true → list_all (is_of kind) xs ≡ true → list_all (λ x. list_any (has_key (owner_key x)) ys) xs ≡ true → length xs ≤ length ys
+each_has_its_own kind [] ys h k each = omega arith
+each_has_its_own kind (x ∷ xs) ys h k each =
     let order = and_parts (list_all (precedes x) xs) (in_order xs) h in
-    let subs = and_parts (is_of kinds.Sub x) (list_all (is_of kinds.Sub) xs) k in
-    let haves = and_parts (list_any (has_key (slot_key x)) ys) (list_all (λ x. list_any (has_key (slot_key x)) ys) xs) each in
-    let left = filter (λ y. not (has_key (slot_key x) y)) ys in
-    let some = some_count (has_key (slot_key x)) ys haves.0 in
-    let all = filter_count (has_key (slot_key x)) ys in
-    let rest = each_has_its_own xs left order.1 subs.1 (from_each (λ z. list_any (has_key (slot_key z)) left) xs (λ z one.
-    let w = witness (has_key (slot_key z)) ys (at_each (λ z. list_any (has_key (slot_key z)) ys) xs z haves.1 one) in
-    let differ = sub_keys_differ x z subs.0 (at_each (is_of kinds.Sub) xs z subs.1 one) (at_each (precedes x) xs z order.0 one) in
-    let other : has_key (slot_key x) w.0 ≡ false = ap (λ q. same_key q (slot_key x)) (its_key (slot_key z) w.0 w.2) ∙ turned (slot_key z) (slot_key x) differ in
-    let stays : is_in left w.0 ≡ true = is_in-filter (λ y. not (has_key (slot_key x) y)) w.0 ys ∙ and_from _ _ w.1 (ap not other) in
-    count_some (has_key (slot_key z)) left (any_counts (has_key (slot_key z)) left w.0 stays w.2))) in
+    let subs = and_parts (is_of kind x) (list_all (is_of kind) xs) k in
+    let haves = and_parts (list_any (has_key (owner_key x)) ys) (list_all (λ x. list_any (has_key (owner_key x)) ys) xs) each in
+    let left = filter (λ y. not (has_key (owner_key x) y)) ys in
+    let some = some_count (has_key (owner_key x)) ys haves.0 in
+    let all = filter_count (has_key (owner_key x)) ys in
+    let rest = each_has_its_own kind xs left order.1 subs.1 (from_each (λ z. list_any (has_key (owner_key z)) left) xs (λ z one.
+    let w = witness (has_key (owner_key z)) ys (at_each (λ z. list_any (has_key (owner_key z)) ys) xs z haves.1 one) in
+    let differ = owners_differ kind x z subs.0 (at_each (is_of kind) xs z subs.1 one) (at_each (precedes x) xs z order.0 one) in
+    let other : has_key (owner_key x) w.0 ≡ false = ap (λ q. same_key q (owner_key x)) (its_key (owner_key z) w.0 w.2) ∙ turned (owner_key z) (owner_key x) differ in
+    let stays : is_in left w.0 ≡ true = is_in-filter (λ y. not (has_key (owner_key x) y)) w.0 ys ∙ and_from _ _ w.1 (ap not other) in
+    count_some (has_key (owner_key z)) left (any_counts (has_key (owner_key z)) left w.0 stays w.2))) in
     omega (arith, rest, all, some) where
       turned : (a b : Key) → same_key b a ≡ false → same_key a b ≡ false
       turned a b h = elim (cases_Bool (same_key a b)) [
@@ -89,67 +99,108 @@ each_has_its_own (x ∷ xs) ys h k each =
 all_filter : (p : Row → Bool) (xs : List Row) → list_all p (filter p xs) ≡ true
 all_filter p xs = from_each p (filter p xs) (λ q one. (and_parts (is_in xs q) (p q) (sym (is_in-filter p q xs) ∙ one)).1)
 
--- rows that are no members' are of the four other kinds
-of_four_kinds : (xs : List Row) → list_all (λ r. not (is_of kinds.Member r)) xs ≡ true →
-    length xs ≡ (count_by (is_of kinds.Room) xs + count_by (is_of kinds.Source) xs) + (count_by (is_of kinds.Slot) xs + count_by (is_of kinds.Sub) xs)
-of_four_kinds [] h = refl
-of_four_kinds (x ∷ xs) h =
+-- rows that are no members' are of the eight other kinds
+of_eight_kinds : (xs : List Row) → list_all (λ r. not (is_of kinds.Member r)) xs ≡ true →
+    length xs ≡ ((count_by (is_of kinds.Room) xs + count_by (is_of kinds.Source) xs) + (count_by (is_of kinds.Slot) xs + count_by (is_of kinds.Sub) xs))
+    + ((count_by (is_of kinds.Mute) xs + count_by (is_of kinds.Gain) xs) + (count_by (is_of kinds.Pin) xs + count_by (is_of kinds.Floor) xs))
+of_eight_kinds [] h = refl
+of_eight_kinds (x ∷ xs) h =
     let both = and_parts (not (is_of kinds.Member x)) (list_all (λ r. not (is_of kinds.Member r)) xs) h in
-    let rest = of_four_kinds xs both.1 in
+    let rest = of_eight_kinds xs both.1 in
     let one = one_kind x both.0 in
-    omega (arith, rest, one, count_next (is_of kinds.Room) x xs, count_next (is_of kinds.Source) x xs, count_next (is_of kinds.Slot) x xs, count_next (is_of kinds.Sub) x xs) where
+    omega (
+      arith,
+      rest,
+      one,
+      count_next (is_of kinds.Room) x xs,
+      count_next (is_of kinds.Source) x xs,
+      count_next (is_of kinds.Slot) x xs,
+      count_next (is_of kinds.Sub) x xs,
+      count_next (is_of kinds.Mute) x xs,
+      count_next (is_of kinds.Gain) x xs,
+      count_next (is_of kinds.Pin) x xs,
+      count_next (is_of kinds.Floor) x xs,
+    ) where
       one_kind : (x : Row) → not (is_of kinds.Member x) ≡ true →
-          ◌≡◌ {A = ℕ} 1 ((cond (is_of kinds.Room x) 1 0 + cond (is_of kinds.Source x) 1 0) + (cond (is_of kinds.Slot x) 1 0 + cond (is_of kinds.Sub x) 1 0))
+          ◌≡◌ {A = ℕ} 1 (((cond (is_of kinds.Room x) 1 0 + cond (is_of kinds.Source x) 1 0) + (cond (is_of kinds.Slot x) 1 0 + cond (is_of kinds.Sub x) 1 0))
+          + ((cond (is_of kinds.Mute x) 1 0 + cond (is_of kinds.Gain x) 1 0) + (cond (is_of kinds.Pin x) 1 0 + cond (is_of kinds.Floor x) 1 0)))
       one_kind (rows.Room r) h = refl
       one_kind (rows.Member r) h = cc
       one_kind (rows.Source r) h = refl
       one_kind (rows.Slot r) h = refl
       one_kind (rows.Sub r) h = refl
+      one_kind (rows.Mute r) h = refl
+      one_kind (rows.Gain r) h = refl
+      one_kind (rows.Pin r) h = refl
+      one_kind (rows.Floor r) h = refl
 
--- the slot that a sub names is among the other rows
-slot_there : (d : Desk) → good d ≡ true → (x : Row) → is_in d.others x ≡ true → is_of kinds.Sub x ≡ true → list_any (has_key (slot_key x)) (filter (is_of kinds.Slot) d.others) ≡ true
-unfolding slot_key
-slot_there d g (rows.Sub s) one h =
-    let k = keys.Slot s.out_ssrc in
-    let named = at_each (is_named_there d) (rows_of d) (rows.Sub s) (good_parts d g).named (is_in-append (map rows.Member d.members) d.others (rows.Sub s) ∙ or_last _ _ one) in
-    let there = (and_parts (list_any (has_key k) (rows_of d)) _ named).0 in
-    let w = witness (has_key k) (rows_of d) there in
-    let is_slot : is_of kinds.Slot w.0 ≡ true = slot_of w.0 s.out_ssrc w.2 in
-    let here : is_in d.others w.0 ≡ true = other_of w.0 d.members d.others is_slot (sym (is_in-append (map rows.Member d.members) d.others w.0) ∙ w.1) in
-    let stays : is_in (filter (is_of kinds.Slot) d.others) w.0 ≡ true = is_in-filter (is_of kinds.Slot) w.0 d.others ∙ and_from _ _ here is_slot in
-    count_some (has_key k) (filter (is_of kinds.Slot) d.others) (any_counts (has_key k) (filter (is_of kinds.Slot) d.others) w.0 stays w.2) where
-      or_last : (a b : Bool) → b ≡ true → (a || b) ≡ true
-      or_last true b e = refl
-      or_last false b e = e
+-- the place of an owner's kind, by that of the kind
+owner_rank : ℕ → ℕ
+owner_rank (suc (suc (suc (suc zero)))) = 3
+owner_rank (suc (suc (suc (suc (suc zero))))) = 2
+owner_rank (suc (suc (suc (suc (suc (suc (suc zero))))))) = 0
+owner_rank (suc (suc (suc (suc (suc (suc (suc (suc zero)))))))) = 0
+owner_rank n = n
 
-      slot_of : (r : Row) (n : ℕ) → has_key (keys.Slot n) r ≡ true → is_of kinds.Slot r ≡ true
-      slot_of (rows.Room r) n e = cc
-      slot_of (rows.Member r) n e = cc
-      slot_of (rows.Source r) n e = cc
-      slot_of (rows.Slot r) n e = refl
-      slot_of (rows.Sub r) n e = cc
+owner_ranks : (k : Key) → rank (kind_of (owner_of k)) ≡ owner_rank (rank (kind_of k))
+unfolding owner_rank
+owner_ranks (keys.Room n) = refl
+owner_ranks (keys.Member n) = refl
+owner_ranks (keys.Source n) = refl
+owner_ranks (keys.Slot n) = refl
+owner_ranks (keys.Sub n) = refl
+owner_ranks (keys.Mute n) = refl
+owner_ranks (keys.Gain m n) = refl
+owner_ranks (keys.Pin n) = refl
+owner_ranks (keys.Floor n) = refl
 
-      other_of : (r : Row) (ms : List Member) (os : List Row) → is_of kinds.Slot r ≡ true → (is_in (map rows.Member ms) r || is_in os r) ≡ true → is_in os r ≡ true
-      other_of r [] os h e = e
-      other_of (rows.Slot r) (m ∷ ms) os h e = other_of (rows.Slot r) ms os h e
-      other_of (rows.Room r) (m ∷ ms) os h e = cc
-      other_of (rows.Member r) (m ∷ ms) os h e = cc
-      other_of (rows.Source r) (m ∷ ms) os h e = cc
-      other_of (rows.Sub r) (m ∷ ms) os h e = cc
-slot_there d g (rows.Room s) one h = cc
-slot_there d g (rows.Member s) one h = cc
-slot_there d g (rows.Source s) one h = cc
-slot_there d g (rows.Slot s) one h = cc
+members_are : (ms : List Member) → list_all (is_of kinds.Member) (map rows.Member ms) ≡ true
+members_are [] = refl
+members_are (m ∷ ms) = members_are ms
 
--- a good desk has no more subs than slots
-pub subs_few : (d : Desk) → good d ≡ true → count_by (is_of kinds.Sub) d.others ≤ count_by (is_of kinds.Slot) d.others
-subs_few d g =
-    let subs = filter (is_of kinds.Sub) d.others in
-    let l = each_has_its_own subs (filter (is_of kinds.Slot) d.others) (in_order-filter (is_of kinds.Sub) d.others (good_order d g)) (all_filter (is_of kinds.Sub) d.others)
-    (from_each (λ x. list_any (has_key (slot_key x)) (filter (is_of kinds.Slot) d.others)) subs (λ x one.
-    let both = and_parts (is_in d.others x) (is_of kinds.Sub x) (sym (is_in-filter (is_of kinds.Sub) x d.others) ∙ one) in
-    slot_there d g x both.0 both.1)) in
-    omega (arith, l, filter_length (is_of kinds.Sub) d.others, filter_length (is_of kinds.Slot) d.others)
+-- a row that is no member's is among the other rows
+pub among_others : (d : Desk) (r : Row) → is_of kinds.Member r ≡ false → is_in (rows_of d) r ≡ true → is_in d.others r ≡ true
+among_others d r other one = elim (or_cases (is_in (map rows.Member d.members) r) (is_in d.others r) (sym (is_in-append (map rows.Member d.members) d.others r) ∙ one)) [
+  | inl member ↦ absurd (true_false (sym (at_each (is_of kinds.Member) (map rows.Member d.members) r (members_are d.members) member) ∙ other))
+  | inr here ↦ here
+]
+
+itself : (d : Desk) (x : Row) → is_in (rows_of d) x ≡ true → list_any (has_key (key_of x)) (rows_of d) ≡ true
+itself d x one = count_some (has_key (key_of x)) (rows_of d) (any_counts (has_key (key_of x)) (rows_of d) x one (key_itself (key_of x)))
+
+-- a row's owner is there: it is named, or the row itself
+owner_named : (d : Desk) (x : Row) → is_in (rows_of d) x ≡ true → is_named_there d x ≡ true → list_any (has_key (owner_key x)) (rows_of d) ≡ true
+owner_named d (rows.Room r) one h = itself d (rows.Room r) one
+owner_named d (rows.Member r) one h = itself d (rows.Member r) one
+owner_named d (rows.Source r) one h = itself d (rows.Source r) one
+owner_named d (rows.Slot r) one h = itself d (rows.Slot r) one
+owner_named d (rows.Sub s) one h = (and_parts _ true (and_parts (list_any (has_key (keys.Source s.source)) (rows_of d)) _ h).1).0
+owner_named d (rows.Mute m) one h = (and_parts _ true h).0
+owner_named d (rows.Gain r) one h = itself d (rows.Gain r) one
+owner_named d (rows.Pin p) one h = (and_parts (list_any (has_key (keys.Room p.room)) (rows_of d)) _ h).0
+owner_named d (rows.Floor f) one h = (and_parts (list_any (has_key (keys.Room f.room)) (rows_of d)) _ h).0
+
+-- a good desk has no more rows of a kind than of the kind of their owners
+module _ (d : Desk) (g : good d ≡ true) (kind owner : Kind) (owns : owner_rank (rank kind) ≡ rank owner) (other : nat_eq (rank owner) 1 ≡ false) where
+  owner_there : (x : Row) → is_in d.others x ≡ true → is_of kind x ≡ true → list_any (has_key (owner_key x)) (filter (is_of owner) d.others) ≡ true
+  owner_there x one of =
+      let k = owner_key x in
+      let there : is_in (rows_of d) x ≡ true = is_in-append (map rows.Member d.members) d.others x ∙ or_right _ _ one in
+      let w = witness (has_key k) (rows_of d) (owner_named d x there (at_each (is_named_there d) (rows_of d) x (good_parts d g).named there)) in
+      let ranks : rank (kind_of (key_of w.0)) ≡ rank owner = ap (λ q. rank (kind_of q)) (its_key k w.0 w.2) ∙ owner_ranks (key_of x) ∙ ap owner_rank (eqb-true _ _ of) ∙ owns in
+      let is_owner : is_of owner w.0 ≡ true = eq-eqb _ _ ranks in
+      let here : is_in d.others w.0 ≡ true = among_others d w.0 (ap (λ n. nat_eq n 1) ranks ∙ other) w.1 in
+      let stays : is_in (filter (is_of owner) d.others) w.0 ≡ true = is_in-filter (is_of owner) w.0 d.others ∙ and_from _ _ here is_owner in
+      count_some (has_key k) (filter (is_of owner) d.others) (any_counts (has_key k) (filter (is_of owner) d.others) w.0 stays w.2)
+
+  owned_few : count_by (is_of kind) d.others ≤ count_by (is_of owner) d.others
+  owned_few =
+      let these = filter (is_of kind) d.others in
+      let l = each_has_its_own kind these (filter (is_of owner) d.others) (in_order-filter (is_of kind) d.others (good_order d g)) (all_filter (is_of kind) d.others)
+      (from_each (λ x. list_any (has_key (owner_key x)) (filter (is_of owner) d.others)) these (λ x one.
+      let both = and_parts (is_in d.others x) (is_of kind x) (sym (is_in-filter (is_of kind) x d.others) ∙ one) in
+      owner_there x both.0 both.1)) in
+      omega (arith, l, filter_length (is_of kind) d.others, filter_length (is_of owner) d.others)
 
 all_members : (ms : List Member) → count_by (λ m. is_of kinds.Member (rows.Member m)) ms ≡ length ms
 all_members [] = refl
@@ -157,11 +208,31 @@ all_members (m ∷ ms) = let rest = all_members ms in omega (arith, rest, count_
 
 -- the tables of a good desk have room for its rows
 pub few_rows : (d : Desk) → good d ≡ true → (length d.members ≤ member_limit) × (length d.others ≤ other_limit)
+unfolding owner_rank
 few_rows d g =
     let w = within_parts d g in
-    let plain = (and_parts (in_order d.others) (list_all (λ r. not (is_of kinds.Member r)) d.others) (good_parts d g).listed).1 in (
+    let plain = (and_parts (in_order d.others) (list_all (λ r. not (is_of kinds.Member r)) d.others) (good_parts d g).listed).1 in
+    let subs = owned_few d g kinds.Sub kinds.Slot refl refl in
+    let mutes = owned_few d g kinds.Mute kinds.Source refl refl in
+    let pins = owned_few d g kinds.Pin kinds.Room refl refl in
+    let floors = owned_few d g kinds.Floor kinds.Room refl refl in (
       omega (arith, w.members, rows_count (is_of kinds.Member) d, all_members d.members),
-      omega (arith, w.rooms, w.sources, w.slots, subs_few d g, of_four_kinds d.others plain, rows_count (is_of kinds.Room) d, rows_count (is_of kinds.Source) d, rows_count (is_of kinds.Slot) d),
+      omega (
+        arith,
+        w.rooms,
+        w.sources,
+        w.slots,
+        w.gains,
+        subs,
+        mutes,
+        pins,
+        floors,
+        of_eight_kinds d.others plain,
+        rows_count (is_of kinds.Room) d,
+        rows_count (is_of kinds.Source) d,
+        rows_count (is_of kinds.Slot) d,
+        rows_count (is_of kinds.Gain) d,
+      ),
     )
 
 -- and so has each number of them

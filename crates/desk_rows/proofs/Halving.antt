@@ -5,6 +5,7 @@ use Rattle.std.proofs.lemmas.Bool.{and_parts, and_from, cases_Bool}
 use Rattle.desk_rows.specs.declared.row.Row.{Row}
 use Rattle.desk_rows.specs.declared.row.Key.{Key}
 use Rattle.desk_rows.specs.declared.row.Kind.{Kind}
+use Rattle.desk_rows.specs.inner.Parting.{Parts}
 use Rattle.desk_rows.specs.Numbers.{same_numbers, numbers_precede}
 use Rattle.desk_rows.specs.Row.{rank, kind_of, key_of, key_numbers, own_numbers, has_key, same_key, same_row}
 use Rattle.desk_rows.specs.Kinds.{is_of}
@@ -16,11 +17,7 @@ use Rattle.desk_rows.proofs.Counts.{true_false}
 
 -- ---- elements told apart by their numbers
 
--- elements before the place pass and the others fail
-abbrev pub Parts : {A : Type 0} (p : A → Bool) (xs : List A) (i : ℕ) → Type 0
-Parts {A} p xs i = ((k : ℕ) (d : A) → 0 ≤ k → k < i → p (get_or xs k d) ≡ true) × ((k : ℕ) (d : A) → i ≤ k → k < length xs → p (get_or xs k d) ≡ false)
-
-later_parts : {A : Type 0} (p : A → Bool) (x : A) (xs : List A) (i : ℕ) → Parts p (x ∷ xs) (suc i) → Parts p xs i
+pub later_parts : {A : Type 0} (p : A → Bool) (x : A) (xs : List A) (i : ℕ) → Parts p (x ∷ xs) (suc i) → Parts p xs i
 later_parts p x xs i h = (λ k d a b. h.0 (suc k) d (omega arith) (omega arith), λ k d a b. h.1 (suc k) d (omega arith) (omega arith))
 
 -- no element stands before one ahead of it
@@ -150,10 +147,14 @@ among_found (x ∷ xs) q r h e = by (cases_Bool (has_key (key_of q) x)) (among_f
 -- ---- by kind
 
 pub below_falls : (n : ℕ) (a b : Row) → precedes a b ≡ true → nat_lt (rank (kind_of (key_of b))) n ≡ true → nat_lt (rank (kind_of (key_of a))) n ≡ true
-below_falls n a b e f = let l = first_rises (rank (kind_of (key_of a))) (rank (kind_of (key_of b))) (own_numbers (key_of a)) (own_numbers (key_of b)) e in grind (arith, l, f)
+below_falls n a b e f = below (rank (kind_of (key_of a))) (rank (kind_of (key_of b))) n (first_rises (rank (kind_of (key_of a))) (rank (kind_of (key_of b))) (own_numbers (key_of a)) (own_numbers (key_of b)) e) f where
+  below : (x y n : ℕ) → x ≤ y → nat_lt y n ≡ true → nat_lt x n ≡ true
+  below x y n l f = grind (arith, l, f)
 
 pub within_falls : (n : ℕ) (a b : Row) → precedes a b ≡ true → nat_le (rank (kind_of (key_of b))) n ≡ true → nat_le (rank (kind_of (key_of a))) n ≡ true
-within_falls n a b e f = let l = first_rises (rank (kind_of (key_of a))) (rank (kind_of (key_of b))) (own_numbers (key_of a)) (own_numbers (key_of b)) e in grind (arith, l, f)
+within_falls n a b e f = within (rank (kind_of (key_of a))) (rank (kind_of (key_of b))) n (first_rises (rank (kind_of (key_of a))) (rank (kind_of (key_of b))) (own_numbers (key_of a)) (own_numbers (key_of b)) e) f where
+  within : (x y n : ℕ) → x ≤ y → nat_le y n ≡ true → nat_le x n ≡ true
+  within x y n l f = grind (arith, l, f)
 
 pub order_of_rest : (i : ℕ) (xs : List Row) → in_order xs ≡ true → in_order (drop i xs) ≡ true
 order_of_rest zero xs h = h

@@ -5,7 +5,7 @@ use Rattle.std.specs.List.{list_any, list_all}
 use Rattle.std.proofs.lemmas.Bool.{and_parts, and_from, or_left, or_right, or_cases, cases_Bool}
 use borrow.Author.Tests.{eqb-true, eq-eqb}
 use Rattle.desk_rows.specs.declared.row.Row.{Row}
-use Rattle.desk_rows.specs.declared.row.Row.TheVariants.{Room, Member, Source, Slot, Sub}
+use Rattle.desk_rows.specs.declared.row.Row.TheVariants.{Room, Member, Source, Slot, Sub, Mute, Gain, Pin, Floor}
 use Rattle.desk_rows.specs.declared.row.Key.{Key}
 use Rattle.desk_rows.specs.declared.row.Kind.TheVariants as kinds
 use Rattle.desk_rows.specs.declared.claim.Claim.{Claim}
@@ -62,6 +62,10 @@ own_claims r = and_from _ _ (key_itself (key_of r)) (others r) where
   others (Source s) = and_from _ _ (first (claims.Ssrc s.ssrc) []) refl
   others (Slot s) = and_from _ _ (first (claims.Ssrc s.out_ssrc) (claims.Place s.member s.index ∷ [])) (and_from _ _ (second (claims.Place s.member s.index) (claims.Ssrc s.out_ssrc)) refl)
   others (Sub s) = refl
+  others (Mute m) = refl
+  others (Gain n) = refl
+  others (Pin p) = refl
+  others (Floor f) = refl
 
 -- what holds of each claim of a row holds of any claim that it makes
 claimed : (f : Claim → Bool) (c : Claim) (r : Row) → list_all f (claims_of r) ≡ true → makes c r ≡ true → f c ≡ true
@@ -209,14 +213,18 @@ module _ (d : Desk) (e : EditOf) (g : good d ≡ true) (a : Apt d e) where
 
     by : (is_shaken (moves d e) d e r ≡ true) ⊎ (is_shaken (moves d e) d e r ≡ false) → (moves d e ≡ true) ⊎ (moves d e ≡ false) → obeys (exchanged d e) r ≡ true
     by (inl shaken) m = asked (is_shaken (moves d e) d e r) (obeys (exchanged d e) r) h shaken
-    by (inr calm) (inr still) = unshaken d e g a keyed plain still keep r (sym (ap (λ b. is_shaken b d e r) still) ∙ calm) before'
+    by (inr calm) (inr still) = unshaken d e g a keyed plain still keep r one (sym (ap (λ b. is_shaken b d e r) still) ∙ calm) before'
     by (inr calm) (inl moved) = anyway r (sym (ap (λ b. is_shaken b d e r) moved) ∙ calm) before' where
       anyway : (r : Row) → is_shaken true d e r ≡ false → obeys d r ≡ true → obeys (exchanged d e) r ≡ true
       anyway (Room r) calm h = absurd (true_false calm)
       anyway (Member m) calm h = h
       anyway (Source s) calm h = h
       anyway (Slot s) calm h = h
+      anyway (Mute s) calm h = h
       anyway (Sub s) calm h = absurd (true_false calm)
+      anyway (Gain s) calm h = absurd (true_false calm)
+      anyway (Pin s) calm h = absurd (true_false calm)
+      anyway (Floor s) calm h = absurd (true_false calm)
 
   -- what is judged of single rows makes the new desk good
   pub sound_good : list_all (λ r. not (is_of kinds.Member r)) (ins e) ≡ true → is_within_limits (exchanged d e) ≡ true →

@@ -13,7 +13,7 @@ use Rattle.desk_rows.specs.declared.row.Key.TheVariants as keys
 use Rattle.desk_rows.specs.Row.{has_key}
 use Rattle.desk_rows.specs.Kinds.{is_of}
 use Rattle.desk_rows.specs.Order.{in_order}
-use Rattle.desk_rows.specs.Limits.{room_limit, member_limit, source_limit, slot_limit}
+use Rattle.desk_rows.specs.Limits.{room_limit, member_limit, source_limit, slot_limit, gain_limit}
 use Rattle.desk_rows.specs.laws.OrderLaws.{not_true}
 use Rattle.desk_rows.specs.laws.PlaceLaws.{count_next}
 use Rattle.desk_rows.specs.Desk.{Desk, good, count_of, is_within_limits}
@@ -37,12 +37,19 @@ members_skipped : (p : Row → Bool) → ((m : Member) → p (rows.Member m) ≡
 members_skipped p none [] os = refl
 members_skipped p none (m ∷ ms) os = ap (λ b. cond b (rows.Member m ∷ filter p (map rows.Member ms ++ os)) (filter p (map rows.Member ms ++ os))) (none m) ∙ members_skipped p none ms os
 
+not_of : (kind : Kind) → (kind ≡ kinds.Member → ⊥) → (m : Member) → is_of kind (rows.Member m) ≡ false
+not_of kinds.Member not m = absurd (not refl)
+not_of kinds.Room not m = refl
+not_of kinds.Source not m = refl
+not_of kinds.Slot not m = refl
+not_of kinds.Sub not m = refl
+not_of kinds.Mute not m = refl
+not_of kinds.Gain not m = refl
+not_of kinds.Pin not m = refl
+not_of kinds.Floor not m = refl
+
 pub others_only : (kind : Kind) → (kind ≡ kinds.Member → ⊥) → (ms : List Member) (os : List Row) → filter (is_of kind) (map rows.Member ms ++ os) ≡ filter (is_of kind) os
-others_only kinds.Member not ms os = absurd (not refl)
-others_only kinds.Room not ms os = members_skipped (is_of kinds.Room) (λ m. refl) ms os
-others_only kinds.Source not ms os = members_skipped (is_of kinds.Source) (λ m. refl) ms os
-others_only kinds.Slot not ms os = members_skipped (is_of kinds.Slot) (λ m. refl) ms os
-others_only kinds.Sub not ms os = members_skipped (is_of kinds.Sub) (λ m. refl) ms os
+others_only kind not ms os = members_skipped (is_of kind) (not_of kind not) ms os
 
 pub plain_others : (d : Desk) → good d ≡ true → list_all (λ r. not (is_of kinds.Member r)) d.others ≡ true
 plain_others d g = (and_parts (in_order d.others) (list_all (λ r. not (is_of kinds.Member r)) d.others) (good_parts d g).listed).1
@@ -85,16 +92,20 @@ found_later p (x ∷ xs) ys h = by (p x) h (found_later p xs ys) where
   by false h rest = rest h
 
 -- only the key of a member is a member's
+pub not_its : (key : Key) → ((n : ℕ) → key ≡ keys.Member n → ⊥) → (m : Member) → has_key key (rows.Member m) ≡ false
+not_its (keys.Member n) not m = absurd (not n refl)
+not_its (keys.Room n) not r = refl
+not_its (keys.Source n) not r = refl
+not_its (keys.Slot n) not r = refl
+not_its (keys.Sub n) not r = refl
+not_its (keys.Mute n) not r = refl
+not_its (keys.Gain m n) not r = refl
+not_its (keys.Pin n) not r = refl
+not_its (keys.Floor n) not r = refl
+
 pub skipped : (key : Key) → ((n : ℕ) → key ≡ keys.Member n → ⊥) → (ms : List Member) (os : List Row) → find (has_key key) (map rows.Member ms ++ os) ≡ find (has_key key) os
-skipped (keys.Member n) not ms os = absurd (not n refl)
-skipped (keys.Room n) not [] os = refl
-skipped (keys.Room n) not (m ∷ ms) os = skipped (keys.Room n) not ms os
-skipped (keys.Source n) not [] os = refl
-skipped (keys.Source n) not (m ∷ ms) os = skipped (keys.Source n) not ms os
-skipped (keys.Slot n) not [] os = refl
-skipped (keys.Slot n) not (m ∷ ms) os = skipped (keys.Slot n) not ms os
-skipped (keys.Sub n) not [] os = refl
-skipped (keys.Sub n) not (m ∷ ms) os = skipped (keys.Sub n) not ms os
+skipped key not [] os = refl
+skipped key not (m ∷ ms) os = ap (λ b. cond b (Some (rows.Member m)) (find (has_key key) (map rows.Member ms ++ os))) (not_its key not m) ∙ skipped key not ms os
 
 -- ---- limits
 
@@ -103,18 +114,20 @@ pub record Within (d : Desk) : Type 0 where
   pub members : count_of kinds.Member d ≤ member_limit
   pub sources : count_of kinds.Source d ≤ source_limit
   pub slots : count_of kinds.Slot d ≤ slot_limit
+  pub gains : count_of kinds.Gain d ≤ gain_limit
 
 pub within_parts : (d : Desk) → good d ≡ true → Within d
 within_parts d g =
     let rooms = and_parts (nat_le (count_of kinds.Room d) room_limit) _ (good_parts d g).within in
     let members = and_parts (nat_le (count_of kinds.Member d) member_limit) _ rooms.1 in
     let sources = and_parts (nat_le (count_of kinds.Source d) source_limit) _ members.1 in
-    let slots = and_parts (nat_le (count_of kinds.Slot d) slot_limit) true sources.1 in
-    record { rooms = at_most _ _ rooms.0; members = at_most _ _ members.0; sources = at_most _ _ sources.0; slots = at_most _ _ slots.0 } where
+    let slots = and_parts (nat_le (count_of kinds.Slot d) slot_limit) _ sources.1 in
+    let gains = and_parts (nat_le (count_of kinds.Gain d) gain_limit) true slots.1 in
+    record { rooms = at_most _ _ rooms.0; members = at_most _ _ members.0; sources = at_most _ _ sources.0; slots = at_most _ _ slots.0; gains = at_most _ _ gains.0 } where
       at_most : (m n : ℕ) → nat_le m n ≡ true → m ≤ n
       at_most m n h = grind (arith, h)
 
 pub within_from : (d : Desk) → Within d → is_within_limits d ≡ true
-within_from d w = and_from _ _ (most _ _ w.rooms) (and_from _ _ (most _ _ w.members) (and_from _ _ (most _ _ w.sources) (and_from _ _ (most _ _ w.slots) refl))) where
+within_from d w = and_from _ _ (most _ _ w.rooms) (and_from _ _ (most _ _ w.members) (and_from _ _ (most _ _ w.sources) (and_from _ _ (most _ _ w.slots) (and_from _ _ (most _ _ w.gains) refl)))) where
   most : (m n : ℕ) → m ≤ n → nat_le m n ≡ true
   most m n h = grind (arith, h)

@@ -12,3 +12,4 @@ pub mod Finding
 pub mod NewKeys
 pub mod ChangeLemmas
 pub mod OverlayLemmas
+pub mod SlidingLemmas

@@ -1,19 +1,20 @@
 -- The desk, and what makes it good.
-use Rattle.std.specs.Prelude.{ℕ, Bool, true, false, ◌&&◌, not, List, [], ◌++◌, map, filter, count_by, nat_eq, nat_le, Option}
+use Rattle.std.specs.Prelude.{ℕ, Bool, true, false, ◌&&◌, not, List, [], ◌∷◌, ◌++◌, map, filter, count_by, nat_eq, nat_le, Option, None, Some}
 use Rattle.std.specs.List.{find, list_any, list_all}
 use Rattle.desk_rows.specs.declared.row.Member.{Member}
 use Rattle.desk_rows.specs.declared.row.Row.{Row}
 use Rattle.desk_rows.specs.declared.row.Row.TheVariants as rows
-use Rattle.desk_rows.specs.declared.row.Media.TheVariants.{Audio, Video}
+use Rattle.desk_rows.specs.declared.row.Media.TheVariants.{Audio}
 use Rattle.desk_rows.specs.declared.row.Key.{Key}
+use Rattle.desk_rows.specs.declared.row.Key.TheVariants as keys
 use Rattle.desk_rows.specs.declared.row.Kind.{Kind}
 use Rattle.desk_rows.specs.declared.row.Kind.TheVariants as kinds
 use Rattle.desk_rows.specs.declared.claim.Claim.{Claim}
 use Rattle.desk_rows.specs.declared.claim.Claim.TheVariants as claims
-use Rattle.desk_rows.specs.Row.{has_key, names, claims_of, makes, same_media}
+use Rattle.desk_rows.specs.Row.{has_key, names, wants, suits, is_in_range, claims_of, makes, same_media}
 use Rattle.desk_rows.specs.Kinds.{is_of, limits}
 use Rattle.desk_rows.specs.Order.{in_order, is_in}
-use Rattle.desk_rows.specs.Limits.{room_audio_limit, index_limit}
+use Rattle.desk_rows.specs.Limits.{room_audio_limit}
 
 -- the members of all rooms in joining order, and the set of all other rows, listed in the one order of kinds and keys
 pub record Desk : Type 0 where
@@ -71,39 +72,56 @@ is_made_once d claim = nat_eq (count_by (makes claim) (rows_of d)) 1 && not (is_
 abbrev pub is_alone : Desk → Row → Bool
 is_alone d r = list_all (is_made_once d) (claims_of r)
 
--- the member is in the room
-abbrev pub is_member_in : Desk → ℕ → ℕ → Bool
-is_member_in d member room = list_any (λ m. nat_eq m.member member && nat_eq m.room room) d.members
+-- the room that a member is in
+abbrev pub room_of_member : Option Row → Option ℕ
+room_of_member (Some (rows.Member m)) = Some m.room
+room_of_member _ = None
+
+-- the room that a row is in: a source and a slot are in their member's
+abbrev pub room_of : Desk → Row → Option ℕ
+room_of d (rows.Room r) = Some r.room
+room_of d (rows.Member m) = Some m.room
+room_of d (rows.Source s) = room_of_member (row_at d (keys.Member s.member))
+room_of d (rows.Slot s) = room_of_member (row_at d (keys.Member s.member))
+room_of d _ = None
+
+-- the room that a row that was found is in
+abbrev pub room_of_found : Desk → Option Row → Option ℕ
+room_of_found d None = None
+room_of_found d (Some r) = room_of d r
+
+-- the room that the row of this key is in
+abbrev pub room_at : Desk → Key → Option ℕ
+room_at d key = room_of_found d (row_at d key)
+
+abbrev pub same_room : Option ℕ → Option ℕ → Bool
+same_room (Some a) (Some b) = nat_eq a b
+same_room _ _ = false
+
+-- what a row names is in one room
+abbrev pub are_together : Desk → List Key → Bool
+are_together d (a ∷ b ∷ []) = same_room (room_at d a) (room_at d b)
+are_together d _ = true
+
+-- what a row names is of the kind that it wants
+abbrev pub all_suit : Desk → Row → Bool
+all_suit d r = list_all (λ key. suits (wants r) (row_at d key)) (names r)
 
 -- an audio source of a member of the room
 abbrev pub is_audio_in : Desk → ℕ → Row → Bool
-is_audio_in d room (rows.Source s) = same_media s.media Audio && is_member_in d s.member room
+is_audio_in d room (rows.Source s) = same_media s.media Audio && same_room (room_of d (rows.Source s)) (Some room)
 is_audio_in d room _ = false
 
--- the two members are in one room
-abbrev pub share_room : Desk → ℕ → ℕ → Bool
-share_room d a b = list_any (λ m. nat_eq m.member a && is_member_in d b m.room) d.members
+-- a room has no more audio sources than it may
+abbrev pub has_few_audio : Desk → Row → Bool
+has_few_audio d (rows.Room r) = nat_le (count_by (is_audio_in d r.room) d.others) room_audio_limit
+has_few_audio d _ = true
 
--- the video source of this SSRC, of a member in one room with this one
-abbrev pub is_video_beside : Desk → ℕ → ℕ → Row → Bool
-is_video_beside d member ssrc (rows.Source s) = (nat_eq s.ssrc ssrc && same_media s.media Video) && share_room d member s.member
-is_video_beside d member ssrc _ = false
-
--- the slot of this SSRC, of a member in one room with that of this video source
-abbrev pub is_slot_beside : Desk → ℕ → ℕ → Row → Bool
-is_slot_beside d out_ssrc source (rows.Slot s) = nat_eq s.out_ssrc out_ssrc && list_any (is_video_beside d s.member source) d.others
-is_slot_beside d out_ssrc source _ = false
-
--- the rule of each kind: a room has few audio sources, a member a port and a slot a place among few; a sub is of a slot and a
--- video source of members in one room
+-- the rule of rows: values are in their ranges, a room has few audio sources, and what a row names is of the kind that it wants and in one room
 abbrev pub obeys : Desk → Row → Bool
-obeys d (rows.Room r) = nat_le (count_by (is_audio_in d r.room) d.others) room_audio_limit
-obeys d (rows.Member m) = not (nat_eq m.address.port 0)
-obeys d (rows.Source s) = true
-obeys d (rows.Slot s) = nat_le s.index index_limit
-obeys d (rows.Sub s) = list_any (is_slot_beside d s.out_ssrc s.source) d.others
+obeys d r = (is_in_range r && has_few_audio d r) && (all_suit d r && are_together d (names r))
 
--- no table is over its limit; subs have the keys of slots, so there are no more of them
+-- no table is over its limit; subs, mutes, pins and floors have the numbers of other rows, so there are no more of them
 abbrev pub is_within_limits : Desk → Bool
 is_within_limits d = list_all (λ limit. nat_le (count_of limit.0 d) limit.1) limits
 

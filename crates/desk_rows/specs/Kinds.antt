@@ -3,7 +3,7 @@ use Rattle.std.specs.Prelude.{ℕ, Bool, List, [], ◌∷◌, nat_eq}
 use Rattle.desk_rows.specs.declared.row.Row.{Row}
 use Rattle.desk_rows.specs.declared.row.Kind.{Kind}
 use Rattle.desk_rows.specs.declared.row.Kind.TheVariants as kinds
-use Rattle.desk_rows.specs.Limits.{room_limit, member_limit, source_limit, slot_limit}
+use Rattle.desk_rows.specs.Limits.{room_limit, member_limit, source_limit, slot_limit, gain_limit}
 use Rattle.desk_rows.specs.Row.{rank, kind_of, key_of}
 
 -- whether a row is of a kind
@@ -17,4 +17,5 @@ limits =
     ∷ (kinds.Member, member_limit)
     ∷ (kinds.Source, source_limit)
     ∷ (kinds.Slot, slot_limit)
+    ∷ (kinds.Gain, gain_limit)
     ∷ []

@@ -23,6 +23,13 @@ room_audio_limit = 64
 abbrev pub index_limit : ℕ
 index_limit = 15
 
--- so many rows beside the members: rooms, sources, slots, and for each slot a sub
+abbrev pub gain_limit : ℕ
+gain_limit = 65536
+
+-- the greatest gain, in parts of 256
+abbrev pub q8_limit : ℕ
+q8_limit = 1024
+
+-- so many rows beside the members: gains, rooms with a pin and a floor each, sources with a mute each, and slots with a sub each
 abbrev pub other_limit : ℕ
-other_limit = room_limit + source_limit + 2 * slot_limit
+other_limit = gain_limit + 3 * room_limit + 2 * source_limit + 2 * slot_limit

@@ -1,12 +1,12 @@
 -- Rows: each kind is told here once, by its numbers, its key, what it names and what it claims.
-use Rattle.std.specs.Prelude.{ℕ, Bool, List, [], ◌∷◌, ◌++◌, nat_eq}
+use Rattle.std.specs.Prelude.{ℕ, Bool, true, not, List, [], ◌∷◌, ◌++◌, nat_eq, nat_le, Option, None, Some}
 use Rattle.std.specs.List.{list_any}
 use Rattle.desk_rows.specs.declared.row.Codec.{Codec}
 use Rattle.desk_rows.specs.declared.row.Codec.TheVariants as codecs
 use Rattle.desk_rows.specs.declared.row.Media.{Media}
 use Rattle.desk_rows.specs.declared.row.Media.TheVariants as medias
 use Rattle.desk_rows.specs.declared.row.Row.{Row}
-use Rattle.desk_rows.specs.declared.row.Row.TheVariants.{Room, Member, Source, Slot, Sub}
+use Rattle.desk_rows.specs.declared.row.Row.TheVariants.{Room, Member, Source, Slot, Sub, Mute, Gain, Pin, Floor}
 use Rattle.desk_rows.specs.declared.row.Kind.{Kind}
 use Rattle.desk_rows.specs.declared.row.Kind.TheVariants as kinds
 use Rattle.desk_rows.specs.declared.row.Key.{Key}
@@ -14,6 +14,7 @@ use Rattle.desk_rows.specs.declared.row.Key.TheVariants as keys
 use Rattle.desk_rows.specs.declared.claim.Claim.{Claim}
 use Rattle.desk_rows.specs.declared.claim.Claim.TheVariants as claims
 use Rattle.desk_rows.specs.Numbers.{same_numbers}
+use Rattle.desk_rows.specs.Limits.{index_limit, q8_limit}
 
 -- ---- keys
 
@@ -24,6 +25,10 @@ rank kinds.Member = 1
 rank kinds.Source = 2
 rank kinds.Slot = 3
 rank kinds.Sub = 4
+rank kinds.Mute = 5
+rank kinds.Gain = 6
+rank kinds.Pin = 7
+rank kinds.Floor = 8
 
 -- the kind of the row that a key names
 abbrev pub kind_of : Key → Kind
@@ -32,6 +37,10 @@ kind_of (keys.Member n) = kinds.Member
 kind_of (keys.Source n) = kinds.Source
 kind_of (keys.Slot n) = kinds.Slot
 kind_of (keys.Sub n) = kinds.Sub
+kind_of (keys.Mute n) = kinds.Mute
+kind_of (keys.Gain m n) = kinds.Gain
+kind_of (keys.Pin n) = kinds.Pin
+kind_of (keys.Floor n) = kinds.Floor
 
 -- a key's one or two numbers within its kind, behind a 0 where it is one
 abbrev pub own_numbers : Key → List ℕ
@@ -40,6 +49,10 @@ own_numbers (keys.Member n) = 0 ∷ n ∷ []
 own_numbers (keys.Source n) = 0 ∷ n ∷ []
 own_numbers (keys.Slot n) = 0 ∷ n ∷ []
 own_numbers (keys.Sub n) = 0 ∷ n ∷ []
+own_numbers (keys.Mute n) = 0 ∷ n ∷ []
+own_numbers (keys.Gain m n) = m ∷ n ∷ []
+own_numbers (keys.Pin n) = 0 ∷ n ∷ []
+own_numbers (keys.Floor n) = 0 ∷ n ∷ []
 
 -- the numbers that tell a key from all others: its kind's, and its own
 abbrev pub key_numbers : Key → List ℕ
@@ -56,6 +69,10 @@ key_of (Member m) = keys.Member m.member
 key_of (Source s) = keys.Source s.ssrc
 key_of (Slot s) = keys.Slot s.out_ssrc
 key_of (Sub s) = keys.Sub s.out_ssrc
+key_of (Mute m) = keys.Mute m.source
+key_of (Gain g) = keys.Gain g.member g.source
+key_of (Pin p) = keys.Pin p.room
+key_of (Floor f) = keys.Floor f.room
 
 -- whether this is the row's key
 abbrev pub has_key : Key → Row → Bool
@@ -81,6 +98,10 @@ row_numbers (Member m) = 1 ∷ m.member ∷ m.room ∷ codec_number m.codec ∷ 
 row_numbers (Source s) = 2 ∷ s.ssrc ∷ s.member ∷ media_number s.media ∷ 0 ∷ 0 ∷ 0 ∷ 0 ∷ 0 ∷ 0 ∷ 0 ∷ 0 ∷ []
 row_numbers (Slot s) = 3 ∷ s.out_ssrc ∷ s.member ∷ s.index ∷ s.first_seq ∷ s.first_ts ∷ 0 ∷ 0 ∷ 0 ∷ 0 ∷ 0 ∷ 0 ∷ []
 row_numbers (Sub s) = 4 ∷ s.out_ssrc ∷ s.source ∷ 0 ∷ 0 ∷ 0 ∷ 0 ∷ 0 ∷ 0 ∷ 0 ∷ 0 ∷ 0 ∷ []
+row_numbers (Mute m) = 5 ∷ m.source ∷ 0 ∷ 0 ∷ 0 ∷ 0 ∷ 0 ∷ 0 ∷ 0 ∷ 0 ∷ 0 ∷ 0 ∷ []
+row_numbers (Gain g) = 6 ∷ g.member ∷ g.source ∷ g.q8 ∷ 0 ∷ 0 ∷ 0 ∷ 0 ∷ 0 ∷ 0 ∷ 0 ∷ 0 ∷ []
+row_numbers (Pin p) = 7 ∷ p.room ∷ p.source ∷ 0 ∷ 0 ∷ 0 ∷ 0 ∷ 0 ∷ 0 ∷ 0 ∷ 0 ∷ 0 ∷ []
+row_numbers (Floor f) = 8 ∷ f.room ∷ f.member ∷ 0 ∷ 0 ∷ 0 ∷ 0 ∷ 0 ∷ 0 ∷ 0 ∷ 0 ∷ 0 ∷ []
 
 -- whether two rows are one
 abbrev pub same_row : Row → Row → Bool
@@ -88,21 +109,51 @@ same_row a b = same_numbers (row_numbers a) (row_numbers b)
 
 -- ---- what a row needs of others
 
--- the keys of the rows that a row names
+-- the keys of the rows that a row names, by rising kind
 abbrev pub names : Row → List Key
 names (Room r) = []
 names (Member m) = keys.Room m.room ∷ []
 names (Source s) = keys.Member s.member ∷ []
 names (Slot s) = keys.Member s.member ∷ []
-names (Sub s) = keys.Slot s.out_ssrc ∷ keys.Source s.source ∷ []
+names (Sub s) = keys.Source s.source ∷ keys.Slot s.out_ssrc ∷ []
+names (Mute m) = keys.Source m.source ∷ []
+names (Gain g) = keys.Member g.member ∷ keys.Source g.source ∷ []
+names (Pin p) = keys.Room p.room ∷ keys.Source p.source ∷ []
+names (Floor f) = keys.Room f.room ∷ keys.Member f.member ∷ []
+
+-- the key whose number a key has: a sub's is its slot's, a mute's its source's, a pin's and a floor's its room's; any other is its own
+abbrev pub owner_of : Key → Key
+owner_of (keys.Sub n) = keys.Slot n
+owner_of (keys.Mute n) = keys.Source n
+owner_of (keys.Pin n) = keys.Room n
+owner_of (keys.Floor n) = keys.Room n
+owner_of key = key
+
+-- what a source that a row names has to send
+abbrev pub wants : Row → Option Media
+wants (Sub s) = Some medias.Video
+wants (Gain g) = Some medias.Audio
+wants (Pin p) = Some medias.Video
+wants _ = None
+
+-- whether what was found under a name is what is wanted
+abbrev pub suits : Option Media → Option Row → Bool
+suits (Some media) (Some (Source s)) = same_media s.media media
+suits _ _ = true
+
+-- the values are in their ranges: a port is not 0, a slot has a place among few, a gain a greatest value
+abbrev pub is_in_range : Row → Bool
+is_in_range (Member m) = not (nat_eq m.address.port 0)
+is_in_range (Slot s) = nat_le s.index index_limit
+is_in_range (Gain g) = nat_le g.q8 q8_limit
+is_in_range _ = true
 
 -- what a row has to itself beside its key: a member its address and the SSRC of its mix; a source its SSRC; a slot its SSRC and its place among its member's
 abbrev pub other_claims : Row → List Claim
-other_claims (Room r) = []
 other_claims (Member m) = claims.Address m.address ∷ claims.Ssrc m.out_audio ∷ []
 other_claims (Source s) = claims.Ssrc s.ssrc ∷ []
 other_claims (Slot s) = claims.Ssrc s.out_ssrc ∷ claims.Place s.member s.index ∷ []
-other_claims (Sub s) = []
+other_claims _ = []
 
 -- what a row has to itself
 abbrev pub claims_of : Row → List Claim

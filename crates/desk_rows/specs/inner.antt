@@ -3,3 +3,4 @@ pub mod Judged
 pub mod Tests
 pub mod Listed
 pub mod Found
+pub mod Parting

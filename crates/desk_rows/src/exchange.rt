@@ -1,6 +1,6 @@
 //! Rows, and an edit of them.
 
-ghost use Rattle.std.specs.Prelude.{◌≡◌, ℕ, ◌+◌, ◌≤◌, ◌&&◌, true, not, count_by, nat_eq, length, vec_capacity};
+ghost use Rattle.std.specs.Prelude.{◌≡◌, ℕ, ◌+◌, ◌≤◌, ◌&&◌, true, not, count_by, nat_eq, length, vec_len, vec_capacity};
 ghost use Rattle.std.specs.List.{list_any, list_all};
 ghost use Rattle.desk_rows.specs.declared.row.Kind.TheVariants as kinds;
 ghost use Rattle.desk_rows.specs.declared.row.Row.TheVariants.{Member as MemberRow};
@@ -16,7 +16,7 @@ ghost use Rattle.desk_rows.specs.inner.Judged.{HasOrders, takes, puts, coming, i
 
 use crate::edit::{Edit, Placed};
 use crate::index::{Entry, move_members};
-use crate::ordering::{are_apart, contains_all, have_same_keys, put_rows, take_rows};
+use crate::ordering::{are_apart, contains_all, have_same_keys, put_rows, sweep_in, take_rows};
 use crate::overlay::Overlay;
 use crate::places::{can_be_put, can_be_taken};
 use crate::row::{Key, Kind, Member, Row};
@@ -220,6 +220,28 @@ pub(crate) fn exchange_members<A: Allocator + Copy>(
     move_members(members, index, edit.taken_members(), edit.put_members());
 }
 
+/// Puts the rows of two lists in.
+fn put_two<A: Allocator>(
+    others: &mut Vec<Row, A>,
+    spare: &mut Vec<Row, A>,
+    put: &[Row],
+    new: &[Row],
+)
+    requires rows { in_order others.old.items ≡ true }
+    requires put { in_order put.now ≡ true }
+    requires new { in_order new.now ≡ true }
+    requires room { (vec_len others.old + (length put.now + length new.now) ≤ vec_capacity others.old) × (vec_len others.old + (length put.now + length new.now) ≤ vec_capacity spare.old) }
+    ensures items { others.new.items ≡ with_rows new.now (with_rows put.now others.old.items) }
+    ensures room { (n : ℕ) → n ≤ vec_capacity others.old → n ≤ vec_capacity spare.old → (n ≤ vec_capacity others.new) × (n ≤ vec_capacity spare.new) }
+{
+    if put.is_empty() {
+        put_rows(others, spare, new);
+    } else {
+        sweep_in(others, spare, put);
+        sweep_in(others, spare, new);
+    }
+}
+
 /// Takes the other rows that go, and puts those that come, each where it keeps the order. There is
 /// room for them.
 pub(crate) fn exchange_rows<A: Allocator + Copy>(
@@ -227,14 +249,20 @@ pub(crate) fn exchange_rows<A: Allocator + Copy>(
     spare: &mut Vec<Row, A>,
     edit: &Edit<A>,
 )
+    requires rows { in_order others.old.items ≡ true }
+    requires fit { length others.old.items ≤ 78016 }
     requires orders { HasOrders edit.now }
     requires apart { are_apart edit.now.put.others edit.now.replaced.new ≡ true }
-    requires few { length (with_rows (ins edit.now) (without_rows (outs edit.now) others.old.items)) ≤ 10304 }
-    requires room { (10304 ≤ vec_capacity others.old) × (10304 ≤ vec_capacity spare.old) }
+    requires few { length (with_rows (ins edit.now) (without_rows (outs edit.now) others.old.items)) ≤ 78016 }
+    requires room { (78016 ≤ vec_capacity others.old) × (78016 ≤ vec_capacity spare.old) }
     ensures items { others.new.items ≡ with_rows (ins edit.now) (without_rows (outs edit.now) others.old.items) }
-    ensures room { (10304 ≤ vec_capacity others.new) × (10304 ≤ vec_capacity spare.new) }
+    ensures room { (78016 ≤ vec_capacity others.new) × (78016 ≤ vec_capacity spare.new) }
 {
-    take_rows(others, edit.taken_others(), edit.old());
-    put_rows(others, spare, edit.put_others());
-    put_rows(others, spare, edit.new());
+    take_rows(others, spare, edit.taken_others(), edit.old());
+    let new = edit.new();
+    if new.is_empty() {
+        put_rows(others, spare, edit.put_others());
+    } else {
+        put_two(others, spare, edit.put_others(), new);
+    }
 }

@@ -15,11 +15,16 @@ mod overlay;
 mod places;
 mod row;
 mod rows;
+mod sliding;
 
 pub use self::claim::Claim;
 pub use self::edit::{Edit, Part, Placed, Replaced};
 pub use self::few::Few;
-pub use self::limits::{MAX_INDEX, MAX_MEMBERS, MAX_ROOM_AUDIO, MAX_ROOMS, MAX_SLOTS, MAX_SOURCES};
-pub use self::looking::{Look, are_in_one_room, count_audio, is_member_in};
-pub use self::row::{Codec, Key, Kind, Media, Member, Room, Row, Slot, Source, Sub};
+pub use self::limits::{
+    MAX_GAIN, MAX_GAINS, MAX_INDEX, MAX_MEMBERS, MAX_ROOM_AUDIO, MAX_ROOMS, MAX_SLOTS, MAX_SOURCES,
+};
+pub use self::looking::{Look, all_suit, are_together, count_audio, room_at, room_of};
+pub use self::row::{
+    Codec, Floor, Gain, Key, Kind, Media, Member, Mute, Pin, Room, Row, Slot, Source, Sub,
+};
 pub use self::rows::Rows;

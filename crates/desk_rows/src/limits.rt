@@ -18,5 +18,12 @@ pub const MAX_ROOM_AUDIO: usize = 64;
 /// The greatest index of a slot.
 pub const MAX_INDEX: u32 = 15;
 
-/// How many rows there may be beside the members: rooms, sources, slots, and for each slot a sub.
-pub const MAX_OTHERS: usize = MAX_ROOMS + MAX_SOURCES + 2 * MAX_SLOTS;
+/// How many gains there may be.
+pub const MAX_GAINS: usize = 65_536;
+
+/// The greatest gain: 4 times as loud.
+pub const MAX_GAIN: u32 = 1_024;
+
+/// How many rows there may be beside the members: gains, rooms with a pin and a floor each, sources
+/// with a mute each, and slots with a sub each.
+pub const MAX_OTHERS: usize = MAX_GAINS + 3 * MAX_ROOMS + 2 * MAX_SOURCES + 2 * MAX_SLOTS;

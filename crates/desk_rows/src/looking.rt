@@ -1,12 +1,14 @@
 //! Desks are asked by look-ups, those that are there and those that an edit would lead to.
 
 ghost use Rattle.std.specs.Prelude.{◌≡◌, count_by};
-ghost use Rattle.std.specs.List.{list_any};
-ghost use Rattle.desk_rows.specs.Desk.{Desk, row_at, is_member_in, is_audio_in, share_room, is_video_beside, is_slot_beside};
+ghost use Rattle.std.specs.List.{list_any, list_all};
+ghost use Rattle.desk_rows.specs.Desk.{Desk, row_at, room_of_member, room_of, room_of_found, room_at, same_room, are_together, all_suit, is_audio_in};
+ghost use Rattle.desk_rows.specs.Few.{listed};
 ghost use Rattle.desk_rows.specs.Keyed.{IsKeyed};
-ghost use Rattle.desk_rows.specs.inner.Found.{finds, is_in_room, is_beside, sends_beside, takes_beside};
+ghost use Rattle.desk_rows.specs.Row.{names, suits, wants};
 
-use crate::row::{Key, Media, Row, Sub};
+use crate::few::Few;
+use crate::row::{Key, Media, Row};
 
 /// What can be asked for the row of a key.
 pub trait Look {
@@ -19,74 +21,79 @@ pub trait Look {
         ensures keyed { IsKeyed (desk self.now) };
 }
 
-fn is_in_room(found: Option<Row>, room: u32) -> bool
-    ensures { result ≡ finds (is_in_room room) found }
+fn room_of_member(found: Option<Row>) -> Option<u32>
+    ensures { result ≡ room_of_member found }
 {
     match found {
-        Some(Row::Member(row)) => row.room == room,
+        Some(Row::Member(member)) => Some(member.room),
+        _ => None,
+    }
+}
+
+/// The room that the row is in: a source and a slot are in their member's.
+pub fn room_of<D: Look>(rows: &D, row: &Row) -> Option<u32>
+    ensures { result ≡ room_of (D.desk rows.now) row.now }
+{
+    match row {
+        Row::Room(room) => Some(room.room),
+        Row::Member(member) => Some(member.room),
+        Row::Source(source) => room_of_member(rows.look(Key::Member(source.member))),
+        Row::Slot(slot) => room_of_member(rows.look(Key::Member(slot.member))),
+        _ => None,
+    }
+}
+
+fn room_of_found<D: Look>(rows: &D, found: Option<Row>) -> Option<u32>
+    ensures { result ≡ room_of_found (D.desk rows.now) found }
+{
+    match found {
+        None => None,
+        Some(row) => room_of(rows, &row),
+    }
+}
+
+/// The room that the row of this key is in.
+pub fn room_at<D: Look>(rows: &D, key: Key) -> Option<u32>
+    ensures { result ≡ room_at (D.desk rows.now) key }
+{
+    room_of_found(rows, rows.look(key))
+}
+
+fn same_room(a: Option<u32>, b: Option<u32>) -> bool
+    ensures { result ≡ same_room a b }
+{
+    match (a, b) {
+        (Some(a), Some(b)) => a == b,
         _ => false,
     }
 }
 
-/// Whether the member is in the room.
-#[tactic(auto, using(crate::proofs::KeyedLemmas::in_room_found))]
-pub fn is_member_in<D: Look>(rows: &D, member: u32, room: u32) -> bool
-    ensures { result ≡ is_member_in (D.desk rows.now) member room }
+/// Whether the two rows that a row names are in one room.
+pub fn are_together<D: Look>(rows: &D, row: &Row) -> bool
+    ensures { result ≡ are_together (D.desk rows.now) (names row.now) }
 {
-    is_in_room(rows.look(Key::Member(member)), room)
-}
-
-/// Whether a member is found in one room with this one.
-fn is_beside<D: Look>(rows: &D, found: Option<Row>, member: u32) -> bool
-    ensures { result ≡ finds (is_beside (D.desk rows.now) member) found }
-{
-    match found {
-        Some(Row::Member(row)) => is_member_in(rows, member, row.room),
-        _ => false,
+    match row.names() {
+        Few::Two(a, b) => same_room(room_at(rows, a), room_at(rows, b)),
+        _ => true,
     }
 }
 
-/// Whether the two members are in one room.
-#[tactic(auto, using(crate::proofs::KeyedLemmas::beside_found))]
-fn share_room<D: Look>(rows: &D, a: u32, b: u32) -> bool
-    ensures { result ≡ share_room (D.desk rows.now) a b }
+/// Whether the row that a key finds is what this row wants.
+fn one_suits<D: Look>(rows: &D, row: &Row, key: Key) -> bool
+    ensures { result ≡ suits (wants row.now) (row_at (D.desk rows.now) key) }
 {
-    is_beside(rows, rows.look(Key::Member(a)), b)
+    row.suits(rows.look(key))
 }
 
-/// Whether a video source is found, of a member in one room with this one.
-fn sends_beside<D: Look>(rows: &D, found: Option<Row>, member: u32) -> bool
-    ensures { result ≡ finds (sends_beside (D.desk rows.now) member) found }
+/// Whether a source that the row names sends what it wants.
+pub fn all_suit<D: Look>(rows: &D, row: &Row) -> bool
+    ensures { result ≡ all_suit (D.desk rows.now) row.now }
 {
-    match found {
-        Some(Row::Source(source)) => {
-            source.media.is_same(Media::Video) && share_room(rows, member, source.member)
-        }
-        _ => false,
+    match row.names() {
+        Few::Nothing => true,
+        Few::One(key) => one_suits(rows, row, key),
+        Few::Two(a, b) => one_suits(rows, row, a) && one_suits(rows, row, b),
     }
-}
-
-fn is_video_beside<D: Look>(rows: &D, member: u32, ssrc: u32) -> bool
-    ensures { result ≡ list_any (is_video_beside (D.desk rows.now) member ssrc) (D.desk rows.now).others }
-{
-    sends_beside(rows, rows.look(Key::Source(ssrc)), member)
-}
-
-/// Whether a slot is found, of a member in one room with that of the video source.
-fn takes_beside<D: Look>(rows: &D, found: Option<Row>, source: u32) -> bool
-    ensures { result ≡ finds (takes_beside (D.desk rows.now) source) found }
-{
-    match found {
-        Some(Row::Slot(slot)) => is_video_beside(rows, slot.member, source),
-        _ => false,
-    }
-}
-
-/// Whether the slot and the video source are in one room.
-pub fn are_in_one_room<D: Look>(rows: &D, sub: &Sub) -> bool
-    ensures { result ≡ list_any (is_slot_beside (D.desk rows.now) sub.now.out_ssrc sub.now.source) (D.desk rows.now).others }
-{
-    takes_beside(rows, rows.look(Key::Slot(sub.out_ssrc)), sub.source)
 }
 
 /// Whether the row is an audio source of a member of the room.
@@ -95,7 +102,7 @@ fn is_audio_in<D: Look>(rows: &D, room: u32, row: &Row) -> bool
 {
     match row {
         Row::Source(source) => {
-            source.media.is_same(Media::Audio) && is_member_in(rows, source.member, room)
+            source.media.is_same(Media::Audio) && same_room(room_of(rows, row), Some(room))
         }
         _ => false,
     }

@@ -4,24 +4,24 @@ ghost use Rattle.std.specs.Prelude.{◌≡◌, ◌≤◌, ◌+◌, ◌&&◌, not
 ghost use Rattle.std.specs.List.{list_any, list_all};
 ghost use Rattle.desk_rows.specs.declared.row.Row.TheVariants.{Member as MemberRow};
 ghost use Rattle.desk_rows.specs.Few.{listed};
-ghost use Rattle.desk_rows.specs.Limits.{slot_limit, room_audio_limit};
+ghost use Rattle.desk_rows.specs.Limits.{gain_limit, room_audio_limit};
 ghost use Rattle.desk_rows.specs.Kinds.{is_of};
 ghost use Rattle.desk_rows.specs.Row.{has_key};
-ghost use Rattle.desk_rows.specs.Desk.{rows_of, is_bridges, is_within_limits, is_named_there, is_made_once, is_audio_in, obeys};
+ghost use Rattle.desk_rows.specs.Desk.{rows_of, row_at, is_bridges, is_within_limits, is_named_there, is_made_once, is_audio_in, has_few_audio, obeys};
 ghost use Rattle.desk_rows.specs.Edit.{ins};
 ghost use Rattle.desk_rows.specs.Exchange.{exchanged};
 ghost use Rattle.desk_rows.specs.Keyed.{IsKeyed};
 ghost use Rattle.desk_rows.specs.inner.Tests.{passes};
 ghost use Rattle.desk_rows.specs.inner.Found.{finds, is_elsewhere};
-ghost use Rattle.desk_rows.specs.inner.Judged.{takes, puts, keeps_names, moves, is_shaken, is_sound_beside, stays_sound, all_come, all_stay};
+ghost use Rattle.desk_rows.specs.inner.Judged.{takes, puts, keeps_names, moves, gains_audio, takes_either, is_room, is_pair, is_shaken, is_sound_beside, stays_sound, all_come, all_stay};
 
 use crate::claim::Claim;
 use crate::counting::{Test, count_members, count_rows};
 use crate::edit::Placed;
 use crate::exchange::Exchange;
 use crate::few::Few;
-use crate::limits::{MAX_INDEX, MAX_MEMBERS, MAX_ROOM_AUDIO, MAX_ROOMS, MAX_SLOTS, MAX_SOURCES};
-use crate::looking::{Look, are_in_one_room, count_audio, has_audio};
+use crate::limits::{MAX_GAINS, MAX_MEMBERS, MAX_ROOM_AUDIO, MAX_ROOMS, MAX_SLOTS, MAX_SOURCES};
+use crate::looking::{Look, all_suit, are_together, count_audio, has_audio};
 use crate::row::{Key, Kind, Member, Row};
 use std::alloc::Allocator;
 
@@ -53,7 +53,7 @@ impl<A: Allocator + Copy> Overlay<'_, A> {
     /// limit and what goes.
     #[tactic(auto, using(crate::proofs::OverlayLemmas::most_is, crate::proofs::ExchangeLemmas::rows_few))]
     fn is_within(&self, kind: Kind, limit: usize) -> bool
-        requires { limit ≤ slot_limit }
+        requires { limit ≤ gain_limit }
         ensures { result ≡ nat_le (count_by (is_of kind) (rows_of (exchanged self.now.of.rows.now self.now.of.edit.now))) limit }
     {
         let test = Test::IsOf(kind);
@@ -67,7 +67,8 @@ impl<A: Allocator + Copy> Overlay<'_, A> {
         self.is_within(Kind::Room, MAX_ROOMS)
             && (self.is_within(Kind::Member, MAX_MEMBERS)
                 && (self.is_within(Kind::Source, MAX_SOURCES)
-                    && self.is_within(Kind::Slot, MAX_SLOTS)))
+                    && (self.is_within(Kind::Slot, MAX_SLOTS)
+                        && self.is_within(Kind::Gain, MAX_GAINS))))
     }
 
     #[tactic(auto, using(crate::proofs::Finding::is_found))]
@@ -136,16 +137,20 @@ impl<A: Allocator + Copy> Overlay<'_, A> {
         count_audio(self, self.of.rows.others(), room) + coming > MAX_ROOM_AUDIO + going
     }
 
-    fn obeys(&self, row: &Row) -> bool
-        ensures { result ≡ obeys (exchanged self.now.of.rows.now self.now.of.edit.now) row.now }
+    fn has_few_audio(&self, row: &Row) -> bool
+        ensures { result ≡ has_few_audio (exchanged self.now.of.rows.now self.now.of.edit.now) row.now }
     {
         match row {
             Row::Room(room) => !self.is_room_full(room.room),
-            Row::Member(member) => member.address.port != 0,
-            Row::Source(_) => true,
-            Row::Slot(slot) => slot.index <= MAX_INDEX,
-            Row::Sub(sub) => are_in_one_room(self, sub),
+            _ => true,
         }
+    }
+
+    fn obeys(&self, row: &Row) -> bool
+        ensures { result ≡ obeys (exchanged self.now.of.rows.now self.now.of.edit.now) row.now }
+    {
+        let by_itself = row.is_in_range() && self.has_few_audio(row);
+        by_itself && (all_suit(self, row) && are_together(self, row))
     }
 
     #[tactic(auto, unfolding(crate::specs::inner::Judged::is_sound_beside))]
@@ -207,12 +212,10 @@ impl<A: Allocator + Copy> Overlay<'_, A> {
 
     /// Whether the member was in another room.
     fn is_moved(&self, placed: &Placed) -> bool
-        ensures { result ≡ list_any (λ m. nat_eq m.member placed.now.row.member && not (nat_eq m.room placed.now.row.room)) self.now.of.rows.now.members }
+        ensures { result ≡ finds (is_elsewhere placed.now.row.room) (row_at self.now.of.rows.now (Key.Member placed.now.row.member)) }
     {
-        is_elsewhere(
-            self.of.rows.look(Key::Member(placed.row.member)),
-            placed.row.room,
-        )
+        let found = self.of.rows.find(&Key::Member(placed.row.member));
+        is_elsewhere(found, placed.row.room)
     }
 
     /// Whether a member comes into another room than it was in.
@@ -228,26 +231,38 @@ impl<A: Allocator + Copy> Overlay<'_, A> {
 
     /// Whether an audio source comes into the room.
     #[tactic(auto, using(crate::proofs::Counts::any_of_both))]
-    fn gains_audio(&self, room: u32) -> bool
+    fn audio_comes(&self, room: u32) -> bool
         ensures { result ≡ list_any (is_audio_in (exchanged self.now.of.rows.now self.now.of.edit.now) room) (ins self.now.of.edit.now) }
     {
         has_audio(self, self.of.edit.new(), room)
             || has_audio(self, self.of.edit.put_others(), room)
     }
 
+    fn gains_audio(&self, row: &Row) -> bool
+        ensures { result ≡ gains_audio self.now.of.rows.now self.now.of.edit.now row.now }
+    {
+        match row {
+            Row::Room(room) => self.audio_comes(room.room),
+            _ => false,
+        }
+    }
+
+    /// Whether the row names two rows of which one is taken.
+    fn takes_either(&self, names: Few<Key>) -> bool
+        ensures { result ≡ takes_either self.now.of.edit.now (listed names) }
+    {
+        match names {
+            Few::Two(key, other) => self.of.takes(key) || self.of.takes(other),
+            _ => false,
+        }
+    }
+
     /// Whether what the row's rule looks at may have changed.
     fn is_shaken(&self, row: &Row, moved: bool) -> bool
         ensures { result ≡ is_shaken moved self.now.of.rows.now self.now.of.edit.now row.now }
     {
-        match row {
-            Row::Room(room) => moved || self.gains_audio(room.room),
-            Row::Sub(sub) => {
-                moved
-                    || (self.of.takes(Key::Slot(sub.out_ssrc))
-                        || self.of.takes(Key::Source(sub.source)))
-            }
-            _ => false,
-        }
+        let minds_moves = moved && (is_room(row) || is_pair(row.names()));
+        minds_moves || (self.gains_audio(row) || self.takes_either(row.names()))
     }
 
     /// Whether a row that stays is sound.
@@ -305,6 +320,24 @@ impl<A: Allocator + Copy> Overlay<'_, A> {
         ensures { result ≡ all_stay (stays_sound moved self.now.of.rows.now self.now.of.edit.now) self.now.of.rows.now self.now.of.edit.now }
     {
         self.members_stay(moved) && self.others_stay(moved)
+    }
+}
+
+fn is_room(row: &Row) -> bool
+    ensures { result ≡ is_room row.now }
+{
+    match row {
+        Row::Room(_) => true,
+        _ => false,
+    }
+}
+
+fn is_pair(names: Few<Key>) -> bool
+    ensures { result ≡ is_pair (listed names) }
+{
+    match names {
+        Few::Two(_, _) => true,
+        _ => false,
     }
 }
 

@@ -4,10 +4,11 @@ ghost use Rattle.std.specs.Prelude.{◌≡◌, ◌∷◌, []};
 ghost use Rattle.desk_rows.specs.Few.{listed};
 ghost use Rattle.desk_rows.specs.Kinds.{is_of};
 ghost use Rattle.desk_rows.specs.Order.{key_precedes, precedes};
-ghost use Rattle.desk_rows.specs.Row.{codec_number, media_number, same_media, row_numbers, same_row, kind_of, key_of, rank, key_numbers, same_key, has_key, names, other_claims, makes};
+ghost use Rattle.desk_rows.specs.Row.{codec_number, media_number, same_media, row_numbers, same_row, kind_of, key_of, rank, key_numbers, same_key, has_key, names, owner_of, wants, suits, is_in_range, other_claims, makes};
 
 use crate::claim::Claim;
 use crate::few::Few;
+use crate::limits::{MAX_GAIN, MAX_INDEX};
 use rtp_codec::Address;
 
 /// How a member's mix is encoded.
@@ -76,6 +77,36 @@ pub struct Sub {
     pub source: u32,
 }
 
+/// A source that nobody hears or sees.
+#[derive(Clone, Copy, PartialEq, Eq)]
+pub struct Mute {
+    pub source: u32,
+}
+
+/// How loud a member hears an audio source.
+#[derive(Clone, Copy, PartialEq, Eq)]
+pub struct Gain {
+    /// The member that hears.
+    pub member: u32,
+    pub source: u32,
+    /// 256 times the factor, 0 to 1,024.
+    pub q8: u32,
+}
+
+/// The video source that a room's first slots show, where they have no subscription.
+#[derive(Clone, Copy, PartialEq, Eq)]
+pub struct Pin {
+    pub room: u32,
+    pub source: u32,
+}
+
+/// The member that has a room's floor.
+#[derive(Clone, Copy, PartialEq, Eq)]
+pub struct Floor {
+    pub room: u32,
+    pub member: u32,
+}
+
 /// A row of any kind.
 #[derive(Clone, Copy, PartialEq, Eq)]
 pub enum Row {
@@ -84,6 +115,10 @@ pub enum Row {
     Source(Source),
     Slot(Slot),
     Sub(Sub),
+    Mute(Mute),
+    Gain(Gain),
+    Pin(Pin),
+    Floor(Floor),
 }
 
 /// What names a row among all rows.
@@ -94,6 +129,10 @@ pub enum Key {
     Source(u32),
     Slot(u32),
     Sub(u32),
+    Mute(u32),
+    Gain { member: u32, source: u32 },
+    Pin(u32),
+    Floor(u32),
 }
 
 /// The kinds of row.
@@ -104,6 +143,10 @@ pub enum Kind {
     Source,
     Slot,
     Sub,
+    Mute,
+    Gain,
+    Pin,
+    Floor,
 }
 
 impl Codec {
@@ -189,6 +232,13 @@ impl Row {
             Row::Source(source) => Key::Source(source.ssrc),
             Row::Slot(slot) => Key::Slot(slot.out_ssrc),
             Row::Sub(sub) => Key::Sub(sub.out_ssrc),
+            Row::Mute(mute) => Key::Mute(mute.source),
+            Row::Gain(gain) => Key::Gain {
+                member: gain.member,
+                source: gain.source,
+            },
+            Row::Pin(pin) => Key::Pin(pin.room),
+            Row::Floor(floor) => Key::Floor(floor.room),
         }
     }
 
@@ -205,10 +255,14 @@ impl Row {
             }
             Row::Slot(slot) => slot.numbers(),
             Row::Sub(sub) => [4, sub.out_ssrc, sub.source, 0, 0, 0, 0, 0, 0, 0, 0, 0],
+            Row::Mute(mute) => [5, mute.source, 0, 0, 0, 0, 0, 0, 0, 0, 0, 0],
+            Row::Gain(gain) => [6, gain.member, gain.source, gain.q8, 0, 0, 0, 0, 0, 0, 0, 0],
+            Row::Pin(pin) => [7, pin.room, pin.source, 0, 0, 0, 0, 0, 0, 0, 0, 0],
+            Row::Floor(floor) => [8, floor.room, floor.member, 0, 0, 0, 0, 0, 0, 0, 0, 0],
         }
     }
 
-    /// The keys of the rows that it names.
+    /// The keys of the rows that it names, by rising kind.
     pub fn names(&self) -> Few<Key>
         ensures { listed result ≡ names self.now }
     {
@@ -217,7 +271,46 @@ impl Row {
             Row::Member(member) => Few::One(Key::Room(member.room)),
             Row::Source(source) => Few::One(Key::Member(source.member)),
             Row::Slot(slot) => Few::One(Key::Member(slot.member)),
-            Row::Sub(sub) => Few::Two(Key::Slot(sub.out_ssrc), Key::Source(sub.source)),
+            Row::Sub(sub) => Few::Two(Key::Source(sub.source), Key::Slot(sub.out_ssrc)),
+            Row::Mute(mute) => Few::One(Key::Source(mute.source)),
+            Row::Gain(gain) => Few::Two(Key::Member(gain.member), Key::Source(gain.source)),
+            Row::Pin(pin) => Few::Two(Key::Room(pin.room), Key::Source(pin.source)),
+            Row::Floor(floor) => Few::Two(Key::Room(floor.room), Key::Member(floor.member)),
+        }
+    }
+
+    /// What a source that it names has to send.
+    fn wants(&self) -> Option<Media>
+        ensures { result ≡ wants self.now }
+    {
+        match self {
+            Row::Sub(_) => Some(Media::Video),
+            Row::Gain(_) => Some(Media::Audio),
+            Row::Pin(_) => Some(Media::Video),
+            _ => None,
+        }
+    }
+
+    /// Whether the row that was found under a name is what this row wants.
+    pub(crate) fn suits(&self, found: Option<Row>) -> bool
+        ensures { result ≡ suits (wants self.now) found }
+    {
+        match (self.wants(), found) {
+            (Some(media), Some(Row::Source(source))) => source.media.is_same(media),
+            _ => true,
+        }
+    }
+
+    /// Whether its values are in their ranges: a port is not 0, a slot's index is 15 at most and a
+    /// gain 1,024.
+    pub fn is_in_range(&self) -> bool
+        ensures { result ≡ is_in_range self.now }
+    {
+        match self {
+            Row::Member(member) => member.address.port != 0,
+            Row::Slot(slot) => slot.index <= MAX_INDEX,
+            Row::Gain(gain) => gain.q8 <= MAX_GAIN,
+            _ => true,
         }
     }
 
@@ -226,7 +319,6 @@ impl Row {
         ensures { listed result ≡ other_claims self.now }
     {
         match self {
-            Row::Room(_) => Few::Nothing,
             Row::Member(member) => {
                 Few::Two(
                     Claim::Address(member.address),
@@ -241,7 +333,7 @@ impl Row {
                     index: slot.index,
                 },
             ),
-            Row::Sub(_) => Few::Nothing,
+            _ => Few::Nothing,
         }
     }
 
@@ -295,13 +387,17 @@ impl Kind {
             Kind::Source => 2,
             Kind::Slot => 3,
             Kind::Sub => 4,
+            Kind::Mute => 5,
+            Kind::Gain => 6,
+            Kind::Pin => 7,
+            Kind::Floor => 8,
         }
     }
 }
 
 impl Key {
     /// The kind of the row that it names.
-    pub(crate) fn kind(self) -> Kind
+    pub fn kind(self) -> Kind
         ensures { result ≡ kind_of self }
     {
         match self {
@@ -310,6 +406,10 @@ impl Key {
             Key::Source(_) => Kind::Source,
             Key::Slot(_) => Kind::Slot,
             Key::Sub(_) => Kind::Sub,
+            Key::Mute(_) => Kind::Mute,
+            Key::Gain { .. } => Kind::Gain,
+            Key::Pin(_) => Kind::Pin,
+            Key::Floor(_) => Kind::Floor,
         }
     }
 
@@ -325,6 +425,24 @@ impl Key {
             Key::Source(number) => [kind, 0, number],
             Key::Slot(number) => [kind, 0, number],
             Key::Sub(number) => [kind, 0, number],
+            Key::Mute(number) => [kind, 0, number],
+            Key::Gain { member, source } => [kind, member, source],
+            Key::Pin(number) => [kind, 0, number],
+            Key::Floor(number) => [kind, 0, number],
+        }
+    }
+
+    /// The key whose number it has: a sub's is its slot's, a mute's its source's, a pin's and a
+    /// floor's its room's. Any other key is its own.
+    pub fn owner(self) -> Key
+        ensures { result ≡ owner_of self }
+    {
+        match self {
+            Key::Sub(number) => Key::Slot(number),
+            Key::Mute(number) => Key::Source(number),
+            Key::Pin(number) => Key::Room(number),
+            Key::Floor(number) => Key::Room(number),
+            _ => self,
         }
     }
 

@@ -262,9 +262,12 @@ impl<A: Allocator + Copy> Reversible for Rows<A> {
     }
 
     fn absorb(&mut self, edit: &Edit<A>) {
-        if !self.fits(edit) {
-            return;
+        if self.fits(edit) {
+            self.absorb_fitting(edit);
         }
+    }
+
+    fn absorb_fitting(&mut self, edit: &Edit<A>) {
         exchange_members(&mut self.members, &mut self.index, edit);
         exchange_rows(&mut self.others, &mut self.spare, edit);
     }

@@ -1,9 +1,9 @@
 -- How the desk after an edit is judged by the rows that come and by those that the edit touches, given that the desk
 -- before it is good. No public clause cites this.
-use Rattle.std.specs.Prelude.{◌≡◌, true, ℕ, Bool, false, ◌&&◌, ◌||◌, not, List, ◌++◌, map, nat_eq, count_by, Option}
+use Rattle.std.specs.Prelude.{◌≡◌, true, ℕ, Bool, false, ◌&&◌, ◌||◌, not, List, [], ◌∷◌, ◌++◌, map, nat_eq, count_by, Option}
 use Rattle.std.specs.List.{find, list_any, list_all}
 use Rattle.desk_rows.specs.declared.row.Row.{Row}
-use Rattle.desk_rows.specs.declared.row.Row.TheVariants.{Room, Member, Sub}
+use Rattle.desk_rows.specs.declared.row.Row.TheVariants.{Room, Member}
 use Rattle.desk_rows.specs.declared.row.Key.{Key}
 use Rattle.desk_rows.specs.declared.row.Key.TheVariants as keys
 use Rattle.desk_rows.specs.declared.row.Kind.TheVariants as kinds
@@ -12,9 +12,10 @@ use Rattle.desk_rows.specs.declared.edit.Placed.{Placed}
 use Rattle.desk_rows.specs.Order.{in_order, with_rows, without_rows}
 use Rattle.desk_rows.specs.Places.{take_at}
 use Rattle.desk_rows.specs.Edit.{EditOf, outs, ins}
-use Rattle.desk_rows.specs.Desk.{Desk, is_within_limits, is_named_there, is_made_once, is_alone, is_audio_in, obeys}
+use Rattle.desk_rows.specs.Desk.{Desk, row_at, is_within_limits, is_named_there, is_made_once, is_alone, is_audio_in, obeys}
 use Rattle.desk_rows.specs.Kinds.{is_of}
 use Rattle.desk_rows.specs.Exchange.{exchanged}
+use Rattle.desk_rows.specs.inner.Found.{finds, is_elsewhere}
 
 -- the lists of an edit are in order
 pub record HasOrders (e : EditOf) : Type 0 where
@@ -82,13 +83,31 @@ is_sound d r = is_named_there d r && (is_alone d r && obeys d r)
 
 -- a member comes into another room than it was in
 abbrev pub moves : Desk → EditOf → Bool
-moves d e = list_any (λ p. list_any (λ m. nat_eq m.member p.row.member && not (nat_eq m.room p.row.room)) d.members) e.put.members
+moves d e = list_any (λ p. finds (is_elsewhere p.row.room) (row_at d (keys.Member p.row.member))) e.put.members
 
--- what the rule of a row that stays looks at may have changed: a member moves, audio comes into a room, or a row that a sub names is taken
+-- an audio source comes into the room
+abbrev pub gains_audio : Desk → EditOf → Row → Bool
+gains_audio d e (Room r) = list_any (is_audio_in (exchanged d e) r.room) (ins e)
+gains_audio d e _ = false
+
+-- a room
+abbrev pub is_room : Row → Bool
+is_room (Room r) = true
+is_room _ = false
+
+-- what a row names is two rows, of which one is taken
+abbrev pub takes_either : EditOf → List Key → Bool
+takes_either e (a ∷ b ∷ []) = takes e a || takes e b
+takes_either e _ = false
+
+-- what a row names is two rows
+abbrev pub is_pair : List Key → Bool
+is_pair (a ∷ b ∷ []) = true
+is_pair _ = false
+
+-- what the rule of a row that stays looks at may have changed: a member moves, audio comes into a room, or one of two rows that are to be in one room is taken
 abbrev pub is_shaken : Bool → Desk → EditOf → Row → Bool
-is_shaken moved d e (Room r) = moved || list_any (is_audio_in (exchanged d e) r.room) (ins e)
-is_shaken moved d e (Sub s) = moved || (takes e (keys.Slot s.out_ssrc) || takes e (keys.Source s.source))
-is_shaken moved d e _ = false
+is_shaken moved d e r = (moved && (is_room r || is_pair (names r))) || (gains_audio d e r || takes_either e (names r))
 
 -- a row that stays is sound in the new desk: only where it is shaken is its rule asked for again
 unfoldable pub stays_sound : Bool → Desk → EditOf → Row → Bool

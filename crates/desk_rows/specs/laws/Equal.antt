@@ -7,7 +7,7 @@ use Rattle.desk_rows.specs.declared.row.Codec.TheVariants as codecs
 use Rattle.desk_rows.specs.declared.row.Media.{Media}
 use Rattle.desk_rows.specs.declared.row.Media.TheVariants as medias
 use Rattle.desk_rows.specs.declared.row.Row.{Row}
-use Rattle.desk_rows.specs.declared.row.Row.TheVariants.{Room, Member, Source, Slot, Sub}
+use Rattle.desk_rows.specs.declared.row.Row.TheVariants.{Room, Member, Source, Slot, Sub, Mute, Gain, Pin, Floor}
 use Rattle.desk_rows.specs.declared.row.Key.{Key}
 use Rattle.desk_rows.specs.declared.row.Key.TheVariants as keys
 use Rattle.desk_rows.specs.declared.claim.Claim.{Claim}
@@ -21,15 +21,19 @@ number_itself n = eq-eqb n n refl
 
 -- ---- keys
 
-key_by : ℕ → ℕ → Key
-key_by zero n = keys.Room n
-key_by (suc zero) n = keys.Member n
-key_by (suc (suc zero)) n = keys.Source n
-key_by (suc (suc (suc zero))) n = keys.Slot n
-key_by _ n = keys.Sub n
+key_by : ℕ → ℕ → ℕ → Key
+key_by zero m n = keys.Room n
+key_by (suc zero) m n = keys.Member n
+key_by (suc (suc zero)) m n = keys.Source n
+key_by (suc (suc (suc zero))) m n = keys.Slot n
+key_by (suc (suc (suc (suc zero)))) m n = keys.Sub n
+key_by (suc (suc (suc (suc (suc zero))))) m n = keys.Mute n
+key_by (suc (suc (suc (suc (suc (suc zero)))))) m n = keys.Gain m n
+key_by (suc (suc (suc (suc (suc (suc (suc zero))))))) m n = keys.Pin n
+key_by _ m n = keys.Floor n
 
 key_from : List ℕ → Key
-key_from (kind ∷ first ∷ second ∷ xs) = key_by kind second
+key_from (kind ∷ first ∷ second ∷ xs) = key_by kind first second
 key_from _ = keys.Room 0
 
 -- a key is read off its numbers
@@ -40,6 +44,10 @@ key_back (keys.Member n) = refl
 key_back (keys.Source n) = refl
 key_back (keys.Slot n) = refl
 key_back (keys.Sub n) = refl
+key_back (keys.Mute n) = refl
+key_back (keys.Gain m n) = refl
+key_back (keys.Pin n) = refl
+key_back (keys.Floor n) = refl
 
 pub same_key_is : (a b : Key) → same_key a b ≡ true → a ≡ b
 same_key_is a b e = sym (key_back a) ∙ ap key_from (same_numbers_is (key_numbers a) (key_numbers b) e) ∙ key_back b
@@ -64,6 +72,10 @@ three_numbers (keys.Member n) = refl
 three_numbers (keys.Source n) = refl
 three_numbers (keys.Slot n) = refl
 three_numbers (keys.Sub n) = refl
+three_numbers (keys.Mute n) = refl
+three_numbers (keys.Gain m n) = refl
+three_numbers (keys.Pin n) = refl
+three_numbers (keys.Floor n) = refl
 
 -- of two keys that differ one stands before the other
 pub one_precedes : (a b : Row) → has_key (key_of a) b ≡ false → (precedes a b || precedes b a) ≡ true
@@ -88,7 +100,11 @@ row_by zero a b c d e f g h = Room record { room = a }
 row_by (suc zero) a b c d e f g h = Member record { member = a; room = b; codec = codec_from c; out_audio = d; first_seq = e; first_ts = f; address = record { ip = h; port = g } }
 row_by (suc (suc zero)) a b c d e f g h = Source record { ssrc = a; member = b; media = media_from c }
 row_by (suc (suc (suc zero))) a b c d e f g h = Slot record { out_ssrc = a; member = b; index = c; first_seq = d; first_ts = e }
-row_by _ a b c d e f g h = Sub record { out_ssrc = a; source = b }
+row_by (suc (suc (suc (suc zero)))) a b c d e f g h = Sub record { out_ssrc = a; source = b }
+row_by (suc (suc (suc (suc (suc zero))))) a b c d e f g h = Mute record { source = a }
+row_by (suc (suc (suc (suc (suc (suc zero)))))) a b c d e f g h = Gain record { member = a; source = b; q8 = c }
+row_by (suc (suc (suc (suc (suc (suc (suc zero))))))) a b c d e f g h = Pin record { room = a; source = b }
+row_by _ a b c d e f g h = Floor record { room = a; member = b }
 
 row_from : List ℕ → Row
 row_from (kind ∷ a ∷ b ∷ c ∷ d ∷ e ∷ f ∷ g ∷ h) = row_by kind a b c d e f g h
@@ -108,6 +124,10 @@ row_back (Source s) = ap (λ media. Source record s { media = media }) (media_ba
   media_back medias.Video = refl
 row_back (Slot s) = refl
 row_back (Sub s) = refl
+row_back (Mute m) = refl
+row_back (Gain g) = refl
+row_back (Pin p) = refl
+row_back (Floor f) = refl
 
 pub same_row_is : (a b : Row) → same_row a b ≡ true → a ≡ b
 same_row_is a b e = sym (row_back a) ∙ ap row_from (same_numbers_is (row_numbers a) (row_numbers b) e) ∙ row_back b
@@ -138,6 +158,10 @@ claim_back (claims.Key k) = ap claims.Key (padded k) where
   padded (keys.Source n) = refl
   padded (keys.Slot n) = refl
   padded (keys.Sub n) = refl
+  padded (keys.Mute n) = refl
+  padded (keys.Gain m n) = refl
+  padded (keys.Pin n) = refl
+  padded (keys.Floor n) = refl
 claim_back (claims.Address a) = refl
 claim_back (claims.Ssrc s) = refl
 claim_back (claims.Place m i) = refl

@@ -1,6 +1,16 @@
-use Rattle.std.proofs.Common.{rules}
-use Rattle.std.proofs.lemmas.Fn.{filter_same}
+use Rattle.std.proofs.Common.{◌≡◌, ◌+◌, List, [], ◌∷◌, length, refl, sym, ap, ◌∙◌, arith}
+use Rattle.desk_rows.specs.declared.row.Row.{Row}
+use Rattle.desk_rows.specs.Order.{with_rows, without_rows}
+use Rattle.desk_rows.proofs.SlidingLemmas.{none_go}
 use Rattle.desk_rows.proofs.ordering.take_rows.Goals as goal
 
-pub returns-clause-items : goal.returns-clause-items
-returns-clause-items g c = filter_same _ _ _ (λ x b f k. search rules) _ _ c.retain.ensures.filtered
+nothing : (xs ys : List Row) → length xs + length ys ≡ 0 → with_rows ys xs ≡ []
+nothing [] [] h = refl
+nothing (x ∷ xs) ys h = absurd (omega (arith, h))
+nothing [] (y ∷ ys) h = absurd (omega (arith, h))
+
+pub returns-then-taken-old-eq0-clause-items : goal.returns-then-taken-old-eq0-clause-items
+returns-then-taken-old-eq0-clause-items g c =
+    let zero = c.if-taken-old-eq0.true in
+    let none = nothing c.args.taken.now c.args.old.now (omega (arith, zero)) in
+    sym (ap (λ rs. without_rows rs c.args.rows.now.items) none ∙ none_go c.args.rows.now.items)

@@ -1,0 +1,120 @@
+-- A row put in, or taken out, at the place that parts the rows before it from those behind.
+use Rattle.std.specs.Prelude.{slice_get}
+use Rattle.std.proofs.Common.{◌≡◌, ℕ, zero, suc, ◌≤◌, Bool, true, false, not, cond, ◌||◌, List, [], ◌∷◌, length, insert, remove, refl, sym, ap, ◌∙◌, inl, inr, arith}
+use Rattle.std.specs.List.{list_all}
+use Rattle.std.proofs.lemmas.Bool.{and_parts, and_from, cases_Bool}
+use Rattle.desk_rows.specs.declared.row.Row.{Row}
+use Rattle.desk_rows.specs.Row.{key_of, same_row}
+use Rattle.desk_rows.specs.Order.{precedes, in_order, is_in, with_row, without_rows}
+use Rattle.desk_rows.specs.inner.Parting.{Parts, is_found_as}
+use Rattle.desk_rows.specs.laws.Equal.{same_row_is, keys_precede_on, not_before_itself}
+use Rattle.desk_rows.specs.laws.OrderLaws.{at_each, from_each, filter_all, in_order-filter}
+use Rattle.desk_rows.proofs.Counts.{true_false}
+use Rattle.desk_rows.proofs.Halving.{later_parts}
+
+-- what a row stands before, those behind are too
+pub before_falls : (r a b : Row) → precedes a b ≡ true → not (precedes r b) ≡ true → not (precedes r a) ≡ true
+before_falls r a b e f = elim (cases_Bool (precedes r a)) [
+  | inl first ↦ absurd (true_false (sym f ∙ ap not (keys_precede_on (key_of r) (key_of a) (key_of b) first e)))
+  | inr first ↦ ap not first
+]
+
+pub put_in : (r : Row) (xs : List Row) (i : ℕ) → Parts (λ x. not (precedes r x)) xs i → i ≤ length xs → with_row r xs ≡ insert xs i r
+put_in r [] zero h l = refl
+put_in r [] (suc i) h l = absurd (omega (arith, l))
+put_in r (x ∷ xs) zero h l = ap (λ b. cond b (r ∷ x ∷ xs) (x ∷ with_row r xs)) (not_false (precedes r x) (h.1 zero x (omega arith) (omega arith))) where
+  not_false : (b : Bool) → not b ≡ false → b ≡ true
+  not_false true e = refl
+  not_false false e = sym e
+put_in r (x ∷ xs) (suc i) h l =
+    let rest : with_row r xs ≡ insert xs i r = put_in r xs i (later_parts (λ y. not (precedes r y)) x xs i h) (omega (arith, l)) in
+    ap (λ b. cond b (r ∷ x ∷ xs) (x ∷ with_row r xs)) (not_true (precedes r x) (h.0 zero x (omega arith) (omega arith))) ∙ ap (λ ys. x ∷ ys) rest where
+      not_true : (b : Bool) → not b ≡ true → b ≡ false
+      not_true true e = sym e
+      not_true false e = refl
+
+-- ---- taken out
+
+-- rows that are not this one stay
+others_stay : (r : Row) (xs : List Row) → list_all (λ x. not (same_row x r)) xs ≡ true → without_rows (r ∷ []) xs ≡ xs
+others_stay r xs h = filter_all (λ x. not (is_in (r ∷ []) x)) xs (from_each (λ x. not (is_in (r ∷ []) x)) xs (λ x one. ap not (or_false (same_row x r)) ∙ at_each (λ x. not (same_row x r)) xs x h one)) where
+  or_false : (b : Bool) → (b || false) ≡ b
+  or_false true = refl
+  or_false false = refl
+
+-- behind a row of its key, or of a later one, it is not
+none_behind : (r x : Row) (xs : List Row) → list_all (precedes x) xs ≡ true → precedes x r ≡ false → list_all (λ y. not (same_row y r)) xs ≡ true
+none_behind r x xs ahead late = from_each (λ y. not (same_row y r)) xs (λ y one. elim (cases_Bool (same_row y r)) [
+  | inl e ↦ absurd (true_false (sym (at_each (precedes x) xs y ahead one) ∙ ap (λ q. precedes x q) (same_row_is y r e) ∙ late))
+  | inr e ↦ ap not e
+])
+
+-- a row that stands before another is another
+differs : (r x : Row) → precedes x r ≡ true → same_row x r ≡ false
+differs r x h = elim (cases_Bool (same_row x r)) [
+  | inl f ↦ absurd (true_false (sym h ∙ ap (λ q. precedes q r) (same_row_is x r f) ∙ not_before_itself r))
+  | inr f ↦ f
+]
+
+pub take_out : (r : Row) (xs : List Row) (i : ℕ) → in_order xs ≡ true → Parts (λ x. precedes x r) xs i → is_found_as r (slice_get xs i) ≡ true → without_rows (r ∷ []) xs ≡ remove xs i
+take_out r [] i h p e = cc
+take_out r (x ∷ xs) zero h p e =
+    let order = and_parts (list_all (precedes x) xs) (in_order xs) h in
+    ap (λ b. cond (not (b || false)) (x ∷ without_rows (r ∷ []) xs) (without_rows (r ∷ []) xs)) e
+    ∙ others_stay r xs (none_behind r x xs order.0 (p.1 zero x (omega arith) (omega arith)))
+take_out r (x ∷ xs) (suc i) h p e =
+    let order = and_parts (list_all (precedes x) xs) (in_order xs) h in
+    let rest : without_rows (r ∷ []) xs ≡ remove xs i = take_out r xs i order.1 (later_parts (λ y. precedes y r) x xs i p) e in
+    ap (λ b. cond (not (b || false)) (x ∷ without_rows (r ∷ []) xs) (without_rows (r ∷ []) xs)) (differs r x (p.0 zero x (omega arith) (omega arith))) ∙ ap (λ ys. x ∷ ys) rest
+
+pub none_out : (r : Row) (xs : List Row) (i : ℕ) → in_order xs ≡ true → Parts (λ x. precedes x r) xs i → is_found_as r (slice_get xs i) ≡ false → without_rows (r ∷ []) xs ≡ xs
+none_out r [] i h p e = refl
+none_out r (x ∷ xs) zero h p e =
+    let order = and_parts (list_all (precedes x) xs) (in_order xs) h in
+    ap (λ b. cond (not (b || false)) (x ∷ without_rows (r ∷ []) xs) (without_rows (r ∷ []) xs)) e
+    ∙ ap (λ ys. x ∷ ys) (others_stay r xs (none_behind r x xs order.0 (p.1 zero x (omega arith) (omega arith))))
+none_out r (x ∷ xs) (suc i) h p e =
+    let order = and_parts (list_all (precedes x) xs) (in_order xs) h in
+    let rest = none_out r xs i order.1 (later_parts (λ y. precedes y r) x xs i p) e in
+    ap (λ b. cond (not (b || false)) (x ∷ without_rows (r ∷ []) xs) (without_rows (r ∷ []) xs)) (differs r x (p.0 zero x (omega arith) (omega arith))) ∙ ap (λ ys. x ∷ ys) rest
+
+pub none_go : (xs : List Row) → without_rows [] xs ≡ xs
+none_go xs = filter_all (λ x. true) xs (from_each (λ x. true) xs (λ q one. refl))
+
+pub rest_in_order : (rs xs : List Row) → in_order xs ≡ true → in_order (without_rows rs xs) ≡ true
+rest_in_order rs xs h = in_order-filter (λ x. not (is_in rs x)) xs h
+
+-- ---- many taken out
+
+pub before_all : (t x : Row) (xs : List Row) → precedes t x ≡ true → in_order (x ∷ xs) ≡ true → list_all (precedes t) (x ∷ xs) ≡ true
+before_all t x xs e h =
+    let order = and_parts (list_all (precedes x) xs) (in_order xs) h in
+    and_from _ _ e (from_each (precedes t) xs (λ y one. keys_precede_on (key_of t) (key_of x) (key_of y) e (at_each (precedes x) xs y order.0 one)))
+
+-- a row that stands before all of these is none of them
+pub not_among : (t : Row) (ts xs : List Row) → list_all (precedes t) xs ≡ true → without_rows (t ∷ ts) xs ≡ without_rows ts xs
+not_among t ts [] h = refl
+not_among t ts (x ∷ xs) h =
+    let both = and_parts (precedes t x) (list_all (precedes t) xs) h in
+    let rest = not_among t ts xs both.1 in
+    let other : same_row x t ≡ false = turned_apart t x both.0 in
+    (λ i. cond (not (other i || is_in ts x)) (x ∷ rest i) (rest i)) where
+      turned_apart : (t x : Row) → precedes t x ≡ true → same_row x t ≡ false
+      turned_apart t x e = elim (cases_Bool (same_row x t)) [
+        | inl f ↦ absurd (true_false (sym e ∙ ap (precedes t) (same_row_is x t f) ∙ not_before_itself t))
+        | inr f ↦ f
+      ]
+
+-- the first of those that go is the first row
+pub first_goes : (t x : Row) (ts xs : List Row) → in_order (x ∷ xs) ≡ true → same_row x t ≡ true → without_rows (t ∷ ts) (x ∷ xs) ≡ without_rows (t ∷ ts) xs
+first_goes t x ts xs h e = ap (λ b. cond (not (b || is_in ts x)) (x ∷ without_rows (t ∷ ts) xs) (without_rows (t ∷ ts) xs)) e
+
+-- a row that stands not behind the first of those that go stays, unless it is that one
+pub first_stays : (t x : Row) (ts xs : List Row) → in_order (t ∷ ts) ≡ true → precedes t x ≡ false → same_row x t ≡ false → without_rows (t ∷ ts) (x ∷ xs) ≡ x ∷ without_rows (t ∷ ts) xs
+first_stays t x ts xs h late other =
+    let order = and_parts (list_all (precedes t) ts) (in_order ts) h in
+    let none : is_in ts x ≡ false = elim (cases_Bool (is_in ts x)) [
+      | inl one ↦ absurd (true_false (sym (at_each (precedes t) ts x order.0 one) ∙ late))
+      | inr one ↦ one
+    ] in
+    (λ i. cond (not (other i || none i)) (x ∷ without_rows (t ∷ ts) xs) (without_rows (t ∷ ts) xs))

@@ -1,0 +1,13 @@
+use Rattle.std.proofs.Common.{rules}
+use Rattle.std.proofs.lemmas.List.Sorted.{IsPartitionPoint-from_clause}
+use Rattle.desk_rows.specs.Row.{key_of}
+use Rattle.desk_rows.specs.Order.{precedes}
+use Rattle.desk_rows.proofs.Halving.{parted, key_falls}
+use Rattle.desk_rows.proofs.sliding.place_of.Goals as goal
+
+pub returns-clause-parts : goal.returns-clause-parts
+returns-clause-parts c =
+    let xs = c.args.rows.now in
+    let row = c.args.row.now in
+    let split = parted (λ x. precedes x row) (key_falls (key_of row)) xs c.requires in
+    IsPartitionPoint-from_clause (λ x. precedes x row) xs c.partition_point.result c.partition_point.ensures.partitioned split (λ a r q k. search rules)

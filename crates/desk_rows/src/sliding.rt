@@ -1,0 +1,61 @@
+//! One row, put in, taken out or replaced at its place.
+
+ghost use Rattle.std.specs.Prelude.{◌≡◌, ◌+◌, ◌≤◌, ◌∷◌, [], true, not, length, slice_get, vec_len, vec_capacity};
+ghost use Rattle.desk_rows.specs.Order.{precedes, in_order, with_row, without_rows};
+ghost use Rattle.desk_rows.specs.inner.Parting.{Parts, is_found_as};
+
+use crate::row::Row;
+use std::alloc::Allocator;
+
+/// The place of the row of this row's key, or where one would stand.
+fn place_of(rows: &[Row], row: &Row) -> usize
+    requires { in_order rows.now ≡ true }
+    ensures parts { Parts (λ x. precedes x row.now) rows.now result }
+    ensures within { result ≤ length rows.now }
+{
+    rows.partition_point(|other| other.precedes(row))
+}
+
+/// The place of the first row that this one stands before.
+fn place_before(rows: &[Row], row: &Row) -> usize
+    requires { in_order rows.now ≡ true }
+    ensures parts { Parts (λ x. not (precedes row.now x)) rows.now result }
+    ensures within { result ≤ length rows.now }
+{
+    rows.partition_point(|other| !row.precedes(other))
+}
+
+/// Whether the row stands at the place.
+fn stands(rows: &[Row], place: usize, row: &Row) -> bool
+    ensures { result ≡ is_found_as row.now (slice_get rows.now place) }
+{
+    if place >= rows.len() {
+        return false;
+    }
+    rows[place].is_same(row)
+}
+
+/// Takes the row out, if it is there.
+pub(crate) fn take_one<A: Allocator>(rows: &mut Vec<Row, A>, row: &Row)
+    requires { in_order rows.old.items ≡ true }
+    ensures items { rows.new.items ≡ without_rows (row.now ∷ []) rows.old.items }
+    ensures capacity { vec_capacity rows.old ≤ vec_capacity rows.new }
+{
+    let place = place_of(rows, row);
+    if stands(rows, place, row) {
+        rows.remove(place);
+    }
+}
+
+/// Puts the row in. There is room for it.
+pub(crate) fn put_one<A: Allocator>(rows: &mut Vec<Row, A>, row: &Row)
+    requires order { in_order rows.old.items ≡ true }
+    requires room { vec_len rows.old + 1 ≤ vec_capacity rows.old }
+    ensures items { rows.new.items ≡ with_row row.now rows.old.items }
+    ensures capacity { vec_capacity rows.old ≤ vec_capacity rows.new }
+{
+    let place = place_before(rows, row);
+    if rows.insert(place, *row).is_err() {
+        return;
+    }
+}
