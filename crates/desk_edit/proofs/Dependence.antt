@@ -12,6 +12,7 @@ use Rattle.desk_rows.specs.laws.Equal.{its_key, same_row_is}
 use Rattle.desk_rows.specs.Order.{is_in}
 use Rattle.desk_rows.specs.Desk.{Desk, rows_of, holds}
 use Rattle.desk_rows.proofs.Counts.{true_false, witness}
+use Rattle.desk_edit.specs.Levels.{level}
 use Rattle.desk_edit.specs.Depends.{Names, Depends, IsDependent, goes_within, goes_with}
 
 -- a key that passes, where some do
@@ -57,29 +58,27 @@ own_goes : (n : ℕ) (d : Desk) (key : Key) (s : Row) → has_key key s ≡ true
 own_goes zero d key s h = h
 own_goes (suc n) d key s h = or_left _ _ h
 
--- how many rows there can be below a row of a kind
-level : Kind → ℕ
-level kinds.Room = 0
-level kinds.Member = 1
-level kinds.Source = 2
-level kinds.Slot = 2
-level kinds.Sub = 3
-
 three_at_most : (kind : Kind) → level kind ≤ 3
-unfolding level
 three_at_most kinds.Room = omega arith
 three_at_most kinds.Member = omega arith
 three_at_most kinds.Source = omega arith
 three_at_most kinds.Slot = omega arith
 three_at_most kinds.Sub = omega arith
+three_at_most kinds.Mute = omega arith
+three_at_most kinds.Gain = omega arith
+three_at_most kinds.Pin = omega arith
+three_at_most kinds.Floor = omega arith
 
 names_lower : (r : Row) → list_all (λ k. nat_lt (level (kind_of k)) (level (kind_of (key_of r)))) (names r) ≡ true
-unfolding level
 names_lower (rows.Room r) = refl
 names_lower (rows.Member m) = refl
 names_lower (rows.Source s) = refl
 names_lower (rows.Slot s) = refl
 names_lower (rows.Sub s) = refl
+names_lower (rows.Mute s) = refl
+names_lower (rows.Gain s) = refl
+names_lower (rows.Pin s) = refl
+names_lower (rows.Floor s) = refl
 
 lower_key : (n : ℕ) (t : Row) (ks : List Key) → list_all (λ k. nat_lt (level (kind_of k)) n) ks ≡ true → list_any (λ k. has_key k t) ks ≡ true → level (kind_of (key_of t)) < n
 lower_key n t [] all h = absurd (true_false (sym h))
@@ -102,3 +101,15 @@ within (suc n) d key r s few held own (Depends.through _ t _ named there rest) =
 
 pub dependent_goes : (d : Desk) (key : Key) (r : Row) → IsDependent d key r → goes_with d key r ≡ true
 dependent_goes d key r h = within 3 d key r h.0 (three_at_most (kind_of (key_of r))) h.1 h.2 h.3
+
+-- what depends on a row stands above it
+above : (d : Desk) (r s : Row) → Depends d r s → level (kind_of (key_of s)) < level (kind_of (key_of r))
+above d r s (Depends.direct _ _ named) = lower r s named
+above d r s (Depends.through _ t _ named there rest) = let less = lower r t named in let more = above d t s rest in omega (arith, less, more)
+
+-- so what goes with a key has it, or stands above it
+pub goes_above : (n : ℕ) (d : Desk) (key : Key) (r : Row) → goes_within n d key r ≡ true → (has_key key r ≡ true) ⊎ (level (kind_of key) < level (kind_of (key_of r)))
+goes_above n d key r h = elim (only_dependent n d key r h) [
+  | inl own ↦ inl own
+  | inr more ↦ inr (subst (λ (k : Key). level (kind_of k) < level (kind_of (key_of r))) (its_key key more.0 more.2) (above d r more.0 more.3))
+]

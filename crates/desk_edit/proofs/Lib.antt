@@ -1,10 +1,14 @@
+pub mod Dependence
+pub mod Cases
+pub mod GoingLemmas
+pub mod PickingLemmas
+pub mod Moves
 pub mod Fitting
-pub mod Obeying
 pub mod Putting
-pub mod Additions
-pub mod Joining
-pub mod Removing
-pub mod Subscribing
-pub mod Cascade
+pub mod Asked
+pub mod Placing
+pub mod Placed
+pub mod Taking
+pub mod Relocating
 pub mod Outcomes
-mod Dependence
+pub mod Claimed

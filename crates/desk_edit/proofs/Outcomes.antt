@@ -1,74 +1,98 @@
--- A command that is not refused is carried out by an edit that fits.
-use Rattle.std.proofs.Common.{◌≡◌, ℕ, false, map, true, not, length, refl, sym, ap, ◌∙◌, inl, inr, Some, None}
-use Rattle.std.specs.Prelude.{Option}
+-- What commands that are not refused lead to.
+use Rattle.std.proofs.Common.{◌≡◌, Bool, true, false, not, cond, List, [], ◌∷◌, ◌++◌, refl, sym, ap, ◌∙◌, Some, None}
+use Rattle.std.specs.List.{list_all}
+use Rattle.std.proofs.lemmas.Bool.{and_parts, and_from}
 use Rattle.desk_rows.specs.declared.row.Row.{Row}
 use Rattle.desk_rows.specs.declared.row.Row.TheVariants as rows
-use Rattle.desk_rows.specs.declared.row.Sub.{Sub as SubRow}
-use Rattle.desk_rows.specs.declared.row.Key.TheVariants as keys
-use Rattle.desk_rows.specs.Row.{has_key}
-use Rattle.desk_rows.specs.Order.{with_row}
-use Rattle.desk_rows.specs.laws.OrderLaws.{from_each, filter_all}
-use Rattle.desk_rows.specs.Edit.{EditOf}
-use Rattle.desk_rows.specs.Desk.{Desk, good, rows_of, row_at}
-use Rattle.desk_rows.specs.Exchange.{exchanged, fits, after}
-use Rattle.std.specs.List.{list_any, list_all}
-use Rattle.std.proofs.lemmas.Bool.{or_right, cases_Bool}
 use Rattle.desk_rows.specs.declared.row.Key.{Key}
-use Rattle.desk_rows.proofs.Counts.{true_false, count_some}
-use Rattle.desk_rows.specs.laws.Laws.{after_fits, any_counts, is_in-append}
+use Rattle.desk_rows.specs.declared.row.Kind.{Kind}
+use Rattle.desk_rows.specs.declared.row.Kind.TheVariants as kinds
+use Rattle.desk_rows.specs.Row.{kind_of, names}
+use Rattle.desk_rows.specs.Desk.{Desk, good}
+use Rattle.desk_rows.proofs.Counts.{true_false}
 use Rattle.desk_edit.specs.declared.command.Command.{Command}
-use Rattle.desk_edit.specs.declared.command.Command.TheVariants.{AddRoom, AddMember, AddSource, AddSlot, RemoveSlot, Subscribe}
-use Rattle.desk_edit.specs.Commands.{desk_after, with_other, with_replaced}
-use Rattle.desk_edit.specs.Edits.{puts_other, puts_member, takes_others, replaces, puts_in_place}
-use Rattle.desk_edit.specs.Planned.{edit_for}
-use Rattle.desk_edit.specs.Refusals.{has, refused, removal_refused, removal_cases, sub_refused}
-use Rattle.desk_edit.proofs.Fitting.{Carries, fits_carried}
-use Rattle.desk_edit.proofs.Putting.{CanCome, put_is, put_carries}
-use Rattle.desk_edit.proofs.Additions.{none_holds, not_false, room_can_come, source_can_come, slot_can_come}
-use Rattle.desk_edit.proofs.Joining.{join_is, join_carries}
-use Rattle.desk_edit.proofs.Removing.{gone, removed_is, remove_carries}
-use Rattle.desk_edit.proofs.Subscribing.{sub_can_come, replaced_is, replace_carries, not_found}
-use Rattle.desk_edit.proofs.Cascade.{without_is}
+use Rattle.desk_edit.specs.declared.command.Form.{Form}
+use Rattle.desk_edit.specs.declared.command.Form.TheVariants.{Put, Remove, Move}
+use Rattle.desk_edit.specs.declared.refusal.Refusal.{Refusal}
+use Rattle.desk_edit.specs.declared.refusal.Refusal.TheVariants as refusals
+use Rattle.desk_edit.specs.Commands.{desk_after, desk_led}
+use Rattle.desk_edit.specs.Edits.{edit_for}
+use Rattle.desk_edit.specs.Forms.{form_of}
+use Rattle.desk_edit.specs.Refusals.{refused, first_case, missing, lacking, rule_cases, full_cases, audio_cases, cases_of}
+use Rattle.desk_edit.proofs.Placing.{Leads, put_leads}
+use Rattle.desk_edit.proofs.Taking.{take_leads}
+use Rattle.desk_edit.proofs.Relocating.{move_leads}
 
--- an edit of a desk that leads to another
-pub record Leads (d : Desk) (e : EditOf) (next : Desk) : Type 0 where
-  pub fits : fits d e ≡ true
-  pub leads : after d e ≡ next
+led : (d : Desk) (f : Form) → good d ≡ true → first_case (cases_of d f) ≡ None → Leads d (edit_for d f) (desk_led d f)
+unfolding edit_for
+led d (Put r) g h = put_leads d r g h
+led d (Remove key) g h = take_leads d key g
+led d (Move member room) g h = move_leads d member room g h
 
-leads : (d : Desk) (e : EditOf) (next : Desk) → good d ≡ true → Carries d e → exchanged d e ≡ next → Leads d e next
-leads d e next g c is = let fit = fits_carried d e g c in record { fits = fit; leads = after_fits d e fit ∙ is }
+pub planned : (d : Desk) (c : Command) → good d ≡ true → refused d c ≡ None → Leads d (edit_for d (form_of c)) (desk_after d c)
+unfolding desk_after refused
+planned d c g h = led d (form_of c) g h
 
-put_leads : (d : Desk) (r : Row) → good d ≡ true → CanCome d r → Leads d (puts_other r) (with_other d r)
-put_leads d r g c = leads d (puts_other r) (with_other d r) g (put_carries d r g c) (put_is d r)
+-- ---- want of memory is no case
 
--- no other row has a key that no row has
-others_without : (d : Desk) (k : Key) → list_any (has_key k) (rows_of d) ≡ false → list_all (λ x. not (has_key k x)) d.others ≡ true
-others_without d k h = from_each (λ x. not (has_key k x)) d.others (λ q one. elim (cases_Bool (has_key k q)) [
-  | inl e ↦ absurd (true_false (sym (count_some (has_key k) (rows_of d) (any_counts (has_key k) (rows_of d) q (is_in-append (map rows.Member d.members) d.others q ∙ or_right _ _ one) e)) ∙ h))
-  | inr e ↦ ap not e
-])
+is_memory : Refusal → Bool
+is_memory refusals.OutOfMemory = true
+is_memory _ = false
 
--- where there is no sub of this key, putting one replaces none
-none_replaced : (d : Desk) (s : SubRow) → row_at d (keys.Sub s.out_ssrc) ≡ None → with_other d (rows.Sub s) ≡ with_replaced d (rows.Sub s)
-none_replaced d s h =
-    let none = not_found (has_key (keys.Sub s.out_ssrc)) (rows_of d) h in
-    ap (λ os. record d { others = with_row (rows.Sub s) os })
-    (sym (filter_all (λ x. not (has_key (keys.Sub s.out_ssrc) x)) d.others (others_without d (keys.Sub s.out_ssrc) none)))
+tells_else : List (Bool × Refusal) → Bool
+tells_else cs = list_all (λ c. not (is_memory c.1)) cs
 
-sub_leads : (d : Desk) (s : SubRow) → good d ≡ true → sub_refused d s ≡ None → (old : Option Row) → row_at d (keys.Sub s.out_ssrc) ≡ old → Leads d (puts_in_place old (rows.Sub s)) (with_replaced d (rows.Sub s))
-sub_leads d s g h None at =
-    leads d (puts_other (rows.Sub s)) (with_replaced d (rows.Sub s)) g (put_carries d (rows.Sub s) g (sub_can_come d s g h at)) (put_is d (rows.Sub s) ∙ none_replaced d s at)
-sub_leads d s g h (Some old) at = leads d (replaces old (rows.Sub s)) (with_replaced d (rows.Sub s)) g (replace_carries d s old g h at) (replaced_is d s old g at)
+first_else : (cs : List (Bool × Refusal)) → list_all (λ c. not (is_memory c.1)) cs ≡ true → first_case cs ≡ Some refusals.OutOfMemory → ⊥
+unfolding is_memory
+first_else [] all h = cc
+first_else (c ∷ cs) all h =
+    let both = and_parts (not (is_memory c.1)) (list_all (λ c. not (is_memory c.1)) cs) all in
+    by c.0 h (first_else cs both.1) both.0 where
+      same : Some c.1 ≡ Some refusals.OutOfMemory → c.1 ≡ refusals.OutOfMemory
+      same e = cc
 
-slot_there : (d : Desk) (out : ℕ) → removal_refused d out ≡ None → has d (keys.Slot out) ≡ true
-unfolding removal_refused
-slot_there d out h = not_false (has d (keys.Slot out)) (none_holds (removal_cases d out) h).0
+      by : (b : Bool) → cond b (Some c.1) (first_case cs) ≡ Some refusals.OutOfMemory → (first_case cs ≡ Some refusals.OutOfMemory → ⊥) → not (is_memory c.1) ≡ true → ⊥
+      by true e rest own = true_false (sym own ∙ ap (λ w. not (is_memory w)) (same e))
+      by false e rest own = rest e
 
-pub planned : (d : Desk) (c : Command) → good d ≡ true → refused d c ≡ None → Leads d (edit_for d c) (desk_after d c)
-unfolding edit_for desk_after refused
-planned d (AddRoom r) g h = put_leads d (rows.Room r) g (room_can_come d r g h)
-planned d (AddMember m) g h = leads d (puts_member (length d.members) m) _ g (join_carries d m g h) (join_is d m)
-planned d (AddSource s) g h = put_leads d (rows.Source s) g (source_can_come d s g h)
-planned d (AddSlot s) g h = put_leads d (rows.Slot s) g (slot_can_come d s g h)
-planned d (RemoveSlot out) g h = leads d (takes_others (gone d out)) _ g (remove_carries d out g) (removed_is d out ∙ sym (without_is d out (slot_there d out h)))
-planned d (Subscribe s) g h = sub_leads d s g h (row_at d (keys.Sub s.out_ssrc)) refl
+missing_else : (kind : Kind) → not (is_memory (missing kind)) ≡ true
+unfolding is_memory
+missing_else kinds.Room = refl
+missing_else kinds.Member = refl
+missing_else kinds.Source = refl
+missing_else kinds.Slot = refl
+missing_else kinds.Sub = refl
+missing_else kinds.Mute = refl
+missing_else kinds.Gain = refl
+missing_else kinds.Pin = refl
+missing_else kinds.Floor = refl
+
+lacking_else : (d : Desk) (ks : List Key) → list_all (λ c. not (is_memory c.1)) (lacking d ks) ≡ true
+lacking_else d [] = refl
+lacking_else d (k ∷ ks) = and_from _ _ (missing_else (kind_of k)) (lacking_else d ks)
+
+both_else : (xs ys : List (Bool × Refusal)) → list_all (λ c. not (is_memory c.1)) xs ≡ true → list_all (λ c. not (is_memory c.1)) ys ≡ true → list_all (λ c. not (is_memory c.1)) (xs ++ ys) ≡ true
+both_else [] ys a b = b
+both_else (x ∷ xs) ys a b = let two = and_parts (not (is_memory x.1)) (list_all (λ c. not (is_memory c.1)) xs) a in and_from _ _ two.0 (both_else xs ys two.1 b)
+
+audio_else : (d : Desk) (r : Row) → list_all (λ c. not (is_memory c.1)) (audio_cases d r) ≡ true
+unfolding is_memory
+audio_else d (rows.Source r) = refl
+audio_else d (rows.Room r) = refl
+audio_else d (rows.Member r) = refl
+audio_else d (rows.Slot r) = refl
+audio_else d (rows.Sub r) = refl
+audio_else d (rows.Mute r) = refl
+audio_else d (rows.Gain r) = refl
+audio_else d (rows.Pin r) = refl
+audio_else d (rows.Floor r) = refl
+
+cases_else : (d : Desk) (f : Form) → list_all (λ c. not (is_memory c.1)) (cases_of d f) ≡ true
+unfolding is_memory
+cases_else d (Put r) = both_else (lacking d (names r)) (rule_cases d r ++ (full_cases d r ++ audio_cases d r)) (lacking_else d (names r)) (audio_else d r)
+cases_else d (Remove key) = and_from _ _ (missing_else _) refl
+cases_else d (Move member room) = refl
+
+pub never_memory : (d : Desk) (c : Command) → refused d c ≡ Some refusals.OutOfMemory → ⊥
+unfolding refused
+never_memory d c h = first_else (cases_of d (form_of c)) (cases_else d (form_of c)) h

@@ -3,9 +3,9 @@ use Rattle.std.specs.Prelude.{ℕ, ◌+◌, not, nat_eq, List, [], ◌∷◌, �
 use Rattle.desk_rows.specs.Desk.{Desk}
 use Rattle.desk_edit.specs.declared.command.Command.{Command}
 use Rattle.desk_edit.specs.declared.command.Call.{Call}
-use Rattle.desk_edit.specs.declared.command.Call.TheVariants.{Apply, Undo}
-use Rattle.desk_edit.specs.declared.command.Refusal.{Refusal}
-use Rattle.desk_edit.specs.declared.command.Refusal.TheVariants.{NewerCommand, NothingToUndo, LogFull}
+use Rattle.desk_edit.specs.declared.command.Call.TheVariants.{Apply, Undo, Redo}
+use Rattle.desk_edit.specs.declared.refusal.Refusal.{Refusal}
+use Rattle.desk_edit.specs.declared.refusal.Refusal.TheVariants.{NewerCommand, NothingToUndo, NothingToRedo, LogFull}
 use Rattle.desk_edit.specs.Commands.{desk_after}
 use Rattle.desk_edit.specs.Refusals.{refused}
 
@@ -34,17 +34,21 @@ abbrev pub or_log_full : Option Refusal → ℕ → Option Refusal
 or_log_full (Some why) version = Some why
 or_log_full None version = if nat_eq version call_limit then Some LogFull else None
 
--- the first reason against a call, want of memory apart, where so many calls were accepted and so many commands are done: of a command its own; an undo has to name the last accepted call, and there has to be something to undo
-abbrev pub refusal_at : ℕ → Desk → ℕ → Call → Option Refusal
-refusal_at version d done (Apply command) = or_log_full (refused d command) version
-refusal_at version d done (Undo last) =
+-- the first reason against a call, want of memory apart, where so many calls were accepted, so many commands are done and so many undone: of a command its own; an undo or a redo has to name the last accepted call, and there has to be something to undo or to do again
+abbrev pub refusal_at : ℕ → Desk → ℕ → ℕ → Call → Option Refusal
+refusal_at version d done undone (Apply command) = or_log_full (refused d command) version
+refusal_at version d done undone (Undo last) =
     if not (nat_eq last version) then Some (NewerCommand version)
     else (if nat_eq done 0 then Some NothingToUndo
+    else (if nat_eq version call_limit then Some LogFull else None))
+refusal_at version d done undone (Redo last) =
+    if not (nat_eq last version) then Some (NewerCommand version)
+    else (if nat_eq undone 0 then Some NothingToRedo
     else (if nat_eq version call_limit then Some LogFull else None))
 
 -- the first reason against a call after these
 abbrev pub refusal_of : CallHistory → Call → Option Refusal
-refusal_of h call = refusal_at h.accepted (desk_now h) (length h.done) call
+refusal_of h call = refusal_at h.accepted (desk_now h) (length h.done) (length h.undone) call
 
 -- a list without its last element
 abbrev pub front : {X : Type 0} → List X → List X
@@ -58,7 +62,8 @@ final [] = []
 final (x ∷ []) = x ∷ []
 final (x ∷ y ∷ ys) = final (y ∷ ys)
 
--- after a call that is accepted: a command is done and what was undone is forgotten; an undo moves the last command from one list to the other
+-- after a call that is accepted: a command is done and what was undone is forgotten; an undo moves the last command from one list to the other, and a redo moves it back
 unfoldable pub after_call : CallHistory → Call → CallHistory
 after_call h (Apply command) = record h { done = h.done ++ command ∷ []; undone = []; accepted = h.accepted + 1 }
 after_call h (Undo last) = record h { done = front h.done; undone = h.undone ++ final h.done; accepted = h.accepted + 1 }
+after_call h (Redo last) = record h { done = h.done ++ final h.undone; undone = front h.undone; accepted = h.accepted + 1 }

@@ -1,26 +1,27 @@
 -- When commands are refused, and by which refusal: the first that holds.
-use Rattle.std.specs.Prelude.{ℕ, Bool, false, not, ◌&&◌, ◌||◌, List, [], ◌∷◌, nat_eq, nat_le, nat_lt, count_by, Option, Some, None, if◌then◌else◌}
+use Rattle.std.specs.Prelude.{ℕ, ◌+◌, Bool, true, false, not, ◌&&◌, ◌||◌, List, [], ◌∷◌, ◌++◌, map, nat_eq, nat_le, nat_lt, count_by, Option, Some, None, if◌then◌else◌}
 use Rattle.std.specs.List.{list_any}
 use Rattle.desk_rows.specs.declared.row.Row.{Row}
 use Rattle.desk_rows.specs.declared.row.Row.TheVariants as rows
-use Rattle.desk_rows.specs.declared.row.Media.TheVariants.{Audio, Video}
-use Rattle.desk_rows.specs.declared.row.Member.{Member}
-use Rattle.desk_rows.specs.declared.row.Source.{Source}
-use Rattle.desk_rows.specs.declared.row.Slot.{Slot}
-use Rattle.desk_rows.specs.declared.row.Sub.{Sub}
+use Rattle.desk_rows.specs.declared.row.Media.TheVariants.{Audio}
 use Rattle.desk_rows.specs.declared.row.Key.{Key}
 use Rattle.desk_rows.specs.declared.row.Key.TheVariants as keys
+use Rattle.desk_rows.specs.declared.row.Kind.{Kind}
 use Rattle.desk_rows.specs.declared.row.Kind.TheVariants as kinds
 use Rattle.desk_rows.specs.declared.claim.Claim.{Claim}
 use Rattle.desk_rows.specs.declared.claim.Claim.TheVariants as claims
-use Rattle.desk_rows.specs.Limits.{room_limit, member_limit, source_limit, slot_limit, room_audio_limit, index_limit}
-use Rattle.desk_rows.specs.Row.{has_key, makes, same_media}
-use Rattle.desk_rows.specs.Desk.{Desk, rows_of, holds, count_of, is_member_in, is_audio_in, is_slot_beside}
+use Rattle.desk_rows.specs.Limits.{room_audio_limit}
+use Rattle.desk_rows.specs.Kinds.{is_of, limits}
+use Rattle.desk_rows.specs.Row.{kind_of, key_of, owner_of, has_key, names, other_claims, makes, same_media, is_in_range}
+use Rattle.desk_rows.specs.Desk.{Desk, rows_of, row_at, holds, count_of, is_bridges, room_of_member, room_of, same_room, are_together, all_suit, is_audio_in}
 use Rattle.desk_edit.specs.declared.command.Command.{Command}
-use Rattle.desk_edit.specs.declared.command.Command.TheVariants.{AddRoom, AddMember, AddSource, AddSlot, RemoveSlot, Subscribe}
-use Rattle.desk_edit.specs.declared.command.Refusal.{Refusal}
-use Rattle.desk_edit.specs.declared.command.Refusal.TheVariants as refusals
-use Rattle.desk_edit.specs.declared.command.Table.TheVariants as tables
+use Rattle.desk_edit.specs.declared.command.Form.{Form}
+use Rattle.desk_edit.specs.declared.command.Form.TheVariants.{Put, Remove, Move}
+use Rattle.desk_edit.specs.declared.refusal.Refusal.{Refusal}
+use Rattle.desk_edit.specs.declared.refusal.Refusal.TheVariants as refusals
+use Rattle.desk_edit.specs.declared.refusal.Table.{Table}
+use Rattle.desk_edit.specs.declared.refusal.Table.TheVariants as tables
+use Rattle.desk_edit.specs.Forms.{form_of}
 
 -- the desk has a row of this key
 abbrev pub has : Desk → Key → Bool
@@ -30,110 +31,131 @@ has d key = list_any (has_key key) (rows_of d)
 abbrev pub is_claimed : Desk → Claim → Bool
 is_claimed d claim = list_any (makes claim) (rows_of d)
 
--- the bridge, a source or an outgoing stream has this SSRC
-abbrev pub ssrc_is_taken : Desk → ℕ → Bool
-ssrc_is_taken d ssrc = nat_eq ssrc d.bridge_ssrc || is_claimed d (claims.Ssrc ssrc)
-
--- the source of this SSRC sends video
-abbrev pub sends_video : ℕ → Row → Bool
-sends_video ssrc (rows.Source s) = nat_eq s.ssrc ssrc && same_media s.media Video
-sends_video ssrc _ = false
-
--- the room of this member has all the audio sources that it may have
-abbrev pub is_full_room : Desk → ℕ → Row → Bool
-is_full_room d member (rows.Room r) = is_member_in d member r.room && nat_le room_audio_limit (count_by (is_audio_in d r.room) d.others)
-is_full_room d member _ = false
-
--- a source of audio would be one too many in its member's room
-abbrev pub fills_room : Desk → Source → Bool
-fills_room d s = same_media s.media Audio && list_any (is_full_room d s.member) d.others
+-- ---- cases
 
 -- the first refusal whose case holds
 abbrev pub first_case : List (Bool × Refusal) → Option Refusal
 first_case [] = None
 first_case (c ∷ cs) = if c.0 then Some c.1 else first_case cs
 
--- against a room, by number: it is there; there are as many as may be
-abbrev pub room_cases : Desk → ℕ → List (Bool × Refusal)
-room_cases d room =
-    (has d (keys.Room room), refusals.Exists)
-    ∷ (nat_le room_limit (count_of kinds.Room d), refusals.Full tables.Rooms room_limit)
+-- the first of two
+abbrev pub or_next : Option Refusal → Option Refusal → Option Refusal
+or_next (Some why) next = Some why
+or_next None next = next
+
+-- what is told where a row of this kind has to be there and isn't
+abbrev pub missing : Kind → Refusal
+missing kinds.Room = refusals.NoRoom
+missing kinds.Member = refusals.NoMember
+missing kinds.Source = refusals.NoSource
+missing kinds.Slot = refusals.NoSlot
+missing _ = refusals.NotThere
+
+-- these have to be there
+abbrev pub lacking : Desk → List Key → List (Bool × Refusal)
+lacking d ks = map (λ key. (not (has d key), missing (kind_of key))) ks
+
+-- ---- against a row that is put
+
+-- a row that is put in place of the one of its key: no row names it
+abbrev pub is_replaced : Row → Bool
+is_replaced (rows.Sub s) = true
+is_replaced (rows.Mute m) = true
+is_replaced (rows.Gain g) = true
+is_replaced (rows.Pin p) = true
+is_replaced (rows.Floor f) = true
+is_replaced _ = false
+
+abbrev pub is_ssrc : Claim → Bool
+is_ssrc (claims.Ssrc s) = true
+is_ssrc _ = false
+
+-- an address, or a slot's place among those of its member, that some row has
+abbrev pub is_other_claimed : Desk → Claim → Bool
+is_other_claimed d c = not (is_ssrc c) && is_claimed d c
+
+-- a row of its key is there that it does not replace, or another has its address or its place
+abbrev pub is_there : Desk → Row → Bool
+is_there d r = (not (is_replaced r) && has d (key_of r)) || list_any (is_other_claimed d) (other_claims r)
+
+-- an SSRC that the bridge, a source or an outgoing stream has
+abbrev pub is_ssrc_taken : Desk → Claim → Bool
+is_ssrc_taken d c = is_ssrc c && (is_bridges d c || is_claimed d c)
+
+abbrev pub ssrc_is_taken : Desk → Row → Bool
+ssrc_is_taken d r = list_any (is_ssrc_taken d) (other_claims r)
+
+-- a source that it names is of the other kind; what it names is in two rooms; its SSRC is taken; a value is out of its range; the same row is there
+abbrev pub rule_cases : Desk → Row → List (Bool × Refusal)
+rule_cases d r =
+    (not (all_suit d r), refusals.WrongKind)
+    ∷ (not (are_together d (names r)), refusals.OtherRoom)
+    ∷ (ssrc_is_taken d r, refusals.SsrcTaken)
+    ∷ (not (is_in_range r), refusals.BadValue)
+    ∷ (holds d r, refusals.Already)
     ∷ []
 
--- the first of them
-unfoldable pub room_refused : Desk → ℕ → Option Refusal
-room_refused d room = first_case (room_cases d room)
+-- the table of a kind
+abbrev pub table_of : Kind → Table
+table_of kinds.Room = tables.Rooms
+table_of kinds.Member = tables.Members
+table_of kinds.Source = tables.Sources
+table_of kinds.Slot = tables.Slots
+table_of _ = tables.Gains
 
--- against a member, by number: its number or its address is there; its room is missing; the SSRC of its mix is taken; port 0; there are as many members as may be
-abbrev pub member_cases : Desk → Member → List (Bool × Refusal)
-member_cases d m =
-    (has d (keys.Member m.member) || is_claimed d (claims.Address m.address), refusals.Exists)
-    ∷ (not (has d (keys.Room m.room)), refusals.NoRoom)
-    ∷ (ssrc_is_taken d m.out_audio, refusals.SsrcTaken)
-    ∷ (nat_eq m.address.port 0, refusals.BadValue)
-    ∷ (nat_le member_limit (count_of kinds.Member d), refusals.Full tables.Members member_limit)
+-- a row of this kind that replaces none is one too many
+abbrev pub is_full : Desk → Row → Kind × ℕ → Bool
+is_full d r limit = is_of limit.0 r && (not (has d (key_of r)) && nat_le limit.1 (count_of limit.0 d))
+
+-- there are as many of its kind as may be
+abbrev pub full_cases : Desk → Row → List (Bool × Refusal)
+full_cases d r = map (λ limit. (is_full d r limit, refusals.Full (table_of limit.0) limit.1)) limits
+
+-- the room has all the audio sources that it may have
+abbrev pub room_is_full : Desk → Option ℕ → Bool
+room_is_full d (Some room) = nat_le room_audio_limit (count_by (is_audio_in d room) d.others)
+room_is_full d None = false
+
+-- a source of audio is one too many in its member's room
+abbrev pub audio_cases : Desk → Row → List (Bool × Refusal)
+audio_cases d (rows.Source s) = (same_media s.media Audio && room_is_full d (room_of d (rows.Source s)), refusals.Full tables.RoomAudio room_audio_limit) ∷ []
+audio_cases d _ = []
+
+-- against a row, by number: it is there; what it names is missing; it breaks a rule; there is no room for it
+abbrev pub put_cases : Desk → Row → List (Bool × Refusal)
+put_cases d r = (is_there d r, refusals.Exists) ∷ (lacking d (names r) ++ (rule_cases d r ++ (full_cases d r ++ audio_cases d r)))
+
+-- ---- against a row that is taken, and a member that is moved
+
+-- the row whose number its key has is missing; it is missing itself
+abbrev pub remove_cases : Desk → Key → List (Bool × Refusal)
+remove_cases d key =
+    (not (has d (owner_of key)), missing (kind_of (owner_of key)))
+    ∷ (not (has d key), refusals.NotThere)
     ∷ []
 
--- the first of them
-unfoldable pub member_refused : Desk → Member → Option Refusal
-member_refused d m = first_case (member_cases d m)
+-- an audio source of the member
+abbrev pub is_audio_of : ℕ → Row → Bool
+is_audio_of member (rows.Source s) = same_media s.media Audio && nat_eq s.member member
+is_audio_of member _ = false
 
--- against a source, by number: a source of its SSRC is there; its member is missing; its SSRC is the bridge's or an outgoing one (a source's was told before); there are as many sources as may be; its room has all its audio
-abbrev pub source_cases : Desk → Source → List (Bool × Refusal)
-source_cases d s =
-    (has d (keys.Source s.ssrc), refusals.Exists)
-    ∷ (not (has d (keys.Member s.member)), refusals.NoMember)
-    ∷ (ssrc_is_taken d s.ssrc, refusals.SsrcTaken)
-    ∷ (nat_le source_limit (count_of kinds.Source d), refusals.Full tables.Sources source_limit)
-    ∷ (fills_room d s, refusals.Full tables.RoomAudio room_audio_limit)
+-- the room is missing; the member is missing; it is there already; the room would have more audio sources than it may
+abbrev pub move_cases : Desk → ℕ → ℕ → List (Bool × Refusal)
+move_cases d member room =
+    (not (has d (keys.Room room)), refusals.NoRoom)
+    ∷ (not (has d (keys.Member member)), refusals.NoMember)
+    ∷ (same_room (room_of_member (row_at d (keys.Member member))) (Some room), refusals.Already)
+    ∷ (nat_lt room_audio_limit (count_by (is_audio_in d room) d.others + count_by (is_audio_of member) d.others), refusals.Full tables.RoomAudio room_audio_limit)
     ∷ []
 
--- the first of them
-unfoldable pub source_refused : Desk → Source → Option Refusal
-source_refused d s = first_case (source_cases d s)
+-- ---- all
 
--- against a slot, by number: a slot of its SSRC is there, or one in its place; its member is missing; its SSRC is taken; its index is too big; there are as many slots as may be
-abbrev pub slot_cases : Desk → Slot → List (Bool × Refusal)
-slot_cases d s =
-    (has d (keys.Slot s.out_ssrc) || is_claimed d (claims.Place s.member s.index), refusals.Exists)
-    ∷ (not (has d (keys.Member s.member)), refusals.NoMember)
-    ∷ (ssrc_is_taken d s.out_ssrc, refusals.SsrcTaken)
-    ∷ (nat_lt index_limit s.index, refusals.BadValue)
-    ∷ (nat_le slot_limit (count_of kinds.Slot d), refusals.Full tables.Slots slot_limit)
-    ∷ []
-
--- the first of them
-unfoldable pub slot_refused : Desk → Slot → Option Refusal
-slot_refused d s = first_case (slot_cases d s)
-
--- against taking a slot away: it is missing
-abbrev pub removal_cases : Desk → ℕ → List (Bool × Refusal)
-removal_cases d out_ssrc =
-    (not (has d (keys.Slot out_ssrc)), refusals.NoSlot) ∷ []
-
--- that, if it holds
-unfoldable pub removal_refused : Desk → ℕ → Option Refusal
-removal_refused d out_ssrc = first_case (removal_cases d out_ssrc)
-
--- against a subscription, by number: its source is missing; its slot is missing; the source sends no video; the two are in different rooms; the same row is there
-abbrev pub sub_cases : Desk → Sub → List (Bool × Refusal)
-sub_cases d s =
-    (not (has d (keys.Source s.source)), refusals.NoSource)
-    ∷ (not (has d (keys.Slot s.out_ssrc)), refusals.NoSlot)
-    ∷ (not (list_any (sends_video s.source) d.others), refusals.WrongKind)
-    ∷ (not (list_any (is_slot_beside d s.out_ssrc s.source) d.others), refusals.OtherRoom)
-    ∷ (holds d (rows.Sub s), refusals.Already)
-    ∷ []
-
--- the first of them
-unfoldable pub sub_refused : Desk → Sub → Option Refusal
-sub_refused d s = first_case (sub_cases d s)
+-- what can stand against a command, in the order of the refusals' numbers
+abbrev pub cases_of : Desk → Form → List (Bool × Refusal)
+cases_of d (Put r) = put_cases d r
+cases_of d (Remove key) = remove_cases d key
+cases_of d (Move member room) = move_cases d member room
 
 -- the refusal of least number that holds, want of memory apart
 unfoldable pub refused : Desk → Command → Option Refusal
-refused d (AddRoom r) = room_refused d r.room
-refused d (AddMember m) = member_refused d m
-refused d (AddSource s) = source_refused d s
-refused d (AddSlot s) = slot_refused d s
-refused d (RemoveSlot out_ssrc) = removal_refused d out_ssrc
-refused d (Subscribe s) = sub_refused d s
+refused d command = first_case (cases_of d (form_of command))

@@ -1,33 +1,50 @@
 //! What commands ask of a desk.
 
-ghost use Rattle.std.specs.Prelude.{◌≡◌, ◌++◌, map};
+ghost use Rattle.std.specs.Prelude.{◌≡◌, ◌<◌, ◌^◌, not, ◌&&◌, ◌||◌, count_by, map};
 ghost use Rattle.std.specs.List.{list_any};
 ghost use Rattle.desk_rows.specs.declared.row.Row.TheVariants.{Member as MemberRow};
-ghost use Rattle.desk_rows.specs.Row.{makes};
-ghost use Rattle.desk_rows.specs.inner.Found.{finds};
-ghost use Rattle.desk_edit.specs.Refusals.{has, is_claimed, ssrc_is_taken, sends_video, is_full_room, fills_room};
-ghost use Rattle.desk_edit.specs.Edits.{is_video};
+ghost use Rattle.desk_rows.specs.Row.{makes, other_claims};
+ghost use Rattle.desk_rows.specs.Few.{listed};
+ghost use Rattle.desk_rows.specs.Desk.{is_audio_in, is_bridges, room_of_member, row_at};
+ghost use Rattle.desk_edit.specs.Refusals.{has, is_claimed, is_ssrc, is_replaced, is_there, is_other_claimed, is_ssrc_taken, ssrc_is_taken, room_is_full, is_audio_of};
 
 use desk_rows::{
-    Claim, Key, Look, MAX_ROOM_AUDIO, Media, Member, Row, Rows, Source, count_audio, is_member_in,
+    Claim, Few, Key, Kind, Look, MAX_ROOM_AUDIO, Media, Member, Row, Rows, count_audio,
 };
 use std::alloc::Allocator;
 
-fn any_claims(members: &[Member], others: &[Row], claim: &Claim) -> bool
-    ensures { result ≡ list_any (makes claim.now) (map MemberRow members.now ++ others.now) }
+fn any_member_claims(members: &[Member], claim: &Claim) -> bool
+    ensures { result ≡ list_any (λ m. makes claim.now (MemberRow m)) members.now }
 {
     members
         .iter()
-        .map(|member| Row::Member(*member))
-        .chain(others.iter().copied())
-        .any(|row| row.makes(claim))
+        .any(|member| Row::Member(*member).makes(claim))
 }
 
-/// Whether some row makes this claim.
-pub(crate) fn is_claimed<A: Allocator + Copy>(rows: &Rows<A>, claim: Claim) -> bool
-    ensures { result ≡ is_claimed rows.now claim }
+fn any_claims(rows: &[Row], claim: &Claim) -> bool
+    ensures { result ≡ list_any (makes claim.now) rows.now }
 {
-    any_claims(rows.members(), rows.others(), &claim)
+    rows.iter().any(|row| row.makes(claim))
+}
+
+/// Whether a source or a slot has the SSRC.
+fn is_stream<A: Allocator + Copy>(rows: &Rows<A>, ssrc: u32) -> bool
+    ensures { result ≡ (has rows.now (Key.Source ssrc) || has rows.now (Key.Slot ssrc)) }
+{
+    has(rows, Key::Source(ssrc)) || has(rows, Key::Slot(ssrc))
+}
+
+/// Whether some row makes this claim. Only rows of the kinds that may make it are asked.
+fn is_claimed<A: Allocator + Copy>(rows: &Rows<A>, claim: &Claim) -> bool
+    ensures { result ≡ is_claimed rows.now claim.now }
+{
+    rows.known();
+    match claim {
+        Claim::Key(key) => has(rows, *key),
+        Claim::Address(_) => any_member_claims(rows.members(), claim),
+        Claim::Ssrc(ssrc) => { is_stream(rows, *ssrc) || any_member_claims(rows.members(), claim) }
+        Claim::Place { .. } => any_claims(rows.others_of(Kind::Slot), claim),
+    }
 }
 
 /// Whether there is a row of this key.
@@ -37,50 +54,126 @@ pub(crate) fn has<A: Allocator + Copy>(rows: &Rows<A>, key: Key) -> bool
     rows.find(&key).is_some()
 }
 
-/// Whether the bridge, a source or an outgoing stream has this SSRC.
-pub(crate) fn ssrc_is_taken<A: Allocator + Copy>(rows: &Rows<A>, ssrc: u32) -> bool
-    ensures { result ≡ ssrc_is_taken rows.now ssrc }
-{
-    ssrc == rows.bridge_ssrc() || is_claimed(rows, Claim::Ssrc(ssrc))
-}
-
-fn is_full_room<A: Allocator + Copy>(rows: &Rows<A>, member: u32, row: &Row) -> bool
-    ensures { result ≡ is_full_room rows.now member row.now }
+/// Whether a row of this kind is put in place of the one of its key.
+fn is_replaced(row: &Row) -> bool
+    ensures { result ≡ is_replaced row.now }
 {
     match row {
-        Row::Room(room) => {
-            is_member_in(rows, member, room.room)
-                && count_audio(rows, rows.others(), room.room) >= MAX_ROOM_AUDIO
+        Row::Sub(_) => true,
+        Row::Mute(_) => true,
+        Row::Gain(_) => true,
+        Row::Pin(_) => true,
+        Row::Floor(_) => true,
+        _ => false,
+    }
+}
+
+fn is_ssrc(claim: &Claim) -> bool
+    ensures { result ≡ is_ssrc claim.now }
+{
+    match claim {
+        Claim::Ssrc(_) => true,
+        _ => false,
+    }
+}
+
+/// Whether it is no SSRC, and some row claims it.
+fn is_other_claimed<A: Allocator + Copy>(rows: &Rows<A>, claim: &Claim) -> bool
+    ensures { result ≡ is_other_claimed rows.now claim.now }
+{
+    !is_ssrc(claim) && is_claimed(rows, claim)
+}
+
+/// Whether a row of its key is there that it doesn't replace, or another has its address or place.
+pub(crate) fn is_there<A: Allocator + Copy>(rows: &Rows<A>, row: &Row) -> bool
+    ensures { result ≡ is_there rows.now row.now }
+{
+    if !is_replaced(row) && has(rows, row.key()) {
+        return true;
+    }
+    match row.claims() {
+        Few::Nothing => false,
+        Few::One(claim) => is_other_claimed(rows, &claim),
+        Few::Two(claim, other) => {
+            is_other_claimed(rows, &claim) || is_other_claimed(rows, &other)
         }
+    }
+}
+
+fn is_bridges<A: Allocator + Copy>(rows: &Rows<A>, claim: &Claim) -> bool
+    ensures { result ≡ is_bridges rows.now claim.now }
+{
+    match claim {
+        Claim::Ssrc(ssrc) => *ssrc == rows.bridge_ssrc(),
         _ => false,
     }
 }
 
-fn any_full_room<A: Allocator + Copy>(rows: &Rows<A>, others: &[Row], member: u32) -> bool
-    ensures { result ≡ list_any (is_full_room rows.now member) others.now }
+/// Whether it is an SSRC that the bridge, a source or an outgoing stream has.
+fn is_ssrc_taken<A: Allocator + Copy>(rows: &Rows<A>, claim: &Claim) -> bool
+    ensures { result ≡ is_ssrc_taken rows.now claim.now }
 {
-    others.iter().any(|row| is_full_room(rows, member, row))
+    is_ssrc(claim) && (is_bridges(rows, claim) || is_claimed(rows, claim))
 }
 
-/// Whether a source of audio would be one too many in its member's room.
-pub(crate) fn fills_room<A: Allocator + Copy>(rows: &Rows<A>, source: &Source) -> bool
-    ensures { result ≡ fills_room rows.now source.now }
+/// Whether the row's SSRC is taken.
+pub(crate) fn ssrc_is_taken<A: Allocator + Copy>(rows: &Rows<A>, row: &Row) -> bool
+    ensures { result ≡ ssrc_is_taken rows.now row.now }
 {
-    source.media.is_same(Media::Audio) && any_full_room(rows, rows.others(), source.member)
+    match row.claims() {
+        Few::Nothing => false,
+        Few::One(claim) => is_ssrc_taken(rows, &claim),
+        Few::Two(claim, other) => is_ssrc_taken(rows, &claim) || is_ssrc_taken(rows, &other),
+    }
 }
 
-fn is_video(found: Option<Row>) -> bool
-    ensures { result ≡ finds is_video found }
+/// How many audio sources the room has.
+pub(crate) fn count_audio_in<A: Allocator + Copy>(rows: &Rows<A>, room: u32) -> usize
+    ensures few { result < 2 ^ 62 }
+    ensures count { result ≡ count_by (is_audio_in rows.now room) rows.now.others }
 {
-    match found {
-        Some(Row::Source(source)) => source.media.is_same(Media::Video),
+    count_audio(rows, rows.others_of(Kind::Source), room)
+}
+
+/// Whether the room has all the audio sources that it may have.
+pub(crate) fn room_is_full<A: Allocator + Copy>(rows: &Rows<A>, room: Option<u32>) -> bool
+    ensures { result ≡ room_is_full rows.now room }
+{
+    match room {
+        None => false,
+        Some(room) => count_audio_in(rows, room) >= MAX_ROOM_AUDIO,
+    }
+}
+
+/// The room that the member is in.
+pub(crate) fn room_of_member<A: Allocator + Copy>(rows: &Rows<A>, member: u32) -> Option<u32>
+    ensures { result ≡ room_of_member (row_at rows.now (Key.Member member)) }
+{
+    match rows.look(Key::Member(member)) {
+        Some(Row::Member(row)) => Some(row.room),
+        _ => None,
+    }
+}
+
+fn is_audio_of(row: &Row, member: u32) -> bool
+    ensures { result ≡ is_audio_of member row.now }
+{
+    match row {
+        Row::Source(source) => source.media.is_same(Media::Audio) && source.member == member,
         _ => false,
     }
 }
 
-/// Whether the source of this SSRC sends video.
-pub(crate) fn sends_video<A: Allocator + Copy>(rows: &Rows<A>, ssrc: u32) -> bool
-    ensures { result ≡ list_any (sends_video ssrc) rows.now.others }
+fn count_these_of(rows: &[Row], member: u32) -> usize
+    ensures { result ≡ count_by (is_audio_of member) rows.now }
 {
-    is_video(rows.look(Key::Source(ssrc)))
+    rows.iter().filter(|row| is_audio_of(row, member)).count()
+}
+
+/// How many audio sources the member has.
+pub(crate) fn count_audio_of<A: Allocator + Copy>(rows: &Rows<A>, member: u32) -> usize
+    ensures few { result < 2 ^ 62 }
+    ensures count { result ≡ count_by (is_audio_of member) rows.now.others }
+{
+    count_these_of(rows.others_of(Kind::Source), member)
 }

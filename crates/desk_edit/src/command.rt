@@ -1,20 +1,83 @@
 //! Commands, calls and refusals.
 
-use desk_rows::{Member, Room, Slot, Source, Sub};
-use thiserror::Error;
+ghost use Rattle.std.specs.Prelude.{◌≡◌};
+ghost use Rattle.desk_edit.specs.Forms.{form_of};
 
-/// What an operator asks of the desk.
+use desk_rows::{Floor, Gain, Key, Member, Mute, Pin, Room, Row, Slot, Source, Sub};
+
+/// What an operator asks of the desk. A row that is taken takes all rows with it that name it,
+/// directly or through others.
 #[derive(Clone, Copy)]
 pub enum Command {
     AddRoom(Room),
+    RemoveRoom { room: u32 },
     /// The member joins its room, last of all members.
     AddMember(Member),
+    RemoveMember { member: u32 },
+    /// The member keeps its place among the members. The rows whose two sides would then be in
+    /// different rooms go: its subscriptions and gains across rooms, in both directions, the pin of
+    /// its source and the floor that it has.
+    MoveMember { member: u32, room: u32 },
     AddSource(Source),
+    RemoveSource { ssrc: u32 },
     AddSlot(Slot),
-    /// Takes the slot and its subscription.
     RemoveSlot { out_ssrc: u32 },
     /// Subscribes a slot to a video source, in place of the one before.
     Subscribe(Sub),
+    Unsubscribe { out_ssrc: u32 },
+    /// Sets how loud a member hears an audio source, in place of the gain before. Without a gain it
+    /// is 256, which leaves samples as they are.
+    SetGain(Gain),
+    Mute(Mute),
+    Unmute { source: u32 },
+    /// Pins a video source in a room, in place of the one before.
+    Pin(Pin),
+    Unpin { room: u32 },
+    /// Gives a room's floor to a member, in place of the one before.
+    GiveFloor(Floor),
+    TakeFloor { room: u32 },
+}
+
+/// What a command does to rows.
+#[derive(Clone, Copy)]
+pub enum Form {
+    /// Puts the row, a member last of all, any other in place of the one of its key.
+    Put(Row),
+    /// Takes the row of this key, and all that depends on it.
+    Remove(Key),
+    /// Puts the member into the room.
+    Move { member: u32, room: u32 },
+}
+
+impl Command {
+    /// What the command does to rows.
+    pub fn form(&self) -> Form
+        ensures { result ≡ form_of self.now }
+    {
+        match self {
+            Command::AddRoom(row) => Form::Put(Row::Room(*row)),
+            Command::RemoveRoom { room } => Form::Remove(Key::Room(*room)),
+            Command::AddMember(row) => Form::Put(Row::Member(*row)),
+            Command::RemoveMember { member } => Form::Remove(Key::Member(*member)),
+            Command::MoveMember { member, room } => Form::Move {
+                member: *member,
+                room: *room,
+            },
+            Command::AddSource(row) => Form::Put(Row::Source(*row)),
+            Command::RemoveSource { ssrc } => Form::Remove(Key::Source(*ssrc)),
+            Command::AddSlot(row) => Form::Put(Row::Slot(*row)),
+            Command::RemoveSlot { out_ssrc } => Form::Remove(Key::Slot(*out_ssrc)),
+            Command::Subscribe(row) => Form::Put(Row::Sub(*row)),
+            Command::Unsubscribe { out_ssrc } => Form::Remove(Key::Sub(*out_ssrc)),
+            Command::SetGain(row) => Form::Put(Row::Gain(*row)),
+            Command::Mute(row) => Form::Put(Row::Mute(*row)),
+            Command::Unmute { source } => Form::Remove(Key::Mute(*source)),
+            Command::Pin(row) => Form::Put(Row::Pin(*row)),
+            Command::Unpin { room } => Form::Remove(Key::Pin(*room)),
+            Command::GiveFloor(row) => Form::Put(Row::Floor(*row)),
+            Command::TakeFloor { room } => Form::Remove(Key::Floor(*room)),
+        }
+    }
 }
 
 /// A call of an operator.
@@ -23,58 +86,6 @@ pub enum Call {
     Apply(Command),
     /// Takes the last command back. It names the last accepted call of any kind.
     Undo { last: u64 },
-}
-
-/// What can be full.
-#[derive(Clone, Copy, Debug, PartialEq, Eq)]
-pub enum Table {
-    Rooms,
-    Members,
-    Sources,
-    Slots,
-    /// The audio sources of one room.
-    RoomAudio,
-}
-
-/// Why a call is refused. The first that holds is told, but for `OutOfMemory`, which comes last.
-#[derive(Clone, Copy, Debug, PartialEq, Eq, Error)]
-pub enum Refusal {
-    /// The row is there, or another one stands in its place.
-    #[error("it is there, or another stands in its place")]
-    Exists,
-    #[error("there is no such room")]
-    NoRoom,
-    #[error("there is no such member")]
-    NoMember,
-    #[error("there is no such source")]
-    NoSource,
-    #[error("there is no such slot")]
-    NoSlot,
-    /// The source is not of the kind that is wanted.
-    #[error("the source is of another kind")]
-    WrongKind,
-    /// The two sides are in different rooms.
-    #[error("the two sides are in different rooms")]
-    OtherRoom,
-    /// The SSRC is used already.
-    #[error("the SSRC is used already")]
-    SsrcTaken,
-    /// A value is out of its range.
-    #[error("a value is out of its range")]
-    BadValue,
-    /// The row stands already as it would be.
-    #[error("it stands already as it would be")]
-    Already,
-    #[error("there are {limit} already")]
-    Full { table: Table, limit: u32 },
-    #[error("out of memory")]
-    OutOfMemory,
-    /// The named call is not the last accepted one, which is this.
-    #[error("the last accepted call is {last}")]
-    NewerCommand { last: u64 },
-    #[error("no command is done")]
-    NothingToUndo,
-    /// 1,048,576 calls were accepted.
-    #[error("1,048,576 calls were accepted")]
-    LogFull,
+    /// Does the command that was undone last again. It names the last accepted call of any kind.
+    Redo { last: u64 },
 }

@@ -1,9 +1,19 @@
 //! The edits that carry commands out.
 
-ghost use Rattle.std.specs.Prelude.{◌≡◌, ◌∷◌, [], filter, IfOk};
-ghost use Rattle.desk_edit.specs.Edits.{puts_other, puts_member, takes_others, replaces, goes_with_slot};
+ghost use Rattle.std.specs.Prelude.{◌≡◌, ◌∷◌, [], map, filter, length, IfOk, nat_eq, not};
+ghost use Rattle.desk_rows.specs.declared.row.Row.TheVariants.{Member as MemberRow};
+ghost use Rattle.desk_rows.specs.Row.{names, key_of};
+ghost use Rattle.desk_rows.specs.Desk.{are_together, good, row_at};
+ghost use Rattle.desk_edit.specs.Depends.{goes_with};
+ghost use Rattle.desk_edit.specs.Commands.{with_member_in};
+ghost use Rattle.desk_edit.specs.Levels.{found_list};
+ghost use Rattle.desk_edit.specs.Edits.{puts_other, puts_member, replaces, puts_in_place, puts, placed_from, takes_all, placed_in, moves_member, edit_for};
 
-use desk_rows::{Edit, Key, Member, Part, Placed, Replaced, Row};
+use crate::command::Form;
+use crate::going::{Going, level};
+use crate::moving::Moved;
+use crate::picking::{Picked, all_placed_in, members_picked};
+use desk_rows::{Edit, Key, Member, Part, Placed, Replaced, Row, Rows};
 use std::alloc::{AllocError, Allocator};
 
 fn one_row<A: Allocator>(alloc: A, row: Row) -> Result<Vec<Row, A>, AllocError>
@@ -23,7 +33,7 @@ fn one_member<A: Allocator>(alloc: A, placed: Placed) -> Result<Vec<Placed, A>, 
 }
 
 /// Puts a row that is no member's.
-pub(crate) fn put_other<A: Allocator + Copy>(alloc: A, row: Row) -> Result<Edit<A>, AllocError>
+fn put_other<A: Allocator + Copy>(alloc: A, row: Row) -> Result<Edit<A>, AllocError>
     ensures { IfOk result (λ edit. edit ≡ puts_other row) }
 {
     Ok(Edit {
@@ -34,7 +44,7 @@ pub(crate) fn put_other<A: Allocator + Copy>(alloc: A, row: Row) -> Result<Edit<
 }
 
 /// Puts a member at this place.
-pub(crate) fn put_member<A: Allocator + Copy>(
+fn put_member<A: Allocator + Copy>(
     alloc: A,
     place: usize,
     row: Member,
@@ -48,47 +58,8 @@ pub(crate) fn put_member<A: Allocator + Copy>(
     })
 }
 
-fn goes_with_slot(row: &Row, out_ssrc: u32) -> bool
-    ensures { result ≡ goes_with_slot out_ssrc row.now }
-{
-    row.has_key(Key::Slot(out_ssrc)) || row.has_key(Key::Sub(out_ssrc))
-}
-
-fn rows_of_slot<A: Allocator>(
-    alloc: A,
-    others: &[Row],
-    out_ssrc: u32,
-) -> Result<Vec<Row, A>, AllocError>
-    ensures { IfOk result (λ v. v.items ≡ filter (goes_with_slot out_ssrc) others.now) }
-{
-    others
-        .iter()
-        .copied()
-        .filter(|row| goes_with_slot(row, out_ssrc))
-        .collect(alloc)
-}
-
-/// Takes a slot and its sub.
-pub(crate) fn take_slot<A: Allocator + Copy>(
-    alloc: A,
-    others: &[Row],
-    out_ssrc: u32,
-) -> Result<Edit<A>, AllocError>
-    ensures { IfOk result (λ edit. edit ≡ takes_others (filter (goes_with_slot out_ssrc) others.now)) }
-{
-    Ok(Edit {
-        taken: Part::new(Vec::new(alloc), rows_of_slot(alloc, others, out_ssrc)?),
-        put: Part::none(alloc),
-        replaced: Replaced::none(alloc),
-    })
-}
-
 /// Puts a row in place of another of its key.
-pub(crate) fn replace<A: Allocator + Copy>(
-    alloc: A,
-    old: Row,
-    new: Row,
-) -> Result<Edit<A>, AllocError>
+fn replace<A: Allocator + Copy>(alloc: A, old: Row, new: Row) -> Result<Edit<A>, AllocError>
     ensures { IfOk result (λ edit. edit ≡ replaces old new) }
 {
     Ok(Edit {
@@ -96,4 +67,140 @@ pub(crate) fn replace<A: Allocator + Copy>(
         put: Part::none(alloc),
         replaced: Replaced::new(one_row(alloc, old)?, one_row(alloc, new)?),
     })
+}
+
+fn put_in_place<A: Allocator + Copy>(
+    alloc: A,
+    old: Option<Row>,
+    row: Row,
+) -> Result<Edit<A>, AllocError>
+    ensures { IfOk result (λ edit. edit ≡ puts_in_place old row) }
+{
+    match old {
+        None => put_other(alloc, row),
+        Some(old) => replace(alloc, old, row),
+    }
+}
+
+/// Puts the row, a member last of all, any other in place of the one that there is of its key.
+fn put<A: Allocator + Copy>(alloc: A, rows: &Rows<A>, row: Row) -> Result<Edit<A>, AllocError>
+    ensures { IfOk result (λ edit. edit ≡ puts rows.now row) }
+{
+    match row {
+        Row::Member(member) => put_member(alloc, rows.members().len(), member),
+        _ => put_in_place(alloc, rows.find(&row.key()), row),
+    }
+}
+
+/// The row that was found, if there is one.
+fn found_alone<A: Allocator>(alloc: A, found: Option<Row>) -> Result<Vec<Row, A>, AllocError>
+    ensures { IfOk result (λ v. v.items ≡ found_list found) }
+{
+    match found {
+        None => Ok(Vec::new(alloc)),
+        Some(row) => one_row(alloc, row),
+    }
+}
+
+fn going_of<A: Allocator + Copy>(
+    alloc: A,
+    going: &Going<'_, A>,
+    others: &[Row],
+) -> Result<Vec<Row, A>, AllocError>
+    ensures { IfOk result (λ v. v.items ≡ filter (goes_with going.now.rows.now going.now.key) others.now) }
+{
+    others
+        .iter()
+        .copied()
+        .filter(|row| going.takes(row))
+        .collect(alloc)
+}
+
+fn all_going<A: Allocator + Copy>(
+    alloc: A,
+    rows: &Rows<A>,
+    key: Key,
+) -> Result<Vec<Row, A>, AllocError>
+    ensures { IfOk result (λ v. v.items ≡ filter (goes_with rows.now key) rows.now.others) }
+{
+    let going = Going::of(rows, key);
+    going_of(alloc, &going, rows.others())
+}
+
+/// The other rows that go: of a kind that no row names, the row of the key alone.
+fn others_going<A: Allocator + Copy>(
+    alloc: A,
+    rows: &Rows<A>,
+    key: Key,
+) -> Result<Vec<Row, A>, AllocError>
+    ensures { IfOk result (λ v. v.items ≡ filter (goes_with rows.now key) rows.now.others) }
+{
+    rows.known();
+    if level(key.kind()) == 3 {
+        found_alone(alloc, rows.find(&key))
+    } else {
+        all_going(alloc, rows, key)
+    }
+}
+
+/// Takes the row of this key, and all that depends on it.
+fn remove<A: Allocator + Copy>(alloc: A, rows: &Rows<A>, key: Key) -> Result<Edit<A>, AllocError>
+    ensures { IfOk result (λ edit. edit ≡ takes_all rows.now (goes_with rows.now key)) }
+{
+    let members = members_picked(alloc, rows, Picked::With(key))?;
+    Ok(Edit {
+        taken: Part::new(members, others_going(alloc, rows, key)?),
+        put: Part::none(alloc),
+        replaced: Replaced::none(alloc),
+    })
+}
+
+fn others_parted<A: Allocator + Copy>(
+    alloc: A,
+    rows: &Rows<A>,
+    member: u32,
+    room: u32,
+) -> Result<Vec<Row, A>, AllocError>
+    ensures { IfOk result (λ v. v.items ≡ filter (λ r. not (are_together (with_member_in rows.now member room) (names r))) rows.now.others) }
+{
+    let moved = Moved { rows, member, room };
+    rows.others()
+        .iter()
+        .copied()
+        .filter(|row| moved.parts(row))
+        .collect(alloc)
+}
+
+/// Puts the member into the room, and takes the rows whose two sides are then in different rooms.
+fn move_member<A: Allocator + Copy>(
+    alloc: A,
+    rows: &Rows<A>,
+    member: u32,
+    room: u32,
+) -> Result<Edit<A>, AllocError>
+    ensures { IfOk result (λ edit. edit ≡ moves_member rows.now member room) }
+{
+    let members = members_picked(alloc, rows, Picked::Only(member))?;
+    let moved = all_placed_in(alloc, room, &members)?;
+    Ok(Edit {
+        taken: Part::new(members, others_parted(alloc, rows, member, room)?),
+        put: Part::new(moved, Vec::new(alloc)),
+        replaced: Replaced::none(alloc),
+    })
+}
+
+/// The edit that carries out what a command does to rows.
+#[tactic(auto, unfolding(crate::specs::Edits::edit_for))]
+pub(crate) fn edit_for<A: Allocator + Copy>(
+    alloc: A,
+    rows: &Rows<A>,
+    form: &Form,
+) -> Result<Edit<A>, AllocError>
+    ensures { IfOk result (λ edit. edit ≡ edit_for rows.now form.now) }
+{
+    match form {
+        Form::Put(row) => put(alloc, rows, *row),
+        Form::Remove(key) => remove(alloc, rows, *key),
+        Form::Move { member, room } => move_member(alloc, rows, *member, *room),
+    }
 }

@@ -4,10 +4,15 @@
 mod asking;
 mod command;
 mod editing;
+mod going;
 mod laws;
+mod moving;
+mod picking;
 mod planning;
+mod refusal;
 mod refusing;
 
-pub use self::command::{Call, Command, Refusal, Table};
+pub use self::command::{Call, Command, Form};
 pub use self::laws::{dependent_rows_go, good_desks_stay_good};
 pub use self::planning::plan;
+pub use self::refusal::{Carried, Refusal, RefusalRow, Table};

@@ -1,169 +1,198 @@
-//! The refusals of each command, in the order of their numbers.
+//! The refusals of commands, in the order of their numbers.
 
-ghost use Rattle.std.specs.Prelude.{◌≡◌, ◌≢◌, IfErr, OnOk};
-ghost use Rattle.desk_edit.specs.Refusals.{room_refused, member_refused, source_refused, slot_refused, removal_refused, sub_refused};
+ghost use Rattle.std.specs.Prelude.{◌≡◌, None, Some, ◌<◌, ◌^◌, ◌∷◌, []};
+ghost use Rattle.desk_rows.specs.Few.{listed};
+ghost use Rattle.desk_rows.specs.Row.{names};
+ghost use Rattle.desk_edit.specs.Refusals.{missing, table_of, has, is_full, or_next, first_case, lacking, rule_cases, full_cases, audio_cases, put_cases, remove_cases, move_cases, cases_of, refused};
 
-use crate::asking::{fills_room, has, is_claimed, sends_video, ssrc_is_taken};
-use crate::command::{Refusal, Table};
+use crate::asking::{
+    count_audio_in, count_audio_of, has, is_there, room_is_full, room_of_member, ssrc_is_taken,
+};
+use crate::command::{Command, Form};
+use crate::refusal::{Refusal, Table};
 use desk_rows::{
-    Claim, Key, Kind, MAX_INDEX, MAX_MEMBERS, MAX_ROOM_AUDIO, MAX_ROOMS, MAX_SLOTS, MAX_SOURCES,
-    Member, Row, Rows, Slot, Source, Sub, are_in_one_room,
+    Few, Key, Kind, MAX_GAINS, MAX_MEMBERS, MAX_ROOM_AUDIO, MAX_ROOMS, MAX_SLOTS, MAX_SOURCES,
+    Media, Row, Rows, all_suit, are_together, room_of,
 };
 use std::alloc::Allocator;
 
-#[tactic(auto, unfolding(crate::specs::Refusals::room_refused))]
-pub(crate) fn may_add_room<A: Allocator + Copy>(rows: &Rows<A>, room: u32) -> Result<(), Refusal>
-    ensures ok { OnOk result (room_refused rows.now room ≡ None) }
-    ensures err { IfErr result (λ why. room_refused rows.now room ≡ Some why) }
-    ensures named { result ≢ Err Refusal.OutOfMemory }
+/// What a row of this kind is refused for where it isn't there.
+fn missing(kind: Kind) -> Refusal
+    ensures { result ≡ missing kind }
 {
-    if has(rows, Key::Room(room)) {
-        return Err(Refusal::Exists);
+    match kind {
+        Kind::Room => Refusal::NoRoom,
+        Kind::Member => Refusal::NoMember,
+        Kind::Source => Refusal::NoSource,
+        Kind::Slot => Refusal::NoSlot,
+        _ => Refusal::NotThere,
     }
-    if rows.count(Kind::Room) >= MAX_ROOMS {
-        return Err(Refusal::Full {
-            table: Table::Rooms,
-            limit: MAX_ROOMS as u32,
-        });
-    }
-    Ok(())
 }
 
-#[tactic(auto, unfolding(crate::specs::Refusals::member_refused))]
-pub(crate) fn may_add_member<A: Allocator + Copy>(
-    rows: &Rows<A>,
-    member: &Member,
-) -> Result<(), Refusal>
-    ensures ok { OnOk result (member_refused rows.now member.now ≡ None) }
-    ensures err { IfErr result (λ why. member_refused rows.now member.now ≡ Some why) }
-    ensures named { result ≢ Err Refusal.OutOfMemory }
+/// The first of two.
+fn or_next(first: Option<Refusal>, next: Option<Refusal>) -> Option<Refusal>
+    ensures { result ≡ or_next first next }
 {
-    if has(rows, Key::Member(member.member)) {
-        return Err(Refusal::Exists);
+    match first {
+        Some(why) => Some(why),
+        None => next,
     }
-    if is_claimed(rows, Claim::Address(member.address)) {
-        return Err(Refusal::Exists);
-    }
-    if !has(rows, Key::Room(member.room)) {
-        return Err(Refusal::NoRoom);
-    }
-    if ssrc_is_taken(rows, member.out_audio) {
-        return Err(Refusal::SsrcTaken);
-    }
-    if member.address.port == 0 {
-        return Err(Refusal::BadValue);
-    }
-    if rows.count(Kind::Member) >= MAX_MEMBERS {
-        return Err(Refusal::Full {
-            table: Table::Members,
-            limit: MAX_MEMBERS as u32,
-        });
-    }
-    Ok(())
 }
 
-#[tactic(auto, unfolding(crate::specs::Refusals::source_refused))]
-pub(crate) fn may_add_source<A: Allocator + Copy>(
-    rows: &Rows<A>,
-    source: &Source,
-) -> Result<(), Refusal>
-    ensures ok { OnOk result (source_refused rows.now source.now ≡ None) }
-    ensures err { IfErr result (λ why. source_refused rows.now source.now ≡ Some why) }
-    ensures named { result ≢ Err Refusal.OutOfMemory }
+fn lacks<A: Allocator + Copy>(rows: &Rows<A>, key: Key) -> Option<Refusal>
+    ensures { result ≡ first_case (lacking rows.now (key ∷ [])) }
 {
-    if has(rows, Key::Source(source.ssrc)) {
-        return Err(Refusal::Exists);
+    if has(rows, key) {
+        None
+    } else {
+        Some(missing(key.kind()))
     }
-    if !has(rows, Key::Member(source.member)) {
-        return Err(Refusal::NoMember);
-    }
-    if ssrc_is_taken(rows, source.ssrc) {
-        return Err(Refusal::SsrcTaken);
-    }
-    if rows.count(Kind::Source) >= MAX_SOURCES {
-        return Err(Refusal::Full {
-            table: Table::Sources,
-            limit: MAX_SOURCES as u32,
-        });
-    }
-    if fills_room(rows, source) {
-        return Err(Refusal::Full {
-            table: Table::RoomAudio,
-            limit: MAX_ROOM_AUDIO as u32,
-        });
-    }
-    Ok(())
 }
 
-#[tactic(auto, unfolding(crate::specs::Refusals::slot_refused))]
-pub(crate) fn may_add_slot<A: Allocator + Copy>(rows: &Rows<A>, slot: &Slot) -> Result<(), Refusal>
-    ensures ok { OnOk result (slot_refused rows.now slot.now ≡ None) }
-    ensures err { IfErr result (λ why. slot_refused rows.now slot.now ≡ Some why) }
-    ensures named { result ≢ Err Refusal.OutOfMemory }
+/// Against rows that have to be there.
+fn lacks_any<A: Allocator + Copy>(rows: &Rows<A>, names: Few<Key>) -> Option<Refusal>
+    ensures { result ≡ first_case (lacking rows.now (listed names)) }
 {
-    if has(rows, Key::Slot(slot.out_ssrc)) {
-        return Err(Refusal::Exists);
+    match names {
+        Few::Nothing => None,
+        Few::One(key) => lacks(rows, key),
+        Few::Two(key, other) => or_next(lacks(rows, key), lacks(rows, other)),
     }
-    let place = Claim::Place {
-        member: slot.member,
-        index: slot.index,
-    };
-    if is_claimed(rows, place) {
-        return Err(Refusal::Exists);
-    }
-    if !has(rows, Key::Member(slot.member)) {
-        return Err(Refusal::NoMember);
-    }
-    if ssrc_is_taken(rows, slot.out_ssrc) {
-        return Err(Refusal::SsrcTaken);
-    }
-    if slot.index > MAX_INDEX {
-        return Err(Refusal::BadValue);
-    }
-    if rows.count(Kind::Slot) >= MAX_SLOTS {
-        return Err(Refusal::Full {
-            table: Table::Slots,
-            limit: MAX_SLOTS as u32,
-        });
-    }
-    Ok(())
 }
 
-#[tactic(auto, unfolding(crate::specs::Refusals::removal_refused))]
-pub(crate) fn may_remove_slot<A: Allocator + Copy>(
-    rows: &Rows<A>,
-    out_ssrc: u32,
-) -> Result<(), Refusal>
-    ensures ok { OnOk result (removal_refused rows.now out_ssrc ≡ None) }
-    ensures err { IfErr result (λ why. removal_refused rows.now out_ssrc ≡ Some why) }
-    ensures named { result ≢ Err Refusal.OutOfMemory }
+/// Against a row whose names are there.
+#[tactic(auto, unfolding(crate::specs::Refusals::rule_cases))]
+fn breaks_rules<A: Allocator + Copy>(rows: &Rows<A>, row: &Row) -> Option<Refusal>
+    ensures { result ≡ first_case (rule_cases rows.now row.now) }
 {
-    if !has(rows, Key::Slot(out_ssrc)) {
-        return Err(Refusal::NoSlot);
+    if !all_suit(rows, row) {
+        return Some(Refusal::WrongKind);
     }
-    Ok(())
+    if !are_together(rows, row) {
+        return Some(Refusal::OtherRoom);
+    }
+    if ssrc_is_taken(rows, row) {
+        return Some(Refusal::SsrcTaken);
+    }
+    if !row.is_in_range() {
+        return Some(Refusal::BadValue);
+    }
+    if rows.holds(row) {
+        return Some(Refusal::Already);
+    }
+    None
 }
 
-#[tactic(auto, unfolding(crate::specs::Refusals::sub_refused))]
-pub(crate) fn may_subscribe<A: Allocator + Copy>(rows: &Rows<A>, sub: &Sub) -> Result<(), Refusal>
-    ensures ok { OnOk result (sub_refused rows.now sub.now ≡ None) }
-    ensures err { IfErr result (λ why. sub_refused rows.now sub.now ≡ Some why) }
-    ensures named { result ≢ Err Refusal.OutOfMemory }
+/// Whether a row that isn't there is one too many of its kind.
+fn is_full<A: Allocator + Copy>(rows: &Rows<A>, row: &Row, kind: Kind, limit: usize) -> bool
+    ensures { result ≡ is_full rows.now row.now (kind, limit) }
 {
-    if !has(rows, Key::Source(sub.source)) {
-        return Err(Refusal::NoSource);
+    row.is_of(kind) && (!has(rows, row.key()) && rows.count(kind) >= limit)
+}
+
+fn full(table: Table, limit: usize) -> Option<Refusal>
+    requires { limit < 2 ^ 32 }
+    ensures { result ≡ Some (Refusal.Full table limit) }
+{
+    Some(Refusal::Full {
+        table,
+        limit: limit as u32,
+    })
+}
+
+/// Against a row for which its table has no room.
+fn fills_table<A: Allocator + Copy>(rows: &Rows<A>, row: &Row) -> Option<Refusal>
+    ensures { result ≡ first_case (full_cases rows.now row.now) }
+{
+    if is_full(rows, row, Kind::Room, MAX_ROOMS) {
+        return full(Table::Rooms, MAX_ROOMS);
     }
-    if !has(rows, Key::Slot(sub.out_ssrc)) {
-        return Err(Refusal::NoSlot);
+    if is_full(rows, row, Kind::Member, MAX_MEMBERS) {
+        return full(Table::Members, MAX_MEMBERS);
     }
-    if !sends_video(rows, sub.source) {
-        return Err(Refusal::WrongKind);
+    if is_full(rows, row, Kind::Source, MAX_SOURCES) {
+        return full(Table::Sources, MAX_SOURCES);
     }
-    if !are_in_one_room(rows, sub) {
-        return Err(Refusal::OtherRoom);
+    if is_full(rows, row, Kind::Slot, MAX_SLOTS) {
+        return full(Table::Slots, MAX_SLOTS);
     }
-    if rows.holds(&Row::Sub(*sub)) {
-        return Err(Refusal::Already);
+    if is_full(rows, row, Kind::Gain, MAX_GAINS) {
+        return full(Table::Gains, MAX_GAINS);
     }
-    Ok(())
+    None
+}
+
+/// Against an audio source for which its room has no room.
+fn fills_room<A: Allocator + Copy>(rows: &Rows<A>, row: &Row) -> Option<Refusal>
+    ensures { result ≡ first_case (audio_cases rows.now row.now) }
+{
+    match row {
+        Row::Source(source) => {
+            if source.media.is_same(Media::Audio) && room_is_full(rows, room_of(rows, row)) {
+                full(Table::RoomAudio, MAX_ROOM_AUDIO)
+            } else {
+                None
+            }
+        }
+        _ => None,
+    }
+}
+
+/// Against a row that is to be put.
+fn against_put<A: Allocator + Copy>(rows: &Rows<A>, row: &Row) -> Option<Refusal>
+    ensures { result ≡ first_case (put_cases rows.now row.now) }
+{
+    if is_there(rows, row) {
+        return Some(Refusal::Exists);
+    }
+    let full = or_next(fills_table(rows, row), fills_room(rows, row));
+    or_next(
+        lacks_any(rows, row.names()),
+        or_next(breaks_rules(rows, row), full),
+    )
+}
+
+/// Against taking the row of this key.
+fn against_removal<A: Allocator + Copy>(rows: &Rows<A>, key: Key) -> Option<Refusal>
+    ensures { result ≡ first_case (remove_cases rows.now key) }
+{
+    let owner = key.owner();
+    if !has(rows, owner) {
+        return Some(missing(owner.kind()));
+    }
+    if !has(rows, key) {
+        return Some(Refusal::NotThere);
+    }
+    None
+}
+
+/// Against putting a member into a room.
+fn against_move<A: Allocator + Copy>(rows: &Rows<A>, member: u32, room: u32) -> Option<Refusal>
+    ensures { result ≡ first_case (move_cases rows.now member room) }
+{
+    if !has(rows, Key::Room(room)) {
+        return Some(Refusal::NoRoom);
+    }
+    if !has(rows, Key::Member(member)) {
+        return Some(Refusal::NoMember);
+    }
+    if room_of_member(rows, member) == Some(room) {
+        return Some(Refusal::Already);
+    }
+    if count_audio_in(rows, room) + count_audio_of(rows, member) > MAX_ROOM_AUDIO {
+        return full(Table::RoomAudio, MAX_ROOM_AUDIO);
+    }
+    None
+}
+
+/// The first reason against a command, want of memory apart.
+#[tactic(auto, unfolding(crate::specs::Refusals::refused))]
+pub(crate) fn refused<A: Allocator + Copy>(rows: &Rows<A>, command: &Command) -> Option<Refusal>
+    ensures { result ≡ refused rows.now command.now }
+{
+    match command.form() {
+        Form::Put(row) => against_put(rows, &row),
+        Form::Remove(key) => against_removal(rows, key),
+        Form::Move { member, room } => against_move(rows, member, room),
+    }
 }

@@ -1,14 +1,18 @@
 use Rattle.std.proofs.Common.{ap, ◌∙◌}
 use Rattle.desk_rows.specs.Exchange.{fits, after}
-use Rattle.desk_edit.proofs.Outcomes.{planned}
+use Rattle.desk_edit.specs.Edits.{edit_for}
+use Rattle.desk_edit.proofs.Outcomes.{planned, never_memory}
 use Rattle.desk_edit.proofs.planning.plan.Goals as goal
+
+pub returns-in-Some-clause-memory : goal.returns-in-Some-clause-memory
+returns-in-Some-clause-memory g c h = absurd (never_memory c.args.rows.now c.args.command.now cc)
 
 pub returns-in-Ok-clause-fits : goal.returns-in-Ok-clause-fits
 returns-in-Ok-clause-fits g c =
     let d = c.args.rows.now in
-    ap (fits d) c.in-Ok.ensures ∙ (planned d c.args.command.now c.known.ensures c.in_ok-may_carry_out.ensures.ok).fits
+    ap (fits d) (c.in-Ok.ensures ∙ ap (edit_for d) c.form.ensures) ∙ (planned d c.args.command.now c.known.ensures cc).fits
 
 pub returns-in-Ok-clause-carries_out : goal.returns-in-Ok-clause-carries_out
 returns-in-Ok-clause-carries_out g c =
     let d = c.args.rows.now in
-    ap (after d) c.in-Ok.ensures ∙ (planned d c.args.command.now c.known.ensures c.in_ok-may_carry_out.ensures.ok).leads
+    ap (after d) (c.in-Ok.ensures ∙ ap (edit_for d) c.form.ensures) ∙ (planned d c.args.command.now c.known.ensures cc).leads

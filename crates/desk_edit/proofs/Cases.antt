@@ -1,0 +1,28 @@
+-- Lists of cases, and the first refusal of one.
+use Rattle.std.proofs.Common.{◌≡◌, Bool, true, false, cond, List, [], ◌∷◌, ◌++◌, refl, Some, None}
+use Rattle.desk_edit.specs.declared.refusal.Refusal.{Refusal}
+use Rattle.desk_edit.specs.Refusals.{first_case, or_next}
+
+pub first_case-append : (xs ys : List (Bool × Refusal)) → first_case (xs ++ ys) ≡ or_next (first_case xs) (first_case ys)
+first_case-append [] ys = refl
+first_case-append (x ∷ xs) ys = by x.0 (first_case-append xs ys) where
+  by : (b : Bool) → first_case (xs ++ ys) ≡ or_next (first_case xs) (first_case ys) → cond b (Some x.1) (first_case (xs ++ ys)) ≡ or_next (cond b (Some x.1) (first_case xs)) (first_case ys)
+  by true rest = refl
+  by false rest = rest
+
+-- no case holds
+abbrev pub NoneHolds : List (Bool × Refusal) → Type 0
+NoneHolds [] = Unit {0}
+NoneHolds (c ∷ cs) = (c.0 ≡ false) × NoneHolds cs
+
+pub none_holds : (cs : List (Bool × Refusal)) → first_case cs ≡ None → NoneHolds cs
+none_holds [] h = tt
+none_holds (c ∷ cs) h = by c.0 refl h (none_holds cs) where
+  by : (b : Bool) → c.0 ≡ b → cond b (Some c.1) (first_case cs) ≡ None → (first_case cs ≡ None → NoneHolds cs) → NoneHolds (c ∷ cs)
+  by true e h rest = cc
+  by false e h rest = (e, rest h)
+
+-- of two lists of cases
+pub none_of_both : (xs ys : List (Bool × Refusal)) → NoneHolds (xs ++ ys) → NoneHolds xs × NoneHolds ys
+none_of_both [] ys h = (tt, h)
+none_of_both (x ∷ xs) ys h = let rest = none_of_both xs ys h.1 in ((h.0, rest.0), rest.1)

@@ -1,0 +1,163 @@
+//! What goes with a row: all that names it, directly or through others.
+
+ghost use Rattle.std.specs.Prelude.{◌≡◌, ◌&&◌};
+ghost use Rattle.std.specs.List.{list_any};
+ghost use Rattle.desk_rows.specs.Row.{has_key};
+ghost use Rattle.desk_rows.specs.Desk.{rows_of};
+ghost use Rattle.desk_rows.specs.inner.Found.{finds};
+ghost use Rattle.desk_edit.specs.Depends.{goes_within, goes_with};
+ghost use Rattle.desk_edit.specs.Levels.{level, is_above};
+ghost use Rattle.desk_edit.specs.Refusals.{has};
+
+use crate::asking::has;
+use desk_rows::{Few, Key, Kind, Look, Row, Rows};
+use std::alloc::Allocator;
+
+/// How many rows there can be below a row of this kind, each named by the one above it.
+pub(crate) fn level(kind: Kind) -> u32
+    ensures { result ≡ level kind }
+{
+    match kind {
+        Kind::Room => 0,
+        Kind::Member => 1,
+        Kind::Source => 2,
+        Kind::Slot => 2,
+        _ => 3,
+    }
+}
+
+/// A desk, and the key of a row that is to go.
+#[derive(Drop)]
+pub(crate) struct Going<'a, A: Allocator + Copy> {
+    pub(crate) rows: &'a Rows<A>,
+    pub(crate) key: Key,
+    /// Whether the row of the key is there, so that it isn't looked for again.
+    is_there: bool,
+    ghost there: { is_there ≡ has rows.now key },
+}
+
+impl<'a, A: Allocator + Copy> Going<'a, A> {
+    pub(crate) fn of(rows: &'a Rows<A>, key: Key) -> Self
+        ensures rows { result.rows.now ≡ rows.now }
+        ensures key { result.key ≡ key }
+    {
+        let is_there = has(rows, key);
+        Self {
+            rows,
+            key,
+            is_there,
+        }
+    }
+
+    /// Whether a row with this name may stand above that of the key.
+    fn is_above(&self, name: Key) -> bool
+        ensures { result ≡ is_above name self.now.key }
+    {
+        level(self.key.kind()) < level(name.kind())
+    }
+
+    /// Whether a row is found that goes.
+    fn finds_room(&self, found: Option<Row>) -> bool
+        ensures { result ≡ finds (goes_within 0 self.now.rows.now self.now.key) found }
+    {
+        match found {
+            None => false,
+            Some(row) => row.has_key(self.key),
+        }
+    }
+
+    /// Whether a room goes.
+    fn room_goes(&self, name: Key) -> bool
+        ensures { result ≡ list_any (λ s. has_key name s && goes_within 0 self.now.rows.now self.now.key s) (rows_of self.now.rows.now) }
+    {
+        if name.is_same(self.key) {
+            return self.is_there;
+        }
+        if !self.is_above(name) {
+            return false;
+        }
+        self.finds_room(self.rows.look(name))
+    }
+
+    /// Whether a row goes that names rooms at most.
+    fn goes_by_room(&self, row: &Row) -> bool
+        ensures { result ≡ goes_within 1 self.now.rows.now self.now.key row.now }
+    {
+        let named = match row.names() {
+            Few::Nothing => false,
+            Few::One(name) => self.room_goes(name),
+            Few::Two(name, other) => self.room_goes(name) || self.room_goes(other),
+        };
+        row.has_key(self.key) || named
+    }
+
+    /// Whether a row is found that goes.
+    fn finds_member(&self, found: Option<Row>) -> bool
+        ensures { result ≡ finds (goes_within 1 self.now.rows.now self.now.key) found }
+    {
+        match found {
+            None => false,
+            Some(row) => self.goes_by_room(&row),
+        }
+    }
+
+    /// Whether a member goes.
+    fn member_goes(&self, name: Key) -> bool
+        ensures { result ≡ list_any (λ s. has_key name s && goes_within 1 self.now.rows.now self.now.key s) (rows_of self.now.rows.now) }
+    {
+        if name.is_same(self.key) {
+            return self.is_there;
+        }
+        if !self.is_above(name) {
+            return false;
+        }
+        self.finds_member(self.rows.look(name))
+    }
+
+    /// Whether a row goes that names members at most.
+    fn goes_by_member(&self, row: &Row) -> bool
+        ensures { result ≡ goes_within 2 self.now.rows.now self.now.key row.now }
+    {
+        let named = match row.names() {
+            Few::Nothing => false,
+            Few::One(name) => self.member_goes(name),
+            Few::Two(name, other) => self.member_goes(name) || self.member_goes(other),
+        };
+        row.has_key(self.key) || named
+    }
+
+    /// Whether a row is found that goes.
+    fn finds_stream(&self, found: Option<Row>) -> bool
+        ensures { result ≡ finds (goes_within 2 self.now.rows.now self.now.key) found }
+    {
+        match found {
+            None => false,
+            Some(row) => self.goes_by_member(&row),
+        }
+    }
+
+    /// Whether a source or a slot goes.
+    fn stream_goes(&self, name: Key) -> bool
+        ensures { result ≡ list_any (λ s. has_key name s && goes_within 2 self.now.rows.now self.now.key s) (rows_of self.now.rows.now) }
+    {
+        if name.is_same(self.key) {
+            return self.is_there;
+        }
+        if !self.is_above(name) {
+            return false;
+        }
+        self.finds_stream(self.rows.look(name))
+    }
+
+    /// Whether the row goes with the row of the key.
+    pub(crate) fn takes(&self, row: &Row) -> bool
+        ensures { result ≡ goes_with self.now.rows.now self.now.key row.now }
+    {
+        let named = match row.names() {
+            Few::Nothing => false,
+            Few::One(name) => self.stream_goes(name),
+            Few::Two(name, other) => self.stream_goes(name) || self.stream_goes(other),
+        };
+        row.has_key(self.key) || named
+    }
+}

@@ -1,0 +1,146 @@
+//! Why calls are refused, and how each refusal is told.
+
+ghost use Rattle.std.specs.Prelude.{◌≡◌};
+ghost use Rattle.desk_edit.specs.Told.{table_text, told_in, told_of};
+
+use thiserror::Error;
+
+/// What can be full.
+#[derive(Clone, Copy, Debug, PartialEq, Eq)]
+pub enum Table {
+    Rooms,
+    Members,
+    Sources,
+    Slots,
+    Gains,
+    /// The audio sources of one room.
+    RoomAudio,
+}
+
+/// Why a call is refused. The first that holds is told, but for `OutOfMemory`, which comes last.
+#[derive(Clone, Copy, Debug, PartialEq, Eq, Error)]
+pub enum Refusal {
+    /// The row is there, or another one stands in its place.
+    #[error("it is there, or another stands in its place")]
+    Exists,
+    #[error("there is no such room")]
+    NoRoom,
+    #[error("there is no such member")]
+    NoMember,
+    #[error("there is no such source")]
+    NoSource,
+    #[error("there is no such slot")]
+    NoSlot,
+    /// The source is not of the kind that is wanted.
+    #[error("the source is of another kind")]
+    WrongKind,
+    /// The two sides are in different rooms.
+    #[error("the two sides are in different rooms")]
+    OtherRoom,
+    /// The SSRC is used already.
+    #[error("the SSRC is used already")]
+    SsrcTaken,
+    /// A value is out of its range.
+    #[error("a value is out of its range")]
+    BadValue,
+    /// The row stands already as it would be.
+    #[error("it stands already as it would be")]
+    Already,
+    /// There is no such row to take.
+    #[error("there is nothing to take")]
+    NotThere,
+    #[error("there are {limit} already")]
+    Full { table: Table, limit: u32 },
+    #[error("out of memory")]
+    OutOfMemory,
+    /// The named call is not the last accepted one, which is this.
+    #[error("the last accepted call is {last}")]
+    NewerCommand { last: u64 },
+    #[error("no command is done")]
+    NothingToUndo,
+    #[error("no command is undone")]
+    NothingToRedo,
+    /// 1,048,576 calls were accepted.
+    #[error("1,048,576 calls were accepted")]
+    LogFull,
+}
+
+/// What a refusal carries behind its name.
+#[derive(Clone, Copy)]
+pub enum Carried {
+    Nothing,
+    /// What is full, and how much it holds.
+    Limit(Table, u32),
+    /// The last accepted call.
+    Last(u64),
+}
+
+/// How a refusal is told.
+#[derive(Clone, Copy)]
+pub struct RefusalRow {
+    pub number: u16,
+    pub name: &'static [u8],
+    pub carried: Carried,
+}
+
+impl Table {
+    /// The name of what is full.
+    pub fn text(self) -> &'static [u8]
+        ensures { result.now ≡ table_text self }
+    {
+        match self {
+            Table::Rooms => b"rooms",
+            Table::Members => b"members",
+            Table::Sources => b"sources",
+            Table::Slots => b"slots",
+            Table::Gains => b"gains",
+            Table::RoomAudio => b"room-audio",
+        }
+    }
+}
+
+/// A refusal that carries nothing.
+fn bare(number: u16, name: &'static [u8]) -> RefusalRow
+    ensures { result ≡ record { number = number; name = name.entry; carried = Carried.Nothing } }
+{
+    RefusalRow {
+        number,
+        name,
+        carried: Carried::Nothing,
+    }
+}
+
+impl Refusal {
+    /// The refusal by its number, its name and what it carries.
+    pub fn told(self) -> RefusalRow
+        ensures { told_in result ≡ told_of self }
+    {
+        match self {
+            Refusal::Exists => bare(1, b"Exists"),
+            Refusal::NoRoom => bare(2, b"NoRoom"),
+            Refusal::NoMember => bare(3, b"NoMember"),
+            Refusal::NoSource => bare(4, b"NoSource"),
+            Refusal::NoSlot => bare(5, b"NoSlot"),
+            Refusal::WrongKind => bare(6, b"WrongKind"),
+            Refusal::OtherRoom => bare(7, b"OtherRoom"),
+            Refusal::SsrcTaken => bare(8, b"SsrcTaken"),
+            Refusal::BadValue => bare(9, b"BadValue"),
+            Refusal::Already => bare(10, b"Already"),
+            Refusal::NotThere => bare(11, b"NotThere"),
+            Refusal::Full { table, limit } => RefusalRow {
+                number: 12,
+                name: b"Full",
+                carried: Carried::Limit(table, limit),
+            },
+            Refusal::OutOfMemory => bare(13, b"OutOfMemory"),
+            Refusal::NewerCommand { last } => RefusalRow {
+                number: 14,
+                name: b"NewerCommand",
+                carried: Carried::Last(last),
+            },
+            Refusal::NothingToUndo => bare(15, b"NothingToUndo"),
+            Refusal::NothingToRedo => bare(16, b"NothingToRedo"),
+            Refusal::LogFull => bare(17, b"LogFull"),
+        }
+    }
+}
