@@ -1,6 +1,6 @@
 -- Lemmas about edits that follow commands.
 use Rattle.std.proofs.Common.{◌≡◌, ℕ, ◌+◌, true, List, [], ◌∷◌, ◌++◌, length, fold, reverse, suc, None, refl, sym, ap, subst, ◌∙◌}
-use Rattle.std.proofs.lemmas.List.{reverse-append}
+use Rattle.std.proofs.lemmas.List.{length-reverse, reverse-append, reverse-reverse}
 use Rattle.std.proofs.lemmas.Grind.{reverse_onto}
 use Rattle.undo_log.specs.Timeline.{rewound}
 use Rattle.desk_rows.specs.Desk.{Desk}
@@ -9,8 +9,8 @@ use Rattle.desk_rows.specs.Exchange.{fits, after}
 use Rattle.desk_rows.specs.laws.Laws.{undoes}
 use Rattle.desk_edit.specs.declared.command.Command.{Command}
 use Rattle.desk_edit.specs.declared.command.Call.{Call}
-use Rattle.desk_edit.specs.declared.command.Call.TheVariants.{Apply, Undo}
-use Rattle.desk_edit.specs.declared.command.Refusal.{Refusal}
+use Rattle.desk_edit.specs.declared.command.Call.TheVariants.{Apply, Undo, Redo}
+use Rattle.desk_edit.specs.declared.refusal.Refusal.{Refusal}
 use Rattle.desk_edit.specs.Commands.{desk_after}
 use Rattle.desk_edit.specs.Calls.{CallHistory, desk_now, refusal_at, refusal_of, after_call, front, final}
 use Rattle.bridge_core.specs.declared.reply.Reply.TheVariants.{Accepted, Refused}
@@ -68,11 +68,48 @@ one_more_ahead d cs es c e fit does later =
     subst (λ xs. Follows d xs (reverse (es ++ e ∷ []))) (sym (reverse-append cs (c ∷ [])))
     (subst (λ ys. Follows d (c ∷ reverse cs) ys) (sym (reverse-append es (e ∷ []))) (fit, does, later))
 
+final_of : (cs : List Command) (c : Command) → final (cs ++ c ∷ []) ≡ c ∷ []
+final_of [] c = refl
+final_of (b ∷ []) c = refl
+final_of (b ∷ d ∷ cs) c = final_of (d ∷ cs) c
+
+front_of : (cs : List Command) (c : Command) → front (cs ++ c ∷ []) ≡ cs
+front_of [] c = refl
+front_of (b ∷ []) c = refl
+front_of (b ∷ d ∷ cs) c = ap (λ xs. b ∷ xs) (front_of (d ∷ cs) c)
+
+-- the edit that was undone last fits the desk, and leads on from there as the last command does
+record Next (d : Desk) (cs : List Command) (es : List EditOf) (e : EditOf) : Type 0 where
+  fits : fits d e ≡ true
+  command : Command
+  leads : after d e ≡ desk_after d command
+  is_final : final cs ≡ command ∷ []
+  ahead : Follows (desk_after d command) (reverse (front cs)) es
+
+next_ahead : (d : Desk) (cs : List Command) (es : List EditOf) (e : EditOf) → Follows d (reverse cs) (e ∷ es) → Next d cs es e
+next_ahead d cs es e f = by (reverse cs) refl f
+  where
+    by : (rs : List Command) → reverse cs ≡ rs → Follows d rs (e ∷ es) → Next d cs es e
+    by [] is f = absurd f
+    by (c ∷ rs) is f =
+        let whole : cs ≡ reverse rs ++ c ∷ [] = sym (reverse-reverse cs) ∙ ap reverse is ∙ reverse-append (c ∷ []) rs in
+        record {
+          fits = f.0;
+          command = c;
+          leads = f.1;
+          is_final = ap final whole ∙ final_of (reverse rs) c;
+          ahead = subst (λ xs. Follows (desk_after d c) xs es) (sym (ap (λ xs. reverse (front xs)) whole ∙ ap reverse (front_of (reverse rs) c) ∙ reverse-reverse rs)) f.2;
+        }
+
+as_many_ahead : (d : Desk) (cs : List Command) (es : List EditOf) → Follows d (reverse cs) (reverse es) → length cs ≡ length es
+as_many_ahead d cs es f = sym (length-reverse cs) ∙ as_many d (reverse cs) (reverse es) f ∙ length-reverse es
+
 same_reason : (core : CoreOf) (h : CallHistory) (call : Call) → HasCalled core h → call_refused core call ≡ refusal_of h call
 same_reason core h call called =
-    ap (λ v. refusal_at v core.desk (length core.done) call) called.version
-    ∙ ap (λ d. refusal_at h.accepted d (length core.done) call) called.desk
-    ∙ ap (λ n. refusal_at h.accepted (desk_now h) n call) (sym (as_many h.start h.done core.done called.follows))
+    ap (λ v. refusal_at v core.desk (length core.done) (length core.undone) call) called.version
+    ∙ ap (λ d. refusal_at h.accepted d (length core.done) (length core.undone) call) called.desk
+    ∙ ap (λ n. refusal_at h.accepted (desk_now h) n (length core.undone) call) (sym (as_many h.start h.done core.done called.follows))
+    ∙ ap (λ n. refusal_at h.accepted (desk_now h) (length h.done) n call) (sym (as_many_ahead (desk_now h) h.undone core.undone called.ahead))
 
 called_on : (old new : CoreOf) (h : CallHistory) (call : Call) → HasCalled old h → new.version ≡ old.version + 1 → Does old new call → HasCalled new (after_call h call)
 unfolding after_call
@@ -104,6 +141,20 @@ called_on old new h (Undo last) called next does =
           (one_more_ahead earlier h.undone old.undone back.command e back.fits (back.leads ∙ back.makes)
           (subst (λ d. Follows d (reverse h.undone) (reverse old.undone)) back.makes called.ahead)));
     }
+called_on old new h (Redo last) called next does =
+    let e = does.0 in
+    let more =
+    next_ahead (desk_now h) h.undone (reverse new.undone) e (subst (λ es. Follows (desk_now h) (reverse h.undone) es) (ap reverse does.1 ∙ reverse-append new.undone (e ∷ [])) called.ahead) in
+    let later : fold desk_after h.start (h.done ++ final h.undone) ≡ desk_after (desk_now h) more.command =
+    ap (λ cs. fold desk_after h.start (h.done ++ cs)) more.is_final ∙ fold_one_more h.start h.done more.command in
+    record {
+      version = next ∙ ap (λ n. n + 1) called.version;
+      desk = does.3 ∙ ap (λ d. after d e) called.desk ∙ more.leads ∙ sym later;
+      follows =
+          subst (λ cs. Follows h.start (h.done ++ cs) new.done) (sym more.is_final)
+          (subst (λ es. Follows h.start (h.done ++ more.command ∷ []) es) (sym does.2) (one_more h.start h.done old.done more.command e called.follows more.fits more.leads));
+      ahead = subst (λ d. Follows d (reverse (front h.undone)) (reverse new.undone)) (sym later) more.ahead;
+    }
 
 pub accepted_by : (old new : CoreOf) (h : CallHistory) (call : Call) (number : ℕ) → HasCalled old h → number ≡ new.version → (call_refused old call ≡ None) × Does old new call → new.version ≡ old.version + 1 → IsAnswered h new call (Accepted number)
 accepted_by old new h call number called now does next = (
@@ -117,6 +168,7 @@ told_by core h (Apply command) why called reason =
     let same = same_reason core h (Apply command) called in
     (λ other. sym same ∙ reason.0 other, λ memory. sym same ∙ reason.1 memory)
 told_by core h (Undo last) why called reason = sym (same_reason core h (Undo last) called) ∙ reason
+told_by core h (Redo last) why called reason = sym (same_reason core h (Redo last) called) ∙ reason
 
 pub refused_by : (old new : CoreOf) (h : CallHistory) (call : Call) (at : ℕ) (why : Refusal) → HasCalled old h → at ≡ new.version → new ≡ old → IsReason old call why → IsAnswered h new call (Refused at why)
 refused_by old new h call at why called now same reason = (
@@ -133,7 +185,7 @@ edits_lead d (c ∷ cs) (e ∷ es) f = ap (λ x. fold after x es) f.1 ∙ edits_
 edits_lead d [] (e ∷ es) f = absurd f
 edits_lead d (c ∷ cs) [] f = absurd f
 
-rewound_one_more : (d : Desk) (es : List EditOf) (e : EditOf) → rewound after inverse d (es ++ e ∷ []) ≡ after (rewound after inverse d es) (inverse e)
+pub rewound_one_more : (d : Desk) (es : List EditOf) (e : EditOf) → rewound after inverse d (es ++ e ∷ []) ≡ after (rewound after inverse d es) (inverse e)
 rewound_one_more d [] e = refl
 rewound_one_more d (x ∷ es) e = rewound_one_more (after d (inverse x)) es e
 

@@ -1,18 +1,18 @@
 -- In a good desk no two slots have one SSRC, and no two members one number.
-use Rattle.std.proofs.Common.{◌≡◌, ℕ, ◌+◌, Bool, true, false, cond, not, ◌&&◌, ◌||◌, nat_eq, List, [], ◌∷◌, ◌++◌, map, None, refl, sym, ap, ◌∙◌, arith, append_assoc, eqb-true}
+use Rattle.std.proofs.Common.{◌≡◌, ℕ, ◌+◌, Bool, true, false, cond, not, ◌&&◌, ◌||◌, nat_eq, nat_le, List, [], ◌∷◌, ◌++◌, map, None, refl, sym, ap, ◌∙◌, arith, append_assoc, eqb-true}
 use Rattle.std.specs.Prelude.{count_by}
 use Rattle.std.specs.List.{filter_map, list_any, list_all}
 use Rattle.std.proofs.lemmas.Bool.{and_parts, and_from}
 use Rattle.desk_rows.specs.declared.row.Row.{Row}
-use Rattle.desk_rows.specs.declared.row.Row.TheVariants.{Room, Member, Source, Slot, Sub}
+use Rattle.desk_rows.specs.declared.row.Row.TheVariants.{Room, Member, Source, Slot, Sub, Mute, Gain, Pin, Floor}
 use Rattle.desk_rows.specs.declared.row.Member.{Member as MemberRow}
 use Rattle.desk_rows.specs.declared.row.Slot.{Slot as SlotRow}
 use Rattle.desk_rows.specs.declared.row.Key.TheVariants as keys
-use Rattle.desk_rows.specs.Row.{has_key, key_of}
+use Rattle.desk_rows.specs.Row.{has_key, key_of, names, is_in_range}
 use Rattle.desk_rows.specs.laws.Equal.{key_itself}
 use Rattle.desk_rows.specs.laws.PlaceLaws.{count_next}
 use Rattle.desk_rows.specs.laws.Laws.{claims_key, count_by-append, good_parts}
-use Rattle.desk_rows.specs.Desk.{Desk, good, is_alone, rows_of}
+use Rattle.desk_rows.specs.Desk.{Desk, good, is_alone, rows_of, are_together, all_suit, has_few_audio, obeys}
 use Rattle.bridge_core.specs.Receivers.{slot_in, slots_of}
 use Rattle.bridge_core.proofs.Distinct.{at, Distinct, from_past}
 
@@ -79,6 +79,10 @@ no_slot k (Room r ∷ rs) h = no_slot k rs h
 no_slot k (Member r ∷ rs) h = no_slot k rs h
 no_slot k (Source r ∷ rs) h = no_slot k rs h
 no_slot k (Sub r ∷ rs) h = no_slot k rs h
+no_slot k (Mute r ∷ rs) h = no_slot k rs h
+no_slot k (Gain r ∷ rs) h = no_slot k rs h
+no_slot k (Pin r ∷ rs) h = no_slot k rs h
+no_slot k (Floor r ∷ rs) h = no_slot k rs h
 no_slot k (Slot s ∷ rs) h =
     let p = neither (nat_eq s.out_ssrc k) (list_any (has_key (keys.Slot k)) rs) h in
     from_past (nat_eq s.out_ssrc k) s (at (λ (s : SlotRow). s.out_ssrc) k (filter_map slot_in rs)) p.0 (no_slot k rs p.1)
@@ -89,6 +93,10 @@ slots_apart (Room r ∷ rs) h = slots_apart rs (and_parts (not (list_any (has_ke
 slots_apart (Member r ∷ rs) h = slots_apart rs (and_parts (not (list_any (has_key (key_of (Member r))) rs)) (distinct_keys rs) h).1
 slots_apart (Source r ∷ rs) h = slots_apart rs (and_parts (not (list_any (has_key (key_of (Source r))) rs)) (distinct_keys rs) h).1
 slots_apart (Sub r ∷ rs) h = slots_apart rs (and_parts (not (list_any (has_key (key_of (Sub r))) rs)) (distinct_keys rs) h).1
+slots_apart (Mute r ∷ rs) h = slots_apart rs (and_parts (not (list_any (has_key (key_of (Mute r))) rs)) (distinct_keys rs) h).1
+slots_apart (Gain r ∷ rs) h = slots_apart rs (and_parts (not (list_any (has_key (key_of (Gain r))) rs)) (distinct_keys rs) h).1
+slots_apart (Pin r ∷ rs) h = slots_apart rs (and_parts (not (list_any (has_key (key_of (Pin r))) rs)) (distinct_keys rs) h).1
+slots_apart (Floor r ∷ rs) h = slots_apart rs (and_parts (not (list_any (has_key (key_of (Floor r))) rs)) (distinct_keys rs) h).1
 slots_apart (Slot s ∷ rs) h =
     let any = list_any (has_key (keys.Slot s.out_ssrc)) rs in
     let p = and_parts (not any) (distinct_keys rs) h in
@@ -102,3 +110,9 @@ members_distinct d h = members_apart d.members d.others (apart d h)
 
 pub slots_distinct : (d : Desk) → good d ≡ true → Distinct (λ (s : SlotRow). s.out_ssrc) (slots_of d)
 slots_distinct d h = slots_apart d.others (others_apart d.members d.others (apart d h))
+
+-- a slot that obeys the rule of rows has an index of at most 15
+pub index_in_range : (d : Desk) (s : SlotRow) → obeys d (Slot s) ≡ true → nat_le s.index 15 ≡ true
+index_in_range d s h =
+    let both = and_parts (is_in_range (Slot s) && has_few_audio d (Slot s)) (all_suit d (Slot s) && are_together d (names (Slot s))) h in
+    (and_parts (is_in_range (Slot s)) (has_few_audio d (Slot s)) both.0).0

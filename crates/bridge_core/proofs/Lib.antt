@@ -20,3 +20,4 @@ pub mod Gapless
 pub mod LaneCount
 pub mod EveryLaneLaws
 mod FollowLaws
+mod BackAndAgain

@@ -10,7 +10,7 @@ use Rattle.rtp_codec.specs.declared.address.Address.{Address}
 use Rattle.desk_rows.specs.declared.row.Slot.{Slot as SlotRow}
 use Rattle.desk_rows.specs.declared.row.Member.{Member as MemberRow}
 use Rattle.desk_rows.specs.declared.row.Row.{Row}
-use Rattle.desk_rows.specs.declared.row.Row.TheVariants.{Room, Member, Source, Slot, Sub}
+use Rattle.desk_rows.specs.declared.row.Row.TheVariants.{Room, Member, Source, Slot, Sub, Mute, Gain, Pin, Floor}
 use Rattle.desk_rows.specs.declared.row.Kind.TheVariants as kinds
 use Rattle.desk_rows.specs.Kinds.{is_of}
 use Rattle.desk_rows.specs.laws.Laws.{good_order, good_parts}
@@ -20,6 +20,7 @@ use Rattle.bridge_core.specs.declared.receivers.Receiver.{Receiver}
 use Rattle.bridge_core.specs.Choice.{comes_from}
 use Rattle.bridge_core.specs.Receivers.{slot_in, slots_of, chooses, index_count, by_index, by_place, receiver, receivers, receivers_in}
 use Rattle.bridge_core.specs.Takers.{taker}
+use Rattle.bridge_core.proofs.GoodDesk.{index_in_range}
 use Rattle.bridge_core.proofs.Subscribers.{filter-front, mine, takers}
 use Rattle.bridge_core.proofs.Seats.{sorted_by_index}
 
@@ -75,9 +76,13 @@ few d (Room r ∷ rs) h = few d rs (and_parts (obeys d (Room r)) (list_all (obey
 few d (Member r ∷ rs) h = few d rs (and_parts (obeys d (Member r)) (list_all (obeys d) rs) h).1
 few d (Source r ∷ rs) h = few d rs (and_parts (obeys d (Source r)) (list_all (obeys d) rs) h).1
 few d (Sub r ∷ rs) h = few d rs (and_parts (obeys d (Sub r)) (list_all (obeys d) rs) h).1
+few d (Mute r ∷ rs) h = few d rs (and_parts (obeys d (Mute r)) (list_all (obeys d) rs) h).1
+few d (Gain r ∷ rs) h = few d rs (and_parts (obeys d (Gain r)) (list_all (obeys d) rs) h).1
+few d (Pin r ∷ rs) h = few d rs (and_parts (obeys d (Pin r)) (list_all (obeys d) rs) h).1
+few d (Floor r ∷ rs) h = few d rs (and_parts (obeys d (Floor r)) (list_all (obeys d) rs) h).1
 few d (Slot s ∷ rs) h =
     let both = and_parts (obeys d (Slot s)) (list_all (obeys d) rs) h in
-    All-cons (λ (s : SlotRow). s.index < 16) s (filter_map slot_in rs) (at_most s.index both.0) (few d rs both.1)
+    All-cons (λ (s : SlotRow). s.index < 16) s (filter_map slot_in rs) (at_most s.index (index_in_range d s both.0)) (few d rs both.1)
   where
     at_most : (n : ℕ) → nat_le n 15 ≡ true → n < 16
     at_most n e = grind (arith, nat_tests)

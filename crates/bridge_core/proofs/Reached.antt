@@ -6,7 +6,7 @@ use Rattle.std.proofs.lemmas.Bool.{and_parts}
 use Rattle.std.proofs.lemmas.Bool.Decides.{nat_tests}
 use Rattle.rtp_codec.specs.declared.address.Address.{Address}
 use Rattle.desk_rows.specs.declared.row.Row.{Row}
-use Rattle.desk_rows.specs.declared.row.Row.TheVariants.{Room, Member, Source, Slot, Sub}
+use Rattle.desk_rows.specs.declared.row.Row.TheVariants.{Room, Member, Source, Slot, Sub, Mute, Gain, Pin, Floor}
 use Rattle.desk_rows.specs.declared.row.Kind.TheVariants as kinds
 use Rattle.desk_rows.specs.declared.row.Member.{Member as MemberRow}
 use Rattle.desk_rows.specs.declared.row.Slot.{Slot as SlotRow}
@@ -22,7 +22,7 @@ use Rattle.bridge_core.specs.Lanes.{receiver_at}
 use Rattle.bridge_core.specs.Receivers.{slot_in, slots_of, chooses, index_count, by_index, by_place, receiver, receivers}
 use Rattle.bridge_core.specs.Reach.{slot_of, slot_at, at_member, receiver_on}
 use Rattle.bridge_core.proofs.Distinct.{at, Distinct, past, from_past, at-filter, Distinct-filter, Distinct-groups, at-groups}
-use Rattle.bridge_core.proofs.GoodDesk.{slots_distinct}
+use Rattle.bridge_core.proofs.GoodDesk.{slots_distinct, index_in_range}
 use Rattle.bridge_core.proofs.OneReceiver.{no_receiver, slots-by_place, Distinct-range}
 
 -- ---- finding by a key
@@ -142,6 +142,10 @@ slot_row k [] (Room r ∷ rs) = slot_row k [] rs
 slot_row k [] (Member r ∷ rs) = slot_row k [] rs
 slot_row k [] (Source r ∷ rs) = slot_row k [] rs
 slot_row k [] (Sub r ∷ rs) = slot_row k [] rs
+slot_row k [] (Mute r ∷ rs) = slot_row k [] rs
+slot_row k [] (Gain r ∷ rs) = slot_row k [] rs
+slot_row k [] (Pin r ∷ rs) = slot_row k [] rs
+slot_row k [] (Floor r ∷ rs) = slot_row k [] rs
 slot_row k [] (Slot s ∷ rs) = by (nat_eq s.out_ssrc k) (slot_row k [] rs)
   where
     by : (b : Bool) → slot_of (find (has_key (keys.Slot k)) rs) ≡ at ssrc k (filter_map slot_in rs) → slot_of (cond b (Some (Slot s)) (find (has_key (keys.Slot k)) rs)) ≡ cond b (Some s) (at ssrc k (filter_map slot_in rs))
@@ -165,6 +169,10 @@ member_row n [] (Member r ∷ rs) h = absurd (cc)
 member_row n [] (Source r ∷ rs) h = member_row n [] rs h
 member_row n [] (Sub r ∷ rs) h = member_row n [] rs h
 member_row n [] (Slot r ∷ rs) h = member_row n [] rs h
+member_row n [] (Mute r ∷ rs) h = member_row n [] rs h
+member_row n [] (Gain r ∷ rs) h = member_row n [] rs h
+member_row n [] (Pin r ∷ rs) h = member_row n [] rs h
+member_row n [] (Floor r ∷ rs) h = member_row n [] rs h
 
 -- a member that is named is there
 named_member : (n : ℕ) (ms : List MemberRow) (rs : List Row) → list_all (λ r. not (is_of kinds.Member r)) rs ≡ true → list_any (has_key (keys.Member n)) (map Member ms ++ rs) ≡ true
@@ -182,6 +190,10 @@ named_member n [] (Member r ∷ rs) h any = absurd (cc)
 named_member n [] (Source r ∷ rs) h any = named_member n [] rs h any
 named_member n [] (Sub r ∷ rs) h any = named_member n [] rs h any
 named_member n [] (Slot r ∷ rs) h any = named_member n [] rs h any
+named_member n [] (Mute r ∷ rs) h any = named_member n [] rs h any
+named_member n [] (Gain r ∷ rs) h any = named_member n [] rs h any
+named_member n [] (Pin r ∷ rs) h any = named_member n [] rs h any
+named_member n [] (Floor r ∷ rs) h any = named_member n [] rs h any
 
 all_later : (p : Row → Bool) (ms : List MemberRow) (rs : List Row) → list_all p (map Member ms ++ rs) ≡ true → list_all p rs ≡ true
 all_later p [] rs h = h
@@ -194,6 +206,10 @@ of_row p k s (Room r ∷ rs) all h = of_row p k s rs (and_parts (p (Room r)) (li
 of_row p k s (Member r ∷ rs) all h = of_row p k s rs (and_parts (p (Member r)) (list_all p rs) all).1 h
 of_row p k s (Source r ∷ rs) all h = of_row p k s rs (and_parts (p (Source r)) (list_all p rs) all).1 h
 of_row p k s (Sub r ∷ rs) all h = of_row p k s rs (and_parts (p (Sub r)) (list_all p rs) all).1 h
+of_row p k s (Mute r ∷ rs) all h = of_row p k s rs (and_parts (p (Mute r)) (list_all p rs) all).1 h
+of_row p k s (Gain r ∷ rs) all h = of_row p k s rs (and_parts (p (Gain r)) (list_all p rs) all).1 h
+of_row p k s (Pin r ∷ rs) all h = of_row p k s rs (and_parts (p (Pin r)) (list_all p rs) all).1 h
+of_row p k s (Floor r ∷ rs) all h = of_row p k s rs (and_parts (p (Floor r)) (list_all p rs) all).1 h
 of_row p k s (Slot t ∷ rs) all h =
     let both = and_parts (p (Slot t)) (list_all p rs) all in by (nat_eq t.out_ssrc k) both.0 h (of_row p k s rs both.1)
   where
@@ -247,7 +263,9 @@ somebody d source k s m h few there found =
 -- a slot of a good desk has an index under 16, and its member is there
 index_few : (d : Desk) (k : ℕ) (s : SlotRow) → good d ≡ true → at ssrc k (slots_of d) ≡ Some s → s.index < 16
 index_few d k s h found =
-    let obeyed : nat_le s.index 15 ≡ true = of_row (obeys d) k s d.others (all_later (obeys d) d.members d.others (good_parts d h).obey) found in grind (arith, nat_tests)
+    let obeyed : obeys d (Slot s) ≡ true = of_row (obeys d) k s d.others (all_later (obeys d) d.members d.others (good_parts d h).obey) found in
+    let small : nat_le s.index 15 ≡ true = index_in_range d s obeyed in
+    grind (arith, nat_tests)
 
 no_members : (d : Desk) → good d ≡ true → list_all (λ r. not (is_of kinds.Member r)) d.others ≡ true
 no_members d h = (and_parts (in_order d.others) (list_all (λ r. not (is_of kinds.Member r)) d.others) (good_parts d h).listed).1

@@ -1,5 +1,5 @@
 -- The slots that chose a source are the slots of its subs: two lists that rise are joined by their keys from either side.
-use Rattle.std.proofs.Common.{◌≡◌, ℕ, Bool, true, false, cond, ◌&&◌, nat_eq, nat_lt, List, [], ◌∷◌, ◌++◌, map, Option, None, Some, refl, sym, ap, subst, ◌∙◌, arith, eqb-true}
+use Rattle.std.proofs.Common.{◌≡◌, ℕ, Bool, true, false, cond, ◌&&◌, ◌||◌, nat_eq, nat_lt, List, [], ◌∷◌, ◌++◌, map, Option, None, Some, refl, sym, ap, subst, ◌∙◌, arith, eqb-true}
 use Rattle.std.specs.Prelude.{filter, option_map, option_and_then}
 use Rattle.std.specs.List.{find, filter_map, cons_option, list_all, AllByRecursion}
 use Rattle.std.proofs.lemmas.Bool.{and_parts, and_from}
@@ -8,7 +8,7 @@ use Rattle.desk_rows.specs.declared.row.Member.{Member as MemberRow}
 use Rattle.desk_rows.specs.declared.row.Slot.{Slot as SlotRow}
 use Rattle.desk_rows.specs.declared.row.Sub.{Sub as SubRow}
 use Rattle.desk_rows.specs.declared.row.Row.{Row}
-use Rattle.desk_rows.specs.declared.row.Row.TheVariants.{Room, Member, Source, Slot, Sub}
+use Rattle.desk_rows.specs.declared.row.Row.TheVariants.{Room, Member, Source, Slot, Sub, Mute, Gain, Pin, Floor}
 use Rattle.desk_rows.specs.declared.row.Key.TheVariants as keys
 use Rattle.desk_rows.specs.declared.row.Kind.TheVariants as kinds
 use Rattle.desk_rows.specs.Row.{has_key}
@@ -17,7 +17,7 @@ use Rattle.desk_rows.specs.Kinds.{is_of}
 use Rattle.desk_rows.specs.Order.{precedes, in_order}
 use Rattle.desk_rows.specs.Desk.{Desk, row_at}
 use Rattle.bridge_core.specs.declared.lane_place.LanePlace.{LanePlace}
-use Rattle.bridge_core.specs.Choice.{subscribed, member_of, same_number, is_own, unless_own}
+use Rattle.bridge_core.specs.Choice.{subscribed, member_of, same_number, is_muted, is_barred, unless_barred}
 use Rattle.bridge_core.specs.OwnStreams.{is_mine}
 use Rattle.bridge_core.specs.Receivers.{slot_in, slots_of, chooses}
 use Rattle.bridge_core.specs.Reach.{slot_of}
@@ -157,6 +157,10 @@ is_slot (Member r) s e = absurd (cc)
 is_slot (Source r) s e = absurd (cc)
 is_slot (Sub r) s e = absurd (cc)
 is_slot (Slot t) s e = (let same : t ≡ s = cc in ap Slot same)
+is_slot (Mute r) s e = absurd (cc)
+is_slot (Gain r) s e = absurd (cc)
+is_slot (Pin r) s e = absurd (cc)
+is_slot (Floor r) s e = absurd (cc)
 
 is_sub : (r : Row) (s : SubRow) → sub_in r ≡ Some s → r ≡ Sub s
 is_sub (Room r) s e = absurd (cc)
@@ -164,6 +168,10 @@ is_sub (Member r) s e = absurd (cc)
 is_sub (Source r) s e = absurd (cc)
 is_sub (Slot r) s e = absurd (cc)
 is_sub (Sub t) s e = (let same : t ≡ s = cc in ap Sub same)
+is_sub (Mute r) s e = absurd (cc)
+is_sub (Gain r) s e = absurd (cc)
+is_sub (Pin r) s e = absurd (cc)
+is_sub (Floor r) s e = absurd (cc)
 
 -- a kind of row whose order is that of a key
 abbrev Keyed : {X : Type 0} → (Row → Option X) → (X → ℕ) → Type 0
@@ -204,6 +212,10 @@ sub_row k [] (Room r ∷ rs) = sub_row k [] rs
 sub_row k [] (Member r ∷ rs) = sub_row k [] rs
 sub_row k [] (Source r ∷ rs) = sub_row k [] rs
 sub_row k [] (Slot r ∷ rs) = sub_row k [] rs
+sub_row k [] (Mute r ∷ rs) = sub_row k [] rs
+sub_row k [] (Gain r ∷ rs) = sub_row k [] rs
+sub_row k [] (Pin r ∷ rs) = sub_row k [] rs
+sub_row k [] (Floor r ∷ rs) = sub_row k [] rs
 sub_row k [] (Sub s ∷ rs) = by (nat_eq s.out_ssrc k) (sub_row k [] rs)
   where
     by : (b : Bool) → subscribed (find (has_key (keys.Sub k)) rs) ≡ option_map (λ (s : SubRow). s.source) (at sub_ssrc k (filter_map sub_in rs))
@@ -221,6 +233,10 @@ its_row (Some r) s e = ap Some (is_slot r s (inside r e))
     inside (Source r) e = absurd (cc)
     inside (Sub r) e = absurd (cc)
     inside (Slot r) e = e
+    inside (Mute r) e = absurd (cc)
+    inside (Gain r) e = absurd (cc)
+    inside (Pin r) e = absurd (cc)
+    inside (Floor r) e = absurd (cc)
 
 -- ---- takers from both sides
 
@@ -238,7 +254,7 @@ sender d source = member_of (row_at d (keys.Source source))
 
 -- the slot of a sub, if it is of the lane and chose the source
 abbrev taking : Desk → ℕ → LanePlace → SubRow → SlotRow → Option SlotRow
-taking d source place y x = cond (nat_eq y.source source && is_mine place.lane place.lanes y.out_ssrc) (unless_of (sender d source) (Some x)) None
+taking d source place y x = cond (nat_eq y.source source && is_mine place.lane place.lanes y.out_ssrc) (unless_of (sender d source) (is_muted d source) (Some x)) None
 
 -- a slot, if it is of the lane and chose the source
 abbrev choosing : Desk → ℕ → LanePlace → SlotRow → Option SlotRow
@@ -251,18 +267,22 @@ from_rows d source place (Member r ∷ rs) = from_rows d source place rs
 from_rows d source place (Source r ∷ rs) = from_rows d source place rs
 from_rows d source place (Slot r ∷ rs) = from_rows d source place rs
 from_rows d source place (Sub s ∷ rs) = ap (cons_option (taker d source place (Sub s))) (from_rows d source place rs)
+from_rows d source place (Mute r ∷ rs) = from_rows d source place rs
+from_rows d source place (Gain r ∷ rs) = from_rows d source place rs
+from_rows d source place (Pin r ∷ rs) = from_rows d source place rs
+from_rows d source place (Floor r ∷ rs) = from_rows d source place rs
 
 by_subs : (d : Desk) (source : ℕ) (place : LanePlace) (ys : List SubRow) → filter_map (λ y. taker d source place (Sub y)) ys ≡ joined ssrc sub_ssrc (taking d source place) (slots_of d) ys
 by_subs d source place [] = refl
 by_subs d source place (y ∷ ys) =
     ap (λ o. cons_option o (filter_map (λ y. taker d source place (Sub y)) ys))
-    (ap (λ o. cond wanted (unless_of (sender d source) o) None) (slot_row y.out_ssrc d.members d.others) ∙ by wanted (at ssrc y.out_ssrc (slots_of d)))
+    (ap (λ o. cond wanted (unless_of (sender d source) (is_muted d source) o) None) (slot_row y.out_ssrc d.members d.others) ∙ by wanted (at ssrc y.out_ssrc (slots_of d)))
     ∙ ap (cons_option (option_and_then (taking d source place y) (at ssrc y.out_ssrc (slots_of d)))) (by_subs d source place ys)
   where
     wanted : Bool
     wanted = nat_eq y.source source && is_mine place.lane place.lanes y.out_ssrc
 
-    by : (b : Bool) (o : Option SlotRow) → cond b (unless_of (sender d source) o) None ≡ option_and_then (λ x. cond b (unless_of (sender d source) (Some x)) None) o
+    by : (b : Bool) (o : Option SlotRow) → cond b (unless_of (sender d source) (is_muted d source) o) None ≡ option_and_then (λ x. cond b (unless_of (sender d source) (is_muted d source) (Some x)) None) o
     by true None = refl
     by true (Some x) = refl
     by false None = refl
@@ -273,7 +293,7 @@ one_slot : (d : Desk) (source : ℕ) (place : LanePlace) (x : SlotRow) → Found
     → option_and_then (λ y. taking d source place y x) (at sub_ssrc x.out_ssrc (subs_of d)) ≡ choosing d source place x
 one_slot d source place x found =
     by (at sub_ssrc x.out_ssrc (subs_of d)) refl
-    ∙ sym (ap (λ o. cond (mine place x && same_number (unless_own d x.out_ssrc o) (Some source)) (Some x) None) (sub_row x.out_ssrc d.members d.others))
+    ∙ sym (ap (λ o. cond (mine place x && same_number (unless_barred d x.out_ssrc o) (Some source)) (Some x) None) (sub_row x.out_ssrc d.members d.others))
   where
     row : row_at d (keys.Slot x.out_ssrc) ≡ Some (Slot x)
     row = its_row (row_at d (keys.Slot x.out_ssrc)) x (slot_row x.out_ssrc d.members d.others ∙ found)
@@ -293,18 +313,18 @@ one_slot d source place x found =
     other_source false m n e = no_slot m ∙ sym (ap (λ b. cond (m && b) (Some x) None) e)
 
     of_sub : (y : SubRow) → y.out_ssrc ≡ x.out_ssrc → (b : Bool) → nat_eq y.source source ≡ b
-        → cond (b && is_mine place.lane place.lanes y.out_ssrc) (cond (same_number (Some x.member) (sender d source)) None (Some x)) None
-        ≡ cond (mine place x && same_number (cond (is_own d x.out_ssrc y.source) None (Some y.source)) (Some source)) (Some x) None
+        → cond (b && is_mine place.lane place.lanes y.out_ssrc) (cond (same_number (Some x.member) (sender d source) || is_muted d source) None (Some x)) None
+        ≡ cond (mine place x && same_number (cond (is_barred d x.out_ssrc y.source) None (Some y.source)) (Some source)) (Some x) None
     of_sub y key true e =
         let same : y.source ≡ source = eqb-true y.source source e in
-        ap (λ k. cond (is_mine place.lane place.lanes k) (cond (same_number (Some x.member) (sender d source)) None (Some x)) None) key
-        ∙ own_or_not (same_number (Some x.member) (sender d source)) (mine place x)
-        ∙ sym (ap (λ n. cond (mine place x && same_number (cond (same_number (Some x.member) (sender d n)) None (Some n)) (Some source)) (Some x) None) same)
-        ∙ sym (ap (λ r. cond (mine place x && same_number (cond (same_number (member_of r) (sender d y.source)) None (Some y.source)) (Some source)) (Some x) None) row)
-    of_sub y key false e = other_source (is_own d x.out_ssrc y.source) (mine place x) y.source e
+        ap (λ k. cond (is_mine place.lane place.lanes k) (cond (same_number (Some x.member) (sender d source) || is_muted d source) None (Some x)) None) key
+        ∙ own_or_not (same_number (Some x.member) (sender d source) || is_muted d source) (mine place x)
+        ∙ sym (ap (λ n. cond (mine place x && same_number (cond (same_number (Some x.member) (sender d n) || is_muted d n) None (Some n)) (Some source)) (Some x) None) same)
+        ∙ sym (ap (λ r. cond (mine place x && same_number (cond (same_number (member_of r) (sender d y.source) || is_muted d y.source) None (Some y.source)) (Some source)) (Some x) None) row)
+    of_sub y key false e = other_source (is_barred d x.out_ssrc y.source) (mine place x) y.source e
 
     by : (o : Option SubRow) → at sub_ssrc x.out_ssrc (subs_of d) ≡ o
-        → option_and_then (λ y. taking d source place y x) o ≡ cond (mine place x && same_number (unless_own d x.out_ssrc (option_map (λ (s : SubRow). s.source) o)) (Some source)) (Some x) None
+        → option_and_then (λ y. taking d source place y x) o ≡ cond (mine place x && same_number (unless_barred d x.out_ssrc (option_map (λ (s : SubRow). s.source) o)) (Some source)) (Some x) None
     by None e = no_slot (mine place x)
     by (Some y) e =
         of_sub y (found_key sub_ssrc x.out_ssrc y (subs_of d) e) (nat_eq y.source source) refl

@@ -3,9 +3,9 @@ use Rattle.std.specs.Prelude.{◌≡◌, ◌≢◌, ℕ, ◌+◌, Bool, true, no
 use Rattle.desk_rows.specs.Edit.{EditOf, inverse}
 use Rattle.desk_rows.specs.Exchange.{fits, after}
 use Rattle.desk_edit.specs.declared.command.Call.{Call}
-use Rattle.desk_edit.specs.declared.command.Call.TheVariants.{Apply, Undo}
-use Rattle.desk_edit.specs.declared.command.Refusal.{Refusal}
-use Rattle.desk_edit.specs.declared.command.Refusal.TheVariants.{LogFull, OutOfMemory}
+use Rattle.desk_edit.specs.declared.command.Call.TheVariants.{Apply, Undo, Redo}
+use Rattle.desk_edit.specs.declared.refusal.Refusal.{Refusal}
+use Rattle.desk_edit.specs.declared.refusal.Refusal.TheVariants.{LogFull, OutOfMemory}
 use Rattle.desk_edit.specs.Commands.{desk_after}
 use Rattle.desk_edit.specs.Calls.{refusal_at}
 use Rattle.bridge_core.specs.declared.fault.CoreFault.{CoreFault}
@@ -38,20 +38,27 @@ abbrev pub UndoesEdit : CoreOf → CoreOf → Type 0
 UndoesEdit old new =
     (e : EditOf) × (old.done ≡ new.done ++ e ∷ []) × (new.undone ≡ old.undone ++ e ∷ []) × (old.desk ≡ after new.desk e) × (new.desk ≡ after old.desk (inverse e))
 
+-- the edit that was undone last is done again: it leads from the old desk to the new one, and its inverse back
+abbrev pub RedoesEdit : CoreOf → CoreOf → Type 0
+RedoesEdit old new =
+    (e : EditOf) × (old.undone ≡ new.undone ++ e ∷ []) × (new.done ≡ old.done ++ e ∷ []) × (new.desk ≡ after old.desk e) × (old.desk ≡ after new.desk (inverse e))
+
 -- the first reason for which a call is refused, want of memory apart
 abbrev pub call_refused : CoreOf → Call → Option Refusal
-call_refused core call = refusal_at core.version core.desk (length core.done) call
+call_refused core call = refusal_at core.version core.desk (length core.done) (length core.undone) call
 
 -- what a call is to do: a command makes of the desk what its equation says
 abbrev pub Does : CoreOf → CoreOf → Call → Type 0
 Does old new (Apply command) = (new.desk ≡ desk_after old.desk command) × DoesEdit old new
 Does old new (Undo last) = UndoesEdit old new
+Does old new (Redo last) = RedoesEdit old new
 
--- this is why the call is refused: the first reason, or else want of memory, which an undo never has
+-- this is why the call is refused: the first reason, or else want of memory, which an undo or a redo never has
 abbrev pub IsReason : CoreOf → Call → Refusal → Type 0
 IsReason core (Apply command) why =
     (why ≢ OutOfMemory → call_refused core (Apply command) ≡ Some why) × (why ≡ OutOfMemory → call_refused core (Apply command) ≡ None)
 IsReason core (Undo last) why = call_refused core (Undo last) ≡ Some why
+IsReason core (Redo last) why = call_refused core (Redo last) ≡ Some why
 
 -- an accepted call takes the next number; a refused one names the version and changes nothing
 abbrev pub Answers : CoreOf → CoreOf → Call → Reply → Type 0

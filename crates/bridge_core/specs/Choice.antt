@@ -1,5 +1,6 @@
 -- Which source a slot sends (RFC 7667 section 3.6.2, media-switching mixer; the rule is own).
-use Rattle.std.specs.Prelude.{ℕ, Bool, false, if◌then◌else◌, nat_eq, Option, None, Some}
+use Rattle.std.specs.Prelude.{ℕ, Bool, false, ◌||◌, if◌then◌else◌, nat_eq, Option, None, Some}
+use Rattle.std.specs.Option.{is_some}
 use Rattle.rtp_codec.specs.declared.address.Address.{Address}
 use Rattle.desk_rows.specs.declared.row.Row.{Row}
 use Rattle.desk_rows.specs.declared.row.Row.TheVariants.{Member, Source, Slot, Sub}
@@ -27,14 +28,22 @@ same_number _ _ = false
 abbrev pub is_own : Desk → ℕ → ℕ → Bool
 is_own d out_ssrc source = same_number (member_of (row_at d (keys.Slot out_ssrc))) (member_of (row_at d (keys.Source source)))
 
--- a source that the slot's member would get, unless it is its own
-abbrev pub unless_own : Desk → ℕ → Option ℕ → Option ℕ
-unless_own d out_ssrc None = None
-unless_own d out_ssrc (Some source) = if is_own d out_ssrc source then None else Some source
+-- nobody is to see the source
+abbrev pub is_muted : Desk → ℕ → Bool
+is_muted d source = is_some (row_at d (keys.Mute source))
 
--- the choice: the source of the slot's subscription, and none where that is the receiver's own
+-- the slot's member does not get the source: it is its own, or muted
+abbrev pub is_barred : Desk → ℕ → ℕ → Bool
+is_barred d out_ssrc source = is_own d out_ssrc source || is_muted d source
+
+-- a source that the slot's member gets, if it may
+abbrev pub unless_barred : Desk → ℕ → Option ℕ → Option ℕ
+unless_barred d out_ssrc None = None
+unless_barred d out_ssrc (Some source) = if is_barred d out_ssrc source then None else Some source
+
+-- the choice: the source of the slot's subscription, and none where that is the receiver's own or muted
 abbrev pub choice : Desk → ℕ → Option ℕ
-choice d out_ssrc = unless_own d out_ssrc (subscribed (row_at d (keys.Sub out_ssrc)))
+choice d out_ssrc = unless_barred d out_ssrc (subscribed (row_at d (keys.Sub out_ssrc)))
 
 -- a member row's address
 abbrev pub address_in : Option Row → Option Address

@@ -5,9 +5,9 @@ use Rattle.desk_rows.specs.Edit.{EditOf}
 use Rattle.desk_rows.specs.Exchange.{fits, after}
 use Rattle.desk_edit.specs.declared.command.Command.{Command}
 use Rattle.desk_edit.specs.declared.command.Call.{Call}
-use Rattle.desk_edit.specs.declared.command.Call.TheVariants.{Apply, Undo}
-use Rattle.desk_edit.specs.declared.command.Refusal.{Refusal}
-use Rattle.desk_edit.specs.declared.command.Refusal.TheVariants.{OutOfMemory}
+use Rattle.desk_edit.specs.declared.command.Call.TheVariants.{Apply, Undo, Redo}
+use Rattle.desk_edit.specs.declared.refusal.Refusal.{Refusal}
+use Rattle.desk_edit.specs.declared.refusal.Refusal.TheVariants.{OutOfMemory}
 use Rattle.desk_edit.specs.Commands.{desk_after}
 use Rattle.desk_edit.specs.Calls.{CallHistory, desk_now, refusal_of, after_call}
 use Rattle.bridge_core.specs.declared.reply.Reply.{Reply}
@@ -28,10 +28,11 @@ pub record HasCalled (core : CoreOf) (h : CallHistory) : Type 0 where
   pub follows : Follows h.start h.done core.done
   pub ahead : Follows (desk_now h) (reverse h.undone) (reverse core.undone)
 
--- this is why the call is refused by its history: the first reason, or else want of memory, which an undo never has
+-- this is why the call is refused by its history: the first reason, or else want of memory, which an undo or a redo never has
 abbrev pub IsTold : CallHistory → Call → Refusal → Type 0
 IsTold h (Apply command) why = (why ≢ OutOfMemory → refusal_of h (Apply command) ≡ Some why) × (why ≡ OutOfMemory → refusal_of h (Apply command) ≡ None)
 IsTold h (Undo last) why = refusal_of h (Undo last) ≡ Some why
+IsTold h (Redo last) why = refusal_of h (Redo last) ≡ Some why
 
 -- a call is answered by the history of those before it, and the core goes where the history with it leads
 abbrev pub IsAnswered : CallHistory → CoreOf → Call → Reply → Type 0

@@ -1,6 +1,9 @@
 -- Each outgoing stream numbers without a gap, and each packet is its version's choice.
-use Rattle.std.specs.Prelude.{◌≡◌, ℕ, ◌+◌, ◌%◌, ◌^◌, Bool, true, nat_eq, List, [], ◌∷◌, map, filter, Some, option_map}
+use Rattle.std.specs.Prelude.{◌≡◌, ℕ, ◌+◌, ◌%◌, ◌^◌, Bool, true, nat_eq, List, [], ◌∷◌, map, filter, Option, Some, option_map}
 use Rattle.std.specs.List.{flat_map, AllByRecursion}
+use Rattle.desk_rows.specs.declared.row.Row.{Row}
+use Rattle.desk_rows.specs.declared.row.Row.TheVariants.{Source}
+use Rattle.desk_rows.specs.declared.row.Media.TheVariants.{Video}
 use Rattle.desk_rows.specs.Desk.{Desk, good}
 use Rattle.bridge_core.specs.Choice.{choice, comes_from}
 use Rattle.bridge_core.specs.Reach.{receiver_on}
@@ -53,3 +56,8 @@ IsChosen version desk f (media p) =
 abbrev pub GoesOut : ℕ → Desk → SourceFrame → Sent → Type 0
 GoesOut item desk f (media p) =
     (p.item ≡ item) × (option_map (λ r. r.address) (receiver_on desk f.source f.address p.ssrc) ≡ Some p.to)
+
+-- a video source was found
+abbrev pub IsVideo : Option Row → Type 0
+IsVideo (Some (Source s)) = s.media ≡ Video
+IsVideo _ = ⊥

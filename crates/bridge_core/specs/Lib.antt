@@ -22,3 +22,4 @@ pub mod Runs
 pub mod EveryLane
 pub mod Headline
 pub mod Following
+pub mod UndoRuns

@@ -9,7 +9,7 @@ ghost use Rattle.bridge_core.specs.Sent.{sent_of, input_of};
 ghost use Rattle.bridge_core.specs.Sound.{AreFresh, most_calls};
 ghost use Rattle.bridge_core.specs.Steps.{CoreOf, HasTaken, Takes, Step, IsSpent};
 ghost use Rattle.bridge_core.specs.Following.{HasCalled, IsAnswered};
-ghost use Rattle.bridge_core.specs.Calls.{core_fault, most_lanes, Answers, Does, IsReason, OnAccepted, UndoesEdit, call_refused, before_memory};
+ghost use Rattle.bridge_core.specs.Calls.{core_fault, most_lanes, Answers, Does, IsReason, OnAccepted, UndoesEdit, RedoesEdit, call_refused, before_memory};
 
 use crate::egress::Egress;
 use crate::fault::{CoreFault, LaneFault};
@@ -105,7 +105,7 @@ impl<A: Allocator + Copy> Core<A> {
     ///
     /// A command is refused by the first reason that `plan` finds, then because of the log, then
     /// for want of memory; an undo because a newer call was accepted, then because nothing is
-    /// left to undo, then because of the log.
+    /// left to undo, then because of the log; a redo alike, where nothing is undone.
     pub fn desk(&mut self, alloc: A, _op: u8, call: Call) -> Reply
         ensures answer { Answers self.old self.new call result }
         ensures takes { OnAccepted result (Takes self.old self.new (Step.publish self.new.desk) []) }
@@ -132,6 +132,7 @@ impl<A: Allocator + Copy> Core<A> {
         match call {
             Call::Apply(command) => self.apply(alloc, &command),
             Call::Undo { last } => self.undo(last),
+            Call::Redo { last } => self.redo(last),
         }
     }
 
@@ -191,6 +192,30 @@ impl<A: Allocator + Copy> Core<A> {
             return Err(Refusal::LogFull);
         }
         if self.history.undo().is_err() {
+            unreachable!();
+        }
+        self.version += 1;
+        Ok(())
+    }
+
+    /// Does the edit that was undone last again. The call names the last accepted one.
+    fn redo(&mut self, last: u64) -> Result<(), Refusal>
+        ensures does { OnOk result ((call_refused self.old (Call.Redo last) ≡ None) × RedoesEdit self.old self.new) }
+        ensures version { OnOk result ((self.new.version ≡ self.old.version + 1) × (self.new.lanes ≡ self.old.lanes)) }
+        ensures err { OnErr result (self.new ≡ self.old) }
+        ensures why { IfErr result (λ why. IsReason self.old (Call.Redo last) why) }
+    {
+        let version = self.version;
+        if last != version {
+            return Err(Refusal::NewerCommand { last: version });
+        }
+        if self.history.undone_len() == 0 {
+            return Err(Refusal::NothingToRedo);
+        }
+        if log_is_full(version) {
+            return Err(Refusal::LogFull);
+        }
+        if self.history.redo().is_err() {
             unreachable!();
         }
         self.version += 1;

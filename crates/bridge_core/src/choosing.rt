@@ -1,7 +1,7 @@
 //! Which slots send a source, and from where it comes.
 
 ghost use Rattle.std.specs.Prelude.{◌≡◌};
-ghost use Rattle.bridge_core.specs.Choice.{member_of, same_number, address_in, member_address, is_address, comes_from};
+ghost use Rattle.bridge_core.specs.Choice.{member_of, same_number, is_muted, address_in, member_address, is_address, comes_from};
 ghost use Rattle.bridge_core.specs.Reach.{slot_of};
 ghost use Rattle.bridge_core.specs.Takers.{slot_for};
 
@@ -9,7 +9,8 @@ use desk_rows::{Key, Row, Rows, Slot};
 use rtp_codec::Address;
 use std::alloc::Allocator;
 
-/// The slot with this SSRC, unless the source is of its own member: nobody gets what is its own.
+/// The slot with this SSRC, unless the source is of its own member or muted: nobody gets what is
+/// its own, nor what is muted.
 pub(crate) fn slot_for<A: Allocator + Copy>(
     rows: &Rows<A>,
     source: u32,
@@ -19,11 +20,17 @@ pub(crate) fn slot_for<A: Allocator + Copy>(
 {
     let slot = slot_of(rows.find(&Key::Slot(out_ssrc)))?;
     let sender = member_of(rows.find(&Key::Source(source)));
-    if same_number(Some(slot.member), sender) {
+    if same_number(Some(slot.member), sender) || is_muted(rows, source) {
         None
     } else {
         Some(slot)
     }
+}
+
+fn is_muted<A: Allocator + Copy>(rows: &Rows<A>, source: u32) -> bool
+    ensures { result ≡ is_muted rows.now source }
+{
+    rows.find(&Key::Mute(source)).is_some()
 }
 
 /// Whether the source's member has this address.

@@ -1,24 +1,28 @@
 //! Laws of all that the lanes send, whatever the order of calls and items, and of all that calls do.
 
-ghost use Rattle.std.specs.Prelude.{◌≡◌, ℕ, ◌+◌, ◌%◌, ◌<◌, true, List, [], length, fold, reverse, Some};
-ghost use Rattle.std.specs.List.{AllByRecursion, list_any};
-ghost use Rattle.desk_rows.specs.Desk.{Desk, good, is_slot_beside};
+ghost use Rattle.std.specs.Prelude.{◌≡◌, ℕ, ◌+◌, ◌%◌, ◌<◌, ◌≤◌, true, false, List, [], length, fold, reverse, Some};
+ghost use Rattle.std.specs.List.{AllByRecursion};
+ghost use Rattle.desk_rows.specs.Desk.{Desk, good, row_at, room_at, same_room};
 ghost use Rattle.undo_log.specs.Timeline.{rewound};
+ghost use Rattle.desk_rows.specs.declared.row.Key.TheVariants as keys;
 ghost use Rattle.desk_rows.specs.Edit.{inverse};
 ghost use Rattle.desk_rows.specs.Exchange.{after};
+ghost use Rattle.desk_edit.specs.declared.command.Command.{Command};
 ghost use Rattle.desk_edit.specs.Calls.{CallHistory};
 ghost use Rattle.rtp_codec.specs.declared.address.Address.{Address};
 ghost use Rattle.bridge_core.specs.Frame.{SourceFrame};
-ghost use Rattle.bridge_core.specs.Choice.{choice};
+ghost use Rattle.bridge_core.specs.Choice.{choice, is_muted};
 ghost use Rattle.bridge_core.specs.Receivers.{receivers};
 ghost use Rattle.bridge_core.specs.Lanes.{receiver_at};
 ghost use Rattle.bridge_core.specs.Reach.{receiver_on};
 ghost use Rattle.bridge_core.specs.Sent.{Input, Sent};
 ghost use Rattle.bridge_core.specs.Steps.{Step, sends, sent_at, version_of, desk_of, count_of, visits, CoreOf, HasTaken};
+ghost use Rattle.bridge_core.specs.declared.reply.Reply.{Reply};
 ghost use Rattle.bridge_core.specs.Following.{HasCalled};
+ghost use Rattle.bridge_core.specs.UndoRuns.{AcceptsAll, UndoesInARow, RedoesInARow, IsAsWas, all_accepted};
 ghost use Rattle.bridge_core.specs.Runs.{Runs};
 ghost use Rattle.bridge_core.specs.EveryLane.{to_every};
-ghost use Rattle.bridge_core.specs.Headline.{AreGood, HaveNoGap, numbers, sent_on, IsChosen, GoesOut};
+ghost use Rattle.bridge_core.specs.Headline.{IsVideo, AreGood, HaveNoGap, numbers, sent_on, IsChosen, GoesOut};
 
 /// Over any steps that cores take one by one, from a core that has taken nothing on: what is sent,
 /// joined in order, is what `sends` gives for the whole list, and the last core has taken all of it.
@@ -47,9 +51,12 @@ pub fn packets_are_chosen()
     ensures goes_out { (lanes lane : ℕ) (start : Desk) (before : List Step) (f : SourceFrame) → good (desk_of start before) ≡ true → AllByRecursion (AllByRecursion (GoesOut (count_of lane before + 1) (desk_of start before) f)) (sent_at lanes start before (Step.item lane (Input.frame f))) }
 {}
 
-/// On a good desk, what a stream sends is a video source of the room that its slot is in.
+/// On a good desk, what a stream sends is a video source of the room that its slot is in, and not
+/// muted.
 pub fn choices_stay_in_the_room()
-    ensures { (desk : Desk) (out_ssrc source : ℕ) → good desk ≡ true → choice desk out_ssrc ≡ Some source → list_any (is_slot_beside desk out_ssrc source) desk.others ≡ true }
+    ensures room { (desk : Desk) (out_ssrc source : ℕ) → good desk ≡ true → choice desk out_ssrc ≡ Some source → same_room (room_at desk (keys.Source source)) (room_at desk (keys.Slot out_ssrc)) ≡ true }
+    ensures video { (desk : Desk) (out_ssrc source : ℕ) → good desk ≡ true → choice desk out_ssrc ≡ Some source → IsVideo (row_at desk (keys.Source source)) }
+    ensures heard { (desk : Desk) (out_ssrc source : ℕ) → choice desk out_ssrc ≡ Some source → is_muted desk source ≡ false }
 {}
 
 /// On a good desk, what a source sends from an address goes out on a stream just where the desk has
@@ -64,4 +71,25 @@ pub fn all_who_chose_receive()
 pub fn edits_lead_back()
     ensures leads { (core : CoreOf) (h : CallHistory) → HasCalled core h → fold after h.start core.done ≡ core.desk }
     ensures back { (core : CoreOf) (h : CallHistory) → HasCalled core h → rewound after inverse core.desk (reverse core.done) ≡ h.start }
+{}
+
+/// Undos in a row, each of which names the last accepted call, are all accepted while so many
+/// commands are done and the log has room. Redos are while so many are undone.
+pub fn undos_and_redos_are_accepted()
+    ensures undos { (first last : CoreOf) (n : ℕ) (replies : List Reply) → n ≤ length first.done → UndoesInARow first n replies last → replies ≡ all_accepted first.version n }
+    ensures redos { (first last : CoreOf) (n : ℕ) (replies : List Reply) → n ≤ length first.undone → RedoesInARow first n replies last → replies ≡ all_accepted first.version n }
+{}
+
+/// Commands are accepted one after another, whatever was called before, and undone by as many undos:
+/// these are accepted while the log has room, and the desk is the one before the commands, members
+/// at their places. By as many redos it is the one after them again.
+pub fn commands_come_back()
+    ensures back { (first middle last : CoreOf) (commands : List Command) (replies : List Reply) → AcceptsAll first commands middle → UndoesInARow middle (length commands) replies last → (replies ≡ all_accepted middle.version (length commands)) × (last.desk ≡ first.desk) × (last.done ≡ first.done) }
+    ensures again { (first middle back last : CoreOf) (commands : List Command) (replies later : List Reply) → AcceptsAll first commands middle → UndoesInARow middle (length commands) replies back → RedoesInARow back (length commands) later last → (later ≡ all_accepted back.version (length commands)) × IsAsWas last middle }
+{}
+
+/// Undos of so many commands as are done, whatever was called before, and as many redos: these are
+/// accepted while the log has room, and all is as it was before the undos.
+pub fn undos_are_redone()
+    ensures { (first back last : CoreOf) (n : ℕ) (replies later : List Reply) → n ≤ length first.done → UndoesInARow first n replies back → RedoesInARow back n later last → (later ≡ all_accepted back.version n) × IsAsWas last first }
 {}

@@ -24,8 +24,9 @@ pub use self::frame::MediaFrame;
 pub use self::item::Item;
 pub use self::lane::LaneState;
 pub use self::laws::{
-    all_that_is_sent, all_who_chose_receive, choices_stay_in_the_room, edits_lead_back,
-    lane_count_does_not_matter, packets_are_chosen, streams_have_no_gap,
+    all_that_is_sent, all_who_chose_receive, choices_stay_in_the_room, commands_come_back,
+    edits_lead_back, lane_count_does_not_matter, packets_are_chosen, streams_have_no_gap,
+    undos_and_redos_are_accepted, undos_are_redone,
 };
 pub use self::reply::Reply;
 pub use self::settings::Settings;

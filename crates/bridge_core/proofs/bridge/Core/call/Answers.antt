@@ -6,3 +6,6 @@ returns-in-Apply-clause-takes g c = published_if c.args.self.now c.apply.new.sel
 
 pub returns-in-Undo-clause-takes : goal.returns-in-Undo-clause-takes
 returns-in-Undo-clause-takes g c = published_if c.args.self.now c.undo.new.self c.undo.result c.undo.ensures.version
+
+pub returns-in-Redo-clause-takes : goal.returns-in-Redo-clause-takes
+returns-in-Redo-clause-takes g c = published_if c.args.self.now c.redo.new.self c.redo.result c.redo.ensures.version

@@ -1,0 +1,50 @@
+-- Calls in a row: commands, as many undos, and as many redos.
+use Rattle.std.specs.Prelude.{◌≡◌, ℕ, zero, suc, ◌+◌, ◌≤◌, List, [], ◌∷◌}
+use Rattle.desk_edit.specs.declared.command.Command.{Command}
+use Rattle.desk_edit.specs.declared.command.Call.{Call}
+use Rattle.desk_edit.specs.declared.command.Call.TheVariants.{Apply, Undo, Redo}
+use Rattle.bridge_core.specs.declared.reply.Reply.{Reply}
+use Rattle.bridge_core.specs.declared.reply.Reply.TheVariants.{Accepted}
+use Rattle.bridge_core.specs.Sound.{most_calls}
+use Rattle.bridge_core.specs.Steps.{CoreOf}
+use Rattle.bridge_core.specs.Calls.{Answers}
+
+-- from the first core to the last, each answers one of the calls
+abbrev pub AnswersAll : CoreOf → List Call → List Reply → CoreOf → Type 0
+AnswersAll first [] replies last = (replies ≡ []) × (last ≡ first)
+AnswersAll first (call ∷ calls) replies last =
+    (next : CoreOf) × (reply : Reply) × (later : List Reply) ×
+    (replies ≡ reply ∷ later) × Answers first next call reply × AnswersAll next calls later last
+
+-- from the first core to the last, each accepts one of the commands
+abbrev pub AcceptsAll : CoreOf → List Command → CoreOf → Type 0
+AcceptsAll first [] last = last ≡ first
+AcceptsAll first (command ∷ commands) last =
+    (next : CoreOf) × Answers first next (Apply command) (Accepted (first.version + 1)) × AcceptsAll next commands last
+
+-- so many undos in a row, from this version on: each names the last accepted call
+abbrev pub undos : ℕ → ℕ → List Call
+undos version zero = []
+undos version (suc n) = Undo version ∷ undos (version + 1) n
+
+-- so many redos in a row, from this version on: each names the last accepted call
+abbrev pub redos : ℕ → ℕ → List Call
+redos version zero = []
+redos version (suc n) = Redo version ∷ redos (version + 1) n
+
+-- so many calls in a row, from this version on, are all accepted
+abbrev pub all_accepted : ℕ → ℕ → List Reply
+all_accepted version zero = []
+all_accepted version (suc n) = Accepted (version + 1) ∷ all_accepted (version + 1) n
+
+-- this is how a core answers so many undos in a row, for which its log has room
+abbrev pub UndoesInARow : CoreOf → ℕ → List Reply → CoreOf → Type 0
+UndoesInARow first n replies last = (first.version + n ≤ most_calls) × AnswersAll first (undos first.version n) replies last
+
+-- this is how a core answers so many redos in a row, for which its log has room
+abbrev pub RedoesInARow : CoreOf → ℕ → List Reply → CoreOf → Type 0
+RedoesInARow first n replies last = (first.version + n ≤ most_calls) × AnswersAll first (redos first.version n) replies last
+
+-- the desk, what is done and what is undone are the same
+abbrev pub IsAsWas : CoreOf → CoreOf → Type 0
+IsAsWas now was = (now.desk ≡ was.desk) × (now.done ≡ was.done) × (now.undone ≡ was.undone)
