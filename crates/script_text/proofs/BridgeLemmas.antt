@@ -3,10 +3,10 @@ use Rattle.std.proofs.Common.{◌≡◌, ℕ, Option, List, [], ◌∷◌, ◌++
 use Rattle.std.specs.Result.{OnOk}
 use Rattle.desk_rows.specs.Desk.{Desk}
 use Rattle.desk_edit.specs.declared.command.Call.{Call}
-use Rattle.desk_edit.specs.declared.command.Call.TheVariants.{Apply, Undo}
-use Rattle.desk_edit.specs.declared.command.Refusal.{Refusal}
-use Rattle.desk_edit.specs.declared.command.Refusal.TheVariants.{OutOfMemory}
-use Rattle.desk_edit.specs.Calls.{no_calls, refusal_of, after_call as history_after}
+use Rattle.desk_edit.specs.declared.command.Call.TheVariants.{Apply, Undo, Redo}
+use Rattle.desk_edit.specs.declared.refusal.Refusal.{Refusal}
+use Rattle.desk_edit.specs.declared.refusal.Refusal.TheVariants.{OutOfMemory}
+use Rattle.desk_edit.specs.Calls.{no_calls, desk_now, refusal_of, after_call as history_after}
 use Rattle.bridge_core.specs.declared.reply.Reply.{Reply}
 use Rattle.bridge_core.specs.declared.reply.Reply.TheVariants.{Accepted, Refused}
 use Rattle.bridge_core.specs.Sent.{Sent, Input}
@@ -15,8 +15,9 @@ use Rattle.bridge_core.specs.Following.{HasCalled, IsTold, IsAnswered}
 use Rattle.bridge_core.specs.Steps.{CoreOf, Step, HasTaken, Takes, sent_at, visits, visit_after}
 use Rattle.std.specs.List.{flat_map}
 use Rattle.bridge_core.specs.Lanes.{sends_at}
-use Rattle.script_text.specs.Requests.{Desk as DeskRequest, Item}
+use Rattle.script_text.specs.Requests.{Desk as DeskRequest, Item, Show}
 use Rattle.script_text.specs.Text.{reply_text, sent_text}
+use Rattle.script_text.specs.RowLines.{show_text}
 use Rattle.script_text.specs.Bridge.{answer_call, Bridge, first_desk, answer_text, after, text_of, opening_bridge}
 use Rattle.script_text.specs.Steps.{wants_memory, Stands}
 
@@ -29,6 +30,7 @@ not_memory at why told e = absurd (true_false (subst (λ (w : Refusal). wants_me
 told_why : (bridge : Bridge) (call : Call) (at : ℕ) (why : Refusal) → IsTold bridge.calls call why → wants_memory (Refused at why) ≡ false → refusal_of bridge.calls call ≡ Some why
 told_why bridge (Apply command) at why by told = by.0 (not_memory at why told)
 told_why bridge (Undo last) at why by told = by
+told_why bridge (Redo last) at why by told = by
 
 -- the desk that a step publishes is the one that the calls leave
 accepted : (old new : CoreOf) (bridge : Bridge) (call : Call) → Stands old bridge → HasCalled new (history_after bridge.calls call) → length new.lanes ≡ length old.lanes → Takes old new (Step.publish new.desk) []
@@ -71,6 +73,11 @@ item_answered old new bridge item out s takes version desk done undone lanes =
       },
       ap (flat_map sent_text) same,
     )
+
+-- ---- rows
+
+pub rows_shown : (core : CoreOf) (bridge : Bridge) → Stands core bridge → show_text core.desk core.version ≡ answer_text bridge Show
+rows_shown core bridge s = ap (λ (d : Desk). show_text d core.version) s.called.desk ∙ ap (show_text (desk_now bridge.calls)) s.called.version
 
 -- ---- the first line
 

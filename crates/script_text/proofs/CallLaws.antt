@@ -168,6 +168,7 @@ desk_by kinds.Desk vs words op c e =
     let same : r.0 ≡ c = cc in
     (refl, cc, r.1 ∙ ap Ok same)
 desk_by kinds.Frame vs words op c e = frame_is_none words vs op c e
+desk_by kinds.Show vs words op c e = let none = bind_ok (none_left 2 words) _ (Desk op c) e in absurd cc
 
 desk_words : (op : ℕ) (c : Call) → op ≤ 15 → IsCall c → words_request (kind_text kinds.Desk ∷ value_text (values.Operator op) ∷ call_words c) ≡ Ok (Desk op c)
 unfolding words_request
@@ -202,7 +203,7 @@ desk_back line op c e =
     let b = call_back 2 r.0.1 c d.2 in
     let o = operator_of r.0.0 (v.1 ∙ ap front_of d.0) v.2 in
     let same : o.0 ≡ op = ap (λ (vs : List Value). number_in (value_at 0 vs)) (sym o.1) ∙ d.1 in
-    let first : w.0.0 ≡ kind_text kinds.Desk = found_text kind_text w.0.0 (kinds.Desk ∷ kinds.Frame ∷ []) k.0 (or_back 1 UnknownWord (kind_of w.0.0) k.0 k.1) ∙ ap kind_text d.0 in
+    let first : w.0.0 ≡ kind_text kinds.Desk = found_text kind_text w.0.0 (kinds.Desk ∷ kinds.Frame ∷ kinds.Show ∷ []) k.0 (or_back 1 UnknownWord (kind_of w.0.0) k.0 k.1) ∙ ap kind_text d.0 in
     let others : w.0.1 ≡ value_text (values.Operator op) ∷ call_words c =
     v.0 ∙ (ap (λ (vs : List Value). map value_text vs ++ r.0.1) o.1 ∙ (ap (λ (n : ℕ). value_text (values.Operator n) ∷ r.0.1) same ∙ ap (λ (t : List (List ℕ)). value_text (values.Operator op) ∷ t) b.0)) in
     let all : words_of line ≡ kind_text kinds.Desk ∷ value_text (values.Operator op) ∷ call_words c =

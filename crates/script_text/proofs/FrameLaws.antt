@@ -14,7 +14,7 @@ use Rattle.script_text.specs.declared.fault.Fault.TheVariants.{UnknownWord}
 use Rattle.script_text.specs.declared.value.Value.{Value}
 use Rattle.script_text.specs.declared.name.Kind.{Kind}
 use Rattle.script_text.specs.declared.name.Kind.TheVariants as kinds
-use Rattle.script_text.specs.Words.{words_of, word_at, value_or}
+use Rattle.script_text.specs.Words.{words_of, word_at, none_left, value_or}
 use Rattle.script_text.specs.Numbers.{IsExt}
 use Rattle.script_text.specs.Values.{field_of, value_text, AllFit, values_of}
 use Rattle.script_text.specs.Packets.{marker_text, packet_text, packet_of, packets_of, IsReadable, AllReadable, SpellPackets}
@@ -117,6 +117,7 @@ framed_back sighting f (Some fault) e = absurd cc
 frame_by : (kind : Kind) (vs : List Value) (words : List (List ℕ)) (f : SourceFrame) → request_with kind vs words ≡ Ok (Item (frame f)) → (kind ≡ kinds.Frame) × (ps : List SourcePacket) × (packets_of 7 words ≡ Ok ps) × (fault_of ps ≡ None) × (sighted vs ps ≡ f)
 unfolding frame_of
 frame_by kinds.Desk vs words f e = let c = bind_ok (call_of 2 words) _ (Item (frame f)) e in absurd cc
+frame_by kinds.Show vs words f e = let none = bind_ok (none_left 2 words) _ (Item (frame f)) e in absurd cc
 frame_by kinds.Frame vs words f e =
     let p = bind_ok (some_packets 7 words) _ (Item (frame f)) e in
     let made = framed_back (sighted vs p.0) f (fault_of p.0) p.2 in
@@ -138,7 +139,7 @@ frame_back line f e =
     let front : r.0.0 ≡ front_values f = front_is r.0.0 d.1 (v.1 ∙ ap front_of d.0) ∙ ap front_values d.4 in
     let packets = packets_back 7 r.0.1 d.1 d.2 in
     let same : d.1 ≡ f.frame.packets = ap (λ (g : SourceFrame). g.frame.packets) d.4 in
-    let first : w.0.0 ≡ kind_text kinds.Frame = found_text kind_text w.0.0 (kinds.Desk ∷ kinds.Frame ∷ []) k.0 (or_back 1 UnknownWord (kind_of w.0.0) k.0 k.1) ∙ ap kind_text d.0 in
+    let first : w.0.0 ≡ kind_text kinds.Frame = found_text kind_text w.0.0 (kinds.Desk ∷ kinds.Frame ∷ kinds.Show ∷ []) k.0 (or_back 1 UnknownWord (kind_of w.0.0) k.0 k.1) ∙ ap kind_text d.0 in
     let others : w.0.1 ≡ map value_text (front_values f) ++ r.0.1 = v.0 ∙ ap (λ (vs : List Value). map value_text vs ++ r.0.1) front in
     let all : words_of line ≡ frame_words f r.0.1 =
     word_back 1 (words_of line) w.0 w.1 ∙ (ap (λ (t : List ℕ). t ∷ w.0.1) first ∙ ap (λ (t : List (List ℕ)). kind_text kinds.Frame ∷ t) others) in (

@@ -1,17 +1,18 @@
 -- The desks of a script are good.
-use Rattle.std.proofs.Common.{◌≡◌, ℕ, true, List, [], ◌∷◌, ◌++◌, Option, Some, None, refl}
+use Rattle.std.proofs.Common.{◌≡◌, ℕ, true, List, [], ◌∷◌, ◌++◌, reverse, Option, Some, None, refl, sym, ap, ◌∙◌, subst, append-nil, append_assoc}
 use Rattle.std.specs.Prelude.{fold}
+use Rattle.std.proofs.lemmas.List.{reverse-append}
 use Rattle.desk_rows.specs.Desk.{Desk as Rows, good}
 use Rattle.desk_edit.specs.declared.command.Command.{Command}
 use Rattle.desk_edit.specs.declared.command.Call.{Call}
-use Rattle.desk_edit.specs.declared.command.Call.TheVariants.{Apply, Undo}
-use Rattle.desk_edit.specs.declared.command.Refusal.{Refusal}
+use Rattle.desk_edit.specs.declared.command.Call.TheVariants.{Apply, Undo, Redo}
+use Rattle.desk_edit.specs.declared.refusal.Refusal.{Refusal}
 use Rattle.desk_edit.specs.Commands.{desk_after}
 use Rattle.desk_edit.specs.Refusals.{refused}
-use Rattle.desk_edit.specs.Calls.{CallHistory, desk_now, front, or_log_full, refusal_of, after_call as history_after}
+use Rattle.desk_edit.specs.Calls.{CallHistory, desk_now, front, final, or_log_full, refusal_of, after_call as history_after}
 use Rattle.bridge_core.specs.Steps.{Step}
 use Rattle.bridge_core.specs.Headline.{IsGood, AreGood}
-use Rattle.script_text.specs.Requests.{Request, Nothing, Desk, Item}
+use Rattle.script_text.specs.Requests.{Request, Nothing, Desk, Item, Show}
 use Rattle.script_text.specs.Lines.{lines_of}
 use Rattle.script_text.specs.Bridge.{Bridge, first_desk, opening_bridge, answer_call, after}
 use Rattle.script_text.specs.Scripts.{requests_of, after_all, steps_of}
@@ -33,39 +34,71 @@ one_more : (d : Rows) (cs : List Command) (c : Command) → GoodAlong d cs → g
 one_more d [] c g next = (g, next)
 one_more d (b ∷ cs) c (g, h) next = (g, one_more (desk_after d b) cs c h next)
 
-one_less : (d : Rows) (cs : List Command) → GoodAlong d cs → GoodAlong d (front cs)
-one_less d [] h = h
-one_less d (c ∷ []) (g, h) = g
-one_less d (c ∷ b ∷ cs) (g, h) = (g, one_less (desk_after d c) (b ∷ cs) h)
+-- so is each before the last ones
+before : (d : Rows) (cs later : List Command) → GoodAlong d (cs ++ later) → GoodAlong d cs
+before d [] [] h = h
+before d [] (c ∷ later) (g, h) = g
+before d (c ∷ cs) later (g, h) = (g, before (desk_after d c) cs later h)
+
+-- the commands that are done, and behind them those that were undone
+abbrev whole : CallHistory → List Command
+whole h = h.done ++ reverse h.undone
+
+front_and_final : (cs : List Command) → front cs ++ final cs ≡ cs
+front_and_final [] = refl
+front_and_final (c ∷ []) = refl
+front_and_final (c ∷ b ∷ cs) = ap (λ xs. c ∷ xs) (front_and_final (b ∷ cs))
+
+one_final : (cs : List Command) → reverse (final cs) ≡ final cs
+one_final [] = refl
+one_final (c ∷ []) = refl
+one_final (c ∷ b ∷ cs) = one_final (b ∷ cs)
+
+-- an undo and a redo leave the whole as it is
+undo_leaves : (done undone : List Command) → front done ++ reverse (undone ++ final done) ≡ done ++ reverse undone
+undo_leaves done undone =
+    ap (λ xs. front done ++ xs) (reverse-append undone (final done) ∙ ap (λ xs. xs ++ reverse undone) (one_final done))
+    ∙ sym (append_assoc (front done) (final done) (reverse undone))
+    ∙ ap (λ xs. xs ++ reverse undone) (front_and_final done)
+
+redo_leaves : (done undone : List Command) → (done ++ final undone) ++ reverse (front undone) ≡ done ++ reverse undone
+redo_leaves done undone =
+    append_assoc done (final undone) (reverse (front undone))
+    ∙ ap (λ xs. done ++ (xs ++ reverse (front undone))) (sym (one_final undone))
+    ∙ ap (λ xs. done ++ xs) (sym (reverse-append (front undone) (final undone)) ∙ ap reverse (front_and_final undone))
 
 no_reason : (reason : Option Refusal) (version : ℕ) → or_log_full reason version ≡ None → reason ≡ None
 no_reason None version h = refl
 no_reason (Some why) version h = absurd cc
 
-call_good : Keeps → (h : CallHistory) (call : Call) → GoodAlong h.start h.done → refusal_of h call ≡ None → GoodAlong (history_after h call).start (history_after h call).done
+call_good : Keeps → (h : CallHistory) (call : Call) → GoodAlong h.start (whole h) → refusal_of h call ≡ None → GoodAlong (history_after h call).start (whole (history_after h call))
 unfolding history_after
 call_good keeps h (Apply c) along none =
-    one_more h.start h.done c along (keeps (desk_now h) c (now_good h.start h.done along) (no_reason (refused (desk_now h) c) h.accepted none))
-call_good keeps h (Undo last) along none = one_less h.start h.done along
+    let done = before h.start h.done (reverse h.undone) along in
+    subst (GoodAlong h.start) (sym (append-nil (h.done ++ c ∷ [])))
+    (one_more h.start h.done c done (keeps (desk_now h) c (now_good h.start h.done done) (no_reason (refused (desk_now h) c) h.accepted none)))
+call_good keeps h (Undo last) along none = subst (GoodAlong h.start) (sym (undo_leaves h.done h.undone)) along
+call_good keeps h (Redo last) along none = subst (GoodAlong h.start) (sym (redo_leaves h.done h.undone)) along
 
 step_good : (steps : List Step) (step : Step) → AreGood steps → IsGood step → AreGood (steps ++ step ∷ [])
 step_good [] step h g = (g, h)
 step_good (s ∷ steps) step (gs, h) g = (gs, step_good steps step h g)
 
--- its desks so far are good
+-- its desks so far are good, and so are those to which what was undone leads on
 record Fine (b : Bridge) : Type 0 where
-  calls : GoodAlong b.calls.start b.calls.done
+  calls : GoodAlong b.calls.start (whole b.calls)
   steps : AreGood b.steps
 
 after_good : Keeps → (b : Bridge) (request : Request) → Fine b → Fine (after b request)
 after_good keeps b Nothing fine = fine
+after_good keeps b Show fine = fine
 after_good keeps b (Desk op call) fine = by (refusal_of b.calls call) refl
   where
     by : (reason : Option Refusal) → refusal_of b.calls call ≡ reason → Fine (answer_call b (history_after b.calls call) reason).1
     by None none =
         let along = call_good keeps b.calls call fine.calls none in
         let next = history_after b.calls call in
-        record { calls = along; steps = step_good b.steps (Step.publish (desk_now next)) fine.steps (now_good next.start next.done along) }
+        record { calls = along; steps = step_good b.steps (Step.publish (desk_now next)) fine.steps (now_good next.start next.done (before next.start next.done (reverse next.undone) along)) }
     by (Some why) is = fine
 after_good keeps b (Item item) fine = record { calls = fine.calls; steps = step_good b.steps (Step.item 0 item) fine.steps tt }
 

@@ -17,3 +17,4 @@ pub mod BridgeLemmas
 pub mod ScriptLaws
 pub mod JudgedLaws
 pub mod GrowLemmas
+pub mod RowLemmas

@@ -2,14 +2,14 @@
 use Rattle.std.proofs.Common.{◌≡◌, ℕ, ◌+◌, List, [], ◌∷◌, ◌++◌, Option, Some, None, Result, Ok, Err, refl, sym, ap, ◌∙◌, append_assoc}
 use Rattle.std.specs.List.{flat_map}
 use Rattle.std.proofs.lemmas.List.{append-nil}
-use Rattle.desk_edit.specs.declared.command.Refusal.{Refusal}
+use Rattle.desk_edit.specs.declared.refusal.Refusal.{Refusal}
 use Rattle.desk_edit.specs.Calls.{CallHistory, refusal_of, after_call as history_after}
 use Rattle.bridge_core.specs.Sent.{Sent}
 use Rattle.bridge_core.specs.Steps.{Step, along, sent_at, sends}
 use Rattle.script_text.specs.declared.fault.Fault.{Fault}
-use Rattle.script_text.specs.Requests.{Request, Nothing, Desk, Item, request_of}
+use Rattle.script_text.specs.Requests.{Request, Nothing, Desk, Item, Show, request_of}
 use Rattle.script_text.specs.Lines.{lines_of}
-use Rattle.script_text.specs.Bridge.{Bridge, first_desk, opening_bridge, Answer, silence, replied, sent, text_of, answer_call, answer, after}
+use Rattle.script_text.specs.Bridge.{Bridge, first_desk, opening_bridge, Answer, silence, replied, sent, shown, text_of, answer_call, answer, after}
 use Rattle.script_text.specs.Output.{Outcome, continues, outcome_of, output_of}
 use Rattle.script_text.specs.Scripts.{followed, requests_of, answers_to, after_all, sent_in, answers_of, steps_of}
 
@@ -46,6 +46,7 @@ call_sends bridge next (Some why) = sym (append-nil (sends 1 first_desk bridge.s
 
 one_sends : (bridge : Bridge) (request : Request) → sends 1 first_desk (after bridge request).steps ≡ sends 1 first_desk bridge.steps ++ sent_in ((answer bridge request).0 ∷ [])
 one_sends bridge Nothing = sym (append-nil (sends 1 first_desk bridge.steps))
+one_sends bridge Show = sym (append-nil (sends 1 first_desk bridge.steps))
 one_sends bridge (Desk op call) = call_sends bridge (history_after bridge.calls call) (refusal_of bridge.calls call)
 one_sends bridge (Item item) = sends_last bridge.steps (Step.item 0 item)
 
@@ -53,6 +54,7 @@ sent_first : (a : Answer) (others : List Answer) → sent_in (a ∷ others) ≡ 
 sent_first silence others = refl
 sent_first (replied reply) others = refl
 sent_first (sent out) others = refl
+sent_first (shown desk version) others = refl
 
 all_sends : (bridge : Bridge) (requests : List Request) → sends 1 first_desk (after_all bridge requests).steps ≡ sends 1 first_desk bridge.steps ++ sent_in (answers_to bridge requests)
 all_sends bridge [] = sym (append-nil (sends 1 first_desk bridge.steps))

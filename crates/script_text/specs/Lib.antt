@@ -8,6 +8,7 @@ pub mod Calls
 pub mod Requests
 pub mod Cursor
 pub mod Text
+pub mod RowLines
 pub mod Judged
 pub mod Shown
 pub mod Growing

@@ -17,30 +17,33 @@ use Rattle.script_text.specs.declared.value.Value.TheVariants.{U32, U64, Operato
 use Rattle.script_text.specs.declared.name.Kind.{Kind}
 use Rattle.script_text.specs.declared.name.Kind.TheVariants as kinds
 use Rattle.script_text.specs.declared.line.TheConstants.{LINE_LIMIT}
-use Rattle.script_text.specs.Words.{◌>>=◌, words_of, word_at, value_or}
+use Rattle.script_text.specs.Words.{◌>>=◌, words_of, word_at, none_left, value_or}
 use Rattle.script_text.specs.Values.{value_text, values_of, number_at, address_at, AllFit}
 use Rattle.script_text.specs.Packets.{packet_text, packets_of, AllReadable}
 use Rattle.script_text.specs.Calls.{call_of, call_words}
 
--- nothing, an operator's call, or an item for the lane
+-- nothing, an operator's call, an item for the lane, or the desk's rows
 pub data Request : Type 0 where
   Nothing : Request
   Desk : (op : ℕ) (call : Call) → Request
   Item : (item : Input) → Request
+  Show : Request
 
 -- how the first word of a line is written
 abbrev pub kind_text : Kind → List ℕ
 kind_text kinds.Desk = codes "desk"
 kind_text kinds.Frame = codes "frame"
+kind_text kinds.Show = codes "show"
 
 -- the kind of line that a word begins
 abbrev pub kind_of : List ℕ → Option Kind
-kind_of word = find (λ kind. bytes_eq word (kind_text kind)) (kinds.Desk ∷ kinds.Frame ∷ [])
+kind_of word = find (λ kind. bytes_eq word (kind_text kind)) (kinds.Desk ∷ kinds.Frame ∷ kinds.Show ∷ [])
 
 -- the fields that stand first behind it: OP; MOMENT ADDRESS SSRC EPOCH TS
 abbrev pub front_of : Kind → List Field
 front_of kinds.Desk = fields.Operator ∷ []
 front_of kinds.Frame = fields.U64 ∷ fields.Address ∷ fields.U32 ∷ fields.U64 ∷ fields.U32 ∷ []
+front_of kinds.Show = []
 
 -- at least one packet
 abbrev pub some_packets : ℕ → List (List ℕ) → Result (List SourcePacket) (ℕ × Fault)
@@ -68,10 +71,17 @@ frame_of sighted words = do
 abbrev pub sighted : List Value → List SourcePacket → SourceFrame
 sighted vs packets = record { moment = number_at 0 vs; address = address_at 1 vs; source = number_at 2 vs; epoch = number_at 3 vs; frame = record { ts = number_at 4 vs; packets = packets } }
 
+-- the desk's rows, where no word is left
+abbrev pub show_of : List (List ℕ) → Result Request (ℕ × Fault)
+show_of words = do
+  end ← none_left 2 words
+  Ok Show
+
 -- what a line of a kind asks for, with these values first and words behind them
 abbrev pub request_with : Kind → List Value → List (List ℕ) → Result Request (ℕ × Fault)
 request_with kinds.Desk vs words = desk_of (number_at 0 vs) words
 request_with kinds.Frame vs words = frame_of (sighted vs) words
+request_with kinds.Show vs words = show_of words
 
 -- what words ask for
 unfoldable pub words_request : List (List ℕ) → Result Request (ℕ × Fault)

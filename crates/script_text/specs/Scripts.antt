@@ -5,7 +5,7 @@ use Rattle.bridge_core.specs.Steps.{Step}
 use Rattle.script_text.specs.declared.fault.Fault.{Fault}
 use Rattle.script_text.specs.Requests.{Request, request_of}
 use Rattle.script_text.specs.Lines.{lines_of}
-use Rattle.script_text.specs.Bridge.{Bridge, opening_bridge, Answer, silence, replied, sent, answer, after}
+use Rattle.script_text.specs.Bridge.{Bridge, opening_bridge, Answer, silence, replied, sent, shown, answer, after}
 
 -- a request before others; a line with a fault ends them
 abbrev pub followed : Result Request (ℕ × Fault) → List Request → List Request
@@ -33,6 +33,7 @@ sent_in [] = []
 sent_in (silence ∷ answers) = sent_in answers
 sent_in (replied reply ∷ answers) = sent_in answers
 sent_in (sent out ∷ answers) = out ∷ sent_in answers
+sent_in (shown desk version ∷ answers) = sent_in answers
 
 -- the answers to a script
 abbrev pub answers_of : List ℕ → List Answer

@@ -2,7 +2,7 @@
 use Rattle.std.specs.List.{All}
 use Rattle.std.specs.Prelude.{◌≡◌, ◌==◌, ◌<◌, Bool, true, false, ℕ, length, List, [], ◌++◌, Option, None, Result, Ok, Err}
 use Rattle.std.specs.Io.KnownBytes.{Appends}
-use Rattle.desk_edit.specs.declared.command.Refusal.TheVariants.{OutOfMemory}
+use Rattle.desk_edit.specs.declared.refusal.Refusal.TheVariants.{OutOfMemory}
 use Rattle.bridge_core.specs.declared.reply.Reply.{Reply}
 use Rattle.bridge_core.specs.declared.reply.Reply.TheVariants.{Refused}
 use Rattle.bridge_core.specs.Following.{HasCalled}

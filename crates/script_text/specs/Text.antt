@@ -2,10 +2,9 @@
 use Rattle.std.specs.Prelude.{ℕ, List, [], ◌∷◌, ◌++◌, map, codes}
 use Rattle.std.specs.List.{join_with_byte}
 use Rattle.hex.specs.Hex.{encode_lower}
-use Rattle.desk_edit.specs.declared.command.Table.{Table}
-use Rattle.desk_edit.specs.declared.command.Table.TheVariants.{Rooms, Members, Sources, Slots, RoomAudio}
-use Rattle.desk_edit.specs.declared.command.Refusal.{Refusal}
-use Rattle.desk_edit.specs.declared.command.Refusal.TheVariants.{Exists, NoRoom, NoMember, NoSource, NoSlot, WrongKind, OtherRoom, SsrcTaken, BadValue, Already, Full, OutOfMemory, NewerCommand, NothingToUndo, LogFull}
+use Rattle.desk_edit.specs.declared.refusal.Carried.{Carried}
+use Rattle.desk_edit.specs.declared.refusal.Carried.TheVariants.{Nothing, Limit, Last}
+use Rattle.desk_edit.specs.Told.{Told, table_text, told_of}
 use Rattle.bridge_core.specs.declared.reply.Reply.{Reply}
 use Rattle.bridge_core.specs.declared.reply.Reply.TheVariants.{Accepted, Refused}
 use Rattle.bridge_core.specs.Sent.{Sent}
@@ -44,41 +43,15 @@ word_text (hex octets) = encode_lower octets
 abbrev pub line_text : List Word → List ℕ
 line_text words = join_with_byte 32 (map word_text words) ++ 10 ∷ []
 
--- the name of what is full
-abbrev pub table_text : Table → List ℕ
-table_text Rooms = codes "rooms"
-table_text Members = codes "members"
-table_text Sources = codes "sources"
-table_text Slots = codes "slots"
-table_text RoomAudio = codes "room-audio"
-
--- how a refusal is told: its number, its name, and what it carries
-pub record Told : Type 0 where
-  pub number : ℕ
-  pub name : List ℕ
-  pub carries : List Word
-
--- the refusals
-abbrev pub told_of : Refusal → Told
-told_of Exists = record { number = 1; name = codes "Exists"; carries = [] }
-told_of NoRoom = record { number = 2; name = codes "NoRoom"; carries = [] }
-told_of NoMember = record { number = 3; name = codes "NoMember"; carries = [] }
-told_of NoSource = record { number = 4; name = codes "NoSource"; carries = [] }
-told_of NoSlot = record { number = 5; name = codes "NoSlot"; carries = [] }
-told_of WrongKind = record { number = 6; name = codes "WrongKind"; carries = [] }
-told_of OtherRoom = record { number = 7; name = codes "OtherRoom"; carries = [] }
-told_of SsrcTaken = record { number = 8; name = codes "SsrcTaken"; carries = [] }
-told_of BadValue = record { number = 9; name = codes "BadValue"; carries = [] }
-told_of Already = record { number = 10; name = codes "Already"; carries = [] }
-told_of (Full table limit) = record { number = 12; name = codes "Full"; carries = fixed (table_text table) ∷ value (U32 limit) ∷ [] }
-told_of OutOfMemory = record { number = 13; name = codes "OutOfMemory"; carries = [] }
-told_of (NewerCommand last) = record { number = 14; name = codes "NewerCommand"; carries = value (U64 last) ∷ [] }
-told_of NothingToUndo = record { number = 15; name = codes "NothingToUndo"; carries = [] }
-told_of LogFull = record { number = 17; name = codes "LogFull"; carries = [] }
+-- what a refusal carries behind its name
+abbrev pub carried_words : Carried → List Word
+carried_words Nothing = []
+carried_words (Limit table limit) = fixed (table_text table) ∷ value (U32 limit) ∷ []
+carried_words (Last last) = value (U64 last) ∷ []
 
 -- the words of what is told
 abbrev pub told_words : Told → List Word
-told_words told = value (U16 told.number) ∷ fixed told.name ∷ told.carries
+told_words told = value (U16 told.number) ∷ fixed told.name ∷ carried_words told.carries
 
 -- the words of a reply: its number, or the version and the refusal
 abbrev pub reply_words : Reply → List Word

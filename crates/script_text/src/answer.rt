@@ -4,7 +4,7 @@ ghost use Rattle.std.specs.Prelude.{◌≡◌, ◌≢◌, ◌⊎◌, ◌^◌, �
 ghost use Rattle.std.specs.List.{flat_map};
 ghost use Rattle.bridge_core.specs.Sent.{sent_of, input_of};
 ghost use Rattle.script_text.specs.Text.{sent_text};
-ghost use Rattle.script_text.specs.Requests.{Desk, Item as ItemRequest};
+ghost use Rattle.script_text.specs.Requests.{Desk, Item as ItemRequest, Show as ShowRequest};
 ghost use Rattle.script_text.specs.Cursor.{view};
 ghost use Rattle.script_text.specs.Steps.{HasLane, wants_memory, AnswersRequest, AnswersLine};
 
@@ -12,6 +12,7 @@ use crate::fault::{ParseFault, RunFault};
 use crate::line::{Line, parse_line};
 use crate::print::{print_egress, print_reply};
 use crate::sending::send;
+use crate::showing::print_rows;
 use crate::sink::Sink;
 use bridge_core::{Core, Egress, Item, Reply};
 use desk_edit::{Call, Refusal};
@@ -84,6 +85,14 @@ fn answer_item<A: Allocator + Copy>(
     }
 }
 
+/// Appends the lines of the desk's rows.
+fn answer_show<A: Allocator + Copy>(core: &Core<A>, out: &mut Vec<u8, A>) -> Result<(), AllocError>
+    requires { out.old.items ≡ [] }
+    ensures { OnOk result (AnswersRequest core.now ShowRequest core.now out.new.items) }
+{
+    print_rows(core.rows(), core.version(), out)
+}
+
 /// Does what a line asks for, and appends what is written for it.
 fn answer_request<A: Allocator + Copy>(
     alloc: A,
@@ -100,6 +109,7 @@ fn answer_request<A: Allocator + Copy>(
         Line::Nothing => Ok(()),
         Line::Desk { op, call } => answer_call(alloc, core, op, call, out),
         Line::Item(item) => answer_item(alloc, core, &item, out),
+        Line::Show => answer_show(core, out),
     }
 }
 

@@ -12,7 +12,7 @@ use crate::reading::read_values;
 use crate::value::{Value, address_at, codec_at, media_at, u16_at, u32_at, u64_at};
 use crate::words::{end_of_words, next_word};
 use desk_edit::{Call, Command};
-use desk_rows::{Member, Room, Slot, Source, Sub};
+use desk_rows::{Floor, Gain, Member, Mute, Pin, Room, Slot, Source, Sub};
 
 /// The call of this name with these values.
 fn build(name: Name, values: &[Value]) -> Call
@@ -23,6 +23,9 @@ fn build(name: Name, values: &[Value]) -> Call
         Name::AddRoom => Call::Apply(Command::AddRoom(Room {
             room: u32_at(values, 0),
         })),
+        Name::RemoveRoom => Call::Apply(Command::RemoveRoom {
+            room: u32_at(values, 0),
+        }),
         Name::AddMember => Call::Apply(Command::AddMember(Member {
             member: u32_at(values, 0),
             room: u32_at(values, 1),
@@ -32,11 +35,21 @@ fn build(name: Name, values: &[Value]) -> Call
             first_seq: u16_at(values, 5),
             first_ts: u32_at(values, 6),
         })),
+        Name::RemoveMember => Call::Apply(Command::RemoveMember {
+            member: u32_at(values, 0),
+        }),
+        Name::MoveMember => Call::Apply(Command::MoveMember {
+            member: u32_at(values, 0),
+            room: u32_at(values, 1),
+        }),
         Name::AddSource => Call::Apply(Command::AddSource(Source {
             ssrc: u32_at(values, 0),
             member: u32_at(values, 1),
             media: media_at(values, 2),
         })),
+        Name::RemoveSource => Call::Apply(Command::RemoveSource {
+            ssrc: u32_at(values, 0),
+        }),
         Name::AddSlot => Call::Apply(Command::AddSlot(Slot {
             out_ssrc: u32_at(values, 0),
             member: u32_at(values, 1),
@@ -51,7 +64,38 @@ fn build(name: Name, values: &[Value]) -> Call
             out_ssrc: u32_at(values, 0),
             source: u32_at(values, 1),
         })),
+        Name::Unsubscribe => Call::Apply(Command::Unsubscribe {
+            out_ssrc: u32_at(values, 0),
+        }),
+        Name::SetGain => Call::Apply(Command::SetGain(Gain {
+            member: u32_at(values, 0),
+            source: u32_at(values, 1),
+            q8: u32_at(values, 2),
+        })),
+        Name::Mute => Call::Apply(Command::Mute(Mute {
+            source: u32_at(values, 0),
+        })),
+        Name::Unmute => Call::Apply(Command::Unmute {
+            source: u32_at(values, 0),
+        }),
+        Name::Pin => Call::Apply(Command::Pin(Pin {
+            room: u32_at(values, 0),
+            source: u32_at(values, 1),
+        })),
+        Name::Unpin => Call::Apply(Command::Unpin {
+            room: u32_at(values, 0),
+        }),
+        Name::GiveFloor => Call::Apply(Command::GiveFloor(Floor {
+            room: u32_at(values, 0),
+            member: u32_at(values, 1),
+        })),
+        Name::TakeFloor => Call::Apply(Command::TakeFloor {
+            room: u32_at(values, 0),
+        }),
         Name::Undo => Call::Undo {
+            last: u64_at(values, 0),
+        },
+        Name::Redo => Call::Redo {
             last: u64_at(values, 0),
         },
     }

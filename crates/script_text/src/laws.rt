@@ -13,7 +13,7 @@ ghost use Rattle.bridge_core.specs.Headline.{AreGood, HaveNoGap, numbers, sent_o
 ghost use Rattle.bridge_core.specs.Steps.{sends};
 ghost use Rattle.desk_edit.specs.Refusals.{first_case};
 ghost use Rattle.desk_edit.specs.Calls.{refusal_at};
-ghost use Rattle.script_text.specs.Judged.{call_cases, case_numbers, numbers_of, Rises};
+ghost use Rattle.script_text.specs.Judged.{call_cases, case_numbers, Rises};
 ghost use Rattle.script_text.specs.Words.{words_of, Lacks};
 ghost use Rattle.script_text.specs.Numbers.{number_of, ext_of, IsExt};
 ghost use Rattle.script_text.specs.Addresses.{address_of, address_text, IsAddress};
@@ -107,11 +107,10 @@ pub fn script_bridge()
 /// The reason for which a call is refused is the first that holds, and they are asked in the order
 /// of the refusals' numbers.
 pub fn refusal_words()
-    ensures first { (version done : ℕ) (d : Rows) (call : Call)
-        → refusal_at version d done call ≡ first_case (call_cases version d done call) }
-    ensures numbers { (version done : ℕ) (d : Rows) (call : Call)
-        → case_numbers (call_cases version d done call) ≡ numbers_of call }
-    ensures rising { (call : Call) → Rises (numbers_of call) }
+    ensures first { (version done undone : ℕ) (d : Rows) (call : Call)
+        → refusal_at version d done undone call ≡ first_case (call_cases version d done undone call) }
+    ensures rising { (version done undone : ℕ) (d : Rows) (call : Call)
+        → Rises (case_numbers (call_cases version d done undone call)) }
 {}
 
 /// The output of a script is what its requests are answered, and what goes out among it is all that

@@ -17,6 +17,7 @@ mod reading;
 mod running;
 mod script;
 mod sending;
+mod showing;
 mod sink;
 mod source;
 mod spelling;

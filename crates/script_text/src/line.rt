@@ -6,7 +6,7 @@ ghost use Rattle.frame_gate.specs.Frame.{fault_of};
 ghost use Rattle.script_text.specs.Words.{Gives};
 ghost use Rattle.script_text.specs.Cursor.{words_in, size_of, view, sighting};
 ghost use Rattle.script_text.specs.Values.{field_of};
-ghost use Rattle.script_text.specs.Requests.{some_packets, framed, frame_of, desk_of, front_of, request_with, words_request, request_of};
+ghost use Rattle.script_text.specs.Requests.{some_packets, framed, frame_of, desk_of, show_of, front_of, request_with, words_request, request_of};
 
 use crate::building::call;
 use crate::fault::{Fault, ParseFault};
@@ -14,7 +14,7 @@ use crate::name::{Kind, front, parse_kind};
 use crate::packet::packets;
 use crate::reading::read_values;
 use crate::value::{Value, address_at, operator_at, u32_at, u64_at};
-use crate::words::next_word;
+use crate::words::{end_of_words, next_word};
 use bridge_core::{Frame, FramePacket, Item, MediaFrame};
 use desk_edit::Call;
 use rtp_codec::Address;
@@ -29,6 +29,7 @@ pub(crate) enum Line<A: Allocator + Copy = Global> {
     Nothing,
     Desk { op: u8, call: Call },
     Item(Item<A>),
+    Show,
 }
 
 /// The call of an operator.
@@ -37,6 +38,14 @@ fn desk<A: Allocator + Copy>(op: u8, words: Option<&[u8]>) -> Result<Line<A>, Pa
 {
     let call = call(2, words)?;
     Ok(Line::Desk { op, call })
+}
+
+/// The rows of the desk.
+fn show<A: Allocator + Copy>(words: Option<&[u8]>) -> Result<Line<A>, ParseFault>
+    ensures { Gives view result (show_of (words_in words.entry)) }
+{
+    end_of_words(words, 2)?;
+    Ok(Line::Show)
 }
 
 /// What a `frame` line says before its packets.
@@ -126,6 +135,7 @@ fn line_with<A: Allocator + Copy>(
             };
             frame(alloc, head, words)
         }
+        Kind::Show => show(words),
     }
 }
 

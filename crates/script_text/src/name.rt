@@ -11,6 +11,7 @@ use crate::value::Field;
 pub(crate) enum Kind {
     Desk,
     Frame,
+    Show,
 }
 
 /// The kind of line that a word begins.
@@ -21,6 +22,8 @@ pub(crate) fn parse_kind(word: &[u8]) -> Option<Kind>
         Some(Kind::Desk)
     } else if word == b"frame".as_slice() {
         Some(Kind::Frame)
+    } else if word == b"show".as_slice() {
+        Some(Kind::Show)
     } else {
         None
     }
@@ -40,6 +43,7 @@ pub(crate) fn front(kind: Kind) -> &'static [Field]
             Field::U64,
             Field::U32,
         ],
+        Kind::Show => &[],
     }
 }
 
@@ -47,12 +51,25 @@ pub(crate) fn front(kind: Kind) -> &'static [Field]
 #[derive(Clone, Copy)]
 pub(crate) enum Name {
     AddRoom,
+    RemoveRoom,
     AddMember,
+    RemoveMember,
+    MoveMember,
     AddSource,
+    RemoveSource,
     AddSlot,
     RemoveSlot,
     Subscribe,
+    Unsubscribe,
+    SetGain,
+    Mute,
+    Unmute,
+    Pin,
+    Unpin,
+    GiveFloor,
+    TakeFloor,
     Undo,
+    Redo,
 }
 
 /// The name that a word is.
@@ -61,18 +78,44 @@ pub(crate) fn parse_name(word: &[u8]) -> Option<Name>
 {
     if word == b"add-room".as_slice() {
         Some(Name::AddRoom)
+    } else if word == b"remove-room".as_slice() {
+        Some(Name::RemoveRoom)
     } else if word == b"add-member".as_slice() {
         Some(Name::AddMember)
+    } else if word == b"remove-member".as_slice() {
+        Some(Name::RemoveMember)
+    } else if word == b"move-member".as_slice() {
+        Some(Name::MoveMember)
     } else if word == b"add-source".as_slice() {
         Some(Name::AddSource)
+    } else if word == b"remove-source".as_slice() {
+        Some(Name::RemoveSource)
     } else if word == b"add-slot".as_slice() {
         Some(Name::AddSlot)
     } else if word == b"remove-slot".as_slice() {
         Some(Name::RemoveSlot)
     } else if word == b"subscribe".as_slice() {
         Some(Name::Subscribe)
+    } else if word == b"unsubscribe".as_slice() {
+        Some(Name::Unsubscribe)
+    } else if word == b"set-gain".as_slice() {
+        Some(Name::SetGain)
+    } else if word == b"mute".as_slice() {
+        Some(Name::Mute)
+    } else if word == b"unmute".as_slice() {
+        Some(Name::Unmute)
+    } else if word == b"pin".as_slice() {
+        Some(Name::Pin)
+    } else if word == b"unpin".as_slice() {
+        Some(Name::Unpin)
+    } else if word == b"give-floor".as_slice() {
+        Some(Name::GiveFloor)
+    } else if word == b"take-floor".as_slice() {
+        Some(Name::TakeFloor)
     } else if word == b"undo".as_slice() {
         Some(Name::Undo)
+    } else if word == b"redo".as_slice() {
+        Some(Name::Redo)
     } else {
         None
     }
@@ -85,6 +128,7 @@ pub(crate) fn shape(name: Name) -> &'static [Field]
 {
     match name {
         Name::AddRoom => &[Field::U32],
+        Name::RemoveRoom => &[Field::U32],
         Name::AddMember => &[
             Field::U32,
             Field::U32,
@@ -94,10 +138,21 @@ pub(crate) fn shape(name: Name) -> &'static [Field]
             Field::U16,
             Field::U32,
         ],
+        Name::RemoveMember => &[Field::U32],
+        Name::MoveMember => &[Field::U32, Field::U32],
         Name::AddSource => &[Field::U32, Field::U32, Field::Media],
+        Name::RemoveSource => &[Field::U32],
         Name::AddSlot => &[Field::U32, Field::U32, Field::U32, Field::U16, Field::U32],
         Name::RemoveSlot => &[Field::U32],
         Name::Subscribe => &[Field::U32, Field::U32],
-        Name::Undo => &[Field::U64],
+        Name::Unsubscribe => &[Field::U32],
+        Name::SetGain => &[Field::U32, Field::U32, Field::U32],
+        Name::Mute => &[Field::U32],
+        Name::Unmute => &[Field::U32],
+        Name::Pin => &[Field::U32, Field::U32],
+        Name::Unpin => &[Field::U32],
+        Name::GiveFloor => &[Field::U32, Field::U32],
+        Name::TakeFloor => &[Field::U32],
+        Name::Undo | Name::Redo => &[Field::U64],
     }
 }

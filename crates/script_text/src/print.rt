@@ -2,88 +2,15 @@
 
 ghost use Rattle.std.specs.Prelude.{◌≡◌, ◌+◌, ◌<◌, ◌∷◌, ◌++◌, codes, length, OnOk, OnErr, vec_len, vec_capacity};
 ghost use Rattle.script_text.specs.declared.value.Value.TheVariants.{U64};
-ghost use Rattle.script_text.specs.Text.{fixed, value, line_text, table_text, told_of, told_words, reply_text, sent_text};
-ghost use Rattle.script_text.specs.Shown.{told_in};
+ghost use Rattle.script_text.specs.Text.{fixed, value, line_text, told_words, reply_text, sent_text};
+ghost use Rattle.desk_edit.specs.Told.{told_in};
 ghost use Rattle.bridge_core.specs.Sent.{sent_of};
 
 use crate::appending::{Word, print_line};
 use crate::value::Value;
 use bridge_core::{Egress, Reply};
-use desk_edit::{Refusal, Table};
+use desk_edit::{Carried, RefusalRow};
 use std::alloc::{AllocError, Allocator};
-
-/// The name of what is full.
-fn table_text(table: Table) -> &'static [u8]
-    ensures { result.now ≡ table_text table }
-{
-    match table {
-        Table::Rooms => b"rooms",
-        Table::Members => b"members",
-        Table::Sources => b"sources",
-        Table::Slots => b"slots",
-        Table::RoomAudio => b"room-audio",
-    }
-}
-
-/// What a refusal carries behind its name.
-#[derive(Clone, Copy)]
-enum Carried {
-    Nothing,
-    /// What is full, and how much it holds.
-    Limit(Table, u32),
-    /// The last accepted call.
-    Last(u64),
-}
-
-/// How a refusal is told.
-#[derive(Clone, Copy)]
-struct RefusalRow {
-    number: u16,
-    name: &'static [u8],
-    carried: Carried,
-}
-
-/// A refusal that carries nothing.
-fn bare(number: u16, name: &'static [u8]) -> RefusalRow
-    ensures { result ≡ record { number = number; name = name.entry; carried = Carried.Nothing } }
-{
-    RefusalRow {
-        number,
-        name,
-        carried: Carried::Nothing,
-    }
-}
-
-/// The refusals by number and name.
-fn told(why: Refusal) -> RefusalRow
-    ensures { told_in result ≡ told_of why }
-{
-    match why {
-        Refusal::Exists => bare(1, b"Exists"),
-        Refusal::NoRoom => bare(2, b"NoRoom"),
-        Refusal::NoMember => bare(3, b"NoMember"),
-        Refusal::NoSource => bare(4, b"NoSource"),
-        Refusal::NoSlot => bare(5, b"NoSlot"),
-        Refusal::WrongKind => bare(6, b"WrongKind"),
-        Refusal::OtherRoom => bare(7, b"OtherRoom"),
-        Refusal::SsrcTaken => bare(8, b"SsrcTaken"),
-        Refusal::BadValue => bare(9, b"BadValue"),
-        Refusal::Already => bare(10, b"Already"),
-        Refusal::Full { table, limit } => RefusalRow {
-            number: 12,
-            name: b"Full",
-            carried: Carried::Limit(table, limit),
-        },
-        Refusal::OutOfMemory => bare(13, b"OutOfMemory"),
-        Refusal::NewerCommand { last } => RefusalRow {
-            number: 14,
-            name: b"NewerCommand",
-            carried: Carried::Last(last),
-        },
-        Refusal::NothingToUndo => bare(15, b"NothingToUndo"),
-        Refusal::LogFull => bare(17, b"LogFull"),
-    }
-}
 
 /// Appends the line of a reply. An `Err` changes nothing, and comes only where the line has no room.
 pub fn print_reply<A: Allocator>(reply: &Reply, out: &mut Vec<u8, A>) -> Result<(), AllocError>
@@ -93,7 +20,7 @@ pub fn print_reply<A: Allocator>(reply: &Reply, out: &mut Vec<u8, A>) -> Result<
 {
     match *reply {
         Reply::Accepted { no } => print_line(b"ok", &[Word::Value(Value::U64(no))], out),
-        Reply::Refused { at, why } => print_refused(at, told(why), out),
+        Reply::Refused { at, why } => print_refused(at, why.told(), out),
     }
 }
 
@@ -115,7 +42,7 @@ fn print_refused<A: Allocator>(
     match row.carried {
         Carried::Nothing => print_line(b"no", &[at, number, name], out),
         Carried::Limit(table, limit) => {
-            let table = Word::Fixed(table_text(table));
+            let table = Word::Fixed(table.text());
             let limit = Word::Value(Value::U32(limit));
             print_line(b"no", &[at, number, name, table, limit], out)
         }
