@@ -1,0 +1,4 @@
+pub mod SentPacket
+pub mod Window
+pub mod inner
+pub mod laws

@@ -1,0 +1,2 @@
+pub mod IsSound
+pub mod ToOwner

@@ -1,0 +1,35 @@
+//! Packets that were sent.
+
+use crate::owner::Owner;
+use bytes::Bytes;
+use rtp_codec::Address;
+use std::alloc::{Allocator, Global};
+use std::marker::Model;
+
+/// A packet that was sent, and the source's packet that it carried.
+#[derive(Drop)]
+pub struct Entry<A: Allocator + Copy = Global> {
+    /// Its sequence number on the outgoing stream.
+    pub number: u16,
+    pub owner: Owner,
+    /// The desk version by which it was sent.
+    pub version: u64,
+    /// The item for which it was sent, by its number in the lane.
+    pub item: u64,
+    /// The SSRC of the source, and the address and the epoch of its packet.
+    pub source: u32,
+    pub address: Address,
+    pub epoch: u64,
+    /// The extended sequence number of the source's packet.
+    pub ext: i64,
+    /// The octets that were sent, shared with what went out.
+    pub bytes: Bytes<A>,
+}
+
+impl<A: Allocator + Copy> Model for Entry<A> {
+    ghost use Rattle.retransmit.specs.SentPacket.{SentPacket};
+
+    ghost Value = { SentPacket };
+
+    ghost view = { λ e. record { number = e.number; owner = e.owner; version = e.version; item = e.item; source = e.source; address = e.address; epoch = e.epoch; ext = e.ext; bytes = e.bytes } };
+}

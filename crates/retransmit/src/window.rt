@@ -1,0 +1,75 @@
+//! The retransmission buffer of one stream.
+
+ghost use Rattle.std.specs.Prelude.{◌≡◌, [], ◌∷◌, ◌++◌, IfOk, option_copied};
+ghost use Rattle.retransmit.specs.declared.owner.Owner.{Owner};
+ghost use Rattle.retransmit.specs.Window.{room, latest, resend_of, MayFollow};
+ghost use Rattle.retransmit.specs.inner.ToOwner.{to_owner};
+
+use crate::entry::Entry;
+use crate::owner::Owner;
+use circular_buffer::HeapCircularBuffer;
+use rtp_codec::seq_distance;
+use std::alloc::{AllocError, Allocator, Global};
+use std::marker::Model;
+
+/// How many packets can be sent again.
+const ROOM: usize = 512;
+
+/// The last packets of an outgoing stream. Only [`new`](Self::new) takes memory.
+#[derive(Drop)]
+pub struct Window<A: Allocator + Copy = Global> {
+    ring: HeapCircularBuffer<Entry<A>, A>,
+}
+
+impl<A: Allocator + Copy> Model for Window<A> {
+    ghost use Rattle.std.specs.Prelude.{List};
+    ghost use Rattle.retransmit.specs.SentPacket.{SentPacket};
+    ghost use Rattle.retransmit.specs.inner.IsSound.{IsSound};
+
+    ghost Value = { List SentPacket };
+
+    ghost view = { λ window. window.ring.items };
+
+    ghost invariant = { λ window. IsSound window.ring.items window.ring.capacity };
+}
+
+impl<A: Allocator + Copy> Window<A> {
+    /// A window of a stream that has sent nothing, with room for all that it will keep.
+    pub fn new(alloc: A) -> Result<Self, AllocError>
+        ensures { IfOk result (λ window. window ≡ []) }
+    {
+        let ring = HeapCircularBuffer::with_capacity(alloc, ROOM)?;
+        Ok(Self { ring })
+    }
+
+    /// Keeps a packet that was sent. The oldest one goes when the window is full.
+    pub fn push(&mut self, entry: Entry<A>)
+        requires { MayFollow self.old entry }
+        ensures { self.new ≡ latest room (self.old ++ entry ∷ []) }
+    {
+        self.ring.push_back(entry);
+    }
+
+    /// The packet of this number, whoever its owner is: no other one is looked at.
+    fn numbered(&self, number: u16) -> Option<&Entry<A>>
+        ensures { (owner : Owner) → resend_of number owner self.now ≡ to_owner owner (option_copied result) }
+    {
+        let oldest = self.ring.front()?;
+        let place = seq_distance(oldest.number, number);
+        self.ring.get(usize::from(place))
+    }
+
+    /// The packet that was sent to this owner under this number, if it can still be sent again.
+    ///
+    /// Nobody but the owner is answered.
+    pub fn find(&self, number: u16, owner: &Owner) -> Option<&Entry<A>>
+        ensures { option_copied result ≡ resend_of number owner.now self.now }
+    {
+        let entry = self.numbered(number)?;
+        if entry.owner == *owner {
+            Some(entry)
+        } else {
+            None
+        }
+    }
+}
