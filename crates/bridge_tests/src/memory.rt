@@ -65,7 +65,7 @@ fn ends(sent: &[Egress<&LocalHeap>]) -> Option<(u64, u32, u32)> {
 /// start.
 #[test]
 fn an_item_is_sent_after_refusals(rt: HostRuntime) -> Result<(), Fail> {
-    let heap = LocalHeap::new(rt.alloc(), 1 << 21)?;
+    let heap = LocalHeap::new(rt.alloc(), 1 << 23)?;
     let mut core = core(&heap, 1, 16)?;
     for item in 1..3u64 {
         let frame = frame(&heap)?;
@@ -103,7 +103,7 @@ fn added_at_last<'a>(
 
 #[test]
 fn a_command_is_accepted_after_refusals(rt: HostRuntime) -> Result<(), Fail> {
-    let heap = LocalHeap::new(rt.alloc(), 1 << 21)?;
+    let heap = LocalHeap::new(rt.alloc(), 1 << 23)?;
     let mut core = core(&heap, 1, 0)?;
     for no in 5..10u64 {
         let (number, refusals) = added_at_last(rt.alloc(), &heap, &mut core, no as u32)?;
@@ -112,9 +112,10 @@ fn a_command_is_accepted_after_refusals(rt: HostRuntime) -> Result<(), Fail> {
             "{no} after {refusals} refusals"
         );
     }
-    // An undo wants no memory.
+    // An undo wants no memory, nor does a redo.
     let _held = hold(rt.alloc(), &heap, 0)?;
     assert!(rt; core.desk(&heap, 0, Call::Undo { last: 9 }) == Reply::Accepted { no: 10 });
+    assert!(rt; core.desk(&heap, 0, Call::Redo { last: 10 }) == Reply::Accepted { no: 11 });
     Ok(())
 }
 

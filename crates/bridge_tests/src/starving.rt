@@ -35,14 +35,14 @@ fn written(alloc: Global, size: usize) -> Result<Option<usize>, Fail> {
     Ok(if ended { Some(out.len()) } else { None })
 }
 
-/// The greatest size, in steps of 4 KiB, at which nothing is written, as the bridge itself wants more.
+/// The greatest size, in steps of 64 KiB, at which nothing is written, as the bridge itself wants more.
 fn too_small(alloc: Global) -> Result<usize, Fail> {
     let mut last = 0;
-    for pages in 0..1_024 {
-        if written(alloc, 4_096 * pages)? != Some(0) {
+    for steps in 0..128 {
+        if written(alloc, 65_536 * steps)? != Some(0) {
             break;
         }
-        last = 4_096 * pages;
+        last = 65_536 * steps;
     }
     Ok(last)
 }
@@ -53,7 +53,7 @@ fn a_run_stops_between_answers(rt: HostRuntime) -> Result<(), Fail> {
     let base = too_small(rt.alloc())?;
     let mut most = 0;
     let mut stops: u32 = 0;
-    for step in 0..1_024 {
+    for step in 0..2_048 {
         let Some(octets) = written(rt.alloc(), base.saturating_add(64 * step))? else {
             return Err(Fail::from("a part of an answer"));
         };

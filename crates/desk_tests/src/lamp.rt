@@ -58,6 +58,10 @@ impl<A: Allocator + Copy> Reversible for Lamp<A> {
         self.is_on = !self.is_on;
     }
 
+    fn absorb_fitting(&mut self, _edit: &Switch<A>) {
+        self.is_on = !self.is_on;
+    }
+
     fn invert(edit: Switch<A>) -> Switch<A> {
         edit
     }
@@ -83,8 +87,8 @@ fn dark<A: Allocator + Copy>(log: A) -> History<Lamp<A>> {
     History::new(log, lamp)
 }
 
-/// As many edits are done as there may be, some are taken back, and the last is asked for: with
-/// ample memory nothing is refused for want of it, however long the two lists are.
+/// As many edits are done as there may be, some are taken back, one is done again, and the last is
+/// asked for: with ample memory nothing is refused for want of it, however long the two lists are.
 #[test]
 fn a_full_log_is_filled_and_undone(rt: HostRuntime) -> Result<(), Fail> {
     let alloc = rt.alloc();
@@ -98,8 +102,13 @@ fn a_full_log_is_filled_and_undone(rt: HostRuntime) -> Result<(), Fail> {
     }
     assert!(rt; history.state().is_on && history.undone_len() == 5001);
     assert!(rt; history.undo_edit(alloc).is_ok());
+    assert!(rt; history.redo_edit(alloc).is_ok());
+    history.redo()?;
+    assert!(rt; !history.state().is_on && history.undone_len() == 5000);
     history.push(switched_by(alloc, b"hall")?)?;
     assert!(rt; history.undo_edit(alloc)?.name.as_slice() == b"hall".as_slice());
+    history.undo()?;
+    assert!(rt; history.redo_edit(alloc)?.name.as_slice() == b"hall".as_slice());
     Ok(())
 }
 
@@ -142,6 +151,18 @@ fn undo_edit_over<'a>(
     Ok(history.undo_edit(heap).err())
 }
 
+/// The fault of a copy, over this heap, of the edit that a redo would absorb.
+fn redo_edit_over<'a>(
+    ample: &'a LocalHeap,
+    heap: &'a LocalHeap,
+) -> Result<Option<HistoryFault>, Fail> {
+    let _held = Box::new(heap, 0u8)?;
+    let mut history = dark(ample);
+    history.push(switched_by(ample, b"hall")?)?;
+    history.undo()?;
+    Ok(history.redo_edit(heap).err())
+}
+
 #[test]
 fn a_copy_of_an_edit_can_be_refused(rt: HostRuntime) -> Result<(), Fail> {
     let ample = LocalHeap::new(rt.alloc(), 1 << 12)?;
@@ -149,6 +170,10 @@ fn a_copy_of_an_edit_can_be_refused(rt: HostRuntime) -> Result<(), Fail> {
     let fault = undo_edit_over(&ample, &small)?;
     assert!(rt;
         fault == Some(HistoryFault::OutOfMemory) && undo_edit_over(&ample, &ample)? == None
+    );
+    let fault = redo_edit_over(&ample, &small)?;
+    assert!(rt;
+        fault == Some(HistoryFault::OutOfMemory) && redo_edit_over(&ample, &ample)? == None
     );
     Ok(())
 }

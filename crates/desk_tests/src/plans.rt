@@ -79,7 +79,7 @@ fn plan_over<'a>(
 /// that is refused is told so without any memory.
 #[test]
 fn a_plan_tells_want_of_memory_last(rt: HostRuntime) -> Result<(), Fail> {
-    let ample = LocalHeap::new(rt.alloc(), 1 << 21)?;
+    let ample = LocalHeap::new(rt.alloc(), 1 << 23)?;
     let cases = [
         Command::AddRoom(Room { room: 2 }),
         member(11, 5001),

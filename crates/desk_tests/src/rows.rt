@@ -45,11 +45,11 @@ fn joining<A: Allocator + Copy>(alloc: A) -> Result<Edit<A>, AllocError> {
 /// A desk takes all its memory at first, and an edit that is absorbed takes none.
 #[test]
 fn a_desk_has_its_room_from_the_start(rt: HostRuntime) -> Result<(), Fail> {
-    for size in [16usize, 1 << 16, 1 << 18] {
+    for size in [16usize, 1 << 16, 1 << 20] {
         let small = LocalHeap::new(rt.alloc(), size)?;
         assert!(rt; Rows::new(&small, 1).is_err() && small.used() == 0);
     }
-    let ample = LocalHeap::new(rt.alloc(), 1 << 21)?;
+    let ample = LocalHeap::new(rt.alloc(), 1 << 23)?;
     let mut rows = Rows::new(&ample, 1)?;
     let used = ample.used();
     let edit = joining(&ample)?;
@@ -73,7 +73,7 @@ fn roster_over<'a>(ample: &'a LocalHeap, heap: &'a LocalHeap) -> Result<Option<b
 
 #[test]
 fn a_roster_is_refused_or_whole(rt: HostRuntime) -> Result<(), Fail> {
-    let ample = LocalHeap::new(rt.alloc(), 1 << 21)?;
+    let ample = LocalHeap::new(rt.alloc(), 1 << 23)?;
     let small = LocalHeap::new(rt.alloc(), 16)?;
     let refused = roster_over(&ample, &small)?;
     assert!(rt; refused == None && roster_over(&ample, &ample)? == Some(true));

@@ -50,3 +50,14 @@ pub fn a_script_sends_a_frame(alloc: Global) -> Result<Vec<u8>, RunFault>
     )?;
     Ok(out)
 }
+
+/// The rows behind the usual setup.
+pub fn a_script_shows_rows(alloc: Global) -> Result<Vec<u8>, RunFault>
+    ensures { IfOk result (λ out. out.items ≡ codes "ok 1\nok 2\nok 3\nok 4\nok 5\nok 6\nroom 1\nmember 0 10 1 10.0.0.1:5000 pcmu 9001 0 0\nmember 1 11 1 10.0.0.2:5000 pcmu 9002 0 0\nsource 101 10 video\nslot 501 11 0 65535 1000\nsub 501 101\nend 6\n") }
+{
+    let out = output(
+        alloc,
+        b"desk 0 add-room 1\ndesk 0 add-member 10 1 10.0.0.1:5000 pcmu 9001 0 0\ndesk 0 add-member 11 1 10.0.0.2:5000 pcmu 9002 0 0\ndesk 0 add-source 101 10 video\ndesk 0 add-slot 501 11 0 65535 1000\ndesk 0 subscribe 501 101\nshow\n",
+    )?;
+    Ok(out)
+}

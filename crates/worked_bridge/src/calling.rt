@@ -37,7 +37,7 @@ pub fn undoes_no_more(alloc: Global, core: &mut Core) -> Reply
 }
 
 /// Room 1 is there at version 6.
-#[tactic(auto, unfolding(desk_edit::specs::Refusals::refused, desk_edit::specs::Refusals::room_refused))]
+#[tactic(auto, unfolding(desk_edit::specs::Refusals::refused))]
 pub fn adds_no_room_twice(alloc: Global, core: &mut Core) -> Reply
     requires version { core.old.version ≡ 6 }
     requires desk { core.old.desk ≡ small }
@@ -47,7 +47,7 @@ pub fn adds_no_room_twice(alloc: Global, core: &mut Core) -> Reply
 }
 
 /// A full log is told where nothing else stands against a room.
-#[tactic(auto, unfolding(desk_edit::specs::Refusals::refused, desk_edit::specs::Refusals::room_refused))]
+#[tactic(auto, unfolding(desk_edit::specs::Refusals::refused))]
 pub fn adds_no_room_to_a_full_log(alloc: Global, core: &mut Core) -> Reply
     requires version { core.old.version ≡ 1048576 }
     requires desk { core.old.desk ≡ small }
@@ -83,4 +83,45 @@ pub fn undoes(alloc: Global, core: &mut Core) -> Reply
     ensures done { length core.new.done ≡ 5 }
 {
     core.desk(alloc, 0, Call::Undo { last: 6 })
+}
+
+/// A redo has to name the last accepted call.
+pub fn redoes_after_the_last_call_alone(alloc: Global, core: &mut Core) -> Reply
+    requires version { core.old.version ≡ 8 }
+    requires undone { length core.old.undone ≡ 2 }
+    ensures answer { result ≡ Reply.Refused 8 (Refusal.NewerCommand 8) }
+    ensures same { core.new ≡ core.old }
+{
+    core.desk(alloc, 0, Call::Redo { last: 7 })
+}
+
+/// Nothing is undone, so nothing is done again.
+pub fn has_nothing_to_redo(alloc: Global, core: &mut Core) -> Reply
+    requires version { core.old.version ≡ 4 }
+    requires undone { core.old.undone ≡ [] }
+    ensures { result ≡ Reply.Refused 4 Refusal.NothingToRedo }
+{
+    core.desk(alloc, 0, Call::Redo { last: 4 })
+}
+
+/// A redo to a full log.
+pub fn redoes_no_more(alloc: Global, core: &mut Core) -> Reply
+    requires version { core.old.version ≡ 1048576 }
+    requires undone { length core.old.undone ≡ 1 }
+    ensures answer { result ≡ Reply.Refused 1048576 Refusal.LogFull }
+    ensures same { core.new ≡ core.old }
+{
+    core.desk(alloc, 0, Call::Redo { last: 1_048_576 })
+}
+
+/// A redo that is accepted takes the next number.
+pub fn redoes(alloc: Global, core: &mut Core) -> Reply
+    requires version { core.old.version ≡ 8 }
+    requires done { length core.old.done ≡ 4 }
+    requires undone { length core.old.undone ≡ 2 }
+    ensures answer { result ≡ Reply.Accepted 9 }
+    ensures done { length core.new.done ≡ 5 }
+    ensures undone { length core.new.undone ≡ 1 }
+{
+    core.desk(alloc, 0, Call::Redo { last: 8 })
 }

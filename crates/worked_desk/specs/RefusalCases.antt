@@ -1,9 +1,9 @@
 -- Commands, and what stands against them first; with None nothing does, want of memory apart.
 use Rattle.std.specs.Prelude.{List, [], ◌∷◌, Option, None, Some}
 use Rattle.desk_edit.specs.declared.command.Command.{Command}
-use Rattle.desk_edit.specs.declared.command.Refusal.{Refusal}
-use Rattle.desk_edit.specs.declared.command.Refusal.TheVariants.{Exists, NoRoom, NoMember, NoSource, NoSlot, WrongKind, OtherRoom, SsrcTaken, BadValue, Already, Full}
-use Rattle.desk_edit.specs.declared.command.Table.TheVariants.{Rooms, Members, Sources, Slots, RoomAudio}
+use Rattle.desk_edit.specs.declared.refusal.Refusal.{Refusal}
+use Rattle.desk_edit.specs.declared.refusal.Refusal.TheVariants.{Exists, NoRoom, NoMember, NoSource, NoSlot, WrongKind, OtherRoom, SsrcTaken, BadValue, Already, Full}
+use Rattle.desk_edit.specs.declared.refusal.Table.TheVariants.{Rooms, Members, Sources, Slots, RoomAudio}
 use Rattle.worked_desk.specs.Commands.{add_room, add_member, add_video, add_audio, add_slot, remove_slot, subscribe}
 
 -- ---- two rooms

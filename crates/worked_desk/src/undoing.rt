@@ -1,4 +1,4 @@
-//! Edits that are done and taken back: a history of desks.
+//! Edits that are done, taken back and done again: a history of desks.
 
 ghost use Rattle.std.specs.Prelude.{◌≡◌, ◌≢◌, [], ◌∷◌, ◌<◌, true, length, Ok, Err, OnOk, IfOk, IsOk};
 ghost use Rattle.desk_rows.specs.Exchange.{fits};
@@ -9,7 +9,10 @@ ghost use Rattle.worked_desk.specs.Edits.{takes, puts, replaces};
 
 use desk_rows::{Edit, Rows};
 use std::alloc::Global;
-use undo_log::{History, HistoryFault, push_then_undo, undo_all};
+use undo_log::{
+    History, HistoryFault, push_then_undo, redo_all, undo_all, undo_all_then_redo_all,
+    undo_then_redo,
+};
 
 /// A history begins with nothing done and nothing undone.
 pub fn new(alloc: Global, rows: Rows) -> History<Rows>
@@ -114,6 +117,43 @@ pub fn undo_edit(alloc: Global, history: &History<Rows>) -> Result<Edit, History
     history.undo_edit(alloc)
 }
 
+pub fn redo_of_nothing(history: &mut History<Rows>) -> Result<(), HistoryFault>
+    requires { history.old.undone ≡ [] }
+    ensures answer { result ≡ Err HistoryFault.NothingToRedo }
+    ensures same { history.new ≡ history.old }
+{
+    history.redo()
+}
+
+/// The edit that was undone last is done again, and no other one.
+pub fn redo(history: &mut History<Rows>) -> Result<(), HistoryFault>
+    requires state { history.old.state ≡ two_rooms }
+    requires done { history.old.done ≡ takes [] (sub 502 103 ∷ []) ∷ [] }
+    requires undone { history.old.undone ≡ puts [] (room 4 ∷ []) ∷ puts [] (room 3 ∷ []) ∷ [] }
+    ensures accepted { IsOk result }
+    ensures state { OnOk result (history.new.state ≡ three_rooms) }
+    ensures done { OnOk result (history.new.done ≡ takes [] (sub 502 103 ∷ []) ∷ puts [] (room 3 ∷ []) ∷ []) }
+    ensures undone { OnOk result (history.new.undone ≡ puts [] (room 4 ∷ []) ∷ []) }
+{
+    history.redo()
+}
+
+pub fn redo_edit_of_nothing(alloc: Global, history: &History<Rows>) -> Result<Edit, HistoryFault>
+    requires { history.now.undone ≡ [] }
+    ensures { result ≡ Err HistoryFault.NothingToRedo }
+{
+    history.redo_edit(alloc)
+}
+
+/// What a redo would absorb: the edit that was undone last, as it is.
+pub fn redo_edit(alloc: Global, history: &History<Rows>) -> Result<Edit, HistoryFault>
+    requires { history.now.undone ≡ puts [] (room 3 ∷ []) ∷ replaces (slot 502 12 0 ∷ []) (slot 502 12 3 ∷ []) ∷ [] }
+    ensures again { IfOk result (λ edit. edit ≡ replaces (slot 502 12 0 ∷ []) (slot 502 12 3 ∷ [])) }
+    ensures some { result ≢ Err HistoryFault.NothingToRedo }
+{
+    history.redo_edit(alloc)
+}
+
 /// A desk is as it was once its edit is taken back, whatever the edit.
 pub fn comes_back(history: &mut History<Rows>, edit: Edit) -> Result<(), HistoryFault>
     requires desk { history.old.state ≡ two_rooms }
@@ -134,4 +174,33 @@ pub fn all_comes_back(history: &mut History<Rows>)
     ensures undone { history.new.undone ≡ puts [] (room 4 ∷ []) ∷ puts [] (room 3 ∷ []) ∷ [] }
 {
     undo_all(history)
+}
+
+/// A history is as it was once its last edit is taken back and done again.
+pub fn comes_again(history: &mut History<Rows>) -> Result<(), HistoryFault>
+    requires { history.old.done ≡ puts [] (room 3 ∷ []) ∷ [] }
+    ensures accepted { IsOk result }
+    ensures same { history.new ≡ history.old }
+{
+    undo_then_redo(history)
+}
+
+/// All that was undone is done again, what was undone last first.
+pub fn all_is_done_again(history: &mut History<Rows>)
+    requires done { history.old.done ≡ puts [] (room 3 ∷ []) ∷ [] }
+    requires undone { history.old.undone ≡ puts [] (room 5 ∷ []) ∷ puts [] (room 4 ∷ []) ∷ [] }
+    ensures done { history.new.done ≡ puts [] (room 3 ∷ []) ∷ puts [] (room 4 ∷ []) ∷ puts [] (room 5 ∷ []) ∷ [] }
+    ensures undone { history.new.undone ≡ [] }
+{
+    redo_all(history)
+}
+
+/// A desk is as it was once all is taken back and done again.
+pub fn all_comes_again(history: &mut History<Rows>)
+    requires desk { history.old.state ≡ three_rooms }
+    requires undone { history.old.undone ≡ [] }
+    ensures desk { history.new.state ≡ three_rooms }
+    ensures undone { history.new.undone ≡ [] }
+{
+    undo_all_then_redo_all(history)
 }

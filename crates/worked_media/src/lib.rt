@@ -3,5 +3,6 @@
 
 pub mod jitter_buffers;
 pub mod mixes;
+pub mod resends;
 pub mod samples;
 pub mod sources;

@@ -2,7 +2,7 @@ use Rattle.std.proofs.Common.{rules}
 use Rattle.std.specs.Fmt.{digits}
 use Rattle.desk_edit.specs.Commands.{desk_after}
 use Rattle.desk_edit.specs.Calls.{after_call}
-use Rattle.desk_edit.specs.Refusals.{refused, room_refused}
+use Rattle.desk_edit.specs.Refusals.{refused}
 use Rattle.script_text.specs.Output.{outcome_of}
 use Rattle.script_text.specs.Requests.{request_of, words_request}
 use Rattle.script_text.specs.Calls.{call_of}
@@ -10,5 +10,5 @@ use Rattle.script_text.specs.Values.{values_of}
 use Rattle.worked_bridge.proofs.answering.a_script_adds_a_room.Goals as goal
 
 pub returns : goal.returns
-unfolding digits desk_after after_call refused room_refused outcome_of request_of words_request call_of values_of
+unfolding digits desk_after after_call refused outcome_of request_of words_request call_of values_of
 returns c = search rules

@@ -3,7 +3,7 @@ use Rattle.hex.specs.Hex.{encode_with, decode_pairs}
 use Rattle.std.specs.Fmt.{digits}
 use Rattle.desk_edit.specs.Commands.{desk_after}
 use Rattle.desk_edit.specs.Calls.{after_call}
-use Rattle.desk_edit.specs.Refusals.{refused, room_refused, member_refused, source_refused, slot_refused, sub_refused}
+use Rattle.desk_edit.specs.Refusals.{refused}
 use Rattle.script_text.specs.Output.{outcome_of}
 use Rattle.script_text.specs.Requests.{request_of, words_request, frame_of}
 use Rattle.script_text.specs.Calls.{call_of}
@@ -16,5 +16,5 @@ use Rattle.bridge_core.specs.Receivers.{by_index, receivers}
 use Rattle.worked_bridge.proofs.answering.a_script_sends_a_frame.Goals as goal
 
 pub returns : goal.returns
-unfolding digits encode_with decode_pairs desk_after after_call refused room_refused member_refused source_refused slot_refused sub_refused outcome_of request_of words_request call_of values_of address_of field_of ext_of packet_from packets_of fault_of by_index receivers frame_of
+unfolding digits encode_with decode_pairs desk_after after_call refused outcome_of request_of words_request call_of values_of address_of field_of ext_of packet_from packets_of fault_of by_index receivers frame_of
 returns c = search rules

@@ -2,7 +2,7 @@ use Rattle.std.proofs.Common.{rules}
 use Rattle.std.specs.Fmt.{digits}
 use Rattle.desk_edit.specs.Commands.{desk_after}
 use Rattle.desk_edit.specs.Calls.{after_call}
-use Rattle.desk_edit.specs.Refusals.{refused, room_refused, member_refused, source_refused, slot_refused, sub_refused}
+use Rattle.desk_edit.specs.Refusals.{refused}
 use Rattle.script_text.specs.Output.{outcome_of}
 use Rattle.script_text.specs.Requests.{request_of, words_request}
 use Rattle.script_text.specs.Calls.{call_of}
@@ -11,5 +11,5 @@ use Rattle.script_text.specs.Addresses.{address_of, field_of}
 use Rattle.worked_bridge.proofs.answering.a_script_sets_up.Goals as goal
 
 pub returns : goal.returns
-unfolding digits desk_after after_call refused room_refused member_refused source_refused slot_refused sub_refused outcome_of request_of words_request call_of values_of address_of field_of
+unfolding digits desk_after after_call refused outcome_of request_of words_request call_of values_of address_of field_of
 returns c = search rules
