@@ -1,0 +1,98 @@
+#!/usr/bin/env python3
+"""Times operator commands on a full desk, by the release binary over scripts.
+
+usage: time_desk.py [--runs N] [BINARY]
+
+The desk has one room with 1,024 members, 64 audio and 1,984 video sources, 4,096 slots with a subscription each, all
+65,536 gains, a pin and a floor. A command's time is that of a script with many of it, less that of the script that makes
+the desk, over their number; the least of N runs (3 if not said). BINARY is out/confbridge (`rt run` in crates/confbridge
+makes it).
+"""
+
+import argparse
+import pathlib
+import subprocess
+import sys
+import time
+
+TOP = pathlib.Path(__file__).resolve().parent.parent
+
+
+def desk(gains):
+    """The lines that make the desk, with this many gains for each member."""
+    yield "add-room 1"
+    for m in range(1024):
+        yield f"add-member {m} 1 10.0.{m >> 8}.{m & 255}:5000 pcmu {100000 + m} 0 0"
+    for s in range(2048):
+        yield f"add-source {200000 + s} {s % 1024} {'audio' if s < 64 else 'video'}"
+    for s in range(4096):
+        yield f"add-slot {300000 + s} {s % 1024} {s >> 10} 0 0"
+    for s in range(4096):
+        yield f"subscribe {300000 + s} {200064 + s % 1984}"
+    for m in range(1024):
+        for s in range(gains):
+            yield f"set-gain {m} {200000 + s} 100"
+    yield "pin 1 200064"
+    yield "give-floor 1 0"
+
+
+def seconds(binary, lines, runs):
+    """The least time of a script, and how many of its calls were refused."""
+    text = "".join(f"desk 0 {line}\n" for line in lines).encode()
+    best, refused = None, 0
+    for _ in range(runs):
+        start = time.perf_counter()
+        out = subprocess.run([binary, "replay"], input=text, stdout=subprocess.PIPE, check=True).stdout
+        took = time.perf_counter() - start
+        best = took if best is None else min(best, took)
+        refused = sum(line.startswith(b"no ") for line in out.splitlines())
+    return best, refused
+
+
+def pairs(count, first, second):
+    """Two commands in turn, so that each finds what it needs."""
+    for i in range(count):
+        yield first(i)
+        yield second(i)
+
+
+def main():
+    parser = argparse.ArgumentParser(usage=__doc__)
+    parser.add_argument("--runs", type=int, default=3)
+    parser.add_argument("binary", nargs="?", default=str(TOP / "crates/confbridge/out/confbridge"))
+    args = parser.parse_args()
+    full = list(desk(64))
+    base, refused = seconds(args.binary, full, args.runs)
+    calls = len(full)
+    print(f"the desk: {calls} commands in {base:.2f} s, {base / calls * 1e6:.0f} us each, {refused} refused", flush=True)
+    n = 100
+    one_row = {
+        "set-gain over another": [f"set-gain {i} 200000 {i % 2}" for i in range(2 * n)],
+        "mute, unmute": list(pairs(n, lambda i: f"mute {200000 + i}", lambda i: f"unmute {200000 + i}")),
+        "subscribe over another": [f"subscribe {300000 + i} {201000 + i}" for i in range(2 * n)],
+        "unsubscribe, subscribe": list(pairs(n, lambda i: f"unsubscribe {300000 + i}", lambda i: f"subscribe {300000 + i} 200064")),
+        "pin over another": [f"pin 1 {200065 + i}" for i in range(2 * n)],
+        "give-floor over another": [f"give-floor 1 {1 + i}" for i in range(2 * n)],
+        "add-room, remove-room": list(pairs(n, lambda i: f"add-room {2 + i}", lambda i: f"remove-room {2 + i}")),
+        "remove-slot with its sub, undo": [f"remove-slot {300000 + i // 2}" if i % 2 == 0 else f"undo {calls + i}" for i in range(2 * n)],
+        "unsubscribe, undo": [f"unsubscribe {300000 + i // 2}" if i % 2 == 0 else f"undo {calls + i}" for i in range(2 * n)],
+        "refused: add-source of an SSRC in use": [f"add-source {300000 + i} 0 audio" for i in range(2 * n)],
+    }
+    for name, lines in one_row.items():
+        took, no = seconds(args.binary, full + lines, args.runs)
+        print(f"{name}: {(took - base) / len(lines) * 1e6:.0f} us ({no} refused)", flush=True)
+    for gains in (16, 64):
+        part = list(desk(gains))
+        calls = len(part)
+        start, _ = seconds(args.binary, part, args.runs)
+        steps = ["remove-room 1"]
+        before = start
+        for name, line in (("remove-room", "remove-room 1"), ("undo", f"undo {calls + 1}"), ("redo", f"redo {calls + 2}")):
+            steps = steps if name == "remove-room" else steps + [line]
+            took, no = seconds(args.binary, part + steps, args.runs)
+            print(f"{name} with {gains * 1024} gains: {(took - before) * 1e3:.1f} ms ({no} refused)", flush=True)
+            before = took
+
+
+if __name__ == "__main__":
+    sys.exit(main())
