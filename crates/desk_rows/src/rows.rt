@@ -1,6 +1,6 @@
 //! The rows of a desk.
 
-ghost use Rattle.std.specs.Prelude.{◌≡◌, ◌++◌, ◌≤◌, true, IfOk, IfNone, length, map, filter, nat_eq, slice_get, refl};
+ghost use Rattle.std.specs.Prelude.{◌≡◌, ◌++◌, ◌≤◌, true, IfOk, IfNone, length, map, filter, nat_eq, slice_get, vec_capacity, refl};
 ghost use Rattle.std.specs.List.{find};
 ghost use Rattle.desk_rows.specs.declared.row.Row.TheVariants.{Member as MemberRow};
 ghost use Rattle.desk_rows.specs.Row.{has_key};
@@ -69,6 +69,19 @@ impl<A: Allocator + Copy> Rows<A> {
             members: Vec::with_capacity(alloc, MAX_MEMBERS)?,
             index: Vec::with_capacity(alloc, MAX_MEMBERS)?,
             others: Vec::with_capacity(alloc, MAX_OTHERS)?,
+            spare: Vec::with_capacity(alloc, MAX_OTHERS)?,
+        })
+    }
+
+    /// The same rows again, in room of their own.
+    pub fn try_clone(&self, alloc: A) -> Result<Self, AllocError>
+        ensures { IfOk result (λ rows. rows ≡ self.now) }
+    {
+        Ok(Self {
+            bridge_ssrc: self.bridge_ssrc,
+            members: copied(alloc, &self.members, MAX_MEMBERS)?,
+            index: copied(alloc, &self.index, MAX_MEMBERS)?,
+            others: copied(alloc, &self.others, MAX_OTHERS)?,
             spare: Vec::with_capacity(alloc, MAX_OTHERS)?,
         })
     }
@@ -160,6 +173,20 @@ impl<A: Allocator + Copy> Rows<A> {
     {
         numbers_in(alloc, &self.members, room)
     }
+}
+
+/// The same items, in room for so many.
+fn copied<T: Copy, A: Allocator>(
+    alloc: A,
+    items: &[T],
+    room: usize,
+) -> Result<Vec<T, A>, AllocError>
+    ensures items { IfOk result (λ v. v.items ≡ items.now) }
+    ensures room { IfOk result (λ v. room ≤ vec_capacity v) }
+{
+    let mut all = Vec::with_capacity(alloc, room)?;
+    all.extend_from_slice(items)?;
+    Ok(all)
 }
 
 fn is_member_among(members: &[Member], row: &Row) -> bool

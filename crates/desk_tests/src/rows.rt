@@ -60,6 +60,26 @@ fn a_desk_has_its_room_from_the_start(rt: HostRuntime) -> Result<(), Fail> {
     Ok(())
 }
 
+/// Whether a clone over this heap comes, and then whether it is whole.
+fn clone_over<'a>(ample: &'a LocalHeap, heap: &'a LocalHeap) -> Result<Option<bool>, Fail> {
+    let _held = Box::new(heap, 0u8)?;
+    let mut rows = Rows::new(ample, 1)?;
+    rows.absorb(&joining(ample)?);
+    let Ok(copy) = rows.try_clone(heap) else {
+        return Ok(None);
+    };
+    Ok(Some(copy.members().len() == 3))
+}
+
+#[test]
+fn a_clone_is_refused_or_whole(rt: HostRuntime) -> Result<(), Fail> {
+    let ample = LocalHeap::new(rt.alloc(), 1 << 24)?;
+    let small = LocalHeap::new(rt.alloc(), 1 << 20)?;
+    let refused = clone_over(&ample, &small)?;
+    assert!(rt; refused == None && clone_over(&ample, &ample)? == Some(true));
+    Ok(())
+}
+
 /// Whether the roster of room 7 comes over this heap, and then whether it has all three members.
 fn roster_over<'a>(ample: &'a LocalHeap, heap: &'a LocalHeap) -> Result<Option<bool>, Fail> {
     let _held = Box::new(heap, 0u8)?;

@@ -17,6 +17,13 @@ pub fn new(alloc: Global) -> Result<Rows, AllocError>
     Rows::new(alloc, 77)
 }
 
+pub fn try_clone(alloc: Global, rows: &Rows) -> Result<Rows, AllocError>
+    requires { rows.now ≡ two_rooms }
+    ensures { IfOk result (λ copy. copy ≡ two_rooms) }
+{
+    rows.try_clone(alloc)
+}
+
 pub fn bridge_ssrc(rows: &Rows) -> u32
     requires { rows.now ≡ two_rooms }
     ensures { result ≡ 1 }
