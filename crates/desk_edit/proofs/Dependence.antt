@@ -12,7 +12,7 @@ use Rattle.desk_rows.specs.laws.Equal.{its_key, same_row_is}
 use Rattle.desk_rows.specs.Order.{is_in}
 use Rattle.desk_rows.specs.Desk.{Desk, rows_of, holds}
 use Rattle.desk_rows.proofs.Counts.{true_false, witness}
-use Rattle.desk_edit.specs.Levels.{level}
+use Rattle.desk_edit.specs.inner.Levels.{level}
 use Rattle.desk_edit.specs.Depends.{Names, Depends, IsDependent, goes_within, goes_with}
 
 -- a key that passes, where some do

@@ -22,7 +22,7 @@ use Rattle.desk_rows.specs.Keyed.{IsKeyed}
 use Rattle.desk_rows.specs.inner.Found.{finds}
 use Rattle.desk_rows.proofs.KeyedLemmas.{found_passes}
 use Rattle.desk_edit.specs.Depends.{goes_within, goes_with}
-use Rattle.desk_edit.specs.Levels.{level, is_above, found_list}
+use Rattle.desk_edit.specs.inner.Levels.{level, is_above, found_list}
 use Rattle.desk_edit.specs.Refusals.{has}
 use Rattle.desk_edit.proofs.Dependence.{goes_above}
 

@@ -12,3 +12,4 @@ pub mod Taking
 pub mod Relocating
 pub mod Outcomes
 pub mod Claimed
+pub mod ByKinds

@@ -14,7 +14,7 @@ use Rattle.desk_rows.specs.Desk.{Desk, row_at}
 use Rattle.desk_rows.specs.Keyed.{IsKeyed}
 use Rattle.desk_rows.specs.laws.PlaceLaws.{count_next}
 use Rattle.desk_edit.specs.Commands.{into_room, with_member_in}
-use Rattle.desk_edit.specs.Moving.{row_into_room}
+use Rattle.desk_edit.specs.inner.Moving.{row_into_room}
 
 -- a member keeps its number, whatever room it is in
 same_number : (member room : ℕ) (m : Member) → (into_room member room m).member ≡ m.member

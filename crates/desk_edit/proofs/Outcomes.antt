@@ -16,7 +16,7 @@ use Rattle.desk_edit.specs.declared.command.Form.TheVariants.{Put, Remove, Move}
 use Rattle.desk_edit.specs.declared.refusal.Refusal.{Refusal}
 use Rattle.desk_edit.specs.declared.refusal.Refusal.TheVariants as refusals
 use Rattle.desk_edit.specs.Commands.{desk_after, desk_led}
-use Rattle.desk_edit.specs.Edits.{edit_for}
+use Rattle.desk_edit.specs.inner.Edits.{edit_for}
 use Rattle.desk_edit.specs.Forms.{form_of}
 use Rattle.desk_edit.specs.Refusals.{refused, first_case, missing, lacking, rule_cases, full_cases, audio_cases, cases_of}
 use Rattle.desk_edit.proofs.Placing.{Leads, put_leads}

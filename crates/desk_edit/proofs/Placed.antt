@@ -7,7 +7,7 @@ use Rattle.desk_rows.specs.declared.row.Row.TheVariants as rows
 use Rattle.desk_rows.specs.declared.edit.Placed.{Placed}
 use Rattle.desk_rows.specs.Places.{is_at, places_rise, take_at, put_at, can_take, can_put}
 use Rattle.desk_rows.specs.laws.Equal.{row_itself}
-use Rattle.desk_edit.specs.Edits.{placed_from}
+use Rattle.desk_edit.specs.inner.Edits.{placed_from}
 
 -- a member changed, at its place
 abbrev pub changed_at : (Member → Member) → Placed → Placed

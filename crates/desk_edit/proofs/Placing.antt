@@ -33,7 +33,7 @@ use Rattle.desk_rows.proofs.Judging.{bridge_same, each_claim, own_claims, plain_
 use Rattle.desk_rows.proofs.Finding.{is_found, found_there, found_one, found_nothing, keyed_good}
 use Rattle.desk_rows.proofs.ExchangeLemmas.{among_others}
 use Rattle.desk_edit.specs.Commands.{with_put}
-use Rattle.desk_edit.specs.Edits.{puts_other, puts_member, replaces, puts_in_place, puts}
+use Rattle.desk_edit.specs.inner.Edits.{puts_other, puts_member, replaces, puts_in_place, puts}
 use Rattle.desk_edit.specs.Refusals.{has, is_claimed, first_case, is_replaced, is_full, put_cases, table_of}
 use Rattle.desk_edit.specs.declared.refusal.Refusal.TheVariants as refusals
 use Rattle.desk_edit.proofs.Cases.{NoneHolds}

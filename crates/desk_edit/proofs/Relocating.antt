@@ -35,8 +35,8 @@ use Rattle.desk_rows.proofs.Counts.{true_false, two_alls}
 use Rattle.desk_rows.proofs.Finding.{is_found, found_there, keyed_good, was_there}
 use Rattle.desk_rows.proofs.Judging.{each_claim, own_claims}
 use Rattle.desk_edit.specs.Commands.{into_room, with_member_in, with_moved}
-use Rattle.desk_edit.specs.Edits.{placed_from, placed_in, moves_member}
-use Rattle.desk_edit.specs.Moving.{row_into_room}
+use Rattle.desk_edit.specs.inner.Edits.{placed_from, placed_in, moves_member}
+use Rattle.desk_edit.specs.inner.Moving.{row_into_room}
 use Rattle.desk_edit.specs.Refusals.{has, first_case, is_audio_of, move_cases}
 use Rattle.desk_edit.proofs.Asked.{not_false}
 use Rattle.desk_edit.proofs.Cases.{none_holds}

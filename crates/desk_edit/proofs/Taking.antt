@@ -21,7 +21,7 @@ use Rattle.desk_rows.specs.laws.OrderLaws.{at_each, from_each, is_in-filter, in_
 use Rattle.desk_rows.specs.laws.Laws.{Apt, good_parts, good_order}
 use Rattle.desk_rows.proofs.Counts.{true_false, witness, two_alls, before_count, some_count, count_some}
 use Rattle.desk_edit.specs.Depends.{Names, Depends, goes_with, without}
-use Rattle.desk_edit.specs.Edits.{placed_from, takes_all}
+use Rattle.desk_edit.specs.inner.Edits.{placed_from, takes_all}
 use Rattle.desk_edit.proofs.Dependence.{dependent_goes, only_dependent}
 use Rattle.desk_edit.proofs.Fitting.{Carries, count_grows, stays_calm}
 use Rattle.desk_edit.proofs.Placed.{taken_all, can_take_all, all_rise}

@@ -1,9 +1,7 @@
 pub mod Told
 pub mod Forms
 pub mod Depends
-pub mod Levels
 pub mod Commands
 pub mod Refusals
-pub mod Moving
-pub mod Edits
 pub mod Calls
+pub mod inner

@@ -1,19 +1,20 @@
 //! The edits that carry commands out.
 
-ghost use Rattle.std.specs.Prelude.{◌≡◌, ◌∷◌, [], map, filter, length, IfOk, nat_eq, not};
+ghost use Rattle.std.specs.Prelude.{◌≡◌, ◌++◌, OnOk, ◌∷◌, [], map, filter, length, IfOk, nat_eq, not};
 ghost use Rattle.desk_rows.specs.declared.row.Row.TheVariants.{Member as MemberRow};
 ghost use Rattle.desk_rows.specs.Row.{names, key_of};
+ghost use Rattle.desk_rows.specs.Kinds.{is_of};
 ghost use Rattle.desk_rows.specs.Desk.{are_together, good, row_at};
 ghost use Rattle.desk_edit.specs.Depends.{goes_with};
 ghost use Rattle.desk_edit.specs.Commands.{with_member_in};
-ghost use Rattle.desk_edit.specs.Levels.{found_list};
-ghost use Rattle.desk_edit.specs.Edits.{puts_other, puts_member, replaces, puts_in_place, puts, placed_from, takes_all, placed_in, moves_member, edit_for};
+ghost use Rattle.desk_edit.specs.inner.Levels.{found_list};
+ghost use Rattle.desk_edit.specs.inner.Edits.{puts_other, puts_member, replaces, puts_in_place, puts, placed_from, takes_all, placed_in, moves_member, edit_for};
 
 use crate::command::Form;
-use crate::going::{Going, level};
+use crate::going::{Going, can_go, level};
 use crate::moving::Moved;
 use crate::picking::{Picked, all_placed_in, members_picked};
-use desk_rows::{Edit, Key, Member, Part, Placed, Replaced, Row, Rows};
+use desk_rows::{Edit, Key, Kind, Member, Part, Placed, Replaced, Row, Rows};
 use std::alloc::{AllocError, Allocator};
 
 fn one_row<A: Allocator>(alloc: A, row: Row) -> Result<Vec<Row, A>, AllocError>
@@ -116,6 +117,24 @@ fn going_of<A: Allocator + Copy>(
         .collect(alloc)
 }
 
+/// Appends the rows of this kind that go. A kind of which none can go isn't looked at.
+fn append_going<A: Allocator + Copy>(
+    alloc: A,
+    rows: &Rows<A>,
+    key: Key,
+    kind: Kind,
+    out: &mut Vec<Row, A>,
+) -> Result<(), AllocError>
+    ensures { OnOk result (out.new.items ≡ out.old.items ++ filter (goes_with rows.now key) (filter (is_of kind) rows.now.others)) }
+{
+    if !can_go(kind, key.kind()) {
+        return Ok(());
+    }
+    let going = Going::of(rows, key);
+    let these = going_of(alloc, &going, rows.others_of(kind))?;
+    out.extend_from_slice(&these)
+}
+
 fn all_going<A: Allocator + Copy>(
     alloc: A,
     rows: &Rows<A>,
@@ -123,8 +142,17 @@ fn all_going<A: Allocator + Copy>(
 ) -> Result<Vec<Row, A>, AllocError>
     ensures { IfOk result (λ v. v.items ≡ filter (goes_with rows.now key) rows.now.others) }
 {
-    let going = Going::of(rows, key);
-    going_of(alloc, &going, rows.others())
+    rows.known();
+    let mut out = Vec::new(alloc);
+    append_going(alloc, rows, key, Kind::Room, &mut out)?;
+    append_going(alloc, rows, key, Kind::Source, &mut out)?;
+    append_going(alloc, rows, key, Kind::Slot, &mut out)?;
+    append_going(alloc, rows, key, Kind::Sub, &mut out)?;
+    append_going(alloc, rows, key, Kind::Mute, &mut out)?;
+    append_going(alloc, rows, key, Kind::Gain, &mut out)?;
+    append_going(alloc, rows, key, Kind::Pin, &mut out)?;
+    append_going(alloc, rows, key, Kind::Floor, &mut out)?;
+    Ok(out)
 }
 
 /// The other rows that go: of a kind that no row names, the row of the key alone.
@@ -190,7 +218,7 @@ fn move_member<A: Allocator + Copy>(
 }
 
 /// The edit that carries out what a command does to rows.
-#[tactic(auto, unfolding(crate::specs::Edits::edit_for))]
+#[tactic(auto, unfolding(crate::specs::inner::Edits::edit_for))]
 pub(crate) fn edit_for<A: Allocator + Copy>(
     alloc: A,
     rows: &Rows<A>,

@@ -6,7 +6,7 @@ ghost use Rattle.desk_rows.specs.Row.{has_key};
 ghost use Rattle.desk_rows.specs.Desk.{rows_of};
 ghost use Rattle.desk_rows.specs.inner.Found.{finds};
 ghost use Rattle.desk_edit.specs.Depends.{goes_within, goes_with};
-ghost use Rattle.desk_edit.specs.Levels.{level, is_above};
+ghost use Rattle.desk_edit.specs.inner.Levels.{level, can_go, is_above};
 ghost use Rattle.desk_edit.specs.Refusals.{has};
 
 use crate::asking::has;
@@ -23,6 +23,22 @@ pub(crate) fn level(kind: Kind) -> u32
         Kind::Source => 2,
         Kind::Slot => 2,
         _ => 3,
+    }
+}
+
+/// Whether rows of this kind can go with a row of another.
+pub(crate) fn can_go(kind: Kind, top: Kind) -> bool
+    ensures { result ≡ can_go kind top }
+{
+    match top {
+        Kind::Room => true,
+        Kind::Member => !matches!(kind, Kind::Room),
+        Kind::Source => matches!(
+            kind,
+            Kind::Source | Kind::Sub | Kind::Mute | Kind::Gain | Kind::Pin
+        ),
+        Kind::Slot => matches!(kind, Kind::Slot | Kind::Sub),
+        _ => true,
     }
 }
 

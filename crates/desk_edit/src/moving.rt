@@ -4,7 +4,7 @@ ghost use Rattle.std.specs.Prelude.{◌≡◌, not};
 ghost use Rattle.desk_rows.specs.Row.{names};
 ghost use Rattle.desk_rows.specs.Desk.{are_together};
 ghost use Rattle.desk_edit.specs.Commands.{into_room, with_member_in};
-ghost use Rattle.desk_edit.specs.Moving.{row_into_room};
+ghost use Rattle.desk_edit.specs.inner.Moving.{row_into_room};
 
 use desk_rows::{Key, Look, Member, Row, Rows, are_together};
 use std::alloc::Allocator;

@@ -1,8 +1,8 @@
 //! Members picked with their places.
 
 ghost use Rattle.std.specs.Prelude.{◌≡◌, ◌++◌, [], ◌∷◌, map, IfOk, OnOk};
-ghost use Rattle.desk_edit.specs.Edits.{placed_from, placed_in};
-ghost use Rattle.desk_edit.specs.Moving.{picks};
+ghost use Rattle.desk_edit.specs.inner.Edits.{placed_from, placed_in};
+ghost use Rattle.desk_edit.specs.inner.Moving.{picks};
 
 use crate::going::Going;
 use desk_rows::{Key, Member, Placed, Row, Rows};

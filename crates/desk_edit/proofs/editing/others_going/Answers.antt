@@ -1,7 +1,7 @@
 use Rattle.std.proofs.Common.{◌≡◌, List, ap, sym, subst, ◌∙◌}
 use Rattle.std.specs.Prelude.{IfOk}
 use Rattle.desk_rows.specs.declared.row.Row.{Row}
-use Rattle.desk_edit.specs.Levels.{level, found_list}
+use Rattle.desk_edit.specs.inner.Levels.{level, found_list}
 use Rattle.desk_edit.proofs.GoingLemmas.{goes_alone}
 use Rattle.desk_edit.proofs.editing.others_going.Goals as goal
 

@@ -1,7 +1,7 @@
 use Rattle.std.proofs.Common.{◌≡◌, true, sym, ◌∙◌, subst}
 use Rattle.desk_rows.specs.Desk.{Desk, good}
 use Rattle.desk_rows.specs.laws.Laws.{fits_parts, after_fits}
-use Rattle.desk_edit.specs.Edits.{edit_for}
+use Rattle.desk_edit.specs.inner.Edits.{edit_for}
 use Rattle.desk_edit.specs.Forms.{form_of}
 use Rattle.desk_edit.proofs.Outcomes.{planned}
 use Rattle.desk_edit.proofs.laws.good_desks_stay_good.Goals as goal

@@ -1,7 +1,7 @@
 use Rattle.std.proofs.Common.{ap, sym, ◌∙◌}
 use Rattle.desk_rows.specs.declared.row.Row.TheVariants.{Member}
 use Rattle.desk_edit.specs.Depends.{goes_with}
-use Rattle.desk_edit.specs.Moving.{picks}
+use Rattle.desk_edit.specs.inner.Moving.{picks}
 use Rattle.desk_edit.proofs.picking.picks.Goals as goal
 
 pub returns-in-With : goal.returns-in-With

@@ -1,6 +1,6 @@
 use Rattle.std.proofs.Common.{ap, ◌∙◌}
 use Rattle.desk_rows.specs.Exchange.{fits, after}
-use Rattle.desk_edit.specs.Edits.{edit_for}
+use Rattle.desk_edit.specs.inner.Edits.{edit_for}
 use Rattle.desk_edit.proofs.Outcomes.{planned, never_memory}
 use Rattle.desk_edit.proofs.planning.plan.Goals as goal
 

@@ -1,5 +1,5 @@
 use Rattle.std.proofs.Common.{ap, sym, ◌∙◌}
-use Rattle.desk_edit.specs.Moving.{row_into_room}
+use Rattle.desk_edit.specs.inner.Moving.{row_into_room}
 use Rattle.desk_edit.proofs.Moves.{found_moved, keyed_moved}
 use Rattle.desk_edit.proofs.moving.MovedLook.look.Goals as goal
 

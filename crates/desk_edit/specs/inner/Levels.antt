@@ -1,5 +1,5 @@
 -- How deep rows stand over one another. No public clause cites this.
-use Rattle.std.specs.Prelude.{ℕ, Bool, nat_lt, List, [], ◌∷◌, Option, None, Some}
+use Rattle.std.specs.Prelude.{ℕ, Bool, true, false, nat_lt, List, [], ◌∷◌, Option, None, Some}
 use Rattle.desk_rows.specs.declared.row.Row.{Row}
 use Rattle.desk_rows.specs.declared.row.Key.{Key}
 use Rattle.desk_rows.specs.declared.row.Kind.{Kind}
@@ -17,6 +17,22 @@ level _ = 3
 -- whether a row with this name may stand above that of a key
 abbrev pub is_above : Key → Key → Bool
 is_above name key = nat_lt (level (kind_of key)) (level (kind_of name))
+
+-- whether rows of a kind can go with a row of another: the one stands on the other, directly or through others, or is it
+abbrev pub can_go : Kind → Kind → Bool
+can_go kind kinds.Room = true
+can_go kinds.Room kinds.Member = false
+can_go kind kinds.Member = true
+can_go kinds.Source kinds.Source = true
+can_go kinds.Sub kinds.Source = true
+can_go kinds.Mute kinds.Source = true
+can_go kinds.Gain kinds.Source = true
+can_go kinds.Pin kinds.Source = true
+can_go kind kinds.Source = false
+can_go kinds.Slot kinds.Slot = true
+can_go kinds.Sub kinds.Slot = true
+can_go kind kinds.Slot = false
+can_go kind _ = true
 
 -- the row that was found, if there is one
 abbrev pub found_list : Option Row → List Row
