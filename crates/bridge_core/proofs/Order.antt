@@ -19,7 +19,7 @@ use Rattle.bridge_core.specs.declared.lane_place.LanePlace.{LanePlace}
 use Rattle.bridge_core.specs.declared.receivers.Receiver.{Receiver}
 use Rattle.bridge_core.specs.Choice.{comes_from}
 use Rattle.bridge_core.specs.Receivers.{slot_in, slots_of, chooses, index_count, by_index, by_place, receiver, receivers, receivers_in}
-use Rattle.bridge_core.specs.Takers.{taker}
+use Rattle.bridge_core.specs.inner.Takers.{taker}
 use Rattle.bridge_core.proofs.GoodDesk.{index_in_range}
 use Rattle.bridge_core.proofs.Subscribers.{filter-front, mine, takers}
 use Rattle.bridge_core.proofs.Seats.{sorted_by_index}

@@ -27,7 +27,7 @@ use Rattle.bridge_core.specs.declared.receivers.Receiver.{Receiver}
 use Rattle.bridge_core.specs.declared.receivers.Seated.{Seated}
 use Rattle.bridge_core.specs.Choice.{address_in, member_address}
 use Rattle.bridge_core.specs.Receivers.{index_count, by_index, by_place, receiver}
-use Rattle.bridge_core.specs.Takers.{seat_at, seat}
+use Rattle.bridge_core.specs.inner.Takers.{seat_at, seat}
 use Rattle.bridge_core.proofs.Distinct.{at, Distinct, groups, past}
 use Rattle.bridge_core.proofs.GoodDesk.{members_distinct}
 

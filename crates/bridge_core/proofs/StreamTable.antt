@@ -10,7 +10,7 @@ use Rattle.bridge_core.specs.Prepared.{PreparedOf}
 use Rattle.bridge_core.specs.Streams.{committed, state_of}
 use Rattle.desk_rows.specs.declared.row.Slot.{Slot as SlotRow}
 use Rattle.bridge_core.specs.LaneState.{stream_at}
-use Rattle.bridge_core.specs.StreamTable.{IsPlace}
+use Rattle.bridge_core.specs.inner.StreamTable.{IsPlace}
 use Rattle.bridge_core.specs.Readies.{current, kept_after_one}
 use Rattle.bridge_core.proofs.Distinct.{past}
 

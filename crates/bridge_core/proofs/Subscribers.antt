@@ -21,7 +21,7 @@ use Rattle.bridge_core.specs.Choice.{subscribed, member_of, same_number, is_mute
 use Rattle.bridge_core.specs.OwnStreams.{is_mine}
 use Rattle.bridge_core.specs.Receivers.{slot_in, slots_of, chooses}
 use Rattle.bridge_core.specs.Reach.{slot_of}
-use Rattle.bridge_core.specs.Takers.{unless_of, taker}
+use Rattle.bridge_core.specs.inner.Takers.{unless_of, taker}
 use Rattle.bridge_core.proofs.Distinct.{at}
 use Rattle.bridge_core.proofs.Reached.{slot_row}
 

@@ -9,11 +9,9 @@ pub mod Choice
 pub mod OwnStreams
 pub mod Receivers
 pub mod Reach
-pub mod Takers
 pub mod Sent
 pub mod Lanes
 pub mod LaneState
-pub mod StreamTable
 pub mod Readies
 pub mod Steps
 pub mod Calls
@@ -23,3 +21,4 @@ pub mod EveryLane
 pub mod Headline
 pub mod Following
 pub mod UndoRuns
+pub mod inner

@@ -3,7 +3,7 @@
 ghost use Rattle.std.specs.Prelude.{◌≡◌};
 ghost use Rattle.bridge_core.specs.Choice.{member_of, same_number, is_muted, address_in, member_address, is_address, comes_from};
 ghost use Rattle.bridge_core.specs.Reach.{slot_of};
-ghost use Rattle.bridge_core.specs.Takers.{slot_for};
+ghost use Rattle.bridge_core.specs.inner.Takers.{slot_for};
 
 use desk_rows::{Key, Row, Rows, Slot};
 use rtp_codec::Address;

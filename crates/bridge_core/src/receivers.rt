@@ -6,7 +6,7 @@ ghost use Rattle.desk_rows.specs.declared.row.Kind.TheVariants as kinds;
 ghost use Rattle.desk_rows.specs.Kinds.{is_of};
 ghost use Rattle.bridge_core.specs.Choice.{comes_from};
 ghost use Rattle.bridge_core.specs.Receivers.{by_place, receivers_in};
-ghost use Rattle.bridge_core.specs.Takers.{taker, seat};
+ghost use Rattle.bridge_core.specs.inner.Takers.{taker, seat};
 
 use crate::choosing::{comes_from, member_address, slot_for};
 use crate::lane_place::LanePlace;

@@ -6,7 +6,7 @@ ghost use Rattle.std.specs.Option.{option_copied};
 ghost use Rattle.bridge_core.specs.Streams.{state_of};
 ghost use Rattle.bridge_core.specs.LaneState.{stream_at};
 ghost use Rattle.bridge_core.specs.Readies.{kept_after_one};
-ghost use Rattle.bridge_core.specs.StreamTable.{IsPlace};
+ghost use Rattle.bridge_core.specs.inner.StreamTable.{IsPlace};
 
 use crate::stream::{OutPacket, Prepared, Stream};
 use desk_rows::Slot;

@@ -4,7 +4,7 @@ use Rattle.std.proofs.lemmas.List.{get_or_default}
 use Rattle.bridge_core.specs.declared.stream.Stream.{Stream}
 use Rattle.bridge_core.specs.Streams.{committed}
 use Rattle.bridge_core.specs.LaneState.{stream_at}
-use Rattle.bridge_core.specs.StreamTable.{IsPlace}
+use Rattle.bridge_core.specs.inner.StreamTable.{IsPlace}
 use Rattle.bridge_core.proofs.StreamTable.{replaced, added, rise_with}
 use Rattle.bridge_core.proofs.stream_table.commit_one.Given.{Over}
 use Rattle.bridge_core.proofs.stream_table.commit_one.Goals as goal

@@ -1,0 +1,2 @@
+pub mod StreamTable
+pub mod Takers
