@@ -19,7 +19,7 @@ use Rattle.script_text.specs.Requests.{Desk as DeskRequest, Item, Show}
 use Rattle.script_text.specs.Text.{reply_text, sent_text}
 use Rattle.script_text.specs.RowLines.{show_text}
 use Rattle.script_text.specs.Bridge.{answer_call, Bridge, first_desk, answer_text, after, text_of, opening_bridge}
-use Rattle.script_text.specs.Steps.{wants_memory, Stands}
+use Rattle.script_text.specs.inner.Steps.{wants_memory, Stands}
 
 not_memory : (at : ℕ) (why : Refusal) → wants_memory (Refused at why) ≡ false → why ≡ OutOfMemory → ⊥
 not_memory at why told e = absurd (true_false (subst (λ (w : Refusal). wants_memory (Refused at w) ≡ false) e told))

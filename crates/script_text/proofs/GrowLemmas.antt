@@ -9,7 +9,7 @@ use Rattle.rtp_codec.specs.declared.address.Address.{Address}
 use Rattle.script_text.specs.Addresses.{address_text}
 use Rattle.script_text.specs.Text.{Word, word_text}
 use Rattle.std.specs.declared.alloc.AllocError.{AllocError}
-use Rattle.script_text.specs.Growing.{Room, Grows}
+use Rattle.script_text.specs.inner.Growing.{Room, Grows}
 
 -- nothing
 pub grows_none : (a : Room) → Grows a a [] (Ok tt)

@@ -7,7 +7,7 @@ use Rattle.script_text.specs.declared.fault.ParseFault.{ParseFault}
 use Rattle.script_text.specs.declared.fault.ParseFault.TheVariants as errors
 use Rattle.std.specs.Borrow.{Bor}
 use Rattle.script_text.specs.Words.{◌>>=◌, Fails}
-use Rattle.script_text.specs.Cursor.{words_in}
+use Rattle.script_text.specs.inner.Cursor.{words_in}
 use Rattle.script_text.specs.Requests.{some_packets}
 use Rattle.script_text.proofs.Cuts.{parts_some}
 use Rattle.script_text.specs.Packets.{packet_of, packets_of}

@@ -8,8 +8,8 @@ use Rattle.script_text.specs.declared.fault.RunFault.TheVariants as errors
 use Rattle.script_text.specs.Lines.{whole, ended}
 use Rattle.script_text.specs.Output.{Outcome, nothing, told, stopped, outcome_of, output_of, ended_output_of, RunEnds}
 use Rattle.script_text.specs.Bridge.{Bridge, opening_bridge}
-use Rattle.script_text.specs.Steps.{Stands}
-use Rattle.script_text.specs.Steps.{Held, Place, place_of, opening, IsOpening, IsMidLine, to_come, Goes, StepFails, Steps, FinishEnds, Finishes}
+use Rattle.script_text.specs.inner.Steps.{Stands}
+use Rattle.script_text.specs.inner.Steps.{Held, Place, place_of, opening, IsOpening, IsMidLine, to_come, Goes, StepFails, Steps, FinishEnds, Finishes}
 use Rattle.script_text.proofs.Known.{Appends-then, Appends-same, Appends-none}
 use Rattle.script_text.proofs.StepLemmas.{goes_then, fails_then, goes_none, none_ended}
 

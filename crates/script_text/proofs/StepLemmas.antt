@@ -15,7 +15,7 @@ use Rattle.bridge_core.specs.Steps.{CoreOf}
 use Rattle.script_text.specs.Requests.{request_of}
 use Rattle.script_text.specs.Lines.{parts_of, lines_by, whole, ended}
 use Rattle.script_text.specs.Output.{Outcome, nothing, told, stopped, continues, outcome_of}
-use Rattle.script_text.specs.Steps.{Held, place_of, Place, to_come, Goes, StepFails, StepEnds, LineEnds, FinishEnds}
+use Rattle.script_text.specs.inner.Steps.{Held, place_of, Place, to_come, Goes, StepFails, StepEnds, LineEnds, FinishEnds}
 
 abbrev pub NoLf : List ℕ → Type 0
 NoLf octets = All (λ b. eqb b 10 ≡ false) octets

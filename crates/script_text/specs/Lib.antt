@@ -6,16 +6,12 @@ pub mod Values
 pub mod Packets
 pub mod Calls
 pub mod Requests
-pub mod Cursor
 pub mod Text
 pub mod RowLines
 pub mod Judged
-pub mod Shown
-pub mod Growing
 pub mod Lines
 pub mod Bridge
 pub mod Output
 pub mod Scripts
-pub mod Steps
-pub mod Pieces
 pub mod Status
+pub mod inner

@@ -5,8 +5,8 @@ ghost use Rattle.std.specs.List.{flat_map};
 ghost use Rattle.bridge_core.specs.Sent.{sent_of, input_of};
 ghost use Rattle.script_text.specs.Text.{sent_text};
 ghost use Rattle.script_text.specs.Requests.{Desk, Item as ItemRequest, Show as ShowRequest};
-ghost use Rattle.script_text.specs.Cursor.{view};
-ghost use Rattle.script_text.specs.Steps.{HasLane, wants_memory, AnswersRequest, AnswersLine};
+ghost use Rattle.script_text.specs.inner.Cursor.{view};
+ghost use Rattle.script_text.specs.inner.Steps.{HasLane, wants_memory, AnswersRequest, AnswersLine};
 
 use crate::fault::{ParseFault, RunFault};
 use crate::line::{Line, parse_line};

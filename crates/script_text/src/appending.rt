@@ -6,8 +6,8 @@ ghost use Rattle.script_text.specs.Addresses.{address_text};
 ghost use Rattle.script_text.specs.Kinds.{codec_text, media_text};
 ghost use Rattle.script_text.specs.Values.{value_text};
 ghost use Rattle.script_text.specs.Text.{word_text, line_text, fixed};
-ghost use Rattle.script_text.specs.Shown.{said};
-ghost use Rattle.script_text.specs.Growing.{room_of, Grows};
+ghost use Rattle.script_text.specs.inner.Shown.{said};
+ghost use Rattle.script_text.specs.inner.Growing.{room_of, Grows};
 
 use crate::value::Value;
 use desk_rows::{Codec, Media};

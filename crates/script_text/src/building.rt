@@ -2,7 +2,7 @@
 
 ghost use Rattle.std.specs.Prelude.{◌≡◌, ◌≢◌, ◌≤◌, map};
 ghost use Rattle.script_text.specs.Words.{Gives};
-ghost use Rattle.script_text.specs.Cursor.{words_in};
+ghost use Rattle.script_text.specs.inner.Cursor.{words_in};
 ghost use Rattle.script_text.specs.Values.{field_of};
 ghost use Rattle.script_text.specs.Calls.{shape_of, call_with, call_of, spoken_words};
 

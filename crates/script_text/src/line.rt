@@ -4,7 +4,7 @@ ghost use Rattle.std.specs.Prelude.{◌≡◌, ◌≤◌, ◌+◌, ◌&&◌, nat
 ghost use Rattle.std.specs.List.{list_all};
 ghost use Rattle.frame_gate.specs.Frame.{fault_of};
 ghost use Rattle.script_text.specs.Words.{Gives};
-ghost use Rattle.script_text.specs.Cursor.{words_in, size_of, view, sighting};
+ghost use Rattle.script_text.specs.inner.Cursor.{words_in, size_of, view, sighting};
 ghost use Rattle.script_text.specs.Values.{field_of};
 ghost use Rattle.script_text.specs.Requests.{some_packets, framed, frame_of, desk_of, show_of, front_of, request_with, words_request, request_of};
 

@@ -5,7 +5,7 @@ ghost use Rattle.std.specs.List.{slice_split};
 ghost use Rattle.script_text.specs.Words.{Gives};
 ghost use Rattle.script_text.specs.Packets.{octets_or, packet_from, packet_of, packets_of};
 ghost use Rattle.hex.specs.Hex.{decode_of};
-ghost use Rattle.script_text.specs.Cursor.{are_parts, words_in, size_of, TakesPacket};
+ghost use Rattle.script_text.specs.inner.Cursor.{are_parts, words_in, size_of, TakesPacket};
 
 use crate::fault::{Fault, ParseFault};
 use crate::line::LINE_LIMIT;

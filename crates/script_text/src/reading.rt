@@ -2,7 +2,7 @@
 
 ghost use Rattle.std.specs.Prelude.{◌≡◌, ◌≢◌, ◌≤◌, length, map, IfOk};
 ghost use Rattle.script_text.specs.Words.{Gives};
-ghost use Rattle.script_text.specs.Cursor.{words_in, size_of};
+ghost use Rattle.script_text.specs.inner.Cursor.{words_in, size_of};
 ghost use Rattle.script_text.specs.Values.{field_of, values_of};
 
 use crate::fault::ParseFault;

@@ -3,7 +3,7 @@
 ghost use Rattle.std.specs.Prelude.{◌≡◌, ◌≢◌, ◌⊎◌, ℕ, ◌^◌, ◌<◌, ◌≤◌, length, IfSome, IfOk};
 ghost use Rattle.script_text.specs.Output.{output_of, RunEnds};
 ghost use Rattle.script_text.specs.declared.fault.Fault.{Fault};
-ghost use Rattle.script_text.specs.Steps.{IsOpening, IsMidLine};
+ghost use Rattle.script_text.specs.inner.Steps.{IsOpening, IsMidLine};
 
 use crate::fault::RunFault;
 use crate::script::Script;

@@ -29,7 +29,7 @@ pub(crate) struct Script<A: Allocator + Copy = Global> {
 impl<A: Allocator + Copy> Model for Script<A> {
     ghost use Rattle.std.specs.Prelude.{◌≡◌, ◌==◌, false};
     ghost use Rattle.std.specs.List.{All};
-    ghost use Rattle.script_text.specs.Steps.{HasLane, Held};
+    ghost use Rattle.script_text.specs.inner.Steps.{HasLane, Held};
 
     ghost Value = { Held };
 
@@ -49,7 +49,7 @@ fn without_cr(line: &[u8]) -> &[u8]
 }
 
 impl<A: Allocator + Copy> Script<A> {
-    ghost use Rattle.script_text.specs.Steps.{IsOpening, IsMidLine, Keeps, Steps, Finishes};
+    ghost use Rattle.script_text.specs.inner.Steps.{IsOpening, IsMidLine, Keeps, Steps, Finishes};
 
     /// A script of which nothing has come.
     pub(crate) fn new(alloc: A) -> Result<Script<A>, AllocError>

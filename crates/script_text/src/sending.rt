@@ -1,7 +1,7 @@
 //! Writing all of some octets, with what went out before an error known.
 
 ghost use Rattle.std.specs.Prelude.{◌≡◌, ◌≢◌, ◌⊎◌, ◌^◌};
-ghost use Rattle.script_text.specs.Steps.{Sends};
+ghost use Rattle.script_text.specs.inner.Steps.{Sends};
 
 use crate::fault::RunFault;
 use crate::sink::{Portion, Sink};

@@ -3,7 +3,7 @@
 ghost use Rattle.std.specs.Prelude.{◌≡◌, ◌++◌, OnOk};
 ghost use Rattle.std.specs.List.{flat_map};
 ghost use Rattle.script_text.specs.Text.{value, line_text};
-ghost use Rattle.script_text.specs.Shown.{said};
+ghost use Rattle.script_text.specs.inner.Shown.{said};
 ghost use Rattle.script_text.specs.RowLines.{row_words, kind_lines, all_kinds, show_text};
 ghost use Rattle.script_text.specs.declared.value.Value.TheVariants.{U32};
 

@@ -1,7 +1,7 @@
 //! Where the output of a script goes.
 
 ghost use Rattle.std.specs.Prelude.{◌≡◌, ◌⊎◌, ℕ, ◌+◌, ◌<◌, List, length, Option, Some, refl};
-ghost use Rattle.script_text.specs.Pieces.{IsPortion, IsLeft, portion_of};
+ghost use Rattle.script_text.specs.inner.Pieces.{IsPortion, IsLeft, portion_of};
 ghost use Rattle.script_text.specs.declared.sink.Portion.TheVariants as portions;
 
 use std::alloc::Allocator;

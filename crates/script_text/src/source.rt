@@ -1,7 +1,7 @@
 //! Where the octets of a script come from.
 
 ghost use Rattle.std.specs.Prelude.{◌≡◌, ◌≢◌, ℕ, ◌+◌, ◌<◌, ◌≤◌, List, length, Option, Some};
-ghost use Rattle.script_text.specs.Pieces.{IsPiece, piece_of};
+ghost use Rattle.script_text.specs.inner.Pieces.{IsPiece, piece_of};
 ghost use Rattle.script_text.specs.declared.source.Piece.TheVariants as pieces;
 
 use std::io;

@@ -3,7 +3,7 @@
 ghost use Rattle.std.specs.Prelude.{◌≡◌, ◌≢◌, ◌==◌, ◌≤◌, ◌∷◌, length, position, IfOk};
 ghost use Rattle.std.specs.Option.{option_map};
 ghost use Rattle.script_text.specs.Words.{Gives, cut_of, words_of, word_at, none_left};
-ghost use Rattle.script_text.specs.Cursor.{words_in, size_of};
+ghost use Rattle.script_text.specs.inner.Cursor.{words_in, size_of};
 
 use crate::fault::{Fault, ParseFault};
 

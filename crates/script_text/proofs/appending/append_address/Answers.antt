@@ -1,5 +1,5 @@
 use Rattle.std.proofs.Common.{◌++◌, decimal, get_or, Ok, Err}
-use Rattle.script_text.specs.Growing.{room_of}
+use Rattle.script_text.specs.inner.Growing.{room_of}
 use Rattle.script_text.proofs.GrowLemmas.{grows_then, grows_stop, grows_same, grows_err, half, address_parts}
 use Rattle.script_text.proofs.appending.append_address.Goals as goal
 

@@ -1,6 +1,6 @@
 use Rattle.std.proofs.Common.{◌∷◌, [], ◌+◌, ◌/◌, ◌%◌, take, drop, get_or, Ok, Err}
 use Rattle.hex.specs.Hex.{encode_lower, lower_digits}
-use Rattle.script_text.specs.Growing.{room_of}
+use Rattle.script_text.specs.inner.Growing.{room_of}
 use Rattle.script_text.proofs.GrowLemmas.{grows_none, grows_then, grows_stop, grows_same, grows_err, encode_none, encode_more, encode_rest}
 use Rattle.script_text.proofs.appending.append_hex.Goals as goal
 

@@ -1,6 +1,6 @@
 use Rattle.std.proofs.Common.{take, Ok}
 use Rattle.hex.specs.Hex.{encode_lower}
-use Rattle.script_text.specs.Growing.{room_of, Grows}
+use Rattle.script_text.specs.inner.Growing.{room_of, Grows}
 use Rattle.script_text.proofs.appending.append_hex.Given as goal
 
 -- the octets so far are out

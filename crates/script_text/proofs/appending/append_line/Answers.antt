@@ -1,7 +1,7 @@
 use Rattle.std.proofs.Common.{◌∷◌, [], ◌+◌, map, take, get_or, Ok, Err}
 use Rattle.script_text.specs.Text.{word_text}
-use Rattle.script_text.specs.Growing.{room_of}
-use Rattle.script_text.specs.Shown.{said}
+use Rattle.script_text.specs.inner.Growing.{room_of}
+use Rattle.script_text.specs.inner.Shown.{said}
 use Rattle.script_text.specs.declared.appending.Word.TheVariants as words
 use Rattle.script_text.specs.declared.value.Value.TheVariants as values
 use Rattle.script_text.proofs.GrowLemmas.{grows_then, grows_stop, grows_same, grows_err, joined, line_more, line_rest, line_all}

@@ -1,6 +1,6 @@
 use Rattle.std.proofs.Common.{map, take, Ok}
-use Rattle.script_text.specs.Growing.{room_of, Grows}
-use Rattle.script_text.specs.Shown.{said}
+use Rattle.script_text.specs.inner.Growing.{room_of, Grows}
+use Rattle.script_text.specs.inner.Shown.{said}
 use Rattle.script_text.proofs.GrowLemmas.{joined}
 use Rattle.script_text.proofs.appending.append_line.Given as goal
 

@@ -1,5 +1,5 @@
 use Rattle.std.proofs.Common.{◌≡◌, ◌+◌, ◌≤◌, length, map, take, drop}
-use Rattle.script_text.specs.Cursor.{words_in, size_of}
+use Rattle.script_text.specs.inner.Cursor.{words_in, size_of}
 use Rattle.script_text.specs.Values.{field_of, values_of}
 use Rattle.script_text.proofs.ValueSteps.{behind}
 use Rattle.script_text.proofs.reading.read_values.Given as goal

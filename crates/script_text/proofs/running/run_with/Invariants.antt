@@ -1,6 +1,6 @@
 use Rattle.std.proofs.Common.{◌≡◌, ◌+◌, ◌*◌, ◌≤◌, List, ℕ, Some}
 use Rattle.script_text.proofs.RunLemmas.{SoFar}
-use Rattle.script_text.specs.Steps.{IsMidLine}
+use Rattle.script_text.specs.inner.Steps.{IsMidLine}
 use Rattle.script_text.proofs.running.run_with.Given as goal
 
 -- what was read led to the script's place, and what it gave is out

@@ -1,6 +1,6 @@
 use Rattle.std.proofs.Common.{◌++◌, [], arith, get_or, refl}
 use Rattle.std.proofs.lemmas.List.{take_all}
-use Rattle.script_text.specs.Steps.{place_of}
+use Rattle.script_text.specs.inner.Steps.{place_of}
 use Rattle.script_text.proofs.Known.{Appends-then, Appends-none}
 use Rattle.script_text.proofs.StepLemmas.{goes_more, fails_at, goes_none}
 use Rattle.script_text.proofs.script.Script.feed.Goals as goal

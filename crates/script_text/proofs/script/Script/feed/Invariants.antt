@@ -1,8 +1,8 @@
 use Rattle.std.proofs.Common.{◌+◌, ◌≤◌, List, ℕ, take}
 use Rattle.std.specs.Io.KnownBytes.{Appends}
 use Rattle.script_text.specs.Bridge.{Bridge}
-use Rattle.script_text.specs.Steps.{Stands}
-use Rattle.script_text.specs.Steps.{IsMidLine, Goes, place_of}
+use Rattle.script_text.specs.inner.Steps.{Stands}
+use Rattle.script_text.specs.inner.Steps.{IsMidLine, Goes, place_of}
 use Rattle.script_text.proofs.script.Script.feed.Given as goal
 
 -- the octets so far led here, and what they gave is out
