@@ -65,33 +65,35 @@ def main():
     base, refused = seconds(args.binary, full, args.runs)
     calls = len(full)
     print(f"the desk: {calls} commands in {base:.2f} s, {base / calls * 1e6:.0f} us each, {refused} refused", flush=True)
-    n = 100
     one_row = {
-        "set-gain over another": [f"set-gain {i} 200000 {i % 2}" for i in range(2 * n)],
-        "mute, unmute": list(pairs(n, lambda i: f"mute {200000 + i}", lambda i: f"unmute {200000 + i}")),
-        "subscribe over another": [f"subscribe {300000 + i} {201000 + i}" for i in range(2 * n)],
-        "unsubscribe, subscribe": list(pairs(n, lambda i: f"unsubscribe {300000 + i}", lambda i: f"subscribe {300000 + i} 200064")),
-        "pin over another": [f"pin 1 {200065 + i}" for i in range(2 * n)],
-        "give-floor over another": [f"give-floor 1 {1 + i}" for i in range(2 * n)],
-        "add-room, remove-room": list(pairs(n, lambda i: f"add-room {2 + i}", lambda i: f"remove-room {2 + i}")),
-        "remove-slot with its sub, undo": [f"remove-slot {300000 + i // 2}" if i % 2 == 0 else f"undo {calls + i}" for i in range(2 * n)],
-        "unsubscribe, undo": [f"unsubscribe {300000 + i // 2}" if i % 2 == 0 else f"undo {calls + i}" for i in range(2 * n)],
-        "refused: add-source of an SSRC in use": [f"add-source {300000 + i} 0 audio" for i in range(2 * n)],
+        "set-gain over another": (f"set-gain {i % 1024} 200000 {i // 1024 % 2 + 1}" for i in range(20000)),
+        "subscribe over another": (f"subscribe {300000 + i % 4096} {200064 + (i + 1 + i // 4096) % 1984}" for i in range(20000)),
+        "pin over another": (f"pin 1 {200065 + i % 1900}" for i in range(20000)),
+        "give-floor over another": (f"give-floor 1 {1 + i % 1000}" for i in range(20000)),
+        "mute, unmute": pairs(10000, lambda i: f"mute {200000 + i % 2048}", lambda i: f"unmute {200000 + i % 2048}"),
+        "unsubscribe, subscribe": pairs(10000, lambda i: f"unsubscribe {300000 + i % 4096}", lambda i: f"subscribe {300000 + i % 4096} 200064"),
+        "unpin, undo": pairs(10000, lambda i: "unpin 1", lambda i: f"undo {calls + 2 * i + 1}"),
+        "add-room, remove-room": pairs(500, lambda i: f"add-room {2 + i}", lambda i: f"remove-room {2 + i}"),
+        "remove-slot with its sub, undo": pairs(500, lambda i: f"remove-slot {300000 + i}", lambda i: f"undo {calls + 2 * i + 1}"),
+        "remove-source with 1,024 gains, undo": pairs(50, lambda i: f"remove-source {200000 + i}", lambda i: f"undo {calls + 2 * i + 1}"),
+        "remove-member with 64 gains, undo": pairs(50, lambda i: f"remove-member {500 + i}", lambda i: f"undo {calls + 2 * i + 1}"),
+        "refused: add-source of an SSRC in use": (f"add-source {300000 + i} 0 audio" for i in range(4000)),
     }
-    for name, lines in one_row.items():
+    for name, more in one_row.items():
+        lines = list(more)
         took, no = seconds(args.binary, full + lines, args.runs)
         print(f"{name}: {(took - base) / len(lines) * 1e6:.0f} us ({no} refused)", flush=True)
     for gains in (16, 64):
         part = list(desk(gains))
         calls = len(part)
         start, _ = seconds(args.binary, part, args.runs)
-        steps = ["remove-room 1"]
-        before = start
-        for name, line in (("remove-room", "remove-room 1"), ("undo", f"undo {calls + 1}"), ("redo", f"redo {calls + 2}")):
-            steps = steps if name == "remove-room" else steps + [line]
-            took, no = seconds(args.binary, part + steps, args.runs)
-            print(f"{name} with {gains * 1024} gains: {(took - before) * 1e3:.1f} ms ({no} refused)", flush=True)
-            before = took
+        again = ["remove-room 1"] + list(pairs(20, lambda i: f"undo {calls + 2 * i + 1}", lambda i: f"redo {calls + 2 * i + 2}"))
+        anew = list(pairs(20, lambda i: "remove-room 1", lambda i: f"undo {calls + 2 * i + 1}"))
+        redone, no = seconds(args.binary, part + again, args.runs)
+        removed, more_no = seconds(args.binary, part + anew, args.runs)
+        print(f"undo and redo of remove-room with {gains * 1024} gains: {(redone - start) / 41 * 1e3:.1f} ms each ({no} refused)", flush=True)
+        print(f"remove-room and undo with {gains * 1024} gains: {(removed - start) / 40 * 1e3:.1f} ms each ({more_no} refused)", flush=True)
+    return 0
 
 
 if __name__ == "__main__":
