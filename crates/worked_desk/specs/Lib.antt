@@ -7,3 +7,4 @@ pub mod Cases
 pub mod FitCases
 pub mod RefusalCases
 pub mod DeskCases
+pub mod ShownRooms

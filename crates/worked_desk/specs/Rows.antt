@@ -35,3 +35,15 @@ slot out_ssrc member index = rows.Slot (record { out_ssrc = out_ssrc; member = m
 -- the slot has the source
 abbrev pub sub : ℕ → ℕ → Row
 sub out_ssrc source = rows.Sub (record { out_ssrc = out_ssrc; source = source })
+
+-- nobody hears or sees the source
+abbrev pub mute : ℕ → Row
+mute source = rows.Mute (record { source = source })
+
+-- the room shows the source
+abbrev pub pin : ℕ → ℕ → Row
+pin room source = rows.Pin (record { room = room; source = source })
+
+-- the member has the floor of the room
+abbrev pub floor : ℕ → ℕ → Row
+floor room member = rows.Floor (record { room = room; member = member })

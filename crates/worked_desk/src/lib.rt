@@ -12,4 +12,5 @@ pub mod finding;
 pub mod fitting;
 pub mod making;
 pub mod refusing;
+pub mod showing;
 pub mod undoing;

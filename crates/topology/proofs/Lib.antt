@@ -1,0 +1,17 @@
+pub mod Distinct
+pub mod Finding
+pub mod Rising
+pub mod KindRows
+pub mod GoodRows
+pub mod RoomsOf
+pub mod Shown
+pub mod InRoom
+pub mod Falls
+pub mod OneReceiver
+pub mod Reached
+pub mod Seats
+pub mod PlacesOnce
+pub mod Parted
+pub mod FromItsSide
+pub mod Order
+pub mod LeastVideo

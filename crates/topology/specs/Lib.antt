@@ -1,0 +1,4 @@
+pub mod Looking
+pub mod Choice
+pub mod Receivers
+pub mod inner

@@ -1,0 +1,106 @@
+-- What a desk has under a number.
+use Rattle.std.specs.Prelude.{ℕ, Bool, false, nat_eq, Option, None, Some}
+use Rattle.std.specs.Option.{is_some, option_map, option_and_then}
+use Rattle.std.specs.List.{find}
+use Rattle.rtp_codec.specs.declared.address.Address.{Address}
+use Rattle.rtp_codec.specs.Address.{same_address}
+use Rattle.desk_rows.specs.declared.row.Member.{Member as MemberRow}
+use Rattle.desk_rows.specs.declared.row.Source.{Source as SourceRow}
+use Rattle.desk_rows.specs.declared.row.Slot.{Slot as SlotRow}
+use Rattle.desk_rows.specs.declared.row.Sub.{Sub as SubRow}
+use Rattle.desk_rows.specs.declared.row.Pin.{Pin as PinRow}
+use Rattle.desk_rows.specs.declared.row.Floor.{Floor as FloorRow}
+use Rattle.desk_rows.specs.declared.row.Row.{Row}
+use Rattle.desk_rows.specs.declared.row.Row.TheVariants.{Member, Source, Slot, Sub, Pin, Floor}
+use Rattle.desk_rows.specs.declared.row.Key.TheVariants as keys
+use Rattle.desk_rows.specs.Desk.{Desk, row_at}
+
+-- ---- rows of one kind
+
+-- the member in a row
+abbrev pub member_in : Row → Option MemberRow
+member_in (Member m) = Some m
+member_in _ = None
+
+-- the source in a row
+abbrev pub source_in : Row → Option SourceRow
+source_in (Source s) = Some s
+source_in _ = None
+
+-- the slot in a row
+abbrev pub slot_in : Row → Option SlotRow
+slot_in (Slot s) = Some s
+slot_in _ = None
+
+-- the subscription in a row
+abbrev pub sub_in : Row → Option SubRow
+sub_in (Sub s) = Some s
+sub_in _ = None
+
+-- the pin in a row
+abbrev pub pin_in : Row → Option PinRow
+pin_in (Pin p) = Some p
+pin_in _ = None
+
+-- the floor in a row
+abbrev pub floor_in : Row → Option FloorRow
+floor_in (Floor f) = Some f
+floor_in _ = None
+
+-- ---- rows by their numbers
+
+-- the member of this number
+abbrev pub member_at : Desk → ℕ → Option MemberRow
+member_at d member = option_and_then member_in (row_at d (keys.Member member))
+
+-- the source of this SSRC
+abbrev pub source_at : Desk → ℕ → Option SourceRow
+source_at d source = option_and_then source_in (row_at d (keys.Source source))
+
+-- the slot of this SSRC
+abbrev pub slot_at : Desk → ℕ → Option SlotRow
+slot_at d out_ssrc = option_and_then slot_in (row_at d (keys.Slot out_ssrc))
+
+-- the source that the slot of this SSRC has subscribed to
+abbrev pub subscribed : Desk → ℕ → Option ℕ
+subscribed d out_ssrc = option_map (λ s. s.source) (option_and_then sub_in (row_at d (keys.Sub out_ssrc)))
+
+-- the source that is pinned in a room
+abbrev pub pinned : Desk → ℕ → Option ℕ
+pinned d room = option_map (λ p. p.source) (option_and_then pin_in (row_at d (keys.Pin room)))
+
+-- the member that has the floor of a room
+abbrev pub holder : Desk → ℕ → Option ℕ
+holder d room = option_map (λ f. f.member) (option_and_then floor_in (row_at d (keys.Floor room)))
+
+-- nobody is to hear or see the source
+abbrev pub is_muted : Desk → ℕ → Bool
+is_muted d source = is_some (row_at d (keys.Mute source))
+
+-- ---- to whom and where they belong
+
+-- there is a number, and it is this one
+abbrev pub is_this : ℕ → Option ℕ → Bool
+is_this n None = false
+is_this n (Some m) = nat_eq m n
+
+-- the member that a source is of
+abbrev pub sender_of : Desk → ℕ → Option ℕ
+sender_of d source = option_map (λ s. s.member) (source_at d source)
+
+-- the room that a member is in
+abbrev pub room_of_member : Desk → ℕ → Option ℕ
+room_of_member d member = option_map (λ m. m.room) (member_at d member)
+
+-- there is a member, and this is its address
+abbrev pub has_address : Address → Option MemberRow → Bool
+has_address address None = false
+has_address address (Some m) = same_address m.address address
+
+-- the source's member has this address
+abbrev pub comes_from : Desk → ℕ → Address → Bool
+comes_from d source address = has_address address (option_and_then (member_at d) (sender_of d source))
+
+-- the member at this address, the first in joining order
+abbrev pub member_from : Desk → Address → Option ℕ
+member_from d address = option_map (λ m. m.member) (find (λ m. same_address m.address address) d.members)

@@ -1,0 +1,65 @@
+-- How the slots that chose a source are found from its side. No public clause cites this.
+use Rattle.std.specs.Prelude.{ℕ, Bool, not, ◌&&◌, if◌then◌else◌, nat_eq, List, [], ◌++◌, filter, Option, None, Some}
+use Rattle.std.specs.Option.{is_none, option_and_then}
+use Rattle.std.specs.List.{filter_map}
+use Rattle.rtp_codec.specs.declared.address.Address.{Address}
+use Rattle.rtp_codec.specs.Address.{same_address}
+use Rattle.desk_rows.specs.declared.row.Member.{Member as MemberRow}
+use Rattle.desk_rows.specs.declared.row.Slot.{Slot as SlotRow}
+use Rattle.desk_rows.specs.declared.row.Row.{Row}
+use Rattle.desk_rows.specs.declared.row.Row.TheVariants.{Slot, Sub}
+use Rattle.desk_rows.specs.declared.row.Kind.TheVariants as kinds
+use Rattle.desk_rows.specs.Kinds.{is_of}
+use Rattle.desk_rows.specs.Places.{place_in}
+use Rattle.desk_rows.specs.Desk.{Desk}
+use Rattle.topology.specs.declared.receivers.Seated.{Seated}
+use Rattle.topology.specs.Looking.{member_at, slot_at, subscribed, is_muted, is_this, sender_of, room_of_member}
+use Rattle.topology.specs.Choice.{shown}
+use Rattle.topology.specs.Receivers.{receiver}
+
+-- a member, if it has this address
+abbrev pub if_at : Address → MemberRow → Option MemberRow
+if_at address m = if same_address m.address address then Some m else None
+
+-- the member who sends the source from the address, unless the source is muted
+abbrev pub sender_from : Desk → ℕ → Address → Option MemberRow
+sender_from d source address = if is_muted d source then None else option_and_then (if_at address) (option_and_then (member_at d) (sender_of d source))
+
+-- a slot, unless it is this member's
+abbrev pub unless_own : MemberRow → SlotRow → Option SlotRow
+unless_own sender s = if nat_eq s.member sender.member then None else Some s
+
+-- the slot of a subscription to the source, unless it is the sender's
+abbrev pub subscriber : Desk → ℕ → MemberRow → Row → Option SlotRow
+subscriber d source sender (Sub s) = if nat_eq s.source source then option_and_then (unless_own sender) (slot_at d s.out_ssrc) else None
+subscriber d source sender _ = None
+
+-- a slot of index 0 in the sender's room, not the sender's, without a subscription
+abbrev pub is_viewer : Desk → MemberRow → SlotRow → Bool
+is_viewer d sender s =
+    (nat_eq s.index 0 && not (nat_eq s.member sender.member))
+    && (is_this sender.room (room_of_member d s.member) && is_none (subscribed d s.out_ssrc))
+
+-- the slot in a row, if it gets what the sender's room shows
+abbrev pub viewer : Desk → MemberRow → Row → Option SlotRow
+viewer d sender (Slot s) = if is_viewer d sender s then Some s else None
+viewer d sender _ = None
+
+-- the rows of slots, if the room shows the source, and else none
+abbrev pub slots_if_shown : Desk → ℕ → ℕ → List Row
+slots_if_shown d source room = if is_this source (shown d room) then filter (is_of kinds.Slot) d.others else []
+
+-- the slots that take the source: those that have subscribed to it before those that are shown it
+abbrev pub takers : Desk → ℕ → MemberRow → List SlotRow
+takers d source sender =
+    filter_map (subscriber d source sender) (filter (is_of kinds.Sub) d.others)
+    ++ filter_map (viewer d sender) (slots_if_shown d source sender.room)
+
+-- a slot as a receiver at its member's place, where the member is there
+abbrev pub seat_at : SlotRow → Option ℕ → Option MemberRow → Option Seated
+seat_at slot (Some place) (Some m) = Some (record { place = place; receiver = receiver m slot })
+seat_at slot _ _ = None
+
+-- a slot at the place that its member has
+abbrev pub seat : Desk → SlotRow → Option Seated
+seat d slot = seat_at slot (place_in d.members slot.member) (member_at d slot.member)

@@ -1,0 +1,113 @@
+//! Which source a slot sends.
+
+ghost use Rattle.std.specs.Prelude.{◌≡◌};
+ghost use Rattle.std.specs.List.{find, filter_map};
+ghost use Rattle.topology.specs.Looking.{source_in};
+ghost use Rattle.topology.specs.Choice.{is_video_of, first_video, shown, shown_on, wanted, is_barred, chosen, choice};
+
+use crate::looking::{
+    holder, is_muted, is_this, pinned, room_of_member, sender_of, slot_at, subscribed,
+};
+use desk_rows::{Kind, Media, Row, Rows, Slot, Source};
+use std::alloc::Allocator;
+
+/// The source that the slot of this SSRC sends: that of its subscription; without one, if its
+/// index is 0, the source that is pinned in its room; without one, the least video SSRC of the
+/// member that has the room's floor.
+///
+/// There is none where that source is muted or of the slot's own member: the next one doesn't stand
+/// in for it. There is none either for an SSRC that is no slot's.
+pub fn choice<A: Allocator + Copy>(rows: &Rows<A>, out_ssrc: u32) -> Option<u32>
+    ensures { result ≡ choice rows.now out_ssrc }
+{
+    let slot = slot_at(rows, out_ssrc)?;
+    chosen(rows, &slot)
+}
+
+fn chosen<A: Allocator + Copy>(rows: &Rows<A>, slot: &Slot) -> Option<u32>
+    ensures { result ≡ chosen rows.now slot.now }
+{
+    let source = wanted(rows, slot)?;
+    if is_barred(rows, slot, source) {
+        None
+    } else {
+        Some(source)
+    }
+}
+
+/// Whether the slot doesn't get the source: it is muted, or of the slot's own member.
+fn is_barred<A: Allocator + Copy>(rows: &Rows<A>, slot: &Slot, source: u32) -> bool
+    ensures { result ≡ is_barred rows.now slot.now source }
+{
+    is_muted(rows, source) || is_this(slot.member, sender_of(rows, source))
+}
+
+/// The source that the slot would get, if it may.
+fn wanted<A: Allocator + Copy>(rows: &Rows<A>, slot: &Slot) -> Option<u32>
+    ensures { result ≡ wanted rows.now slot.now }
+{
+    match subscribed(rows, slot.out_ssrc) {
+        Some(source) => Some(source),
+        None => shown_on(rows, slot),
+    }
+}
+
+/// What a slot gets without a subscription.
+fn shown_on<A: Allocator + Copy>(rows: &Rows<A>, slot: &Slot) -> Option<u32>
+    ensures { result ≡ shown_on rows.now slot.now }
+{
+    if slot.index == 0 {
+        let room = room_of_member(rows, slot.member)?;
+        shown(rows, room)
+    } else {
+        None
+    }
+}
+
+/// What a room shows: its pin; without one, the least video SSRC of its floor holder.
+pub(crate) fn shown<A: Allocator + Copy>(rows: &Rows<A>, room: u32) -> Option<u32>
+    ensures { result ≡ shown rows.now room }
+{
+    match pinned(rows, room) {
+        Some(source) => Some(source),
+        None => {
+            let member = holder(rows, room)?;
+            first_video(rows, member)
+        }
+    }
+}
+
+/// The least video SSRC of a member.
+fn first_video<A: Allocator + Copy>(rows: &Rows<A>, member: u32) -> Option<u32>
+    ensures { result ≡ first_video rows.now member }
+{
+    match first_among(rows.others_of(Kind::Source), member) {
+        None => None,
+        Some(source) => Some(source.ssrc),
+    }
+}
+
+/// The first video source of a member among these rows.
+fn first_among(these: &[Row], member: u32) -> Option<Source>
+    ensures { result ≡ find (is_video_of member) (filter_map source_in these.now) }
+{
+    these
+        .iter()
+        .filter_map(|row| source_in(row))
+        .find(|source| is_video_of(member, source))
+}
+
+fn is_video_of(member: u32, source: &Source) -> bool
+    ensures { result ≡ is_video_of member source.now }
+{
+    source.member == member && source.media.is_same(Media::Video)
+}
+
+fn source_in(row: &Row) -> Option<Source>
+    ensures { result ≡ source_in row.now }
+{
+    match row {
+        Row::Source(source) => Some(*source),
+        _ => None,
+    }
+}

@@ -1,0 +1,115 @@
+//! What a desk has under a number.
+
+ghost use Rattle.std.specs.Prelude.{◌≡◌};
+ghost use Rattle.topology.specs.Looking.{member_at, slot_at, source_at, subscribed, pinned, holder, is_muted, is_this, sender_of, room_of_member, member_from};
+
+use desk_rows::{Key, Member, Row, Rows, Slot, Source};
+use rtp_codec::Address;
+use std::alloc::Allocator;
+
+/// The member of this number.
+pub(crate) fn member_at<A: Allocator + Copy>(rows: &Rows<A>, member: u32) -> Option<Member>
+    ensures { result ≡ member_at rows.now member }
+{
+    match rows.find(&Key::Member(member)) {
+        Some(Row::Member(member)) => Some(member),
+        _ => None,
+    }
+}
+
+/// The source of this SSRC.
+fn source_at<A: Allocator + Copy>(rows: &Rows<A>, source: u32) -> Option<Source>
+    ensures { result ≡ source_at rows.now source }
+{
+    match rows.find(&Key::Source(source)) {
+        Some(Row::Source(source)) => Some(source),
+        _ => None,
+    }
+}
+
+/// The slot of this SSRC.
+pub(crate) fn slot_at<A: Allocator + Copy>(rows: &Rows<A>, out_ssrc: u32) -> Option<Slot>
+    ensures { result ≡ slot_at rows.now out_ssrc }
+{
+    match rows.find(&Key::Slot(out_ssrc)) {
+        Some(Row::Slot(slot)) => Some(slot),
+        _ => None,
+    }
+}
+
+/// The source that the slot of this SSRC has subscribed to.
+pub(crate) fn subscribed<A: Allocator + Copy>(rows: &Rows<A>, out_ssrc: u32) -> Option<u32>
+    ensures { result ≡ subscribed rows.now out_ssrc }
+{
+    match rows.find(&Key::Sub(out_ssrc)) {
+        Some(Row::Sub(sub)) => Some(sub.source),
+        _ => None,
+    }
+}
+
+/// The source that is pinned in a room.
+pub(crate) fn pinned<A: Allocator + Copy>(rows: &Rows<A>, room: u32) -> Option<u32>
+    ensures { result ≡ pinned rows.now room }
+{
+    match rows.find(&Key::Pin(room)) {
+        Some(Row::Pin(pin)) => Some(pin.source),
+        _ => None,
+    }
+}
+
+/// The member that has the floor of a room.
+pub(crate) fn holder<A: Allocator + Copy>(rows: &Rows<A>, room: u32) -> Option<u32>
+    ensures { result ≡ holder rows.now room }
+{
+    match rows.find(&Key::Floor(room)) {
+        Some(Row::Floor(floor)) => Some(floor.member),
+        _ => None,
+    }
+}
+
+/// Whether nobody is to hear or see the source.
+pub(crate) fn is_muted<A: Allocator + Copy>(rows: &Rows<A>, source: u32) -> bool
+    ensures { result ≡ is_muted rows.now source }
+{
+    rows.find(&Key::Mute(source)).is_some()
+}
+
+/// Whether there is a number, and it is this one.
+pub(crate) fn is_this(number: u32, found: Option<u32>) -> bool
+    ensures { result ≡ is_this number found }
+{
+    match found {
+        None => false,
+        Some(other) => other == number,
+    }
+}
+
+/// The member that a source is of.
+pub(crate) fn sender_of<A: Allocator + Copy>(rows: &Rows<A>, source: u32) -> Option<u32>
+    ensures { result ≡ sender_of rows.now source }
+{
+    match source_at(rows, source) {
+        None => None,
+        Some(source) => Some(source.member),
+    }
+}
+
+/// The room that a member is in.
+pub(crate) fn room_of_member<A: Allocator + Copy>(rows: &Rows<A>, member: u32) -> Option<u32>
+    ensures { result ≡ room_of_member rows.now member }
+{
+    match member_at(rows, member) {
+        None => None,
+        Some(member) => Some(member.room),
+    }
+}
+
+/// The number of the member at this address.
+pub fn member_from<A: Allocator + Copy>(rows: &Rows<A>, address: &Address) -> Option<u32>
+    ensures { result ≡ member_from rows.now address.now }
+{
+    rows.members()
+        .iter()
+        .find(|member| member.address == *address)
+        .map(|member| member.member)
+}
