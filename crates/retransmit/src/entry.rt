@@ -1,9 +1,11 @@
 //! Packets that were sent.
 
+ghost use Rattle.std.specs.Prelude.{◌≡◌, IfOk};
+
 use crate::owner::Owner;
 use bytes::Bytes;
 use rtp_codec::Address;
-use std::alloc::{Allocator, Global};
+use std::alloc::{AllocError, Allocator, Global};
 use std::marker::Model;
 
 /// A packet that was sent, and the source's packet that it carried.
@@ -32,4 +34,23 @@ impl<A: Allocator + Copy> Model for Entry<A> {
     ghost Value = { SentPacket };
 
     ghost view = { λ e. record { number = e.number; owner = e.owner; version = e.version; item = e.item; source = e.source; address = e.address; epoch = e.epoch; ext = e.ext; bytes = e.bytes } };
+}
+
+impl<A: Allocator + Copy> Entry<A> {
+    /// The same packet again, which shares the octets.
+    pub fn try_clone(&self) -> Result<Self, AllocError>
+        ensures { IfOk result (λ entry. entry ≡ self.now) }
+    {
+        Ok(Self {
+            number: self.number,
+            owner: self.owner,
+            version: self.version,
+            item: self.item,
+            source: self.source,
+            address: self.address,
+            epoch: self.epoch,
+            ext: self.ext,
+            bytes: self.bytes.clone()?,
+        })
+    }
 }
