@@ -1,1 +1,2 @@
 pub mod PacketsSent
+pub mod FrameSent

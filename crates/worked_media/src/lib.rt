@@ -6,3 +6,4 @@ pub mod mixes;
 pub mod resends;
 pub mod samples;
 pub mod sources;
+pub mod streaming;

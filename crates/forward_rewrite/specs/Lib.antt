@@ -1,0 +1,7 @@
+pub mod Frame
+pub mod Sending
+pub mod Timestamps
+pub mod RoutedList
+pub mod Streams
+pub mod inner
+pub mod laws

@@ -1,0 +1,74 @@
+-- A stream so far: what it keeps is a function of all that it has sent.
+use Rattle.std.specs.Prelude.{◌≡◌, ℕ, ◌+◌, ◌%◌, ◌^◌, List, [], ◌∷◌, ◌++◌, length, map, Option, Some, option_map}
+use Rattle.retransmit.specs.SentPacket.{SentPacket}
+use Rattle.retransmit.specs.Window.{room, latest}
+use Rattle.forward_rewrite.specs.declared.last_sent.LastSent.{LastSent}
+use Rattle.forward_rewrite.specs.Frame.{SourceFrame}
+use Rattle.forward_rewrite.specs.Sending.{Sending, Numbered, out_of}
+use Rattle.forward_rewrite.specs.Timestamps.{difference, last_of, stamped}
+use Rattle.forward_rewrite.specs.RoutedList.{parts, packets_of}
+
+-- a stream: its SSRC, the timestamp that it begins with, the number of its next packet, what is kept of its last frame, and the packets
+-- that can be sent again
+pub record StreamOf : Type 0 where
+  pub ssrc : ℕ
+  pub first_ts : ℕ
+  pub next : ℕ
+  pub last : Option LastSent
+  pub window : List SentPacket
+
+-- a frame that is ready: the packets and the number of the first, and what the stream keeps once they are sent
+pub record PreparedOf : Type 0 where
+  pub first : ℕ
+  pub next : ℕ
+  pub last : LastSent
+  pub packets : List SentPacket
+
+-- what is kept of a frame that was sent under this timestamp
+abbrev pub sent : SourceFrame → ℕ → LastSent
+sent f ts = record {
+  source = f.source;
+  address = f.address;
+  epoch = f.epoch;
+  moment = f.moment;
+  ts = ts;
+  offset = difference f.frame.ts ts;
+}
+
+-- the stream after these frames
+abbrev pub state_of : ℕ → ℕ → ℕ → List Sending → StreamOf
+state_of ssrc first_seq first_ts sendings = record {
+  ssrc = ssrc;
+  first_ts = first_ts;
+  next = (first_seq + length (parts (stamped first_ts sendings))) % 2 ^ 16;
+  last = option_map (λ s. sent s.sending.frame s.ts) (last_of (stamped first_ts sendings));
+  window = latest room (packets_of ssrc first_seq first_ts sendings);
+}
+
+-- The stream has sent these frames, the first number and timestamp being these.
+abbrev pub HasSent : StreamOf → ℕ → ℕ → List Sending → Type 0
+HasSent s first_seq first_ts sendings = s ≡ state_of s.ssrc first_seq first_ts sendings
+
+-- Whatever the old stream has sent, these packets are what is sent of one more frame, and the new stream has sent it too.
+abbrev pub SendsNext : StreamOf → StreamOf → Sending → List SentPacket → Type 0
+SendsNext old new next packets =
+    (first_seq first_ts : ℕ) (before : List Sending) → HasSent old first_seq first_ts before →
+    (packets_of old.ssrc first_seq first_ts (before ++ next ∷ []) ≡ packets_of old.ssrc first_seq first_ts before ++ packets)
+    × HasSent new first_seq first_ts (before ++ next ∷ [])
+
+-- Whatever the old stream has sent, this goes out of one more frame, and the new stream has sent it too.
+abbrev pub GivesNext : StreamOf → StreamOf → Sending → List Numbered → Type 0
+GivesNext old new next out =
+    (first_seq first_ts : ℕ) (before : List Sending) → HasSent old first_seq first_ts before →
+    (map out_of (packets_of old.ssrc first_seq first_ts (before ++ next ∷ [])) ≡ map out_of (packets_of old.ssrc first_seq first_ts before) ++ out)
+    × HasSent new first_seq first_ts (before ++ next ∷ [])
+
+-- the stream after what was prepared is committed
+abbrev pub committed : StreamOf → PreparedOf → StreamOf
+committed s p = record {
+  ssrc = s.ssrc;
+  first_ts = s.first_ts;
+  next = p.next;
+  last = Some p.last;
+  window = latest room (s.window ++ p.packets);
+}

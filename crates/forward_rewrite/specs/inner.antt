@@ -1,0 +1,4 @@
+pub mod Counters
+pub mod Ready
+pub mod Row
+pub mod Sharing

@@ -1,0 +1,57 @@
+//! What a stream keeps of the last frame that it sent.
+
+ghost use Rattle.std.specs.Prelude.{◌≡◌, Some};
+ghost use Rattle.forward_rewrite.specs.Streams.{sent};
+ghost use Rattle.forward_rewrite.specs.inner.Counters.{ts_after, goes_on};
+
+use crate::frame::MediaFrame;
+use rtp_codec::Address;
+use std::alloc::Allocator;
+
+/// The last frame that was sent, and how far its run's timestamps are from the source's.
+#[derive(Clone, Copy)]
+pub struct LastSent {
+    source: u32,
+    address: Address,
+    epoch: u64,
+    moment: u64,
+    ts: u32,
+    offset: u32,
+}
+
+impl LastSent {
+    /// What is kept of a frame that is sent under this timestamp.
+    pub fn new<A: Allocator + Copy>(frame: &MediaFrame<A>, ts: u32) -> Self
+        ensures { result ≡ sent frame.now ts }
+    {
+        let whole = &frame.frame;
+        Self {
+            source: frame.source,
+            address: frame.address,
+            epoch: frame.epoch,
+            moment: frame.moment,
+            ts,
+            offset: ts.wrapping_sub(whole.ts),
+        }
+    }
+
+    /// The timestamp of one more frame.
+    pub fn ts_for<A: Allocator + Copy>(&self, frame: &MediaFrame<A>) -> u32
+        ensures { result ≡ ts_after 0 (Some self.now) frame.now }
+    {
+        let whole = &frame.frame;
+        if self.goes_on(frame) {
+            return whole.ts.wrapping_add(self.offset);
+        }
+        let elapsed = frame.moment.saturating_sub(self.moment);
+        let ticks = (elapsed / 1000 * 9 / 100).max(1);
+        ((u64::from(self.ts) + ticks) % 4_294_967_296) as u32
+    }
+
+    /// Whether the frame is of the run of the last one.
+    fn goes_on<A: Allocator + Copy>(&self, frame: &MediaFrame<A>) -> bool
+        ensures { result ≡ goes_on self.now frame.now }
+    {
+        self.source == frame.source && (self.address == frame.address && self.epoch == frame.epoch)
+    }
+}

@@ -1,0 +1,22 @@
+//! The sending side of a forwarded video stream: frames of changing sources go out as one stream, numbered in a row and
+//! with a time of its own, and its last 512 packets can be found again.
+//!
+//! A contract speaks of the list of frames so far. Begin with [`Stream::new`].
+#![tactic(auto)]
+
+mod frame;
+mod last_sent;
+mod laws;
+mod packets;
+mod prepared;
+mod sending;
+mod stream;
+
+pub use self::frame::MediaFrame;
+pub use self::laws::{
+    each_frame_goes_whole, found_is_what_was_sent, numbers_in_a_row, time_goes_on,
+};
+pub use self::prepared::Prepared;
+pub use self::sending::{OutPacket, Stamp};
+pub use self::stream::Stream;
+pub use retransmit::{Entry, Owner};

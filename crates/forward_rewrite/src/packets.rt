@@ -1,0 +1,123 @@
+//! The packets of a frame as a stream sends them.
+
+ghost use Rattle.std.specs.Prelude.{◌≡◌, ◌≤◌, ◌∷◌, [], map, IfOk};
+ghost use Rattle.std.specs.List.{All};
+ghost use Rattle.frame_gate.specs.Frame.{highest_pt};
+ghost use Rattle.rtp_codec.specs.Packet.{written};
+ghost use Rattle.forward_rewrite.specs.Sending.{out_of};
+ghost use Rattle.forward_rewrite.specs.RoutedList.{part_of, sent_packet, numbered};
+ghost use Rattle.forward_rewrite.specs.inner.Sharing.{stamped_by};
+
+use crate::frame::MediaFrame;
+use crate::sending::{OutPacket, Stamp};
+use bytes::Bytes;
+use frame_gate::FramePacket;
+use retransmit::{Entry, Owner};
+use rtp_codec::{Header, seq_next, write};
+use std::alloc::{AllocError, Allocator};
+
+/// What the packets of a frame share.
+#[derive(Clone, Copy)]
+pub struct Shared {
+    /// The SSRC of the stream.
+    pub ssrc: u32,
+    /// The timestamp under which the frame is sent.
+    pub ts: u32,
+    pub stamp: Stamp,
+    pub owner: Owner,
+}
+
+/// The octets of a packet with one contributing source.
+fn octets_of<A: Allocator + Copy>(
+    alloc: A,
+    header: &Header,
+    source: u32,
+    payload: &[u8],
+) -> Result<Bytes<A>, AllocError>
+    requires { header.now.pt ≤ highest_pt }
+    ensures { IfOk result (λ bytes. bytes ≡ written header.now (source ∷ []) payload.now) }
+{
+    let mut out = Vec::with_capacity(alloc, 16 + payload.len())?;
+    write(header, &[source], payload, &mut out)?;
+    Ok(Bytes::from_vec(out)?)
+}
+
+/// A packet of a frame as it is sent under this number.
+fn entry_of<A: Allocator + Copy>(
+    alloc: A,
+    shared: &Shared,
+    number: u16,
+    frame: &MediaFrame<A>,
+    packet: &FramePacket<A>,
+) -> Result<Entry<A>, AllocError>
+    requires { packet.now.pt ≤ highest_pt }
+    ensures { IfOk result (λ entry. entry ≡ sent_packet shared.now.ssrc number (part_of (stamped_by shared.now frame.now) packet.now)) }
+{
+    let header = Header {
+        marker: packet.marker,
+        pt: packet.pt,
+        seq: number,
+        ts: shared.ts,
+        ssrc: shared.ssrc,
+    };
+    let bytes = octets_of(alloc, &header, frame.source, packet.payload.as_slice())?;
+    let stamp = shared.stamp;
+    Ok(Entry {
+        number,
+        owner: shared.owner,
+        version: stamp.version,
+        item: stamp.item,
+        source: frame.source,
+        address: frame.address,
+        epoch: frame.epoch,
+        ext: packet.ext,
+        bytes,
+    })
+}
+
+/// Packets of a frame as they are sent, the first under this number.
+pub fn entries_of<A: Allocator + Copy>(
+    alloc: A,
+    shared: &Shared,
+    first: u16,
+    frame: &MediaFrame<A>,
+    packets: &[FramePacket<A>],
+) -> Result<Vec<Entry<A>, A>, AllocError>
+    requires { All (λ p. p.pt ≤ highest_pt) packets.now }
+    ensures { IfOk result (λ v. v.items ≡ numbered shared.now.ssrc first (map (part_of (stamped_by shared.now frame.now)) packets.now)) }
+{
+    let mut entries = Vec::with_capacity(alloc, packets.len())?;
+    let mut number = first;
+    for packet in packets {
+        let one = entry_of(alloc, shared, number, frame, packet)?;
+        entries.push(one)?;
+        number = seq_next(number);
+    }
+    Ok(entries)
+}
+
+/// A packet as it goes out: its number, and the octets that the window keeps too.
+fn out_packet<A: Allocator + Copy>(entry: &Entry<A>) -> Result<OutPacket<A>, AllocError>
+    ensures { IfOk result (λ p. p ≡ out_of entry.now) }
+{
+    let bytes = entry.bytes.clone()?;
+    Ok(OutPacket {
+        number: entry.number,
+        bytes,
+    })
+}
+
+/// Packets as they go out.
+pub fn out_packets<A: Allocator + Copy>(
+    alloc: A,
+    entries: &[Entry<A>],
+) -> Result<Vec<OutPacket<A>, A>, AllocError>
+    ensures { IfOk result (λ v. v.items ≡ map out_of entries.now) }
+{
+    let mut out = Vec::with_capacity(alloc, entries.len())?;
+    for entry in entries {
+        let one = out_packet(entry)?;
+        out.push(one)?;
+    }
+    Ok(out)
+}

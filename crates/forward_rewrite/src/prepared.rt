@@ -1,0 +1,34 @@
+//! Frames that are ready to be sent.
+
+use crate::last_sent::LastSent;
+use crate::sending::OutPacket;
+use retransmit::Entry;
+use std::alloc::{Allocator, Global};
+use std::marker::Model;
+
+/// A frame that is ready to be sent on a stream as it was when [`prepare`](crate::Stream::prepare) was called.
+///
+/// It has all the memory that sending it takes.
+#[derive(Drop)]
+pub struct Prepared<A: Allocator + Copy = Global> {
+    /// The number of its first packet.
+    pub(crate) first: u16,
+    /// The number behind its last packet.
+    pub(crate) next: u16,
+    pub(crate) last: LastSent,
+    /// What the window is to keep.
+    pub(crate) entries: Vec<Entry<A>, A>,
+    /// The same packets, as they go out.
+    pub(crate) out: Vec<OutPacket<A>, A>,
+}
+
+impl<A: Allocator + Copy> Model for Prepared<A> {
+    ghost use Rattle.forward_rewrite.specs.Streams.{PreparedOf};
+    ghost use Rattle.forward_rewrite.specs.inner.Ready.{IsReady};
+
+    ghost Value = { PreparedOf };
+
+    ghost view = { λ p. record { first = p.first; next = p.next; last = p.last; packets = p.entries.items } };
+
+    ghost invariant = { λ p. IsReady p.first p.next p.entries.items p.out.items };
+}

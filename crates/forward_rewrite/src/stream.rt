@@ -1,0 +1,181 @@
+//! Outgoing video streams: they number their packets in a row, keep a time of their own, and the last packets.
+
+ghost use Rattle.std.specs.Prelude.{◌≡◌, ◌≤◌, [], ◌++◌, length, map, IfOk, OnErr, option_copied};
+ghost use Rattle.std.specs.List.{AllByRecursion};
+ghost use Rattle.retransmit.specs.Window.{room, latest, resend_of};
+ghost use Rattle.forward_rewrite.specs.Sending.{sending_of, out_of, IsOf};
+ghost use Rattle.forward_rewrite.specs.Streams.{state_of, committed, SendsNext, GivesNext};
+ghost use Rattle.forward_rewrite.specs.inner.Counters.{ts_after, IsPrepared};
+ghost use Rattle.forward_rewrite.specs.inner.Row.{MayGoOn};
+
+use crate::frame::MediaFrame;
+use crate::last_sent::LastSent;
+use crate::packets::{Shared, entries_of, out_packets};
+use crate::prepared::Prepared;
+use crate::sending::{OutPacket, Stamp};
+use retransmit::{Entry, Owner, Window};
+use std::alloc::{AllocError, Allocator, Global};
+use std::marker::Model;
+
+/// An outgoing video stream. Its window keeps the last 512 packets.
+#[derive(Drop)]
+pub struct Stream<A: Allocator + Copy = Global> {
+    ssrc: u32,
+    /// The timestamp of the first frame.
+    first_ts: u32,
+    /// The number of the next packet.
+    next: u16,
+    last: Option<LastSent>,
+    window: Window<A>,
+}
+
+impl<A: Allocator + Copy> Model for Stream<A> {
+    ghost use Rattle.forward_rewrite.specs.Streams.{StreamOf};
+    ghost use Rattle.forward_rewrite.specs.inner.Row.{IsKept};
+
+    ghost Value = { StreamOf };
+
+    ghost view = { λ s. record { ssrc = s.ssrc; first_ts = s.first_ts; next = s.next; last = s.last; window = s.window } };
+
+    ghost invariant = { λ s. IsKept s.window s.next };
+}
+
+/// Keeps packets that were sent, of all packets the last 512.
+fn keep<A: Allocator + Copy>(window: &mut Window<A>, entries: Vec<Entry<A>, A>)
+    requires few { length window.old ≤ room }
+    requires goes_on { MayGoOn window.old entries.items }
+    ensures { window.new ≡ latest room (window.old ++ entries.items) }
+{
+    for entry in entries {
+        window.push(entry);
+    }
+}
+
+impl<A: Allocator + Copy> Stream<A> {
+    /// A stream that has sent nothing. Its first packet will have this number, and its first frame this timestamp,
+    /// in units of 1/90000 second.
+    ///
+    /// This takes the memory of the window, and its error is want of it. No other call takes memory for the window.
+    pub fn new(alloc: A, ssrc: u32, first_seq: u16, first_ts: u32) -> Result<Self, AllocError>
+        ensures { IfOk result (λ s. s ≡ state_of ssrc first_seq first_ts []) }
+    {
+        let window = Window::new(alloc)?;
+        Ok(Stream {
+            ssrc,
+            first_ts,
+            next: first_seq,
+            last: None,
+            window,
+        })
+    }
+
+    /// The SSRC that its packets have.
+    pub fn ssrc(&self) -> u32
+        ensures { result ≡ self.now.ssrc }
+    {
+        self.ssrc
+    }
+
+    /// The timestamp of one more frame.
+    fn ts_for(&self, frame: &MediaFrame<A>) -> u32
+        ensures { result ≡ ts_after self.now.first_ts self.now.last frame.now }
+    {
+        let first_ts = self.first_ts;
+        match &self.last {
+            None => first_ts,
+            Some(last) => last.ts_for(frame),
+        }
+    }
+
+    /// What one more frame is sent as, to this owner. The stream stays as it is.
+    ///
+    /// This takes all the memory that sending the frame takes, and its error is want of it.
+    pub fn prepare(
+        &self,
+        alloc: A,
+        frame: &MediaFrame<A>,
+        stamp: Stamp,
+        owner: Owner,
+    ) -> Result<Prepared<A>, AllocError>
+        ensures sends { IfOk result (λ p. SendsNext self.now (committed self.now p) (sending_of frame.now stamp owner) p.packets) }
+        ensures first { IfOk result (λ p. p.first ≡ self.now.next) }
+        ensures count { IfOk result (λ p. length p.packets ≡ length frame.now.frame.packets) }
+        ensures whose { IfOk result (λ p. AllByRecursion (IsOf (sending_of frame.now stamp owner)) p.packets) }
+    {
+        self.by_counters(alloc, frame, stamp, owner)
+    }
+
+    /// What one more frame is sent as, by what the stream keeps.
+    fn by_counters(
+        &self,
+        alloc: A,
+        frame: &MediaFrame<A>,
+        stamp: Stamp,
+        owner: Owner,
+    ) -> Result<Prepared<A>, AllocError>
+        ensures { IfOk result (λ p. IsPrepared self.now (sending_of frame.now stamp owner) p) }
+    {
+        let whole = &frame.frame;
+        let ts = self.ts_for(frame);
+        let shared = Shared {
+            ssrc: self.ssrc,
+            ts,
+            stamp,
+            owner,
+        };
+        let entries = entries_of(alloc, &shared, self.next, frame, whole.sent())?;
+        let out = out_packets(alloc, &entries)?;
+        Ok(Prepared {
+            first: self.next,
+            next: self.next.wrapping_add(whole.len()),
+            last: LastSent::new(frame, ts),
+            entries,
+            out,
+        })
+    }
+
+    /// Sends what was prepared of this stream as it is now. This takes no memory.
+    pub fn commit(&mut self, prepared: Prepared<A>) -> Vec<OutPacket<A>, A>
+        requires { prepared.first ≡ self.old.next }
+        ensures stream { self.new ≡ committed self.old prepared }
+        ensures packets { result.items ≡ map out_of prepared.packets }
+    {
+        let Prepared {
+            first: _,
+            next,
+            last,
+            entries,
+            out,
+        } = prepared;
+        self.next = next;
+        self.last = Some(last);
+        keep(&mut self.window, entries);
+        out
+    }
+
+    /// Sends one more frame, to this owner. Where memory is wanting, the stream stays as it was.
+    pub fn send(
+        &mut self,
+        alloc: A,
+        frame: &MediaFrame<A>,
+        stamp: Stamp,
+        owner: Owner,
+    ) -> Result<Vec<OutPacket<A>, A>, AllocError>
+        ensures sends { IfOk result (λ out. GivesNext self.old self.new (sending_of frame.now stamp owner) out.items) }
+        ensures count { IfOk result (λ out. length out.items ≡ length frame.now.frame.packets) }
+        ensures ssrc { self.new.ssrc ≡ self.old.ssrc }
+        ensures err { OnErr result (self.new ≡ self.old) }
+    {
+        let prepared = self.prepare(alloc, frame, stamp, owner)?;
+        Ok(self.commit(prepared))
+    }
+
+    /// The packet that was sent to this owner under this number, if it is one of the last 512.
+    ///
+    /// Nobody but the owner is answered.
+    pub fn find(&self, number: u16, owner: &Owner) -> Option<&Entry<A>>
+        ensures { option_copied result ≡ resend_of number owner.now self.now.window }
+    {
+        self.window.find(number, owner)
+    }
+}
