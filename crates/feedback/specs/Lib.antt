@@ -1,2 +1,3 @@
+pub mod Resends
 pub mod Asked
 pub mod inner

@@ -54,6 +54,19 @@ fn unmarked<A: Allocator>(alloc: A) -> Result<Vec<bool, A>, AllocError>
     vec![in alloc; false; NUMBERS]
 }
 
+/// Numbers, each at its first place.
+pub(crate) fn each_once<A: Allocator + Copy>(
+    alloc: A,
+    numbers: &[u16],
+) -> Result<Vec<u16, A>, AllocError>
+    ensures { IfOk result (λ once. once.items ≡ firsts numbers.now) }
+{
+    let mut marks = unmarked(alloc)?;
+    let mut once = Vec::new(alloc);
+    add_all(&mut once, &mut marks, numbers)?;
+    Ok(once)
+}
+
 /// The numbers that words name, each at its first place.
 fn numbers_in<A: Allocator + Copy>(alloc: A, words: &[NackWord]) -> Result<Vec<u16, A>, AllocError>
     ensures { IfOk result (λ numbers. numbers.items ≡ firsts (numbers_named words.now)) }
