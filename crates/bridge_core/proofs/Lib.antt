@@ -1,22 +1,13 @@
-pub mod Numbers
-pub mod Stamps
-pub mod Next
-pub mod Subscribers
-pub mod Seats
-pub mod Order
-pub mod StreamTable
 pub mod Readies
 pub mod Handled
 pub mod StepLaws
 pub mod RunLaws
-pub mod Distinct
-pub mod GoodDesk
-pub mod OneReceiver
-pub mod Reached
+pub mod OnStreams
+pub mod AskedAgain
+pub mod RoutedLists
 pub mod Chosen
-pub mod InRoom
-pub mod ToReceivers
-pub mod Gapless
+pub mod LedBack
+pub mod WholeRunLaws
 pub mod LaneCount
 pub mod EveryLaneLaws
 mod FollowLaws

@@ -2,11 +2,13 @@
 use Rattle.std.proofs.Common.{◌≡◌, ℕ, ◌+◌, true, false, cond, nat_eq, List, [], ◌∷◌, ◌++◌, length, set, Some, refl, sym, ap, subst, ◌∙◌, arith, append-nil, append_assoc, inl, inr, ◌⊎◌, ◌≢◌, zero, suc, eq-eqb, length-set}
 use Rattle.std.specs.Prelude.{slice_get, OnOk, Result, Ok, Err}
 use Rattle.std.proofs.lemmas.Bool.Decides.{nat_tests}
+use Rattle.std.proofs.lemmas.List.{length_push}
 use Rattle.desk_rows.specs.Edit.{EditOf}
 use Rattle.desk_rows.specs.Desk.{Desk}
 use Rattle.bridge_core.specs.Sent.{Sent, Input}
-use Rattle.bridge_core.specs.Lanes.{sends_at}
-use Rattle.bridge_core.specs.LaneState.{LaneOf, visit_of, HasHandled, Handles}
+use Rattle.bridge_core.specs.Lanes.{Visit, sends_at}
+use Rattle.bridge_core.specs.LaneState.{LaneOf, visit_of, AreLeft, HasHandled, Handles}
+use Rattle.bridge_core.specs.inner.VideoStreams.{Answers}
 use Rattle.bridge_core.specs.Sound.{IsSound, AreFresh}
 use Rattle.bridge_core.specs.Steps.{Step, version_of, desk_of, count_of, along, visit_at, visits, visit_after, CoreOf, Takes}
 
@@ -81,6 +83,20 @@ slice_get-set (z ∷ xs) zero (suc j) x y e = inr ((λ h. absurd (omega arith)),
 slice_get-set (z ∷ xs) (suc i) zero x y e = inr ((λ h. absurd (omega arith)), e)
 slice_get-set (z ∷ xs) (suc i) (suc j) x y e =
     elim (slice_get-set xs i j x y e) [ inl p ↦ inl (ap suc p.0, p.1) | inr p ↦ inr ((λ h. p.0 (omega arith)), p.1) ]
+
+-- what the parts of a lane answer, a lane handles
+pub handles : (old new : LaneOf) (version : ℕ) (desk : Desk) (input : Input) (sent : List Sent) → Answers old.lane old.lanes old.video new.video (visit_of version (old.handled + 1) desk input) sent
+    → new.lane ≡ old.lane → new.lanes ≡ old.lanes → new.handled ≡ old.handled + 1 → Handles old new version desk input sent
+handles old new version desk input sent does lane lanes handled before stands =
+    let v = visit_of version (length before + 1) desk input in
+    let same : visit_of version (old.handled + 1) desk input ≡ v = ap (λ n. visit_of version (n + 1) desk input) stands.handled in
+    let done = subst (λ (w : Visit). Answers old.lane old.lanes old.video new.video w sent) same does before stands.video in (
+      done.0,
+      record {
+        handled = omega (arith, length_push before v, handled, stands.handled);
+        video = subst (λ l. AreLeft l new.lanes new.video (before ++ v ∷ [])) (sym lane) (subst (λ l. AreLeft old.lane l new.video (before ++ v ∷ [])) (sym lanes) done.1);
+      },
+    )
 
 -- an item that a lane handles
 pub handled : (old new : CoreOf) (lane : ℕ) (state after : LaneOf) (input : Input) (sent : List Sent)

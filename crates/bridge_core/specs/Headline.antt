@@ -1,63 +1,72 @@
--- Each outgoing stream numbers without a gap, and each packet is its version's choice.
-use Rattle.std.specs.Prelude.{◌≡◌, ℕ, ◌+◌, ◌%◌, ◌^◌, Bool, true, nat_eq, List, [], ◌∷◌, map, filter, Option, Some, option_map}
-use Rattle.std.specs.List.{flat_map, AllByRecursion}
-use Rattle.desk_rows.specs.declared.row.Row.{Row}
-use Rattle.desk_rows.specs.declared.row.Row.TheVariants.{Source}
-use Rattle.desk_rows.specs.declared.row.Media.TheVariants.{Video}
+-- Each stream numbers without a gap, each packet is its version's choice, each frame goes whole to all who chose it, and what is sent again was sent before.
+use Rattle.std.specs.Prelude.{◌≡◌, ℕ, ◌+◌, ◌%◌, ◌^◌, true, List, [], ◌∷◌, map, Some, None, option_map}
+use Rattle.std.specs.List.{AllByRecursion, Contains}
 use Rattle.desk_rows.specs.Desk.{Desk, good}
-use Rattle.bridge_core.specs.Choice.{choice, comes_from}
-use Rattle.bridge_core.specs.Reach.{receiver_on}
-use Rattle.bridge_core.specs.Frame.{SourceFrame}
-use Rattle.bridge_core.specs.Sent.{Sent}
+use Rattle.retransmit.specs.SentPacket.{SentPacket}
+use Rattle.retransmit.specs.Window.{room, latest}
+use Rattle.topology.specs.Looking.{comes_from, member_from}
+use Rattle.topology.specs.Choice.{choice}
+use Rattle.topology.specs.Receivers.{receiver_on}
+use Rattle.forward_rewrite.specs.Frame.{SourceFrame}
+use Rattle.forward_rewrite.specs.Sending.{Sending}
+use Rattle.forward_rewrite.specs.RoutedList.{part_of, numbered}
+use Rattle.bridge_core.specs.Sent.{Sent, MediaPacket, Request}
 use Rattle.bridge_core.specs.Sent.Sent.{media}
-use Rattle.bridge_core.specs.Steps.{Step}
-
--- the packet is of this stream
-abbrev pub is_on : ℕ → Sent → Bool
-is_on ssrc (media p) = nat_eq p.ssrc ssrc
+use Rattle.bridge_core.specs.Lanes.{Visit, packets, goes}
+use Rattle.bridge_core.specs.Steps.{Step, visits}
+use Rattle.bridge_core.specs.Named.{Kind, firsts}
 
 -- a packet's number
 abbrev pub number_of : Sent → ℕ
 number_of (media p) = p.number
 
--- all that is sent on a stream, in order
-abbrev pub sent_on : ℕ → List (List Sent) → List Sent
-sent_on ssrc sent = filter (is_on ssrc) (flat_map (λ es. es) sent)
-
 -- the numbers of packets in a row
 abbrev pub numbers : List Sent → List ℕ
 numbers sent = map number_of sent
 
--- each number is one more than that before it, modulo 2 ^ 16, the first one than this
+-- Each number is one more than that before it, modulo 2 ^ 16, the first one than this.
 abbrev pub FollowOn : ℕ → List ℕ → Type 0
 FollowOn n [] = Unit {0}
 FollowOn n (m ∷ ms) = (m ≡ (n + 1) % 2 ^ 16) × FollowOn m ms
 
--- each number but the first is one more than that before it, modulo 2 ^ 16
+-- Each number but the first is one more than that before it, modulo 2 ^ 16.
 abbrev pub HaveNoGap : List ℕ → Type 0
 HaveNoGap [] = Unit {0}
 HaveNoGap (n ∷ ns) = FollowOn n ns
 
--- a desk that is published is good
+-- A desk that is published is good.
 abbrev pub IsGood : Step → Type 0
 IsGood (Step.publish desk) = good desk ≡ true
 IsGood (Step.item lane input) = Unit {0}
 
--- all desks that are published are good
+-- All desks that are published are good.
 abbrev pub AreGood : List Step → Type 0
 AreGood steps = AllByRecursion IsGood steps
 
--- the packet names this version, and its desk has its stream choose the frame's source, whose member has the frame's address
-abbrev pub IsChosen : ℕ → Desk → SourceFrame → Sent → Type 0
-IsChosen version desk f (media p) =
-    (p.version ≡ version) × (choice desk p.ssrc ≡ Some f.source) × (comes_from desk f.source f.address ≡ true)
+-- The packet is sent first at this visit; by its version's desk, its stream chose the frame's source, which is at the frame's address, and it goes to its slot's member.
+pub record IsChosen (visit : Visit) (f : SourceFrame) (p : MediaPacket) : Type 0 where
+  pub version : p.version ≡ visit.version
+  pub item : p.item ≡ visit.item
+  pub first : p.resent_by ≡ None
+  pub choice : choice visit.desk p.ssrc ≡ Some f.source
+  pub from : comes_from visit.desk f.source f.address ≡ true
+  pub to : option_map (λ r. r.address) (receiver_on visit.desk f.source f.address p.ssrc) ≡ Some p.to
 
--- the packet names this item, and goes to the address of its stream's receiver
-abbrev pub GoesOut : ℕ → Desk → SourceFrame → Sent → Type 0
-GoesOut item desk f (media p) =
-    (p.item ≡ item) × (option_map (λ r. r.address) (receiver_on desk f.source f.address p.ssrc) ≡ Some p.to)
+-- What is sent of a frame is chosen.
+abbrev pub IsChosenOf : Visit → SourceFrame → Sent → Type 0
+IsChosenOf visit f (media p) = IsChosen visit f p
 
--- a video source was found
-abbrev pub IsVideo : Option Row → Type 0
-IsVideo (Some (Source s)) = s.media ≡ Video
-IsVideo _ = ⊥
+-- What is sent on a stream is all packets of this frame, in order, numbered in a row and with one timestamp, for the first time.
+pub record GoesWhole (ssrc : ℕ) (sending : Sending) (sent : List Sent) : Type 0 where
+  pub number : ℕ
+  pub ts : ℕ
+  pub whole : sent ≡ map (goes ssrc None) (numbered ssrc number (map (part_of record { sending = sending; ts = ts }) sending.frame.frame.packets))
+
+-- What is sent again is, octet for octet, one of the last 512 packets that were sent on the stream for the first time; who asks is a member at the address to which it went then.
+pub record LeadsBack (lanes : ℕ) (start : Desk) (before : List Step) (lane : ℕ) (visit : Visit) (request : Request) (sent : Sent) : Type 0 where
+  pub packet : SentPacket
+  pub same : sent ≡ goes request.out_ssrc (Some visit.version) packet
+  pub sent_before : Contains (firsts lanes start (record { kind = Kind.video; ssrc = request.out_ssrc }) before) (goes request.out_ssrc None packet)
+  pub recent : Contains (latest room (packets request.out_ssrc (visits lane start before))) packet
+  pub address : packet.owner.address ≡ request.from
+  pub member : member_from visit.desk request.from ≡ Some packet.owner.member

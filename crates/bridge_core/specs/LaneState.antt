@@ -1,27 +1,35 @@
 -- What a lane keeps.
 use Rattle.std.specs.Prelude.{◌≡◌, ℕ, ◌+◌, true, nat_eq, List, [], ◌∷◌, ◌++◌, length, Option}
-use Rattle.std.specs.List.{find}
+use Rattle.std.specs.Map.{lookup}
 use Rattle.desk_rows.specs.Desk.{Desk}
-use Rattle.bridge_core.specs.declared.stream.Stream.{Stream}
+use Rattle.forward_rewrite.specs.Streams.{StreamOf}
 use Rattle.bridge_core.specs.OwnStreams.{is_mine}
 use Rattle.bridge_core.specs.Sent.{Sent, Input}
 use Rattle.bridge_core.specs.Lanes.{Visit, routed, stream_of, sends_at}
 
--- the lane, how many lanes there are, how many items it has handled, and the streams that have begun
+-- the streams that have begun, by SSRC
+abbrev pub StreamList : Type 0
+StreamList = List (ℕ × StreamOf)
+
+-- the lane, how many lanes there are, how many items it has handled, and its video streams
 pub record LaneOf : Type 0 where
   pub lane : ℕ
   pub lanes : ℕ
   pub handled : ℕ
-  pub streams : List Stream
+  pub video : StreamList
 
 -- the stream with this SSRC, if it has begun
-abbrev pub stream_at : ℕ → List Stream → Option Stream
-stream_at ssrc streams = find (λ s. nat_eq s.ssrc ssrc) streams
+abbrev pub stream_at : ℕ → StreamList → Option StreamOf
+stream_at ssrc streams = lookup (nat_eq ssrc) streams
 
--- The lane has handled these items: a stream of the lane is there if it sent any of them, and stands as they leave it.
+-- The streams are where these items leave them: each of the lane's is there if it sent any of them, and stands as they leave it.
+abbrev pub AreLeft : ℕ → ℕ → StreamList → List Visit → Type 0
+AreLeft lane lanes streams visits = (ssrc : ℕ) → is_mine lane lanes ssrc ≡ true → stream_at ssrc streams ≡ stream_of ssrc (routed ssrc visits)
+
+-- The lane has handled these items.
 pub record HasHandled (state : LaneOf) (visits : List Visit) : Type 0 where
   pub handled : state.handled ≡ length visits
-  pub streams : (ssrc : ℕ) → is_mine state.lane state.lanes ssrc ≡ true → stream_at ssrc state.streams ≡ stream_of ssrc (routed ssrc visits)
+  pub video : AreLeft state.lane state.lanes state.video visits
 
 -- an input under this version, as this item, with this desk
 abbrev pub visit_of : ℕ → ℕ → Desk → Input → Visit

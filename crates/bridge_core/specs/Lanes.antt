@@ -1,18 +1,22 @@
 -- What a lane sends, as a function of all its items, in their order.
-use Rattle.std.specs.Prelude.{ℕ, nat_eq, List, [], ◌∷◌, ◌++◌, length, map, drop, Option, None, Some, option_map}
-use Rattle.std.specs.List.{flat_map, filter_map, find}
+use Rattle.std.specs.Prelude.{ℕ, Bool, List, [], ◌∷◌, ◌++◌, length, map, filter, drop, Option, None, Some, option_map}
+use Rattle.std.specs.List.{flat_map, filter_map}
 use Rattle.desk_rows.specs.declared.row.Slot.{Slot as SlotRow}
 use Rattle.desk_rows.specs.Desk.{Desk}
-use Rattle.bridge_core.specs.declared.receivers.Receiver.{Receiver}
-use Rattle.bridge_core.specs.declared.stream.Stream.{Stream}
-use Rattle.bridge_core.specs.Frame.{SourceFrame}
-use Rattle.bridge_core.specs.Sending.{Sending, Numbered}
-use Rattle.bridge_core.specs.RoutedList.{packets_of}
-use Rattle.bridge_core.specs.Streams.{state_of}
-use Rattle.bridge_core.specs.Receivers.{receivers, receivers_in}
+use Rattle.retransmit.specs.declared.owner.Owner.{Owner}
+use Rattle.retransmit.specs.SentPacket.{SentPacket}
+use Rattle.retransmit.specs.Window.{room, latest}
+use Rattle.topology.specs.declared.receivers.Receiver.{Receiver}
+use Rattle.topology.specs.Receivers.{receivers, receiver_on}
+use Rattle.forward_rewrite.specs.Frame.{SourceFrame}
+use Rattle.forward_rewrite.specs.Sending.{Sending}
+use Rattle.forward_rewrite.specs.RoutedList.{packets_of}
+use Rattle.forward_rewrite.specs.Streams.{StreamOf, state_of}
+use Rattle.feedback.specs.Resends.{resends}
+use Rattle.bridge_core.specs.OwnStreams.{is_mine}
 use Rattle.bridge_core.specs.Sent.{Sent, Input}
 use Rattle.bridge_core.specs.Sent.Sent.{media}
-use Rattle.bridge_core.specs.Sent.Input.{frame}
+use Rattle.bridge_core.specs.Sent.Input.{frame, nack}
 
 -- an item that a lane handles: under which version, as which of the lane's items from 1, with the desk of that version
 pub record Visit : Type 0 where
@@ -26,25 +30,21 @@ pub record Routed : Type 0 where
   pub slot : SlotRow
   pub sending : Sending
 
+-- who gets what goes to a receiver: its slot's member, at its address
+abbrev pub owner_of : Receiver → Owner
+owner_of r = record { member = r.slot.member; address = r.address }
+
 -- a frame for a receiver: by its slot, to its member at its address, by the version and as the item of the visit
 abbrev pub routed_to : Visit → SourceFrame → Receiver → Routed
 routed_to visit f r = record {
   slot = r.slot;
-  sending = record {
-    frame = f;
-    version = visit.version;
-    item = visit.item;
-    owner = record { member = r.slot.member; address = r.address };
-  };
+  sending = record { frame = f; version = visit.version; item = visit.item; owner = owner_of r };
 }
 
--- the receiver with this outgoing SSRC
-abbrev pub receiver_at : ℕ → List Receiver → Option Receiver
-receiver_at ssrc rs = find (λ r. nat_eq r.slot.out_ssrc ssrc) rs
-
--- what an input brings to a stream
+-- what an input brings to a stream: a frame where the desk has the stream's slot, this chose the frame's source, and the source's member has the frame's address
 abbrev pub routed_of : ℕ → Visit → Input → Option Routed
-routed_of ssrc visit (frame f) = option_map (routed_to visit f) (receiver_at ssrc (receivers visit.desk f.source f.address))
+routed_of ssrc visit (frame f) = option_map (routed_to visit f) (receiver_on visit.desk f.source f.address ssrc)
+routed_of ssrc visit (nack request) = None
 
 -- what a visit brings to a stream
 abbrev pub routed_at : ℕ → Visit → Option Routed
@@ -59,34 +59,46 @@ abbrev pub sendings : List Routed → List Sending
 sendings rs = map (λ r. r.sending) rs
 
 -- all packets of a routed list: the stream begins with the first frame, and takes its first number and timestamp from the slot row of then
-abbrev pub packets_sent : ℕ → List Routed → List Numbered
+abbrev pub packets_sent : ℕ → List Routed → List SentPacket
 packets_sent ssrc [] = []
 packets_sent ssrc (r ∷ rs) = packets_of ssrc r.slot.first_seq r.slot.first_ts (sendings (r ∷ rs))
 
 -- the stream after a routed list, if it has begun
-abbrev pub stream_of : ℕ → List Routed → Option Stream
+abbrev pub stream_of : ℕ → List Routed → Option StreamOf
 stream_of ssrc [] = None
 stream_of ssrc (r ∷ rs) = Some (state_of ssrc r.slot.first_seq r.slot.first_ts (sendings (r ∷ rs)))
 
 -- all packets of a stream
-abbrev pub packets : ℕ → List Visit → List Numbered
+abbrev pub packets : ℕ → List Visit → List SentPacket
 packets ssrc visits = packets_sent ssrc (routed ssrc visits)
 
 -- the packets of a stream that an item adds
-abbrev pub packets_at : ℕ → List Visit → Visit → List Numbered
+abbrev pub packets_at : ℕ → List Visit → Visit → List SentPacket
 packets_at ssrc before visit = drop (length (packets ssrc before)) (packets ssrc (before ++ visit ∷ []))
 
--- a packet as it goes to its receiver
-abbrev pub sent_to : ℕ → ℕ → Receiver → Numbered → Sent
-sent_to version item r packet =
-    media record { version = version; item = item; to = r.address; ssrc = r.slot.out_ssrc; number = packet.number; bytes = packet.bytes }
+-- a packet of a stream as it goes to its owner, and by which version again
+abbrev pub goes : ℕ → Option ℕ → SentPacket → Sent
+goes ssrc resent_by p = media record {
+  version = p.version;
+  item = p.item;
+  to = p.owner.address;
+  ssrc = ssrc;
+  number = p.number;
+  bytes = p.bytes;
+  resent_by = resent_by;
+}
 
--- what a lane sends of an input, after the items before it
-abbrev pub sends_of : ℕ → ℕ → List Visit → Visit → Input → List Sent
-sends_of lane lanes before visit (frame f) =
-    flat_map (λ r. map (sent_to visit.version visit.item r) (packets_at r.slot.out_ssrc before visit))
-    (receivers_in lane lanes visit.desk f.source f.address)
+-- what is sent of an input, after the items before it: a frame to each of its receivers, by place and index; to who asks again, what it was sent of the stream's last 512 packets
+abbrev pub sent_of_input : List Visit → Visit → Input → List Sent
+sent_of_input before visit (frame f) =
+    flat_map (λ r. map (goes r.slot.out_ssrc None) (packets_at r.slot.out_ssrc before visit)) (receivers visit.desk f.source f.address)
+sent_of_input before visit (nack request) =
+    map (goes request.out_ssrc (Some visit.version)) (resends visit.desk request.from request.numbers (latest room (packets request.out_ssrc before)))
 
--- what a lane sends at a visit, after those before it
+-- the packet is on one of the lane's streams
+abbrev pub is_lanes : ℕ → ℕ → Sent → Bool
+is_lanes lane lanes (media p) = is_mine lane lanes p.ssrc
+
+-- what a lane sends at a visit, after those before it: of what is sent of the input, the packets on its own streams
 abbrev pub sends_at : ℕ → ℕ → List Visit → Visit → List Sent
-sends_at lane lanes before visit = sends_of lane lanes before visit visit.input
+sends_at lane lanes before visit = filter (is_lanes lane lanes) (sent_of_input before visit visit.input)

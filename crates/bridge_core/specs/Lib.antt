@@ -1,19 +1,9 @@
-pub mod Frame
-pub mod Sending
-pub mod Timestamps
-pub mod RoutedList
-pub mod Prepared
-pub mod Streams
-pub mod Counters
-pub mod Choice
 pub mod OwnStreams
-pub mod Receivers
-pub mod Reach
 pub mod Sent
 pub mod Lanes
 pub mod LaneState
-pub mod Readies
 pub mod Steps
+pub mod Named
 pub mod Calls
 pub mod Sound
 pub mod Runs
@@ -21,4 +11,6 @@ pub mod EveryLane
 pub mod Headline
 pub mod Following
 pub mod UndoRuns
+pub mod Events
+pub mod WholeRuns
 pub mod inner

@@ -1,2 +1,2 @@
-pub mod StreamTable
-pub mod Takers
+pub mod Readies
+pub mod VideoStreams

@@ -70,7 +70,7 @@ impl<A: Allocator + Copy> Core<A> {
         let Ok(rows) = Rows::new(alloc, settings.bridge_ssrc) else {
             return Err(CoreFault::OutOfMemory);
         };
-        let Ok(states) = lane_states(alloc, lanes, &settings) else {
+        let Ok(states) = lane_states(alloc, lanes) else {
             return Err(CoreFault::OutOfMemory);
         };
         Ok(Self {
@@ -148,7 +148,9 @@ impl<A: Allocator + Copy> Core<A> {
             Ok(()) => {}
             Err(HistoryFault::OutOfMemory) => return Err(Refusal::OutOfMemory),
             // No more edits are done than calls were accepted.
-            Err(_) => unreachable!(),
+            Err(HistoryFault::LogFull) => unreachable!(),
+            Err(HistoryFault::NothingToUndo) => unreachable!(),
+            Err(HistoryFault::NothingToRedo) => unreachable!(),
         }
         self.version += 1;
         Ok(())
@@ -263,7 +265,6 @@ fn before_memory(why: Refusal, version: u64) -> Refusal
 fn lane_states<A: Allocator + Copy>(
     alloc: A,
     lanes: u32,
-    settings: &Settings<A>,
 ) -> Result<Vec<LaneState<A>, A>, AllocError>
     requires { lanes ≤ most_lanes }
     ensures fresh { IfOk result (λ v. AreFresh lanes v.items) }
@@ -271,7 +272,7 @@ fn lane_states<A: Allocator + Copy>(
 {
     let mut states = Vec::with_capacity(alloc, lanes as usize)?;
     for lane in 0..lanes {
-        let state = LaneState::new(alloc, lane, lanes, settings)?;
+        let state = LaneState::new(alloc, lane, lanes)?;
         states.push(state)?;
     }
     Ok(states)

@@ -1,28 +1,32 @@
 //! Laws of all that the lanes send, whatever the order of calls and items, and of all that calls do.
 
-ghost use Rattle.std.specs.Prelude.{◌≡◌, ℕ, ◌+◌, ◌%◌, ◌<◌, ◌≤◌, true, false, List, [], length, fold, reverse, Some};
+ghost use Rattle.std.specs.Prelude.{◌≡◌, ℕ, ◌+◌, ◌%◌, ◌<◌, ◌≤◌, true, List, [], ◌∷◌, length, map, filter, fold, reverse, None, Some};
 ghost use Rattle.std.specs.List.{AllByRecursion};
-ghost use Rattle.desk_rows.specs.Desk.{Desk, good, row_at, room_at, same_room};
+ghost use Rattle.desk_rows.specs.Desk.{Desk, good};
 ghost use Rattle.undo_log.specs.Timeline.{rewound};
-ghost use Rattle.desk_rows.specs.declared.row.Key.TheVariants as keys;
 ghost use Rattle.desk_rows.specs.Edit.{inverse};
 ghost use Rattle.desk_rows.specs.Exchange.{after};
 ghost use Rattle.desk_edit.specs.declared.command.Command.{Command};
-ghost use Rattle.desk_edit.specs.Calls.{CallHistory};
-ghost use Rattle.rtp_codec.specs.declared.address.Address.{Address};
-ghost use Rattle.bridge_core.specs.Frame.{SourceFrame};
-ghost use Rattle.bridge_core.specs.Choice.{choice, is_muted};
-ghost use Rattle.bridge_core.specs.Receivers.{receivers};
-ghost use Rattle.bridge_core.specs.Lanes.{receiver_at};
-ghost use Rattle.bridge_core.specs.Reach.{receiver_on};
-ghost use Rattle.bridge_core.specs.Sent.{Input, Sent};
-ghost use Rattle.bridge_core.specs.Steps.{Step, sends, sent_at, version_of, desk_of, count_of, visits, CoreOf, HasTaken};
+ghost use Rattle.desk_edit.specs.Calls.{CallHistory, no_calls};
+ghost use Rattle.topology.specs.declared.receivers.Receiver.{Receiver};
+ghost use Rattle.topology.specs.Receivers.{receiver_on};
+ghost use Rattle.forward_rewrite.specs.Frame.{SourceFrame};
+ghost use Rattle.bridge_core.specs.OwnStreams.{is_mine};
+ghost use Rattle.bridge_core.specs.Sent.{Input, Request, Sent};
+ghost use Rattle.bridge_core.specs.Lanes.{packets, goes, routed_to, sends_at};
+ghost use Rattle.bridge_core.specs.Steps.{Step, sends, sent_at, visits, visit_after, desk_of, CoreOf, HasTaken};
 ghost use Rattle.bridge_core.specs.declared.reply.Reply.{Reply};
 ghost use Rattle.bridge_core.specs.Following.{HasCalled};
 ghost use Rattle.bridge_core.specs.UndoRuns.{AcceptsAll, UndoesInARow, RedoesInARow, IsAsWas, all_accepted};
 ghost use Rattle.bridge_core.specs.Runs.{Runs};
 ghost use Rattle.bridge_core.specs.EveryLane.{to_every};
-ghost use Rattle.bridge_core.specs.Headline.{IsVideo, AreGood, HaveNoGap, numbers, sent_on, IsChosen, GoesOut};
+ghost use Rattle.bridge_core.specs.Events.{Event, Plays, steps_of};
+ghost use Rattle.bridge_core.specs.WholeRuns.{Holds};
+ghost use Rattle.bridge_core.specs.Named.{Name, Kind, is_on, sent_on, firsts};
+ghost use Rattle.bridge_core.specs.Headline.{AreGood, HaveNoGap, numbers, IsChosenOf, GoesWhole, LeadsBack};
+
+use forward_rewrite::{each_frame_goes_whole, found_is_what_was_sent, numbers_in_a_row};
+use topology::{all_who_chose_receive, receivers_are_distinct};
 
 /// Over any steps that cores take one by one, from a core that has taken nothing on: what is sent,
 /// joined in order, is what `sends` gives for the whole list, and the last core has taken all of it.
@@ -30,11 +34,24 @@ pub fn all_that_is_sent()
     ensures { (start : Desk) (steps : List Step) (sent : List (List Sent)) (first last : CoreOf) → HasTaken first start [] → Runs first steps sent last → (sent ≡ sends (length first.lanes) start steps) × HasTaken last start steps }
 {}
 
+/// What is sent on a video stream for the first time, over all versions of the desk and however many
+/// lanes there are, is its routed list: all packets of all frames that the items of its lane bring it.
+pub fn streams_are_routed_lists()
+    ensures { (lanes : ℕ) (start : Desk) (steps : List Step) (ssrc : ℕ) → good start ≡ true → AreGood steps → firsts lanes start (record { kind = Kind.video; ssrc = ssrc }) steps ≡ map (goes ssrc None) (packets ssrc (visits (ssrc % lanes) start steps)) }
+{
+    each_frame_goes_whole();
+    receivers_are_distinct();
+    all_who_chose_receive();
+}
+
 /// Each outgoing stream numbers its packets without a gap modulo 65536, over all versions of the
-/// desk and however many lanes there are.
+/// desk and however many lanes there are. What is sent again has the number that it had.
 pub fn streams_have_no_gap()
-    ensures { (lanes : ℕ) (start : Desk) (steps : List Step) (ssrc : ℕ) → good start ≡ true → AreGood steps → HaveNoGap (numbers (sent_on ssrc (sends lanes start steps))) }
-{}
+    ensures { (lanes : ℕ) (start : Desk) (steps : List Step) (name : Name) → good start ≡ true → AreGood steps → HaveNoGap (numbers (firsts lanes start name steps)) }
+{
+    streams_are_routed_lists();
+    numbers_in_a_row();
+}
 
 /// What is sent on a stream follows from the items of its lane and their desks alone: there may be
 /// any number of lanes, and the other lanes may be given anything. So it is the same on any number of
@@ -44,27 +61,35 @@ pub fn lane_count_does_not_matter()
     ensures every_lane { (few many : ℕ) (start : Desk) (steps : List Step) (ssrc : ℕ) → 0 < few → 0 < many → sent_on ssrc (sends few start (to_every few steps)) ≡ sent_on ssrc (sends many start (to_every many steps)) }
 {}
 
-/// Each packet that is sent for a frame is what the desk of its version chooses. It names the
-/// version and the item, and on a good desk it goes to the member of its stream's slot.
+/// Each packet that is sent for a frame names the version and the item, and goes where the desk of
+/// that version has it go: its stream chose the frame's source, and its slot's member has the address.
 pub fn packets_are_chosen()
-    ensures chosen { (lanes lane : ℕ) (start : Desk) (before : List Step) (f : SourceFrame) → AllByRecursion (AllByRecursion (IsChosen (version_of before) (desk_of start before) f)) (sent_at lanes start before (Step.item lane (Input.frame f))) }
-    ensures goes_out { (lanes lane : ℕ) (start : Desk) (before : List Step) (f : SourceFrame) → good (desk_of start before) ≡ true → AllByRecursion (AllByRecursion (GoesOut (count_of lane before + 1) (desk_of start before) f)) (sent_at lanes start before (Step.item lane (Input.frame f))) }
-{}
+    ensures { (lanes lane : ℕ) (start : Desk) (before : List Step) (f : SourceFrame) → good (desk_of start before) ≡ true → AllByRecursion (AllByRecursion (IsChosenOf (visit_after start before lane (Input.frame f)) f)) (sent_at lanes start before (Step.item lane (Input.frame f))) }
+{
+    each_frame_goes_whole();
+    receivers_are_distinct();
+    all_who_chose_receive();
+}
 
-/// On a good desk, what a stream sends is a video source of the room that its slot is in, and not
-/// muted.
-pub fn choices_stay_in_the_room()
-    ensures room { (desk : Desk) (out_ssrc source : ℕ) → good desk ≡ true → choice desk out_ssrc ≡ Some source → same_room (room_at desk (keys.Source source)) (room_at desk (keys.Slot out_ssrc)) ≡ true }
-    ensures video { (desk : Desk) (out_ssrc source : ℕ) → good desk ≡ true → choice desk out_ssrc ≡ Some source → IsVideo (row_at desk (keys.Source source)) }
-    ensures heard { (desk : Desk) (out_ssrc source : ℕ) → choice desk out_ssrc ≡ Some source → is_muted desk source ≡ false }
-{}
+/// All whose streams are the lane's and chose the frame's source at its address get all packets of
+/// the frame, in order, with its payloads, markers and payload types.
+pub fn frames_go_whole()
+    ensures { (lanes lane : ℕ) (start : Desk) (before : List Step) (f : SourceFrame) (ssrc : ℕ) (r : Receiver) → good (desk_of start before) ≡ true → is_mine lane lanes ssrc ≡ true → receiver_on (desk_of start before) f.source f.address ssrc ≡ Some r → (let visit = visit_after start before lane (Input.frame f) in GoesWhole ssrc (routed_to visit f r).sending (filter (is_on ssrc) (sends_at lane lanes (visits lane start before) visit))) }
+{
+    each_frame_goes_whole();
+    receivers_are_distinct();
+    all_who_chose_receive();
+}
 
-/// On a good desk, what a source sends from an address goes out on a stream just where the desk has
-/// the stream's slot, this chose the source, and the source's member has the address; and it goes to
-/// the address of the slot's member.
-pub fn all_who_chose_receive()
-    ensures { (desk : Desk) (source : ℕ) (address : Address) (out_ssrc : ℕ) → good desk ≡ true → receiver_at out_ssrc (receivers desk source address) ≡ receiver_on desk source address out_ssrc }
-{}
+/// Each packet that is sent again is, octet for octet and under its number, one of the last 512 that
+/// were sent on its stream; and who asks for it is the member to whom it went, at the address to which
+/// it went. It names the version and the item by which it was sent first.
+pub fn resends_lead_back()
+    ensures { (lanes lane : ℕ) (start : Desk) (before : List Step) (request : Request) → good start ≡ true → AreGood before → (let visit = visit_after start before lane (Input.nack request) in AllByRecursion (AllByRecursion (LeadsBack lanes start before lane visit request)) (sent_at lanes start before (Step.item lane (Input.nack request)))) }
+{
+    streams_are_routed_lists();
+    found_is_what_was_sent();
+}
 
 /// The edits that are kept lead from the start to the desk of the command equations; taken back,
 /// the last one first, they lead to the start again, whatever the commands removed.
@@ -93,3 +118,26 @@ pub fn commands_come_back()
 pub fn undos_are_redone()
     ensures { (first back last : CoreOf) (n : ℕ) (replies later : List Reply) → n ≤ length first.done → UndoesInARow first n replies back → RedoesInARow back n later last → (later ≡ all_accepted back.version n) × IsAsWas last first }
 {}
+
+/// The headline. For a first desk, any list of accepted calls and items in any order, and any number of
+/// lanes, as cores that take them one by one answer:
+///
+/// - accepted commands, undone from their end, give back the desk before them, members at their places;
+/// - each packet is what the desk of the version that it names says: it chose the packet's source, who
+///   gets it, and that all who chose it get the whole frame;
+/// - each stream numbers without a gap modulo 65536;
+/// - a number asked for again leads back to just the packet that had it, for its owner alone;
+/// - the number of lanes makes no difference to a stream.
+pub fn the_headline()
+    ensures undone { (first middle last : CoreOf) (commands : List Command) (replies : List Reply) → AcceptsAll first commands middle → UndoesInARow middle (length commands) replies last → (replies ≡ all_accepted middle.version (length commands)) × (last.desk ≡ first.desk) × (last.done ≡ first.done) }
+    ensures holds { (start : Desk) (events : List Event) (sent : List (List Sent)) (first last : CoreOf) → good start ≡ true → HasTaken first start [] → HasCalled first (no_calls start) → Plays first events sent last → Holds (length first.lanes) start (steps_of (no_calls start) events) sent }
+    ensures lanes { (few many : ℕ) (start : Desk) (events : List Event) (ssrc : ℕ) → 0 < few → 0 < many → (let steps = steps_of (no_calls start) events in sent_on ssrc (sends few start (to_every few steps)) ≡ sent_on ssrc (sends many start (to_every many steps))) }
+{
+    commands_come_back();
+    streams_are_routed_lists();
+    streams_have_no_gap();
+    packets_are_chosen();
+    frames_go_whole();
+    resends_lead_back();
+    lane_count_does_not_matter();
+}

@@ -9,6 +9,8 @@ mod memory;
 #[cfg(test)]
 mod reading;
 #[cfg(test)]
+mod resending;
+#[cfg(test)]
 mod setup;
 #[cfg(test)]
 mod starving;

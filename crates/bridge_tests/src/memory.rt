@@ -1,6 +1,6 @@
 //! Refused memory: each allocation in turn, after which all is as if the call had not been made.
 
-use crate::setup::{core, frame, settings};
+use crate::setup::{core, frame, nack, settings};
 use bridge_core::{Core, CoreFault, Egress, Item, LaneFault, LaneState, Reply};
 use desk_edit::{Call, Command, Refusal};
 use desk_rows::Room;
@@ -29,16 +29,18 @@ fn hold(
     Ok(held)
 }
 
-/// What lane 0 sends for an item once the heap has enough memory left, and how often it had not.
+/// What lane 0 sends for an item once the heap has enough memory left, which grows by so many
+/// octets, and how often it had not.
 fn sent_at_last<'a>(
     alloc: Global,
     heap: &'a LocalHeap,
     core: &mut Core<&'a LocalHeap>,
     item: &Item<&'a LocalHeap>,
+    more: usize,
 ) -> Result<(Vec<Egress<&'a LocalHeap>, &'a LocalHeap>, u32), Fail> {
     let mut refusals: u32 = 0;
     for pieces in 0..1_024 {
-        let _held = hold(alloc, heap, 16 * pieces)?;
+        let _held = hold(alloc, heap, more.saturating_mul(pieces))?;
         if core.lanes() == 0 {
             return Err(Fail::from("no lane"));
         }
@@ -61,20 +63,44 @@ fn ends(sent: &[Egress<&LocalHeap>]) -> Option<(u64, u32, u32)> {
     }
 }
 
-/// A refused item takes no number, and the streams go on. A lane has room for 16 streams from the
-/// start.
+/// A refused item takes no number, and the streams go on: the first one begins three streams, each
+/// of which takes the memory of its window.
 #[test]
 fn an_item_is_sent_after_refusals(rt: HostRuntime) -> Result<(), Fail> {
     let heap = LocalHeap::new(rt.alloc(), 1 << 23)?;
-    let mut core = core(&heap, 1, 16)?;
-    for item in 1..3u64 {
-        let frame = frame(&heap)?;
-        let (sent, refusals) = sent_at_last(rt.alloc(), &heap, &mut core, &frame)?;
-        assert!(rt;
-            refusals > 3 && sent.len() == 16 && ends(&sent) == Some((item, 501, 516)),
-            "{refusals} refusals"
-        );
-    }
+    let mut core = core(&heap, 1, 3)?;
+    let first = frame(&heap)?;
+    let begun = sent_at_last(rt.alloc(), &heap, &mut core, &first, 512)?;
+    assert!(rt;
+        begun.1 > 100 && begun.0.len() == 3 && ends(&begun.0) == Some((1, 501, 503)),
+        "{} refusals",
+        begun.1
+    );
+    let second = frame(&heap)?;
+    let (sent, refusals) = sent_at_last(rt.alloc(), &heap, &mut core, &second, 16)?;
+    assert!(rt;
+        refusals > 3 && sent.len() == 3 && ends(&sent) == Some((2, 501, 503)),
+        "{refusals} refusals"
+    );
+    Ok(())
+}
+
+/// A NACK that is refused takes no number either.
+#[test]
+fn a_nack_is_answered_after_refusals(rt: HostRuntime) -> Result<(), Fail> {
+    let heap = LocalHeap::new(rt.alloc(), 1 << 23)?;
+    let mut core = core(&heap, 1, 1)?;
+    let first = frame(&heap)?;
+    let sent = sent_at_last(rt.alloc(), &heap, &mut core, &first, 4_096)?;
+    let item = nack(&heap, 2, &[65_535])?;
+    let (again, refusals) = sent_at_last(rt.alloc(), &heap, &mut core, &item, 512)?;
+    assert!(rt;
+        refusals > 100
+            && sent.0.len() == 1
+            && again.len() == 1
+            && ends(&again) == Some((1, 501, 501)),
+        "{refusals} refusals"
+    );
     Ok(())
 }
 
@@ -125,7 +151,7 @@ fn a_bridge_without_memory_is_refused(rt: HostRuntime) -> Result<(), Fail> {
     let none = LocalHeap::new(rt.alloc(), 16)?;
     let _held = Box::new(&none, 0u8)?;
     let settings = settings(&ample)?;
-    let lane = LaneState::new(&none, 0, 1, &settings).is_err();
+    let lane = LaneState::new(&none, 0, 1).is_err();
     let core = Core::new(&none, 1, settings).err();
     assert!(rt; lane && core == Some(CoreFault::OutOfMemory));
     Ok(())

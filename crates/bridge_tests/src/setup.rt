@@ -52,22 +52,46 @@ pub fn core<A: Allocator + Copy>(alloc: A, lanes: u32, slots: u32) -> Result<Cor
 
 /// A frame of one packet of the source 101.
 pub fn frame<A: Allocator + Copy>(alloc: A) -> Result<Item<A>, Fail> {
+    frame_of(alloc, 1)
+}
+
+/// A frame of so many packets of the source 101.
+pub fn frame_of<A: Allocator + Copy>(alloc: A, count: u16) -> Result<Item<A>, Fail> {
     let mut packets = Vec::new(alloc);
-    packets.push(FramePacket {
-        ext: 7,
-        marker: true,
-        pt: 100,
-        payload: Bytes::copy_from_slice(alloc, &[0xee])?,
-    })?;
+    for place in 0..count {
+        let ext = i64::from(place) + 1;
+        packets.push(FramePacket {
+            ext,
+            marker: ext == i64::from(count),
+            pt: 100,
+            payload: Bytes::copy_from_slice(alloc, &[0xee])?,
+        })?;
+    }
     let frame = Frame::new(0, packets).map_err(|_| Fail::from("no frame"))?;
     Ok(Item::Frame(MediaFrame {
         source: 101,
-        address: Address {
-            ip: [10, 0, 0, 1],
-            port: 5_000,
-        },
+        address: at(1),
         epoch: 1,
         moment: 0,
         frame,
     }))
+}
+
+/// The address 10.0.0.N:5000.
+fn at(n: u8) -> Address {
+    Address {
+        ip: [10, 0, 0, n],
+        port: 5_000,
+    }
+}
+
+/// A NACK from 10.0.0.N:5000 for numbers of stream 501.
+pub fn nack<A: Allocator + Copy>(alloc: A, n: u8, asked: &[u16]) -> Result<Item<A>, Fail> {
+    let mut numbers = Vec::new(alloc);
+    numbers.extend_from_slice(asked)?;
+    Ok(Item::Nack {
+        from: at(n),
+        out_ssrc: 501,
+        numbers,
+    })
 }

@@ -82,6 +82,7 @@ fn packet<A: Allocator + Copy>(alloc: A) -> Result<Egress<A>, AllocError> {
         ssrc: 501,
         number: 65_535,
         bytes: Bytes::copy_from_slice(alloc, &[0x81, 0x64, 0x0f, 0xf0])?,
+        resent_by: None,
     })
 }
 

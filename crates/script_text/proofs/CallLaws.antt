@@ -19,7 +19,7 @@ use Rattle.script_text.specs.Values.{field_of, value_text, AllFit, values_of, va
 use Rattle.script_text.specs.Calls.{name_text, all_names, name_of, shape_of, Spelt, fields_of, call_with, call_of, call_words, call_line, IsCall}
 use Rattle.frame_gate.specs.declared.frame.FrameFault.{FrameFault}
 use Rattle.frame_gate.specs.Frame.{fault_of}
-use Rattle.bridge_core.specs.Frame.{SourceFrame}
+use Rattle.forward_rewrite.specs.Frame.{SourceFrame}
 use Rattle.script_text.specs.Requests.{Desk, kind_text, kind_of, front_of, some_packets, sighted, framed, frame_of, request_with, words_request, desk_line}
 use Rattle.script_text.proofs.Joined.{AllFree, free_test, parts_joined}
 use Rattle.script_text.proofs.ValueLaws.{found_text, free_values, bind_ok, word_back, or_back, values_back, values_again}

@@ -6,7 +6,7 @@ use Rattle.std.proofs.lemmas.List.Splits.{join_with_byte-slice_split}
 use Rattle.hex.specs.Hex.{encode_lower, encode_with, lower_digits}
 use Rattle.frame_gate.specs.declared.frame.FrameFault.{FrameFault}
 use Rattle.frame_gate.specs.Frame.{SourcePacket, fault_of}
-use Rattle.bridge_core.specs.Frame.{SourceFrame}
+use Rattle.forward_rewrite.specs.Frame.{SourceFrame}
 use Rattle.bridge_core.specs.Sent.{Input}
 use Rattle.bridge_core.specs.Sent.Input.{frame}
 use Rattle.script_text.specs.declared.fault.Fault.{Fault}

@@ -5,7 +5,7 @@ use Rattle.std.specs.Str.{bytes_eq}
 use Rattle.desk_edit.specs.declared.command.Call.{Call}
 use Rattle.frame_gate.specs.declared.frame.FrameFault.{FrameFault}
 use Rattle.frame_gate.specs.Frame.{SourcePacket, fault_of}
-use Rattle.bridge_core.specs.Frame.{SourceFrame}
+use Rattle.forward_rewrite.specs.Frame.{SourceFrame}
 use Rattle.bridge_core.specs.Sent.{Input}
 use Rattle.bridge_core.specs.Sent.Input.{frame}
 use Rattle.script_text.specs.declared.fault.Fault.{Fault}

@@ -1,5 +1,5 @@
 -- What is printed (own): lines, as lists of words.
-use Rattle.std.specs.Prelude.{ℕ, List, [], ◌∷◌, ◌++◌, map, codes}
+use Rattle.std.specs.Prelude.{ℕ, List, [], ◌∷◌, ◌++◌, map, codes, Option, None, Some}
 use Rattle.std.specs.List.{join_with_byte}
 use Rattle.hex.specs.Hex.{encode_lower}
 use Rattle.desk_edit.specs.declared.refusal.Carried.{Carried}
@@ -7,7 +7,7 @@ use Rattle.desk_edit.specs.declared.refusal.Carried.TheVariants.{Nothing, Limit,
 use Rattle.desk_edit.specs.Told.{Told, table_text, told_of}
 use Rattle.bridge_core.specs.declared.reply.Reply.{Reply}
 use Rattle.bridge_core.specs.declared.reply.Reply.TheVariants.{Accepted, Refused}
-use Rattle.bridge_core.specs.Sent.{Sent}
+use Rattle.bridge_core.specs.Sent.{MediaPacket, Sent}
 use Rattle.bridge_core.specs.Sent.Sent.{media}
 use Rattle.script_text.specs.declared.fault.Fault.{Fault}
 use Rattle.script_text.specs.declared.fault.Fault.TheVariants.{LineTooLong, BadByte, UnknownWord, MissingWord, ExtraWord, BadNumber, BadAddress, BadHex, BadFrame}
@@ -58,9 +58,18 @@ abbrev pub reply_words : Reply → List Word
 reply_words (Accepted number) = fixed (codes "ok") ∷ value (U64 number) ∷ []
 reply_words (Refused at why) = fixed (codes "no") ∷ value (U64 at) ∷ told_words (told_of why)
 
--- the words of a packet that goes out: the version by which it does, the number of its item, where it goes, its stream's SSRC, its number there, and its octets
+-- the words of a packet: the version by which it was sent first, the number of its item, where it goes, its stream's SSRC, its number there, and its octets
+abbrev pub packet_words : MediaPacket → List Word
+packet_words p = value (U64 p.version) ∷ value (U64 p.item) ∷ value (Address p.to) ∷ value (U32 p.ssrc) ∷ value (U16 p.number) ∷ hex p.bytes ∷ []
+
+-- the words of a packet that goes out: for the first time, or again by a version
+abbrev pub media_words : Option ℕ → MediaPacket → List Word
+media_words None p = fixed (codes "tx") ∷ packet_words p
+media_words (Some version) p = fixed (codes "re") ∷ value (U64 version) ∷ packet_words p
+
+-- the words of what goes out
 abbrev pub sent_words : Sent → List Word
-sent_words (media p) = fixed (codes "tx") ∷ value (U64 p.version) ∷ value (U64 p.item) ∷ value (Address p.to) ∷ value (U32 p.ssrc) ∷ value (U16 p.number) ∷ hex p.bytes ∷ []
+sent_words (media p) = media_words p.resent_by p
 
 -- the line of a reply
 abbrev pub reply_text : Reply → List ℕ

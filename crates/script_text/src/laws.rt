@@ -9,7 +9,8 @@ ghost use Rattle.desk_rows.specs.Desk.{Desk as Rows, blank};
 ghost use Rattle.script_text.specs.Bridge.{first_desk, text_of};
 ghost use Rattle.script_text.specs.Output.{output_of};
 ghost use Rattle.script_text.specs.Scripts.{answers_of, sent_in, steps_of};
-ghost use Rattle.bridge_core.specs.Headline.{AreGood, HaveNoGap, numbers, sent_on};
+ghost use Rattle.bridge_core.specs.Headline.{AreGood, HaveNoGap, numbers};
+ghost use Rattle.bridge_core.specs.Named.{Name, firsts};
 ghost use Rattle.bridge_core.specs.Steps.{sends};
 ghost use Rattle.desk_edit.specs.Refusals.{first_case};
 ghost use Rattle.desk_edit.specs.Calls.{refusal_at};
@@ -18,7 +19,7 @@ ghost use Rattle.script_text.specs.Words.{words_of, Lacks};
 ghost use Rattle.script_text.specs.Numbers.{number_of, ext_of, IsExt};
 ghost use Rattle.script_text.specs.Addresses.{address_of, address_text, IsAddress};
 ghost use Rattle.frame_gate.specs.Frame.{SourcePacket};
-ghost use Rattle.bridge_core.specs.Frame.{SourceFrame};
+ghost use Rattle.forward_rewrite.specs.Frame.{SourceFrame};
 ghost use Rattle.bridge_core.specs.Sent.Input.{frame};
 ghost use Rattle.desk_edit.specs.declared.command.Call.{Call};
 ghost use Rattle.script_text.specs.Calls.{call_of, call_line, IsCall};
@@ -122,12 +123,11 @@ pub fn script_sends()
 {}
 
 /// Each desk that a script publishes is good, so the core's laws on good desks speak of scripts: each
-/// stream of a script numbers its packets without a gap modulo 65536.
+/// stream of a script numbers the packets that it sends for the first time without a gap modulo 65536.
 pub fn script_streams_have_no_gap()
     ensures good { (input : List ℕ) → AreGood (steps_of input) }
-    ensures no_gap { (input : List ℕ) (ssrc : ℕ) → HaveNoGap (numbers (sent_on ssrc (sent_in (answers_of input)))) }
+    ensures no_gap { (input : List ℕ) (name : Name) → HaveNoGap (numbers (firsts 1 first_desk name (steps_of input))) }
 {
     good_desks_stay_good();
     streams_have_no_gap();
-    script_sends();
 }

@@ -70,14 +70,19 @@ pub fn print_egress<A: Allocator + Copy>(
         ssrc,
         number,
         bytes,
+        resent_by,
     } = egress;
-    let words = [
-        Word::Value(Value::U64(*version)),
-        Word::Value(Value::U64(*item)),
-        Word::Value(Value::Address(*to)),
-        Word::Value(Value::U32(*ssrc)),
-        Word::Value(Value::U16(*number)),
-        Word::Hex(bytes.as_slice()),
-    ];
-    print_line(b"tx", &words, out)
+    let version = Word::Value(Value::U64(*version));
+    let item = Word::Value(Value::U64(*item));
+    let to = Word::Value(Value::Address(*to));
+    let ssrc = Word::Value(Value::U32(*ssrc));
+    let number = Word::Value(Value::U16(*number));
+    let octets = Word::Hex(bytes.as_slice());
+    match *resent_by {
+        None => print_line(b"tx", &[version, item, to, ssrc, number, octets], out),
+        Some(now) => {
+            let now = Word::Value(Value::U64(now));
+            print_line(b"re", &[now, version, item, to, ssrc, number, octets], out)
+        }
+    }
 }

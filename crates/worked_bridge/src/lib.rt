@@ -7,5 +7,6 @@ pub mod beginning;
 pub mod calling;
 pub mod framing;
 pub mod printing;
+pub mod running;
 pub mod spelling;
 pub mod stepping;

@@ -1,6 +1,6 @@
 //! What is printed, and the exit statuses.
 
-ghost use Rattle.std.specs.Prelude.{◌≡◌, [], ◌∷◌, codes, IfOk, OnOk};
+ghost use Rattle.std.specs.Prelude.{◌≡◌, [], ◌∷◌, codes, IfOk, OnOk, None, Some};
 ghost use Rattle.bridge_core.specs.Sent.{Sent, sent_of};
 
 use bridge_core::{Egress, Reply};
@@ -43,9 +43,18 @@ pub fn prints_a_full_table(alloc: Global) -> Result<Vec<u8>, AllocError>
 
 /// The line of a packet behind another line.
 pub fn prints_a_packet(egress: &Egress, out: &mut Vec<u8>) -> Result<(), AllocError>
-    requires packet { sent_of egress.now ≡ Sent.media record { version = 6; item = 1; to = record { ip = 10 ∷ 0 ∷ 0 ∷ 2 ∷ []; port = 5000 }; ssrc = 501; number = 65535; bytes = 129 ∷ 100 ∷ 15 ∷ 240 ∷ [] } }
+    requires packet { sent_of egress.now ≡ Sent.media record { version = 6; item = 1; to = record { ip = 10 ∷ 0 ∷ 0 ∷ 2 ∷ []; port = 5000 }; ssrc = 501; number = 65535; bytes = 129 ∷ 100 ∷ 15 ∷ 240 ∷ []; resent_by = None } }
     requires behind { out.old.items ≡ codes "ok 6\n" }
     ensures { OnOk result (out.new.items ≡ codes "ok 6\ntx 6 1 10.0.0.2:5000 501 65535 81640ff0\n") }
+{
+    print_egress(egress, out)
+}
+
+/// The line of a packet that is sent again, by version 11.
+pub fn prints_a_resend(egress: &Egress, out: &mut Vec<u8>) -> Result<(), AllocError>
+    requires packet { sent_of egress.now ≡ Sent.media record { version = 6; item = 1; to = record { ip = 10 ∷ 0 ∷ 0 ∷ 2 ∷ []; port = 5000 }; ssrc = 501; number = 0; bytes = 129 ∷ 228 ∷ []; resent_by = Some 11 } }
+    requires behind { out.old.items ≡ [] }
+    ensures { OnOk result (out.new.items ≡ codes "re 11 6 1 10.0.0.2:5000 501 0 81e4\n") }
 {
     print_egress(egress, out)
 }

@@ -2,7 +2,7 @@
 use Rattle.std.specs.Prelude.{◌≡◌, ◌≢◌, ℕ, ◌+◌, List, [], ◌∷◌, length, Option, Some, None, ◌++◌, Result, Ok, Err}
 use Rattle.std.specs.Borrow.{Bor}
 use Rattle.frame_gate.specs.Frame.{SourcePacket}
-use Rattle.bridge_core.specs.Frame.{SourceFrame}
+use Rattle.forward_rewrite.specs.Frame.{SourceFrame}
 use Rattle.bridge_core.specs.Sent.{input_of}
 use Rattle.script_text.specs.declared.fault.ParseFault.{ParseFault}
 use Rattle.script_text.specs.declared.packet.Parts.{Parts}

@@ -1,22 +1,13 @@
-use Rattle.bridge_core.specs.Lanes.{packets_at}
-use Rattle.bridge_core.specs.Steps.{version_of, desk_of, count_of, visits, visit_after}
-use Rattle.bridge_core.specs.Sent.{Input}
 use Rattle.std.proofs.Common.{◌+◌}
-use Rattle.bridge_core.specs.declared.receivers.Receiver.{Receiver}
-use Rattle.bridge_core.proofs.Chosen.{sent_chosen}
-use Rattle.bridge_core.proofs.ToReceivers.{sent_to_receivers}
+use Rattle.bridge_core.specs.Steps.{version_of, desk_of, count_of, visits}
+use Rattle.bridge_core.proofs.Chosen.{all_chosen}
 use Rattle.bridge_core.proofs.laws.packets_are_chosen.Goals as goal
 
-pub returns-clause-chosen : goal.returns-clause-chosen
-returns-clause-chosen c lanes lane start before f = (
-  sent_chosen lane lanes (version_of before) (count_of lane before + 1) (desk_of start before) f
-      (λ (r : Receiver). packets_at r.slot.out_ssrc (visits lane start before) (visit_after start before lane (Input.frame f))),
-  tt,
-)
-
-pub returns-clause-goes_out : goal.returns-clause-goes_out
-returns-clause-goes_out c lanes lane start before f h = (
-  sent_to_receivers lane lanes (version_of before) (count_of lane before + 1) (desk_of start before) f
-      (λ (r : Receiver). packets_at r.slot.out_ssrc (visits lane start before) (visit_after start before lane (Input.frame f))) h,
+pub returns : goal.returns
+returns c lanes lane start before f h = (
+  all_chosen (version_of before) (count_of lane before + 1) (desk_of start before) f (record {
+    grows = λ k first_seq first_ts before next. let whole = c.each_frame_goes_whole.ensures.whole k first_seq first_ts before next in (_, whole.ts, whole.packets);
+    found = λ d f good. record { apart = c.receivers_are_distinct.ensures d f.source f.address good; found = λ k. c.all_who_chose_receive.ensures d f.source f.address k good };
+  }) (visits lane start before) h lane lanes,
   tt,
 )

@@ -1,6 +1,3 @@
-use Rattle.std.proofs.Common.{List, sym, subst}
-use Rattle.bridge_core.specs.Headline.{HaveNoGap, numbers, sent_on}
-use Rattle.bridge_core.specs.Sent.{Sent}
 use Rattle.script_text.specs.Bridge.{first_desk}
 use Rattle.script_text.specs.Scripts.{steps_of}
 use Rattle.script_text.proofs.GoodDesks.{first_good, steps_good}
@@ -10,6 +7,5 @@ pub returns-clause-good : goal.returns-clause-good
 returns-clause-good c = steps_good c.good_desks_stay_good.ensures
 
 pub returns-clause-no_gap : goal.returns-clause-no_gap
-returns-clause-no_gap c input ssrc =
-    subst (λ (sent : List (List Sent)). HaveNoGap (numbers (sent_on ssrc sent))) (sym (c.script_sends.ensures.sends input))
-    (c.streams_have_no_gap.ensures 1 first_desk (steps_of input) ssrc first_good (steps_good c.good_desks_stay_good.ensures input))
+returns-clause-no_gap c input name =
+    c.streams_have_no_gap.ensures 1 first_desk (steps_of input) name first_good (steps_good c.good_desks_stay_good.ensures input)

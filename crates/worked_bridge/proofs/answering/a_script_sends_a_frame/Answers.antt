@@ -12,7 +12,7 @@ use Rattle.script_text.specs.Addresses.{address_of, field_of}
 use Rattle.script_text.specs.Numbers.{ext_of}
 use Rattle.script_text.specs.Packets.{packet_from, packets_of}
 use Rattle.frame_gate.specs.Frame.{fault_of}
-use Rattle.bridge_core.specs.Receivers.{by_index, receivers}
+use Rattle.topology.specs.Receivers.{by_index, receivers}
 use Rattle.worked_bridge.proofs.answering.a_script_sends_a_frame.Goals as goal
 
 pub returns : goal.returns

@@ -1,5 +1,7 @@
-use Rattle.std.proofs.Common.{◌≡◌, [], ◌∷◌, Some, refl, sym, map, subst, length, set, ◌<◌, ◌-◌, ◌^◌, ◌∙◌}
+use Rattle.std.proofs.Common.{◌≡◌, ap, List, [], ◌∷◌, Some, refl, sym, map, subst, length, set, ◌<◌, ◌-◌, ◌^◌, ◌∙◌}
 use Rattle.std.specs.Prelude.{slice_get}
+use Rattle.std.proofs.lemmas.Result.{on_err_weaker}
+use Rattle.std.proofs.lemmas.List.{set-get_or}
 use Rattle.std.proofs.lemmas.Result.{IfOk-weaker}
 use Rattle.std.proofs.lemmas.Option.{slice_get_read}
 use Rattle.desk_rows.specs.Desk.{Desk}
@@ -33,3 +35,10 @@ returns-clause-spent g c =
     let here : slice_get c.args.self.now.lanes c.args.lane ≡ Some c.index_mut.result.now = subst (λ (core : CoreOf). slice_get core.lanes c.args.lane ≡ Some c.index_mut.result.now) c.self.view_is (there g c) in
     let one : (state : LaneOf) → slice_get c.args.self.now.lanes c.args.lane ≡ Some state → c.index_mut.result.now ≡ state = λ state at. (let both : Some c.index_mut.result.now ≡ Some state = sym here ∙ at in cc) in
     (λ is state at. subst (λ (s : LaneOf). s.handled ≡ 2 ^ 64 - 1) (one state at) (c.step.ensures.spent.0 is), λ all. c.step.ensures.spent.1 (all c.index_mut.result.now here))
+
+pub returns-clause-err : goal.returns-clause-err
+returns-clause-err g c =
+    let lanes = c.self.inside.lanes.items in
+    let core = λ (ls : List LaneOf). let k : CoreOf = record { version = c.self.inside.version; desk = c.self.inside.history.state; done = c.self.inside.history.done; undone = c.self.inside.history.undone; lanes = ls } in k in
+    on_err_weaker c.step.result (λ same.
+    ap core (ap (set lanes c.args.lane) (same ∙ c.index_mut.ensures.value) ∙ set-get_or lanes c.args.lane _) ∙ c.self.view_is) c.step.ensures.err

@@ -1,0 +1,52 @@
+-- Whole runs of cores.
+use Rattle.std.proofs.Common.{◌≡◌, ℕ, true, List, [], ◌∷◌, ◌++◌, length, reverse, sym, ap, subst, ◌∙◌}
+use Rattle.desk_rows.specs.Desk.{Desk, good}
+use Rattle.desk_rows.specs.Edit.{EditOf}
+use Rattle.desk_edit.specs.Calls.{CallHistory, desk_now, after_call}
+use Rattle.bridge_core.specs.Sent.{Sent}
+use Rattle.bridge_core.specs.Steps.{Step, along, sent_at, desk_of, CoreOf, HasTaken}
+use Rattle.bridge_core.specs.Following.{Follows, HasCalled}
+use Rattle.bridge_core.specs.Headline.{AreGood}
+use Rattle.bridge_core.specs.Events.{Event, Plays, steps_of}
+
+-- an item leaves the calls
+called_still : (old new : CoreOf) (h : CallHistory) → new.version ≡ old.version → new.desk ≡ old.desk → new.done ≡ old.done → new.undone ≡ old.undone → HasCalled old h → HasCalled new h
+called_still old new h version desk done undone called = record {
+  version = version ∙ called.version;
+  desk = desk ∙ called.desk;
+  follows = subst (Follows h.start h.done) (sym done) called.follows;
+  ahead = subst (λ (es : List EditOf). Follows (desk_now h) (reverse h.undone) (reverse es)) (sym undone) called.ahead;
+}
+
+-- what is sent, and that all desks are good
+pub played : (start : Desk) (before : List Step) (h : CallHistory) (events : List Event) (sent : List (List Sent)) (first last : CoreOf) → HasTaken first start before → HasCalled first h → Plays first events sent last
+    → (sent ≡ along (sent_at (length first.lanes) start) before (steps_of h events)) × AreGood (steps_of h events)
+played start before h [] sent first last taken called plays = (plays.0, tt)
+played start before h (Event.called call ∷ events) sent first last taken called (next, accepts, plays) =
+    let after = accepts.answered h called in
+    let desk : next.desk ≡ desk_now (after_call h call) = after.2.desk in
+    let step = accepts.takes start before taken in
+    let rest = played start (before ++ Step.publish next.desk ∷ []) (after_call h call) events sent next last step.1 after.2 plays in (
+      rest.0
+          ∙ ap (λ (lanes : ℕ). along (sent_at lanes start) (before ++ Step.publish next.desk ∷ []) (steps_of (after_call h call) events)) (ap length accepts.lanes)
+          ∙ ap (λ (d : Desk). along (sent_at (length first.lanes) start) (before ++ Step.publish d ∷ []) (steps_of (after_call h call) events)) desk,
+      (ap good (sym desk) ∙ accepts.good, rest.1),
+    )
+played start before h (Event.item lane input ∷ events) sent first last taken called (next, now, later, is, sends, plays) =
+    let step = sends.takes start before taken in
+    let rest = played start (before ++ Step.item lane input ∷ []) h events later next last step.1 (called_still first next h sends.version sends.desk sends.done sends.undone called) plays in (
+      is ∙ ap (λ (es : List (List Sent)). es ++ later) step.0
+          ∙ ap (λ (es : List (List Sent)). sent_at (length first.lanes) start before (Step.item lane input) ++ es)
+          (rest.0 ∙ ap (λ (lanes : ℕ). along (sent_at lanes start) (before ++ Step.item lane input ∷ []) (steps_of h events)) sends.lanes),
+      (tt, rest.1),
+    )
+
+-- the steps before one are good
+pub good_before : (before after : List Step) → AreGood (before ++ after) → AreGood before
+good_before [] after all = tt
+good_before (step ∷ before) after all = (all.0, good_before before after all.1)
+
+pub good_desk : (start : Desk) (before : List Step) → good start ≡ true → AreGood before → good (desk_of start before) ≡ true
+good_desk start [] h all = h
+good_desk start (Step.publish next ∷ before) h all = good_desk next before all.0 all.1
+good_desk start (Step.item lane input ∷ before) h all = good_desk start before h all.1

@@ -1,5 +1,0 @@
-use Rattle.bridge_core.proofs.Reached.{reached}
-use Rattle.bridge_core.proofs.laws.all_who_chose_receive.Goals as goal
-
-pub returns : goal.returns
-returns c desk source address out_ssrc h = reached desk source address out_ssrc h

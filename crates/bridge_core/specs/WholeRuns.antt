@@ -1,0 +1,37 @@
+-- What is promised of whole runs.
+use Rattle.std.specs.Prelude.{◌≡◌, ℕ, ◌%◌, true, List, ◌∷◌, ◌++◌, map, filter, None, Some}
+use Rattle.std.specs.List.{AllByRecursion}
+use Rattle.desk_rows.specs.Desk.{Desk}
+use Rattle.topology.specs.declared.receivers.Receiver.{Receiver}
+use Rattle.topology.specs.Receivers.{receiver_on}
+use Rattle.forward_rewrite.specs.Frame.{SourceFrame}
+use Rattle.bridge_core.specs.OwnStreams.{is_mine}
+use Rattle.bridge_core.specs.Sent.{Sent, Input}
+use Rattle.bridge_core.specs.Sent.Input.{frame, nack}
+use Rattle.bridge_core.specs.Lanes.{packets, goes, routed_to, sends_at}
+use Rattle.bridge_core.specs.Steps.{Step, visits, visit_after, sends}
+use Rattle.bridge_core.specs.Named.{Name, Kind, is_on, firsts}
+use Rattle.bridge_core.specs.Headline.{HaveNoGap, numbers, IsChosenOf, GoesWhole, LeadsBack}
+
+-- what a lane sends for an input that comes after these steps
+abbrev pub sent_after : ℕ → Desk → List Step → ℕ → Input → List Sent
+sent_after lanes start before lane input = sends_at lane lanes (visits lane start before) (visit_after start before lane input)
+
+-- Each packet of the frame is one that the desk of its version chose, and all whose streams are the lane's and who chose the frame's source get all of it.
+pub record IsShared (lanes : ℕ) (start : Desk) (before : List Step) (lane : ℕ) (f : SourceFrame) : Type 0 where
+  pub chosen : AllByRecursion (IsChosenOf (visit_after start before lane (frame f)) f) (sent_after lanes start before lane (frame f))
+  pub whole : (ssrc : ℕ) (r : Receiver) → is_mine lane lanes ssrc ≡ true → receiver_on (visit_after start before lane (frame f)).desk f.source f.address ssrc ≡ Some r
+      → GoesWhole ssrc (routed_to (visit_after start before lane (frame f)) f r).sending (filter (is_on ssrc) (sent_after lanes start before lane (frame f)))
+
+-- An input is answered by what was promised of its kind: a frame goes to all who chose it, and what is sent again leads back.
+abbrev pub IsKept : ℕ → Desk → List Step → ℕ → Input → Type 0
+IsKept lanes start before lane (frame f) = IsShared lanes start before lane f
+IsKept lanes start before lane (nack request) =
+    AllByRecursion (LeadsBack lanes start before lane (visit_after start before lane (nack request)) request) (sent_after lanes start before lane (nack request))
+
+-- What holds of all that is sent over these steps, on so many lanes from this desk on: it is what the definition gives; each stream's first sendings are its routed list, and number without a gap; and each item is answered as was promised.
+pub record Holds (lanes : ℕ) (start : Desk) (steps : List Step) (sent : List (List Sent)) : Type 0 where
+  pub given : sent ≡ sends lanes start steps
+  pub lists : (ssrc : ℕ) → firsts lanes start (record { kind = Kind.video; ssrc = ssrc }) steps ≡ map (goes ssrc None) (packets ssrc (visits (ssrc % lanes) start steps))
+  pub no_gap : (name : Name) → HaveNoGap (numbers (firsts lanes start name steps))
+  pub kept : (before after : List Step) (lane : ℕ) (input : Input) → steps ≡ before ++ Step.item lane input ∷ after → IsKept lanes start before lane input

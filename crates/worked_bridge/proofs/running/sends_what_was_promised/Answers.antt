@@ -1,0 +1,36 @@
+use Rattle.std.proofs.Common.{◌≡◌, ℕ, true, List, [], ◌∷◌, map, refl, ap, sym, subst, ◌∙◌}
+use Rattle.desk_rows.specs.Desk.{blank, good}
+use Rattle.desk_edit.specs.Calls.{no_calls}
+use Rattle.bridge_core.specs.Sent.{sent_of, input_of}
+use Rattle.bridge_core.specs.Events.{Event, Accepts, Sends, Plays, steps_of}
+use Rattle.bridge_core.specs.WholeRuns.{Holds}
+use Rattle.worked_bridge.proofs.running.sends_what_was_promised.Goals as goal
+
+pub returns-in-Ok-item : goal.returns-in-Ok-item
+returns-in-Ok-item c =
+    let start = blank c.args.settings.bridge_ssrc in
+    let first = c.in-Ok.core in
+    let middle = c.desk.new.self in
+    let last = c.item.new.self in
+    let input = input_of c.args.item.now in
+    let sent = map sent_of c.in-Ok-item.sent.items in
+    let events : List Event = Event.called c.args.call ∷ Event.item 2 input ∷ [] in
+    let begins : good start ≡ true = ap good (sym c.in-Ok.ensures.fresh.desk ∙ sym c.rows.ensures) ∙ c.known.ensures in
+    let accepts : Accepts first middle c.args.call = record {
+      number = c.in-Accepted.no;
+      answered = c.in-Accepted.ensures.history;
+      takes = c.in-Accepted.ensures.takes;
+      good = c.in-Accepted.ensures.good;
+      lanes = c.in-Accepted.ensures.answer.2;
+    } in
+    let sends : Sends middle last 2 input sent = record {
+      takes = c.in-Ok-item.ensures.takes;
+      version = c.in-Ok-item.ensures.desk.0;
+      desk = c.in-Ok-item.ensures.desk.1;
+      done = c.in-Ok-item.ensures.history.0;
+      undone = c.in-Ok-item.ensures.history.1;
+      lanes = c.in-Ok-item.ensures.lanes;
+    } in
+    let plays : Plays first events (sent ∷ []) last = (middle, accepts, (last, sent, [], refl, sends, (refl, refl))) in
+    subst (λ (n : ℕ). Holds n start (steps_of (no_calls start) events) (sent ∷ [])) c.in-Ok.ensures.lanes
+    (c.the_headline.ensures.holds start events (sent ∷ []) first last begins c.in-Ok.ensures.fresh c.in-Ok.ensures.history plays)
