@@ -1,8 +1,10 @@
 -- Numbers that are missing.
-use Rattle.std.proofs.Common.{◌≡◌, ℕ, zero, suc, ◌+◌, ◌-◌, ◌<◌, ◌≤◌, true, false, cond, nat_le, max, List, [], ◌∷◌, Some, refl, sym, ap, ◌∙◌, arith}
+use Rattle.std.proofs.Common.{◌≡◌, ℕ, zero, suc, ◌+◌, ◌-◌, ◌<◌, ◌≤◌, true, false, cond, nat_le, max, List, [], ◌∷◌, length, map, Option, None, Some, refl, sym, ap, ◌∙◌, arith}
 use Rattle.std.specs.Prelude.{filter}
 use Rattle.std.specs.List.{range_with_len}
 use Rattle.std.proofs.lemmas.Bool.Decides.{nat_tests}
+use Rattle.std.proofs.lemmas.List.{length-map}
+use Rattle.frame_gate.specs.Packets.{ext_of}
 use Rattle.frame_gate.specs.Epochs.{missing_above}
 
 -- the numbers from one on up to before another
@@ -40,3 +42,15 @@ missing-is g next n =
   where
     same : (a : ℕ) → between (max a next) (a + (n - a)) ≡ between (max a next) n
     same a = ap (range_with_len (max a next)) (let e : a + (n - a) - max a next ≡ n - max a next = omega arith in e)
+
+length-range : (a n : ℕ) → length (range_with_len a n) ≡ n
+length-range a zero = refl
+length-range a (suc n) = ap suc (length-range (a + 1) n)
+
+-- no more are missing than lie from next on below the number
+pub few_missing : (g : Option ℕ) (next n : ℕ) → length (map ext_of (missing_above g next n)) ≤ n - next
+few_missing None next n = omega arith
+few_missing (Some g) next n =
+    let mapped : length (map ext_of (missing_above (Some g) next n)) ≡ length (missing_above (Some g) next n) = length-map (missing_above (Some g) next n) ext_of in
+    let is : length (missing_above (Some g) next n) ≡ n - max (g + 1) next = sym (ap length (missing-is g next n)) ∙ length-range (max (g + 1) next) (n - max (g + 1) next) in
+    omega (arith, mapped, is)

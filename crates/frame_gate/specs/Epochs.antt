@@ -96,3 +96,7 @@ missing_above (Some g) next n = filter (λ k. nat_le next k) (range_with_len (g 
 -- the numbers above the greatest taken before and below this one, not below next afterwards
 abbrev pub nacks_of : Epoch → NumberedPacket → List ℤ
 nacks_of e p = if_taken (place_of e p) (map ext_of (missing_above (top e.taken) (next_of (after e p)) p.number)) []
+
+-- the most numbers that one packet newly leaves missing: it lies less than 256 above next afterwards
+abbrev pub most_missing : ℕ
+most_missing = 255

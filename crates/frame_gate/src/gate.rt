@@ -2,7 +2,7 @@
 
 ghost use Rattle.std.specs.Prelude.{◌≡◌, ℕ, ◌+◌, ◌-◌, ◌<◌, ◌≤◌, ◌^◌, ◌%◌, length, IfOk, OnErr, List, [], ◌∷◌, ◌++◌, None, Some, slice_set, unwrap_or, nat_le, false, map};
 ghost use Rattle.frame_gate.specs.inner.Cells.{held};
-ghost use Rattle.frame_gate.specs.Epochs.{Epoch, resynced, taking, top, missing_above, opened, frames_of};
+ghost use Rattle.frame_gate.specs.Epochs.{Epoch, resynced, taking, top, missing_above, most_missing, opened, frames_of};
 ghost use Rattle.frame_gate.specs.inner.Ties.{Tied};
 ghost use Rattle.frame_gate.specs.Admits.{Admits, Represents, IsAt, Takes, Commits, Prepares};
 ghost use Rattle.frame_gate.specs.Packets.{NumberedPacket, numbered, ext_of, IsExt};
@@ -57,6 +57,7 @@ fn take<A: Allocator + Copy>(
     ensures pli { IfOk result (λ r. r.answer.pli ≡ nat_le (walk.next + 256) packet.number) }
     ensures place { IfOk result (λ r. r.answer.place ≡ Place.Taken) }
     ensures packet { IfOk result (λ r. r.packet ≡ packet) }
+    ensures few { IfOk result (λ r. length r.answer.nacks ≤ most_missing) }
 {
     let mut frames = Vec::new(alloc);
     let near = resync(alloc, cells, walk, packet.number, &mut frames)?;
@@ -139,7 +140,8 @@ impl<A: Allocator + Copy> Gate<A> {
 
     /// What the gate answers to a packet in its place, and would remember.
     fn judge(&self, alloc: A, packet: Held<A>) -> Result<Prepared<A>, AllocError>
-        ensures { IfOk result (λ r. Prepares self.now packet r) }
+        ensures ok { IfOk result (λ r. Prepares self.now packet r) }
+        ensures few { IfOk result (λ r. length r.answer.nacks ≤ most_missing) }
     {
         let walk = self.opened(&packet);
         if packet.number < walk.next {
@@ -151,11 +153,13 @@ impl<A: Allocator + Copy> Gate<A> {
         take(alloc, &self.cells, walk, self.greatest, packet)
     }
 
-    /// What the gate answers to the packet, and would remember.
+    /// What the gate answers to the packet, and would remember. It asks for at most 255 numbers, since the
+    /// packet lies less than 256 above what is undecided afterwards.
     pub fn prepare(&self, alloc: A, ext: i64, packet: Packet<A>) -> Result<Prepared<A>, AllocError>
         requires ext { IsExt ext }
         requires pt { packet.pt ≤ highest_pt }
-        ensures { IfOk result (λ r. Prepares self.now (numbered ext packet) r) }
+        ensures ok { IfOk result (λ r. Prepares self.now (numbered ext packet) r) }
+        ensures few { IfOk result (λ r. length r.answer.nacks ≤ most_missing) }
     {
         self.judge(alloc, Held::new(ext, packet))
     }
@@ -189,7 +193,8 @@ impl<A: Allocator + Copy> Gate<A> {
         answer
     }
 
-    /// Admits a packet; after a refusal for want of memory the gate is as it was.
+    /// Admits a packet; after a refusal for want of memory the gate is as it was. It asks for at most 255
+    /// numbers.
     pub fn admit(
         &mut self,
         alloc: A,
@@ -199,6 +204,7 @@ impl<A: Allocator + Copy> Gate<A> {
         requires ext { IsExt ext }
         requires pt { packet.pt ≤ highest_pt }
         ensures ok { IfOk result (λ a. Admits self.old self.new (numbered ext packet) a) }
+        ensures few { IfOk result (λ a. length a.nacks ≤ most_missing) }
         ensures err { OnErr result (self.new ≡ self.old) }
     {
         let prepared = self.prepare(alloc, ext, packet)?;

@@ -1,4 +1,4 @@
-use Rattle.std.proofs.Common.{◌≡◌, ℕ, ◌+◌, ◌%◌, ◌<◌, ◌≤◌, max, List, None, Some, set, sym, ap, ◌∙◌, subst, arith}
+use Rattle.std.proofs.Common.{◌≡◌, ℕ, ◌+◌, ◌%◌, ◌<◌, ◌≤◌, max, List, length, None, Some, set, sym, ap, ◌∙◌, subst, arith}
 use Rattle.frame_gate.specs.Packets.{NumberedPacket}
 use Rattle.frame_gate.specs.Frame.{WholeFrame}
 use Rattle.frame_gate.specs.inner.Cells.{held}
@@ -8,6 +8,7 @@ use Rattle.frame_gate.proofs.Takes.{taken_tied}
 use Rattle.frame_gate.proofs.Taken.{greatest_below}
 use Rattle.frame_gate.proofs.Newcomers.{newcomer, kept}
 use Rattle.frame_gate.proofs.Answered.{resynced-taken}
+use Rattle.frame_gate.proofs.MissingNumbers.{few_missing}
 use Rattle.frame_gate.proofs.gate.take.Goals as goal
 
 pub returns-clause-tied : goal.returns-clause-tied
@@ -41,3 +42,13 @@ returns-clause-tied g c = λ given e h is.
     (λ k a. newcomer cells mid.taken p k none (there.agrees k a))
     (λ k a. kept cells mid.taken p near.next k c.requires.cells above below a none (there.agrees k a) there.room)
     c.in_ok-far.ensures.stands)
+
+pub returns-clause-few : goal.returns-clause-few
+returns-clause-few g c =
+    let far = c.in_ok-far.far in
+    let n = c.packet.inside.number in
+    let long = ap length c.in_ok-nacks.ensures in
+    let few = few_missing c.args.greatest far.next n in
+    let room = c.in_ok-near.ensures.room in
+    let on = c.in_ok-far.ensures.next.0 in
+    omega (arith, long, few, room, on)

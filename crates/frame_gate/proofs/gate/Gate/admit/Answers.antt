@@ -13,6 +13,6 @@ returns-clause-ok g c = λ before h.
     let prepared = c.in_ok-prepared.prepared in
     let same : to_z w64 (of_z w64 c.args.ext) ≡ c.args.ext = grind (arith, to_z-of_z) in
     let all : Prepares k p prepared =
-    subst (λ (ext : ℤ). Prepares k (numbered ext c.args.packet) prepared) same c.in_ok-prepared.ensures in
+    subst (λ (ext : ℤ). Prepares k (numbered ext c.args.packet) prepared) same c.in_ok-prepared.ensures.ok in
     let x = all c.commit.new.self c.commit.ensures.gate before h in
     (subst (λ (a : Answer). Answers (epoch_of before) p a) (sym c.commit.ensures.answer) x.0, x.1)

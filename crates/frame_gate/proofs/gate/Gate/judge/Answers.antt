@@ -10,8 +10,8 @@ use Rattle.frame_gate.proofs.Results.{if_ok_five}
 use Rattle.frame_gate.proofs.Answered.{admits, something_new, opened-taken, none_of, some_copied, place_late, place_duplicate, nothing_new}
 use Rattle.frame_gate.proofs.gate.Gate.judge.Goals as goal
 
-pub returns : goal.returns
-returns g c =
+pub returns-clause-ok : goal.returns-clause-ok
+returns-clause-ok g c =
     let k = c.args.self.now in
     let p = c.args.packet in
     let n = p.number in
@@ -38,8 +38,8 @@ returns g c =
     (nacks ∙ ap (λ o. map ext_of (missing_above o r.walk.next n)) most) pli place packet commits))
     c.take.ensures.tied c.take.ensures.nacks c.take.ensures.pli c.take.ensures.place c.take.ensures.packet
 
-pub returns-then-is_some : goal.returns-then-is_some
-returns-then-is_some g c =
+pub returns-then-is_some-clause-ok : goal.returns-then-is_some-clause-ok
+returns-then-is_some-clause-ok g c =
     let k = c.args.self.now in
     let p = c.args.packet in
     let n = p.number in
@@ -60,8 +60,8 @@ returns-then-is_some g c =
     let above : c.opened-walk.result.next ≤ n = omega (arith, same, c.if-packet-walk.false) in
     nothing_new k new e p r Duplicate tt (place_duplicate k e p c.opened-walk.result begun above there) h gives.place gives.frames gives.nacks gives.pli commits)
 
-pub returns-then-packet-walk : goal.returns-then-packet-walk
-returns-then-packet-walk g c =
+pub returns-then-packet-walk-clause-ok : goal.returns-then-packet-walk-clause-ok
+returns-then-packet-walk-clause-ok g c =
     let k = c.args.self.now in
     let p = c.args.packet in
     let same : c.packet.inside.number ≡ p.number = ap (λ (q : NumberedPacket). q.number) c.packet.view_is in
