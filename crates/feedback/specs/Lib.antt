@@ -1,3 +1,4 @@
 pub mod Resends
 pub mod Asked
+pub mod Upstream
 pub mod inner

@@ -1,3 +1,4 @@
 pub mod Blocks
 pub mod Sent
 pub mod Streamed
+pub mod Upstreams

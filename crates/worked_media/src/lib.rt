@@ -7,3 +7,4 @@ pub mod resends;
 pub mod samples;
 pub mod sources;
 pub mod streaming;
+pub mod upstreams;

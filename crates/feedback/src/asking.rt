@@ -1,0 +1,158 @@
+//! What the bridge asks of a source.
+
+ghost use Rattle.std.specs.Prelude.{◌≡◌, ◌≤◌, ◌++◌, List, length, map, IfOk, OnOk};
+ghost use Rattle.rtcp_codec.specs.declared.nack.NackWord.{NackWord};
+ghost use Rattle.rtcp_codec.specs.Compound.{IsCompound, written};
+ghost use Rattle.rtcp_codec.specs.Nack.{numbers_named, ArePacked, IsPacking};
+ghost use Rattle.rtcp_codec.specs.View.{packet_of, packets_of};
+ghost use Rattle.rtcp_codec.specs.WriteFault.{AreWritable};
+ghost use Rattle.feedback.specs.Upstream.{IsCname, seq_of, most_words, named, nack_of, pli_of, upstream_packets, IsUpstream};
+
+use rtcp_codec::{
+    Nack, NackWord, Pli, ReceiverReport, Rtcp, SdesChunk, SdesItem, WriteFault, nack_words,
+    write_compound,
+};
+use std::alloc::{AllocError, Allocator};
+
+/// The type of a canonical name among the items of a source description.
+const CNAME: u8 = 1;
+
+/// The sequence number of an extended number.
+fn seq_of(ext: i64) -> u16
+    ensures { result ≡ seq_of ext }
+{
+    ext.rem_euclid(1 << 16) as u16
+}
+
+/// The sequence numbers of extended numbers.
+fn seqs_of<A: Allocator>(alloc: A, exts: &[i64]) -> Result<Vec<u16, A>, AllocError>
+    ensures { IfOk result (λ seqs. seqs.items ≡ map seq_of exts.now) }
+{
+    let mut seqs = Vec::with_capacity(alloc, exts.len())?;
+    for ext in exts {
+        seqs.push(seq_of(*ext))?;
+    }
+    Ok(seqs)
+}
+
+/// The source description that names who asks.
+fn named<A: Allocator + Copy>(alloc: A, ssrc: u32, cname: &[u8]) -> Result<Rtcp<A>, AllocError>
+    ensures { IfOk result (λ p. packet_of p ≡ named (record { ssrc = ssrc; cname = cname.now })) }
+{
+    let mut items = Vec::with_capacity(alloc, 1)?;
+    items.push(SdesItem {
+        kind: CNAME,
+        text: Vec::from_slice(alloc, cname)?,
+    })?;
+    let mut chunks = Vec::with_capacity(alloc, 1)?;
+    chunks.push(SdesChunk { ssrc, items })?;
+    Ok(Rtcp::Sdes(chunks))
+}
+
+/// Appends a NACK of the words, where there are any.
+fn push_nack<A: Allocator + Copy>(
+    packets: &mut Vec<Rtcp<A>, A>,
+    sender: u32,
+    media: u32,
+    words: Vec<NackWord, A>,
+) -> Result<(), AllocError>
+    ensures { OnOk result (packets_of packets.new.items ≡ packets_of packets.old.items ++ nack_of sender media words.items) }
+{
+    if words.is_empty() {
+        return Ok(());
+    }
+    packets.push(Rtcp::Nack(Nack {
+        sender,
+        media,
+        words,
+    }))?;
+    Ok(())
+}
+
+/// Appends a PLI, where it is asked for.
+fn push_pli<A: Allocator + Copy>(
+    packets: &mut Vec<Rtcp<A>, A>,
+    sender: u32,
+    media: u32,
+    pli: bool,
+) -> Result<(), AllocError>
+    ensures { OnOk result (packets_of packets.new.items ≡ packets_of packets.old.items ++ pli_of sender media pli) }
+{
+    if pli {
+        packets.push(Rtcp::Pli(Pli { sender, media }))?;
+    }
+    Ok(())
+}
+
+/// The packets that go up to a source.
+fn packets_for<A: Allocator + Copy>(
+    alloc: A,
+    bridge_ssrc: u32,
+    cname: &[u8],
+    source: u32,
+    words: Vec<NackWord, A>,
+    pli: bool,
+) -> Result<Vec<Rtcp<A>, A>, AllocError>
+    ensures { IfOk result (λ packets. packets_of packets.items ≡ upstream_packets (record { ssrc = bridge_ssrc; cname = cname.now }) source words.items pli) }
+{
+    let mut packets = Vec::with_capacity(alloc, 4)?;
+    packets.push(Rtcp::Receiver(ReceiverReport {
+        ssrc: bridge_ssrc,
+        blocks: Vec::new(alloc),
+    }))?;
+    packets.push(named(alloc, bridge_ssrc, cname)?)?;
+    push_nack(&mut packets, bridge_ssrc, source, words)?;
+    push_pli(&mut packets, bridge_ssrc, source, pli)?;
+    Ok(packets)
+}
+
+/// The octets of a compound that can be written.
+#[tactic(auto, using(crate::proofs::Writable::no_fault))]
+fn octets_of<A: Allocator + Copy>(alloc: A, packets: &[Rtcp<A>]) -> Result<Vec<u8, A>, AllocError>
+    requires { AreWritable (packets_of packets.now) }
+    ensures items { IfOk result (λ v. v.items ≡ written (packets_of packets.now)) }
+    ensures compound { IfOk result (λ v. IsCompound (packets_of packets.now) v.items) }
+{
+    let mut out = Vec::new(alloc);
+    match write_compound(packets, &mut out) {
+        Ok(()) => Ok(out),
+        Err(WriteFault::OutOfMemory) => Err(AllocError),
+        // What can be written has no fault.
+        Err(WriteFault::First) => unreachable!(),
+        Err(WriteFault::Count) => unreachable!(),
+        Err(WriteFault::TooLong) => unreachable!(),
+        Err(WriteFault::Kind) => unreachable!(),
+    }
+}
+
+/// The words that name the sequence numbers of extended numbers.
+fn words_for<A: Allocator + Copy>(alloc: A, exts: &[i64]) -> Result<Vec<NackWord, A>, AllocError>
+    ensures names { IfOk result (λ v. numbers_named v.items ≡ map seq_of exts.now) }
+    ensures packed { IfOk result (λ v. ArePacked v.items) }
+    ensures only { (words : List NackWord) → IsPacking (map seq_of exts.now) words → IfOk result (λ v. v.items ≡ words) }
+{
+    nack_words(alloc, &seqs_of(alloc, exts)?)
+}
+
+/// What goes up to a source: a compound in which the bridge names itself, asks for the packets with these extended numbers by a
+/// generic NACK, where there are any, and for a whole picture by a PLI, where `pli` says so.
+///
+/// Each number is asked for by its low 16 bits, in the order given. There are at most 65,533, so that a word for each
+/// fits the 16 bits of a packet's length.
+pub fn upstream<A: Allocator + Copy>(
+    alloc: A,
+    bridge_ssrc: u32,
+    cname: &[u8],
+    source: u32,
+    nacks: &[i64],
+    pli: bool,
+) -> Result<Vec<u8, A>, AllocError>
+    requires name { IsCname cname.now }
+    requires few { length nacks.now ≤ most_words }
+    ensures packed { (words : List NackWord) → IsPacking (map seq_of nacks.now) words → IfOk result (λ v. v.items ≡ written (upstream_packets (record { ssrc = bridge_ssrc; cname = cname.now }) source words pli)) }
+    ensures found { IfOk result (λ v. (words : List NackWord) × IsUpstream (record { ssrc = bridge_ssrc; cname = cname.now }) source nacks.now pli words v.items) }
+{
+    let words = words_for(alloc, nacks)?;
+    let packets = packets_for(alloc, bridge_ssrc, cname, source, words, pli)?;
+    octets_of(alloc, &packets)
+}

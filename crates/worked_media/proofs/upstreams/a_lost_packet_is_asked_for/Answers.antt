@@ -1,0 +1,11 @@
+use Rattle.std.proofs.Common.{rules, ℕ, [], ◌∷◌, refl}
+use Rattle.rtcp_codec.specs.declared.nack.NackWord.{NackWord}
+use Rattle.rtcp_codec.specs.Nack.{numbers_of}
+use Rattle.worked_media.proofs.upstreams.a_lost_packet_is_asked_for.Goals as goal
+
+abbrev word : ℕ → ℕ → NackWord
+word pid blp = record { pid = pid; blp = blp }
+
+pub returns : goal.returns
+unfolding numbers_of
+returns c = c.upstream.ensures.packed (word 102 0 ∷ []) (record { names = refl; packed = search rules; fits = search rules })
