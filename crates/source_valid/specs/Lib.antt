@@ -1,4 +1,5 @@
 pub mod Histories
+pub mod Ranges
 pub mod Reports
 pub mod Represents
 pub mod Stretches

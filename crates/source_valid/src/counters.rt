@@ -2,6 +2,7 @@
 
 ghost use Rattle.std.specs.Prelude.{◌≡◌, ◌+◌, ◌-◌, ◌<◌, ◌≤◌, ◌^◌, ◌%◌, pos};
 ghost use Rattle.source_valid.specs.Stretches.{Stretch, begun, expected_of, greatest_of, max_dropout, max_misorder, told_in};
+ghost use Rattle.source_valid.specs.Ranges.{IsInRange};
 ghost use Rattle.source_valid.specs.inner.Stands.{Stands, Sound, Answers};
 
 use crate::verdict::Verdict;
@@ -85,6 +86,7 @@ impl Counters {
         requires sound { Sound self.old }
         requires near { (seq + (2 ^ 16 - self.old.max_seq)) % 2 ^ 16 < max_dropout }
         ensures sound { Sound self.new }
+        ensures range { IsInRange result }
         ensures answers { (s : Stretch) → Stands s self.old → Answers s seq result self.new }
     {
         let cycles = if seq < self.max_seq {
@@ -110,6 +112,7 @@ impl Counters {
         requires far { max_dropout ≤ (seq + (2 ^ 16 - self.old.max_seq)) % 2 ^ 16 }
         requires apart { (seq + (2 ^ 16 - self.old.max_seq)) % 2 ^ 16 ≤ 2 ^ 16 - max_misorder }
         ensures sound { Sound self.new }
+        ensures range { IsInRange result }
         ensures answers { (s : Stretch) → Stands s self.old → Answers s seq result self.new }
     {
         if self.bad_seq == Some(seq) {
@@ -125,6 +128,7 @@ impl Counters {
         requires sound { Sound self.old }
         requires behind { 2 ^ 16 - max_misorder < (seq + (2 ^ 16 - self.old.max_seq)) % 2 ^ 16 }
         ensures sound { Sound self.new }
+        ensures range { IsInRange result }
         ensures answers { (s : Stretch) → Stands s self.old → Answers s seq result self.new }
     {
         self.received = self.received.saturating_add(1);
@@ -142,6 +146,7 @@ impl Counters {
     pub fn update(&mut self, seq: u16) -> Verdict
         requires { Sound self.old }
         ensures sound { Sound self.new }
+        ensures range { IsInRange result }
         ensures answers { (s : Stretch) → Stands s self.old → Answers s seq result self.new }
     {
         let u = seq.wrapping_sub(self.max_seq) as u32;

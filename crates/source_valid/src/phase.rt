@@ -2,6 +2,7 @@
 
 ghost use Rattle.std.specs.Prelude.{◌≡◌};
 ghost use Rattle.source_valid.specs.Histories.{Standing, verdict_of, after_number};
+ghost use Rattle.source_valid.specs.Ranges.{IsInRange};
 ghost use Rattle.source_valid.specs.inner.Phases.{InPhase, SoundPhase};
 
 use crate::counters::{Counters, initialised};
@@ -21,6 +22,7 @@ impl Phase {
     pub fn update(&mut self, seq: u16) -> Verdict
         requires { SoundPhase self.old }
         ensures sound { SoundPhase self.new }
+        ensures range { IsInRange result }
         ensures verdict { (st : Standing) → InPhase st self.old → result ≡ verdict_of st seq }
         ensures phase { (st : Standing) → InPhase st self.old → InPhase (after_number st seq) self.new }
     {

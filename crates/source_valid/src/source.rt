@@ -4,6 +4,7 @@ ghost use Rattle.std.specs.Prelude.{◌≡◌, ◌+◌, true, List, [], ◌∷�
 ghost use Rattle.source_valid.specs.Histories.{Step, standing_of, past_probation_in};
 ghost use Rattle.source_valid.specs.Histories.{Number, Arrival, Sender, Block};
 ghost use Rattle.source_valid.specs.Represents.{Represents, Judges, Adds, Tells};
+ghost use Rattle.source_valid.specs.Ranges.{IsInRange};
 ghost use Rattle.source_valid.specs.inner.Phases.{is_counting};
 
 use crate::heard::{Heard, dlsr, lsr};
@@ -55,7 +56,8 @@ impl Source {
 
     /// Judges one more packet by its sequence number.
     pub fn update(&mut self, seq: u16) -> Verdict
-        ensures { Judges self.old self.new seq result }
+        ensures judged { Judges self.old self.new seq result }
+        ensures range { IsInRange result }
     {
         self.phase.update(seq)
     }

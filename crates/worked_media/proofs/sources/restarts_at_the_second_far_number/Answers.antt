@@ -4,7 +4,7 @@ use Rattle.worked_media.proofs.sources.restarts_at_the_second_far_number.Goals a
 
 pub returns : goal.returns
 returns c =
-    let step_0 = c.update.ensures (Number 0 ∷ []) c.first-source.ensures in
-    let step_1 = c.update-2.ensures (Number 0 ∷ Number 1 ∷ []) step_0.1 in
-    let step_2 = c.update-3.ensures (Number 0 ∷ Number 1 ∷ Number 3001 ∷ []) step_1.1 in
+    let step_0 = c.update.ensures.judged (Number 0 ∷ []) c.first-source.ensures in
+    let step_1 = c.update-2.ensures.judged (Number 0 ∷ Number 1 ∷ []) step_0.1 in
+    let step_2 = c.update-3.ensures.judged (Number 0 ∷ Number 1 ∷ Number 3001 ∷ []) step_1.1 in
     step_2.0

@@ -4,5 +4,5 @@ use Rattle.worked_media.proofs.sources.two_in_a_row_end_probation.Goals as goal
 
 pub returns : goal.returns
 returns c =
-    let step_0 = c.update.ensures (Number 65534 ∷ []) c.first-source.ensures in
+    let step_0 = c.update.ensures.judged (Number 65534 ∷ []) c.first-source.ensures in
     step_0.0

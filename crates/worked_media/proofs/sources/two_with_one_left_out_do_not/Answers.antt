@@ -4,5 +4,5 @@ use Rattle.worked_media.proofs.sources.two_with_one_left_out_do_not.Goals as goa
 
 pub returns : goal.returns
 returns c =
-    let step_0 = c.update.ensures (Number 7 ∷ []) c.first-source.ensures in
+    let step_0 = c.update.ensures.judged (Number 7 ∷ []) c.first-source.ensures in
     step_0.0
