@@ -21,7 +21,7 @@ use Rattle.desk_rows.specs.Order.{precedes, in_order, is_in, with_row, with_rows
 use Rattle.desk_rows.specs.laws.OrderLaws.{at_each, from_each, is_in-filter, in_order-filter}
 use Rattle.desk_rows.specs.Places.{take_at, can_take, can_put, places_rise, put_within}
 use Rattle.desk_rows.specs.laws.PlaceLaws.{count_next, length-take_at, can_put_within}
-use Rattle.desk_rows.specs.Limits.{member_limit, other_limit}
+use Rattle.desk_rows.specs.Limits.{member_limit, slot_limit, other_limit}
 use Rattle.desk_rows.specs.Desk.{Desk, blank, good, rows_of, is_named_there}
 use Rattle.desk_rows.specs.laws.Laws.{good_parts, good_order, any_counts, is_in-append, count_by-append}
 use Rattle.desk_rows.proofs.KindLemmas.{filter_length, map_length, within_parts}
@@ -233,6 +233,17 @@ few_rows d g =
         rows_count (is_of kinds.Slot) d,
         rows_count (is_of kinds.Gain) d,
       ),
+    )
+
+-- and so have those of its slots and of their subscriptions
+pub few_slots : (d : Desk) → good d ≡ true → (length (filter (is_of kinds.Sub) d.others) ≤ slot_limit) × (length (filter (is_of kinds.Slot) d.others) ≤ slot_limit)
+unfolding owner_rank
+few_slots d g =
+    let w = within_parts d g in
+    let subs = owned_few d g kinds.Sub kinds.Slot refl refl in
+    let slots = rows_count (is_of kinds.Slot) d in (
+      omega (arith, w.slots, slots, subs, filter_length (is_of kinds.Sub) d.others),
+      omega (arith, w.slots, slots, filter_length (is_of kinds.Slot) d.others),
     )
 
 -- and so has each number of them

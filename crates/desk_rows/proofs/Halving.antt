@@ -161,39 +161,42 @@ order_of_rest zero xs h = h
 order_of_rest (suc i) [] h = refl
 order_of_rest (suc i) (x ∷ xs) h = order_of_rest i xs (and_parts (list_all (precedes x) xs) (in_order xs) h).1
 
-rest_fails : (p : Row → Bool) (xs : List Row) (i : ℕ) → Parts p xs i → list_all (λ x. not (p x)) (drop i xs) ≡ true
+rest_fails : {X : Type 0} (p : X → Bool) (xs : List X) (i : ℕ) → Parts p xs i → list_all (λ x. not (p x)) (drop i xs) ≡ true
 rest_fails p [] zero h = refl
 rest_fails p [] (suc i) h = refl
 rest_fails p (x ∷ xs) zero h = and_from _ _ (ap not (h.1 zero x (omega arith) (omega arith))) (rest_fails p xs zero (λ k d a b. absurd (omega arith), λ k d a b. h.1 (suc k) d (omega arith) (omega arith)))
 rest_fails p (x ∷ xs) (suc i) h = rest_fails p xs i (later_parts p x xs i h)
 
-none_in_front : (kind : Kind) (xs : List Row) (i : ℕ) → Parts (λ x. nat_lt (rank (kind_of (key_of x))) (rank kind)) xs i → filter (is_of kind) xs ≡ filter (is_of kind) (drop i xs)
-none_in_front kind xs zero h = refl
-none_in_front kind [] (suc i) h = refl
-none_in_front kind (x ∷ xs) (suc i) h =
-    ap (λ b. cond b (x ∷ filter (is_of kind) xs) (filter (is_of kind) xs)) (less (rank (kind_of (key_of x))) (rank kind) (h.0 zero x (omega arith) (omega arith)))
-    ∙ none_in_front kind xs i (later_parts (λ y. nat_lt (rank (kind_of (key_of y))) (rank kind)) x xs i h) where
+none_in_front : {X : Type 0} (n : X → ℕ) (t : ℕ) (xs : List X) (i : ℕ) → Parts (λ x. nat_lt (n x) t) xs i → filter (λ x. nat_eq (n x) t) xs ≡ filter (λ x. nat_eq (n x) t) (drop i xs)
+none_in_front n t xs zero h = refl
+none_in_front n t [] (suc i) h = refl
+none_in_front n t (x ∷ xs) (suc i) h =
+    ap (λ b. cond b (x ∷ filter (λ x. nat_eq (n x) t) xs) (filter (λ x. nat_eq (n x) t) xs)) (less (n x) t (h.0 zero x (omega arith) (omega arith)))
+    ∙ none_in_front n t xs i (later_parts (λ y. nat_lt (n y) t) x xs i h) where
       less : (a b : ℕ) → nat_lt a b ≡ true → nat_eq a b ≡ false
       less a b h = grind (arith, h)
 
-all_in_front : (kind : Kind) (ys : List Row) (j : ℕ) → list_all (λ x. not (nat_lt (rank (kind_of (key_of x))) (rank kind))) ys ≡ true → Parts (λ x. nat_le (rank (kind_of (key_of x))) (rank kind)) ys j →
-    filter (is_of kind) ys ≡ take j ys
-all_in_front kind [] zero all h = refl
-all_in_front kind [] (suc j) all h = refl
-all_in_front kind (y ∷ ys) zero all h =
-    let both = and_parts (not (nat_lt (rank (kind_of (key_of y))) (rank kind))) (list_all (λ x. not (nat_lt (rank (kind_of (key_of x))) (rank kind))) ys) all in
-    ap (λ b. cond b (y ∷ filter (is_of kind) ys) (filter (is_of kind) ys)) (more (rank (kind_of (key_of y))) (rank kind) (h.1 zero y (omega arith) (omega arith)))
-    ∙ all_in_front kind ys zero both.1 (λ k d a b. absurd (omega arith), λ k d a b. h.1 (suc k) d (omega arith) (omega arith)) where
+all_in_front : {X : Type 0} (n : X → ℕ) (t : ℕ) (ys : List X) (j : ℕ) → list_all (λ x. not (nat_lt (n x) t)) ys ≡ true → Parts (λ x. nat_le (n x) t) ys j → filter (λ x. nat_eq (n x) t) ys ≡ take j ys
+all_in_front n t [] zero all h = refl
+all_in_front n t [] (suc j) all h = refl
+all_in_front n t (y ∷ ys) zero all h =
+    let both = and_parts (not (nat_lt (n y) t)) (list_all (λ x. not (nat_lt (n x) t)) ys) all in
+    ap (λ b. cond b (y ∷ filter (λ x. nat_eq (n x) t) ys) (filter (λ x. nat_eq (n x) t) ys)) (more (n y) t (h.1 zero y (omega arith) (omega arith)))
+    ∙ all_in_front n t ys zero both.1 (λ k d a b. absurd (omega arith), λ k d a b. h.1 (suc k) d (omega arith) (omega arith)) where
       more : (a b : ℕ) → nat_le a b ≡ false → nat_eq a b ≡ false
       more a b h = grind (arith, h)
-all_in_front kind (y ∷ ys) (suc j) all h =
-    let both = and_parts (not (nat_lt (rank (kind_of (key_of y))) (rank kind))) (list_all (λ x. not (nat_lt (rank (kind_of (key_of x))) (rank kind))) ys) all in
-    ap (λ b. cond b (y ∷ filter (is_of kind) ys) (filter (is_of kind) ys)) (equal (rank (kind_of (key_of y))) (rank kind) both.0 (h.0 zero y (omega arith) (omega arith)))
-    ∙ ap (λ zs. y ∷ zs) (all_in_front kind ys j both.1 (later_parts (λ x. nat_le (rank (kind_of (key_of x))) (rank kind)) y ys j h)) where
+all_in_front n t (y ∷ ys) (suc j) all h =
+    let both = and_parts (not (nat_lt (n y) t)) (list_all (λ x. not (nat_lt (n x) t)) ys) all in
+    ap (λ b. cond b (y ∷ filter (λ x. nat_eq (n x) t) ys) (filter (λ x. nat_eq (n x) t) ys)) (equal (n y) t both.0 (h.0 zero y (omega arith) (omega arith)))
+    ∙ ap (λ zs. y ∷ zs) (all_in_front n t ys j both.1 (later_parts (λ x. nat_le (n x) t) y ys j h)) where
       equal : (a b : ℕ) → not (nat_lt a b) ≡ true → nat_le a b ≡ true → nat_eq a b ≡ true
       equal a b h k = grind (arith, h, k)
 
--- the rows of a kind stand together
+-- the elements of a number stand together
+pub of_number : {X : Type 0} (n : X → ℕ) (t : ℕ) (xs : List X) (i j : ℕ) → Parts (λ x. nat_lt (n x) t) xs i → Parts (λ x. nat_le (n x) t) (drop i xs) j → take j (drop i xs) ≡ filter (λ x. nat_eq (n x) t) xs
+of_number n t xs i j h k = sym (none_in_front n t xs i h ∙ all_in_front n t (drop i xs) j (rest_fails (λ x. nat_lt (n x) t) xs i h) k)
+
+-- and so do the rows of a kind
 pub of_kind : (kind : Kind) (xs : List Row) (i j : ℕ) → Parts (λ x. nat_lt (rank (kind_of (key_of x))) (rank kind)) xs i → Parts (λ x. nat_le (rank (kind_of (key_of x))) (rank kind)) (drop i xs) j →
     take j (drop i xs) ≡ filter (is_of kind) xs
-of_kind kind xs i j h k = sym (none_in_front kind xs i h ∙ all_in_front kind (drop i xs) j (rest_fails (λ x. nat_lt (rank (kind_of (key_of x))) (rank kind)) xs i h) k)
+of_kind kind xs i j h k = of_number (λ x. rank (kind_of (key_of x))) (rank kind) xs i j h k

@@ -13,3 +13,5 @@ pub mod NewKeys
 pub mod ChangeLemmas
 pub mod OverlayLemmas
 pub mod SlidingLemmas
+pub mod GroupLemmas
+pub mod NamingLemmas

@@ -1,5 +1,5 @@
 -- What is asked of rows and an edit to judge the desk that it leads to.
-use Rattle.std.proofs.Common.{◌≡◌, ℕ, ◌+◌, ◌≤◌, nat_lt, nat_eq, nat_le, Bool, true, false, not, ◌&&◌, ◌||◌, length, refl, sym, ap, ◌∙◌, arith}
+use Rattle.std.proofs.Common.{◌≡◌, ℕ, ◌+◌, ◌≤◌, nat_lt, nat_eq, nat_le, Bool, true, false, not, ◌&&◌, ◌||◌, length, filter, refl, sym, ap, ◌∙◌, arith}
 use Rattle.std.specs.Prelude.{count_by}
 use Rattle.std.specs.Option.{is_some}
 use Rattle.std.specs.List.{list_all}
@@ -9,7 +9,7 @@ use Rattle.desk_rows.specs.declared.row.Row.TheVariants.{Member}
 use Rattle.desk_rows.specs.declared.row.Key.{Key}
 use Rattle.desk_rows.specs.declared.row.Kind.TheVariants as kinds
 use Rattle.desk_rows.specs.Kinds.{is_of}
-use Rattle.desk_rows.specs.Limits.{member_limit, other_limit}
+use Rattle.desk_rows.specs.Limits.{member_limit, slot_limit, other_limit}
 use Rattle.desk_rows.specs.Order.{in_order, key_is_new, are_apart, with_rows, without_rows}
 use Rattle.desk_rows.specs.Places.{take_at, put_at, can_take, can_put}
 use Rattle.desk_rows.specs.Edit.{EditOf, outs, ins}
@@ -19,7 +19,7 @@ use Rattle.desk_rows.specs.inner.Judged.{HasOrders, stay_rows, takes, is_free, s
 use Rattle.desk_rows.specs.laws.OrderLaws.{count_by-with_rows, count_by-without_rows}
 use Rattle.desk_rows.specs.laws.PlaceLaws.{count_by-take_at, length-put_at}
 use Rattle.desk_rows.specs.laws.Laws.{apt_parts, apt_from, outs_order, good_order, fits_parts, after_fits}
-use Rattle.desk_rows.proofs.ExchangeLemmas.{few_rows}
+use Rattle.desk_rows.proofs.ExchangeLemmas.{few_rows, few_slots}
 use Rattle.desk_rows.proofs.Indexed.{once_each}
 use Rattle.desk_rows.proofs.Counts.{before_count, after_count, others_after, all_count, two_counts}
 use Rattle.desk_rows.proofs.NewKeys.{stays_found, judged_right}
@@ -112,6 +112,9 @@ pub record Absorbs (d : Desk) (e : EditOf) : Type 0 where
   pub orders : HasOrders e
   pub apart : are_apart e.put.others e.replaced.new ≡ true
   pub others_few : length (with_rows (ins e) (without_rows (outs e) d.others)) ≤ other_limit
+  pub subs_few : length (filter (is_of kinds.Sub) (with_rows (ins e) (without_rows (outs e) d.others))) ≤ slot_limit
+  pub slots_few : length (filter (is_of kinds.Slot) (with_rows (ins e) (without_rows (outs e) d.others))) ≤ slot_limit
+  pub balance : (p : Row → Bool) → count_by p d.others + (count_by p e.put.others + count_by p e.replaced.new) ≡ count_by p (with_rows (ins e) (without_rows (outs e) d.others)) + (count_by p e.taken.others + count_by p e.replaced.old)
   pub good_after : good (exchanged d e) ≡ true
   pub after_is : exchanged d e ≡ after d e
 
@@ -120,6 +123,7 @@ unfolding exchanged
 absorbs d e h =
     let f = fits_parts d e h in
     let few = few_rows (exchanged d e) f.later in
+    let slots = few_slots (exchanged d e) f.later in
     record {
       take = f.apt.take;
       put = f.apt.put;
@@ -128,6 +132,9 @@ absorbs d e h =
       orders = orders_of d e (apt_from d e f.apt);
       apart = f.apt.ins_apart;
       others_few = few.1;
+      subs_few = slots.0;
+      slots_few = slots.1;
+      balance = λ p. others_balance p d e f.before (apt_from d e f.apt);
       good_after = f.later;
       after_is = sym (after_fits d e h);
     }

@@ -8,6 +8,7 @@ pub mod Places
 pub mod Desk
 pub mod Edit
 pub mod Keyed
+pub mod Naming
 pub mod Exchange
 pub mod laws
 pub mod inner

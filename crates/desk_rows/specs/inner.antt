@@ -4,3 +4,4 @@ pub mod Tests
 pub mod Listed
 pub mod Found
 pub mod Parting
+pub mod Grouped

@@ -3,3 +3,5 @@ pub mod Equal
 pub mod PlaceLaws
 pub mod OrderLaws
 pub mod Laws
+pub mod NamingLaws
+pub mod PlacesOnce

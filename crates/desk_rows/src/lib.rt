@@ -7,6 +7,7 @@ mod counting;
 mod edit;
 mod exchange;
 mod few;
+mod grouping;
 mod index;
 mod limits;
 mod looking;

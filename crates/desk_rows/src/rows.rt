@@ -1,10 +1,12 @@
 //! The rows of a desk.
 
-ghost use Rattle.std.specs.Prelude.{◌≡◌, ◌++◌, ◌≤◌, true, IfOk, IfNone, length, map, filter, nat_eq, slice_get, vec_capacity, refl};
+ghost use Rattle.std.specs.Prelude.{◌≡◌, ℕ, ◌++◌, ◌≤◌, true, IfOk, IfNone, length, map, filter, nat_eq, slice_get, vec_capacity, refl};
 ghost use Rattle.std.specs.List.{find};
+ghost use Rattle.std.specs.List.Sorted.{IsNonDecreasingBy};
 ghost use Rattle.desk_rows.specs.declared.row.Row.TheVariants.{Member as MemberRow};
 ghost use Rattle.desk_rows.specs.Row.{has_key};
 ghost use Rattle.desk_rows.specs.Kinds.{is_of};
+ghost use Rattle.desk_rows.specs.Naming.{subs_naming, slots_naming};
 ghost use Rattle.desk_rows.specs.Order.{in_order, is_in};
 ghost use Rattle.desk_rows.specs.inner.Index.{IsIndex};
 ghost use Rattle.desk_rows.specs.Places.{place_in};
@@ -15,11 +17,12 @@ ghost use Rattle.desk_rows.specs.laws.Laws.{inverse_fits, undoes, stays};
 
 use crate::edit::Edit;
 use crate::exchange::{exchange_members, exchange_rows, fits};
+use crate::grouping::{follow, group_of};
 use crate::index::{Entry, entry_of};
-use crate::limits::{MAX_MEMBERS, MAX_OTHERS};
+use crate::limits::{MAX_MEMBERS, MAX_OTHERS, MAX_SLOTS};
 use crate::looking::Look;
 use crate::ordering::{contains, find_row, rows_of_kind};
-use crate::row::{Key, Kind, Member, Row};
+use crate::row::{Key, Kind, Member, Row, Slot, Sub};
 use std::alloc::{AllocError, Allocator, Global};
 use std::marker::Model;
 use undo_log::Reversible;
@@ -37,14 +40,20 @@ pub struct Rows<A: Allocator + Copy = Global> {
     others: Vec<Row, A>,
     /// Room in which an edit puts other rows together.
     spare: Vec<Row, A>,
+    /// The subscriptions once more, by the sources that they name.
+    subs: Vec<Sub, A>,
+    /// The slots once more, by their members.
+    slots: Vec<Slot, A>,
 }
 
 impl<A: Allocator + Copy> Model for Rows<A> {
     ghost use Rattle.std.specs.Prelude.{◌≡◌, ◌≤◌, true, vec_capacity};
-    ghost use Rattle.desk_rows.specs.declared.limits.TheConstants.{MAX_MEMBERS, MAX_OTHERS};
+    ghost use Rattle.desk_rows.specs.declared.limits.TheConstants.{MAX_MEMBERS, MAX_SLOTS, MAX_OTHERS};
     ghost use Rattle.desk_rows.specs.Desk.{Desk, good};
+    ghost use Rattle.desk_rows.specs.Naming.{slot_in, sub_in};
     ghost use Rattle.desk_rows.specs.inner.Listed.{desk_of};
     ghost use Rattle.desk_rows.specs.inner.Index.{IsIndex};
+    ghost use Rattle.desk_rows.specs.inner.Grouped.{IsTableOf};
 
     ghost Value = { Desk };
 
@@ -56,7 +65,11 @@ impl<A: Allocator + Copy> Model for Rows<A> {
         × (MAX_MEMBERS ≤ vec_capacity r.members)
         × (MAX_MEMBERS ≤ vec_capacity r.index)
         × (MAX_OTHERS ≤ vec_capacity r.others)
-        × (MAX_OTHERS ≤ vec_capacity r.spare) };
+        × (MAX_OTHERS ≤ vec_capacity r.spare)
+        × IsTableOf sub_in (λ s. s.source) (λ s. s.out_ssrc) r.others.items r.subs.items
+        × (MAX_SLOTS ≤ vec_capacity r.subs)
+        × IsTableOf slot_in (λ s. s.member) (λ s. s.index) r.others.items r.slots.items
+        × (MAX_SLOTS ≤ vec_capacity r.slots) };
 }
 
 impl<A: Allocator + Copy> Rows<A> {
@@ -70,6 +83,8 @@ impl<A: Allocator + Copy> Rows<A> {
             index: Vec::with_capacity(alloc, MAX_MEMBERS)?,
             others: Vec::with_capacity(alloc, MAX_OTHERS)?,
             spare: Vec::with_capacity(alloc, MAX_OTHERS)?,
+            subs: Vec::with_capacity(alloc, MAX_SLOTS)?,
+            slots: Vec::with_capacity(alloc, MAX_SLOTS)?,
         })
     }
 
@@ -83,6 +98,8 @@ impl<A: Allocator + Copy> Rows<A> {
             index: copied(alloc, &self.index, MAX_MEMBERS)?,
             others: copied(alloc, &self.others, MAX_OTHERS)?,
             spare: Vec::with_capacity(alloc, MAX_OTHERS)?,
+            subs: copied(alloc, &self.subs, MAX_SLOTS)?,
+            slots: copied(alloc, &self.slots, MAX_SLOTS)?,
         })
     }
 
@@ -165,6 +182,21 @@ impl<A: Allocator + Copy> Rows<A> {
         ensures { result.now ≡ filter (is_of kind) self.now.others }
     {
         rows_of_kind(&self.others, kind)
+    }
+
+    /// The subscriptions that name this source, by the SSRC of their slots.
+    pub fn subs_of(&self, source: u32) -> &[Sub]
+        ensures { result.now ≡ subs_naming self.now source }
+    {
+        group_of(&self.subs, source)
+    }
+
+    /// The slots of this member by index.
+    pub fn slots_of(&self, member: u32) -> &[Slot]
+        ensures rising { IsNonDecreasingBy (λ s. s.index) result.now }
+        ensures exactly { (index : ℕ) → filter (λ s. nat_eq s.index index) result.now ≡ filter (λ s. nat_eq s.index index) (slots_naming self.now member) }
+    {
+        group_of(&self.slots, member)
     }
 
     /// The numbers of the room's members by place.
@@ -297,6 +329,8 @@ impl<A: Allocator + Copy> Reversible for Rows<A> {
     fn absorb_fitting(&mut self, edit: &Edit<A>) {
         exchange_members(&mut self.members, &mut self.index, edit);
         exchange_rows(&mut self.others, &mut self.spare, edit);
+        follow(&mut self.subs, &self.others, edit);
+        follow(&mut self.slots, &self.others, edit);
     }
 
     fn invert(edit: Edit<A>) -> Edit<A> {

@@ -6,21 +6,19 @@ use Rattle.std.specs.List.{filter_map, cons_option}
 use Rattle.std.proofs.lemmas.Bool.Decides.{nat_tests}
 use Rattle.rtp_codec.specs.declared.address.Address.{Address}
 use Rattle.rtp_codec.specs.Address.{same_address}
-use Rattle.desk_rows.specs.declared.row.Row.TheVariants.{Slot, Sub}
 use Rattle.desk_rows.specs.declared.row.Member.{Member as MemberRow}
 use Rattle.desk_rows.specs.declared.row.Slot.{Slot as SlotRow}
 use Rattle.desk_rows.specs.declared.row.Sub.{Sub as SubRow}
-use Rattle.desk_rows.specs.declared.row.Kind.TheVariants as kinds
-use Rattle.desk_rows.specs.Kinds.{is_of}
 use Rattle.desk_rows.specs.laws.Equal.{number_itself}
 use Rattle.desk_rows.specs.Desk.{Desk, good}
-use Rattle.topology.specs.Looking.{slot_in, sub_in, member_at, subscribed, is_muted, is_this, sender_of, room_of_member, has_address, comes_from}
+use Rattle.desk_rows.specs.Naming.{subs_naming}
+use Rattle.topology.specs.Looking.{member_at, subscribed, is_muted, is_this, sender_of, room_of_member, has_address, comes_from}
 use Rattle.topology.specs.Choice.{shown, shown_on, is_barred, unless_barred}
 use Rattle.topology.specs.Receivers.{slots_of, chooses}
-use Rattle.topology.specs.inner.Takers.{if_at, sender_from, unless_own, subscriber, is_viewer, viewer, slots_if_shown}
+use Rattle.topology.specs.inner.Takers.{if_at, sender_from, unless_own, subscriber}
 use Rattle.topology.proofs.Distinct.{at}
 use Rattle.topology.proofs.Rising.{joined, joined_turned}
-use Rattle.topology.proofs.KindRows.{subs_of, slot_ssrc, sub_ssrc, slot_row, sub_row, is_slot, is_sub, its_slot, its_sub, of_kind}
+use Rattle.topology.proofs.KindRows.{subs_of, slot_ssrc, sub_ssrc, slot_row, sub_row}
 use Rattle.topology.proofs.GoodRows.{slots_rise, subs_rise}
 use Rattle.topology.proofs.RoomsOf.{number_of_found}
 use Rattle.topology.proofs.Shown.{shown_sender}
@@ -106,11 +104,19 @@ keep p (x ∷ xs) = ap (cons_option (cond (p x) (Some x) None)) (keep p xs) ∙ 
 abbrev taking : ℕ → MemberRow → SubRow → SlotRow → Option SlotRow
 taking source sender y x = cond (nat_eq y.source source) (unless_own sender x) None
 
-by_subs : (d : Desk) (source : ℕ) (sender : MemberRow) (ys : List SubRow) → filter_map (λ y. subscriber d source sender (Sub y)) ys ≡ joined slot_ssrc sub_ssrc (taking source sender) (slots_of d) ys
+-- what a function gives of what passes a test
+of_passing : {X Y : Type 0} (p : X → Bool) (f : X → Option Y) (xs : List X) → filter_map f (filter p xs) ≡ filter_map (λ x. cond (p x) (f x) None) xs
+of_passing p f [] = refl
+of_passing p f (x ∷ xs) = elim (p x) as (λ b. filter_map f (cond b (x ∷ filter p xs) (filter p xs)) ≡ cons_option (cond b (f x) None) (filter_map (λ x. cond (p x) (f x) None) xs)) [
+  | true ↦ ap (cons_option (f x)) (of_passing p f xs)
+  | false ↦ of_passing p f xs
+]
+
+by_subs : (d : Desk) (source : ℕ) (sender : MemberRow) (ys : List SubRow) → filter_map (λ y. cond (nat_eq y.source source) (subscriber d sender y) None) ys ≡ joined slot_ssrc sub_ssrc (taking source sender) (slots_of d) ys
 by_subs d source sender [] = refl
 by_subs d source sender (y ∷ ys) =
-    ap (λ o. cons_option (cond (nat_eq y.source source) (option_and_then (unless_own sender) o) None) (filter_map (λ y. subscriber d source sender (Sub y)) ys)) (slot_row d y.out_ssrc)
-    ∙ ap (λ o. cons_option o (filter_map (λ y. subscriber d source sender (Sub y)) ys)) (by (nat_eq y.source source) (at slot_ssrc y.out_ssrc (slots_of d)))
+    ap (λ o. cons_option (cond (nat_eq y.source source) (option_and_then (unless_own sender) o) None) (filter_map (λ y. cond (nat_eq y.source source) (subscriber d sender y) None) ys)) (slot_row d y.out_ssrc)
+    ∙ ap (λ o. cons_option o (filter_map (λ y. cond (nat_eq y.source source) (subscriber d sender y) None) ys)) (by (nat_eq y.source source) (at slot_ssrc y.out_ssrc (slots_of d)))
     ∙ ap (cons_option (option_and_then (taking source sender y) (at slot_ssrc y.out_ssrc (slots_of d)))) (by_subs d source sender ys)
   where
     by : (b : Bool) (o : Option SlotRow) → cond b (option_and_then (unless_own sender) o) None ≡ option_and_then (λ x. cond b (unless_own sender x) None) o
@@ -146,9 +152,9 @@ by_slots d source address sender h (x ∷ xs) =
     ∙ ap (cons_option (cond (has_sub d x && chooses d source x) (Some x) None)) (by_slots d source address sender h xs)
 
 pub subscribers : (d : Desk) (source : ℕ) (address : Address) (sender : MemberRow) → good d ≡ true → Heard d source address sender
-    → filter_map (subscriber d source sender) (filter (is_of kinds.Sub) d.others) ≡ filter (has_sub d) (filter (chooses d source) (slots_of d))
+    → filter_map (subscriber d sender) (subs_naming d source) ≡ filter (has_sub d) (filter (chooses d source) (slots_of d))
 subscribers d source address sender g h =
-    of_kind sub_in (is_of kinds.Sub) (subscriber d source sender) (λ y. subscriber d source sender (Sub y)) is_sub (λ r y e. ap (subscriber d source sender) (its_sub r y e)) d.others
+    of_passing (λ y. nat_eq y.source source) (subscriber d sender) (subs_of d)
     ∙ by_subs d source sender (subs_of d)
     ∙ joined_turned slot_ssrc sub_ssrc (taking source sender) (slots_of d) (subs_of d) (slots_rise d g) (subs_rise d g)
     ∙ by_slots d source address sender h (slots_of d)
@@ -156,6 +162,12 @@ subscribers d source address sender g h =
     ∙ filter-and (has_sub d) (chooses d source) (slots_of d)
 
 -- ---- by what the room shows
+
+-- a slot of index 0 in the sender's room, not the sender's, without a subscription
+abbrev pub is_viewer : Desk → MemberRow → SlotRow → Bool
+is_viewer d sender s =
+    (nat_eq s.index 0 && not (nat_eq s.member sender.member))
+    && (is_this sender.room (room_of_member d s.member) && is_none (subscribed d s.out_ssrc))
 
 -- a slot is shown the source where it has no subscription and chose the source
 one_viewer : (d : Desk) (source : ℕ) (address : Address) (sender : MemberRow) → good d ≡ true → Heard d source address sender → (x : SlotRow)
@@ -219,19 +231,9 @@ one_viewer d source address sender g h x =
         last_true (is_this source (shown d sender.room)) (nat_eq x.index 0 && not (nat_eq x.member sender.member)) (is_this sender.room (room_of_member d x.member))
         ∙ at_index (nat_eq x.index 0) ∙ sym (of_wanted d source address sender h x (shown_on d x))
 
-no_viewers : (d : Desk) (sender : MemberRow) (xs : List SlotRow) → filter (λ x. false && is_viewer d sender x) xs ≡ []
-no_viewers d sender [] = refl
-no_viewers d sender (x ∷ xs) = no_viewers d sender xs
-
-pub viewers : (d : Desk) (source : ℕ) (address : Address) (sender : MemberRow) → good d ≡ true → Heard d source address sender
-    → filter_map (viewer d sender) (slots_if_shown d source sender.room) ≡ filter (λ s. not (has_sub d s)) (filter (chooses d source) (slots_of d))
-viewers d source address sender g h =
-    by (is_this source (shown d sender.room))
-    ∙ filter-same (λ x. is_this source (shown d sender.room) && is_viewer d sender x) (λ x. not (has_sub d x) && chooses d source x) (one_viewer d source address sender g h) (slots_of d)
+-- the slots that are shown the source
+pub shown_slots : (d : Desk) (source : ℕ) (address : Address) (sender : MemberRow) → good d ≡ true → Heard d source address sender
+    → filter (λ x. is_this source (shown d sender.room) && is_viewer d sender x) (slots_of d) ≡ filter (λ s. not (has_sub d s)) (filter (chooses d source) (slots_of d))
+shown_slots d source address sender g h =
+    filter-same (λ x. is_this source (shown d sender.room) && is_viewer d sender x) (λ x. not (has_sub d x) && chooses d source x) (one_viewer d source address sender g h) (slots_of d)
     ∙ filter-and (λ s. not (has_sub d s)) (chooses d source) (slots_of d)
-  where
-    by : (b : Bool) → filter_map (viewer d sender) (cond b (filter (is_of kinds.Slot) d.others) []) ≡ filter (λ x. b && is_viewer d sender x) (slots_of d)
-    by true =
-        of_kind slot_in (is_of kinds.Slot) (viewer d sender) (λ x. viewer d sender (Slot x)) is_slot (λ r x e. ap (viewer d sender) (its_slot r x e)) d.others
-        ∙ keep (is_viewer d sender) (slots_of d)
-    by false = sym (no_viewers d sender (slots_of d))

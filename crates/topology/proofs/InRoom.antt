@@ -15,7 +15,8 @@ use Rattle.desk_rows.specs.Row.{names, suits, wants, is_in_range}
 use Rattle.desk_rows.specs.laws.Equal.{number_itself}
 use Rattle.desk_rows.specs.laws.Laws.{good_parts}
 use Rattle.desk_rows.specs.Desk.{Desk, good, rows_of, row_at, room_at, same_room, are_together, all_suit, has_few_audio, obeys}
-use Rattle.topology.specs.Looking.{sub_in, source_at, slot_at, subscribed, is_muted, is_this, sender_of, room_of_member}
+use Rattle.desk_rows.specs.Naming.{sub_in}
+use Rattle.topology.specs.Looking.{source_at, slot_at, subscribed, is_muted, is_this, sender_of, room_of_member}
 use Rattle.topology.specs.Choice.{shown, shown_on, wanted, is_barred, unless_barred, chosen, choice}
 use Rattle.topology.proofs.Finding.{found_key}
 use Rattle.topology.proofs.KindRows.{slot_ssrc, slot_row}

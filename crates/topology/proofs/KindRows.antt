@@ -15,7 +15,8 @@ use Rattle.desk_rows.specs.declared.row.Kind.TheVariants as kinds
 use Rattle.desk_rows.specs.Row.{has_key}
 use Rattle.desk_rows.specs.Kinds.{is_of}
 use Rattle.desk_rows.specs.Desk.{Desk}
-use Rattle.topology.specs.Looking.{member_in, source_in, slot_in, sub_in, member_at, source_at, slot_at, subscribed}
+use Rattle.desk_rows.specs.Naming.{slot_in, sub_in}
+use Rattle.topology.specs.Looking.{member_in, source_in, member_at, source_at, slot_at, subscribed}
 use Rattle.topology.specs.Choice.{sources_of}
 use Rattle.topology.specs.Receivers.{slots_of}
 use Rattle.topology.proofs.Distinct.{at}
@@ -151,28 +152,6 @@ is_source (Gain r) = refl
 is_source (Pin r) = refl
 is_source (Floor r) = refl
 
-pub is_slot : (r : Row) → is_of kinds.Slot r ≡ is_some (slot_in r)
-is_slot (Room r) = refl
-is_slot (Member r) = refl
-is_slot (Source r) = refl
-is_slot (Slot r) = refl
-is_slot (Sub r) = refl
-is_slot (Mute r) = refl
-is_slot (Gain r) = refl
-is_slot (Pin r) = refl
-is_slot (Floor r) = refl
-
-pub is_sub : (r : Row) → is_of kinds.Sub r ≡ is_some (sub_in r)
-is_sub (Room r) = refl
-is_sub (Member r) = refl
-is_sub (Source r) = refl
-is_sub (Slot r) = refl
-is_sub (Sub r) = refl
-is_sub (Mute r) = refl
-is_sub (Gain r) = refl
-is_sub (Pin r) = refl
-is_sub (Floor r) = refl
-
 pub its_source : (r : Row) (s : SourceRow) → source_in r ≡ Some s → r ≡ Source s
 its_source (Room r) s e = absurd (cc)
 its_source (Member r) s e = absurd (cc)
@@ -183,28 +162,6 @@ its_source (Mute r) s e = absurd (cc)
 its_source (Gain r) s e = absurd (cc)
 its_source (Pin r) s e = absurd (cc)
 its_source (Floor r) s e = absurd (cc)
-
-pub its_slot : (r : Row) (s : SlotRow) → slot_in r ≡ Some s → r ≡ Slot s
-its_slot (Room r) s e = absurd (cc)
-its_slot (Member r) s e = absurd (cc)
-its_slot (Source r) s e = absurd (cc)
-its_slot (Slot r) s e = (let same : r ≡ s = cc in ap Slot same)
-its_slot (Sub r) s e = absurd (cc)
-its_slot (Mute r) s e = absurd (cc)
-its_slot (Gain r) s e = absurd (cc)
-its_slot (Pin r) s e = absurd (cc)
-its_slot (Floor r) s e = absurd (cc)
-
-pub its_sub : (r : Row) (s : SubRow) → sub_in r ≡ Some s → r ≡ Sub s
-its_sub (Room r) s e = absurd (cc)
-its_sub (Member r) s e = absurd (cc)
-its_sub (Source r) s e = absurd (cc)
-its_sub (Slot r) s e = absurd (cc)
-its_sub (Sub r) s e = (let same : r ≡ s = cc in ap Sub same)
-its_sub (Mute r) s e = absurd (cc)
-its_sub (Gain r) s e = absurd (cc)
-its_sub (Pin r) s e = absurd (cc)
-its_sub (Floor r) s e = absurd (cc)
 
 -- ---- in a desk
 

@@ -10,8 +10,8 @@ pub mod Falls
 pub mod OneReceiver
 pub mod Reached
 pub mod Seats
-pub mod PlacesOnce
 pub mod Parted
 pub mod FromItsSide
+pub mod Viewers
 pub mod Order
 pub mod LeastVideo

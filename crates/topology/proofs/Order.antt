@@ -1,7 +1,7 @@
 -- The slots that take a source, put in order, are its receivers.
 use Rattle.std.proofs.Common.{◌≡◌, ℕ, ◌<◌, Bool, true, false, cond, not, ◌||◌, nat_eq, List, [], ◌∷◌, ◌++◌, Option, None, Some, refl, sym, ap, subst, ◌∙◌, eqb-true}
 use Rattle.std.specs.Prelude.{filter, option_and_then}
-use Rattle.std.specs.List.{All, AllByRecursion}
+use Rattle.std.specs.List.{All, AllByRecursion, filter_map}
 use Rattle.std.specs.List.Sorted.{IsNonDecreasingBy, IsPermutation}
 use Rattle.std.proofs.lemmas.List.Elements.{All-nil, All-cons, All-filter, All-append}
 use Rattle.rtp_codec.specs.declared.address.Address.{Address}
@@ -9,29 +9,38 @@ use Rattle.rtp_codec.specs.Address.{same_address}
 use Rattle.desk_rows.specs.declared.row.Member.{Member as MemberRow}
 use Rattle.desk_rows.specs.declared.row.Slot.{Slot as SlotRow}
 use Rattle.desk_rows.specs.Desk.{Desk, good}
+use Rattle.desk_rows.specs.Naming.{subs_naming}
+use Rattle.desk_rows.specs.laws.PlacesOnce.{at_place}
 use Rattle.topology.specs.declared.receivers.Receiver.{Receiver}
 use Rattle.topology.specs.Looking.{member_at, is_muted, is_this, sender_of, has_address, comes_from}
 use Rattle.topology.specs.Choice.{wanted, is_barred, unless_barred}
 use Rattle.topology.specs.Receivers.{slots_of, chooses, by_index, by_place, receivers}
-use Rattle.topology.specs.inner.Takers.{if_at, sender_from, takers}
+use Rattle.topology.specs.inner.Takers.{if_at, sender_from, subscriber, viewer, members_if_shown, takers}
 use Rattle.topology.proofs.Rising.{Found, all_found}
 use Rattle.topology.proofs.KindRows.{slot_ssrc}
 use Rattle.topology.proofs.GoodRows.{slots_rise, index_few}
 use Rattle.topology.proofs.Seats.{sorted_by_index}
-use Rattle.topology.proofs.Parted.{parted_in_order}
-use Rattle.topology.proofs.FromItsSide.{Heard, who_is_heard, has_sub, subscribers, viewers}
+use Rattle.topology.proofs.Parted.{at_place-append, by_place-same, parted_in_order}
+use Rattle.topology.proofs.FromItsSide.{Heard, who_is_heard, has_sub, subscribers, shown_slots}
+use Rattle.topology.proofs.Viewers.{at_shown, viewers_few}
 
 -- the slots that chose a source, in two parts
 abbrev parted : Desk → ℕ → List SlotRow
 parted d source = filter (has_sub d) (filter (chooses d source) (slots_of d)) ++ filter (λ s. not (has_sub d s)) (filter (chooses d source) (slots_of d))
 
-takers_parted : (d : Desk) (source : ℕ) (address : Address) (sender : MemberRow) → good d ≡ true → Heard d source address sender → takers d source sender ≡ parted d source
-takers_parted d source address sender g h = (λ i. subscribers d source address sender g h i ++ viewers d source address sender g h i)
+-- those that take the source are the same, place by place
+taken_at : (d : Desk) (source : ℕ) (address : Address) (sender : MemberRow) → good d ≡ true → Heard d source address sender → (k index : ℕ) → at_place k index (takers d source sender) ≡ at_place k index (parted d source)
+taken_at d source address sender g h k index =
+    let subs = filter_map (subscriber d sender) (subs_naming d source) in
+    let chosen = filter (chooses d source) (slots_of d) in
+    at_place-append k index subs (filter_map (viewer d sender) (members_if_shown d source sender.room))
+    ∙ (λ i. at_place k index (subscribers d source address sender g h i) ++ (at_shown d source sender k index g ∙ ap (at_place k index) (shown_slots d source address sender g h)) i)
+    ∙ sym (at_place-append k index (filter (has_sub d) chosen) (filter (λ s. not (has_sub d s)) chosen))
 
 takers_in_order : (d : Desk) (source : ℕ) (address : Address) (sender : MemberRow) → good d ≡ true → Heard d source address sender → by_place d.members (by_index (takers d source sender)) ≡ receivers d source address
 unfolding receivers
 takers_in_order d source address sender g h =
-    ap (λ slots. by_place d.members (by_index slots)) (takers_parted d source address sender g h)
+    by_place-same d.members (takers d source sender) (parted d source) (taken_at d source address sender g h)
     ∙ parted_in_order d (has_sub d) (chooses d source) g
     ∙ sym (ap (λ b. cond b (by_place d.members (by_index (filter (chooses d source) (slots_of d)))) []) h.comes)
 
@@ -44,8 +53,9 @@ takers_few : (d : Desk) (source : ℕ) (address : Address) (sender : MemberRow) 
 takers_few d source address sender g h =
     let chosen = filter (chooses d source) (slots_of d) in
     let all = All-filter (chooses d source) (λ (s : SlotRow). s.index < 16) (slots_of d) (few d g (slots_of d) (all_found slot_ssrc (slots_of d) (slots_rise d g))) in
-    subst (All (λ (s : SlotRow). s.index < 16)) (sym (takers_parted d source address sender g h))
-    (All-append (λ (s : SlotRow). s.index < 16) (filter (has_sub d) chosen) (filter (λ s. not (has_sub d s)) chosen) (All-filter (has_sub d) (λ (s : SlotRow). s.index < 16) chosen all) (All-filter (λ s. not (has_sub d s)) (λ (s : SlotRow). s.index < 16) chosen all))
+    All-append (λ (s : SlotRow). s.index < 16) (filter_map (subscriber d sender) (subs_naming d source)) (filter_map (viewer d sender) (members_if_shown d source sender.room))
+    (subst (All (λ (s : SlotRow). s.index < 16)) (sym (subscribers d source address sender g h)) (All-filter (has_sub d) (λ (s : SlotRow). s.index < 16) chosen all))
+    (viewers_few d sender (members_if_shown d source sender.room))
 
 -- the slots that were taken, sorted by index, and then seated, are the receivers
 pub receivers_by_steps : (d : Desk) (source : ℕ) (address : Address) (sender : MemberRow) (made sorted read : List SlotRow) (found : List Receiver) → good d ≡ true → sender_from d source address ≡ Some sender

@@ -7,7 +7,7 @@ use Rattle.desk_rows.specs.declared.row.Member.{Member as MemberRow}
 use Rattle.desk_rows.specs.declared.row.Slot.{Slot as SlotRow}
 use Rattle.desk_rows.specs.Desk.{Desk, good}
 use Rattle.topology.specs.Receivers.{slots_of, by_index, by_place, receiver}
-use Rattle.topology.proofs.PlacesOnce.{of_member, of_index, at_place, one_at_place}
+use Rattle.desk_rows.specs.laws.PlacesOnce.{of_member, of_index, at_place, one_at_place}
 
 -- ---- tests of lists
 
@@ -53,11 +53,11 @@ one_parted p (x ∷ y ∷ xs) h = absurd (omega arith)
 abbrev parted : (SlotRow → Bool) → List SlotRow → List SlotRow
 parted p slots = filter p slots ++ filter (λ s. not (p s)) slots
 
-at_place-append : (member index : ℕ) (xs ys : List SlotRow) → at_place member index (xs ++ ys) ≡ at_place member index xs ++ at_place member index ys
+pub at_place-append : (member index : ℕ) (xs ys : List SlotRow) → at_place member index (xs ++ ys) ≡ at_place member index xs ++ at_place member index ys
 at_place-append member index xs ys =
     ap (filter (of_index index)) (filter-append (of_member member) xs ys) ∙ filter-append (of_index index) (filter (of_member member) xs) (filter (of_member member) ys)
 
-at_place-filter : (member index : ℕ) (p : SlotRow → Bool) (slots : List SlotRow) → at_place member index (filter p slots) ≡ filter p (at_place member index slots)
+pub at_place-filter : (member index : ℕ) (p : SlotRow → Bool) (slots : List SlotRow) → at_place member index (filter p slots) ≡ filter p (at_place member index slots)
 at_place-filter member index p slots = ap (filter (of_index index)) (filter-filter (of_member member) p slots) ∙ filter-filter (of_index index) p (filter (of_member member) slots)
 
 -- where a place has one slot at most, the parts have the same there
@@ -80,7 +80,7 @@ of_member-by_index member xs ys same =
     ∙ member-same member xs ys same (range_with_len 0 16)
     ∙ sym (filter-groups (of_member member) of_index ys (range_with_len 0 16))
 
-by_place-same : (members : List MemberRow) (xs ys : List SlotRow) → ((member index : ℕ) → at_place member index xs ≡ at_place member index ys) → by_place members (by_index xs) ≡ by_place members (by_index ys)
+pub by_place-same : (members : List MemberRow) (xs ys : List SlotRow) → ((member index : ℕ) → at_place member index xs ≡ at_place member index ys) → by_place members (by_index xs) ≡ by_place members (by_index ys)
 by_place-same [] xs ys same = refl
 by_place-same (m ∷ members) xs ys same = (λ k. map (receiver m) (of_member-by_index m.member xs ys (same m.member) k) ++ by_place-same members xs ys same k)
 

@@ -1,5 +1,5 @@
 -- What a desk has under a number.
-use Rattle.std.specs.Prelude.{ℕ, Bool, false, nat_eq, Option, None, Some}
+use Rattle.std.specs.Prelude.{ℕ, Bool, false, if◌then◌else◌, nat_eq, Option, None, Some}
 use Rattle.std.specs.Option.{is_some, option_map, option_and_then}
 use Rattle.std.specs.List.{find}
 use Rattle.rtp_codec.specs.declared.address.Address.{Address}
@@ -7,13 +7,13 @@ use Rattle.rtp_codec.specs.Address.{same_address}
 use Rattle.desk_rows.specs.declared.row.Member.{Member as MemberRow}
 use Rattle.desk_rows.specs.declared.row.Source.{Source as SourceRow}
 use Rattle.desk_rows.specs.declared.row.Slot.{Slot as SlotRow}
-use Rattle.desk_rows.specs.declared.row.Sub.{Sub as SubRow}
 use Rattle.desk_rows.specs.declared.row.Pin.{Pin as PinRow}
 use Rattle.desk_rows.specs.declared.row.Floor.{Floor as FloorRow}
 use Rattle.desk_rows.specs.declared.row.Row.{Row}
-use Rattle.desk_rows.specs.declared.row.Row.TheVariants.{Member, Source, Slot, Sub, Pin, Floor}
+use Rattle.desk_rows.specs.declared.row.Row.TheVariants.{Member, Source, Pin, Floor}
 use Rattle.desk_rows.specs.declared.row.Key.TheVariants as keys
 use Rattle.desk_rows.specs.Desk.{Desk, row_at}
+use Rattle.desk_rows.specs.Naming.{slot_in, sub_in}
 
 -- ---- rows of one kind
 
@@ -26,16 +26,6 @@ member_in _ = None
 abbrev pub source_in : Row → Option SourceRow
 source_in (Source s) = Some s
 source_in _ = None
-
--- the slot in a row
-abbrev pub slot_in : Row → Option SlotRow
-slot_in (Slot s) = Some s
-slot_in _ = None
-
--- the subscription in a row
-abbrev pub sub_in : Row → Option SubRow
-sub_in (Sub s) = Some s
-sub_in _ = None
 
 -- the pin in a row
 abbrev pub pin_in : Row → Option PinRow
@@ -100,6 +90,10 @@ has_address address (Some m) = same_address m.address address
 -- the source's member has this address
 abbrev pub comes_from : Desk → ℕ → Address → Bool
 comes_from d source address = has_address address (option_and_then (member_at d) (sender_of d source))
+
+-- the source of this SSRC, if its member has this address
+abbrev pub source_from : Desk → ℕ → Address → Option SourceRow
+source_from d source address = if comes_from d source address then source_at d source else None
 
 -- the member at this address, the first in joining order
 abbrev pub member_from : Desk → Address → Option ℕ

@@ -7,7 +7,8 @@ use Rattle.desk_rows.specs.declared.row.Member.{Member as MemberRow}
 use Rattle.desk_rows.specs.declared.row.Slot.{Slot as SlotRow}
 use Rattle.desk_rows.specs.Desk.{Desk}
 use Rattle.topology.specs.declared.receivers.Receiver.{Receiver}
-use Rattle.topology.specs.Looking.{slot_in, member_at, slot_at, is_this, comes_from}
+use Rattle.desk_rows.specs.Naming.{slot_in}
+use Rattle.topology.specs.Looking.{member_at, slot_at, is_this, comes_from}
 use Rattle.topology.specs.Choice.{chosen}
 
 -- the slots of a desk

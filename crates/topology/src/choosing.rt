@@ -65,7 +65,7 @@ fn shown_on<A: Allocator + Copy>(rows: &Rows<A>, slot: &Slot) -> Option<u32>
 }
 
 /// What a room shows: its pin; without one, the least video SSRC of its floor holder.
-pub(crate) fn shown<A: Allocator + Copy>(rows: &Rows<A>, room: u32) -> Option<u32>
+fn shown<A: Allocator + Copy>(rows: &Rows<A>, room: u32) -> Option<u32>
     ensures { result ≡ shown rows.now room }
 {
     match pinned(rows, room) {
@@ -78,7 +78,7 @@ pub(crate) fn shown<A: Allocator + Copy>(rows: &Rows<A>, room: u32) -> Option<u3
 }
 
 /// The least video SSRC of a member.
-fn first_video<A: Allocator + Copy>(rows: &Rows<A>, member: u32) -> Option<u32>
+pub(crate) fn first_video<A: Allocator + Copy>(rows: &Rows<A>, member: u32) -> Option<u32>
     ensures { result ≡ first_video rows.now member }
 {
     match first_among(rows.others_of(Kind::Source), member) {

@@ -1,7 +1,7 @@
 //! What a desk has under a number.
 
 ghost use Rattle.std.specs.Prelude.{◌≡◌};
-ghost use Rattle.topology.specs.Looking.{member_at, slot_at, source_at, subscribed, pinned, holder, is_muted, is_this, sender_of, room_of_member, member_from};
+ghost use Rattle.topology.specs.Looking.{member_at, slot_at, source_at, subscribed, pinned, holder, is_muted, is_this, sender_of, room_of_member, comes_from, source_from, member_from};
 
 use desk_rows::{Key, Member, Row, Rows, Slot, Source};
 use rtp_codec::Address;
@@ -101,6 +101,34 @@ pub(crate) fn room_of_member<A: Allocator + Copy>(rows: &Rows<A>, member: u32) -
     match member_at(rows, member) {
         None => None,
         Some(member) => Some(member.room),
+    }
+}
+
+/// Whether the source's member has this address.
+fn comes_from<A: Allocator + Copy>(rows: &Rows<A>, source: u32, address: &Address) -> bool
+    ensures { result ≡ comes_from rows.now source address.now }
+{
+    let Some(sender) = sender_of(rows, source) else {
+        return false;
+    };
+    match member_at(rows, sender) {
+        None => false,
+        Some(member) => member.address == *address,
+    }
+}
+
+/// The source of this SSRC, if its member has this address.
+pub fn source_from<A: Allocator + Copy>(
+    rows: &Rows<A>,
+    source: u32,
+    address: &Address,
+) -> Option<Source>
+    ensures { result ≡ source_from rows.now source address.now }
+{
+    if comes_from(rows, source, address) {
+        source_at(rows, source)
+    } else {
+        None
     }
 }
 

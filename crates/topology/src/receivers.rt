@@ -1,15 +1,17 @@
 //! Who gets what a source sends.
 
-ghost use Rattle.std.specs.Prelude.{◌≡◌, map, IfOk};
+ghost use Rattle.std.specs.Prelude.{◌≡◌, map, IfOk, Some};
 ghost use Rattle.std.specs.List.{filter_map};
+ghost use Rattle.topology.specs.Looking.{is_this, sender_of};
+ghost use Rattle.topology.specs.Choice.{shown};
 ghost use Rattle.topology.specs.Receivers.{by_place, receivers};
-ghost use Rattle.topology.specs.inner.Takers.{sender_from, subscriber, is_viewer, viewer, slots_if_shown, takers, seat};
+ghost use Rattle.topology.specs.inner.Takers.{sender_from, subscriber, first_slot, viewer, members_if_shown, takers, seat};
 
-use crate::choosing::shown;
+use crate::choosing::first_video;
 use crate::looking::{
-    is_muted, is_this, member_at, room_of_member, sender_of, slot_at, subscribed,
+    holder, is_muted, is_this, member_at, pinned, sender_of, slot_at, subscribed,
 };
-use desk_rows::{Kind, Member, Row, Rows, Slot};
+use desk_rows::{Member, Rows, Slot, Sub};
 use rtp_codec::Address;
 use std::alloc::{AllocError, Allocator};
 
@@ -69,45 +71,56 @@ fn takers<A: Allocator + Copy>(
     source: u32,
     sender: &Member,
 ) -> Result<Vec<Slot, A>, AllocError>
+    requires { sender_of rows.now source ≡ Some sender.now.member }
     ensures { IfOk result (λ v. v.items ≡ takers rows.now source sender.now) }
 {
-    rows.others_of(Kind::Sub)
+    rows.subs_of(source)
         .iter()
-        .filter_map(|row| subscriber(rows, source, sender, row))
+        .filter_map(|sub| subscriber(rows, sender, sub))
         .chain(
-            slots_if_shown(rows, source, sender.room)
+            members_if_shown(rows, source, sender)
                 .iter()
-                .filter_map(|row| viewer(rows, sender, row)),
+                .filter_map(|member| viewer(rows, sender, member)),
         )
         .collect(alloc)
 }
 
-/// The rows of slots, if the room shows the source, and else none.
-fn slots_if_shown<A: Allocator + Copy>(rows: &Rows<A>, source: u32, room: u32) -> &[Row]
-    ensures { result.now ≡ slots_if_shown rows.now source room }
+/// Whether the sender's room shows its source: by the pin; without one, by the floor, if the sender has
+/// it.
+fn is_shown<A: Allocator + Copy>(rows: &Rows<A>, source: u32, sender: &Member) -> bool
+    requires { sender_of rows.now source ≡ Some sender.now.member }
+    ensures { result ≡ is_this source (shown rows.now sender.now.room) }
 {
-    if is_this(source, shown(rows, room)) {
-        rows.others_of(Kind::Slot)
+    rows.known();
+    match pinned(rows, sender.room) {
+        Some(pin) => pin == source,
+        None => {
+            is_this(sender.member, holder(rows, sender.room))
+                && is_this(source, first_video(rows, sender.member))
+        }
+    }
+}
+
+/// The members, if the sender's room shows its source, and else none.
+fn members_if_shown<'a, A: Allocator + Copy>(
+    rows: &'a Rows<A>,
+    source: u32,
+    sender: &Member,
+) -> &'a [Member]
+    requires { sender_of rows.now source ≡ Some sender.now.member }
+    ensures { result.now ≡ members_if_shown rows.now source sender.now.room }
+{
+    if is_shown(rows, source, sender) {
+        rows.members()
     } else {
         &[]
     }
 }
 
-/// The slot of a subscription to the source, unless it is the sender's.
-fn subscriber<A: Allocator + Copy>(
-    rows: &Rows<A>,
-    source: u32,
-    sender: &Member,
-    row: &Row,
-) -> Option<Slot>
-    ensures { result ≡ subscriber rows.now source sender.now row.now }
+/// The slot of a subscription, unless it is the sender's.
+fn subscriber<A: Allocator + Copy>(rows: &Rows<A>, sender: &Member, sub: &Sub) -> Option<Slot>
+    ensures { result ≡ subscriber rows.now sender.now sub.now }
 {
-    let Row::Sub(sub) = row else {
-        return None;
-    };
-    if sub.source != source {
-        return None;
-    }
     let slot = slot_at(rows, sub.out_ssrc)?;
     if slot.member == sender.member {
         None
@@ -116,23 +129,27 @@ fn subscriber<A: Allocator + Copy>(
     }
 }
 
-/// Whether the slot has the index 0, is in the sender's room and not the sender's, and has no
-/// subscription.
-fn is_viewer<A: Allocator + Copy>(rows: &Rows<A>, sender: &Member, slot: &Slot) -> bool
-    ensures { result ≡ is_viewer rows.now sender.now slot.now }
+/// The slot of index 0 of a member.
+fn first_slot<A: Allocator + Copy>(rows: &Rows<A>, member: u32) -> Option<Slot>
+    ensures { result ≡ first_slot rows.now member }
 {
-    (slot.index == 0 && slot.member != sender.member)
-        && (is_this(sender.room, room_of_member(rows, slot.member))
-            && subscribed(rows, slot.out_ssrc).is_none())
+    match rows.slots_of(member).first() {
+        Some(slot) if slot.index == 0 => Some(*slot),
+        _ => None,
+    }
 }
 
-/// The slot in a row, if it gets what the sender's room shows.
-fn viewer<A: Allocator + Copy>(rows: &Rows<A>, sender: &Member, row: &Row) -> Option<Slot>
-    ensures { result ≡ viewer rows.now sender.now row.now }
+/// The slot of index 0 of a member of the sender's room, not the sender, if it has no subscription.
+fn viewer<A: Allocator + Copy>(rows: &Rows<A>, sender: &Member, member: &Member) -> Option<Slot>
+    ensures { result ≡ viewer rows.now sender.now member.now }
 {
-    match row {
-        Row::Slot(slot) if is_viewer(rows, sender, slot) => Some(*slot),
-        _ => None,
+    if member.room != sender.room || member.member == sender.member {
+        return None;
+    }
+    let slot = first_slot(rows, member.member)?;
+    match subscribed(rows, slot.out_ssrc) {
+        Some(_) => None,
+        None => Some(slot),
     }
 }
 

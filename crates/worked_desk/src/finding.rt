@@ -1,13 +1,13 @@
 //! What is asked of a desk.
 
-ghost use Rattle.std.specs.Prelude.{◌≡◌, true, false, None, Some, [], ◌∷◌, IfOk};
+ghost use Rattle.std.specs.Prelude.{◌≡◌, true, false, None, Some, [], ◌∷◌, IfOk, filter, nat_eq};
 ghost use Rattle.desk_rows.specs.declared.row.Codec.TheVariants.{L16};
 ghost use Rattle.desk_rows.specs.Desk.{blank};
 ghost use Rattle.worked_desk.specs.Rows.{member, room, video, audio, slot, sub};
 ghost use Rattle.worked_desk.specs.TwoRooms.{two_rooms, ten, eleven, twelve, eight_rows};
 ghost use Rattle.worked_desk.specs.FullDesks.{of_members};
 
-use desk_rows::{Key, Kind, Member, Row, Rows};
+use desk_rows::{Key, Kind, Member, Row, Rows, Slot, Sub};
 use std::alloc::{AllocError, Global};
 
 /// A desk begins without rows.
@@ -153,6 +153,26 @@ pub fn place_of(rows: &Rows, member: u32) -> Option<usize>
     ensures none { member ≡ 13 → result ≡ None }
 {
     rows.place_of(member)
+}
+
+/// The subscriptions of a source are those that name it.
+pub fn subs_of(rows: &Rows, source: u32) -> &[Sub]
+    requires { rows.now ≡ two_rooms }
+    ensures named { source ≡ 101 → result.now ≡ record { out_ssrc = 501; source = 101 } ∷ [] }
+    ensures of_a_slot { source ≡ 501 → result.now ≡ [] }
+    ensures unnamed { source ≡ 103 → result.now ≡ [] }
+{
+    rows.subs_of(source)
+}
+
+/// The slots of a member are its own alone.
+pub fn slots_of(rows: &Rows, member: u32) -> &[Slot]
+    requires { rows.now ≡ two_rooms }
+    ensures one { member ≡ 12 → filter (λ s. nat_eq s.index 0) result.now ≡ record { out_ssrc = 502; member = 12; index = 0; first_seq = 65535; first_ts = 1000 } ∷ [] }
+    ensures no_second { member ≡ 12 → filter (λ s. nat_eq s.index 1) result.now ≡ [] }
+    ensures none { member ≡ 10 → filter (λ s. nat_eq s.index 0) result.now ≡ [] }
+{
+    rows.slots_of(member)
 }
 
 /// A roster has the numbers of a room's members in joining order.

@@ -1,19 +1,17 @@
 -- How the slots that chose a source are found from its side. No public clause cites this.
-use Rattle.std.specs.Prelude.{ℕ, Bool, not, ◌&&◌, if◌then◌else◌, nat_eq, List, [], ◌++◌, filter, Option, None, Some}
+use Rattle.std.specs.Prelude.{ℕ, not, ◌&&◌, if◌then◌else◌, nat_eq, List, [], ◌++◌, Option, None, Some}
 use Rattle.std.specs.Option.{is_none, option_and_then}
-use Rattle.std.specs.List.{filter_map}
+use Rattle.std.specs.List.{find, filter_map}
 use Rattle.rtp_codec.specs.declared.address.Address.{Address}
 use Rattle.rtp_codec.specs.Address.{same_address}
 use Rattle.desk_rows.specs.declared.row.Member.{Member as MemberRow}
 use Rattle.desk_rows.specs.declared.row.Slot.{Slot as SlotRow}
-use Rattle.desk_rows.specs.declared.row.Row.{Row}
-use Rattle.desk_rows.specs.declared.row.Row.TheVariants.{Slot, Sub}
-use Rattle.desk_rows.specs.declared.row.Kind.TheVariants as kinds
-use Rattle.desk_rows.specs.Kinds.{is_of}
+use Rattle.desk_rows.specs.declared.row.Sub.{Sub as SubRow}
 use Rattle.desk_rows.specs.Places.{place_in}
 use Rattle.desk_rows.specs.Desk.{Desk}
+use Rattle.desk_rows.specs.Naming.{subs_naming, slots_naming}
 use Rattle.topology.specs.declared.receivers.Seated.{Seated}
-use Rattle.topology.specs.Looking.{member_at, slot_at, subscribed, is_muted, is_this, sender_of, room_of_member}
+use Rattle.topology.specs.Looking.{member_at, slot_at, subscribed, is_muted, is_this, sender_of}
 use Rattle.topology.specs.Choice.{shown}
 use Rattle.topology.specs.Receivers.{receiver}
 
@@ -29,31 +27,32 @@ sender_from d source address = if is_muted d source then None else option_and_th
 abbrev pub unless_own : MemberRow → SlotRow → Option SlotRow
 unless_own sender s = if nat_eq s.member sender.member then None else Some s
 
--- the slot of a subscription to the source, unless it is the sender's
-abbrev pub subscriber : Desk → ℕ → MemberRow → Row → Option SlotRow
-subscriber d source sender (Sub s) = if nat_eq s.source source then option_and_then (unless_own sender) (slot_at d s.out_ssrc) else None
-subscriber d source sender _ = None
+-- the slot of a subscription, unless it is the sender's
+abbrev pub subscriber : Desk → MemberRow → SubRow → Option SlotRow
+subscriber d sender s = option_and_then (unless_own sender) (slot_at d s.out_ssrc)
 
--- a slot of index 0 in the sender's room, not the sender's, without a subscription
-abbrev pub is_viewer : Desk → MemberRow → SlotRow → Bool
-is_viewer d sender s =
-    (nat_eq s.index 0 && not (nat_eq s.member sender.member))
-    && (is_this sender.room (room_of_member d s.member) && is_none (subscribed d s.out_ssrc))
+-- the slot of index 0 of a member
+abbrev pub first_slot : Desk → ℕ → Option SlotRow
+first_slot d member = find (λ s. nat_eq s.index 0) (slots_naming d member)
 
--- the slot in a row, if it gets what the sender's room shows
-abbrev pub viewer : Desk → MemberRow → Row → Option SlotRow
-viewer d sender (Slot s) = if is_viewer d sender s then Some s else None
-viewer d sender _ = None
+-- a slot, unless it has a subscription
+abbrev pub unless_subscribed : Desk → SlotRow → Option SlotRow
+unless_subscribed d s = if is_none (subscribed d s.out_ssrc) then Some s else None
 
--- the rows of slots, if the room shows the source, and else none
-abbrev pub slots_if_shown : Desk → ℕ → ℕ → List Row
-slots_if_shown d source room = if is_this source (shown d room) then filter (is_of kinds.Slot) d.others else []
+-- the slot of index 0 of a member of the sender's room, not the sender, unless it has a subscription
+abbrev pub viewer : Desk → MemberRow → MemberRow → Option SlotRow
+viewer d sender m =
+    if nat_eq m.room sender.room && not (nat_eq m.member sender.member) then option_and_then (unless_subscribed d) (first_slot d m.member) else None
+
+-- the members, if the room shows the source, and else none
+abbrev pub members_if_shown : Desk → ℕ → ℕ → List MemberRow
+members_if_shown d source room = if is_this source (shown d room) then d.members else []
 
 -- the slots that take the source: those that have subscribed to it before those that are shown it
 abbrev pub takers : Desk → ℕ → MemberRow → List SlotRow
 takers d source sender =
-    filter_map (subscriber d source sender) (filter (is_of kinds.Sub) d.others)
-    ++ filter_map (viewer d sender) (slots_if_shown d source sender.room)
+    filter_map (subscriber d sender) (subs_naming d source)
+    ++ filter_map (viewer d sender) (members_if_shown d source sender.room)
 
 -- a slot as a receiver at its member's place, where the member is there
 abbrev pub seat_at : SlotRow → Option ℕ → Option MemberRow → Option Seated

@@ -1,4 +1,10 @@
-use Rattle.std.proofs.Common.{◌≡◌, true, ap, ◌∙◌}
+use Rattle.std.proofs.Common.{◌≡◌, true, length, filter, ap, subst, ◌∙◌, arith}
+use Rattle.std.specs.Prelude.{count_by}
+use Rattle.desk_rows.specs.declared.row.Kind.TheVariants as kinds
+use Rattle.desk_rows.specs.Kinds.{is_of}
+use Rattle.desk_rows.specs.Order.{in_order}
+use Rattle.desk_rows.specs.Naming.{slot_in, sub_in}
+use Rattle.desk_rows.specs.inner.Grouped.{passes_in, IsTableOf}
 use Rattle.desk_rows.specs.Desk.{Desk, good}
 use Rattle.desk_rows.specs.Edit.{EditOf}
 use Rattle.desk_rows.specs.Exchange.{exchanged, fits, after}
@@ -39,11 +45,47 @@ exchange_rows-requires-clause-apart g c = (at _ _ c.args.edit.now c.self.view_is
 pub exchange_rows-requires-clause-few : goal.exchange_rows-requires-clause-few
 exchange_rows-requires-clause-few g c = (at _ _ c.args.edit.now c.self.view_is c.requires).others_few
 
+pub follow-requires-clause-rows : goal.follow-requires-clause-rows
+unfolding exchanged
+follow-requires-clause-rows g c = ap in_order (c.deref.ensures.value ∙ c.exchange_rows.ensures.items) ∙ good_order _ (at _ _ c.args.edit.now c.self.view_is c.requires).good_after
+
+pub follow-requires-clause-orders : goal.follow-requires-clause-orders
+follow-requires-clause-orders g c = (at _ _ c.args.edit.now c.self.view_is c.requires).orders
+
+pub follow-requires-clause-before : goal.follow-requires-clause-before
+follow-requires-clause-before g c p =
+    let later = ap (count_by (passes_in sub_in p)) (c.deref.ensures.value ∙ c.exchange_rows.ensures.items) in
+    let balance = (at _ _ c.args.edit.now c.self.view_is c.requires).balance (passes_in sub_in p) in
+    omega (arith, c.self.invariant.6.same p, later, balance)
+
+pub follow-requires-clause-room : goal.follow-requires-clause-room
+follow-requires-clause-room g c =
+    let later = ap (λ rows. length (filter (is_of kinds.Sub) rows)) (c.deref.ensures.value ∙ c.exchange_rows.ensures.items) in
+    omega (arith, later, (at _ _ c.args.edit.now c.self.view_is c.requires).subs_few, c.self.invariant.7)
+
+pub follow-requires-2-clause-rows : goal.follow-requires-2-clause-rows
+unfolding exchanged
+follow-requires-2-clause-rows g c = ap in_order (c.deref-2.ensures.value ∙ c.exchange_rows.ensures.items) ∙ good_order _ (at _ _ c.args.edit.now c.self.view_is c.requires).good_after
+
+pub follow-requires-2-clause-orders : goal.follow-requires-2-clause-orders
+follow-requires-2-clause-orders g c = (at _ _ c.args.edit.now c.self.view_is c.requires).orders
+
+pub follow-requires-2-clause-before : goal.follow-requires-2-clause-before
+follow-requires-2-clause-before g c p =
+    let later = ap (count_by (passes_in slot_in p)) (c.deref-2.ensures.value ∙ c.exchange_rows.ensures.items) in
+    let balance = (at _ _ c.args.edit.now c.self.view_is c.requires).balance (passes_in slot_in p) in
+    omega (arith, c.self.invariant.8.same p, later, balance)
+
+pub follow-requires-2-clause-room : goal.follow-requires-2-clause-room
+follow-requires-2-clause-room g c =
+    let later = ap (λ rows. length (filter (is_of kinds.Slot) rows)) (c.deref-2.ensures.value ∙ c.exchange_rows.ensures.items) in
+    omega (arith, later, (at _ _ c.args.edit.now c.self.view_is c.requires).slots_few, c.self.invariant.9)
+
 pub invariant_of-self : goal.invariant_of-self
 unfolding exchanged
 invariant_of-self g c =
     let found = at _ _ c.args.edit.now c.self.view_is c.requires in
-    ((λ i. good (desk_of c.self.inside.bridge_ssrc (c.exchange_members.ensures.items i) (c.exchange_rows.ensures.items i))) ∙ found.good_after, c.exchange_members.ensures.index, c.exchange_members.ensures.room.0, c.exchange_members.ensures.room.1, c.exchange_rows.ensures.room.0, c.exchange_rows.ensures.room.1)
+    ((λ i. good (desk_of c.self.inside.bridge_ssrc (c.exchange_members.ensures.items i) (c.exchange_rows.ensures.items i))) ∙ found.good_after, c.exchange_members.ensures.index, c.exchange_members.ensures.room.0, c.exchange_members.ensures.room.1, c.exchange_rows.ensures.room.0, c.exchange_rows.ensures.room.1, subst (λ others. IsTableOf sub_in (λ s. s.source) (λ s. s.out_ssrc) others c.follow.new.table.items) c.deref.ensures.value c.follow.ensures.table, omega (arith, c.follow.ensures.capacity, c.self.invariant.7), subst (λ others. IsTableOf slot_in (λ s. s.member) (λ s. s.index) others c.follow-2.new.table.items) c.deref-2.ensures.value c.follow-2.ensures.table, omega (arith, c.follow-2.ensures.capacity, c.self.invariant.9))
 
 pub returns : goal.returns
 unfolding exchanged

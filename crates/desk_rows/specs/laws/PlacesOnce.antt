@@ -1,8 +1,8 @@
 -- On a good desk a member has one slot of an index at most.
-use Rattle.std.proofs.Common.{◌≡◌, ℕ, ◌+◌, ◌≤◌, Bool, true, false, cond, ◌&&◌, ◌||◌, nat_eq, List, [], ◌∷◌, map, length, Option, None, Some, refl, sym, ap, ◌∙◌, arith, eqb-true}
+use Rattle.std.proofs.Common.{◌≡◌, ℕ, ◌+◌, ◌≤◌, Bool, true, false, cond, ◌&&◌, ◌||◌, nat_eq, List, [], ◌∷◌, map, length, Option, None, Some, refl, sym, ap, ◌∙◌, arith, eqb-true, ◌⊎◌, inl, inr}
 use Rattle.std.specs.Prelude.{filter, count_by}
-use Rattle.std.specs.List.{find, filter_map, cons_option, list_all}
-use Rattle.std.proofs.lemmas.Bool.{and_parts}
+use Rattle.std.specs.List.{filter_map, cons_option, list_all}
+use Rattle.std.proofs.lemmas.Bool.{and_parts, or_left, or_right}
 use Rattle.std.proofs.lemmas.Bool.Decides.{nat_tests}
 use Rattle.desk_rows.specs.declared.row.Row.{Row}
 use Rattle.desk_rows.specs.declared.row.Row.TheVariants.{Room, Member, Source, Slot, Sub, Mute, Gain, Pin, Floor}
@@ -12,12 +12,11 @@ use Rattle.desk_rows.specs.Row.{key_of, makes}
 use Rattle.desk_rows.specs.laws.PlaceLaws.{count_next}
 use Rattle.desk_rows.specs.laws.Laws.{count_by-append, good_parts}
 use Rattle.desk_rows.specs.Desk.{Desk, good, is_alone, is_made_once, rows_of}
-use Rattle.topology.specs.Looking.{slot_in}
-use Rattle.topology.specs.Receivers.{slots_of}
-use Rattle.topology.proofs.Distinct.{past}
-use Rattle.topology.proofs.Finding.{of_found}
-use Rattle.topology.proofs.KindRows.{its_slot}
-use Rattle.topology.proofs.GoodRows.{each}
+use Rattle.desk_rows.specs.Order.{is_in}
+use Rattle.desk_rows.specs.Naming.{slot_in}
+use Rattle.desk_rows.specs.laws.Equal.{row_itself}
+use Rattle.desk_rows.specs.laws.OrderLaws.{at_each}
+use Rattle.desk_rows.specs.laws.NamingLaws.{its_slot}
 
 -- the slots of a member and an index
 abbrev pub of_member : ℕ → SlotRow → Bool
@@ -29,14 +28,15 @@ of_index index s = nat_eq s.index index
 abbrev pub at_place : ℕ → ℕ → List SlotRow → List SlotRow
 at_place member index slots = filter (of_index index) (filter (of_member member) slots)
 
--- what is not found is not counted
-none_counted : (p : Row → Bool) (rs : List Row) → find p rs ≡ None → count_by p rs ≡ 0
-none_counted p [] h = refl
-none_counted p (r ∷ rs) h =
-    let front = past (p r) r (find p rs) h in
-    let rest : count_by p rs ≡ 0 = none_counted p rs front.1 in
-    let here : count_by p (r ∷ rs) ≡ 0 + count_by p rs = count_next p r rs ∙ ap (λ b. cond b 1 0 + count_by p rs) front.0 in
-    omega arith
+-- one that is counted
+counted : (p : Row → Bool) (rs : List Row) → (count_by p rs ≡ 0) ⊎ ((r : Row) × (is_in rs r ≡ true) × (p r ≡ true))
+counted p [] = inl refl
+counted p (r ∷ rs) = by (p r) refl (counted p rs)
+  where
+    by : (b : Bool) → p r ≡ b → (count_by p rs ≡ 0) ⊎ ((q : Row) × (is_in rs q ≡ true) × (p q ≡ true)) → (count_by p (r ∷ rs) ≡ 0) ⊎ ((q : Row) × (is_in (r ∷ rs) q ≡ true) × (p q ≡ true))
+    by true e rest = inr (r, or_left _ _ (row_itself r), e)
+    by false e (inl none) = inl (count_next p r rs ∙ (λ i. cond (e i) 1 0 + none i))
+    by false e (inr one) = inr (one.0, or_right _ _ one.1, one.2)
 
 -- who claims a place is the slot in it
 claims_place : (member index : ℕ) (r : Row) → makes (claims.Place member index) r ≡ true → (s : SlotRow) × (r ≡ Slot s) × (s.member ≡ member) × (s.index ≡ index)
@@ -66,17 +66,16 @@ slot_alone d s h =
 
 -- a place is claimed once at most
 claimed_once : (d : Desk) (member index : ℕ) → good d ≡ true → count_by (makes (claims.Place member index)) (rows_of d) ≤ 1
-claimed_once d member index h = by (find (makes (claims.Place member index)) (rows_of d)) refl
+claimed_once d member index h = by (counted (makes (claims.Place member index)) (rows_of d))
   where
-    by : (o : Option Row) → find (makes (claims.Place member index)) (rows_of d) ≡ o → count_by (makes (claims.Place member index)) (rows_of d) ≤ 1
-    by None e = (let none = none_counted (makes (claims.Place member index)) (rows_of d) e in omega arith)
-    by (Some r) e =
-        let told = of_found (λ (r : Row). is_alone d r ≡ true) (makes (claims.Place member index)) r (rows_of d) (each (is_alone d) (rows_of d) (good_parts d h).alone) e in
-        let is = claims_place member index r told.1 in
+    by : (count_by (makes (claims.Place member index)) (rows_of d) ≡ 0) ⊎ ((r : Row) × (is_in (rows_of d) r ≡ true) × (makes (claims.Place member index) r ≡ true)) → count_by (makes (claims.Place member index)) (rows_of d) ≤ 1
+    by (inl none) = omega (arith, none)
+    by (inr one) =
+        let is = claims_place member index one.0 one.2 in
         let s = is.0 in
-        let alone : is_alone d (Slot s) ≡ true = sym (ap (is_alone d) is.1) ∙ told.0 in
+        let alone : is_alone d (Slot s) ≡ true = sym (ap (is_alone d) is.1) ∙ at_each (is_alone d) (rows_of d) one.0 (good_parts d h).alone one.1 in
         let once : count_by (makes (claims.Place member index)) (rows_of d) ≡ 1 = sym (λ i. count_by (makes (claims.Place (is.2 i) (is.3 i))) (rows_of d)) ∙ slot_alone d s alone in
-        omega arith
+        omega (arith, once)
 
 -- a slot in the place claims it
 its_place : (member index : ℕ) (s : SlotRow) → nat_eq s.member member ≡ true → nat_eq s.index index ≡ true → makes (claims.Place member index) (Slot s) ≡ true
@@ -114,7 +113,7 @@ slots_claim member index (r ∷ rs) =
         let same : ◌≡◌ {A = ℕ} (cond (makes (claims.Place member index) r) 1 0) (cond (makes (claims.Place member index) (Slot s)) 1 0) = ap (λ r. cond (makes (claims.Place member index) r) 1 0) (its_slot r s e) in
         omega arith
 
-pub one_at_place : (d : Desk) (member index : ℕ) → good d ≡ true → length (at_place member index (slots_of d)) ≤ 1
+pub one_at_place : (d : Desk) (member index : ℕ) → good d ≡ true → length (at_place member index (filter_map slot_in d.others)) ≤ 1
 one_at_place d member index h =
     let all = claimed_once d member index h in
     let claim = makes (claims.Place member index) in

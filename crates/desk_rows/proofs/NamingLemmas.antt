@@ -1,0 +1,113 @@
+-- What a table has in a group: the subscriptions of a source, and the slots of a member.
+use Rattle.std.proofs.Common.{◌≡◌, ℕ, ◌≤◌, Bool, true, false, cond, List, [], ◌∷◌, length, filter, nat_eq, nat_le, refl, sym, ap, ◌∙◌, arith, eqb-true, Option, Some, None}
+use Rattle.std.specs.List.{list_all, filter_map, cons_option}
+use Rattle.std.specs.List.Sorted.{IsNonDecreasingBy}
+use Rattle.std.proofs.lemmas.Bool.{and_parts, and_from}
+use Rattle.std.proofs.lemmas.Bool.Decides.{nat_tests}
+use Rattle.desk_rows.specs.declared.row.Row.{Row}
+use Rattle.desk_rows.specs.declared.row.Row.TheVariants.{Slot, Sub}
+use Rattle.desk_rows.specs.declared.row.Slot.{Slot as SlotRow}
+use Rattle.desk_rows.specs.declared.row.Sub.{Sub as SubRow}
+use Rattle.desk_rows.specs.Row.{same_row}
+use Rattle.desk_rows.specs.Order.{precedes, in_order}
+use Rattle.desk_rows.specs.Desk.{Desk, good}
+use Rattle.desk_rows.specs.Naming.{slot_in, sub_in, subs_naming, slots_naming}
+use Rattle.desk_rows.specs.inner.Grouped.{stand_by, IsTableOf}
+use Rattle.desk_rows.specs.laws.Equal.{same_row_is, row_itself}
+use Rattle.desk_rows.specs.laws.Laws.{good_order}
+use Rattle.desk_rows.specs.laws.PlaceLaws.{count_next}
+use Rattle.desk_rows.specs.laws.NamingLaws.{its_sub}
+use Rattle.desk_rows.specs.laws.PlacesOnce.{one_at_place}
+use Rattle.desk_rows.proofs.GroupLemmas.{count_in, stand_by-filter, all_pass, SameCounts, same_filtered, by, same_list, turns_rise, rises_by}
+
+-- a table has what is in the rows
+same_in : {X : Type 0} (in_row : Row → Option X) (group turn : X → ℕ) (rows : List Row) (table : List X) → IsTableOf in_row group turn rows table → SameCounts table (filter_map in_row rows)
+same_in in_row group turn rows table h p = h.same p ∙ sym (count_in in_row p rows)
+
+-- ---- subscriptions
+
+abbrev source_of : SubRow → ℕ
+source_of s = s.source
+
+abbrev ssrc_of : SubRow → ℕ
+ssrc_of s = s.out_ssrc
+
+sub_stands : (a : SubRow) (r : Row) (o : Option SubRow) → sub_in r ≡ o → precedes (Sub a) r ≡ true → (xs : List SubRow) → list_all (by ssrc_of a) xs ≡ true → list_all (by ssrc_of a) (cons_option o xs) ≡ true
+sub_stands a r None e h xs rest = rest
+sub_stands a r (Some s) e h xs rest = and_from _ _ (less a.out_ssrc s.out_ssrc (sym (ap (precedes (Sub a)) (its_sub r s e)) ∙ h)) rest
+  where
+    less : (m n : ℕ) → precedes (Sub (record { out_ssrc = m; source = 0 })) (Sub (record { out_ssrc = n; source = 0 })) ≡ true → nat_le m n ≡ true
+    less m n h = grind (arith, nat_tests, h)
+
+subs_behind : (a : SubRow) (rs : List Row) → list_all (precedes (Sub a)) rs ≡ true → list_all (by ssrc_of a) (filter_map sub_in rs) ≡ true
+subs_behind a [] h = refl
+subs_behind a (r ∷ rs) h =
+    let both = and_parts (precedes (Sub a) r) (list_all (precedes (Sub a)) rs) h in
+    sub_stands a r (sub_in r) refl both.0 (filter_map sub_in rs) (subs_behind a rs both.1)
+
+subs_stand : (rs : List Row) → in_order rs ≡ true → stand_by (by ssrc_of) (filter_map sub_in rs) ≡ true
+subs_stand [] h = refl
+subs_stand (r ∷ rs) h = one (sub_in r) refl (subs_stand rs parts.1)
+  where
+    parts : (list_all (precedes r) rs ≡ true) × (in_order rs ≡ true)
+    parts = and_parts (list_all (precedes r) rs) (in_order rs) h
+
+    one : (o : Option SubRow) → sub_in r ≡ o → stand_by (by ssrc_of) (filter_map sub_in rs) ≡ true → stand_by (by ssrc_of) (cons_option o (filter_map sub_in rs)) ≡ true
+    one None e rest = rest
+    one (Some s) e rest = and_from _ _ (subs_behind s rs (sym (ap (λ q. list_all (precedes q) rs) (its_sub r s e)) ∙ parts.0)) rest
+
+-- subscriptions to one source are told apart by their slots
+told_apart : (source : ℕ) (a b : SubRow) → nat_eq a.source source ≡ true → nat_eq b.source source ≡ true → a.out_ssrc ≡ b.out_ssrc → a ≡ b
+told_apart source a b h k e = (let same : a.source ≡ b.source = eqb-true _ _ h ∙ sym (eqb-true _ _ k) in λ i. record { out_ssrc = e i; source = same i })
+
+pub subs_in_table : (d : Desk) (source : ℕ) (table : List SubRow) → good d ≡ true → IsTableOf sub_in source_of ssrc_of d.others table → filter (λ s. nat_eq s.source source) table ≡ subs_naming d source
+subs_in_table d source table g h =
+    let is : SubRow → Bool = λ s. nat_eq s.source source in
+    same_list ssrc_of is (told_apart source) (filter is table) (filter is (filter_map sub_in d.others))
+    (turns_rise source_of ssrc_of source table h.order)
+    (stand_by-filter (by ssrc_of) is (filter_map sub_in d.others) (subs_stand d.others (good_order d g)))
+    (all_pass is table)
+    (all_pass is (filter_map sub_in d.others))
+    (same_filtered is table (filter_map sub_in d.others) (same_in sub_in source_of ssrc_of d.others table h))
+
+-- ---- slots
+
+abbrev member_of : SlotRow → ℕ
+member_of s = s.member
+
+abbrev index_of : SlotRow → ℕ
+index_of s = s.index
+
+pub indexes_rise : (others : List Row) (member : ℕ) (table : List SlotRow) → IsTableOf slot_in member_of index_of others table → IsNonDecreasingBy index_of (filter (λ s. nat_eq s.member member) table)
+indexes_rise others member table h = rises_by index_of (filter (λ s. nat_eq s.member member) table) (turns_rise member_of index_of member table h.order)
+
+-- lists of one slot at most, of which any test counts as many, are one
+same_short : (xs ys : List SlotRow) → length ys ≤ 1 → SameCounts xs ys → xs ≡ ys
+same_short xs (y ∷ z ∷ ys) short same = absurd (omega (arith, short))
+same_short [] [] short same = refl
+same_short (x ∷ xs) [] short same = (let all = same (λ s. true) in let next = count_next (λ (s : SlotRow). true) x xs in absurd (omega (arith, all, next)))
+same_short [] (y ∷ []) short same = (let all = same (λ s. true) in let next = count_next (λ (s : SlotRow). true) y [] in absurd (omega (arith, all, next)))
+same_short (x ∷ x' ∷ xs) (y ∷ []) short same =
+    (let all = same (λ s. true) in let a = count_next (λ (s : SlotRow). true) x (x' ∷ xs) in let b = count_next (λ (s : SlotRow). true) x' xs in let c = count_next (λ (s : SlotRow). true) y [] in absurd (omega (arith, all, a, b, c)))
+same_short (x ∷ []) (y ∷ []) short same = the_same (same_row (Slot x) (Slot y)) refl
+  where
+    slot_is : (a b : Row) → a ≡ b → Some x ≡ slot_in a → slot_in b ≡ Some y → x ≡ y
+    slot_is a b e f g = (let s : Some x ≡ Some y = f ∙ ap slot_in e ∙ g in cc)
+
+    the_same : (b : Bool) → same_row (Slot x) (Slot y) ≡ b → x ∷ [] ≡ y ∷ []
+    the_same true e = ap (λ s. s ∷ []) (slot_is (Slot x) (Slot y) (same_row_is (Slot x) (Slot y) e) refl refl)
+    the_same false e =
+        let test : SlotRow → Bool = λ s. same_row (Slot s) (Slot y) in
+        let a = count_next test x [] in
+        let b = count_next test y [] in
+        let at_x : ◌≡◌ {A = ℕ} (cond (test x) 1 0) 0 = ap (λ b. cond b 1 0) e in
+        let at_y : ◌≡◌ {A = ℕ} (cond (test y) 1 0) 1 = ap (λ b. cond b 1 0) (row_itself (Slot y)) in
+        absurd (omega (arith, same test, a, b, at_x, at_y))
+
+pub slots_in_table : (d : Desk) (member : ℕ) (table : List SlotRow) → good d ≡ true → IsTableOf slot_in member_of index_of d.others table → (index : ℕ)
+    → filter (λ s. nat_eq s.index index) (filter (λ s. nat_eq s.member member) table) ≡ filter (λ s. nat_eq s.index index) (slots_naming d member)
+slots_in_table d member table g h index =
+    let of_member : SlotRow → Bool = λ s. nat_eq s.member member in
+    let of_index : SlotRow → Bool = λ s. nat_eq s.index index in
+    same_short (filter of_index (filter of_member table)) (filter of_index (slots_naming d member)) (one_at_place d member index g)
+    (same_filtered of_index (filter of_member table) (slots_naming d member) (same_filtered of_member table (filter_map slot_in d.others) (same_in slot_in member_of index_of d.others table h)))

@@ -1,0 +1,26 @@
+-- Rows of one kind by the row that they name.
+use Rattle.std.specs.Prelude.{ℕ, List, filter, nat_eq, Option, None, Some}
+use Rattle.std.specs.List.{filter_map}
+use Rattle.desk_rows.specs.declared.row.Row.{Row}
+use Rattle.desk_rows.specs.declared.row.Row.TheVariants.{Slot, Sub}
+use Rattle.desk_rows.specs.declared.row.Slot.{Slot as SlotRow}
+use Rattle.desk_rows.specs.declared.row.Sub.{Sub as SubRow}
+use Rattle.desk_rows.specs.Desk.{Desk}
+
+-- the slot in a row
+abbrev pub slot_in : Row → Option SlotRow
+slot_in (Slot s) = Some s
+slot_in _ = None
+
+-- the subscription in a row
+abbrev pub sub_in : Row → Option SubRow
+sub_in (Sub s) = Some s
+sub_in _ = None
+
+-- the subscriptions that name this source, by the SSRC of their slots
+abbrev pub subs_naming : Desk → ℕ → List SubRow
+subs_naming d source = filter (λ s. nat_eq s.source source) (filter_map sub_in d.others)
+
+-- the slots that name this member, by their SSRC
+abbrev pub slots_naming : Desk → ℕ → List SlotRow
+slots_naming d member = filter (λ s. nat_eq s.member member) (filter_map slot_in d.others)

@@ -1,0 +1,333 @@
+//! Rows of one kind, listed once more in groups, so that a group is found by halving.
+
+ghost use Rattle.std.specs.Prelude.{◌≡◌, ℕ, ◌+◌, ◌<◌, ◌≤◌, not, cond, slice_index_or, Bool, true, false, filter, length, count_by, nat_eq, Option, None, vec_len, vec_capacity};
+ghost use Rattle.std.specs.List.{filter_map};
+ghost use Rattle.desk_rows.specs.declared.row.Kind.TheVariants as kinds;
+ghost use Rattle.desk_rows.specs.Kinds.{is_of};
+ghost use Rattle.desk_rows.specs.Order.{in_order};
+ghost use Rattle.desk_rows.specs.Naming.{slot_in, sub_in};
+ghost use Rattle.desk_rows.specs.laws.NamingLaws.{no_slot, no_sub};
+ghost use Rattle.desk_rows.specs.inner.Grouped.{stand_by, in_turn, passes_in, IsTableOf};
+ghost use Rattle.desk_rows.specs.inner.Judged.{HasOrders};
+
+use crate::edit::Edit;
+use crate::ordering::rows_of_kind;
+use crate::row::{Kind, Row, Slot, Sub};
+use std::alloc::Allocator;
+
+/// A kind of row that is listed in groups.
+pub(crate) trait Grouped: Copy {
+    ghost use Rattle.desk_rows.specs.declared.row.Kind.{Kind};
+    ghost use Rattle.desk_rows.specs.declared.row.Row.{Row};
+
+    ghost kind: { Kind };
+
+    ghost in_row: { Row → Option Self };
+
+    ghost group: { Self → ℕ };
+
+    ghost turn: { Self → ℕ };
+
+    fn kind() -> Kind
+        ensures { result ≡ kind };
+
+    /// The one in a row.
+    fn in_row(row: &Row) -> Option<Self>
+        ensures { result ≡ in_row row.now };
+
+    /// The number of its group.
+    fn group(&self) -> u32
+        ensures { result ≡ group self.now };
+
+    /// The number by which it stands in its group.
+    fn turn(&self) -> u32
+        ensures { result ≡ turn self.now };
+
+    /// Whether the other is the same.
+    fn is_same(&self, other: &Self) -> bool
+        ensures { result ≡ true → self.now ≡ other.now };
+
+    /// No row of another kind has one.
+    ghost of_kind: { (r : Row) → is_of kind r ≡ false → in_row r ≡ None };
+}
+
+/// Whether an entry stands before the other.
+fn precedes<T: Grouped>(one: &T, other: &T) -> bool
+    ensures { result ≡ not (in_turn T.group T.turn other.now one.now) }
+{
+    let (group, other_group) = (one.group(), other.group());
+    group < other_group || (group == other_group && one.turn() < other.turn())
+}
+
+/// By the source that they name.
+impl Grouped for Sub {
+    ghost kind = { kinds.Sub };
+
+    ghost in_row = { sub_in };
+
+    ghost group = { λ s. s.source };
+
+    ghost turn = { λ s. s.out_ssrc };
+
+    fn kind() -> Kind {
+        Kind::Sub
+    }
+
+    fn in_row(row: &Row) -> Option<Sub> {
+        match row {
+            Row::Sub(sub) => Some(*sub),
+            _ => None,
+        }
+    }
+
+    fn group(&self) -> u32 {
+        self.source
+    }
+
+    fn turn(&self) -> u32 {
+        self.out_ssrc
+    }
+
+    fn is_same(&self, other: &Sub) -> bool {
+        self == other
+    }
+
+    ghost of_kind = { no_sub };
+}
+
+/// By their members.
+impl Grouped for Slot {
+    ghost kind = { kinds.Slot };
+
+    ghost in_row = { slot_in };
+
+    ghost group = { λ s. s.member };
+
+    ghost turn = { λ s. s.index };
+
+    fn kind() -> Kind {
+        Kind::Slot
+    }
+
+    fn in_row(row: &Row) -> Option<Slot> {
+        match row {
+            Row::Slot(slot) => Some(*slot),
+            _ => None,
+        }
+    }
+
+    fn group(&self) -> u32 {
+        self.member
+    }
+
+    fn turn(&self) -> u32 {
+        self.index
+    }
+
+    fn is_same(&self, other: &Slot) -> bool {
+        self == other
+    }
+
+    ghost of_kind = { no_slot };
+}
+
+/// The group of this number.
+pub(crate) fn group_of<T: Grouped>(table: &[T], number: u32) -> &[T]
+    requires { stand_by (in_turn T.group T.turn) table.now ≡ true }
+    ensures { result.now ≡ filter (λ x. nat_eq (T.group x) number) table.now }
+{
+    let before = table.partition_point(|one| one.group() < number);
+    let (_, from) = table.split_at(before);
+    let count = from.partition_point(|one| one.group() <= number);
+    let (these, _) = from.split_at(count);
+    these
+}
+
+/// Lists what is in these rows, in the room that there is.
+fn list_anew<T: Grouped, A: Allocator>(table: &mut Vec<T, A>, rows: &[Row])
+    requires { length rows.now ≤ vec_capacity table.old }
+    ensures items { table.new.items ≡ filter_map T.in_row rows.now }
+    ensures capacity { vec_capacity table.old ≤ vec_capacity table.new }
+{
+    table.clear();
+    let mut rest = rows;
+    while let Some((row, later)) = rest.split_first() {
+        if let Some(one) = T::in_row(row) {
+            table.push_reserved(one);
+        }
+        rest = later;
+    }
+}
+
+/// Makes the table of these rows, in the room that it has.
+fn regroup<T: Grouped, A: Allocator>(table: &mut Vec<T, A>, rows: &[Row])
+    requires { length rows.now ≤ vec_capacity table.old }
+    ensures table { IsTableOf T.in_row T.group T.turn rows.now table.new.items }
+    ensures capacity { vec_capacity table.old ≤ vec_capacity table.new }
+{
+    list_anew(table, rows);
+    table.sort_unstable_by_key(|one| (one.group(), one.turn()));
+}
+
+/// Whether there is none of the kind.
+fn has_none(rows: &[Row], kind: Kind) -> bool
+    requires { in_order rows.now ≡ true }
+    ensures { result ≡ nat_eq (length (filter (is_of kind) rows.now)) 0 }
+{
+    rows_of_kind(rows, kind).is_empty()
+}
+
+/// Whether the edit leaves all rows of the kind.
+fn leaves<A: Allocator + Copy>(edit: &Edit<A>, kind: Kind) -> bool
+    requires { HasOrders edit.now }
+    ensures { result ≡ nat_eq (length (filter (is_of kind) edit.now.taken.others) + length (filter (is_of kind) edit.now.replaced.old) + (length (filter (is_of kind) edit.now.put.others) + length (filter (is_of kind) edit.now.replaced.new))) 0 }
+{
+    (has_none(edit.taken_others(), kind) && has_none(edit.old(), kind))
+        && (has_none(edit.put_others(), kind) && has_none(edit.new(), kind))
+}
+
+/// Whether the entry stands at the place.
+fn stands<T: Grouped>(table: &[T], place: usize, one: &T) -> bool
+    ensures { result ≡ true → (place < length table.now) × (slice_index_or table.now place one.now ≡ one.now) }
+{
+    place < table.len() && table[place].is_same(one)
+}
+
+/// Takes the entry out, if it stands where one of its group and turn does.
+fn take_entry<T: Grouped, A: Allocator>(table: &mut Vec<T, A>, one: &T) -> bool
+    requires order { stand_by (in_turn T.group T.turn) table.old.items ≡ true }
+    ensures order { stand_by (in_turn T.group T.turn) table.new.items ≡ true }
+    ensures taken { result ≡ true → (p : T → Bool) → count_by p table.new.items + cond (p one.now) 1 0 ≡ count_by p table.old.items }
+    ensures capacity { vec_capacity table.old ≤ vec_capacity table.new }
+{
+    let place = table.partition_point(|other| precedes(other, one));
+    if !stands(table, place, one) {
+        return false;
+    }
+    table.remove(place);
+    true
+}
+
+/// Puts the entry in. There is room for it.
+fn put_entry<T: Grouped, A: Allocator>(table: &mut Vec<T, A>, one: &T)
+    requires order { stand_by (in_turn T.group T.turn) table.old.items ≡ true }
+    requires room { vec_len table.old + 1 ≤ vec_capacity table.old }
+    ensures order { stand_by (in_turn T.group T.turn) table.new.items ≡ true }
+    ensures put { (p : T → Bool) → count_by p table.new.items ≡ count_by p table.old.items + cond (p one.now) 1 0 }
+    ensures len { vec_len table.new ≡ vec_len table.old + 1 }
+    ensures capacity { vec_capacity table.old ≤ vec_capacity table.new }
+{
+    let place = table.partition_point(|other| !precedes(one, other));
+    if table.insert(place, *one).is_err() {
+        return;
+    }
+}
+
+/// Takes what is in these rows out. It says whether all was found.
+fn take_each<T: Grouped, A: Allocator>(table: &mut Vec<T, A>, rows: &[Row]) -> bool
+    requires order { stand_by (in_turn T.group T.turn) table.old.items ≡ true }
+    ensures order { stand_by (in_turn T.group T.turn) table.new.items ≡ true }
+    ensures taken { result ≡ true → (p : T → Bool) → count_by p table.new.items + count_by (passes_in T.in_row p) rows.now ≡ count_by p table.old.items }
+    ensures capacity { vec_capacity table.old ≤ vec_capacity table.new }
+{
+    let mut rest = rows;
+    while let Some((row, later)) = rest.split_first() {
+        if let Some(one) = T::in_row(row) {
+            if !take_entry(table, &one) {
+                return false;
+            }
+        }
+        rest = later;
+    }
+    true
+}
+
+/// Puts what is in these rows in. There is room for it.
+fn put_each<T: Grouped, A: Allocator>(table: &mut Vec<T, A>, rows: &[Row])
+    requires order { stand_by (in_turn T.group T.turn) table.old.items ≡ true }
+    requires room { vec_len table.old + count_by (passes_in T.in_row (λ x. true)) rows.now ≤ vec_capacity table.old }
+    ensures order { stand_by (in_turn T.group T.turn) table.new.items ≡ true }
+    ensures put { (p : T → Bool) → count_by p table.new.items ≡ count_by p table.old.items + count_by (passes_in T.in_row p) rows.now }
+    ensures capacity { vec_capacity table.old ≤ vec_capacity table.new }
+{
+    let mut rest = rows;
+    while let Some((row, later)) = rest.split_first() {
+        if let Some(one) = T::in_row(row) {
+            put_entry(table, &one);
+        }
+        rest = later;
+    }
+}
+
+/// How many rows of a kind may come and go one by one: of more the table is made anew.
+const FEW: usize = 32;
+
+/// Exchanges what is in the rows that go for what is in those that come, one by one. It says whether
+/// all that goes was found; where it wasn't, the table is to be made anew.
+fn exchange_each<T: Grouped, A: Allocator>(
+    table: &mut Vec<T, A>,
+    taken: &[Row],
+    old: &[Row],
+    put: &[Row],
+    new: &[Row],
+) -> bool
+    requires order { stand_by (in_turn T.group T.turn) table.old.items ≡ true }
+    requires room { count_by (λ x. true) table.old.items + (count_by (passes_in T.in_row (λ x. true)) put.now + count_by (passes_in T.in_row (λ x. true)) new.now) ≤ vec_capacity table.old + (count_by (passes_in T.in_row (λ x. true)) taken.now + count_by (passes_in T.in_row (λ x. true)) old.now) }
+    ensures order { result ≡ true → stand_by (in_turn T.group T.turn) table.new.items ≡ true }
+    ensures same { result ≡ true → (p : T → Bool) → count_by p table.new.items + (count_by (passes_in T.in_row p) taken.now + count_by (passes_in T.in_row p) old.now) ≡ count_by p table.old.items + (count_by (passes_in T.in_row p) put.now + count_by (passes_in T.in_row p) new.now) }
+    ensures capacity { vec_capacity table.old ≤ vec_capacity table.new }
+{
+    if !take_each(table, taken) {
+        return false;
+    }
+    if !take_each(table, old) {
+        return false;
+    }
+    put_each(table, put);
+    put_each(table, new);
+    true
+}
+
+/// Exchanges few rows of a kind one by one. It says whether it did; where it didn't, the table is to be
+/// made anew.
+fn exchange_few<T: Grouped, A: Allocator + Copy>(table: &mut Vec<T, A>, edit: &Edit<A>) -> bool
+    requires order { stand_by (in_turn T.group T.turn) table.old.items ≡ true }
+    requires orders { HasOrders edit.now }
+    requires room { count_by (λ x. true) table.old.items + (count_by (passes_in T.in_row (λ x. true)) edit.now.put.others + count_by (passes_in T.in_row (λ x. true)) edit.now.replaced.new) ≤ vec_capacity table.old + (count_by (passes_in T.in_row (λ x. true)) edit.now.taken.others + count_by (passes_in T.in_row (λ x. true)) edit.now.replaced.old) }
+    ensures order { result ≡ true → stand_by (in_turn T.group T.turn) table.new.items ≡ true }
+    ensures same { result ≡ true → (p : T → Bool) → count_by p table.new.items + (count_by (passes_in T.in_row p) edit.now.taken.others + count_by (passes_in T.in_row p) edit.now.replaced.old) ≡ count_by p table.old.items + (count_by (passes_in T.in_row p) edit.now.put.others + count_by (passes_in T.in_row p) edit.now.replaced.new) }
+    ensures capacity { vec_capacity table.old ≤ vec_capacity table.new }
+{
+    let kind = T::kind();
+    let taken = rows_of_kind(edit.taken_others(), kind);
+    let old = rows_of_kind(edit.old(), kind);
+    let put = rows_of_kind(edit.put_others(), kind);
+    let new = rows_of_kind(edit.new(), kind);
+    if taken.len() > FEW || old.len() > FEW || put.len() > FEW || new.len() > FEW {
+        return false;
+    }
+    exchange_each(table, taken, old, put, new)
+}
+
+/// Brings the table of the rows before an edit to those after it.
+pub(crate) fn follow<T: Grouped, A: Allocator + Copy>(
+    table: &mut Vec<T, A>,
+    others: &[Row],
+    edit: &Edit<A>,
+)
+    requires order { stand_by (in_turn T.group T.turn) table.old.items ≡ true }
+    requires rows { in_order others.now ≡ true }
+    requires orders { HasOrders edit.now }
+    requires before { (p : T → Bool) → count_by p table.old.items + (count_by (passes_in T.in_row p) edit.now.put.others + count_by (passes_in T.in_row p) edit.now.replaced.new) ≡ count_by (passes_in T.in_row p) others.now + (count_by (passes_in T.in_row p) edit.now.taken.others + count_by (passes_in T.in_row p) edit.now.replaced.old) }
+    requires room { length (filter (is_of T.kind) others.now) ≤ vec_capacity table.old }
+    ensures table { IsTableOf T.in_row T.group T.turn others.now table.new.items }
+    ensures capacity { vec_capacity table.old ≤ vec_capacity table.new }
+{
+    if leaves(edit, T::kind()) {
+        return;
+    }
+    if exchange_few(table, edit) {
+        return;
+    }
+    regroup(table, rows_of_kind(others, T::kind()));
+}
