@@ -13,7 +13,8 @@ use Rattle.forward_rewrite.specs.Streams.{StreamOf}
 use Rattle.feedback.specs.Asked.{firsts}
 use Rattle.feedback.specs.Resends.{resends_to, resends}
 use Rattle.bridge_core.specs.OwnStreams.{is_mine}
-use Rattle.bridge_core.specs.Sent.{Sent, Input, Request}
+use Rattle.intake.specs.Inputs.{Input, Request}
+use Rattle.bridge_core.specs.Sent.{Sent}
 use Rattle.bridge_core.specs.Lanes.{Visit, Routed, routed, packets_sent, stream_of, packets, goes, is_lanes}
 use Rattle.bridge_core.specs.LaneState.{StreamList, stream_at, visit_of, AreLeft}
 use Rattle.bridge_core.specs.inner.VideoStreams.{Answers}

@@ -14,7 +14,8 @@ use Rattle.topology.specs.Looking.{member_from}
 use Rattle.feedback.specs.Resends.{resends_to, resends}
 use Rattle.feedback.specs.Asked.{firsts as each_once}
 use Rattle.bridge_core.specs.OwnStreams.{is_mine}
-use Rattle.bridge_core.specs.Sent.{Sent, Input, Request}
+use Rattle.intake.specs.Inputs.{Input, Request}
+use Rattle.bridge_core.specs.Sent.{Sent}
 use Rattle.bridge_core.specs.Lanes.{Visit, Routed, routed, sendings, packets_sent, packets, goes, is_lanes, sends_at}
 use Rattle.bridge_core.specs.Steps.{Step, visits, visit_after}
 use Rattle.bridge_core.specs.Named.{Kind, firsts}

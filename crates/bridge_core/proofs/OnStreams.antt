@@ -12,7 +12,8 @@ use Rattle.topology.specs.declared.receivers.Receiver.{Receiver}
 use Rattle.topology.specs.Receivers.{receivers, receiver_on, receiver_at, AreDistinct}
 use Rattle.forward_rewrite.specs.Frame.{SourceFrame}
 use Rattle.bridge_core.specs.OwnStreams.{is_mine}
-use Rattle.bridge_core.specs.Sent.{Sent, Input}
+use Rattle.intake.specs.Inputs.{Input}
+use Rattle.bridge_core.specs.Sent.{Sent}
 use Rattle.bridge_core.specs.Sent.Sent.{media}
 use Rattle.bridge_core.specs.Lanes.{Visit, routed_at, routed_to, packets, packets_at, packets_sent, goes, is_lanes, sent_of_input, sends_at}
 use Rattle.bridge_core.specs.LaneState.{visit_of}

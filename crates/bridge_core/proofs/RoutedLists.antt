@@ -11,7 +11,8 @@ use Rattle.forward_rewrite.specs.Frame.{SourceFrame}
 use Rattle.forward_rewrite.specs.Sending.{Sending}
 use Rattle.forward_rewrite.specs.RoutedList.{part_of, numbered, packets_of}
 use Rattle.bridge_core.specs.OwnStreams.{is_mine}
-use Rattle.bridge_core.specs.Sent.{Sent, Input}
+use Rattle.intake.specs.Inputs.{Input}
+use Rattle.bridge_core.specs.Sent.{Sent}
 use Rattle.bridge_core.specs.Lanes.{Visit, Routed, routed, routed_at, sendings, packets_sent, packets, packets_at, goes}
 use Rattle.bridge_core.specs.Steps.{Step, visits, visit_after, along, desk_of, version_of, count_of}
 use Rattle.bridge_core.specs.Named.{Name, Kind, firsts_at, firsts}

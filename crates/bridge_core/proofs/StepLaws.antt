@@ -1,15 +1,18 @@
 -- One more step.
-use Rattle.std.proofs.Common.{◌≡◌, ℕ, ◌+◌, true, false, cond, nat_eq, List, [], ◌∷◌, ◌++◌, length, set, Some, refl, sym, ap, subst, ◌∙◌, arith, append-nil, append_assoc, inl, inr, ◌⊎◌, ◌≢◌, zero, suc, eq-eqb, length-set}
+use Rattle.std.proofs.Common.{◌≡◌, ℕ, ◌+◌, true, false, cond, nat_eq, nat_lt, ◌≤◌, List, [], ◌∷◌, ◌++◌, length, set, None, Some, refl, sym, ap, subst, ◌∙◌, arith, append-nil, append_assoc, inl, inr, ◌⊎◌, ◌≢◌, zero, suc, eq-eqb, length-set}
 use Rattle.std.specs.Prelude.{slice_get, OnOk, Result, Ok, Err}
 use Rattle.std.proofs.lemmas.Bool.Decides.{nat_tests}
 use Rattle.std.proofs.lemmas.List.{length_push}
 use Rattle.desk_rows.specs.Edit.{EditOf}
 use Rattle.desk_rows.specs.Desk.{Desk}
-use Rattle.bridge_core.specs.Sent.{Sent, Input}
+use Rattle.intake.specs.Inputs.{Input}
+use Rattle.bridge_core.specs.Sent.{Sent}
 use Rattle.bridge_core.specs.Lanes.{Visit, sends_at}
 use Rattle.bridge_core.specs.LaneState.{LaneOf, visit_of, AreLeft, HasHandled, Handles}
 use Rattle.bridge_core.specs.inner.VideoStreams.{Answers}
 use Rattle.bridge_core.specs.Sound.{IsSound, AreFresh}
+use Rattle.bridge_core.specs.Calls.{core_fault, most_lanes}
+use Rattle.intake.specs.Names.{is_name}
 use Rattle.bridge_core.specs.Steps.{Step, version_of, desk_of, count_of, along, visit_at, visits, visit_after, CoreOf, Takes}
 
 pub version_of-publish : (steps : List Step) (desk : Desk) → version_of (steps ++ Step.publish desk ∷ []) ≡ version_of steps + 1
@@ -162,3 +165,10 @@ sound_at_first lanes states done fresh count none = record {
   fewer = omega (arith, ap length none);
   limit = omega arith;
 }
+
+-- lanes that are neither none nor too many, and a name
+pub no_fault : (lanes : ℕ) (cname : List ℕ) → lanes ≢ 0 → lanes ≤ most_lanes → is_name cname ≡ true → core_fault lanes cname ≡ None
+no_fault lanes cname some few named =
+    let first : nat_eq lanes 0 ≡ false = grind (arith, nat_tests) in
+    let second : nat_lt most_lanes lanes ≡ false = grind (arith, nat_tests) in
+    rw first (rw second (rw named refl))

@@ -1,5 +1,5 @@
 -- How the core answers calls of the desk.
-use Rattle.std.specs.Prelude.{◌≡◌, ◌≢◌, ℕ, ◌+◌, Bool, true, not, ◌&&◌, ◌||◌, nat_lt, nat_le, if◌then◌else◌, nat_eq, List, [], ◌∷◌, ◌++◌, length, Option, None, Some}
+use Rattle.std.specs.Prelude.{◌≡◌, ◌≢◌, ℕ, ◌+◌, true, not, ◌||◌, nat_lt, if◌then◌else◌, nat_eq, List, [], ◌∷◌, ◌++◌, length, Option, None, Some}
 use Rattle.desk_rows.specs.Edit.{EditOf, inverse}
 use Rattle.desk_rows.specs.Exchange.{fits, after}
 use Rattle.desk_edit.specs.declared.command.Call.{Call}
@@ -8,6 +8,7 @@ use Rattle.desk_edit.specs.declared.refusal.Refusal.{Refusal}
 use Rattle.desk_edit.specs.declared.refusal.Refusal.TheVariants.{LogFull, OutOfMemory}
 use Rattle.desk_edit.specs.Commands.{desk_after}
 use Rattle.desk_edit.specs.Calls.{refusal_at}
+use Rattle.intake.specs.Names.{is_name}
 use Rattle.bridge_core.specs.declared.fault.CoreFault.{CoreFault}
 use Rattle.bridge_core.specs.declared.fault.CoreFault.TheVariants.{BadLanes, BadSettings}
 use Rattle.bridge_core.specs.declared.reply.Reply.{Reply}
@@ -18,10 +19,6 @@ use Rattle.bridge_core.specs.Steps.{CoreOf}
 -- the most lanes that a core may have (own)
 abbrev pub most_lanes : ℕ
 most_lanes = 16
-
--- a canonical name has 1 to 255 octets (RFC 3550 section 6.5.1)
-abbrev pub is_name : List ℕ → Bool
-is_name cname = nat_lt 0 (length cname) && nat_le (length cname) 255
 
 -- the first fault of what a core is to be made of
 abbrev pub core_fault : ℕ → List ℕ → Option CoreFault

@@ -4,7 +4,8 @@ use Rattle.desk_rows.specs.Desk.{good}
 use Rattle.desk_edit.specs.declared.command.Call.{Call}
 use Rattle.desk_edit.specs.Calls.{CallHistory, desk_now, after_call}
 use Rattle.bridge_core.specs.declared.reply.Reply.TheVariants.{Accepted}
-use Rattle.bridge_core.specs.Sent.{Sent, Input}
+use Rattle.intake.specs.Inputs.{Input}
+use Rattle.bridge_core.specs.Sent.{Sent}
 use Rattle.bridge_core.specs.Steps.{Step, CoreOf, Takes}
 use Rattle.bridge_core.specs.Following.{HasCalled, IsAnswered}
 

@@ -10,7 +10,8 @@ use Rattle.topology.specs.Receivers.{receiver_on}
 use Rattle.forward_rewrite.specs.Frame.{SourceFrame}
 use Rattle.forward_rewrite.specs.Sending.{Sending}
 use Rattle.forward_rewrite.specs.RoutedList.{part_of, numbered}
-use Rattle.bridge_core.specs.Sent.{Sent, MediaPacket, Request}
+use Rattle.intake.specs.Inputs.{Request}
+use Rattle.bridge_core.specs.Sent.{Sent, MediaPacket}
 use Rattle.bridge_core.specs.Sent.Sent.{media}
 use Rattle.bridge_core.specs.Lanes.{Visit, packets, goes}
 use Rattle.bridge_core.specs.Steps.{Step, visits}

@@ -14,9 +14,10 @@ use Rattle.forward_rewrite.specs.RoutedList.{packets_of}
 use Rattle.forward_rewrite.specs.Streams.{StreamOf, state_of}
 use Rattle.feedback.specs.Resends.{resends}
 use Rattle.bridge_core.specs.OwnStreams.{is_mine}
-use Rattle.bridge_core.specs.Sent.{Sent, Input}
+use Rattle.intake.specs.Inputs.{Input}
+use Rattle.bridge_core.specs.Sent.{Sent}
 use Rattle.bridge_core.specs.Sent.Sent.{media}
-use Rattle.bridge_core.specs.Sent.Input.{frame, nack}
+use Rattle.intake.specs.Inputs.Input.{frame, nack}
 
 -- an item that a lane handles: under which version, as which of the lane's items from 1, with the desk of that version
 pub record Visit : Type 0 where

@@ -2,9 +2,10 @@
 use Rattle.std.specs.Prelude.{ℕ, Bool, true, false, if◌then◌else◌, nat_eq, List, [], filter}
 use Rattle.std.specs.List.{flat_map}
 use Rattle.desk_rows.specs.Desk.{Desk}
-use Rattle.bridge_core.specs.Sent.{Sent, Input}
+use Rattle.intake.specs.Inputs.{Input}
+use Rattle.bridge_core.specs.Sent.{Sent}
 use Rattle.bridge_core.specs.Sent.Sent.{media}
-use Rattle.bridge_core.specs.Sent.Input.{frame, nack}
+use Rattle.intake.specs.Inputs.Input.{frame, nack}
 use Rattle.bridge_core.specs.Lanes.{sends_at}
 use Rattle.bridge_core.specs.Steps.{Step, along, visits, visit_after}
 

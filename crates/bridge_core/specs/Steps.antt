@@ -2,7 +2,9 @@
 use Rattle.std.specs.Prelude.{◌≡◌, ℕ, ◌+◌, ◌-◌, ◌^◌, nat_eq, if◌then◌else◌, List, [], ◌∷◌, ◌++◌, length, Some, slice_get}
 use Rattle.desk_rows.specs.Edit.{EditOf}
 use Rattle.desk_rows.specs.Desk.{Desk}
-use Rattle.bridge_core.specs.Sent.{Sent, Input}
+use Rattle.intake.specs.Inputs.{Input}
+use Rattle.intake.specs.inner.Holding.{IntakeOf}
+use Rattle.bridge_core.specs.Sent.{Sent}
 use Rattle.bridge_core.specs.Lanes.{Visit, sends_at}
 use Rattle.bridge_core.specs.LaneState.{LaneOf, visit_of, HasHandled}
 
@@ -57,13 +59,14 @@ sent_at lanes start before (Step.item lane input) =
 abbrev pub sends : ℕ → Desk → List Step → List (List Sent)
 sends lanes start steps = along (sent_at lanes start) [] steps
 
--- the core: how many calls were accepted, the desk with the edits done and those undone, and the lanes
+-- the core: how many calls were accepted, the desk with the edits done and those undone, the lanes, and the intake
 pub record CoreOf : Type 0 where
   pub version : ℕ
   pub desk : Desk
   pub done : List EditOf
   pub undone : List EditOf
   pub lanes : List LaneOf
+  pub intake : IntakeOf
 
 -- The core has taken these steps, from this desk on.
 pub record HasTaken (core : CoreOf) (start : Desk) (steps : List Step) : Type 0 where

@@ -6,8 +6,9 @@ use Rattle.topology.specs.declared.receivers.Receiver.{Receiver}
 use Rattle.topology.specs.Receivers.{receiver_on}
 use Rattle.forward_rewrite.specs.Frame.{SourceFrame}
 use Rattle.bridge_core.specs.OwnStreams.{is_mine}
-use Rattle.bridge_core.specs.Sent.{Sent, Input}
-use Rattle.bridge_core.specs.Sent.Input.{frame, nack}
+use Rattle.intake.specs.Inputs.{Input}
+use Rattle.bridge_core.specs.Sent.{Sent}
+use Rattle.intake.specs.Inputs.Input.{frame, nack}
 use Rattle.bridge_core.specs.Lanes.{packets, goes, routed_to, sends_at}
 use Rattle.bridge_core.specs.Steps.{Step, visits, visit_after, sends}
 use Rattle.bridge_core.specs.Named.{Name, Kind, is_on, firsts}

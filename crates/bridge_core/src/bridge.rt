@@ -5,7 +5,11 @@ ghost use Rattle.desk_rows.specs.Desk.{blank, good};
 ghost use Rattle.desk_rows.specs.Exchange.{fits, after};
 ghost use Rattle.desk_edit.specs.Commands.{desk_after};
 ghost use Rattle.desk_edit.specs.Calls.{CallHistory, no_calls};
-ghost use Rattle.bridge_core.specs.Sent.{sent_of, input_of};
+ghost use Rattle.intake.specs.Inputs.{input_of};
+ghost use Rattle.intake.specs.Sources.{no_sources};
+ghost use Rattle.intake.specs.Ingested.{ingested_of};
+ghost use Rattle.intake.specs.Intakes.{Knows, TakesIn};
+ghost use Rattle.bridge_core.specs.Sent.{sent_of};
 ghost use Rattle.bridge_core.specs.Sound.{AreFresh, most_calls};
 ghost use Rattle.bridge_core.specs.Steps.{CoreOf, HasTaken, Takes, Step, IsSpent};
 ghost use Rattle.bridge_core.specs.Following.{HasCalled, IsAnswered};
@@ -13,17 +17,17 @@ ghost use Rattle.bridge_core.specs.Calls.{core_fault, most_lanes, Answers, Does,
 
 use crate::egress::Egress;
 use crate::fault::{CoreFault, LaneFault};
-use crate::item::Item;
 use crate::lane::{LANES, LaneState};
 use crate::reply::Reply;
-use crate::settings::Settings;
 use desk_edit::{Call, Command, Refusal, plan};
 use desk_rows::{Edit, Rows};
+use intake::{Ingest, Intake, Item, Settings};
+use rtp_codec::Address;
 use std::alloc::{AllocError, Allocator, Global};
 use std::marker::Model;
 use undo_log::{History, HistoryFault, LIMIT};
 
-/// The desk with its history, and the lanes that send by it.
+/// The desk with its history, the lanes that send by it, and the intake of what comes off the wire.
 ///
 /// Version n of the desk is the one after n accepted calls.
 #[derive(Drop)]
@@ -31,6 +35,7 @@ pub struct Core<A: Allocator + Copy = Global> {
     version: u64,
     history: History<Rows<A>>,
     lanes: Vec<LaneState<A>, A>,
+    intake: Intake<A>,
 }
 
 impl<A: Allocator + Copy> Model for Core<A> {
@@ -45,6 +50,7 @@ impl<A: Allocator + Copy> Model for Core<A> {
       done = c.history.done;
       undone = c.history.undone;
       lanes = c.lanes.items;
+      intake = c.intake;
     } };
 
     ghost invariant = { λ c. IsSound c.version c.history.done c.lanes.items };
@@ -57,6 +63,8 @@ impl<A: Allocator + Copy> Core<A> {
         ensures history { IfOk result (λ core. HasCalled core (no_calls (blank settings.bridge_ssrc))) }
         ensures lists { IfOk result (λ core. (core.done ≡ []) × (core.undone ≡ [])) }
         ensures lanes { IfOk result (λ core. length core.lanes ≡ lanes) }
+        ensures sources { IfOk result (λ core. Knows core.intake no_sources) }
+        ensures asker { IfOk result (λ core. core.intake.asker ≡ record { ssrc = settings.bridge_ssrc; cname = settings.cname }) }
         ensures good { OnOk result (core_fault lanes settings.cname ≡ None) }
         ensures fault { IfErr result (λ fault. fault ≢ CoreFault.OutOfMemory → core_fault lanes settings.cname ≡ Some fault) }
         ensures memory { result ≡ Err CoreFault.OutOfMemory → core_fault lanes settings.cname ≡ None }
@@ -73,10 +81,14 @@ impl<A: Allocator + Copy> Core<A> {
         let Ok(states) = lane_states(alloc, lanes) else {
             return Err(CoreFault::OutOfMemory);
         };
+        let Ok(intake) = Intake::new(alloc, settings) else {
+            return Err(CoreFault::OutOfMemory);
+        };
         Ok(Self {
             version: 0,
             history: History::new(alloc, rows),
             lanes: states,
+            intake,
         })
     }
 
@@ -111,6 +123,7 @@ impl<A: Allocator + Copy> Core<A> {
         ensures takes { OnAccepted result (Takes self.old self.new (Step.publish self.new.desk) []) }
         ensures good { good self.new.desk ≡ true }
         ensures history { (h : CallHistory) → HasCalled self.old h → IsAnswered h self.new call result }
+        ensures intake { self.new.intake ≡ self.old.intake }
     {
         let done = self.call(alloc, call);
         self.history.state().known();
@@ -126,6 +139,7 @@ impl<A: Allocator + Copy> Core<A> {
         ensures does { OnOk result ((call_refused self.old call ≡ None) × Does self.old self.new call) }
         ensures version { OnOk result ((self.new.version ≡ self.old.version + 1) × (self.new.lanes ≡ self.old.lanes)) }
         ensures takes { OnOk result (Takes self.old self.new (Step.publish self.new.desk) []) }
+        ensures intake { self.new.intake ≡ self.old.intake }
         ensures err { OnErr result (self.new ≡ self.old) }
         ensures why { IfErr result (λ why. IsReason self.old call why) }
     {
@@ -140,6 +154,7 @@ impl<A: Allocator + Copy> Core<A> {
     fn apply(&mut self, alloc: A, command: &Command) -> Result<(), Refusal>
         ensures does { OnOk result ((call_refused self.old (Call.Apply command.now) ≡ None) × Does self.old self.new (Call.Apply command.now)) }
         ensures version { OnOk result ((self.new.version ≡ self.old.version + 1) × (self.new.lanes ≡ self.old.lanes)) }
+        ensures intake { self.new.intake ≡ self.old.intake }
         ensures err { OnErr result (self.new ≡ self.old) }
         ensures why { IfErr result (λ why. IsReason self.old (Call.Apply command.now) why) }
     {
@@ -180,6 +195,7 @@ impl<A: Allocator + Copy> Core<A> {
     fn undo(&mut self, last: u64) -> Result<(), Refusal>
         ensures does { OnOk result ((call_refused self.old (Call.Undo last) ≡ None) × UndoesEdit self.old self.new) }
         ensures version { OnOk result ((self.new.version ≡ self.old.version + 1) × (self.new.lanes ≡ self.old.lanes)) }
+        ensures intake { self.new.intake ≡ self.old.intake }
         ensures err { OnErr result (self.new ≡ self.old) }
         ensures why { IfErr result (λ why. IsReason self.old (Call.Undo last) why) }
     {
@@ -204,6 +220,7 @@ impl<A: Allocator + Copy> Core<A> {
     fn redo(&mut self, last: u64) -> Result<(), Refusal>
         ensures does { OnOk result ((call_refused self.old (Call.Redo last) ≡ None) × RedoesEdit self.old self.new) }
         ensures version { OnOk result ((self.new.version ≡ self.old.version + 1) × (self.new.lanes ≡ self.old.lanes)) }
+        ensures intake { self.new.intake ≡ self.old.intake }
         ensures err { OnErr result (self.new ≡ self.old) }
         ensures why { IfErr result (λ why. IsReason self.old (Call.Redo last) why) }
     {
@@ -238,9 +255,30 @@ impl<A: Allocator + Copy> Core<A> {
         ensures lanes { length self.new.lanes ≡ length self.old.lanes }
         ensures desk { (self.new.version ≡ self.old.version) × (self.new.desk ≡ self.old.desk) }
         ensures history { (self.new.done ≡ self.old.done) × (self.new.undone ≡ self.old.undone) }
+        ensures intake { self.new.intake ≡ self.old.intake }
     {
         let rows = self.history.state();
         self.lanes[lane as usize].step(alloc, self.version, rows, item)
+    }
+
+    /// Takes in a datagram that came from an address at a moment, in nanoseconds since 1970.
+    ///
+    /// Back come its outcome, the datagrams that are to go up to its sender, and the items that each
+    /// lane is to be given, in this order.
+    pub fn datagram(
+        &mut self,
+        alloc: A,
+        from: &Address,
+        moment: u64,
+        octets: &[u8],
+    ) -> Result<Ingest<A>, AllocError>
+        ensures takes { IfOk result (λ ingest. TakesIn self.old.intake self.new.intake (ingested_of ingest) octets.now (λ r. record { desk = self.old.desk; from = from.now; moment = moment; reading = r })) }
+        ensures others { (self.new.version ≡ self.old.version) × (self.new.desk ≡ self.old.desk) × (self.new.done ≡ self.old.done) × (self.new.undone ≡ self.old.undone) × (self.new.lanes ≡ self.old.lanes) }
+        ensures asker { self.new.intake.asker ≡ self.old.intake.asker }
+        ensures err { OnErr result (self.new ≡ self.old) }
+    {
+        let rows = self.history.state();
+        self.intake.datagram(alloc, rows, from, moment, octets)
     }
 }
 

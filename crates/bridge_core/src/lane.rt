@@ -2,17 +2,18 @@
 
 ghost use Rattle.std.specs.Prelude.{◌≡◌, ◌+◌, ◌-◌, ◌<◌, ◌≤◌, ◌^◌, ◌↔◌, map, [], IfOk, OnOk, OnErr};
 ghost use Rattle.bridge_core.specs.Calls.{most_lanes};
-ghost use Rattle.bridge_core.specs.Sent.{sent_of, input_of};
+ghost use Rattle.intake.specs.Inputs.{input_of};
+ghost use Rattle.bridge_core.specs.Sent.{sent_of};
 ghost use Rattle.bridge_core.specs.LaneState.{HasHandled, Handles, visit_of};
 ghost use Rattle.bridge_core.specs.inner.VideoStreams.{Answers};
 
 use crate::egress::Egress;
 use crate::fault::LaneFault;
-use crate::item::Item;
 use crate::lane_place::LanePlace;
 use crate::video::VideoStreams;
 use desk_rows::Rows;
 use forward_rewrite::Stamp;
+use intake::Item;
 use std::alloc::{AllocError, Allocator, Global};
 use std::marker::Model;
 

@@ -4,18 +4,15 @@
 mod bridge;
 mod egress;
 mod fault;
-mod item;
 mod lane;
 mod lane_place;
 mod laws;
 mod reply;
-mod settings;
 mod video;
 
 pub use self::bridge::Core;
 pub use self::egress::Egress;
 pub use self::fault::{CoreFault, LaneFault};
-pub use self::item::Item;
 pub use self::lane::LaneState;
 pub use self::laws::{
     all_that_is_sent, commands_come_back, edits_lead_back, frames_go_whole,
@@ -23,6 +20,6 @@ pub use self::laws::{
     streams_have_no_gap, the_headline, undos_and_redos_are_accepted, undos_are_redone,
 };
 pub use self::reply::Reply;
-pub use self::settings::Settings;
 pub use forward_rewrite::MediaFrame;
 pub use frame_gate::{Frame, FrameFault, FramePacket};
+pub use intake::{Ingest, Intake, Item, Outcome, Settings};

@@ -9,7 +9,8 @@ use Rattle.desk_edit.specs.declared.refusal.Refusal.TheVariants.{OutOfMemory}
 use Rattle.desk_edit.specs.Calls.{no_calls, desk_now, refusal_of, after_call as history_after}
 use Rattle.bridge_core.specs.declared.reply.Reply.{Reply}
 use Rattle.bridge_core.specs.declared.reply.Reply.TheVariants.{Accepted, Refused}
-use Rattle.bridge_core.specs.Sent.{Sent, Input}
+use Rattle.intake.specs.Inputs.{Input}
+use Rattle.bridge_core.specs.Sent.{Sent}
 use Rattle.bridge_core.specs.Calls.{Answers, OnAccepted}
 use Rattle.bridge_core.specs.Following.{HasCalled, IsTold, IsAnswered}
 use Rattle.bridge_core.specs.Steps.{CoreOf, Step, HasTaken, Takes, sent_at, visits, visit_after}

@@ -7,8 +7,8 @@ use Rattle.hex.specs.Hex.{encode_lower, encode_with, lower_digits}
 use Rattle.frame_gate.specs.declared.frame.FrameFault.{FrameFault}
 use Rattle.frame_gate.specs.Frame.{SourcePacket, fault_of}
 use Rattle.forward_rewrite.specs.Frame.{SourceFrame}
-use Rattle.bridge_core.specs.Sent.{Input}
-use Rattle.bridge_core.specs.Sent.Input.{frame}
+use Rattle.intake.specs.Inputs.{Input}
+use Rattle.intake.specs.Inputs.Input.{frame}
 use Rattle.script_text.specs.declared.fault.Fault.{Fault}
 use Rattle.script_text.specs.declared.fault.Fault.TheVariants.{UnknownWord}
 use Rattle.script_text.specs.declared.value.Value.{Value}

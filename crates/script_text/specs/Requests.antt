@@ -6,8 +6,8 @@ use Rattle.desk_edit.specs.declared.command.Call.{Call}
 use Rattle.frame_gate.specs.declared.frame.FrameFault.{FrameFault}
 use Rattle.frame_gate.specs.Frame.{SourcePacket, fault_of}
 use Rattle.forward_rewrite.specs.Frame.{SourceFrame}
-use Rattle.bridge_core.specs.Sent.{Input}
-use Rattle.bridge_core.specs.Sent.Input.{frame}
+use Rattle.intake.specs.Inputs.{Input}
+use Rattle.intake.specs.Inputs.Input.{frame}
 use Rattle.script_text.specs.declared.fault.Fault.{Fault}
 use Rattle.script_text.specs.declared.fault.Fault.TheVariants.{LineTooLong, BadByte, UnknownWord, MissingWord, BadFrame}
 use Rattle.script_text.specs.declared.value.Field.{Field}

@@ -2,7 +2,8 @@
 
 ghost use Rattle.std.specs.Prelude.{◌≡◌, ◌≢◌, ◌⊎◌, ◌^◌, ◌++◌, [], OnOk, map};
 ghost use Rattle.std.specs.List.{flat_map};
-ghost use Rattle.bridge_core.specs.Sent.{sent_of, input_of};
+ghost use Rattle.intake.specs.Inputs.{input_of};
+ghost use Rattle.bridge_core.specs.Sent.{sent_of};
 ghost use Rattle.script_text.specs.Text.{sent_text};
 ghost use Rattle.script_text.specs.Requests.{Desk, Item as ItemRequest, Show as ShowRequest};
 ghost use Rattle.script_text.specs.inner.Cursor.{view};

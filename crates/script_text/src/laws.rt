@@ -20,7 +20,7 @@ ghost use Rattle.script_text.specs.Numbers.{number_of, ext_of, IsExt};
 ghost use Rattle.script_text.specs.Addresses.{address_of, address_text, IsAddress};
 ghost use Rattle.frame_gate.specs.Frame.{SourcePacket};
 ghost use Rattle.forward_rewrite.specs.Frame.{SourceFrame};
-ghost use Rattle.bridge_core.specs.Sent.Input.{frame};
+ghost use Rattle.intake.specs.Inputs.Input.{frame};
 ghost use Rattle.desk_edit.specs.declared.command.Call.{Call};
 ghost use Rattle.script_text.specs.Calls.{call_of, call_line, IsCall};
 ghost use Rattle.script_text.specs.Requests.{words_request, Desk, desk_line, Item, frame_words, frame_line, IsFrame};

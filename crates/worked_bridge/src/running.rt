@@ -3,7 +3,8 @@
 ghost use Rattle.std.specs.Prelude.{[], ◌∷◌, map, IfSome};
 ghost use Rattle.desk_rows.specs.Desk.{blank};
 ghost use Rattle.desk_edit.specs.Calls.{no_calls};
-ghost use Rattle.bridge_core.specs.Sent.{sent_of, input_of};
+ghost use Rattle.intake.specs.Inputs.{input_of};
+ghost use Rattle.bridge_core.specs.Sent.{sent_of};
 ghost use Rattle.bridge_core.specs.Events.{Event, steps_of};
 ghost use Rattle.bridge_core.specs.WholeRuns.{Holds};
 

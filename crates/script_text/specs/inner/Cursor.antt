@@ -3,7 +3,7 @@ use Rattle.std.specs.Prelude.{◌≡◌, ◌≢◌, ℕ, ◌+◌, List, [], ◌�
 use Rattle.std.specs.Borrow.{Bor}
 use Rattle.frame_gate.specs.Frame.{SourcePacket}
 use Rattle.forward_rewrite.specs.Frame.{SourceFrame}
-use Rattle.bridge_core.specs.Sent.{input_of}
+use Rattle.intake.specs.Inputs.{input_of}
 use Rattle.script_text.specs.declared.fault.ParseFault.{ParseFault}
 use Rattle.script_text.specs.declared.packet.Parts.{Parts}
 use Rattle.script_text.specs.declared.line.Head.{Head}

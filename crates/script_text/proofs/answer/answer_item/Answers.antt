@@ -1,5 +1,6 @@
 use Rattle.std.proofs.Common.{◌∙◌, map}
-use Rattle.bridge_core.specs.Sent.{sent_of, input_of}
+use Rattle.intake.specs.Inputs.{input_of}
+use Rattle.bridge_core.specs.Sent.{sent_of}
 use Rattle.script_text.proofs.BridgeLemmas.{item_answered, on_ok}
 use Rattle.script_text.proofs.answer.answer_item.Goals as goal
 

@@ -1,7 +1,8 @@
 use Rattle.std.proofs.Common.{◌≡◌, ℕ, true, List, [], ◌∷◌, map, refl, ap, sym, subst, ◌∙◌}
 use Rattle.desk_rows.specs.Desk.{blank, good}
 use Rattle.desk_edit.specs.Calls.{no_calls}
-use Rattle.bridge_core.specs.Sent.{sent_of, input_of}
+use Rattle.intake.specs.Inputs.{input_of}
+use Rattle.bridge_core.specs.Sent.{sent_of}
 use Rattle.bridge_core.specs.Events.{Event, Accepts, Sends, Plays, steps_of}
 use Rattle.bridge_core.specs.WholeRuns.{Holds}
 use Rattle.worked_bridge.proofs.running.sends_what_was_promised.Goals as goal

@@ -5,7 +5,8 @@ use Rattle.std.proofs.lemmas.List.{set-get_or}
 use Rattle.std.proofs.lemmas.Result.{IfOk-weaker}
 use Rattle.std.proofs.lemmas.Option.{slice_get_read}
 use Rattle.desk_rows.specs.Desk.{Desk}
-use Rattle.bridge_core.specs.Sent.{sent_of, input_of}
+use Rattle.intake.specs.Inputs.{input_of}
+use Rattle.bridge_core.specs.Sent.{sent_of}
 use Rattle.bridge_core.specs.LaneState.{LaneOf, Handles}
 use Rattle.bridge_core.specs.Steps.{CoreOf, Step, Takes}
 use Rattle.bridge_core.proofs.StepLaws.{handled, still_sound}
@@ -23,8 +24,8 @@ invariant_of-self g c =
 
 pub returns-clause-takes : goal.returns-clause-takes
 returns-clause-takes g c =
-    let old : CoreOf = record { version = c.self.inside.version; desk = c.self.inside.history.state; done = c.self.inside.history.done; undone = c.self.inside.history.undone; lanes = c.self.inside.lanes.items } in
-    let new : CoreOf = record { version = c.self.inside.version; desk = c.self.inside.history.state; done = c.self.inside.history.done; undone = c.self.inside.history.undone; lanes = set c.self.inside.lanes.items c.args.lane c.step.new.self } in
+    let old : CoreOf = record { version = c.self.inside.version; desk = c.self.inside.history.state; done = c.self.inside.history.done; undone = c.self.inside.history.undone; lanes = c.self.inside.lanes.items; intake = c.self.inside.intake } in
+    let new : CoreOf = record { version = c.self.inside.version; desk = c.self.inside.history.state; done = c.self.inside.history.done; undone = c.self.inside.history.undone; lanes = set c.self.inside.lanes.items c.args.lane c.step.new.self; intake = c.self.inside.intake } in
     IfOk-weaker c.step.result _ _ (λ sent does.
     subst (λ (core : CoreOf). Takes core new (Step.item c.args.lane (input_of c.args.item.now)) (map sent_of sent.items ∷ [])) c.self.view_is
     (handled old new c.args.lane c.index_mut.result.now c.step.new.self (input_of c.args.item.now) (map sent_of sent.items) c.self.invariant (there g c)
@@ -39,6 +40,6 @@ returns-clause-spent g c =
 pub returns-clause-err : goal.returns-clause-err
 returns-clause-err g c =
     let lanes = c.self.inside.lanes.items in
-    let core = λ (ls : List LaneOf). let k : CoreOf = record { version = c.self.inside.version; desk = c.self.inside.history.state; done = c.self.inside.history.done; undone = c.self.inside.history.undone; lanes = ls } in k in
+    let core = λ (ls : List LaneOf). let k : CoreOf = record { version = c.self.inside.version; desk = c.self.inside.history.state; done = c.self.inside.history.done; undone = c.self.inside.history.undone; lanes = ls; intake = c.self.inside.intake } in k in
     on_err_weaker c.step.result (λ same.
     ap core (ap (set lanes c.args.lane) (same ∙ c.index_mut.ensures.value) ∙ set-get_or lanes c.args.lane _) ∙ c.self.view_is) c.step.ensures.err

@@ -1,13 +1,19 @@
-use Rattle.std.proofs.Common.{refl, ◌∙◌}
-use Rattle.bridge_core.proofs.StepLaws.{sound_at_first}
+use Rattle.std.proofs.Common.{◌≡◌, true, refl, sym, ◌∙◌}
+use Rattle.intake.specs.Names.{is_name}
+use Rattle.bridge_core.proofs.StepLaws.{sound_at_first, no_fault}
 use Rattle.bridge_core.proofs.bridge.Core.new.Goals as goal
 
 pub invariant_of-result : goal.invariant_of-result
-invariant_of-result g c = sound_at_first c.args.lanes c.in-Ok-lane_states.states.items c.new-2.result.done c.in-Ok-lane_states.ensures.fresh c.in-Ok-lane_states.ensures.count c.new-2.ensures.done
+invariant_of-result g c = sound_at_first c.args.lanes c.in-Ok-lane_states.states.items c.new-3.result.done c.in-Ok-lane_states.ensures.fresh c.in-Ok-lane_states.ensures.count c.new-3.ensures.done
 
 pub returns-clause-fresh : goal.returns-clause-fresh
 returns-clause-fresh g c = record {
   version = refl;
-  desk = c.new-2.ensures.state ∙ c.in-Ok.ensures;
+  desk = c.new-3.ensures.state ∙ c.in-Ok.ensures;
   lanes = λ lane state at. (c.in-Ok-lane_states.ensures.fresh lane state at).2;
 }
+
+pub returns-clause-good : goal.returns-clause-good
+returns-clause-good g c =
+    let named : is_name c.args.settings.cname ≡ true = sym c.is_good.ensures ∙ c.if-not-is_good.false in
+    no_fault c.args.lanes c.args.settings.cname c.if-lanes-eq0.false c.if-lanes-gt-LANES.false named

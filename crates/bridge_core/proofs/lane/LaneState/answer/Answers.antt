@@ -1,6 +1,7 @@
 use Rattle.std.proofs.Common.{ℕ, List, map, ap, sym, subst, ◌∙◌}
 use Rattle.std.specs.Prelude.{IfOk}
-use Rattle.bridge_core.specs.Sent.{Input, input_of, sent_of}
+use Rattle.intake.specs.Inputs.{Input, input_of}
+use Rattle.bridge_core.specs.Sent.{sent_of}
 use Rattle.bridge_core.specs.LaneState.{LaneOf, visit_of}
 use Rattle.bridge_core.specs.inner.VideoStreams.{Answers}
 use Rattle.bridge_core.proofs.lane.LaneState.answer.Goals as goal

@@ -1,5 +1,6 @@
 use Rattle.std.proofs.Common.{◌+◌, map, ap, sym, subst, ◌∙◌}
-use Rattle.bridge_core.specs.Sent.{sent_of, input_of}
+use Rattle.intake.specs.Inputs.{input_of}
+use Rattle.bridge_core.specs.Sent.{sent_of}
 use Rattle.bridge_core.specs.LaneState.{LaneOf, visit_of}
 use Rattle.bridge_core.specs.inner.VideoStreams.{Answers}
 use Rattle.bridge_core.proofs.StepLaws.{handles}

@@ -1,6 +1,7 @@
 use Rattle.std.proofs.Common.{ap, sym, ◌∙◌, map, Some}
 use Rattle.std.proofs.lemmas.Result.{IfOk-weaker}
-use Rattle.bridge_core.specs.Sent.{Request, sent_of}
+use Rattle.intake.specs.Inputs.{Request}
+use Rattle.bridge_core.specs.Sent.{sent_of}
 use Rattle.bridge_core.specs.Lanes.{goes}
 use Rattle.feedback.specs.Resends.{resends}
 use Rattle.bridge_core.specs.LaneState.{stream_at}

@@ -1,7 +1,7 @@
 //! Settings.
 
 ghost use Rattle.std.specs.Prelude.{◌≡◌};
-ghost use Rattle.bridge_core.specs.Calls.{is_name};
+ghost use Rattle.intake.specs.Names.{is_name};
 
 use bytes::Bytes;
 use std::alloc::{Allocator, Global};
@@ -20,7 +20,7 @@ pub struct Settings<A: Allocator + Copy = Global> {
 
 impl<A: Allocator + Copy> Settings<A> {
     /// Whether the canonical name has 1 to 255 octets.
-    pub(crate) fn is_good(&self) -> bool
+    pub fn is_good(&self) -> bool
         ensures { result ≡ is_name self.now.cname }
     {
         let octets = self.cname.len();

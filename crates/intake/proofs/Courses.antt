@@ -1,0 +1,75 @@
+-- What is kept of a source stands to its story as before, with one more packet.
+use Rattle.std.proofs.Common.{◌≡◌, ℕ, ◌+◌, Bool, true, false, if◌then◌else◌, [], ◌∷◌, ◌++◌, Option, None, Some, unwrap_or, refl, sym, ap, subst, ◌∙◌}
+use Rattle.source_valid.specs.Histories.{Number, standing_of}
+use Rattle.source_valid.specs.Represents.{Represents as IsGiven}
+use Rattle.source_valid.specs.declared.verdict.Verdict.{Verdict}
+use Rattle.frame_gate.specs.Packets.{NumberedPacket}
+use Rattle.frame_gate.specs.Epochs.{epoch_of}
+use Rattle.frame_gate.specs.Admits.{Answers}
+use Rattle.intake.specs.Stories.{Story, Mark, untold, judged, begins, judged_on, initialises, arrival}
+use Rattle.intake.specs.inner.Kept.{KeptOf, JudgedOf, AdmissionOf, HasGiven, HasGated, Keeps, Judges, Becomes, Admits, gate_in, gate_for}
+use Rattle.intake.specs.inner.Moves.{source_in, epoch_in, next_of}
+
+-- what is kept, if anything, of a source with this story, if it has one
+abbrev pub KeepsAny : Option KeptOf → Option Story → Type 0
+KeepsAny None None = Unit {0}
+KeepsAny None (Some story) = ⊥
+KeepsAny (Some k) None = ⊥
+KeepsAny (Some k) (Some story) = Keeps k story
+
+pub record StandsAt (kept : Option KeptOf) (story : Story) : Type 0 where
+  pub given : HasGiven (source_in kept) story.given
+  pub epoch : epoch_in kept ≡ story.epoch
+  pub gated : HasGated (gate_in kept) story.gated
+
+pub stands_at : (kept : Option KeptOf) (story : Option Story) → KeepsAny kept story → StandsAt kept (unwrap_or story untold)
+stands_at None None h = record { given = refl; epoch = refl; gated = refl }
+stands_at None (Some story) h = absurd h
+stands_at (Some k) None h = absurd h
+stands_at (Some k) (Some story) h = record { given = h.given; epoch = h.epoch; gated = h.gated }
+
+module _ (kept : Option KeptOf) (story : Story) (epochs : ℕ) (m : Mark) (j : JudgedOf) (at : StandsAt kept story) (judges : Judges (source_in kept) m j) where
+  pub verdict_is : j.verdict ≡ judged story m.seq
+  verdict_is = judges.verdict story.given at.given
+
+  pub begins_is : j.begins ≡ begins story m.seq
+  begins_is = judges.begins story.given at.given ∙ ap (initialises (standing_of story.given)) verdict_is
+
+  pub given_is : IsGiven j.source (judged_on story epochs m).given
+  given_is = subst (λ (v : Verdict). IsGiven j.source (story.given ++ Number m.seq ∷ arrival v m)) verdict_is (judges.given story.given at.given)
+
+  pub epoch_is : (a : Option AdmissionOf) → (next_of kept epochs j a).epoch ≡ (judged_on story epochs m).epoch
+  epoch_is a = ap (λ b. if b then epochs + 1 else epoch_in kept) begins_is ∙ ap (λ e. if begins story m.seq then epochs + 1 else e) at.epoch
+
+  gated_by : (b : Bool) → HasGated (gate_for kept b) (if b then [] else story.gated)
+  gated_by true = refl
+  gated_by false = at.gated
+
+  pub gated_is : HasGated (gate_for kept j.begins) (judged_on story epochs m).gated
+  gated_is = subst (λ b. HasGated (gate_for kept j.begins) (if b then [] else story.gated)) begins_is (gated_by j.begins)
+
+  pub keeps_plain : (new : KeptOf) → Becomes kept (next_of kept epochs j None) new → Keeps new (judged_on story epochs m)
+  keeps_plain new becomes = record {
+    given = subst (λ x. IsGiven x (judged_on story epochs m).given) (sym becomes.source) given_is;
+    epoch = becomes.epoch ∙ epoch_is None;
+    gated = subst (λ g. HasGated g (judged_on story epochs m).gated) (sym becomes.gate) gated_is;
+  }
+
+  -- the story with the packet at the gate
+  abbrev pub with_packet : NumberedPacket → Story
+  with_packet p = record { given = (judged_on story epochs m).given; epoch = (judged_on story epochs m).epoch; gated = (judged_on story epochs m).gated ++ p ∷ [] }
+
+  module _ (p : NumberedPacket) (a : AdmissionOf) (new : KeptOf) (admits : Admits (gate_for kept j.begins) p a) (becomes : Becomes kept (next_of kept epochs j (Some a)) new) where
+    both : Answers (epoch_of (judged_on story epochs m).gated) p a.prepared.answer × HasGated new.gate (with_packet p).gated
+    both = let settles = becomes.gate in let told = admits.after (judged_on story epochs m).gated settles.base settles.gate gated_is settles.before settles.commits in
+        (told.0, subst (λ g. HasGated g (with_packet p).gated) (sym settles.now) told.1)
+
+    pub answers_is : Answers (epoch_of (judged_on story epochs m).gated) p a.prepared.answer
+    answers_is = both.0
+
+    pub keeps_packet : Keeps new (with_packet p)
+    keeps_packet = record {
+      given = subst (λ x. IsGiven x (judged_on story epochs m).given) (sym becomes.source) given_is;
+      epoch = becomes.epoch ∙ epoch_is (Some a);
+      gated = both.1;
+    }

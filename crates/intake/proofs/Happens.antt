@@ -1,0 +1,117 @@
+-- What a packet comes to for the sources that are known.
+use Rattle.std.proofs.Common.{◌≡◌, ℕ, ℤ, ◌+◌, Bool, true, false, ◌&&◌, ◌||◌, nat_eq, if◌then◌else◌, List, [], ◌∷◌, ◌++◌, length, drop, Option, None, Some, unwrap_or, refl, sym, ap, subst, ◌∙◌}
+use Rattle.source_valid.specs.declared.verdict.Verdict.{Verdict}
+use Rattle.frame_gate.specs.declared.packet.Place.{Place}
+use Rattle.frame_gate.specs.Packets.{GatePacket, NumberedPacket, numbered}
+use Rattle.frame_gate.specs.Epochs.{epoch_of, frames_of, place_of, nacks_of, gives_up}
+use Rattle.frame_gate.specs.Admits.{Answers}
+use Rattle.intake.specs.declared.outcome.Outcome.{Outcome}
+use Rattle.intake.specs.declared.outcome.Outcome.TheVariants.{Spent}
+use Rattle.intake.specs.declared.known.Key.{Key}
+use Rattle.intake.specs.Stories.{Story, Mark, untold, judged, begins, judged_on}
+use Rattle.intake.specs.Sources.{Sources, story_at}
+use Rattle.intake.specs.Ingested.{Ingested, only}
+use Rattle.intake.specs.Media.{Coming, Course, origin_of, mark_of, told, plain, gated_with, newly}
+use Rattle.intake.proofs.Answered.{ingested}
+use Rattle.intake.specs.Taking.{Voice, IsVoice, asked_of, frames_from, most_epochs, answer_of, sources_after, sourced}
+use Rattle.intake.specs.Intakes.{Knows}
+use Rattle.intake.specs.inner.Kept.{KeptOf, JudgedOf, AdmissionOf, Keeps, Judges, Becomes}
+use Rattle.intake.specs.inner.Holding.{IntakeOf, key_of, kept_at, put_first}
+use Rattle.intake.specs.inner.Moves.{source_in, next_of, Advances, Gates, outcome_at, given}
+use Rattle.intake.proofs.KnownSources.{kept_story, holds_used}
+use Rattle.intake.proofs.Courses.{StandsAt, stands_at, verdict_is, begins_is, epoch_is, keeps_plain, answers_is, keeps_packet}
+
+-- this is answered, and these sources are known afterwards
+abbrev pub Gives : Ingested → IntakeOf → Ingested × Sources → Type 0
+Gives ingested new x = (ingested ≡ x.0) × Knows new x.1
+
+where_so : (b : Bool) (x y : Ingested × Sources) (i : Ingested) (new : IntakeOf) → b ≡ true → Gives i new x → Gives i new (if b then x else y)
+where_so true x y i new is h = h
+where_so false x y i new is h = cc
+
+otherwise : (b : Bool) (x y : Ingested × Sources) (i : Ingested) (new : IntakeOf) → b ≡ false → Gives i new y → Gives i new (if b then x else y)
+otherwise true x y i new is h = cc
+otherwise false x y i new is h = h
+
+drop-front : {X : Type 0} (xs ys : List X) → drop (length xs) (xs ++ ys) ≡ ys
+drop-front [] ys = refl
+drop-front (x ∷ xs) ys = drop-front xs ys
+
+-- judged under another name of the key and the mark
+pub named_so : (old : IntakeOf) (j : JudgedOf) (key same_key : Key) (m same_mark : Mark) → key ≡ same_key → m ≡ same_mark → Judges (source_in (kept_at key old.entries)) m j → Judges (source_in (kept_at same_key old.entries)) same_mark j
+named_so old j key same_key m same_mark k e h = subst (λ (x : Key). Judges (source_in (kept_at x old.entries)) same_mark j) k (subst (λ (x : Mark). Judges (source_in (kept_at key old.entries)) x j) e h)
+
+-- put to the gate under another name of the key and the number
+pub gates_so : (old new : IntakeOf) (j : JudgedOf) (c : Coming) (p : GatePacket) (restarts : Bool) (i : Ingested) (key same_key : Key) (ext same_ext : ℤ) → key ≡ same_key → ext ≡ same_ext
+    → Gates old new key j c (numbered ext p) ext restarts i → Gates old new same_key j c (numbered same_ext p) same_ext restarts i
+gates_so old new j c p restarts i key same_key ext same_ext k e h =
+    subst (λ (x : Key). Gates old new x j c (numbered same_ext p) same_ext restarts i) k (subst (λ (x : ℤ). Gates old new key j c (numbered x p) x restarts i) e h)
+
+module _ (rate : ℕ) (course_of : Verdict → Story → Course) (c : Coming) (old : IntakeOf) (j : JudgedOf) (judges : Judges (source_in (kept_at (key_of (origin_of c)) old.entries)) (mark_of rate c) j) where
+  module _ (s : Sources) (knows : Knows old s) where
+    abbrev kept : Option KeptOf
+    kept = kept_at (key_of (origin_of c)) old.entries
+
+    abbrev story : Story
+    story = unwrap_or (story_at (origin_of c) s.known) untold
+
+    abbrev later : Story
+    later = judged_on story s.epochs (mark_of rate c)
+
+    at : StandsAt kept story
+    at = stands_at kept (story_at (origin_of c) s.known) (kept_story (origin_of c) old.entries s.known knows.holds)
+
+    spent_is : (j.begins && nat_eq old.epochs most_epochs) ≡ (begins story (mark_of rate c).seq && nat_eq s.epochs most_epochs)
+    spent_is = ap (λ b. b && nat_eq old.epochs most_epochs) (begins_is kept story s.epochs (mark_of rate c) j at judges) ∙ ap (λ n. begins story (mark_of rate c).seq && nat_eq n most_epochs) knows.epochs
+
+    -- the sources that are known once this is kept of the packet's source
+    knows_after : (new : IntakeOf) (course : Course) (k : KeptOf) → Keeps k course.story
+        → new ≡ record { asker = old.asker; entries = put_first (key_of (origin_of c)) k old.entries; epochs = if j.begins then old.epochs + 1 else old.epochs }
+        → Knows new (sources_after c (begins story (mark_of rate c).seq) course s)
+    knows_after new course k keeps is = subst (λ (i : IntakeOf). Knows i (sources_after c (begins story (mark_of rate c).seq) course s)) (sym is) (record {
+      holds = holds_used (origin_of c) k course.story old.entries s.known keeps knows.holds;
+      epochs = ap (λ b. if b then old.epochs + 1 else old.epochs) (begins_is kept story s.epochs (mark_of rate c) j at judges) ∙ ap (λ n. if begins story (mark_of rate c).seq then n + 1 else n) knows.epochs;
+    })
+
+    pub when_spent : (voice : Voice) → (j.begins && nat_eq old.epochs most_epochs) ≡ true → Gives (only Spent) old (sourced voice rate course_of c s)
+    when_spent voice spent = where_so _ _ _ _ _ (sym spent_is ∙ spent) (refl, knows)
+
+    course_is : (course : Story → Course) → ((st : Story) → course_of j.verdict st ≡ course st) → course_of (judged story (mark_of rate c).seq) later ≡ course later
+    course_is course is = ap (λ v. course_of v later) (sym (verdict_is kept story s.epochs (mark_of rate c) j at judges)) ∙ is later
+
+    -- the packet comes to this
+    when_course : (voice : Voice) (ingested : Ingested) (new : IntakeOf) (course : Story → Course) → (j.begins && nat_eq old.epochs most_epochs) ≡ false → ((st : Story) → course_of j.verdict st ≡ course st)
+        → ingested ≡ answer_of voice c (course later) → Knows new (sources_after c (begins story (mark_of rate c).seq) (course later) s) → Gives ingested new (sourced voice rate course_of c s)
+    when_course voice ingested new course free is answered known = otherwise _ _ _ _ _ (sym spent_is ∙ free)
+        (subst (λ x. Gives ingested new (answer_of voice c x, sources_after c (begins story (mark_of rate c).seq) x s)) (sym (course_is course is)) (answered, known))
+
+    pub when_plain : (voice : Voice) (new : IntakeOf) → (j.begins && nat_eq old.epochs most_epochs) ≡ false → ((st : Story) → course_of j.verdict st ≡ plain j.verdict st)
+        → Advances old new (key_of (origin_of c)) j None → Gives (only (told j.verdict)) new (sourced voice rate course_of c s)
+    when_plain voice new free is advances = when_course voice (only (told j.verdict)) new (plain j.verdict) free is refl
+        (knows_after new (plain j.verdict later) advances.0 (keeps_plain kept story s.epochs (mark_of rate c) j at judges advances.0 (subst (λ n. Becomes kept (next_of kept n j None) advances.0) knows.epochs advances.1)) advances.2)
+
+    -- what the gate answers is what is defined of the packet
+    given_is : (voice : Voice) (p : NumberedPacket) (ext : ℤ) (restarts : Bool) (outcome : Place → Outcome) (a : AdmissionOf) (epoch : ℕ) → ((place : Place) → outcome place ≡ outcome_at restarts ext place)
+        → Answers (epoch_of later.gated) p a.prepared.answer → epoch ≡ later.epoch → given voice c epoch ext restarts a.prepared.answer ≡ answer_of voice c (gated_with p outcome restarts later)
+    given_is voice p ext restarts outcome a epoch tells answers same =
+        let e = epoch_of later.gated in
+        let answer = a.prepared.answer in
+        let new_ones : newly e p ≡ answer.frames = ap (drop (length (frames_of e))) answers.frames ∙ drop-front (frames_of e) answer.frames in
+        ap (λ (x : Outcome). ingested x (asked_of voice (origin_of c) answer.nacks (restarts || answer.pli)) (frames_from (origin_of c) c.moment epoch answer.frames)) (sym (tells answer.place) ∙ ap outcome answers.place)
+        ∙ ap (λ ns. ingested (outcome (place_of e p)) (asked_of voice (origin_of c) ns (restarts || answer.pli)) (frames_from (origin_of c) c.moment epoch answer.frames)) answers.nacks
+        ∙ ap (λ b. ingested (outcome (place_of e p)) (asked_of voice (origin_of c) (nacks_of e p) (restarts || b)) (frames_from (origin_of c) c.moment epoch answer.frames)) answers.pli
+        ∙ ap (λ n. ingested (outcome (place_of e p)) (asked_of voice (origin_of c) (nacks_of e p) (restarts || gives_up e p)) (frames_from (origin_of c) c.moment n answer.frames)) same
+        ∙ ap (λ fs. ingested (outcome (place_of e p)) (asked_of voice (origin_of c) (nacks_of e p) (restarts || gives_up e p)) (frames_from (origin_of c) c.moment later.epoch fs)) (sym new_ones)
+
+    pub when_gated : (voice : Voice) (ingested : Ingested) (new : IntakeOf) (p : NumberedPacket) (ext : ℤ) (restarts : Bool) (outcome : Place → Outcome) → IsVoice voice → voice.asker ≡ old.asker
+        → (j.begins && nat_eq old.epochs most_epochs) ≡ false → ((st : Story) → course_of j.verdict st ≡ gated_with p outcome restarts st) → ((place : Place) → outcome place ≡ outcome_at restarts ext place)
+        → Gates old new (key_of (origin_of c)) j c p ext restarts ingested → Gives ingested new (sourced voice rate course_of c s)
+    when_gated voice ingested new p ext restarts outcome right asker free is tells gates =
+        let a = gates.admission in
+        let k = gates.advances.0 in
+        let becomes = subst (λ n. Becomes kept (next_of kept n j (Some a)) k) knows.epochs gates.advances.1 in
+        when_course voice ingested new (gated_with p outcome restarts) free is
+        (gates.answers voice right asker ∙ given_is voice p ext restarts outcome a _ tells
+        (answers_is kept story s.epochs (mark_of rate c) j at judges p a k gates.admits becomes)
+        (subst (λ n. (next_of kept n j (Some a)).epoch ≡ later.epoch) (sym knows.epochs) (epoch_is kept story s.epochs (mark_of rate c) j at judges (Some a))))
+        (knows_after new (gated_with p outcome restarts later) k (keeps_packet kept story s.epochs (mark_of rate c) j at judges p a k gates.admits becomes) gates.advances.2)

@@ -1,0 +1,11 @@
+pub mod AtGates
+pub mod Entries
+pub mod Voices
+pub mod Moved
+pub mod Answered
+pub mod Courses
+pub mod KnownSources
+pub mod Happens
+pub mod Results
+pub mod Turns
+pub mod Read

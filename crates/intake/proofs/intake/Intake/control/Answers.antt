@@ -1,0 +1,11 @@
+use Rattle.std.proofs.Common.{◌∙◌, ℕ, Option, sym, subst, IfOk}
+use Rattle.rtcp_codec.specs.View.{packets_of}
+use Rattle.intake.specs.Ingested.{ingested_of}
+use Rattle.intake.specs.Taking.{of_member}
+use Rattle.intake.specs.Intakes.{Moves}
+use Rattle.intake.proofs.intake.Intake.control.Goals as goal
+
+pub returns-in-Some-clause-moves : goal.returns-in-Some-clause-moves
+returns-in-Some-clause-moves g c =
+    subst (λ (m : Option ℕ). IfOk c.heard.result (λ ingest. Moves c.args.self.now c.heard.new.self (ingested_of ingest) (λ voice s. of_member m c.args.from.now c.args.moment (packets_of c.args.packets.now) s)))
+    (sym c.in-Some.is ∙ c.member_from.ensures) (c.heard.ensures.moves c.in-Some.field-0)

@@ -1,0 +1,22 @@
+use Rattle.std.proofs.Common.{◌∙◌, ap, sym, subst, length, map, []}
+use Rattle.std.proofs.lemmas.List.{length-map}
+use Rattle.rtcp_codec.specs.View.{packet_of, packets_of}
+use Rattle.intake.specs.declared.outcome.Outcome.TheVariants.{Rtcp}
+use Rattle.intake.specs.Inputs.{input_of}
+use Rattle.intake.specs.Ingested.{datagram_of}
+use Rattle.intake.specs.inner.Holding.{IntakeOf, Holds}
+use Rattle.intake.proofs.Answered.{ingested}
+use Rattle.intake.proofs.intake.Intake.heard.Goals as goal
+
+pub returns-clause-moves : goal.returns-clause-moves
+returns-clause-moves g c = λ member voice s right asker knows.
+    let packets = c.args.packets.now in
+    let items = map input_of c.in_ok-items.items.items in (
+      ap (λ n. ingested (Rtcp n) (map datagram_of c.new.result.items) items) (sym (length-map packets packet_of))
+          ∙ ap (λ up. ingested (Rtcp (length (packets_of packets))) (map datagram_of up) items) c.new.ensures.items
+          ∙ ap (λ x. ingested (Rtcp (length (packets_of packets))) [] x) c.in_ok-items.ensures,
+      record {
+        holds = c.note_all.ensures s.known (subst (λ (i : IntakeOf). Holds i.entries s.known) (sym c.self.view_is) knows.holds);
+        epochs = ap (λ (i : IntakeOf). i.epochs) c.self.view_is ∙ knows.epochs;
+      },
+    )

@@ -1,0 +1,17 @@
+-- What is there and what is left make the whole, and there is room for what is left.
+use Rattle.std.proofs.Common.{◌≡◌, ◌+◌, ◌≤◌, ◌++◌, length, map, vec_len, vec_capacity}
+use Rattle.std.specs.Vec.Iter.{into_iter_items}
+use Rattle.intake.specs.Inputs.{input_of}
+use Rattle.intake.specs.Taking.{frames_from}
+use Rattle.intake.proofs.intake.put_frames.Given as goal
+
+abbrev pub invariant-loop-frame : goal.invariant-loop-frame
+invariant-loop-frame g l =
+    let rest = into_iter_items l.frame-iterator in
+    let items = frames_from (record { address = l.from; ssrc = l.source }) l.moment l.epoch in
+    record {
+      items : map input_of l.items.items ++ items rest ≡ map input_of l.fn.items.items ++ items l.fn.frames.items;
+      len : vec_len l.items + length rest ≡ vec_len l.fn.items + vec_len l.fn.frames;
+      room : vec_len l.items + length rest ≤ vec_capacity l.items;
+      capacity : vec_capacity l.fn.items ≤ vec_capacity l.items;
+    }

@@ -1,0 +1,25 @@
+-- What a datagram comes to.
+use Rattle.std.specs.Prelude.{ℕ, List, [], map}
+use Rattle.rtp_codec.specs.declared.address.Address.{Address}
+use Rattle.intake.specs.declared.outcome.Outcome.{Outcome}
+use Rattle.intake.specs.Inputs.{Input, input_of}
+use Rattle.intake.specs.declared.ingest.Ingest.{Ingest}
+use Rattle.std.specs.declared.vec.Vec.{Vec}
+
+-- its outcome, the datagrams that go up to its sender, and the items for the lanes
+pub record Ingested : Type 0 where
+  pub outcome : Outcome
+  pub up : List (Address × List ℕ)
+  pub items : List Input
+
+-- no more than this outcome
+abbrev pub only : Outcome → Ingested
+only outcome = record { outcome = outcome; up = []; items = [] }
+
+-- a datagram for an address, without where its octets lie
+abbrev pub datagram_of : {A : Type 0} → Address × Vec ℕ A → Address × List ℕ
+datagram_of d = (d.0, d.1.items)
+
+-- what the intake answers, without where its octets lie
+abbrev pub ingested_of : {A : Type 0} → Ingest A → Ingested
+ingested_of i = record { outcome = i.outcome; up = map datagram_of i.up.items; items = map input_of i.items.items }

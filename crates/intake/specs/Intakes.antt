@@ -1,0 +1,22 @@
+-- What an intake answers.
+use Rattle.std.specs.Prelude.{◌≡◌, ℕ, List}
+use Rattle.intake.specs.Readings.{Reading, IsReading}
+use Rattle.intake.specs.Sources.{Sources}
+use Rattle.intake.specs.Ingested.{Ingested}
+use Rattle.intake.specs.Taking.{Voice, IsVoice, Datagram, taken_in}
+use Rattle.intake.specs.inner.Holding.{Holds, IntakeOf}
+
+-- These are the sources that the intake knows.
+pub record Knows (i : IntakeOf) (s : Sources) : Type 0 where
+  pub holds : Holds i.entries s.known
+  pub epochs : i.epochs ≡ s.epochs
+
+-- Whatever sources the old intake knew, this is what happens there: the answer, and the sources that the new one knows.
+abbrev pub Moves : IntakeOf → IntakeOf → Ingested → (Voice → Sources → Ingested × Sources) → Type 0
+Moves old new ingested happens =
+    (voice : Voice) (s : Sources) → IsVoice voice → voice.asker ≡ old.asker → Knows old s → (ingested ≡ (happens voice s).0) × Knows new (happens voice s).1
+
+-- Whatever sources the old intake knew, and whatever a datagram's octets are, this is what it comes to.
+abbrev pub TakesIn : IntakeOf → IntakeOf → Ingested → List ℕ → (Reading → Datagram) → Type 0
+TakesIn old new ingested octets datagram =
+    (r : Reading) → IsReading octets r → Moves old new ingested (λ voice s. taken_in voice s (datagram r))

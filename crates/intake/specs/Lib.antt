@@ -1,0 +1,11 @@
+pub mod Inputs
+pub mod Names
+pub mod Readings
+pub mod Stories
+pub mod Sources
+pub mod Ingested
+pub mod Media
+pub mod Control
+pub mod Taking
+pub mod Intakes
+pub mod inner

@@ -1,0 +1,56 @@
+-- What a source was given since it became known, and how a packet is judged by that (RFC 3550 A.1 and A.8).
+use Rattle.std.specs.Prelude.{ℕ, ◌+◌, ◌*◌, ◌/◌, ◌^◌, ◌%◌, Bool, true, false, not, if◌then◌else◌, List, [], ◌∷◌, ◌++◌}
+use Rattle.source_valid.specs.declared.verdict.Verdict.{Verdict}
+use Rattle.source_valid.specs.declared.verdict.Verdict.TheVariants.{Probation, Accepted, Jump, Restarted}
+use Rattle.source_valid.specs.Histories.{Step, Number, Arrival, Standing, standing_of, verdict_of, past_probation_in}
+use Rattle.frame_gate.specs.Packets.{NumberedPacket}
+
+-- what a source was given, its epoch, or 0 before its first one, and the packets of this epoch that came to its gate
+pub record Story : Type 0 where
+  pub given : List Step
+  pub epoch : ℕ
+  pub gated : List NumberedPacket
+
+-- the story of a source of which nothing is known
+abbrev pub untold : Story
+untold = record { given = []; epoch = 0; gated = [] }
+
+-- a packet as its source judges it: its sequence number and timestamp, and its arrival in units of the clock rate
+pub record Mark : Type 0 where
+  pub seq : ℕ
+  pub ts : ℕ
+  pub units : ℕ
+
+-- a moment, in nanoseconds since 1970, in units of a clock rate in Hz, modulo 2^32
+abbrev pub units_of : ℕ → ℕ → ℕ
+units_of rate moment = moment * rate / 10 ^ 9 % 2 ^ 32
+
+-- the verdict on a packet of this number
+abbrev pub judged : Story → ℕ → Verdict
+judged story seq = verdict_of (standing_of story.given) seq
+
+-- Only an accepted packet's arrival counts.
+abbrev pub arrival : Verdict → Mark → List Step
+arrival Probation m = []
+arrival (Accepted ext) m = Arrival m.ts m.units ∷ []
+arrival Jump m = []
+arrival (Restarted ext) m = Arrival m.ts m.units ∷ []
+
+-- A source is initialised where its probation ends, and where it restarts.
+abbrev pub initialises : Standing → Verdict → Bool
+initialises standing Probation = false
+initialises standing (Accepted ext) = not (past_probation_in standing)
+initialises standing Jump = false
+initialises standing (Restarted ext) = true
+
+-- the packet of this number initialises the source
+abbrev pub begins : Story → ℕ → Bool
+begins story seq = initialises (standing_of story.given) (judged story seq)
+
+-- the story with a packet, where so many epochs have begun: an initialisation begins the next one, with no packet in its gate
+abbrev pub judged_on : Story → ℕ → Mark → Story
+judged_on story epochs m = record {
+  given = story.given ++ Number m.seq ∷ arrival (judged story m.seq) m;
+  epoch = if begins story m.seq then epochs + 1 else story.epoch;
+  gated = if begins story m.seq then [] else story.gated;
+}

@@ -1,0 +1,129 @@
+-- What a datagram comes to, and what is known of sources after it: the first outcome that holds (own).
+use Rattle.std.specs.Prelude.{ℕ, ℤ, ◌+◌, ◌-◌, ◌<◌, ◌^◌, Bool, not, ◌&&◌, nat_eq, if◌then◌else◌, List, [], ◌∷◌, length, map, fold, Option, None, Some}
+use Rattle.std.specs.Option.{unwrap_or}
+use Rattle.std.specs.List.{flat_map, AllByRecursion}
+use Rattle.rtp_codec.specs.declared.address.Address.{Address}
+use Rattle.rtcp_codec.specs.declared.nack.NackWord.{NackWord}
+use Rattle.rtcp_codec.specs.Packet.{Packet as RtcpPacket}
+use Rattle.rtcp_codec.specs.Nack.{IsPacking}
+use Rattle.rtcp_codec.specs.Compound.{written}
+use Rattle.source_valid.specs.declared.verdict.Verdict.{Verdict}
+use Rattle.frame_gate.specs.Frame.{WholeFrame}
+use Rattle.desk_rows.specs.Desk.{Desk}
+use Rattle.desk_rows.specs.declared.row.Media.{Media}
+use Rattle.desk_rows.specs.declared.row.Media.TheVariants.{Audio, Video}
+use Rattle.desk_rows.specs.declared.row.Source.{Source}
+use Rattle.topology.specs.Looking.{source_from, member_from}
+use Rattle.feedback.specs.Upstream.{Asker, seq_of, upstream_packets}
+use Rattle.intake.specs.declared.outcome.Outcome.TheVariants.{TooLong, Neither, BadRtp, BadRtcp, Unknown, BadPayload, Spent, Rtcp}
+use Rattle.intake.specs.Inputs.{Input}
+use Rattle.intake.specs.Readings.{Reading, too_long, neither, no_packet, packet, no_compound, compound}
+use Rattle.intake.specs.Stories.{Story, untold, judged, begins, judged_on}
+use Rattle.intake.specs.Sources.{Origin, Sources, no_sources, story_at, used}
+use Rattle.intake.specs.Ingested.{Ingested, only}
+use Rattle.intake.specs.Media.{Coming, Course, origin_of, mark_of, audio_rate, video_rate, is_audio, audio_course, video_course}
+use Rattle.intake.specs.Control.{asks, noted_all}
+
+-- how the bridge speaks to senders: who it is, and the words by which it names lost packets
+pub record Voice : Type 0 where
+  pub asker : Asker
+  pub words : List ℕ → List NackWord
+
+-- The words are those of the NACK's definition, for all sequence numbers.
+abbrev pub IsVoice : Voice → Type 0
+IsVoice v = (numbers : List ℕ) → AllByRecursion (λ n. n < 2 ^ 16) numbers → IsPacking numbers (v.words numbers)
+
+-- a datagram: the desk as it is, from where and at which moment it came, and what its octets are
+pub record Datagram : Type 0 where
+  pub desk : Desk
+  pub from : Address
+  pub moment : ℕ
+  pub reading : Reading
+
+-- so many epochs there are at most (own)
+abbrev pub most_epochs : ℕ
+most_epochs = 2 ^ 64 - 1
+
+-- ---- media packets
+
+-- the octets in which the bridge asks a source for packets, and for a picture
+unfoldable pub asking : Voice → ℕ → List ℤ → Bool → List ℕ
+asking voice source nacks pli = written (upstream_packets voice.asker source (voice.words (map seq_of nacks)) pli)
+
+-- what goes up to a source of which packets are missing, or a picture is lost
+abbrev pub asked_of : Voice → Origin → List ℤ → Bool → List (Address × List ℕ)
+asked_of voice o nacks pli = if nat_eq (length nacks) 0 && not pli then [] else (o.address, asking voice o.ssrc nacks pli) ∷ []
+
+-- a frame of a source's epoch as an item, which came at this moment
+abbrev pub frame_item : Origin → (moment epoch : ℕ) → WholeFrame → Input
+frame_item o moment epoch f = Input.frame (record { source = o.ssrc; address = o.address; epoch = epoch; moment = moment; frame = f })
+
+abbrev pub frames_from : Origin → (moment epoch : ℕ) → List WholeFrame → List Input
+frames_from o moment epoch frames = map (frame_item o moment epoch) frames
+
+-- what is answered where a packet comes to this for its source
+abbrev pub answer_of : Voice → Coming → Course → Ingested
+answer_of voice c course = record {
+  outcome = course.outcome;
+  up = asked_of voice (origin_of c) course.nacks course.pli;
+  items = frames_from (origin_of c) c.moment course.story.epoch course.frames;
+}
+
+-- the sources after it: this one was used last
+abbrev pub sources_after : Coming → Bool → Course → Sources → Sources
+sources_after c initialised course s = record {
+  known = used (record { origin = origin_of c; story = course.story }) s.known;
+  epochs = if initialised then s.epochs + 1 else s.epochs;
+}
+
+-- what the packet comes to for a source with this story, unless it would begin an epoch and none is left
+abbrev pub taken_by : Voice → ℕ → (Verdict → Story → Course) → Coming → Sources → Story → Ingested × Sources
+taken_by voice rate course_of c s story =
+    if begins story (mark_of rate c).seq && nat_eq s.epochs most_epochs then (only Spent, s)
+    else (
+      answer_of voice c (course_of (judged story (mark_of rate c).seq) (judged_on story s.epochs (mark_of rate c))),
+      sources_after c (begins story (mark_of rate c).seq) (course_of (judged story (mark_of rate c).seq) (judged_on story s.epochs (mark_of rate c))) s,
+    )
+
+-- its source takes the packet
+abbrev pub sourced : Voice → ℕ → (Verdict → Story → Course) → Coming → Sources → Ingested × Sources
+sourced voice rate course_of c s = taken_by voice rate course_of c s (unwrap_or (story_at (origin_of c) s.known) untold)
+
+-- by what its source sends
+abbrev pub of_media : Voice → Media → Coming → Sources → Ingested × Sources
+of_media voice Audio c s =
+    if is_audio c.packet.header.pt (length c.packet.payload) then sourced voice audio_rate (audio_course c.packet) c s else (only BadPayload, s)
+of_media voice Video c s = sourced voice video_rate (video_course c.packet) c s
+
+-- a packet of the source in a row
+abbrev pub of_row : Voice → Option Source → Coming → Sources → Ingested × Sources
+of_row voice None c s = (only Unknown, s)
+of_row voice (Some row) c s = of_media voice row.media c s
+
+-- ---- all datagrams
+
+-- a compound of the member at an address, which came at a moment
+abbrev pub of_member : Option ℕ → Address → ℕ → List RtcpPacket → Sources → Ingested × Sources
+of_member None from moment packets s = (only Unknown, s)
+of_member (Some member) from moment packets s = (
+  record { outcome = Rtcp (length packets); up = []; items = flat_map (asks from) packets },
+  record { known = noted_all from moment s.known packets; epochs = s.epochs },
+)
+
+-- by what its octets are
+abbrev pub read_as : Voice → Datagram → Reading → Sources → Ingested × Sources
+read_as voice d too_long s = (only TooLong, s)
+read_as voice d neither s = (only Neither, s)
+read_as voice d (no_packet fault) s = (only (BadRtp fault), s)
+read_as voice d (packet p) s =
+    of_row voice (source_from d.desk p.header.ssrc d.from) (record { from = d.from; moment = d.moment; packet = p }) s
+read_as voice d (no_compound fault) s = (only (BadRtcp fault), s)
+read_as voice d (compound packets) s = of_member (member_from d.desk d.from) d.from d.moment packets s
+
+-- what a datagram comes to, and the sources after it
+abbrev pub taken_in : Voice → Sources → Datagram → Ingested × Sources
+taken_in voice s d = read_as voice d d.reading s
+
+-- the sources after datagrams, one after another
+abbrev pub sources_of : Voice → List Datagram → Sources
+sources_of voice datagrams = fold (λ s d. (taken_in voice s d).1) no_sources datagrams

@@ -1,0 +1,40 @@
+-- The sources that are kept, by the parts of their addresses and their SSRCs.
+use Rattle.std.specs.Prelude.{◌≡◌, ℕ, ◌-◌, Bool, ◌&&◌, nat_eq, List, [], ◌∷◌, take, Option}
+use Rattle.std.specs.Str.{bytes_eq}
+use Rattle.std.specs.Map.{lookup, lookup_entry, remove_entry}
+use Rattle.std.specs.Option.{option_map_or}
+use Rattle.intake.specs.declared.known.Key.{Key}
+use Rattle.intake.specs.Sources.{Origin, Known, most_known}
+use Rattle.feedback.specs.Upstream.{Asker}
+use Rattle.intake.specs.inner.Kept.{KeptOf, Keeps}
+
+abbrev pub same_key : Key → Key → Bool
+same_key a b = bytes_eq a.ip b.ip && (nat_eq a.port b.port && nat_eq a.ssrc b.ssrc)
+
+-- the key of an origin
+abbrev pub key_of : Origin → Key
+key_of o = record { ip = o.address.ip; port = o.address.port; ssrc = o.ssrc }
+
+-- what is kept under a key
+abbrev pub kept_at : Key → List (Key × KeptOf) → Option KeptOf
+kept_at key entries = lookup (same_key key) entries
+
+-- with this under the key, before the others, of which there may be so many with it
+abbrev pub put_within : ℕ → Key → KeptOf → List (Key × KeptOf) → List (Key × KeptOf)
+put_within most key k entries = option_map_or (λ e. (e.0, k) ∷ remove_entry (same_key key) entries) (lookup_entry (same_key key) entries) ((key, k) ∷ take (most - 1) entries)
+
+abbrev pub put_first : Key → KeptOf → List (Key × KeptOf) → List (Key × KeptOf)
+put_first key k entries = put_within most_known key k entries
+
+-- This is kept of these sources, in their order.
+abbrev pub Holds : List (Key × KeptOf) → List Known → Type 0
+Holds [] [] = Unit {0}
+Holds [] (k ∷ ks) = ⊥
+Holds (e ∷ es) [] = ⊥
+Holds (e ∷ es) (k ∷ ks) = ((e.0 ≡ key_of k.origin) × Keeps e.1 k.story) × Holds es ks
+
+-- what contracts see of an intake: who speaks, the sources that are kept, and how many epochs have begun
+pub record IntakeOf : Type 0 where
+  pub asker : Asker
+  pub entries : List (Key × KeptOf)
+  pub epochs : ℕ

@@ -1,0 +1,94 @@
+-- What is kept of a source, and how it stands to the source's story.
+use Rattle.std.specs.Prelude.{◌≡◌, ℕ, Bool, if◌then◌else◌, List, [], ◌∷◌, ◌++◌, Option, None, Some, is_some, true}
+use Rattle.source_valid.specs.declared.verdict.Verdict.{Verdict}
+use Rattle.source_valid.specs.inner.Kept.{Kept as SourceOf}
+use Rattle.source_valid.specs.Histories.{Step, Number, standing_of, verdict_of}
+use Rattle.source_valid.specs.Represents.{Represents as IsGiven}
+use Rattle.source_valid.specs.Ranges.{IsInRange}
+use Rattle.frame_gate.specs.inner.Kept.{Kept as GateOf, PreparedOf}
+use Rattle.frame_gate.specs.Packets.{NumberedPacket}
+use Rattle.frame_gate.specs.Epochs.{epoch_of}
+use Rattle.frame_gate.specs.Admits.{Represents as Gates, Answers, Commits}
+use Rattle.intake.specs.Stories.{Story, Mark, initialises, arrival}
+
+-- a source, its epoch, and its gate, which it has from the first packet on that comes to it
+pub record KeptOf : Type 0 where
+  pub source : SourceOf
+  pub epoch : ℕ
+  pub gate : Option GateOf
+
+-- the gate was given these packets
+abbrev pub HasGated : Option GateOf → List NumberedPacket → Type 0
+HasGated None packets = packets ≡ []
+HasGated (Some gate) packets = Gates gate packets
+
+-- the source was given this
+abbrev pub HasGiven : Option SourceOf → List Step → Type 0
+HasGiven None given = given ≡ []
+HasGiven (Some source) given = IsGiven source given
+
+-- what is kept of a source with this story
+pub record Keeps (k : KeptOf) (story : Story) : Type 0 where
+  pub given : IsGiven k.source story.given
+  pub epoch : k.epoch ≡ story.epoch
+  pub gated : HasGated k.gate story.gated
+
+-- a source with a packet, and the verdict on it
+pub record JudgedOf : Type 0 where
+  pub source : SourceOf
+  pub verdict : Verdict
+  pub begins : Bool
+
+-- Whatever the source was given, this is the verdict on a packet, and what becomes of the source.
+pub record Judges (source : Option SourceOf) (m : Mark) (j : JudgedOf) : Type 0 where
+  pub range : IsInRange j.verdict
+  pub verdict : (given : List Step) → HasGiven source given → j.verdict ≡ verdict_of (standing_of given) m.seq
+  pub begins : (given : List Step) → HasGiven source given → j.begins ≡ initialises (standing_of given) j.verdict
+  pub given : (given : List Step) → HasGiven source given → IsGiven j.source (given ++ Number m.seq ∷ arrival j.verdict m)
+
+-- a packet that is ready for a gate: a new one, where there was none
+pub record AdmissionOf : Type 0 where
+  pub fresh : Option GateOf
+  pub prepared : PreparedOf
+
+-- the gate that a packet comes to
+abbrev pub base_of : Option GateOf → AdmissionOf → Option GateOf
+base_of gate a = elim a.fresh [ None ↦ gate | Some fresh ↦ Some fresh ]
+
+-- Whatever packets the gate was given: once it is committed, one more is answered, and the gate was given it too.
+pub record Admits (gate : Option GateOf) (p : NumberedPacket) (a : AdmissionOf) : Type 0 where
+  pub ready : is_some (base_of gate a) ≡ true
+  pub after : (packets : List NumberedPacket) (old new : GateOf) → HasGated gate packets → base_of gate a ≡ Some old → Commits old a.prepared new → Answers (epoch_of packets) p a.prepared.answer × Gates new (packets ++ p ∷ [])
+
+-- what was ready was committed
+pub record Settles (old : Option GateOf) (a : AdmissionOf) (new : Option GateOf) : Type 0 where
+  pub base : GateOf
+  pub gate : GateOf
+  pub before : base_of old a ≡ Some base
+  pub commits : Commits base a.prepared gate
+  pub now : new ≡ Some gate
+
+-- what a source is to become: with what it was given, its epoch, whether this begins with the packet, and what is ready for its gate
+pub record NextOf : Type 0 where
+  pub source : SourceOf
+  pub epoch : ℕ
+  pub begins : Bool
+  pub admission : Option AdmissionOf
+
+-- the gate of what is kept; none where an epoch begins
+abbrev pub gate_in : Option KeptOf → Option GateOf
+gate_in None = None
+gate_in (Some k) = k.gate
+
+abbrev pub gate_for : Option KeptOf → Bool → Option GateOf
+gate_for kept begins = if begins then None else gate_in kept
+
+abbrev pub SettlesAll : Option GateOf → Option AdmissionOf → Option GateOf → Type 0
+SettlesAll old None new = new ≡ old
+SettlesAll old (Some a) new = Settles old a new
+
+-- what is kept became what it was to become
+pub record Becomes (old : Option KeptOf) (next : NextOf) (new : KeptOf) : Type 0 where
+  pub source : new.source ≡ next.source
+  pub epoch : new.epoch ≡ next.epoch
+  pub gate : SettlesAll (gate_for old next.begins) next.admission new.gate

@@ -1,0 +1,86 @@
+//! A packet at its source's gate.
+
+ghost use Rattle.std.specs.Prelude.{◌≡◌, ◌≤◌, IfOk, Some, None, true, is_some, option_copied, length};
+ghost use Rattle.frame_gate.specs.Epochs.{most_missing};
+ghost use Rattle.frame_gate.specs.Frame.{highest_pt};
+ghost use Rattle.frame_gate.specs.Packets.{IsExt, numbered};
+ghost use Rattle.intake.specs.inner.Kept.{Admits, Settles, base_of};
+
+use frame_gate::{Admitted, Gate, Packet, Prepared};
+use std::alloc::{AllocError, Allocator, Global};
+use std::marker::Model;
+
+/// A packet that is ready for a gate.
+#[derive(Drop)]
+pub(crate) struct Admission<A: Allocator + Copy = Global> {
+    /// A new gate, where there was none.
+    fresh: Option<Gate<A>>,
+    prepared: Prepared<A>,
+}
+
+impl<A: Allocator + Copy> Model for Admission<A> {
+    ghost use Rattle.intake.specs.inner.Kept.{AdmissionOf};
+
+    ghost Value = { AdmissionOf };
+
+    ghost view = { λ a. record { fresh = a.fresh; prepared = a.prepared } };
+}
+
+impl<A: Allocator + Copy> Admission<A> {
+    /// What the gate will answer.
+    pub(crate) fn answer(&self) -> &Admitted<A>
+        ensures { result.now ≡ self.now.prepared.answer }
+    {
+        self.prepared.answer()
+    }
+}
+
+/// Makes a packet ready for the gate.
+pub(crate) fn admit<A: Allocator + Copy>(
+    alloc: A,
+    gate: Option<&Gate<A>>,
+    ext: i64,
+    packet: Packet<A>,
+) -> Result<Admission<A>, AllocError>
+    requires ext { IsExt ext }
+    requires pt { packet.pt ≤ highest_pt }
+    ensures few { IfOk result (λ a. length a.prepared.answer.nacks ≤ most_missing) }
+    ensures admits { IfOk result (λ a. Admits (option_copied gate.entry) (numbered ext packet) a) }
+{
+    match gate {
+        Some(gate) => {
+            let prepared = gate.prepare(alloc, ext, packet)?;
+            Ok(Admission {
+                fresh: None,
+                prepared,
+            })
+        }
+        None => {
+            let fresh = Gate::new(alloc)?;
+            let prepared = fresh.prepare(alloc, ext, packet)?;
+            Ok(Admission {
+                fresh: Some(fresh),
+                prepared,
+            })
+        }
+    }
+}
+
+/// Commits what is ready.
+pub(crate) fn settle<A: Allocator + Copy>(
+    gate: &mut Option<Gate<A>>,
+    admission: Admission<A>,
+) -> Admitted<A>
+    requires ready { is_some (base_of gate.old admission) ≡ true }
+    ensures answer { result ≡ admission.prepared.answer }
+    ensures settles { Settles gate.old admission gate.new }
+{
+    let Admission { fresh, prepared } = admission;
+    if let Some(fresh) = fresh {
+        *gate = Some(fresh);
+    }
+    match gate {
+        Some(gate) => gate.commit(prepared),
+        None => unreachable!(),
+    }
+}

@@ -1,0 +1,57 @@
+//! What a compound asks the lanes for.
+
+ghost use Rattle.std.specs.Prelude.{◌≡◌, ◌++◌, map, IfOk, OnOk};
+ghost use Rattle.std.specs.List.{flat_map};
+ghost use Rattle.rtcp_codec.specs.View.{packet_of, packets_of};
+ghost use Rattle.intake.specs.Inputs.{input_of};
+ghost use Rattle.intake.specs.Control.{asks};
+
+use crate::item::Item;
+use feedback::numbers_of;
+use rtcp_codec::Rtcp;
+use rtp_codec::Address;
+use std::alloc::{AllocError, Allocator};
+
+/// Appends the item that a packet makes, if it makes one.
+fn put_asked<A: Allocator + Copy>(
+    alloc: A,
+    items: &mut Vec<Item<A>, A>,
+    from: &Address,
+    packet: &Rtcp<A>,
+) -> Result<(), AllocError>
+    ensures { OnOk result (map input_of items.new.items ≡ map input_of items.old.items ++ asks from.now (packet_of packet.now)) }
+{
+    match packet {
+        Rtcp::Nack(nack) => {
+            let numbers = numbers_of(alloc, packet)?;
+            items.push(Item::Nack {
+                from: *from,
+                out_ssrc: nack.media,
+                numbers,
+            })?;
+            Ok(())
+        }
+        Rtcp::Sender(_)
+        | Rtcp::Receiver(_)
+        | Rtcp::Sdes(_)
+        | Rtcp::Bye(_)
+        | Rtcp::App(_)
+        | Rtcp::Pli(_)
+        | Rtcp::Other(_) => Ok(()),
+    }
+}
+
+/// The items that the packets of a compound make, in their order.
+pub(crate) fn asked_items<A: Allocator + Copy>(
+    alloc: A,
+    from: &Address,
+    packets: &[Rtcp<A>],
+) -> Result<Vec<Item<A>, A>, AllocError>
+    ensures { IfOk result (λ items. map input_of items.items ≡ flat_map (asks from.now) (packets_of packets.now)) }
+{
+    let mut items = Vec::new(alloc);
+    for packet in packets {
+        put_asked(alloc, &mut items, from, packet)?;
+    }
+    Ok(items)
+}

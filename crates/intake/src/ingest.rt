@@ -1,0 +1,32 @@
+//! What the intake answers.
+
+ghost use Rattle.std.specs.Prelude.{◌≡◌};
+ghost use Rattle.intake.specs.Ingested.{only, ingested_of};
+
+use crate::item::Item;
+use crate::outcome::Outcome;
+use rtp_codec::Address;
+use std::alloc::{Allocator, Global};
+
+/// What a datagram comes to.
+#[derive(Drop)]
+pub struct Ingest<A: Allocator + Copy = Global> {
+    pub outcome: Outcome,
+    /// The datagrams that are to be sent to these addresses.
+    pub up: Vec<(Address, Vec<u8, A>), A>,
+    /// What each lane is to be given, in this order.
+    pub items: Vec<Item<A>, A>,
+}
+
+impl<A: Allocator + Copy> Ingest<A> {
+    /// Nothing but an outcome.
+    pub(crate) fn only(alloc: A, outcome: Outcome) -> Self
+        ensures { ingested_of result ≡ only outcome }
+    {
+        Self {
+            outcome,
+            up: Vec::new(alloc),
+            items: Vec::new(alloc),
+        }
+    }
+}

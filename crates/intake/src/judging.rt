@@ -1,0 +1,113 @@
+//! A packet, judged by its source.
+
+ghost use Rattle.std.specs.Prelude.{◌≡◌, ◌++◌, List, [], ◌∷◌};
+ghost use Rattle.source_valid.specs.Histories.{Step, standing_of, past_probation_in};
+ghost use Rattle.source_valid.specs.Represents.{Represents};
+ghost use Rattle.source_valid.specs.Ranges.{IsInRange};
+ghost use Rattle.intake.specs.Stories.{units_of, initialises, arrival};
+ghost use Rattle.intake.specs.inner.Kept.{HasGiven, Judges};
+
+use source_valid::{Source, Verdict};
+use std::marker::Model;
+
+/// Nanoseconds in a second.
+const NANOSECONDS: u128 = 1_000_000_000;
+
+/// A source with one more packet, and the verdict on it.
+#[derive(Clone, Copy)]
+pub(crate) struct Judged {
+    pub(crate) source: Source,
+    pub(crate) verdict: Verdict,
+    /// The source is initialised at the packet.
+    pub(crate) begins: bool,
+}
+
+impl Model for Judged {
+    ghost use Rattle.intake.specs.inner.Kept.{JudgedOf};
+
+    ghost Value = { JudgedOf };
+
+    ghost view = { λ j. record { source = j.source; verdict = j.verdict; begins = j.begins } };
+
+    ghost inverse = { λ j. record { source = j.source; verdict = j.verdict; begins = j.begins } };
+}
+
+/// A packet as its source judges it.
+#[derive(Clone, Copy)]
+pub(crate) struct Mark {
+    pub(crate) seq: u16,
+    pub(crate) ts: u32,
+    /// Its arrival in units of the clock rate, modulo 2^32.
+    pub(crate) units: u32,
+}
+
+impl Model for Mark {
+    ghost use Rattle.intake.specs.Stories.{Mark as MarkOf};
+
+    ghost Value = { MarkOf };
+
+    ghost view = { λ m. record { seq = m.seq; ts = m.ts; units = m.units } };
+
+    ghost inverse = { λ m. record { seq = m.seq; ts = m.ts; units = m.units } };
+}
+
+/// A moment, in nanoseconds since 1970, in units of a clock rate in Hz, modulo 2^32.
+pub(crate) fn units_of(rate: u32, moment: u64) -> u32
+    ensures { result ≡ units_of rate moment }
+{
+    (moment as u128 * rate as u128 / NANOSECONDS % (1 << 32)) as u32
+}
+
+/// Whether a source is initialised at a packet with this verdict, where it was past probation before or wasn't.
+fn initialises(was_past: bool, verdict: Verdict) -> bool
+    ensures { (given : List Step) → was_past ≡ past_probation_in (standing_of given) → result ≡ initialises (standing_of given) verdict }
+{
+    match verdict {
+        Verdict::Probation => false,
+        Verdict::Accepted { ext: _ } => !was_past,
+        Verdict::Jump => false,
+        Verdict::Restarted { ext: _ } => true,
+    }
+}
+
+/// The source with the arrival of the packet, if it is accepted.
+fn arrived(source: Source, verdict: Verdict, mark: Mark) -> Source
+    ensures { (given : List Step) → Represents source given → Represents result (given ++ arrival verdict mark) }
+{
+    let mut source = source;
+    match verdict {
+        Verdict::Probation => {}
+        Verdict::Accepted { ext: _ } => source.arrival(mark.ts, mark.units),
+        Verdict::Jump => {}
+        Verdict::Restarted { ext: _ } => source.arrival(mark.ts, mark.units),
+    }
+    source
+}
+
+/// Judges a packet of a source that is known.
+fn judge_known(source: Source, mark: Mark) -> Judged
+    ensures { Judges (Some source) mark result }
+{
+    let was_past = source.past_probation();
+    let mut next = source;
+    let verdict = next.update(mark.seq);
+    Judged {
+        source: arrived(next, verdict, mark),
+        verdict,
+        begins: initialises(was_past, verdict),
+    }
+}
+
+/// Judges a packet. A source that isn't known is on probation with it.
+pub(crate) fn judge(source: Option<Source>, mark: Mark) -> Judged
+    ensures { Judges source mark result }
+{
+    match source {
+        None => Judged {
+            source: Source::first(mark.seq),
+            verdict: Verdict::Probation,
+            begins: false,
+        },
+        Some(source) => judge_known(source, mark),
+    }
+}

@@ -1,0 +1,93 @@
+//! What is kept of a source.
+
+ghost use Rattle.std.specs.Prelude.{◌≡◌, None, Some, true, is_some, IfSome, option_map};
+ghost use Rattle.intake.specs.Stories.{Story};
+ghost use Rattle.intake.specs.Control.{heard_on};
+ghost use Rattle.intake.specs.inner.Kept.{Keeps, base_of, gate_for, SettlesAll, Becomes};
+
+use crate::admitting::{Admission, settle};
+use frame_gate::{Admitted, Gate};
+use source_valid::Source;
+use std::alloc::{Allocator, Global};
+use std::marker::Model;
+
+/// A source, its epoch, and its gate, which it has from the first packet on that comes to it.
+#[derive(Drop)]
+pub(crate) struct Kept<A: Allocator + Copy = Global> {
+    pub(crate) source: Source,
+    pub(crate) epoch: u64,
+    pub(crate) gate: Option<Gate<A>>,
+}
+
+impl<A: Allocator + Copy> Model for Kept<A> {
+    ghost use Rattle.intake.specs.inner.Kept.{KeptOf};
+
+    ghost Value = { KeptOf };
+
+    ghost view = { λ k. record { source = k.source; epoch = k.epoch; gate = k.gate } };
+}
+
+/// What a source is to become.
+#[derive(Drop)]
+pub(crate) struct Next<A: Allocator + Copy = Global> {
+    pub(crate) source: Source,
+    pub(crate) epoch: u64,
+    /// The epoch begins with the packet.
+    pub(crate) begins: bool,
+    /// What is ready for its gate.
+    pub(crate) admission: Option<Admission<A>>,
+}
+
+impl<A: Allocator + Copy> Model for Next<A> {
+    ghost use Rattle.intake.specs.inner.Kept.{NextOf};
+
+    ghost Value = { NextOf };
+
+    ghost view = { λ n. record { source = n.source; epoch = n.epoch; begins = n.begins; admission = n.admission } };
+}
+
+/// Commits what is ready, if anything is.
+fn settle_all<A: Allocator + Copy>(
+    gate: &mut Option<Gate<A>>,
+    admission: Option<Admission<A>>,
+) -> Option<Admitted<A>>
+    requires ready { IfSome admission (λ a. is_some (base_of gate.old a) ≡ true) }
+    ensures answer { result ≡ option_map (λ a. a.prepared.answer) admission }
+    ensures settles { SettlesAll gate.old admission gate.new }
+{
+    match admission {
+        None => None,
+        Some(admission) => Some(settle(gate, admission)),
+    }
+}
+
+impl<A: Allocator + Copy> Kept<A> {
+    /// Becomes what was made ready, without memory, and gives the gate's answer.
+    pub(crate) fn become_next(&mut self, next: Next<A>) -> Option<Admitted<A>>
+        requires ready { IfSome next.admission (λ a. is_some (base_of (gate_for (Some self.old) next.begins) a) ≡ true) }
+        ensures becomes { Becomes (Some self.old) next self.new }
+        ensures answer { result ≡ option_map (λ a. a.prepared.answer) next.admission }
+    {
+        let Next {
+            source,
+            epoch,
+            begins,
+            admission,
+        } = next;
+        self.source = source;
+        self.epoch = epoch;
+        if begins {
+            self.gate = None;
+        }
+        settle_all(&mut self.gate, admission)
+    }
+
+    /// Hears a sender report, past probation.
+    pub(crate) fn hear(&mut self, ntp: u64, moment: u64)
+        ensures { (story : Story) → Keeps self.old story → Keeps self.new (heard_on (record { ntp = ntp; moment = moment }) story) }
+    {
+        if self.source.past_probation() {
+            self.source.sender_report(ntp, moment);
+        }
+    }
+}

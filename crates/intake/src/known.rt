@@ -1,0 +1,153 @@
+//! The sources that are known.
+
+ghost use Rattle.std.specs.Prelude.{◌≡◌, [], IfOk, OnOk, OnErr, IfSome, None, true, is_some, option_copied, option_map};
+ghost use Rattle.std.specs.Prelude.{List};
+ghost use Rattle.rtcp_codec.specs.View.{packet_of, packets_of};
+ghost use Rattle.intake.specs.Sources.{most_known, Known as KnownOf, retold};
+ghost use Rattle.intake.specs.Control.{heard_on, noted, noted_all};
+ghost use Rattle.intake.specs.inner.Kept.{KeptOf, base_of, gate_for, Becomes};
+ghost use Rattle.intake.specs.inner.Holding.{Holds, kept_at, key_of, put_first};
+
+use crate::kept::{Kept, Next};
+use frame_gate::Admitted;
+use lru::LruCache;
+use rtcp_codec::Rtcp;
+use rtp_codec::Address;
+use std::alloc::{AllocError, Allocator, Global};
+use std::hash::{BuildHasherDefault, FoldHasher};
+use std::marker::Model;
+use std::num::NonZeroUsize;
+
+/// How many sources are known at most.
+const MOST_KNOWN: usize = 4_096;
+
+/// Where packets come from: the parts of an address, and an SSRC.
+#[derive(Clone, Copy, PartialEq, Eq, Hash)]
+pub(crate) struct Key {
+    ip: [u8; 4],
+    port: u16,
+    ssrc: u32,
+}
+
+/// The key of an origin.
+pub(crate) fn key_of(address: &Address, ssrc: u32) -> Key
+    ensures { result ≡ key_of (record { address = address.now; ssrc = ssrc }) }
+{
+    Key {
+        ip: address.ip,
+        port: address.port,
+        ssrc,
+    }
+}
+
+type Cache<A> = LruCache<Key, Kept<A>, BuildHasherDefault<FoldHasher>, A>;
+
+/// What is kept of the sources that were used last.
+#[derive(Drop)]
+pub(crate) struct Known<A: Allocator + Copy = Global> {
+    cache: Cache<A>,
+}
+
+impl<A: Allocator + Copy> Model for Known<A> {
+    ghost use Rattle.std.specs.Prelude.{◌≡◌, List};
+    ghost use Rattle.intake.specs.Sources.{most_known};
+    ghost use Rattle.intake.specs.declared.known.Key.{Key as KeyOf};
+    ghost use Rattle.intake.specs.inner.Kept.{KeptOf};
+
+    ghost Value = { List (KeyOf × KeptOf) };
+
+    ghost view = { λ k. k.cache.entries };
+
+    ghost invariant = { λ k. k.cache.cap ≡ most_known };
+}
+
+impl<A: Allocator + Copy> Known<A> {
+    /// No source is known. All room is made for which there is a bound.
+    pub(crate) fn new(alloc: A) -> Result<Self, AllocError>
+        ensures { IfOk result (λ known. known ≡ []) }
+    {
+        let Some(most) = NonZeroUsize::new(MOST_KNOWN) else {
+            unreachable!()
+        };
+        let cache = LruCache::new(alloc, most)?;
+        Ok(Self { cache })
+    }
+
+    /// What is kept under a key.
+    pub(crate) fn at(&self, key: &Key) -> Option<&Kept<A>>
+        ensures { option_copied result ≡ kept_at key.now self.now }
+    {
+        self.cache.peek(key)
+    }
+
+    /// Keeps a source that isn't known.
+    fn begin(&mut self, key: Key, next: Next<A>) -> Result<Option<Admitted<A>>, AllocError>
+        requires new { kept_at key self.old ≡ None }
+        requires ready { IfSome next.admission (λ a. is_some (base_of (gate_for None next.begins) a) ≡ true) }
+        ensures becomes { OnOk result ((k : KeptOf) × Becomes None next k × (self.new ≡ put_first key k self.old)) }
+        ensures answer { IfOk result (λ answer. answer ≡ option_map (λ a. a.prepared.answer) next.admission) }
+        ensures err { OnErr result (self.new ≡ self.old) }
+    {
+        let mut kept = Kept {
+            source: next.source,
+            epoch: next.epoch,
+            gate: None,
+        };
+        let answer = kept.become_next(next);
+        self.cache.put(key, kept)?;
+        Ok(answer)
+    }
+
+    /// Keeps a source as what it is to become, before the others. Only one that isn't known takes memory.
+    pub(crate) fn keep(
+        &mut self,
+        key: Key,
+        next: Next<A>,
+    ) -> Result<Option<Admitted<A>>, AllocError>
+        requires ready { IfSome next.admission (λ a. is_some (base_of (gate_for (kept_at key self.old) next.begins) a) ≡ true) }
+        ensures becomes { OnOk result ((k : KeptOf) × Becomes (kept_at key self.old) next k × (self.new ≡ put_first key k self.old)) }
+        ensures answer { IfOk result (λ answer. answer ≡ option_map (λ a. a.prepared.answer) next.admission) }
+        ensures err { OnErr result (self.new ≡ self.old) }
+    {
+        match self.cache.get_mut(&key) {
+            Some(kept) => Ok(kept.become_next(next)),
+            None => self.begin(key, next),
+        }
+    }
+
+    /// Notes a sender report at its source, if that is known and past probation. The order of use stays.
+    fn note(&mut self, from: &Address, ssrc: u32, ntp: u64, moment: u64)
+        ensures { (known : List KnownOf) → Holds self.old known → Holds self.new (retold (record { address = from.now; ssrc = ssrc }) (heard_on (record { ntp = ntp; moment = moment })) known) }
+    {
+        let key = key_of(from, ssrc);
+        match self.cache.peek_mut(&key) {
+            Some(kept) => kept.hear(ntp, moment),
+            None => {}
+        }
+    }
+
+    /// Notes a packet that is a sender report.
+    fn note_one(&mut self, from: &Address, moment: u64, packet: &Rtcp<A>)
+        ensures { (known : List KnownOf) → Holds self.old known → Holds self.new (noted from.now moment known (packet_of packet.now)) }
+    {
+        match packet {
+            Rtcp::Sender(report) => self.note(from, report.ssrc, report.ntp, moment),
+            Rtcp::Receiver(_)
+            | Rtcp::Sdes(_)
+            | Rtcp::Bye(_)
+            | Rtcp::App(_)
+            | Rtcp::Nack(_)
+            | Rtcp::Pli(_)
+            | Rtcp::Other(_) => {}
+        }
+    }
+
+    /// Notes the sender reports of a compound.
+    pub(crate) fn note_all(&mut self, from: &Address, moment: u64, packets: &[Rtcp<A>])
+        ensures { (known : List KnownOf) → Holds self.old known → Holds self.new (noted_all from.now moment known (packets_of packets.now)) }
+    {
+        for packet in packets {
+            self.note_one(from, moment, packet);
+        }
+    }
+}

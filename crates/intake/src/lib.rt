@@ -1,0 +1,21 @@
+//! What comes off the wire: each datagram gets one outcome, and gives what the lanes are to take and what its sender is asked for.
+//!
+//! Begin with [`Intake::new`].
+#![tactic(auto)]
+
+mod admitting;
+mod asking;
+mod ingest;
+mod intake;
+mod item;
+mod judging;
+mod kept;
+mod known;
+mod outcome;
+mod settings;
+
+pub use self::ingest::Ingest;
+pub use self::intake::Intake;
+pub use self::item::Item;
+pub use self::outcome::Outcome;
+pub use self::settings::Settings;
