@@ -1,0 +1,71 @@
+//! What the arguments ask for.
+
+use std::io;
+
+/// What is done again and again.
+#[derive(Clone, Copy)]
+pub enum Case {
+    /// A frame goes to 16 receivers.
+    Frame,
+    /// A frame of a source that no slot has.
+    Nobody,
+    /// A NACK asks for all 512 packets of a full window.
+    Nack,
+    /// The same 512 numbers are looked up in the stream alone.
+    Find,
+    /// The yardstick: as many octets as 16 receivers of a frame get are copied into fresh vectors,
+    /// which are let go together.
+    Copy,
+    /// The yardstick where each vector is kept until 16 windows are full of later ones.
+    Keep,
+}
+
+/// A case, how often it is done, on a desk of how many slots, and with how many packets in a frame.
+#[derive(Clone, Copy)]
+pub struct Order {
+    pub case: Case,
+    pub times: u64,
+    pub slots: u16,
+    pub packets: u16,
+}
+
+/// The case of this name.
+fn case_of(word: &str) -> Option<Case> {
+    match word {
+        "frame" => Some(Case::Frame),
+        "nobody" => Some(Case::Nobody),
+        "nack" => Some(Case::Nack),
+        "find" => Some(Case::Find),
+        "copy" => Some(Case::Copy),
+        "keep" => Some(Case::Keep),
+        _ => None,
+    }
+}
+
+/// The order in these words.
+fn order_of(case: &str, times: &str, slots: &str, packets: &str) -> Option<Order> {
+    Some(Order {
+        case: case_of(case)?,
+        times: times.parse().ok()?,
+        slots: slots.parse().ok()?,
+        packets: packets.parse().ok()?,
+    })
+}
+
+/// The order in the words behind the program's name.
+pub fn asked(
+    case: Option<&str>,
+    times: Option<&str>,
+    slots: Option<&str>,
+    packets: Option<&str>,
+) -> io::Result<Order> {
+    let order = match (case, times, slots, packets) {
+        (Some(case), Some(times), Some(slots), Some(packets)) => {
+            order_of(case, times, slots, packets)
+        }
+        _ => None,
+    };
+    order.ok_or(io::Error::other(
+        "usage: bench frame|nobody|nack|find|copy|keep TIMES SLOTS PACKETS",
+    ))
+}

@@ -1,0 +1,111 @@
+//! The cases.
+
+use crate::asking::{Case, Order};
+use crate::copying::{copied, kept};
+use crate::items::{SEEN, UNSEEN, address_of, frame_of, nack_of};
+use crate::room::{RECEIVERS, core_with, last_owner};
+use crate::tally::Tally;
+use bridge_core::{Core, Egress, Item};
+use forward_rewrite::{Owner, Stamp, Stream};
+use std::alloc::{AllocError, Global};
+use std::io;
+
+/// The packets that a full window has.
+const WINDOW: u16 = 512;
+
+/// Does what is ordered.
+pub fn driven(alloc: Global, order: &Order) -> io::Result<Tally> {
+    let copies = usize::from(RECEIVERS) * usize::from(order.packets);
+    match order.case {
+        Case::Frame => frames(alloc, order, SEEN),
+        Case::Nobody => frames(alloc, order, UNSEEN),
+        Case::Nack => nacks(alloc, order),
+        Case::Find => Ok(finds(alloc, order)?),
+        Case::Copy => Ok(copied(alloc, order.times, copies)?),
+        Case::Keep => Ok(kept(alloc, order.times, copies)?),
+    }
+}
+
+/// Gives an item to the lane so often, and counts what goes out.
+fn drive(alloc: Global, core: &mut Core, item: &Item, times: u64) -> io::Result<Tally> {
+    let mut tally = Tally::new();
+    for _time in 0..times {
+        give(alloc, core, item, &mut tally)?;
+    }
+    Ok(tally)
+}
+
+/// Gives an item to the lane, and counts what goes out.
+fn give(alloc: Global, core: &mut Core, item: &Item, tally: &mut Tally) -> io::Result<()> {
+    if core.lanes() == 0 {
+        return Err(io::Error::other("there is no lane"));
+    }
+    let Ok(sent) = core.item(alloc, 0, item) else {
+        return Err(io::Error::other("an item is refused"));
+    };
+    for egress in &sent {
+        let Egress::Media { bytes, .. } = egress;
+        tally.count(bytes.len());
+    }
+    Ok(())
+}
+
+/// Frames of a source.
+fn frames(alloc: Global, order: &Order, source: u32) -> io::Result<Tally> {
+    let mut core = core_with(alloc, order.slots)?;
+    let frame = Item::Frame(frame_of(alloc, source, order.packets)?);
+    drive(alloc, &mut core, &frame, order.times)
+}
+
+/// NACKs of the last receiver for all that its stream's full window has.
+fn nacks(alloc: Global, order: &Order) -> io::Result<Tally> {
+    let mut core = core_with(alloc, order.slots)?;
+    let frame = Item::Frame(frame_of(alloc, SEEN, 1)?);
+    let _filled = drive(alloc, &mut core, &frame, u64::from(WINDOW))?;
+    let (member, stream) = last_owner(order.slots);
+    let nack = nack_of(member, stream, numbers(alloc)?);
+    drive(alloc, &mut core, &nack, order.times)
+}
+
+/// The numbers of a full window whose first one is 0.
+fn numbers(alloc: Global) -> Result<Vec<u16>, AllocError> {
+    (0..WINDOW).collect(alloc)
+}
+
+/// A stream whose window is full, and to whom all of it went.
+fn full_stream(alloc: Global) -> io::Result<(Stream, Owner)> {
+    let owner = Owner {
+        member: 1,
+        address: address_of(1),
+    };
+    let stamp = Stamp {
+        version: 1,
+        item: 1,
+    };
+    let frame = frame_of(alloc, SEEN, 1)?;
+    let mut stream = Stream::new(alloc, 1, 0, 0)?;
+    for _packet in 0..WINDOW {
+        let _sent = stream.send(alloc, &frame, stamp, owner)?;
+    }
+    Ok((stream, owner))
+}
+
+/// Looks each number up in the stream.
+fn find_all(stream: &Stream, owner: &Owner, numbers: &[u16], tally: &mut Tally) {
+    for number in numbers {
+        if let Some(entry) = stream.find(*number, owner) {
+            tally.count(entry.bytes.len());
+        }
+    }
+}
+
+/// Looks up all that a full window has, so often.
+fn finds(alloc: Global, order: &Order) -> io::Result<Tally> {
+    let (stream, owner) = full_stream(alloc)?;
+    let numbers = numbers(alloc)?;
+    let mut tally = Tally::new();
+    for _time in 0..order.times {
+        find_all(&stream, &owner, &numbers, &mut tally);
+    }
+    Ok(tally)
+}

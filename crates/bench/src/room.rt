@@ -1,0 +1,138 @@
+//! The desk that frames are sent by: one room, whose member 0 sends and whose others have slots.
+
+ghost use Rattle.std.specs.Prelude.{◌<◌};
+
+use crate::items::{ELSEWHERE, SEEN, UNSEEN, address_of};
+use bridge_core::{Core, Reply, Settings};
+use bytes::Bytes;
+use desk_edit::{Call, Command};
+use desk_rows::{Codec, Media, Member, Room, Slot, Source, Sub};
+use std::alloc::Global;
+use std::io;
+
+/// The most members that have slots.
+const MEMBERS: u16 = 1_023;
+
+/// How many slots have the source that is seen.
+pub const RECEIVERS: u16 = 16;
+
+/// The stream of the first slot.
+const FIRST_STREAM: u32 = 300_000;
+
+/// A slot's member, and its index there.
+#[derive(Clone, Copy)]
+struct Place {
+    member: u16,
+    index: u16,
+}
+
+/// How many members have slots, where there are so many slots.
+fn members(slots: u16) -> u16
+    ensures { 0 < result }
+{
+    slots.clamp(1, MEMBERS)
+}
+
+/// The place of a slot: each member has one before one has two.
+fn place_of(slots: u16, slot: u16) -> Place {
+    let members = members(slots);
+    Place {
+        member: (slot % members).saturating_add(1),
+        index: slot / members,
+    }
+}
+
+/// The last slot that has the source that is seen. It is the last member's first one.
+fn last_receiver(slots: u16) -> u16 {
+    members(slots).saturating_sub(1)
+}
+
+/// The member that has the last receiving slot, and the slot's stream.
+pub fn last_owner(slots: u16) -> (u16, u32) {
+    let slot = last_receiver(slots);
+    (place_of(slots, slot).member, stream_of(slot))
+}
+
+/// The stream of a slot.
+fn stream_of(slot: u16) -> u32 {
+    FIRST_STREAM + u32::from(slot)
+}
+
+/// The source that a slot has: the first slots of the last members have the one that is seen.
+fn source_of(slots: u16, slot: u16) -> u32 {
+    let behind = members(slots).saturating_sub(slot);
+    if 0 < behind && behind <= RECEIVERS {
+        SEEN
+    } else {
+        ELSEWHERE
+    }
+}
+
+/// Carries out a command.
+fn call(alloc: Global, core: &mut Core, command: Command) -> io::Result<()> {
+    match core.desk(alloc, 0, Call::Apply(command)) {
+        Reply::Accepted { .. } => Ok(()),
+        Reply::Refused { .. } => Err(io::Error::other("the desk refuses a command")),
+    }
+}
+
+fn add_member(alloc: Global, core: &mut Core, member: u16) -> io::Result<()> {
+    let row = Member {
+        member: u32::from(member),
+        room: 1,
+        address: address_of(member),
+        codec: Codec::Pcmu,
+        out_audio: 100_000 + u32::from(member),
+        first_seq: 0,
+        first_ts: 0,
+    };
+    call(alloc, core, Command::AddMember(row))
+}
+
+fn add_source(alloc: Global, core: &mut Core, ssrc: u32) -> io::Result<()> {
+    let row = Source {
+        ssrc,
+        member: 0,
+        media: Media::Video,
+    };
+    call(alloc, core, Command::AddSource(row))
+}
+
+/// Adds a slot with its subscription.
+fn add_slot(alloc: Global, core: &mut Core, slots: u16, slot: u16) -> io::Result<()> {
+    let place = place_of(slots, slot);
+    let out_ssrc = stream_of(slot);
+    let row = Slot {
+        out_ssrc,
+        member: u32::from(place.member),
+        index: u32::from(place.index),
+        first_seq: 0,
+        first_ts: 0,
+    };
+    call(alloc, core, Command::AddSlot(row))?;
+    let source = source_of(slots, slot);
+    call(alloc, core, Command::Subscribe(Sub { out_ssrc, source }))
+}
+
+/// A bridge with one lane and this many slots, of which 16 have the source that is seen, all others
+/// another one, and none the one that is not seen.
+pub fn core_with(alloc: Global, slots: u16) -> io::Result<Core> {
+    let settings = Settings {
+        bridge_ssrc: 1,
+        cname: Bytes::copy_from_slice(alloc, b"bridge")?,
+    };
+    let Ok(mut core) = Core::new(alloc, 1, settings) else {
+        return Err(io::Error::other("no core is made"));
+    };
+    call(alloc, &mut core, Command::AddRoom(Room { room: 1 }))?;
+    for member in 0..members(slots).saturating_add(1) {
+        add_member(alloc, &mut core, member)?;
+    }
+    for source in [SEEN, ELSEWHERE, UNSEEN] {
+        add_source(alloc, &mut core, source)?;
+    }
+    for slot in 0..slots {
+        add_slot(alloc, &mut core, slots, slot)?;
+    }
+    Ok(core)
+}
