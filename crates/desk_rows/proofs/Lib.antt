@@ -15,3 +15,4 @@ pub mod OverlayLemmas
 pub mod SlidingLemmas
 pub mod GroupLemmas
 pub mod NamingLemmas
+pub mod AddressLemmas

@@ -1,6 +1,8 @@
 -- The desk, and what makes it good.
 use Rattle.std.specs.Prelude.{ℕ, Bool, true, false, ◌&&◌, not, List, [], ◌∷◌, ◌++◌, map, filter, count_by, nat_eq, nat_le, Option, None, Some}
 use Rattle.std.specs.List.{find, list_any, list_all}
+use Rattle.rtp_codec.specs.declared.address.Address.{Address}
+use Rattle.rtp_codec.specs.Address.{same_address}
 use Rattle.desk_rows.specs.declared.row.Member.{Member}
 use Rattle.desk_rows.specs.declared.row.Row.{Row}
 use Rattle.desk_rows.specs.declared.row.Row.TheVariants as rows
@@ -52,6 +54,10 @@ count_of kind d = count_by (is_of kind) (rows_of d)
 -- the numbers of a room's members in joining order
 abbrev pub roster : Desk → ℕ → List ℕ
 roster d room = map (λ m. m.member) (filter (λ m. nat_eq m.room room) d.members)
+
+-- the member at this address, the first in joining order
+abbrev pub member_at_address : Desk → Address → Option Member
+member_at_address d address = find (λ m. same_address m.address address) d.members
 
 -- ---- what makes a desk good
 

@@ -5,3 +5,4 @@ pub mod Listed
 pub mod Found
 pub mod Parting
 pub mod Grouped
+pub mod Addressed

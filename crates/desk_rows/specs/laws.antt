@@ -5,3 +5,4 @@ pub mod OrderLaws
 pub mod Laws
 pub mod NamingLaws
 pub mod PlacesOnce
+pub mod AddressesOnce

@@ -1,6 +1,7 @@
 //! The rows of a desk, and edits of them that can be taken back.
 #![tactic(auto)]
 
+mod addressing;
 mod changes;
 mod claim;
 mod counting;

@@ -10,11 +10,12 @@ ghost use Rattle.desk_rows.specs.Naming.{subs_naming, slots_naming};
 ghost use Rattle.desk_rows.specs.Order.{in_order, is_in};
 ghost use Rattle.desk_rows.specs.inner.Index.{IsIndex};
 ghost use Rattle.desk_rows.specs.Places.{place_in};
-ghost use Rattle.desk_rows.specs.Desk.{blank, good, holds, row_at, rows_of_kind, count_of, roster};
+ghost use Rattle.desk_rows.specs.Desk.{blank, good, holds, row_at, rows_of_kind, count_of, roster, member_at_address};
 ghost use Rattle.desk_rows.specs.Edit.{inverse};
 ghost use Rattle.desk_rows.specs.Exchange.{fits, after};
 ghost use Rattle.desk_rows.specs.laws.Laws.{inverse_fits, undoes, stays};
 
+use crate::addressing::find_at;
 use crate::edit::Edit;
 use crate::exchange::{exchange_members, exchange_rows, fits};
 use crate::grouping::{follow, group_of};
@@ -23,6 +24,7 @@ use crate::limits::{MAX_MEMBERS, MAX_OTHERS, MAX_SLOTS};
 use crate::looking::Look;
 use crate::ordering::{contains, find_row, rows_of_kind};
 use crate::row::{Key, Kind, Member, Row, Slot, Sub};
+use rtp_codec::Address;
 use std::alloc::{AllocError, Allocator, Global};
 use std::marker::Model;
 use undo_log::Reversible;
@@ -44,6 +46,8 @@ pub struct Rows<A: Allocator + Copy = Global> {
     subs: Vec<Sub, A>,
     /// The slots once more, by their members.
     slots: Vec<Slot, A>,
+    /// The members once more, by their addresses.
+    by_address: Vec<Member, A>,
 }
 
 impl<A: Allocator + Copy> Model for Rows<A> {
@@ -54,6 +58,7 @@ impl<A: Allocator + Copy> Model for Rows<A> {
     ghost use Rattle.desk_rows.specs.inner.Listed.{desk_of};
     ghost use Rattle.desk_rows.specs.inner.Index.{IsIndex};
     ghost use Rattle.desk_rows.specs.inner.Grouped.{IsTableOf};
+    ghost use Rattle.desk_rows.specs.inner.Addressed.{IsByAddress};
 
     ghost Value = { Desk };
 
@@ -69,7 +74,9 @@ impl<A: Allocator + Copy> Model for Rows<A> {
         × IsTableOf sub_in (λ s. s.source) (λ s. s.out_ssrc) r.others.items r.subs.items
         × (MAX_SLOTS ≤ vec_capacity r.subs)
         × IsTableOf slot_in (λ s. s.member) (λ s. s.index) r.others.items r.slots.items
-        × (MAX_SLOTS ≤ vec_capacity r.slots) };
+        × (MAX_SLOTS ≤ vec_capacity r.slots)
+        × IsByAddress r.members.items r.by_address.items
+        × (MAX_MEMBERS ≤ vec_capacity r.by_address) };
 }
 
 impl<A: Allocator + Copy> Rows<A> {
@@ -85,6 +92,7 @@ impl<A: Allocator + Copy> Rows<A> {
             spare: Vec::with_capacity(alloc, MAX_OTHERS)?,
             subs: Vec::with_capacity(alloc, MAX_SLOTS)?,
             slots: Vec::with_capacity(alloc, MAX_SLOTS)?,
+            by_address: Vec::with_capacity(alloc, MAX_MEMBERS)?,
         })
     }
 
@@ -100,6 +108,7 @@ impl<A: Allocator + Copy> Rows<A> {
             spare: Vec::with_capacity(alloc, MAX_OTHERS)?,
             subs: copied(alloc, &self.subs, MAX_SLOTS)?,
             slots: copied(alloc, &self.slots, MAX_SLOTS)?,
+            by_address: copied(alloc, &self.by_address, MAX_MEMBERS)?,
         })
     }
 
@@ -153,6 +162,13 @@ impl<A: Allocator + Copy> Rows<A> {
             None => None,
             Some(entry) => Some(entry.place),
         }
+    }
+
+    /// The member at this address.
+    pub fn member_at_address(&self, address: &Address) -> Option<Member>
+        ensures { result ≡ member_at_address self.now address.now }
+    {
+        find_at(&self.by_address, address)
     }
 
     /// How many rows of the kind there are.
@@ -327,7 +343,12 @@ impl<A: Allocator + Copy> Reversible for Rows<A> {
     }
 
     fn absorb_fitting(&mut self, edit: &Edit<A>) {
-        exchange_members(&mut self.members, &mut self.index, edit);
+        exchange_members(
+            &mut self.members,
+            &mut self.index,
+            &mut self.by_address,
+            edit,
+        );
         exchange_rows(&mut self.others, &mut self.spare, edit);
         follow(&mut self.subs, &self.others, edit);
         follow(&mut self.slots, &self.others, edit);

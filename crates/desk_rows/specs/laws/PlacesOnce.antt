@@ -29,7 +29,7 @@ abbrev pub at_place : ℕ → ℕ → List SlotRow → List SlotRow
 at_place member index slots = filter (of_index index) (filter (of_member member) slots)
 
 -- one that is counted
-counted : (p : Row → Bool) (rs : List Row) → (count_by p rs ≡ 0) ⊎ ((r : Row) × (is_in rs r ≡ true) × (p r ≡ true))
+pub counted : (p : Row → Bool) (rs : List Row) → (count_by p rs ≡ 0) ⊎ ((r : Row) × (is_in rs r ≡ true) × (p r ≡ true))
 counted p [] = inl refl
 counted p (r ∷ rs) = by (p r) refl (counted p rs)
   where

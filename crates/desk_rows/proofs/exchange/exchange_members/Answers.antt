@@ -5,4 +5,4 @@ use Rattle.desk_rows.proofs.exchange.exchange_members.Goals as goal
 
 pub move_members-requires-clause-numbers : goal.move_members-requires-clause-numbers
 move_members-requires-clause-numbers g c =
-    subst Once (λ i. put_at (sym c.put_members.ensures i) (take_at (sym c.taken_members.ensures i) c.args.members.now.items)) c.requires.numbers
+    subst Once (λ i. put_at (sym c.put_members-put.ensures i) (take_at (sym c.taken_members-taken.ensures i) c.args.members.now.items)) c.requires.numbers

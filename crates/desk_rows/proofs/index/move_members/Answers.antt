@@ -13,3 +13,9 @@ index_members-requires-clause-room g c =
     let long = ap length (c.deref.ensures.value ∙ c.put_members.ensures.items ∙ ap (put_at c.args.put.now) c.take_members.ensures.items) in
     let after = length-put_at c.args.put.now _ c.requires.put in
     omega (arith, long, after, c.requires.room.1)
+
+pub list_by_address-requires : goal.list_by_address-requires
+list_by_address-requires g c =
+    let long = ap length (c.deref-2.ensures.value ∙ c.put_members.ensures.items ∙ ap (put_at c.args.put.now) c.take_members.ensures.items) in
+    let after = length-put_at c.args.put.now _ c.requires.put in
+    omega (arith, long, after, c.requires.room.2)
