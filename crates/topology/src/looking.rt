@@ -136,8 +136,5 @@ pub fn source_from<A: Allocator + Copy>(
 pub fn member_from<A: Allocator + Copy>(rows: &Rows<A>, address: &Address) -> Option<u32>
     ensures { result ≡ member_from rows.now address.now }
 {
-    rows.members()
-        .iter()
-        .find(|member| member.address == *address)
-        .map(|member| member.member)
+    rows.member_at_address(address).map(|member| member.member)
 }
