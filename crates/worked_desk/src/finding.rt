@@ -8,6 +8,7 @@ ghost use Rattle.worked_desk.specs.TwoRooms.{two_rooms, ten, eleven, twelve, eig
 ghost use Rattle.worked_desk.specs.FullDesks.{of_members};
 
 use desk_rows::{Key, Kind, Member, Row, Rows, Slot, Sub};
+use rtp_codec::Address;
 use std::alloc::{AllocError, Global};
 
 /// A desk begins without rows.
@@ -153,6 +154,17 @@ pub fn place_of(rows: &Rows, member: u32) -> Option<usize>
     ensures none { member ≡ 13 → result ≡ None }
 {
     rows.place_of(member)
+}
+
+/// A member is found at its address alone, port and all.
+pub fn member_at_address(rows: &Rows, address: &Address) -> Option<Member>
+    requires { rows.now ≡ two_rooms }
+    ensures first { address.now ≡ ten.address → result ≡ Some ten }
+    ensures last { address.now ≡ twelve.address → result ≡ Some twelve }
+    ensures other_port { address.now ≡ record ten.address { port = 5003 } → result ≡ None }
+    ensures other_ip { address.now ≡ record ten.address { ip = 10 ∷ 0 ∷ 1 ∷ 0 ∷ [] } → result ≡ None }
+{
+    rows.member_at_address(address)
 }
 
 /// The subscriptions of a source are those that name it.
