@@ -15,7 +15,7 @@ use Rattle.desk_rows.specs.declared.row.Row.{Row}
 use Rattle.desk_rows.specs.declared.row.Row.TheVariants as rows
 use Rattle.desk_rows.specs.Row.{same_row}
 use Rattle.desk_rows.specs.Desk.{Desk, good, member_at_address}
-use Rattle.desk_rows.specs.inner.Addressed.{address_of, compare, IsByAddress}
+use Rattle.desk_rows.specs.inner.Addressed.{ip_and_port, address_cmp, IsByAddress}
 use Rattle.desk_rows.specs.laws.Equal.{row_itself, same_row_is}
 use Rattle.desk_rows.specs.laws.PlaceLaws.{count_next}
 use Rattle.desk_rows.specs.laws.AddressesOnce.{one_at_address}
@@ -23,26 +23,26 @@ use Rattle.desk_rows.proofs.Counts.{any_count}
 
 -- ---- the order of addresses
 
-pub compare_total : IsTotalOrder compare
-compare_total = then_total (on_total (λ a. a.0) nat_list_cmp_total) (on_total (λ a. a.1) nat_cmp_total)
+pub address_cmp_total : IsTotalOrder address_cmp
+address_cmp_total = then_total (on_total (λ a. a.0) nat_list_cmp_total) (on_total (λ a. a.1) nat_cmp_total)
 
 -- addresses that compare as equal are one
-pub tied : (a b : Address) → same_address a b ≡ is_eq (compare (a.ip, a.port) (b.ip, b.port))
+pub tied : (a b : Address) → same_address a b ≡ is_eq (address_cmp (a.ip, a.port) (b.ip, b.port))
 tied a b = both_tied _ _ (slice_cmp nat_cmp a.ip b.ip) (nat_cmp a.port b.port) (lists_ties nat_cmp unsigned_ties a.ip b.ip) (unsigned_ties a.port b.port)
 
-same_where_tied : (m : Member) (a : Address) → compare (address_of m) (a.ip, a.port) ≡ Equal → same_address m.address a ≡ true
+same_where_tied : (m : Member) (a : Address) → address_cmp (ip_and_port m) (a.ip, a.port) ≡ Equal → same_address m.address a ≡ true
 same_where_tied m a e = tied m.address a ∙ ap is_eq e
 
-other_below : (m : Member) (a : Address) → compare (address_of m) (a.ip, a.port) ≡ Less → same_address m.address a ≡ false
+other_below : (m : Member) (a : Address) → address_cmp (ip_and_port m) (a.ip, a.port) ≡ Less → same_address m.address a ≡ false
 other_below m a e = tied m.address a ∙ ap is_eq e
 
-other_above : (m : Member) (a : Address) → compare (address_of m) (a.ip, a.port) ≡ Greater → same_address m.address a ≡ false
+other_above : (m : Member) (a : Address) → address_cmp (ip_and_port m) (a.ip, a.port) ≡ Greater → same_address m.address a ≡ false
 other_above m a e = tied m.address a ∙ ap is_eq e
 
 -- ---- what halving finds
 
 -- the element at the place has the address
-pub here : (a : Address) (xs : List Member) (i : ℕ) → HoldsAt (λ m. compare (address_of m) (a.ip, a.port) ≡ Equal) xs i → (d : Member) → same_address (get_or xs i d).address a ≡ true
+pub here : (a : Address) (xs : List Member) (i : ℕ) → HoldsAt (λ m. address_cmp (ip_and_port m) (a.ip, a.port) ≡ Equal) xs i → (d : Member) → same_address (get_or xs i d).address a ≡ true
 here a xs i h d = same_where_tied (get_or xs i d) a (h d)
 
 no_one : (p : Member → Bool) (xs : List Member) → ((k : ℕ) (d : Member) → k < length xs → p (get_or xs k d) ≡ false) → list_any p xs ≡ false
@@ -50,7 +50,7 @@ no_one p [] h = refl
 no_one p (x ∷ xs) h = (λ i. h zero x (omega arith) i || no_one p xs (λ k d l. h (suc k) d (omega arith)) i)
 
 -- where the table has lower addresses and then higher ones, none is the one
-pub nowhere : (a : Address) (xs : List Member) (i : ℕ) → IsPartitionPoint (λ m. compare (address_of m) (a.ip, a.port) ≡ Less) (λ m. compare (address_of m) (a.ip, a.port) ≡ Greater) xs i
+pub nowhere : (a : Address) (xs : List Member) (i : ℕ) → IsPartitionPoint (λ m. address_cmp (ip_and_port m) (a.ip, a.port) ≡ Less) (λ m. address_cmp (ip_and_port m) (a.ip, a.port) ≡ Greater) xs i
     → list_any (λ m. same_address m.address a) xs ≡ false
 nowhere a xs i h = no_one (λ m. same_address m.address a) xs (λ k d l. by (nat_lt k i) k refl d l)
   where
