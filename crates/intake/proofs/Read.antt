@@ -1,5 +1,5 @@
 -- Octets are one thing.
-use Rattle.std.proofs.Common.{◌≡◌, ℕ, ◌<◌, List, length, None, Some, refl, sym, ap, subst, ◌∙◌, arith}
+use Rattle.std.proofs.Common.{◌≡◌, ℕ, ◌<◌, List, length, None, Some, true, refl, sym, ap, subst, ◌∙◌, arith}
 use Rattle.rtp_codec.specs.declared.class.Class.{Class}
 use Rattle.rtp_codec.specs.declared.class.Class.TheVariants as classes
 use Rattle.rtp_codec.specs.declared.fault.RtpFault.{RtpFault}
@@ -8,6 +8,9 @@ use Rattle.rtp_codec.specs.Packet.{Packet as RtpPacket, IsPacket}
 use Rattle.rtcp_codec.specs.declared.fault.RtcpFault.{RtcpFault}
 use Rattle.rtcp_codec.specs.Compound.{IsCompound, HasFault}
 use Rattle.rtcp_codec.specs.Packet.{Packet as RtcpPacket}
+use Rattle.rtp_codec.proofs.PacketLemmas.{packet_has_no_fault, one_packet}
+use Rattle.rtcp_codec.proofs.Compounds.{compound_reads, compound_has_no_fault, one_fault}
+use Rattle.rtcp_codec.proofs.Unique.{same_reading}
 use Rattle.intake.specs.declared.outcome.Outcome.{Outcome}
 use Rattle.intake.specs.Readings.{Reading, too_long, neither, no_packet, packet, no_compound, compound, most_octets, IsOf, IsReading}
 use Rattle.intake.specs.Sources.{Sources}
@@ -84,3 +87,15 @@ alone_compound octets ps of none same (no_packet g) is = apart _ _ _ is.0.its_cl
 alone_compound octets ps of none same (packet p) is = apart _ _ _ is.0.its_class of.its_class rtp_rtcp
 alone_compound octets ps of none same (no_compound g) is = absurd (none g is.1)
 alone_compound octets ps of none same (compound qs) is = ap compound (same qs is.1)
+
+one_compound : (octets : List ℕ) (ps qs : List RtcpPacket) → IsCompound ps octets → IsCompound qs octets → qs ≡ ps
+one_compound octets ps qs h k = (same_reading true qs ps None None octets (compound_reads qs octets k) (compound_reads ps octets h)).0
+
+-- whatever the octets are, they are nothing else
+pub one_reading : (octets : List ℕ) (r s : Reading) → IsReading octets r → IsReading octets s → r ≡ s
+one_reading octets r too_long is other = alone_too_long octets other r is
+one_reading octets r neither is other = alone_neither octets other r is
+one_reading octets r (no_packet f) is other = alone_no_packet octets f other.0 other.1 (λ p k. let both = sym (packet_has_no_fault p octets k) ∙ other.1 in cc) r is
+one_reading octets r (packet p) is other = alone_packet octets p other.0 (packet_has_no_fault p octets other.1) (λ q k. one_packet p q octets other.1 k) r is
+one_reading octets r (no_compound f) is other = alone_no_compound octets f other.0 (λ g h. one_fault g f octets h other.1) (λ ps k. compound_has_no_fault ps f octets k other.1) r is
+one_reading octets r (compound ps) is other = alone_compound octets ps other.0 (λ f h. compound_has_no_fault ps f octets other.1 h) (λ qs k. one_compound octets ps qs other.1 k) r is

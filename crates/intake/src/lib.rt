@@ -11,11 +11,13 @@ mod item;
 mod judging;
 mod kept;
 mod known;
+mod laws;
 mod outcome;
 mod settings;
 
 pub use self::ingest::Ingest;
 pub use self::intake::Intake;
 pub use self::item::Item;
+pub use self::laws::readings_agree;
 pub use self::outcome::Outcome;
 pub use self::settings::Settings;
