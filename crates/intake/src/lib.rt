@@ -4,7 +4,10 @@
 #![tactic(auto)]
 
 mod admitting;
+mod advancing;
 mod asking;
+mod control;
+mod gating;
 mod ingest;
 mod intake;
 mod item;
@@ -12,8 +15,10 @@ mod judging;
 mod kept;
 mod known;
 mod laws;
+mod media;
 mod outcome;
 mod settings;
+mod upward;
 
 pub use self::ingest::Ingest;
 pub use self::intake::Intake;

@@ -3,7 +3,7 @@ use Rattle.std.proofs.Common.{◌≡◌, ◌+◌, ◌≤◌, ◌++◌, length, m
 use Rattle.std.specs.Vec.Iter.{into_iter_items}
 use Rattle.intake.specs.Inputs.{input_of}
 use Rattle.intake.specs.Taking.{frames_from}
-use Rattle.intake.proofs.intake.put_frames.Given as goal
+use Rattle.intake.proofs.gating.put_frames.Given as goal
 
 abbrev pub invariant-loop-frame : goal.invariant-loop-frame
 invariant-loop-frame g l =

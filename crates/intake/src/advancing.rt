@@ -1,0 +1,143 @@
+//! A source with a judged packet.
+
+ghost use Rattle.std.specs.Prelude.{◌≡◌, ◌+◌, ◌&&◌, true, false, nat_eq, if◌then◌else◌, IfOk, OnOk, OnErr, IfSome, is_some, option_map, option_copied, None};
+ghost use Rattle.intake.specs.Ingested.{ingested_of, only};
+ghost use Rattle.intake.specs.Media.{told};
+ghost use Rattle.intake.specs.Taking.{most_epochs};
+ghost use Rattle.intake.specs.inner.Kept.{Judges, base_of, gate_for};
+ghost use Rattle.intake.specs.inner.Holding.{kept_at};
+ghost use Rattle.intake.specs.inner.Moves.{source_in, epoch_in, next_of, IsKept, Advances};
+
+use crate::admitting::Admission;
+use crate::ingest::Ingest;
+use crate::intake::Intake;
+use crate::judging::{Judged, Mark, judge};
+use crate::kept::{Kept, Next};
+use crate::known::Key;
+use crate::outcome::Outcome;
+use frame_gate::Admitted;
+use source_valid::{Source, Verdict};
+use std::alloc::{AllocError, Allocator};
+
+/// A source of what is kept.
+fn source_in<A: Allocator + Copy>(kept: Option<&Kept<A>>) -> Option<Source>
+    ensures { result ≡ source_in (option_copied kept.entry) }
+{
+    match kept {
+        None => None,
+        Some(kept) => Some(kept.source),
+    }
+}
+
+/// The outcome of a verdict.
+fn told(verdict: Verdict) -> Outcome
+    ensures { result ≡ told verdict }
+{
+    match verdict {
+        Verdict::Probation => Outcome::Probation,
+        Verdict::Accepted { ext } => Outcome::Accepted { ext },
+        Verdict::Jump => Outcome::Jump,
+        Verdict::Restarted { ext } => Outcome::Restarted { ext },
+    }
+}
+
+/// How many epochs have begun, with one that begins or without.
+fn counted(epochs: u64, begins: bool) -> u64
+    requires { (begins && nat_eq epochs most_epochs) ≡ false }
+    ensures { result ≡ (if begins then epochs + 1 else epochs) }
+{
+    if begins { epochs + 1 } else { epochs }
+}
+
+impl<A: Allocator + Copy> Intake<A> {
+    /// A packet, judged by its source.
+    pub(crate) fn judged(&self, key: &Key, mark: Mark) -> Judged
+        ensures { Judges (source_in (kept_at key.now self.now.entries)) mark result }
+    {
+        judge(source_in(self.known.at(key)), mark)
+    }
+
+    /// Whether the packet would begin an epoch, and none is left.
+    pub(crate) fn is_spent(&self, judged: &Judged) -> bool
+        ensures { result ≡ (judged.now.begins && nat_eq self.now.epochs most_epochs) }
+    {
+        judged.begins && self.epochs == u64::MAX
+    }
+
+    /// The epoch of a source with the packet.
+    pub(crate) fn epoch_for(&self, key: &Key, begins: bool) -> u64
+        requires { (begins && nat_eq self.now.epochs most_epochs) ≡ false }
+        ensures { result ≡ (if begins then self.now.epochs + 1 else epoch_in (kept_at key.now self.now.entries)) }
+    {
+        if begins {
+            return self.epochs + 1;
+        }
+        match self.known.at(key) {
+            None => 0,
+            Some(kept) => kept.epoch,
+        }
+    }
+
+    /// What a source is to become with a judged packet.
+    fn next_for(&self, key: &Key, judged: &Judged, admission: Option<Admission<A>>) -> Next<A>
+        requires { (judged.now.begins && nat_eq self.now.epochs most_epochs) ≡ false }
+        ensures { result ≡ next_of (kept_at key.now self.now.entries) self.now.epochs judged.now admission }
+    {
+        Next {
+            source: judged.source,
+            epoch: self.epoch_for(key, judged.begins),
+            begins: judged.begins,
+            admission,
+        }
+    }
+
+    /// Keeps a source as what it is to become.
+    fn keep(&mut self, key: Key, next: Next<A>) -> Result<Option<Admitted<A>>, AllocError>
+        requires room { (next.begins && nat_eq self.old.epochs most_epochs) ≡ false }
+        requires ready { IfSome next.admission (λ a. is_some (base_of (gate_for (kept_at key self.old.entries) next.begins) a) ≡ true) }
+        ensures kept { OnOk result (IsKept self.old self.new key next) }
+        ensures answer { IfOk result (λ answer. answer ≡ option_map (λ a. a.prepared.answer) next.admission) }
+        ensures err { OnErr result (self.new ≡ self.old) }
+        ensures asker { self.new.asker ≡ self.old.asker }
+    {
+        let begins = next.begins;
+        let answer = self.known.keep(key, next)?;
+        self.epochs = counted(self.epochs, begins);
+        Ok(answer)
+    }
+
+    /// Keeps a source with a judged packet.
+    pub(crate) fn advance(
+        &mut self,
+        key: Key,
+        judged: &Judged,
+        admission: Option<Admission<A>>,
+    ) -> Result<Option<Admitted<A>>, AllocError>
+        requires room { (judged.now.begins && nat_eq self.old.epochs most_epochs) ≡ false }
+        requires ready { IfSome admission (λ a. is_some (base_of (gate_for (kept_at key self.old.entries) judged.now.begins) a) ≡ true) }
+        ensures advances { OnOk result (Advances self.old self.new key judged.now admission) }
+        ensures answer { IfOk result (λ answer. answer ≡ option_map (λ a. a.prepared.answer) admission) }
+        ensures err { OnErr result (self.new ≡ self.old) }
+        ensures asker { self.new.asker ≡ self.old.asker }
+    {
+        let next = self.next_for(&key, judged, admission);
+        self.keep(key, next)
+    }
+
+    /// Keeps a source whose packet has no other effect than its verdict.
+    pub(crate) fn plain(
+        &mut self,
+        alloc: A,
+        key: Key,
+        judged: &Judged,
+    ) -> Result<Ingest<A>, AllocError>
+        requires room { (judged.now.begins && nat_eq self.old.epochs most_epochs) ≡ false }
+        ensures advances { OnOk result (Advances self.old self.new key judged.now None) }
+        ensures ingest { IfOk result (λ ingest. ingested_of ingest ≡ only (told judged.now.verdict)) }
+        ensures err { OnErr result (self.new ≡ self.old) }
+        ensures asker { self.new.asker ≡ self.old.asker }
+    {
+        self.advance(key, judged, None)?;
+        Ok(Ingest::only(alloc, told(judged.verdict)))
+    }
+}

@@ -1,0 +1,159 @@
+//! Media packets.
+
+ghost use Rattle.std.specs.Prelude.{◌≡◌, ◌≤◌, IfOk, OnOk, OnErr};
+ghost use Rattle.rtp_codec.specs.View.{packet_of};
+ghost use Rattle.frame_gate.specs.Frame.{highest_pt};
+ghost use Rattle.rtp_codec.specs.declared.class.Class.TheVariants as classes;
+ghost use Rattle.topology.specs.Looking.{source_from};
+ghost use Rattle.intake.specs.Readings.{Reading, IsOf, IsReading};
+ghost use Rattle.intake.specs.Ingested.{ingested_of};
+ghost use Rattle.intake.specs.Media.{is_audio, audio_rate, video_rate, audio_course, video_course, mark_of};
+ghost use Rattle.intake.specs.Taking.{sourced, of_row};
+ghost use Rattle.intake.specs.Intakes.{Moves, TakesIn};
+
+use crate::ingest::Ingest;
+use crate::intake::Intake;
+use crate::judging::{Mark, units_of};
+use crate::known::key_of;
+use crate::outcome::Outcome;
+use desk_rows::{Media, Rows};
+use rtp_codec::{Address, RtpView, read};
+use source_valid::Verdict;
+use std::alloc::{AllocError, Allocator};
+use topology::source_from;
+
+/// The clock rate of audio in Hz (RFC 3551 section 4.5.14; that L16 has it too is own).
+const AUDIO_RATE: u32 = 8_000;
+
+/// The clock rate of video in Hz (RFC 3551 section 5).
+const VIDEO_RATE: u32 = 90_000;
+
+/// The most samples of an audio packet: 200 ms.
+const MOST_SAMPLES: usize = 1_600;
+
+/// The payload types of audio.
+const PCMU: u8 = 0;
+
+const L16: u8 = 97;
+
+/// Whether the payload is audio: PCMU, or L16 in whole samples, of at most 200 ms.
+fn is_audio(pt: u8, octets: usize) -> bool
+    ensures { result ≡ is_audio pt octets }
+{
+    if pt == PCMU {
+        return octets <= MOST_SAMPLES;
+    }
+    pt == L16 && (octets % 2 == 0 && octets <= 2 * MOST_SAMPLES)
+}
+
+/// A packet as a source of this clock rate judges it.
+fn mark_of(rate: u32, moment: u64, view: &RtpView<'_>) -> Mark
+    ensures { (from : Address) → result ≡ mark_of rate (record { from = from; moment = moment; packet = packet_of view.now }) }
+{
+    Mark {
+        seq: view.seq,
+        ts: view.ts,
+        units: units_of(rate, moment),
+    }
+}
+
+impl<A: Allocator + Copy> Intake<A> {
+    /// Takes in an audio packet. The payload is of a kind that the bridge knows.
+    fn audio(
+        &mut self,
+        alloc: A,
+        from: &Address,
+        moment: u64,
+        view: &RtpView<'_>,
+    ) -> Result<Ingest<A>, AllocError>
+        ensures moves { IfOk result (λ ingest. Moves self.old self.new (ingested_of ingest) (λ voice s. sourced voice audio_rate (audio_course (packet_of view.now)) (record { from = from.now; moment = moment; packet = packet_of view.now }) s)) }
+        ensures err { OnErr result (self.new ≡ self.old) }
+        ensures asker { self.new.asker ≡ self.old.asker }
+    {
+        let key = key_of(from, view.ssrc);
+        let judged = self.judged(&key, mark_of(AUDIO_RATE, moment, view));
+        if self.is_spent(&judged) {
+            return Ok(Ingest::only(alloc, Outcome::Spent));
+        }
+        self.plain(alloc, key, &judged)
+    }
+
+    /// Takes in a video packet.
+    fn video(
+        &mut self,
+        alloc: A,
+        from: &Address,
+        moment: u64,
+        view: &RtpView<'_>,
+    ) -> Result<Ingest<A>, AllocError>
+        requires { view.now.pt ≤ highest_pt }
+        ensures moves { IfOk result (λ ingest. Moves self.old self.new (ingested_of ingest) (λ voice s. sourced voice video_rate (video_course (packet_of view.now)) (record { from = from.now; moment = moment; packet = packet_of view.now }) s)) }
+        ensures err { OnErr result (self.new ≡ self.old) }
+        ensures asker { self.new.asker ≡ self.old.asker }
+    {
+        let key = key_of(from, view.ssrc);
+        let judged = self.judged(&key, mark_of(VIDEO_RATE, moment, view));
+        if self.is_spent(&judged) {
+            return Ok(Ingest::only(alloc, Outcome::Spent));
+        }
+        match judged.verdict {
+            Verdict::Probation => self.plain(alloc, key, &judged),
+            Verdict::Jump => self.plain(alloc, key, &judged),
+            Verdict::Accepted { ext } => {
+                self.gated(alloc, key, &judged, ext, false, from, moment, view)
+            }
+            Verdict::Restarted { ext } => {
+                self.gated(alloc, key, &judged, ext, true, from, moment, view)
+            }
+        }
+    }
+
+    /// Takes in a media packet.
+    fn media(
+        &mut self,
+        alloc: A,
+        rows: &Rows<A>,
+        from: &Address,
+        moment: u64,
+        view: &RtpView<'_>,
+    ) -> Result<Ingest<A>, AllocError>
+        requires { view.now.pt ≤ highest_pt }
+        ensures moves { IfOk result (λ ingest. Moves self.old self.new (ingested_of ingest) (λ voice s. of_row voice (source_from rows.now view.now.ssrc from.now) (record { from = from.now; moment = moment; packet = packet_of view.now }) s)) }
+        ensures err { OnErr result (self.new ≡ self.old) }
+        ensures asker { self.new.asker ≡ self.old.asker }
+    {
+        let Some(source) = source_from(rows, view.ssrc, from) else {
+            return Ok(Ingest::only(alloc, Outcome::Unknown));
+        };
+        match source.media {
+            Media::Audio => {
+                if !is_audio(view.pt, view.payload.len()) {
+                    return Ok(Ingest::only(alloc, Outcome::BadPayload));
+                }
+                self.audio(alloc, from, moment, view)
+            }
+            Media::Video => self.video(alloc, from, moment, view),
+        }
+    }
+
+    /// Takes in a datagram that is RTP by its first octets.
+    pub(crate) fn rtp(
+        &mut self,
+        alloc: A,
+        rows: &Rows<A>,
+        from: &Address,
+        moment: u64,
+        octets: &[u8],
+    ) -> Result<Ingest<A>, AllocError>
+        requires { IsOf classes.Rtp octets.now }
+        ensures takes { IfOk result (λ ingest. TakesIn self.old self.new (ingested_of ingest) octets.now (λ r. record { desk = rows.now; from = from.now; moment = moment; reading = r })) }
+        ensures read { OnOk result ((r : Reading) × IsReading octets.now r) }
+        ensures err { OnErr result (self.new ≡ self.old) }
+        ensures asker { self.new.asker ≡ self.old.asker }
+    {
+        match read(octets) {
+            Err(fault) => Ok(Ingest::only(alloc, Outcome::BadRtp(fault))),
+            Ok(view) => self.media(alloc, rows, from, moment, &view),
+        }
+    }
+}
