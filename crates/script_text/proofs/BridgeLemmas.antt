@@ -1,5 +1,6 @@
 -- The core goes on as the bridge does.
-use Rattle.std.proofs.Common.{◌≡◌, ℕ, Option, List, [], ◌∷◌, ◌++◌, length, true, false, Some, None, Result, Ok, Err, sym, ap, ◌∙◌, subst}
+use Rattle.std.proofs.Common.{◌≡◌, ℕ, Option, List, [], ◌∷◌, ◌++◌, length, true, false, Some, None, Result, Ok, Err, refl, sym, ap, ◌∙◌, subst, append_assoc}
+use Rattle.std.proofs.lemmas.List.{append-nil}
 use Rattle.std.specs.Result.{OnOk}
 use Rattle.desk_rows.specs.Desk.{Desk}
 use Rattle.desk_edit.specs.declared.command.Call.{Call}
@@ -11,16 +12,25 @@ use Rattle.bridge_core.specs.declared.reply.Reply.{Reply}
 use Rattle.bridge_core.specs.declared.reply.Reply.TheVariants.{Accepted, Refused}
 use Rattle.intake.specs.Inputs.{Input}
 use Rattle.bridge_core.specs.Sent.{Sent}
+use Rattle.std.specs.Prelude.{slice_get}
+use Rattle.bridge_core.specs.LaneState.{LaneOf}
 use Rattle.bridge_core.specs.Calls.{Answers, OnAccepted}
 use Rattle.bridge_core.specs.Following.{HasCalled, IsTold, IsAnswered}
 use Rattle.bridge_core.specs.Steps.{CoreOf, Step, HasTaken, Takes, sent_at, visits, visit_after}
 use Rattle.std.specs.List.{flat_map}
 use Rattle.bridge_core.specs.Lanes.{sends_at}
-use Rattle.script_text.specs.Requests.{Desk as DeskRequest, Item, Show}
+use Rattle.rtp_codec.specs.declared.address.Address.{Address}
+use Rattle.intake.specs.Ingested.{Ingested}
+use Rattle.intake.specs.Sources.{no_sources}
+use Rattle.intake.specs.Taking.{taken_in}
+use Rattle.intake.specs.Intakes.{Knows, TakesIn}
+use Rattle.script_text.specs.Wire.{Wire, script_asker, voice_of}
+use Rattle.script_text.specs.Requests.{Desk as DeskRequest, Rx, Show}
+use Rattle.script_text.specs.Datagrams.{outcome_text, up_text}
 use Rattle.script_text.specs.Text.{reply_text, sent_text}
 use Rattle.script_text.specs.RowLines.{show_text}
-use Rattle.script_text.specs.Bridge.{answer_call, Bridge, first_desk, answer_text, after, text_of, opening_bridge}
-use Rattle.script_text.specs.inner.Steps.{wants_memory, Stands}
+use Rattle.script_text.specs.Bridge.{answer_call, Bridge, first_desk, answer_text, after, text_of, opening_bridge, item_sent, after_item, items_sent, items_text, after_items, knowing, taken_at}
+use Rattle.script_text.specs.inner.Steps.{wants_memory, Stands, AnswersRequest, HandsItem, HandsItems}
 
 not_memory : (at : ℕ) (why : Refusal) → wants_memory (Refused at why) ≡ false → why ≡ OutOfMemory → ⊥
 not_memory at why told e = absurd (true_false (subst (λ (w : Refusal). wants_memory (Refused at w) ≡ false) e told))
@@ -34,22 +44,24 @@ told_why bridge (Undo last) at why by told = by
 told_why bridge (Redo last) at why by told = by
 
 -- the desk that a step publishes is the one that the calls leave
-accepted : (old new : CoreOf) (bridge : Bridge) (call : Call) → Stands old bridge → HasCalled new (history_after bridge.calls call) → length new.lanes ≡ length old.lanes → Takes old new (Step.publish new.desk) []
+accepted : (old new : CoreOf) (bridge : Bridge) (call : Call) → Stands old bridge → HasCalled new (history_after bridge.calls call) → length new.lanes ≡ length old.lanes → new.intake ≡ old.intake → Takes old new (Step.publish new.desk) []
     → Stands new (answer_call bridge (history_after bridge.calls call) None).1
-accepted old new bridge call s called lanes takes = record {
+accepted old new bridge call s called lanes intake takes = record {
   taken = subst (λ (d : Desk). HasTaken new first_desk (bridge.steps ++ Step.publish d ∷ [])) called.desk (takes first_desk bridge.steps s.taken).1;
   called = called;
   lanes = lanes ∙ s.lanes;
+  knows = rw intake s.knows;
+  speaks = rw intake s.speaks;
 }
 
-pub call_answered : (op : ℕ) (old new : CoreOf) (bridge : Bridge) (call : Call) (reply : Reply) → Stands old bridge → Answers old new call reply → IsAnswered bridge.calls new call reply → OnAccepted reply (Takes old new (Step.publish new.desk) []) → wants_memory reply ≡ false
+pub call_answered : (op : ℕ) (old new : CoreOf) (bridge : Bridge) (call : Call) (reply : Reply) → Stands old bridge → Answers old new call reply → IsAnswered bridge.calls new call reply → OnAccepted reply (Takes old new (Step.publish new.desk) []) → new.intake ≡ old.intake → wants_memory reply ≡ false
     → Stands new (after bridge (DeskRequest op call)) × (reply_text reply ≡ answer_text bridge (DeskRequest op call))
-call_answered op old new bridge call (Accepted number) s does by takes told =
+call_answered op old new bridge call (Accepted number) s does by takes intake told =
     let next = history_after bridge.calls call in (
-      subst (λ (o : Option Refusal). Stands new (answer_call bridge next o).1) (sym by.0) (accepted old new bridge call s by.2 (ap length does.2) takes),
+      subst (λ (o : Option Refusal). Stands new (answer_call bridge next o).1) (sym by.0) (accepted old new bridge call s by.2 (ap length does.2) intake takes),
       subst (λ (o : Option Refusal). reply_text (Accepted number) ≡ text_of (answer_call bridge next o).0) (sym by.0) (ap (λ (n : ℕ). reply_text (Accepted n)) by.1),
     )
-call_answered op old new bridge call (Refused at why) s does by takes told =
+call_answered op old new bridge call (Refused at why) s does by takes intake told =
     let next = history_after bridge.calls call in
     let some : refusal_of bridge.calls call ≡ Some why = told_why bridge call at why by.1 told in (
       subst (λ (o : Option Refusal). Stands new (answer_call bridge next o).1) (sym some) (rw does.1 s),
@@ -61,9 +73,9 @@ call_answered op old new bridge call (Refused at why) s does by takes told =
 first_same : {A : Type 0} (x y : A) → x ∷ [] ≡ y ∷ [] → x ≡ y
 first_same x y e = cc
 
-pub item_answered : (old new : CoreOf) (bridge : Bridge) (item : Input) (out : List Sent) → Stands old bridge → Takes old new (Step.item 0 item) (out ∷ []) → new.version ≡ old.version → new.desk ≡ old.desk → new.done ≡ old.done → new.undone ≡ old.undone → length new.lanes ≡ length old.lanes
-    → Stands new (after bridge (Item item)) × (flat_map sent_text out ≡ answer_text bridge (Item item))
-item_answered old new bridge item out s takes version desk done undone lanes =
+pub item_answered : (old new : CoreOf) (bridge : Bridge) (item : Input) (out : List Sent) → Stands old bridge → Takes old new (Step.item 0 item) (out ∷ []) → new.version ≡ old.version → new.desk ≡ old.desk → new.done ≡ old.done → new.undone ≡ old.undone → length new.lanes ≡ length old.lanes → new.intake ≡ old.intake
+    → Stands new (after_item bridge item) × (out ≡ item_sent bridge item)
+item_answered old new bridge item out s takes version desk done undone lanes intake =
     let t = takes first_desk bridge.steps s.taken in
     let sends : List Sent = sends_at 0 1 (visits 0 first_desk bridge.steps) (visit_after first_desk bridge.steps 0 item) in
     let same : out ≡ sends = first_same out sends (subst (λ (n : ℕ). out ∷ [] ≡ sent_at n first_desk bridge.steps (Step.item 0 item)) s.lanes t.0) in (
@@ -71,9 +83,69 @@ item_answered old new bridge item out s takes version desk done undone lanes =
         taken = t.1;
         called = record { version = version ∙ s.called.version; desk = desk ∙ s.called.desk; follows = rw done s.called.follows; ahead = rw undone s.called.ahead };
         lanes = lanes ∙ s.lanes;
+        knows = rw intake s.knows;
+        speaks = rw intake s.speaks;
       },
-      ap (flat_map sent_text) same,
+      same,
     )
+
+-- ---- items, one after another
+
+items_last : (bridge : Bridge) (items : List Input) (item : Input) → items_sent bridge (items ++ item ∷ []) ≡ items_sent bridge items ++ item_sent (after_items bridge items) item ∷ []
+items_last bridge [] item = refl
+items_last bridge (i ∷ items) item = ap (λ (out : List (List Sent)). item_sent bridge i ∷ out) (items_last (after_item bridge i) items item)
+
+after_last : (bridge : Bridge) (items : List Input) (item : Input) → after_items bridge (items ++ item ∷ []) ≡ after_item (after_items bridge items) item
+after_last bridge [] item = refl
+after_last bridge (i ∷ items) item = after_last (after_item bridge i) items item
+
+text_last : (out : List (List Sent)) (last : List Sent) → items_text (out ++ last ∷ []) ≡ items_text out ++ flat_map sent_text last
+text_last [] last = append-nil (flat_map sent_text last)
+text_last (o ∷ out) last = ap (λ (t : List ℕ). flat_map sent_text o ++ t) (text_last out last) ∙ sym (append_assoc (flat_map sent_text o) (items_text out) (flat_map sent_text last))
+
+-- nothing was handed over
+pub hands_none : (core : CoreOf) (text : List ℕ) → HandsItems core [] core text text
+hands_none core text bridge s = (s, sym (append-nil text))
+
+-- one more item
+pub hands_more : (old mid new : CoreOf) (items : List Input) (item : Input) (before text now : List ℕ) → HandsItems old items mid before text → HandsItem mid item new text now → HandsItems old (items ++ item ∷ []) new before now
+hands_more old mid new items item before text now h k bridge s =
+    let first = h bridge s in
+    let then = k (after_items bridge items) first.0 in
+    let one = item_sent (after_items bridge items) item in (
+      subst (λ (b : Bridge). Stands new b) (sym (after_last bridge items item)) then.0,
+      then.1
+          ∙ (ap (λ (t : List ℕ). t ++ flat_map sent_text one) first.1
+          ∙ (append_assoc before (items_text (items_sent bridge items)) (flat_map sent_text one)
+          ∙ ap (λ (t : List ℕ). before ++ t) (sym (text_last (items_sent bridge items) one) ∙ ap items_text (sym (items_last bridge items item))))),
+    )
+
+-- ---- datagrams
+
+pub datagram_answered : (old mid new : CoreOf) (moment : ℕ) (from : Address) (octets : List ℕ) (ingested : Ingested) (before now : List ℕ)
+    → TakesIn old.intake mid.intake ingested octets (λ r. record { desk = old.desk; from = from; moment = moment; reading = r })
+    → (mid.version ≡ old.version) × (mid.desk ≡ old.desk) × (mid.done ≡ old.done) × (mid.undone ≡ old.undone) × (mid.lanes ≡ old.lanes) → mid.intake.asker ≡ old.intake.asker
+    → before ≡ outcome_text ingested.outcome ++ flat_map up_text ingested.up → HandsItems mid ingested.items new before now → AnswersRequest old (Rx moment from octets) new now
+datagram_answered old mid new moment from octets ingested before now takes others asker text hands bridge heard s =
+    let desk : old.desk ≡ desk_now bridge.calls = s.called.desk in
+    let took = takes (bridge.wire.reading octets) heard.reads (voice_of bridge.wire) bridge.sources heard.names (sym s.speaks) s.knows in
+    let here = taken_at bridge moment from octets in
+    let same : ingested ≡ here.0 = took.0 ∙ ap (λ (d : Desk). (taken_in (voice_of bridge.wire) bridge.sources (record { desk = d; from = from; moment = moment; reading = bridge.wire.reading octets })).0) desk in
+    let knows : Knows mid.intake here.1 = subst (λ (d : Desk). Knows mid.intake (taken_in (voice_of bridge.wire) bridge.sources (record { desk = d; from = from; moment = moment; reading = bridge.wire.reading octets })).1) desk took.1 in
+    let stands : Stands mid (knowing here.1 bridge) = record {
+      taken = record {
+        version = others.0 ∙ s.taken.version;
+        desk = others.1 ∙ s.taken.desk;
+        lanes = λ lane state at. s.taken.lanes lane state (subst (λ (lanes : List LaneOf). slice_get lanes lane ≡ Some state) others.4 at);
+      };
+      called = record { version = others.0 ∙ s.called.version; desk = others.1 ∙ s.called.desk; follows = rw others.2 s.called.follows; ahead = rw others.3 s.called.ahead };
+      lanes = ap length others.4 ∙ s.lanes;
+      knows = knows;
+      speaks = asker ∙ s.speaks;
+    } in
+    let h = hands (knowing here.1 bridge) stands in
+    subst (λ (i : Ingested). Stands new (after_items (knowing here.1 bridge) i.items) × (now ≡ outcome_text i.outcome ++ flat_map up_text i.up ++ items_text (items_sent (knowing here.1 bridge) i.items))) same
+    (h.0, h.1 ∙ ap (λ (t : List ℕ). t ++ items_text (items_sent (knowing here.1 bridge) ingested.items)) text)
 
 -- ---- rows
 
@@ -82,8 +154,8 @@ rows_shown core bridge s = ap (λ (d : Desk). show_text d core.version) s.called
 
 -- ---- the first line
 
-pub opens : (core : CoreOf) → HasTaken core first_desk [] → HasCalled core (no_calls first_desk) → length core.lanes ≡ 1 → Stands core opening_bridge
-opens core taken called lanes = record { taken = taken; called = called; lanes = lanes }
+pub opens : (core : CoreOf) (wire : Wire) → HasTaken core first_desk [] → HasCalled core (no_calls first_desk) → length core.lanes ≡ 1 → Knows core.intake no_sources → core.intake.asker ≡ script_asker → Stands core (opening_bridge wire)
+opens core wire taken called lanes knows speaks = record { taken = taken; called = called; lanes = lanes; knows = knows; speaks = speaks }
 
 -- what follows from what holds of a success
 pub on_ok : {X E : Type 0} (r : Result X E) (P Q : Type 0) → OnOk r P → (P → Q) → OnOk r Q

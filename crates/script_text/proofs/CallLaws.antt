@@ -15,12 +15,13 @@ use Rattle.script_text.specs.declared.name.Name.{Name}
 use Rattle.script_text.specs.declared.name.Kind.{Kind}
 use Rattle.script_text.specs.declared.name.Kind.TheVariants as kinds
 use Rattle.script_text.specs.Words.{words_of, word_at, none_left, value_or}
-use Rattle.script_text.specs.Values.{field_of, value_text, AllFit, values_of, value_at, number_in, address_in, codec_in, media_in}
+use Rattle.script_text.specs.Values.{field_of, value_text, AllFit, values_of, value_at, number_at, address_at, number_in, address_in, codec_in, media_in}
 use Rattle.script_text.specs.Calls.{name_text, all_names, name_of, shape_of, Spelt, fields_of, call_with, call_of, call_words, call_line, IsCall}
 use Rattle.frame_gate.specs.declared.frame.FrameFault.{FrameFault}
 use Rattle.frame_gate.specs.Frame.{fault_of}
 use Rattle.forward_rewrite.specs.Frame.{SourceFrame}
-use Rattle.script_text.specs.Requests.{Desk, kind_text, kind_of, front_of, some_packets, sighted, framed, frame_of, request_with, words_request, desk_line}
+use Rattle.rtp_codec.specs.declared.address.Address.{Address as Endpoint}
+use Rattle.script_text.specs.Requests.{Desk, kind_text, kind_of, line_kinds, front_of, some_packets, sighted, framed, frame_of, some_octets, rx_of, request_with, words_request, desk_line}
 use Rattle.script_text.proofs.Joined.{AllFree, free_test, parts_joined}
 use Rattle.script_text.proofs.ValueLaws.{found_text, free_values, bind_ok, word_back, or_back, values_back, values_again}
 
@@ -161,6 +162,14 @@ frame_is_none words vs op c e =
     never sighting None e = absurd cc
     never sighting (Some fault) e = absurd cc
 
+rx_is_none : (moment : ℕ) (from : Endpoint) (words : List (List ℕ)) (op : ℕ) (c : Call) {P : Type 0} → rx_of moment from words ≡ Ok (Desk op c) → P
+unfolding rx_of
+rx_is_none moment from words op c e =
+    let w = bind_ok (word_at 4 words) _ (Desk op c) e in
+    let o = bind_ok (some_octets 4 w.0.0) _ (Desk op c) w.2 in
+    let n = bind_ok (none_left 5 w.0.1) _ (Desk op c) o.2 in
+    absurd cc
+
 desk_by : (kind : Kind) (vs : List Value) (words : List (List ℕ)) (op : ℕ) (c : Call) → request_with kind vs words ≡ Ok (Desk op c) → (kind ≡ kinds.Desk) × (number_in (value_at 0 vs) ≡ op) × (call_of 2 words ≡ Ok c)
 desk_by kinds.Desk vs words op c e =
     let r = bind_ok (call_of 2 words) _ (Desk op c) e in
@@ -168,6 +177,7 @@ desk_by kinds.Desk vs words op c e =
     let same : r.0 ≡ c = cc in
     (refl, cc, r.1 ∙ ap Ok same)
 desk_by kinds.Frame vs words op c e = frame_is_none words vs op c e
+desk_by kinds.Rx vs words op c e = rx_is_none (number_at 0 vs) (address_at 1 vs) words op c e
 desk_by kinds.Show vs words op c e = let none = bind_ok (none_left 2 words) _ (Desk op c) e in absurd cc
 
 desk_words : (op : ℕ) (c : Call) → op ≤ 15 → IsCall c → words_request (kind_text kinds.Desk ∷ value_text (values.Operator op) ∷ call_words c) ≡ Ok (Desk op c)
@@ -203,7 +213,7 @@ desk_back line op c e =
     let b = call_back 2 r.0.1 c d.2 in
     let o = operator_of r.0.0 (v.1 ∙ ap front_of d.0) v.2 in
     let same : o.0 ≡ op = ap (λ (vs : List Value). number_in (value_at 0 vs)) (sym o.1) ∙ d.1 in
-    let first : w.0.0 ≡ kind_text kinds.Desk = found_text kind_text w.0.0 (kinds.Desk ∷ kinds.Frame ∷ kinds.Show ∷ []) k.0 (or_back 1 UnknownWord (kind_of w.0.0) k.0 k.1) ∙ ap kind_text d.0 in
+    let first : w.0.0 ≡ kind_text kinds.Desk = found_text kind_text w.0.0 line_kinds k.0 (or_back 1 UnknownWord (kind_of w.0.0) k.0 k.1) ∙ ap kind_text d.0 in
     let others : w.0.1 ≡ value_text (values.Operator op) ∷ call_words c =
     v.0 ∙ (ap (λ (vs : List Value). map value_text vs ++ r.0.1) o.1 ∙ (ap (λ (n : ℕ). value_text (values.Operator n) ∷ r.0.1) same ∙ ap (λ (t : List (List ℕ)). value_text (values.Operator op) ∷ t) b.0)) in
     let all : words_of line ≡ kind_text kinds.Desk ∷ value_text (values.Operator op) ∷ call_words c =

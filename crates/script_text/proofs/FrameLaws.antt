@@ -19,7 +19,7 @@ use Rattle.script_text.specs.Numbers.{IsExt}
 use Rattle.script_text.specs.Values.{field_of, value_text, AllFit, values_of}
 use Rattle.script_text.specs.Packets.{marker_text, packet_text, packet_of, packets_of, IsReadable, AllReadable, SpellPackets}
 use Rattle.script_text.specs.Calls.{call_of}
-use Rattle.script_text.specs.Requests.{Request, Item, kind_text, kind_of, front_of, some_packets, sighted, framed, frame_of, request_with, words_request, front_values, frame_words, frame_line, IsFrame}
+use Rattle.script_text.specs.Requests.{Request, Item, kind_text, kind_of, line_kinds, front_of, some_packets, some_octets, rx_of, sighted, framed, frame_of, request_with, words_request, front_values, frame_words, frame_line, IsFrame}
 use Rattle.script_text.proofs.Joined.{Free, AllFree, free_test, free_append, free_number, parts_joined}
 use Rattle.script_text.proofs.ValueLaws.{found_text, free_values, bind_ok, word_back, or_back, values_back, values_again}
 use Rattle.script_text.proofs.PacketLaws.{packet_read, packet_spelled}
@@ -36,7 +36,7 @@ digit_free (x ∷ xs) (suc k) h = digit_free xs k (rest (not (eqb x 32)) (list_a
     rest true b e = e
     rest false b e = absurd cc
 
-hex_free : (octets : List ℕ) → Free 32 (encode_lower octets)
+pub hex_free : (octets : List ℕ) → Free 32 (encode_lower octets)
 unfolding encode_with
 hex_free [] = tt
 hex_free (b ∷ rest) = (digit_free lower_digits (b / 16) refl, (digit_free lower_digits (b % 16) refl, hex_free rest))
@@ -59,7 +59,7 @@ packets_free : (ps : List SourcePacket) → AllReadable ps → AllFree 32 (map p
 packets_free [] h = tt
 packets_free (p ∷ ps) h = (packet_free p h.0, packets_free ps h.1)
 
-all_append : (ws vs : List (List ℕ)) → AllFree 32 ws → AllFree 32 vs → AllFree 32 (ws ++ vs)
+pub all_append : (ws vs : List (List ℕ)) → AllFree 32 ws → AllFree 32 vs → AllFree 32 (ws ++ vs)
 all_append [] vs h k = k
 all_append (w ∷ ws) vs h k = (h.0, all_append ws vs h.1 k)
 
@@ -115,8 +115,13 @@ framed_back sighting f None e = (refl, same_frame sighting f (same_item (frame s
 framed_back sighting f (Some fault) e = absurd cc
 
 frame_by : (kind : Kind) (vs : List Value) (words : List (List ℕ)) (f : SourceFrame) → request_with kind vs words ≡ Ok (Item (frame f)) → (kind ≡ kinds.Frame) × (ps : List SourcePacket) × (packets_of 7 words ≡ Ok ps) × (fault_of ps ≡ None) × (sighted vs ps ≡ f)
-unfolding frame_of
+unfolding frame_of rx_of
 frame_by kinds.Desk vs words f e = let c = bind_ok (call_of 2 words) _ (Item (frame f)) e in absurd cc
+frame_by kinds.Rx vs words f e =
+    let w = bind_ok (word_at 4 words) _ (Item (frame f)) e in
+    let o = bind_ok (some_octets 4 w.0.0) _ (Item (frame f)) w.2 in
+    let n = bind_ok (none_left 5 w.0.1) _ (Item (frame f)) o.2 in
+    absurd cc
 frame_by kinds.Show vs words f e = let none = bind_ok (none_left 2 words) _ (Item (frame f)) e in absurd cc
 frame_by kinds.Frame vs words f e =
     let p = bind_ok (some_packets 7 words) _ (Item (frame f)) e in
@@ -139,7 +144,7 @@ frame_back line f e =
     let front : r.0.0 ≡ front_values f = front_is r.0.0 d.1 (v.1 ∙ ap front_of d.0) ∙ ap front_values d.4 in
     let packets = packets_back 7 r.0.1 d.1 d.2 in
     let same : d.1 ≡ f.frame.packets = ap (λ (g : SourceFrame). g.frame.packets) d.4 in
-    let first : w.0.0 ≡ kind_text kinds.Frame = found_text kind_text w.0.0 (kinds.Desk ∷ kinds.Frame ∷ kinds.Show ∷ []) k.0 (or_back 1 UnknownWord (kind_of w.0.0) k.0 k.1) ∙ ap kind_text d.0 in
+    let first : w.0.0 ≡ kind_text kinds.Frame = found_text kind_text w.0.0 line_kinds k.0 (or_back 1 UnknownWord (kind_of w.0.0) k.0 k.1) ∙ ap kind_text d.0 in
     let others : w.0.1 ≡ map value_text (front_values f) ++ r.0.1 = v.0 ∙ ap (λ (vs : List Value). map value_text vs ++ r.0.1) front in
     let all : words_of line ≡ frame_words f r.0.1 =
     word_back 1 (words_of line) w.0 w.1 ∙ (ap (λ (t : List ℕ). t ∷ w.0.1) first ∙ ap (λ (t : List (List ℕ)). kind_text kinds.Frame ∷ t) others) in (

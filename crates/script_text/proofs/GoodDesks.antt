@@ -12,9 +12,11 @@ use Rattle.desk_edit.specs.Refusals.{refused}
 use Rattle.desk_edit.specs.Calls.{CallHistory, desk_now, front, final, or_log_full, refusal_of, after_call as history_after}
 use Rattle.bridge_core.specs.Steps.{Step}
 use Rattle.bridge_core.specs.Headline.{IsGood, AreGood}
-use Rattle.script_text.specs.Requests.{Request, Nothing, Desk, Item, Show}
+use Rattle.intake.specs.Inputs.{Input}
+use Rattle.script_text.specs.Requests.{Request, Nothing, Desk, Item, Rx, Show}
+use Rattle.script_text.specs.Wire.{Wire}
 use Rattle.script_text.specs.Lines.{lines_of}
-use Rattle.script_text.specs.Bridge.{Bridge, first_desk, opening_bridge, answer_call, after}
+use Rattle.script_text.specs.Bridge.{Bridge, first_desk, opening_bridge, answer_call, after_item, after_items, knowing, taken_at, after}
 use Rattle.script_text.specs.Scripts.{requests_of, after_all, steps_of}
 
 -- a command that is not refused leaves a good desk
@@ -89,6 +91,13 @@ record Fine (b : Bridge) : Type 0 where
   calls : GoodAlong b.calls.start (whole b.calls)
   steps : AreGood b.steps
 
+item_good : (b : Bridge) (item : Input) → Fine b → Fine (after_item b item)
+item_good b item fine = record { calls = fine.calls; steps = step_good b.steps (Step.item 0 item) fine.steps tt }
+
+items_good : (b : Bridge) (items : List Input) → Fine b → Fine (after_items b items)
+items_good b [] fine = fine
+items_good b (item ∷ items) fine = items_good (after_item b item) items (item_good b item fine)
+
 after_good : Keeps → (b : Bridge) (request : Request) → Fine b → Fine (after b request)
 after_good keeps b Nothing fine = fine
 after_good keeps b Show fine = fine
@@ -100,7 +109,10 @@ after_good keeps b (Desk op call) fine = by (refusal_of b.calls call) refl
         let next = history_after b.calls call in
         record { calls = along; steps = step_good b.steps (Step.publish (desk_now next)) fine.steps (now_good next.start next.done (before next.start next.done (reverse next.undone) along)) }
     by (Some why) is = fine
-after_good keeps b (Item item) fine = record { calls = fine.calls; steps = step_good b.steps (Step.item 0 item) fine.steps tt }
+after_good keeps b (Item item) fine = item_good b item fine
+after_good keeps b (Rx moment from octets) fine =
+    let took = taken_at b moment from octets in
+    items_good (knowing took.1 b) took.0.items (record { calls = fine.calls; steps = fine.steps })
 
 all_good : Keeps → (b : Bridge) (requests : List Request) → Fine b → Fine (after_all b requests)
 all_good keeps b [] fine = fine
@@ -110,5 +122,5 @@ pub first_good : good first_desk ≡ true
 unfolding good
 first_good = refl
 
-pub steps_good : Keeps → (input : List ℕ) → AreGood (steps_of input)
-steps_good keeps input = (all_good keeps opening_bridge (requests_of (lines_of input)) (record { calls = first_good; steps = tt })).steps
+pub steps_good : Keeps → (wire : Wire) (input : List ℕ) → AreGood (steps_of wire input)
+steps_good keeps wire input = (all_good keeps (opening_bridge wire) (requests_of (lines_of input)) (record { calls = first_good; steps = tt })).steps

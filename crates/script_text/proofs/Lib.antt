@@ -12,6 +12,7 @@ pub mod CallLaws
 pub mod ExtLemmas
 pub mod PacketLaws
 pub mod FrameLaws
+pub mod RxLaws
 pub mod GoodDesks
 pub mod BridgeLemmas
 pub mod ScriptLaws

@@ -173,7 +173,7 @@ four_of place (a ∷ b ∷ c ∷ []) p e = absurd cc
 four_of place (a ∷ b ∷ c ∷ d ∷ []) p e = (a, b, c, d, refl, e)
 four_of place (a ∷ b ∷ c ∷ d ∷ x ∷ xs) p e = absurd cc
 
-octets_back : (place : ℕ) (r : Result (List ℕ) FromHexError) (octets : List ℕ) → octets_or place r ≡ Ok octets → r ≡ Ok octets
+pub octets_back : (place : ℕ) (r : Result (List ℕ) FromHexError) (octets : List ℕ) → octets_or place r ≡ Ok octets → r ≡ Ok octets
 octets_back place (Ok x) octets e = cc
 octets_back place (Err x) octets e = absurd cc
 

@@ -1,5 +1,5 @@
 -- Octets lead from place to place.
-use Rattle.std.proofs.Common.{◌≡◌, ℕ, ◌+◌, ◌-◌, ◌<◌, List, [], ◌∷◌, ◌++◌, length, take, drop, None, Result, Ok, Err, Bool, true, false, cond, eqb, get_or, inl, inr, refl, sym, ap, ◌∙◌, subst, append_assoc, arith}
+use Rattle.std.proofs.Common.{◌≡◌, ℕ, ◌+◌, ◌-◌, ◌<◌, List, [], ◌∷◌, ◌++◌, length, take, drop, Option, Some, None, Result, Ok, Err, Bool, true, false, cond, eqb, get_or, inl, inr, refl, sym, ap, ◌∙◌, subst, append_assoc, arith}
 use Rattle.std.specs.List.{onto_first, All}
 use Rattle.std.specs.Result.{MatchResult, is_ok, is_err}
 use Rattle.std.specs.Str.Lines.{strip_carriage_return}
@@ -10,12 +10,16 @@ use Rattle.std.proofs.lemmas.List.Splits.{slice_split_at, slice_split_none}
 use Rattle.script_text.specs.declared.fault.Fault.TheVariants.{LineTooLong}
 use Rattle.script_text.specs.declared.fault.RunFault.{RunFault}
 use Rattle.script_text.specs.declared.fault.RunFault.TheVariants as errors
-use Rattle.script_text.specs.Bridge.{Bridge, answer_text, after}
+use Rattle.desk_edit.specs.declared.refusal.Refusal.{Refusal}
+use Rattle.desk_edit.specs.Calls.{CallHistory, refusal_of, after_call as history_after}
+use Rattle.intake.specs.Inputs.{Input}
+use Rattle.script_text.specs.Wire.{Wire, Hears, HearsAll}
+use Rattle.script_text.specs.Bridge.{Bridge, answer_call, after_item, after_items, knowing, taken_at, answer_text, after}
 use Rattle.bridge_core.specs.Steps.{CoreOf}
-use Rattle.script_text.specs.Requests.{request_of}
+use Rattle.script_text.specs.Requests.{Request, Nothing, Desk, Item, Rx, Show, request_of}
 use Rattle.script_text.specs.Lines.{parts_of, lines_by, whole, ended}
 use Rattle.script_text.specs.Output.{Outcome, nothing, told, stopped, continues, outcome_of}
-use Rattle.script_text.specs.inner.Steps.{Held, place_of, Place, to_come, Goes, StepFails, StepEnds, LineEnds, FinishEnds}
+use Rattle.script_text.specs.inner.Steps.{Held, place_of, Place, to_come, Goes, StepFails, HearsComing, StepEnds, LineEnds, FinishEnds}
 
 abbrev pub NoLf : List ℕ → Type 0
 NoLf octets = All (λ b. eqb b 10 ≡ false) octets
@@ -64,24 +68,58 @@ lf_comes place last tail nolf = rw (lines_lf last place.pending tail nolf) refl
 abbrev pub next_line : Held → CoreOf → Held
 next_line held core = record { core = core; line = held.line + 1; pending = [] }
 
-line_step : (held new : Held) (bridge : Bridge) (core : CoreOf) (sent : List ℕ) (r : Result (Unit {0}) RunFault) → NoLf held.pending → LineEnds bridge held.line (strip_carriage_return held.pending) core sent r → MatchResult r (λ _. new ≡ next_line held core) (λ _. Unit {0}) → StepEnds (place_of held bridge) (10 ∷ []) new sent r
-line_step held new bridge core sent (Ok u) nolf h is =
-    rw is (after bridge h.0, h.2, λ last tail. lf_comes (place_of held bridge) last tail nolf ∙ (rw (h.1, h.3) refl))
-line_step held new bridge core sent (Err (errors.Script n word fault)) nolf h is = λ tail.
+-- ---- what comes is heard
+
+-- the wire stays as it is
+items_wire : (bridge : Bridge) (items : List Input) → (after_items bridge items).wire ≡ bridge.wire
+items_wire bridge [] = refl
+items_wire bridge (item ∷ items) = items_wire (after_item bridge item) items
+
+call_wire : (bridge : Bridge) (next : CallHistory) (why : Option Refusal) → (answer_call bridge next why).1.wire ≡ bridge.wire
+call_wire bridge next None = refl
+call_wire bridge next (Some why) = refl
+
+same_wire : (bridge : Bridge) (request : Request) → (after bridge request).wire ≡ bridge.wire
+same_wire bridge Nothing = refl
+same_wire bridge Show = refl
+same_wire bridge (Desk op call) = call_wire bridge (history_after bridge.calls call) (refusal_of bridge.calls call)
+same_wire bridge (Item item) = refl
+same_wire bridge (Rx moment from octets) = items_wire (knowing (taken_at bridge moment from octets).1 bridge) (taken_at bridge moment from octets).0.items
+
+-- the line that an LF ends, and those behind it
+pub first_heard : (wire : Wire) (pending tail line : List ℕ) → NoLf pending → line ≡ strip_carriage_return pending → HearsAll wire (lines_by whole (parts_of (pending ++ 10 ∷ tail))) → Hears wire (request_of line)
+first_heard wire pending tail line nolf is h = rw is (subst (HearsAll wire) (lines_lf whole pending tail nolf) h).0
+
+others_heard : (wire : Wire) (pending tail : List ℕ) → NoLf pending → HearsAll wire (lines_by whole (parts_of (pending ++ 10 ∷ tail))) → HearsAll wire (lines_by whole (parts_of tail))
+others_heard wire pending tail nolf h = (subst (HearsAll wire) (lines_lf whole pending tail nolf) h).1
+
+-- the line that the end of the input ends
+pub last_heard : (wire : Wire) (pending line : List ℕ) → NoLf pending → line ≡ pending → HearsAll wire (lines_by whole (parts_of (pending ++ []))) → Hears wire (request_of line)
+last_heard wire pending line nolf is h = rw is (subst (HearsAll wire) (lines_none whole pending nolf) h).0
+
+-- with one more octet
+pub kept_heard : (wire : Wire) (pending tail : List ℕ) (x : ℕ) → HearsAll wire (lines_by whole (parts_of (pending ++ x ∷ tail))) → HearsAll wire (lines_by whole (parts_of ((pending ++ x ∷ []) ++ tail)))
+kept_heard wire pending tail x h = subst (λ (t : List ℕ). HearsAll wire (lines_by whole (parts_of t))) (sym (append_assoc pending (x ∷ []) tail)) h
+
+line_step : (held new : Held) (bridge : Bridge) (core : CoreOf) (tail sent : List ℕ) (r : Result (Unit {0}) RunFault) → NoLf held.pending → HearsComing bridge.wire held (10 ∷ tail) → LineEnds bridge held.line (strip_carriage_return held.pending) core sent r → MatchResult r (λ _. new ≡ next_line held core) (λ _. Unit {0}) → StepEnds (place_of held bridge) (10 ∷ []) tail new sent r
+line_step held new bridge core behind sent (Ok u) nolf heard h is =
+    let others = subst (λ (wire : Wire). HearsAll wire (lines_by whole (parts_of behind))) (sym (same_wire bridge h.0)) (others_heard bridge.wire held.pending behind nolf heard) in
+    rw is (after bridge h.0, h.2, (λ last tail. lf_comes (place_of held bridge) last tail nolf ∙ (rw (h.1, h.3) refl)), others)
+line_step held new bridge core behind sent (Err (errors.Script n word fault)) nolf heard h is = λ tail.
     lf_comes (place_of held bridge) whole tail nolf ∙ rw (h.1, h.0, h.2) refl
-line_step held new bridge core sent (Err errors.Write) nolf h is = λ tail.
+line_step held new bridge core behind sent (Err errors.Write) nolf heard h is = λ tail.
     let others = outcome_of (after bridge h.0) (held.line + 1) (lines_by whole (parts_of tail)) in
     let answered : to_come whole (place_of held bridge) (10 ∷ tail) ≡ told (answer_text bridge h.0) others = lf_comes (place_of held bridge) whole tail nolf ∙ rw h.1 refl in (
       h.2.0,
       h.2.1 ++ others.text,
       ap (λ (o : Outcome). o.text) answered ∙ (ap (λ (t : List ℕ). t ++ others.text) h.2.2 ∙ append_assoc sent (h.2.0 ∷ h.2.1) others.text),
     )
-line_step held new bridge core sent (Err errors.Read) nolf h is = h
-line_step held new bridge core sent (Err errors.OutOfMemory) nolf h is = ([], (10 ∷ [], refl), none_ended (place_of held bridge) nolf ∙ rw h refl)
+line_step held new bridge core behind sent (Err errors.Read) nolf heard h is = h
+line_step held new bridge core behind sent (Err errors.OutOfMemory) nolf heard h is = ([], (10 ∷ [], refl), none_ended (place_of held bridge) nolf ∙ rw h refl)
 
-pub line_answered : (held new : Held) (bridge : Bridge) (core : CoreOf) (line sent : List ℕ) (r : Result (Unit {0}) RunFault) → NoLf held.pending → line ≡ strip_carriage_return held.pending → LineEnds bridge held.line line core sent r → MatchResult r (λ _. new ≡ next_line held core) (λ _. Unit {0}) → StepEnds (place_of held bridge) (10 ∷ []) new sent r
-line_answered held new bridge core line sent r nolf stripped h is =
-    line_step held new bridge core sent r nolf (subst (λ (l : List ℕ). LineEnds bridge held.line l core sent r) stripped h) is
+pub line_answered : (held new : Held) (bridge : Bridge) (core : CoreOf) (line tail sent : List ℕ) (r : Result (Unit {0}) RunFault) → NoLf held.pending → HearsComing bridge.wire held (10 ∷ tail) → line ≡ strip_carriage_return held.pending → LineEnds bridge held.line line core sent r → MatchResult r (λ _. new ≡ next_line held core) (λ _. Unit {0}) → StepEnds (place_of held bridge) (10 ∷ []) tail new sent r
+line_answered held new bridge core line tail sent r nolf heard stripped h is =
+    line_step held new bridge core tail sent r nolf heard (subst (λ (l : List ℕ). LineEnds bridge held.line l core sent r) stripped h) is
 
 pub pushed : {T E : Type 0} (r : Result T E) (a b c : List ℕ) → false ≡ is_err r → a ≡ cond (is_ok r) b c → a ≡ b
 pushed (Ok x) a b c e h = h

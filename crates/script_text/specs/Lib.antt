@@ -7,9 +7,11 @@ pub mod Packets
 pub mod Calls
 pub mod Requests
 pub mod Text
+pub mod Datagrams
 pub mod RowLines
 pub mod Judged
 pub mod Lines
+pub mod Wire
 pub mod Bridge
 pub mod Output
 pub mod Scripts

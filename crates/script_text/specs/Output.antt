@@ -6,6 +6,7 @@ use Rattle.script_text.specs.declared.fault.RunFault.{RunFault}
 use Rattle.script_text.specs.declared.fault.RunFault.TheVariants as errors
 use Rattle.script_text.specs.Requests.{Request, request_of}
 use Rattle.script_text.specs.Lines.{lines_of, ended_lines}
+use Rattle.script_text.specs.Wire.{Wire}
 use Rattle.script_text.specs.Bridge.{Bridge, opening_bridge, answer_text, after}
 
 -- the text that is written, and the fault that ends it, if any: its line, the place of its word, and what it is
@@ -36,12 +37,12 @@ outcome_of bridge number [] = nothing
 outcome_of bridge number (line ∷ lines) = continues number bridge (request_of line) (λ b. outcome_of b (number + 1) lines)
 
 -- what a script gives
-abbrev pub output_of : List ℕ → Outcome
-output_of input = outcome_of opening_bridge 1 (lines_of input)
+abbrev pub output_of : Wire → List ℕ → Outcome
+output_of wire input = outcome_of (opening_bridge wire) 1 (lines_of input)
 
 -- what the lines of a text give that have ended
-abbrev pub ended_output_of : List ℕ → Outcome
-ended_output_of input = outcome_of opening_bridge 1 (ended_lines input)
+abbrev pub ended_output_of : Wire → List ℕ → Outcome
+ended_output_of wire input = outcome_of (opening_bridge wire) 1 (ended_lines input)
 
 -- the text begins so
 abbrev pub IsFrontOf : List ℕ → List ℕ → Type 0
@@ -52,9 +53,9 @@ abbrev pub IsCutOf : List ℕ → List ℕ → Type 0
 IsCutOf front all = (next : ℕ) × (rest : List ℕ) × (all ≡ front ++ next ∷ rest)
 
 -- what a run over this input leaves: what the reader still has, and what the writer held before and holds now
-abbrev pub RunEnds : List ℕ → Option (List ℕ) → Option (List ℕ) → Option (List ℕ) → Result (Unit {0}) RunFault → Type 0
-RunEnds input left before now (Ok u) = IsAtEnd left × ((output_of input).fault ≡ None) × Appends before now (output_of input).text
-RunEnds input left before now (Err (errors.Script line word fault)) = ((output_of input).fault ≡ Some (line, word, fault)) × Appends before now (output_of input).text
-RunEnds input left before now (Err errors.Write) = (sent : List ℕ) × IsCutOf sent (output_of input).text × Appends before now sent
-RunEnds input left before now (Err errors.Read) = (seen : List ℕ) × Consumes (Some input) left seen × ((ended_output_of seen).fault ≡ None) × Appends before now (ended_output_of seen).text
-RunEnds input left before now (Err errors.OutOfMemory) = (seen : List ℕ) × Consumes (Some input) left seen × (front : List ℕ) × IsFrontOf front seen × ((ended_output_of front).fault ≡ None) × Appends before now (ended_output_of front).text
+abbrev pub RunEnds : Wire → List ℕ → Option (List ℕ) → Option (List ℕ) → Option (List ℕ) → Result (Unit {0}) RunFault → Type 0
+RunEnds wire input left before now (Ok u) = IsAtEnd left × ((output_of wire input).fault ≡ None) × Appends before now (output_of wire input).text
+RunEnds wire input left before now (Err (errors.Script line word fault)) = ((output_of wire input).fault ≡ Some (line, word, fault)) × Appends before now (output_of wire input).text
+RunEnds wire input left before now (Err errors.Write) = (sent : List ℕ) × IsCutOf sent (output_of wire input).text × Appends before now sent
+RunEnds wire input left before now (Err errors.Read) = (seen : List ℕ) × Consumes (Some input) left seen × ((ended_output_of wire seen).fault ≡ None) × Appends before now (ended_output_of wire seen).text
+RunEnds wire input left before now (Err errors.OutOfMemory) = (seen : List ℕ) × Consumes (Some input) left seen × (front : List ℕ) × IsFrontOf front seen × ((ended_output_of wire front).fault ≡ None) × Appends before now (ended_output_of wire front).text

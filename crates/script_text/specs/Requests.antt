@@ -1,15 +1,17 @@
 -- What a line asks for (own).
-use Rattle.std.specs.Prelude.{◌≡◌, ℕ, ◌&&◌, ◌||◌, ◌==◌, not, List, [], ◌∷◌, ◌++◌, map, length, nat_lt, nat_le, slice_index, codes, Option, Some, None, Result, Ok, Err, if◌then◌else◌}
+use Rattle.std.specs.Prelude.{◌≡◌, ◌≢◌, ℕ, ◌&&◌, ◌||◌, ◌==◌, not, List, [], ◌∷◌, ◌++◌, map, length, nat_lt, nat_le, slice_index, codes, Option, Some, None, Result, Ok, Err, if◌then◌else◌}
 use Rattle.std.specs.List.{list_all, find, join_with_byte}
 use Rattle.std.specs.Str.{bytes_eq}
 use Rattle.desk_edit.specs.declared.command.Call.{Call}
+use Rattle.hex.specs.Hex.{IsBytes, decode_of, encode_lower}
+use Rattle.rtp_codec.specs.declared.address.Address.{Address as Endpoint}
 use Rattle.frame_gate.specs.declared.frame.FrameFault.{FrameFault}
 use Rattle.frame_gate.specs.Frame.{SourcePacket, fault_of}
 use Rattle.forward_rewrite.specs.Frame.{SourceFrame}
 use Rattle.intake.specs.Inputs.{Input}
 use Rattle.intake.specs.Inputs.Input.{frame}
 use Rattle.script_text.specs.declared.fault.Fault.{Fault}
-use Rattle.script_text.specs.declared.fault.Fault.TheVariants.{LineTooLong, BadByte, UnknownWord, MissingWord, BadFrame}
+use Rattle.script_text.specs.declared.fault.Fault.TheVariants.{LineTooLong, BadByte, UnknownWord, MissingWord, BadHex, BadFrame}
 use Rattle.script_text.specs.declared.value.Field.{Field}
 use Rattle.script_text.specs.declared.value.Field.TheVariants as fields
 use Rattle.script_text.specs.declared.value.Value.{Value}
@@ -19,30 +21,37 @@ use Rattle.script_text.specs.declared.name.Kind.TheVariants as kinds
 use Rattle.script_text.specs.declared.line.TheConstants.{LINE_LIMIT}
 use Rattle.script_text.specs.Words.{◌>>=◌, words_of, word_at, none_left, value_or}
 use Rattle.script_text.specs.Values.{value_text, values_of, number_at, address_at, AllFit}
-use Rattle.script_text.specs.Packets.{packet_text, packets_of, AllReadable}
+use Rattle.script_text.specs.Packets.{packet_text, octets_or, packets_of, AllReadable}
 use Rattle.script_text.specs.Calls.{call_of, call_words}
 
--- nothing, an operator's call, an item for the lane, or the desk's rows
+-- nothing, an operator's call, an item for the lane, a datagram from an address at a moment, or the desk's rows
 pub data Request : Type 0 where
   Nothing : Request
   Desk : (op : ℕ) (call : Call) → Request
   Item : (item : Input) → Request
+  Rx : (moment : ℕ) (from : Endpoint) (octets : List ℕ) → Request
   Show : Request
 
 -- how the first word of a line is written
 abbrev pub kind_text : Kind → List ℕ
 kind_text kinds.Desk = codes "desk"
 kind_text kinds.Frame = codes "frame"
+kind_text kinds.Rx = codes "rx"
 kind_text kinds.Show = codes "show"
+
+-- the kinds of lines
+abbrev pub line_kinds : List Kind
+line_kinds = kinds.Desk ∷ kinds.Frame ∷ kinds.Rx ∷ kinds.Show ∷ []
 
 -- the kind of line that a word begins
 abbrev pub kind_of : List ℕ → Option Kind
-kind_of word = find (λ kind. bytes_eq word (kind_text kind)) (kinds.Desk ∷ kinds.Frame ∷ kinds.Show ∷ [])
+kind_of word = find (λ kind. bytes_eq word (kind_text kind)) line_kinds
 
--- the fields that stand first behind it: OP; MOMENT ADDRESS SSRC EPOCH TS
+-- the fields that stand first behind it: OP; MOMENT ADDRESS SSRC EPOCH TS; MOMENT ADDRESS
 abbrev pub front_of : Kind → List Field
 front_of kinds.Desk = fields.Operator ∷ []
 front_of kinds.Frame = fields.U64 ∷ fields.Address ∷ fields.U32 ∷ fields.U64 ∷ fields.U32 ∷ []
+front_of kinds.Rx = fields.U64 ∷ fields.Address ∷ []
 front_of kinds.Show = []
 
 -- at least one packet
@@ -71,6 +80,18 @@ frame_of sighted words = do
 abbrev pub sighted : List Value → List SourcePacket → SourceFrame
 sighted vs packets = record { moment = number_at 0 vs; address = address_at 1 vs; source = number_at 2 vs; epoch = number_at 3 vs; frame = record { ts = number_at 4 vs; packets = packets } }
 
+-- the octets that a word at this place spells: there is one at least
+abbrev pub some_octets : ℕ → List ℕ → Result (List ℕ) (ℕ × Fault)
+some_octets place word = if length word == 0 then Err (place, BadHex) else octets_or place (decode_of word)
+
+-- a datagram that came so, the one word behind it being its octets
+unfoldable pub rx_of : ℕ → Endpoint → List (List ℕ) → Result Request (ℕ × Fault)
+rx_of moment from words = do
+  word ← word_at 4 words
+  octets ← some_octets 4 word.0
+  end ← none_left 5 word.1
+  Ok (Rx moment from octets)
+
 -- the desk's rows, where no word is left
 abbrev pub show_of : List (List ℕ) → Result Request (ℕ × Fault)
 show_of words = do
@@ -81,6 +102,7 @@ show_of words = do
 abbrev pub request_with : Kind → List Value → List (List ℕ) → Result Request (ℕ × Fault)
 request_with kinds.Desk vs words = desk_of (number_at 0 vs) words
 request_with kinds.Frame vs words = frame_of (sighted vs) words
+request_with kinds.Rx vs words = rx_of (number_at 0 vs) (address_at 1 vs) words
 request_with kinds.Show vs words = show_of words
 
 -- what words ask for
@@ -102,6 +124,20 @@ request_of line =
 -- the line of an operator's call: its words with spaces (32) between them
 abbrev pub desk_line : ℕ → Call → List ℕ
 desk_line op call = join_with_byte 32 (kind_text kinds.Desk ∷ value_text (Operator op) ∷ call_words call)
+
+-- the words of a datagram's line whose octets are written so
+abbrev pub rx_words : (moment : ℕ) → Endpoint → List ℕ → List (List ℕ)
+rx_words moment from octets = kind_text kinds.Rx ∷ map value_text (U64 moment ∷ Address from ∷ []) ++ octets ∷ []
+
+-- the line of a datagram
+abbrev pub rx_line : (moment : ℕ) → Endpoint → List ℕ → List ℕ
+rx_line moment from octets = join_with_byte 32 (rx_words moment from (encode_lower octets))
+
+-- there are octets, and all numbers are in range
+pub record IsDatagram (moment : ℕ) (from : Endpoint) (octets : List ℕ) : Type 0 where
+  pub front : AllFit (U64 moment ∷ Address from ∷ [])
+  pub bytes : IsBytes octets
+  pub some : octets ≢ []
 
 -- the values that stand first on the line of a frame
 abbrev pub front_values : SourceFrame → List Value

@@ -1,11 +1,12 @@
 -- What a script asks for, and what it is answered, request by request.
-use Rattle.std.specs.Prelude.{ℕ, List, [], ◌∷◌, Result, Ok, Err}
+use Rattle.std.specs.Prelude.{ℕ, List, [], ◌∷◌, ◌++◌, Result, Ok, Err}
 use Rattle.bridge_core.specs.Sent.{Sent}
 use Rattle.bridge_core.specs.Steps.{Step}
 use Rattle.script_text.specs.declared.fault.Fault.{Fault}
 use Rattle.script_text.specs.Requests.{Request, request_of}
 use Rattle.script_text.specs.Lines.{lines_of}
-use Rattle.script_text.specs.Bridge.{Bridge, opening_bridge, Answer, silence, replied, sent, shown, answer, after}
+use Rattle.script_text.specs.Wire.{Wire}
+use Rattle.script_text.specs.Bridge.{Bridge, opening_bridge, Answer, silence, replied, sent, heard, shown, answer, after}
 
 -- a request before others; a line with a fault ends them
 abbrev pub followed : Result Request (ℕ × Fault) → List Request → List Request
@@ -33,12 +34,13 @@ sent_in [] = []
 sent_in (silence ∷ answers) = sent_in answers
 sent_in (replied reply ∷ answers) = sent_in answers
 sent_in (sent out ∷ answers) = out ∷ sent_in answers
+sent_in (heard outcome up out ∷ answers) = out ++ sent_in answers
 sent_in (shown desk version ∷ answers) = sent_in answers
 
 -- the answers to a script
-abbrev pub answers_of : List ℕ → List Answer
-answers_of input = answers_to opening_bridge (requests_of (lines_of input))
+abbrev pub answers_of : Wire → List ℕ → List Answer
+answers_of wire input = answers_to (opening_bridge wire) (requests_of (lines_of input))
 
 -- the accepted calls of a script, as the desks that they leave, and its items
-abbrev pub steps_of : List ℕ → List Step
-steps_of input = (after_all opening_bridge (requests_of (lines_of input))).steps
+abbrev pub steps_of : Wire → List ℕ → List Step
+steps_of wire input = (after_all (opening_bridge wire) (requests_of (lines_of input))).steps

@@ -1,6 +1,7 @@
 -- What is printed (own): lines, as lists of words.
-use Rattle.std.specs.Prelude.{ℕ, List, [], ◌∷◌, ◌++◌, map, codes, Option, None, Some}
+use Rattle.std.specs.Prelude.{ℕ, ℤ, List, [], ◌∷◌, ◌++◌, map, codes, Option, None, Some}
 use Rattle.std.specs.List.{join_with_byte}
+use Rattle.std.specs.Fmt.{signed_decimal}
 use Rattle.hex.specs.Hex.{encode_lower}
 use Rattle.desk_edit.specs.declared.refusal.Carried.{Carried}
 use Rattle.desk_edit.specs.declared.refusal.Carried.TheVariants.{Nothing, Limit, Last}
@@ -27,16 +28,18 @@ fault_text BadAddress = codes "7 BadAddress"
 fault_text BadHex = codes "8 BadHex"
 fault_text BadFrame = codes "9 BadFrame"
 
--- a word of a line: as it stands, a value, or octets in hexadecimal
+-- a word of a line: as it stands, a value, a number with its sign, or octets in hexadecimal
 pub data Word : Type 0 where
   fixed : List ℕ → Word
   value : Value → Word
+  signed : ℤ → Word
   hex : List ℕ → Word
 
 -- how a word is written
 abbrev pub word_text : Word → List ℕ
 word_text (fixed text) = text
 word_text (value v) = value_text v
+word_text (signed n) = signed_decimal n
 word_text (hex octets) = encode_lower octets
 
 -- a line: its words with spaces (32) between them, and an LF (10)

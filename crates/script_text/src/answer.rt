@@ -5,18 +5,20 @@ ghost use Rattle.std.specs.List.{flat_map};
 ghost use Rattle.intake.specs.Inputs.{input_of};
 ghost use Rattle.bridge_core.specs.Sent.{sent_of};
 ghost use Rattle.script_text.specs.Text.{sent_text};
-ghost use Rattle.script_text.specs.Requests.{Desk, Item as ItemRequest, Show as ShowRequest};
+ghost use Rattle.script_text.specs.Requests.{Desk, Rx, Show as ShowRequest};
 ghost use Rattle.script_text.specs.inner.Cursor.{view};
-ghost use Rattle.script_text.specs.inner.Steps.{HasLane, wants_memory, AnswersRequest, AnswersLine};
+ghost use Rattle.script_text.specs.inner.Steps.{HasLane, wants_memory, HandsItem, HandsItems, AnswersRequest, AnswersLine};
 
 use crate::fault::{ParseFault, RunFault};
 use crate::line::{Line, parse_line};
+use crate::outcomes::{print_all_up, print_outcome};
 use crate::print::{print_egress, print_reply};
 use crate::sending::send;
 use crate::showing::print_rows;
 use crate::sink::Sink;
 use bridge_core::{Core, Egress, Item, Reply};
 use desk_edit::{Call, Refusal};
+use rtp_codec::Address;
 use std::alloc::{AllocError, Allocator};
 
 /// The lane that a script's items go to: there is this one alone.
@@ -74,9 +76,8 @@ fn answer_item<A: Allocator + Copy>(
     item: &Item<A>,
     out: &mut Vec<u8, A>,
 ) -> Result<(), AllocError>
-    requires lane { HasLane core.old }
-    requires empty { out.old.items ≡ [] }
-    ensures answer { OnOk result (AnswersRequest core.old (ItemRequest (input_of item.now)) core.new out.new.items) }
+    requires { HasLane core.old }
+    ensures answer { OnOk result (HandsItem core.old (input_of item.now) core.new out.old.items out.new.items) }
     ensures lane { HasLane core.new }
 {
     match core.item(alloc, LANE, item) {
@@ -84,6 +85,44 @@ fn answer_item<A: Allocator + Copy>(
         Err(_) => Err(AllocError),
         Ok(egresses) => print_all(&egresses, out),
     }
+}
+
+/// Hands items to the lane, one after another.
+fn answer_items<A: Allocator + Copy>(
+    alloc: A,
+    core: &mut Core<A>,
+    items: &[Item<A>],
+    out: &mut Vec<u8, A>,
+) -> Result<(), AllocError>
+    requires { HasLane core.old }
+    ensures answer { OnOk result (HandsItems core.old (map input_of items.now) core.new out.old.items out.new.items) }
+    ensures lane { HasLane core.new }
+{
+    for item in items {
+        answer_item(alloc, core, item, out)?;
+    }
+    Ok(())
+}
+
+/// Takes a datagram in, and appends the lines of its outcome, of what goes up, and of what goes out
+/// for its items.
+fn answer_datagram<A: Allocator + Copy>(
+    alloc: A,
+    core: &mut Core<A>,
+    moment: u64,
+    from: Address,
+    octets: &[u8],
+    out: &mut Vec<u8, A>,
+) -> Result<(), AllocError>
+    requires lane { HasLane core.old }
+    requires empty { out.old.items ≡ [] }
+    ensures answer { OnOk result (AnswersRequest core.old (Rx moment from octets.now) core.new out.new.items) }
+    ensures lane { HasLane core.new }
+{
+    let ingest = core.datagram(alloc, &from, moment, octets)?;
+    print_outcome(&ingest.outcome, out)?;
+    print_all_up(&ingest.up, out)?;
+    answer_items(alloc, core, &ingest.items, out)
 }
 
 /// Appends the lines of the desk's rows.
@@ -110,6 +149,11 @@ fn answer_request<A: Allocator + Copy>(
         Line::Nothing => Ok(()),
         Line::Desk { op, call } => answer_call(alloc, core, op, call, out),
         Line::Item(item) => answer_item(alloc, core, &item, out),
+        Line::Rx {
+            moment,
+            from,
+            octets,
+        } => answer_datagram(alloc, core, moment, from, &octets, out),
         Line::Show => answer_show(core, out),
     }
 }

@@ -1,6 +1,7 @@
 //! Appending lines to a text.
 
 ghost use Rattle.std.specs.Prelude.{◌≡◌, ◌+◌, ◌<◌, ◌∷◌, ◌++◌, [], OnOk, OnErr, decimal, length, map, vec_len, vec_capacity};
+ghost use Rattle.std.specs.Fmt.{signed_decimal};
 ghost use Rattle.hex.specs.Hex.{encode_lower};
 ghost use Rattle.script_text.specs.Addresses.{address_text};
 ghost use Rattle.script_text.specs.Kinds.{codec_text, media_text};
@@ -21,6 +22,8 @@ pub(crate) enum Word<'a> {
     Value(Value),
     /// As it stands.
     Fixed(&'a [u8]),
+    /// A number with its sign.
+    Signed(i64),
     /// Octets in hexadecimal.
     Hex(&'a [u8]),
 }
@@ -35,6 +38,14 @@ fn append<A: Allocator>(text: &[u8], out: &mut Vec<u8, A>) -> Result<(), AllocEr
 /// Appends a number.
 fn append_number<A: Allocator>(number: u64, out: &mut Vec<u8, A>) -> Result<(), AllocError>
     ensures { Grows (room_of out.old) (room_of out.new) (decimal number) result }
+{
+    let mut buffer = Buffer::new();
+    append(buffer.format(number).as_bytes(), out)
+}
+
+/// Appends a number with a `-` in front where it is below 0.
+fn append_signed<A: Allocator>(number: i64, out: &mut Vec<u8, A>) -> Result<(), AllocError>
+    ensures { Grows (room_of out.old) (room_of out.new) (signed_decimal number) result }
 {
     let mut buffer = Buffer::new();
     append(buffer.format(number).as_bytes(), out)
@@ -129,6 +140,7 @@ fn append_word<A: Allocator>(word: Word<'_>, out: &mut Vec<u8, A>) -> Result<(),
     match word {
         Word::Value(value) => append_value(value, out),
         Word::Fixed(text) => append(text, out),
+        Word::Signed(n) => append_signed(n, out),
         Word::Hex(octets) => append_hex(octets, out),
     }
 }

@@ -6,12 +6,12 @@ ghost use Rattle.frame_gate.specs.Frame.{fault_of};
 ghost use Rattle.script_text.specs.Words.{Gives};
 ghost use Rattle.script_text.specs.inner.Cursor.{words_in, size_of, view, sighting};
 ghost use Rattle.script_text.specs.Values.{field_of};
-ghost use Rattle.script_text.specs.Requests.{some_packets, framed, frame_of, desk_of, show_of, front_of, request_with, words_request, request_of};
+ghost use Rattle.script_text.specs.Requests.{some_packets, framed, frame_of, desk_of, some_octets, rx_of, show_of, front_of, request_with, words_request, request_of};
 
 use crate::building::call;
 use crate::fault::{Fault, ParseFault};
 use crate::name::{Kind, front, parse_kind};
-use crate::packet::packets;
+use crate::packet::{octets, packets};
 use crate::reading::read_values;
 use crate::value::{Value, address_at, operator_at, u32_at, u64_at};
 use crate::words::{end_of_words, next_word};
@@ -27,8 +27,16 @@ pub const LINE_LIMIT: usize = 65_536;
 #[derive(Drop)]
 pub(crate) enum Line<A: Allocator + Copy = Global> {
     Nothing,
-    Desk { op: u8, call: Call },
+    Desk {
+        op: u8,
+        call: Call,
+    },
     Item(Item<A>),
+    Rx {
+        moment: u64,
+        from: Address,
+        octets: Vec<u8, A>,
+    },
     Show,
 }
 
@@ -112,6 +120,40 @@ fn frame<A: Allocator + Copy>(
     framed(head, packets)
 }
 
+/// The octets that a word at this place spells, of which there is one at least.
+fn some_octets<A: Allocator + Copy>(
+    alloc: A,
+    word: &[u8],
+    place: u32,
+) -> Result<Vec<u8, A>, ParseFault>
+    ensures { Gives (λ v. v.items) result (some_octets place word.now) }
+{
+    if word.is_empty() {
+        return Err(Fault::BadHex.at(place));
+    }
+    octets(alloc, word, place)
+}
+
+/// A datagram that came at a moment from an address.
+#[tactic(auto, unfolding(crate::specs::Requests::rx_of))]
+fn rx<A: Allocator + Copy>(
+    alloc: A,
+    moment: u64,
+    from: Address,
+    words: Option<&[u8]>,
+) -> Result<Line<A>, ParseFault>
+    ensures { Gives view result (rx_of moment from (words_in words.entry)) }
+{
+    let (word, rest) = next_word(words, 4)?;
+    let octets = some_octets(alloc, word, 4)?;
+    end_of_words(rest, 5)?;
+    Ok(Line::Rx {
+        moment,
+        from,
+        octets,
+    })
+}
+
 /// What a line of this kind asks for, with these values first.
 fn line_with<A: Allocator + Copy>(
     alloc: A,
@@ -135,6 +177,7 @@ fn line_with<A: Allocator + Copy>(
             };
             frame(alloc, head, words)
         }
+        Kind::Rx => rx(alloc, u64_at(values, 0), address_at(values, 1), words),
         Kind::Show => show(words),
     }
 }

@@ -11,6 +11,7 @@ use crate::value::Field;
 pub(crate) enum Kind {
     Desk,
     Frame,
+    Rx,
     Show,
 }
 
@@ -22,6 +23,8 @@ pub(crate) fn parse_kind(word: &[u8]) -> Option<Kind>
         Some(Kind::Desk)
     } else if word == b"frame".as_slice() {
         Some(Kind::Frame)
+    } else if word == b"rx".as_slice() {
+        Some(Kind::Rx)
     } else if word == b"show".as_slice() {
         Some(Kind::Show)
     } else {
@@ -43,6 +46,7 @@ pub(crate) fn front(kind: Kind) -> &'static [Field]
             Field::U64,
             Field::U32,
         ],
+        Kind::Rx => &[Field::U64, Field::Address],
         Kind::Show => &[],
     }
 }

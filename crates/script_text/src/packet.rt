@@ -17,16 +17,27 @@ use hex::FromHexError;
 use std::alloc::Allocator;
 
 /// The octets that a word spells in hexadecimal. An empty word spells none.
-fn octets<A: Allocator + Copy>(alloc: A, word: &[u8], place: u32) -> Result<Bytes<A>, ParseFault>
-    ensures { Gives (λ x. x) result (octets_or place (decode_of word.now)) }
+pub(crate) fn octets<A: Allocator + Copy>(
+    alloc: A,
+    word: &[u8],
+    place: u32,
+) -> Result<Vec<u8, A>, ParseFault>
+    ensures { Gives (λ v. v.items) result (octets_or place (decode_of word.now)) }
 {
     match hex::decode(alloc, word) {
-        Ok(octets) => match Bytes::from_vec(octets) {
-            Ok(bytes) => Ok(bytes),
-            Err(_) => Err(ParseFault::OutOfMemory),
-        },
+        Ok(octets) => Ok(octets),
         Err(FromHexError::OutOfMemory) => Err(ParseFault::OutOfMemory),
         Err(_) => Err(Fault::BadHex.at(place)),
+    }
+}
+
+/// The octets of a payload.
+fn payload<A: Allocator + Copy>(alloc: A, word: &[u8], place: u32) -> Result<Bytes<A>, ParseFault>
+    ensures { Gives (λ x. x) result (octets_or place (decode_of word.now)) }
+{
+    match Bytes::from_vec(octets(alloc, word, place)?) {
+        Ok(bytes) => Ok(bytes),
+        Err(_) => Err(ParseFault::OutOfMemory),
     }
 }
 
@@ -81,7 +92,7 @@ fn packet_from<A: Allocator + Copy>(
     let Some(pt) = number(parts.pt, 255) else {
         return Err(Fault::BadNumber.at(place));
     };
-    let payload = octets(alloc, parts.payload, place)?;
+    let payload = payload(alloc, parts.payload, place)?;
     Ok(FramePacket {
         ext,
         marker: marker == 1,

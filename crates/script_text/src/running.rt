@@ -1,6 +1,8 @@
 //! A run over a source and a sink.
 
 ghost use Rattle.std.specs.Prelude.{◌≡◌, ◌≢◌, ◌⊎◌, ℕ, ◌^◌, ◌<◌, ◌≤◌, length, IfSome, IfOk};
+ghost use Rattle.script_text.specs.Wire.{Wire, HearsAll};
+ghost use Rattle.script_text.specs.Lines.{lines_of};
 ghost use Rattle.script_text.specs.Output.{output_of, RunEnds};
 ghost use Rattle.script_text.specs.declared.fault.Fault.{Fault};
 ghost use Rattle.script_text.specs.inner.Steps.{IsOpening, IsMidLine};
@@ -27,8 +29,8 @@ fn run_with<A: Allocator + Copy, S: Source, T: Sink>(
     requires midline { IsMidLine script.old }
     requires some { 0 < length chunk.old }
     requires few { length chunk.old ≤ CHUNK }
-    ensures run { IfSome (S.rest reader.old) (λ input.
-        RunEnds input (S.rest reader.new) (T.held writer.old) (T.held writer.new) result) }
+    ensures run { IfSome (S.rest reader.old) (λ input. (wire : Wire) → HearsAll wire (lines_of input)
+        → RunEnds wire input (S.rest reader.new) (T.held writer.old) (T.held writer.new) result) }
     ensures read { result ≡ Err RunFault.Read → S.may_fail ⊎ S.goes_on (2 ^ 32) reader.old reader.new }
     ensures write { result ≡ Err RunFault.Write →
         T.may_fail ⊎ (T.may_starve × T.may_split) ⊎ ((first : T) × T.goes_on (2 ^ 32) first writer.new) }
@@ -62,8 +64,8 @@ pub fn run<A: Allocator + Copy, S: Source, T: Sink>(
     reader: &mut S,
     writer: &mut T,
 ) -> Result<(), RunFault>
-    ensures run { IfSome (S.rest reader.old) (λ input.
-        RunEnds input (S.rest reader.new) (T.held writer.old) (T.held writer.new) result) }
+    ensures run { IfSome (S.rest reader.old) (λ input. (wire : Wire) → HearsAll wire (lines_of input)
+        → RunEnds wire input (S.rest reader.new) (T.held writer.old) (T.held writer.new) result) }
     ensures read { result ≡ Err RunFault.Read → S.may_fail ⊎ S.goes_on (2 ^ 32) reader.old reader.new }
     ensures write { result ≡ Err RunFault.Write →
         T.may_fail ⊎ (T.may_starve × T.may_split) ⊎ ((first : T) × T.goes_on (2 ^ 32) first writer.new) }
@@ -80,10 +82,10 @@ pub fn run<A: Allocator + Copy, S: Source, T: Sink>(
 /// The output of a script that is in memory, or why the run over it ended: a fault of the script, or
 /// want of memory.
 pub fn output<A: Allocator + Copy>(alloc: A, script: &[u8]) -> Result<Vec<u8, A>, RunFault>
-    ensures ok { IfOk result (λ out. ((output_of script.now).fault ≡ None) × (out.items
-        ≡ (output_of script.now).text)) }
-    ensures fault { (line word : ℕ) (fault : Fault) → result ≡ Err (RunFault.Script line word fault)
-        → (output_of script.now).fault ≡ Some (line, word, fault) }
+    ensures ok { (wire : Wire) → HearsAll wire (lines_of script.now) → IfOk result (λ out. ((output_of wire script.now).fault ≡ None) × (out.items
+        ≡ (output_of wire script.now).text)) }
+    ensures fault { (wire : Wire) (line word : ℕ) (fault : Fault) → HearsAll wire (lines_of script.now) → result ≡ Err (RunFault.Script line word fault)
+        → (output_of wire script.now).fault ≡ Some (line, word, fault) }
     ensures read { result ≢ Err RunFault.Read }
     ensures write { result ≢ Err RunFault.Write }
 {

@@ -6,7 +6,6 @@ use script_text::{Fault, RunFault, output};
 use std::alloc::Global;
 
 /// An empty script gives nothing.
-#[tactic(auto, unfolding(script_text::specs::Output::outcome_of, script_text::specs::Requests::request_of, script_text::specs::Requests::words_request))]
 pub fn an_empty_script(alloc: Global) -> Result<Vec<u8>, RunFault>
     ensures { IfOk result (λ out. out.items ≡ []) }
 {

@@ -11,7 +11,7 @@ use Rattle.script_text.specs.declared.line.Line.{Line}
 use Rattle.script_text.specs.declared.line.Line.TheVariants as lines
 use Rattle.script_text.specs.Words.{Fails, words_of}
 use Rattle.script_text.specs.Packets.{packet_of}
-use Rattle.script_text.specs.Requests.{Request, Nothing, Desk, Item, Show}
+use Rattle.script_text.specs.Requests.{Request, Nothing, Desk, Item, Rx, Show}
 
 -- the words that are left of a line, where nothing is left once the last was taken
 abbrev pub words_in : Option (Bor (List ℕ)) → List (List ℕ)
@@ -23,6 +23,7 @@ abbrev pub view : {A : Type 0} → Line A → Request
 view lines.Nothing = Nothing
 view (lines.Desk op call) = Desk op call
 view (lines.Item item) = Item (input_of item)
+view (lines.Rx moment from octets) = Rx moment from octets.items
 view lines.Show = Show
 
 -- the frame of these packets, with what stands before them

@@ -1,8 +1,10 @@
 -- A run between two octets: what the functions inside it say to one another.
-use Rattle.std.specs.List.{All}
+use Rattle.std.specs.List.{All, flat_map}
 use Rattle.std.specs.Prelude.{◌≡◌, ◌==◌, ◌<◌, Bool, true, false, ℕ, length, List, [], ◌++◌, Option, None, Result, Ok, Err}
 use Rattle.std.specs.Io.KnownBytes.{Appends}
 use Rattle.desk_edit.specs.declared.refusal.Refusal.TheVariants.{OutOfMemory}
+use Rattle.intake.specs.Inputs.{Input}
+use Rattle.intake.specs.Intakes.{Knows}
 use Rattle.bridge_core.specs.declared.reply.Reply.{Reply}
 use Rattle.bridge_core.specs.declared.reply.Reply.TheVariants.{Refused}
 use Rattle.bridge_core.specs.Following.{HasCalled}
@@ -10,8 +12,10 @@ use Rattle.bridge_core.specs.Steps.{CoreOf, HasTaken}
 use Rattle.script_text.specs.declared.fault.RunFault.{RunFault}
 use Rattle.script_text.specs.declared.fault.RunFault.TheVariants as errors
 use Rattle.script_text.specs.Requests.{Request, request_of}
+use Rattle.script_text.specs.Wire.{Wire, Hears, HearsAll, script_asker}
 use Rattle.script_text.specs.Lines.{lines_by, whole, ended, parts_of}
-use Rattle.script_text.specs.Bridge.{Bridge, first_desk, opening_bridge, answer_text, after}
+use Rattle.script_text.specs.Text.{sent_text}
+use Rattle.script_text.specs.Bridge.{Bridge, first_desk, opening_bridge, answer_text, after, item_sent, after_item, items_sent, items_text, after_items}
 use Rattle.script_text.specs.Output.{Outcome, told, stopped, outcome_of, IsFrontOf, IsCutOf}
 
 -- the reply tells of want of memory
@@ -24,6 +28,8 @@ pub record Stands (core : CoreOf) (bridge : Bridge) : Type 0 where
   pub taken : HasTaken core first_desk bridge.steps
   pub called : HasCalled core bridge.calls
   pub lanes : length core.lanes ≡ 1
+  pub knows : Knows core.intake bridge.sources
+  pub speaks : core.intake.asker ≡ script_asker
 
 -- the core has the lane that a script's items go to
 abbrev pub HasLane : CoreOf → Type 0
@@ -42,8 +48,8 @@ pub record Place : Type 0 where
   pub pending : List ℕ
 
 -- before any octet
-abbrev pub opening : Place
-opening = record { bridge = opening_bridge; line = 1; pending = [] }
+abbrev pub opening : Wire → Place
+opening wire = record { bridge = opening_bridge wire; line = 1; pending = [] }
 
 -- where a run is that holds this, if its core is this bridge
 abbrev pub place_of : Held → Bridge → Place
@@ -51,7 +57,7 @@ place_of held bridge = record { bridge = bridge; line = held.line; pending = hel
 
 -- a run of which no octet was read
 abbrev pub IsOpening : Held → Type 0
-IsOpening held = Stands held.core opening_bridge × (held.line ≡ 1) × (held.pending ≡ [])
+IsOpening held = ((wire : Wire) → Stands held.core (opening_bridge wire)) × (held.line ≡ 1) × (held.pending ≡ [])
 
 -- no line has ended of what has come
 abbrev pub IsMidLine : Held → Type 0
@@ -72,22 +78,36 @@ StepFails old octets sent errors.Write = (tail : List ℕ) → IsCutOf sent (to_
 StepFails old octets sent errors.Read = ⊥
 StepFails old octets sent errors.OutOfMemory = (front : List ℕ) × IsFrontOf front octets × (to_come ended old front ≡ record { text = sent; fault = None })
 
--- how a step over octets ended, and what is held then
-abbrev pub StepEnds : Place → List ℕ → Held → List ℕ → Result (Unit {0}) RunFault → Type 0
-StepEnds old octets new sent (Ok u) = (bridge : Bridge) × Stands new.core bridge × Goes old octets (place_of new bridge) sent
-StepEnds old octets new sent (Err e) = StepFails old octets sent e
+-- all datagrams are heard that come with these octets
+abbrev pub HearsComing : Wire → Held → List ℕ → Type 0
+HearsComing wire held text = HearsAll wire (lines_by whole (parts_of (held.pending ++ text)))
 
--- a step over octets that sends nothing
+-- how a step over octets ended before others that come behind them, and what is held then
+abbrev pub StepEnds : Place → List ℕ → List ℕ → Held → List ℕ → Result (Unit {0}) RunFault → Type 0
+StepEnds old octets tail new sent (Ok u) = (bridge : Bridge) × Stands new.core bridge × Goes old octets (place_of new bridge) sent × HearsComing bridge.wire new tail
+StepEnds old octets tail new sent (Err e) = StepFails old octets sent e
+
+-- a step over octets that sends nothing, whatever comes behind them
 abbrev pub Keeps : Held → List ℕ → Held → Result (Unit {0}) RunFault → Type 0
-Keeps old octets new result = (bridge : Bridge) → Stands old.core bridge → StepEnds (place_of old bridge) octets new [] result
+Keeps old octets new result = (bridge : Bridge) (tail : List ℕ) → HearsComing bridge.wire old (octets ++ tail) → Stands old.core bridge → StepEnds (place_of old bridge) octets tail new [] result
 
--- a step over octets, and what the writer held before and holds now
+-- a step over octets, and what the writer held before and holds now, whatever comes behind them
 abbrev pub Steps : Held → List ℕ → Held → Option (List ℕ) → Option (List ℕ) → Result (Unit {0}) RunFault → Type 0
-Steps old octets new before now result = (bridge : Bridge) → Stands old.core bridge → (sent : List ℕ) × Appends before now sent × StepEnds (place_of old bridge) octets new sent result
+Steps old octets new before now result =
+    (bridge : Bridge) (tail : List ℕ) → HearsComing bridge.wire old (octets ++ tail) → Stands old.core bridge
+    → (sent : List ℕ) × Appends before now sent × StepEnds (place_of old bridge) octets tail new sent result
 
 -- a request was answered by this text
 abbrev pub AnswersRequest : CoreOf → Request → CoreOf → List ℕ → Type 0
-AnswersRequest old request new text = (bridge : Bridge) → Stands old bridge → Stands new (after bridge request) × (text ≡ answer_text bridge request)
+AnswersRequest old request new text = (bridge : Bridge) → Hears bridge.wire (Ok request) → Stands old bridge → Stands new (after bridge request) × (text ≡ answer_text bridge request)
+
+-- the lane was handed an item, and this was written behind what stood before
+abbrev pub HandsItem : CoreOf → Input → CoreOf → List ℕ → List ℕ → Type 0
+HandsItem old item new before now = (bridge : Bridge) → Stands old bridge → Stands new (after_item bridge item) × (now ≡ before ++ flat_map sent_text (item_sent bridge item))
+
+-- the same for items, one after another
+abbrev pub HandsItems : CoreOf → List Input → CoreOf → List ℕ → List ℕ → Type 0
+HandsItems old items new before now = (bridge : Bridge) → Stands old bridge → Stands new (after_items bridge items) × (now ≡ before ++ items_text (items_sent bridge items))
 
 -- how the answer to one line ended, of which no other is known
 abbrev pub LineEnds : Bridge → ℕ → List ℕ → CoreOf → List ℕ → Result (Unit {0}) RunFault → Type 0
@@ -99,7 +119,7 @@ LineEnds old number line new sent (Err errors.OutOfMemory) = sent ≡ []
 
 -- the answer to one line, and what the writer held before and holds now
 abbrev pub AnswersLine : CoreOf → ℕ → List ℕ → CoreOf → Option (List ℕ) → Option (List ℕ) → Result (Unit {0}) RunFault → Type 0
-AnswersLine old number line new before now result = (bridge : Bridge) → Stands old bridge → (sent : List ℕ) × Appends before now sent × LineEnds bridge number line new sent result
+AnswersLine old number line new before now result = (bridge : Bridge) → Hears bridge.wire (request_of line) → Stands old bridge → (sent : List ℕ) × Appends before now sent × LineEnds bridge number line new sent result
 
 -- all was sent, or a front and not all, or nothing for want of memory
 abbrev pub SendEnds : List ℕ → List ℕ → Result (Unit {0}) RunFault → Type 0
@@ -122,4 +142,4 @@ FinishEnds old sent (Err errors.OutOfMemory) = to_come ended old [] ≡ record {
 
 -- the end of the input, and what the writer held before and holds now
 abbrev pub Finishes : Held → Option (List ℕ) → Option (List ℕ) → Result (Unit {0}) RunFault → Type 0
-Finishes old before now result = (bridge : Bridge) → Stands old.core bridge → (sent : List ℕ) × Appends before now sent × FinishEnds (place_of old bridge) sent result
+Finishes old before now result = (bridge : Bridge) → HearsComing bridge.wire old [] → Stands old.core bridge → (sent : List ℕ) × Appends before now sent × FinishEnds (place_of old bridge) sent result

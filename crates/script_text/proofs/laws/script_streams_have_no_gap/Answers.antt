@@ -7,5 +7,5 @@ pub returns-clause-good : goal.returns-clause-good
 returns-clause-good c = steps_good c.good_desks_stay_good.ensures
 
 pub returns-clause-no_gap : goal.returns-clause-no_gap
-returns-clause-no_gap c input name =
-    c.streams_have_no_gap.ensures 1 first_desk (steps_of input) name first_good (steps_good c.good_desks_stay_good.ensures input)
+returns-clause-no_gap c wire input name =
+    c.streams_have_no_gap.ensures 1 first_desk (steps_of wire input) name first_good (steps_good c.good_desks_stay_good.ensures wire input)

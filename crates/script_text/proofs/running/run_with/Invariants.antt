@@ -1,5 +1,7 @@
 use Rattle.std.proofs.Common.{◌≡◌, ◌+◌, ◌*◌, ◌≤◌, List, ℕ, Some}
 use Rattle.script_text.proofs.RunLemmas.{SoFar}
+use Rattle.script_text.specs.Wire.{Wire, HearsAll}
+use Rattle.script_text.specs.Lines.{lines_of}
 use Rattle.script_text.specs.inner.Steps.{IsMidLine}
 use Rattle.script_text.proofs.running.run_with.Given as goal
 
@@ -9,5 +11,5 @@ invariant-loop g l = record {
   midline : IsMidLine l.script;
   calls : g.S.Source.goes_on l.counter l.fn.reader l.reader;
   line : l.script.line ≤ 1 + 4096 * l.counter;
-  so_far : (input : List ℕ) → g.S.Source.rest l.fn.reader ≡ Some input → SoFar input (g.S.Source.rest l.reader) (g.T.Sink.held l.fn.writer) (g.T.Sink.held l.writer) l.script;
+  so_far : (wire : Wire) (input : List ℕ) → HearsAll wire (lines_of input) → g.S.Source.rest l.fn.reader ≡ Some input → SoFar wire input (g.S.Source.rest l.reader) (g.T.Sink.held l.fn.writer) (g.T.Sink.held l.writer) l.script;
 }
