@@ -15,4 +15,6 @@ mod setup;
 #[cfg(test)]
 mod starving;
 #[cfg(test)]
+mod taking;
+#[cfg(test)]
 mod writing;

@@ -9,7 +9,7 @@ use std::alloc::{AllocError, Global};
 use std::test::Fail;
 
 /// Takes all memory of a heap but for one piece of so many octets.
-fn hold(
+pub fn hold(
     alloc: Global,
     heap: &LocalHeap,
     octets: usize,

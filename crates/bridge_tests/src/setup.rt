@@ -78,7 +78,7 @@ pub fn frame_of<A: Allocator + Copy>(alloc: A, count: u16) -> Result<Item<A>, Fa
 }
 
 /// The address 10.0.0.N:5000.
-fn at(n: u8) -> Address {
+pub fn at(n: u8) -> Address {
     Address {
         ip: [10, 0, 0, n],
         port: 5_000,
