@@ -1,0 +1,24 @@
+use Rattle.std.proofs.Common.{◌++◌, sym, ap, ◌∙◌, subst}
+use Rattle.std.proofs.lemmas.List.{take_all}
+use Rattle.std.proofs.lemmas.List.Sums.{fold_more}
+use Rattle.udp_front.specs.Cut.{cut, with_octet, lines_in}
+use Rattle.udp_front.specs.Fed.{Kept, Stands, texts}
+use Rattle.udp_front.proofs.CutLemmas.{fed_lines, at_first, all_fed}
+use Rattle.udp_front.proofs.feeding.Lines.feed.Goals as goal
+
+pub loop-octet-preserved : goal.loop-octet-preserved
+loop-octet-preserved g c = λ before k h.
+    rw (fold_more with_octet k c.args.octets.now c.loop-octet.octet-index 0 c.loop-octet-test.true)
+    (c.in_ok-take.ensures before _ (c.loop-octet.invariant before k h))
+
+pub returns-clause-fed : goal.returns-clause-fed
+returns-clause-fed g c = λ before r.
+    let h = c.loop-octet.invariant (lines_in (cut before)) (cut before) (at_first (cut before) c.args.self.now r) in
+    let f = fed_lines before c.args.octets.now c.loop-octet.next (texts c.loop-octet.lines.items) (all_fed _ _ _ _ c.args.octets.now c.loop-octet.octet-index (take_all c.loop-octet.octet-index c.args.octets.now c.loop-octet-test.false) h) in
+    record { new_lines = f.0; is_long = ap (λ (q : Kept). q.too_long) c.next-2.view_is ∙ f.1.long }
+
+pub returns-clause-kept : goal.returns-clause-kept
+returns-clause-kept g c = λ before r.
+    let h = c.loop-octet.invariant (lines_in (cut before)) (cut before) (at_first (cut before) c.args.self.now r) in
+    let f = fed_lines before c.args.octets.now c.loop-octet.next (texts c.loop-octet.lines.items) (all_fed _ _ _ _ c.args.octets.now c.loop-octet.octet-index (take_all c.loop-octet.octet-index c.args.octets.now c.loop-octet-test.false) h) in
+    subst (λ (q : Kept). Stands (cut (before ++ c.args.octets.now)) q) (sym c.next-2.view_is) f.1

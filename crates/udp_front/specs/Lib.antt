@@ -1,0 +1,4 @@
+pub mod Cut
+pub mod Fed
+pub mod inner
+pub mod laws
