@@ -1,3 +1,4 @@
+pub mod Attempts
 pub mod Cut
 pub mod Fed
 pub mod inner

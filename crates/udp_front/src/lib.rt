@@ -6,6 +6,8 @@
 
 mod feeding;
 mod laws;
+mod wire;
 
 pub use feeding::{Fed, Lines};
 pub use laws::{cuts_are_whole, too_long_for_good};
+pub use wire::{Wire, send_all};
