@@ -10,7 +10,7 @@ use Rattle.std.proofs.lemmas.List.Sums.{take_while-cons, fold-append}
 use Rattle.std.proofs.lemmas.List.{map-append, append-nil}
 use Rattle.udp_front.specs.Cut.{Cut, cut, with_octet, uncut, is_short, lines_in, too_long_in, is_too_long, lines_of}
 use Rattle.udp_front.specs.Fed.{Kept, Stands, texts}
-use Rattle.udp_front.specs.inner.Holds.{Holds}
+use Rattle.udp_front.specs.inner.Holds.{Holds, in_place, unless}
 use Rattle.std.specs.declared.vec.Vec.{Vec}
 
 cons_short : {X : Type 0} (b : Bool) (x y : X) (s t : List X) → b ≡ true → s ≡ t ++ y ∷ [] → cond b (x ∷ s) [] ≡ cond b (x ∷ t) [] ++ y ∷ []
@@ -172,3 +172,24 @@ texts_push {A = A} old now line r text e o t = ap texts (is_pushed r (old ++ lin
 
 pub all_fed : (before : List (List ℕ)) (c : Cut) (k : Kept) (given : List (List ℕ)) (octets : List ℕ) (i : ℕ) → take i octets ≡ octets → Holds before (fold with_octet c (take i octets)) k given → Holds before (fold with_octet c octets) k given
 all_fed before c k given octets i e h = subst (λ (z : List ℕ). Holds before (fold with_octet c z) k given) e h
+
+pub unless-true : (e r f : Bool) (p : List ℕ) → r ≡ true → f ≡ true → unless r (unless e p) ≡ unless f p
+unless-true e r f p h k = ap (λ (b : Bool). unless b (unless e p)) h ∙ sym (ap (λ (b : Bool). unless b p) k)
+
+pub unless-false : (e r f : Bool) (p : List ℕ) → r ≡ false → f ≡ e → unless r (unless e p) ≡ unless f p
+unless-false e r f p h k = ap (λ (b : Bool). unless b (unless e p)) h ∙ sym (ap (λ (b : Bool). unless b p) k)
+
+-- an octet was taken into a line that began with what was carried over
+pub carried_step : (before : List (List ℕ)) (c d : Cut) (old new : Kept) (given more : List (List ℕ)) (carried p : List ℕ) (e r f : Bool)
+    → carried ≡ unless e p → unless r (unless e p) ≡ unless f p
+    → (Holds before c (in_place carried old) given → Holds before d (in_place (unless r carried) new) more)
+    → Holds before c (in_place (unless e p) old) given → Holds before d (in_place (unless f p) new) more
+carried_step before c d old new given more carried p e r f is same step h =
+    subst (λ (z : List ℕ). Holds before d (in_place z new) more) (ap (unless r) is ∙ same)
+    (step (subst (λ (z : List ℕ). Holds before c (in_place z old) given) (sym is) h))
+
+pub kept_if_ended : (e : Bool) (p : List ℕ) (k now : Kept) → e ≡ true → now ≡ k → in_place (unless e p) k ≡ now
+kept_if_ended e p k now h s = ap (λ (b : Bool). in_place (unless b p) k) h ∙ sym s
+
+pub kept_if_not : (e : Bool) (p : List ℕ) (k now : Kept) → e ≡ false → now ≡ in_place p k → in_place (unless e p) k ≡ now
+kept_if_not e p k now h s = ap (λ (b : Bool). in_place (unless b p) k) h ∙ sym s

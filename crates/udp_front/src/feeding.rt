@@ -4,7 +4,7 @@ ghost use Rattle.std.specs.Prelude.{◌≡◌, ◌++◌, ℕ, List, [], IfOk, On
 ghost use Rattle.std.specs.Str.Lines.{strip_carriage_return};
 ghost use Rattle.udp_front.specs.Cut.{Cut, with_octet};
 ghost use Rattle.udp_front.specs.Fed.{Kept, Represents, Answers, texts};
-ghost use Rattle.udp_front.specs.inner.Holds.{Holds};
+ghost use Rattle.udp_front.specs.inner.Holds.{Holds, in_place, unless};
 
 use std::alloc::{AllocError, Allocator, Global};
 use std::marker::Model;
@@ -45,6 +45,22 @@ fn without_cr(line: &[u8]) -> &[u8]
     }
 }
 
+/// The line of these octets and those, one after the other, without the CR at its end.
+fn line_of<A: Allocator + Copy>(
+    alloc: A,
+    front: &[u8],
+    back: &[u8],
+) -> Result<Vec<u8, A>, AllocError>
+    ensures { IfOk result (λ line. line.items ≡ strip_carriage_return (front.now ++ back.now)) }
+{
+    if back.is_empty() {
+        return Vec::from_slice(alloc, without_cr(front));
+    }
+    let mut line = Vec::from_slice(alloc, front)?;
+    line.extend_from_slice(without_cr(back))?;
+    Ok(line)
+}
+
 impl<A: Allocator + Copy> Lines<A> {
     /// A stream of which nothing has come.
     pub fn new(alloc: A) -> Self
@@ -56,31 +72,60 @@ impl<A: Allocator + Copy> Lines<A> {
         }
     }
 
-    /// Takes the next octet, and adds the line that it ends.
+    /// What a piece has brought before its first octet.
+    fn empty(&self, alloc: A) -> Self
+        ensures { result ≡ record { pending = []; too_long = self.now.too_long } }
+    {
+        Self {
+            pending: Vec::new(alloc),
+            too_long: self.too_long,
+        }
+    }
+
+    /// What is carried over into the line that comes next.
+    fn carried(&self, ended: bool) -> &[u8]
+        ensures { result.now ≡ unless ended self.now.pending }
+    {
+        if ended { &[] } else { &self.pending }
+    }
+
+    /// Keeps what a piece without an LF brought. An `Err` changes nothing.
+    fn lengthen(&mut self, more: &Self) -> Result<(), AllocError>
+        ensures ok { IfOk result (λ u. self.new ≡ in_place self.old.pending more.now) }
+        ensures err { OnErr result (self.new ≡ self.old) }
+    {
+        self.pending.extend_from_slice(&more.pending)?;
+        self.too_long = more.too_long;
+        Ok(())
+    }
+
+    /// Takes the next octet of a line that begins with `carried`, and tells whether it ended that
+    /// line, which is then added.
     fn take(
         &mut self,
         alloc: A,
+        carried: &[u8],
         octet: u8,
         lines: &mut Vec<Vec<u8, A>, A>,
-    ) -> Result<(), AllocError>
-        ensures { IfOk result (λ u. (before : List (List ℕ)) (c : Cut) → Holds before c self.old (texts lines.old.items)
-            → Holds before (with_octet c octet) self.new (texts lines.new.items)) }
+    ) -> Result<bool, AllocError>
+        ensures { IfOk result (λ ended. (before : List (List ℕ)) (c : Cut) → Holds before c (in_place carried.now self.old) (texts lines.old.items)
+            → Holds before (with_octet c octet) (in_place (unless ended carried.now) self.new) (texts lines.new.items)) }
     {
         if self.too_long {
-            return Ok(());
+            return Ok(false);
         }
         if octet == b'\n' {
-            let line = Vec::from_slice(alloc, without_cr(&self.pending))?;
+            let line = line_of(alloc, carried, &self.pending)?;
             lines.push(line)?;
             self.pending.clear();
-            return Ok(());
+            return Ok(true);
         }
-        if self.pending.len() >= LINE_LIMIT {
+        if carried.len() + self.pending.len() >= LINE_LIMIT {
             self.too_long = true;
-            return Ok(());
+            return Ok(false);
         }
         self.pending.push(octet)?;
-        Ok(())
+        Ok(false)
     }
 
     /// Takes the next piece of the stream. An `Err` changes nothing.
@@ -91,16 +136,22 @@ impl<A: Allocator + Copy> Lines<A> {
             → Represents self.new (before ++ octets.now)) }
         ensures err { OnErr result (self.new ≡ self.old) }
     {
-        let mut next = Self {
-            pending: Vec::from_slice(alloc, &self.pending)?,
-            too_long: self.too_long,
-        };
+        // What this piece brings stands apart, so that want of memory changes nothing.
+        let mut next = self.empty(alloc);
         let mut lines = Vec::new(alloc);
+        let mut ended = false;
         for octet in octets {
-            next.take(alloc, *octet, &mut lines)?;
+            let carried = self.carried(ended);
+            if next.take(alloc, carried, *octet, &mut lines)? {
+                ended = true;
+            }
         }
         let too_long = next.too_long;
-        *self = next;
+        if ended {
+            *self = next;
+        } else {
+            self.lengthen(&next)?;
+        }
         Ok(Fed { lines, too_long })
     }
 }

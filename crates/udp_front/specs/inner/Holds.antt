@@ -1,5 +1,5 @@
 -- Where a piece stands while it is read.
-use Rattle.std.specs.Prelude.{◌≡◌, ℕ, List, ◌++◌}
+use Rattle.std.specs.Prelude.{◌≡◌, ℕ, Bool, true, false, List, [], ◌++◌}
 use Rattle.udp_front.specs.Cut.{Cut, lines_in}
 use Rattle.udp_front.specs.Fed.{Kept, Stands}
 
@@ -7,3 +7,12 @@ use Rattle.udp_front.specs.Fed.{Kept, Stands}
 pub record Holds (before : List (List ℕ)) (c : Cut) (k : Kept) (given : List (List ℕ)) : Type 0 where
   pub stands : Stands c k
   pub lines : lines_in c ≡ before ++ given
+
+-- kept, where what was carried over stands before it
+abbrev pub in_place : List ℕ → Kept → Kept
+in_place carried k = record { pending = carried ++ k.pending; too_long = k.too_long }
+
+-- what is still carried over: nothing when a line has ended
+abbrev pub unless : Bool → List ℕ → List ℕ
+unless true carried = []
+unless false carried = carried

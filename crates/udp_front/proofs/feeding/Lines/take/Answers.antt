@@ -1,6 +1,7 @@
 use Rattle.std.proofs.lemmas.Bool.Decides.{nat_tests}
 use Rattle.std.proofs.Common.{sym, ap, ◌∙◌, arith}
 use Rattle.udp_front.specs.Fed.{Kept}
+use Rattle.udp_front.specs.inner.Holds.{in_place}
 use Rattle.udp_front.proofs.CutLemmas.{long_step, lf_step, texts_push}
 use Rattle.udp_front.proofs.feeding.Lines.take.Goals as goal
 
@@ -10,11 +11,11 @@ returns-then-self g c = λ before k h.
 
 pub returns-then-octet-eq10 : goal.returns-then-octet-eq10
 returns-then-octet-eq10 g c = λ before k h.
-    lf_step before k c.args.self.now _ _ _ c.args.octet
+    lf_step before k (in_place c.args.carried.now c.args.self.now) _ _ _ c.args.octet
     (sym (ap (λ (q : Kept). q.too_long) c.self.view_is) ∙ c.if-self.false)
     (let e = c.if-octet-eq10.true in grind (arith, nat_tests))
     c.clear.ensures.items
     (ap (λ (q : Kept). q.too_long) c.self.view_is)
     (texts_push c.args.lines.now.items _ c.in_ok-line.line c.push.result _ c.push.ensures.items c.in_ok-push.was
-    (let a = c.in_ok-line.ensures.items in let b = c.without_cr.ensures in let d = c.deref.ensures.value in let v = ap (λ (q : Kept). q.pending) c.self.view_is in cc))
+    (let a = c.in_ok-line.ensures in let d = c.deref.ensures.value in let v = ap (λ (q : Kept). q.pending) c.self.view_is in cc))
     h
