@@ -29,15 +29,37 @@ pub fn hold(
     Ok(held)
 }
 
+/// What was sent at last: how many packets, the item of the first and its stream, the stream of the
+/// last; and how often memory was refused before.
+#[derive(Clone, Copy)]
+struct Sent {
+    count: usize,
+    ends: Option<(u64, u32, u32)>,
+    refusals: u32,
+}
+
+/// The item of a packet that goes out, and its stream.
+fn place(egress: &Egress<&LocalHeap>) -> (u64, u32) {
+    let Egress::Media { item, ssrc, .. } = egress;
+    (*item, *ssrc)
+}
+
+/// The item of the first packet, its stream, and that of the last.
+fn ends(sent: &[Egress<&LocalHeap>]) -> Option<(u64, u32, u32)> {
+    let first = place(sent.first()?);
+    let last = place(sent.last()?);
+    Some((first.0, first.1, last.1))
+}
+
 /// What lane 0 sends for an item once the heap has enough memory left, which grows by so many
-/// octets, and how often it had not.
+/// octets.
 fn sent_at_last<'a>(
     alloc: Global,
     heap: &'a LocalHeap,
     core: &mut Core<&'a LocalHeap>,
     item: &Item<&'a LocalHeap>,
     more: usize,
-) -> Result<(Vec<Egress<&'a LocalHeap>, &'a LocalHeap>, u32), Fail> {
+) -> Result<Sent, Fail> {
     let mut refusals: u32 = 0;
     for pieces in 0..1_024 {
         let _held = hold(alloc, heap, more.saturating_mul(pieces))?;
@@ -45,7 +67,13 @@ fn sent_at_last<'a>(
             return Err(Fail::from("no lane"));
         }
         match core.item(heap, 0, item) {
-            Ok(sent) => return Ok((sent, refusals)),
+            Ok(sent) => {
+                return Ok(Sent {
+                    count: sent.len(),
+                    ends: ends(&sent),
+                    refusals,
+                });
+            }
             Err(LaneFault::OutOfMemory) => refusals = refusals.saturating_add(1),
             Err(LaneFault::Spent) => return Err(Fail::from("spent")),
         }
@@ -53,14 +81,17 @@ fn sent_at_last<'a>(
     Err(Fail::from("never sent"))
 }
 
-/// The numbers of the first and the last packet, as items of a lane.
-fn ends(sent: &[Egress<&LocalHeap>]) -> Option<(u64, u32, u32)> {
-    match (sent.first(), sent.last()) {
-        (Some(Egress::Media { item, ssrc, .. }), Some(Egress::Media { ssrc: last, .. })) => Some((
-            *item, *ssrc, *last,
-        )),
-        _ => None,
-    }
+/// Two frames on three streams.
+fn two_frames<'a>(
+    alloc: Global,
+    heap: &'a LocalHeap,
+    core: &mut Core<&'a LocalHeap>,
+) -> Result<bool, Fail> {
+    let item = frame(heap)?;
+    let begun = sent_at_last(alloc, heap, core, &item, 512)?;
+    let sent = sent_at_last(alloc, heap, core, &item, 16)?;
+    let first = begun.count == 3 && begun.ends == Some((1, 501, 503)) && begun.refusals > 100;
+    Ok(first && sent.count == 3 && sent.ends == Some((2, 501, 503)) && sent.refusals > 3)
 }
 
 /// A refused item takes no number, and the streams go on: the first one begins three streams, each
@@ -69,20 +100,23 @@ fn ends(sent: &[Egress<&LocalHeap>]) -> Option<(u64, u32, u32)> {
 fn an_item_is_sent_after_refusals(rt: HostRuntime) -> Result<(), Fail> {
     let heap = LocalHeap::new(rt.alloc(), 1 << 23)?;
     let mut core = core(&heap, 1, 3)?;
-    let first = frame(&heap)?;
-    let begun = sent_at_last(rt.alloc(), &heap, &mut core, &first, 512)?;
-    assert!(rt;
-        begun.1 > 100 && begun.0.len() == 3 && ends(&begun.0) == Some((1, 501, 503)),
-        "{} refusals",
-        begun.1
-    );
-    let second = frame(&heap)?;
-    let (sent, refusals) = sent_at_last(rt.alloc(), &heap, &mut core, &second, 16)?;
-    assert!(rt;
-        refusals > 3 && sent.len() == 3 && ends(&sent) == Some((2, 501, 503)),
-        "{refusals} refusals"
-    );
+    let are_sent = two_frames(rt.alloc(), &heap, &mut core)?;
+    assert!(rt; are_sent);
     Ok(())
+}
+
+/// A frame, and its packet again.
+fn sent_again<'a>(
+    alloc: Global,
+    heap: &'a LocalHeap,
+    core: &mut Core<&'a LocalHeap>,
+) -> Result<bool, Fail> {
+    let item = frame(heap)?;
+    let sent = sent_at_last(alloc, heap, core, &item, 4_096)?;
+    let asks = nack(heap, 2, &[65_535])?;
+    let again = sent_at_last(alloc, heap, core, &asks, 512)?;
+    let first = sent.count == 1;
+    Ok(first && again.count == 1 && again.ends == Some((1, 501, 501)) && again.refusals > 100)
 }
 
 /// A NACK that is refused takes no number either.
@@ -90,17 +124,8 @@ fn an_item_is_sent_after_refusals(rt: HostRuntime) -> Result<(), Fail> {
 fn a_nack_is_answered_after_refusals(rt: HostRuntime) -> Result<(), Fail> {
     let heap = LocalHeap::new(rt.alloc(), 1 << 23)?;
     let mut core = core(&heap, 1, 1)?;
-    let first = frame(&heap)?;
-    let sent = sent_at_last(rt.alloc(), &heap, &mut core, &first, 4_096)?;
-    let item = nack(&heap, 2, &[65_535])?;
-    let (again, refusals) = sent_at_last(rt.alloc(), &heap, &mut core, &item, 512)?;
-    assert!(rt;
-        refusals > 100
-            && sent.0.len() == 1
-            && again.len() == 1
-            && ends(&again) == Some((1, 501, 501)),
-        "{refusals} refusals"
-    );
+    let is_sent = sent_again(rt.alloc(), &heap, &mut core)?;
+    assert!(rt; is_sent);
     Ok(())
 }
 
@@ -127,21 +152,30 @@ fn added_at_last<'a>(
     Err(Fail::from("never accepted"))
 }
 
+/// Five rooms are added, and then an undo and a redo are accepted, which want no memory.
+fn rooms<'a>(
+    alloc: Global,
+    heap: &'a LocalHeap,
+    core: &mut Core<&'a LocalHeap>,
+) -> Result<bool, Fail> {
+    for no in 5..10u64 {
+        let (number, refusals) = added_at_last(alloc, heap, core, no as u32)?;
+        if number != no || refusals == 0 {
+            return Ok(false);
+        }
+    }
+    let _held = hold(alloc, heap, 0)?;
+    let undone = core.desk(heap, 0, Call::Undo { last: 9 });
+    let redone = core.desk(heap, 0, Call::Redo { last: 10 });
+    Ok(undone == Reply::Accepted { no: 10 } && redone == Reply::Accepted { no: 11 })
+}
+
 #[test]
 fn a_command_is_accepted_after_refusals(rt: HostRuntime) -> Result<(), Fail> {
     let heap = LocalHeap::new(rt.alloc(), 1 << 23)?;
     let mut core = core(&heap, 1, 0)?;
-    for no in 5..10u64 {
-        let (number, refusals) = added_at_last(rt.alloc(), &heap, &mut core, no as u32)?;
-        assert!(rt;
-            number == no && refusals > 0,
-            "{no} after {refusals} refusals"
-        );
-    }
-    // An undo wants no memory, nor does a redo.
-    let _held = hold(rt.alloc(), &heap, 0)?;
-    assert!(rt; core.desk(&heap, 0, Call::Undo { last: 9 }) == Reply::Accepted { no: 10 });
-    assert!(rt; core.desk(&heap, 0, Call::Redo { last: 10 }) == Reply::Accepted { no: 11 });
+    let are_added = rooms(rt.alloc(), &heap, &mut core)?;
+    assert!(rt; are_added);
     Ok(())
 }
 
