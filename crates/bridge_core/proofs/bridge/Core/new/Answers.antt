@@ -17,3 +17,8 @@ pub returns-clause-good : goal.returns-clause-good
 returns-clause-good g c =
     let named : is_name c.args.settings.cname ≡ true = sym c.is_good.ensures ∙ c.if-not-is_good.false in
     no_fault c.args.lanes c.args.settings.cname c.if-lanes-eq0.false c.if-lanes-gt-LANES.false named
+
+pub returns-in_default-new-clause-memory : goal.returns-in_default-new-clause-memory
+returns-in_default-new-clause-memory g c = λ e.
+    let named : is_name c.args.settings.cname ≡ true = sym c.is_good.ensures ∙ c.if-not-is_good.false in
+    no_fault c.args.lanes c.args.settings.cname c.if-lanes-eq0.false c.if-lanes-gt-LANES.false named
