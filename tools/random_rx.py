@@ -415,6 +415,8 @@ CALLS = [
     "pin 1 102", "pin 1 101", "unpin 1", "give-floor 1 10", "take-floor 1", "remove-slot 501", "add-slot 501 12 2 5 5", "remove-source 101",
     "add-source 101 10 video", "remove-member 12", f"add-member 12 1 {R} l16 9003 0 0", "add-slot 502 12 0 7 7",
 ]  # fmt: skip
+# What puts back that without which most packets are of nobody.
+MENDS = ["add-source 101 10 video", f"add-member 12 1 {R} l16 9003 0 0", "add-slot 502 12 0 7 7", "subscribe 501 101"]
 
 
 class Sender:
@@ -447,14 +449,14 @@ def drawn(r, lines):
     """A random script with its answers."""
     bridge = Bridge()
     script = [(line, bridge.answer(line)) for line in SETUP]
-    senders = [Sender(r, P, 101, False), Sender(r, P, 101, False), Sender(r, Q, 102, False), Sender(r, P, 201, True)]
-    senders = [senders[0], senders[0], *senders[2:]]
+    first = Sender(r, P, 101, False)
+    senders = [first, first, Sender(r, Q, 102, False), Sender(r, P, 201, True)]
     moment, calls = 10**18, 0
     for _ in range(lines):
         moment += r.choice([0, 999, 1000, 10**6, 33_333_333])
         kind = r.random()
         if kind < 0.02:
-            words = r.choice(CALLS) if r.random() < 0.6 else f"{r.choice(['undo', 'undo', 'redo'])} {bridge.version}"
+            words = r.choice(CALLS + 5 * MENDS) if r.random() < 0.8 else f"{r.choice(['undo', 'redo'])} {bridge.version}"
             line = f"desk {r.randrange(16)} {words}"
             calls += 1
         elif kind < 0.07:

@@ -8,7 +8,7 @@ const NANOSECONDS: u128 = 1_000_000_000;
 
 /// The stream that is being read.
 #[derive(Drop)]
-pub struct Stream {
+pub(crate) struct Stream {
     /// The clock rate in Hz.
     rate: u32,
     ssrc: u32,
@@ -34,7 +34,7 @@ fn name(verdict: Verdict) -> &'static str {
 }
 
 impl Stream {
-    pub fn new() -> Self {
+    pub(crate) fn new() -> Self {
         Self {
             rate: 0,
             ssrc: 0,
@@ -48,7 +48,7 @@ impl Stream {
     ///     rtp NS seq=SEQ ts=TS expect=VERDICT                     a packet that came at this moment
     ///     sr NS ntp=HEX                                           a sender report
     ///     rules NS fraction= lost= highest= jitter= lsr= dlsr=    a report, after which a new interval begins
-    pub fn line(&mut self, line: &str) -> Option<bool> {
+    pub(crate) fn line(&mut self, line: &str) -> Option<bool> {
         let mut words = line.split(' ');
         match words.next()? {
             "stream" => {
