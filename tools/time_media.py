@@ -1,5 +1,5 @@
 #!/usr/bin/env python3
-"""Times what the core does with frames and NACKs, by the release binary of the crate bench.
+"""Times what the core does with frames, NACKs and datagrams, by the release binary of the crate bench.
 
 usage: time_media.py [--runs N] [--seconds S] [BINARY]
 
@@ -33,6 +33,9 @@ CASES = {
     "number of a NACK of 512, 16 slots": ("nack 16 1", WINDOW),
     "number of a NACK of 512, 4096 slots": ("nack 4096 1", WINDOW),
     "number looked up in the stream alone": ("find 16 1", WINDOW),
+    "datagram taken in, 2 sources": ("datagram 2 1", 1),
+    "datagram taken in, 2045 sources": ("datagram 2045 1", 1),
+    "datagram from nobody's address": ("elsewhere 2 1", 1),
 }
 
 

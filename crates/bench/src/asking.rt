@@ -13,6 +13,10 @@ pub enum Case {
     Nack,
     /// The same 512 numbers are looked up in the stream alone.
     Find,
+    /// Video packets of so many sources in turn come in.
+    Datagram,
+    /// The same, from an address where there is no member.
+    Elsewhere,
     /// The yardstick: as many octets as 16 receivers of a frame get are copied into fresh vectors,
     /// which are let go together.
     Copy,
@@ -20,7 +24,8 @@ pub enum Case {
     Keep,
 }
 
-/// A case, how often it is done, on a desk of how many slots, and with how many packets in a frame.
+/// A case, how often it is done, on a desk of how many slots or sources, and with how many packets in a
+/// frame.
 #[derive(Clone, Copy)]
 pub struct Order {
     pub case: Case,
@@ -36,6 +41,8 @@ fn case_of(word: &str) -> Option<Case> {
         "nobody" => Some(Case::Nobody),
         "nack" => Some(Case::Nack),
         "find" => Some(Case::Find),
+        "datagram" => Some(Case::Datagram),
+        "elsewhere" => Some(Case::Elsewhere),
         "copy" => Some(Case::Copy),
         "keep" => Some(Case::Keep),
         _ => None,
@@ -66,6 +73,6 @@ pub fn asked(
         _ => None,
     };
     order.ok_or(io::Error::other(
-        "usage: bench frame|nobody|nack|find|copy|keep TIMES SLOTS PACKETS",
+        "usage: bench frame|nobody|nack|find|datagram|elsewhere|copy|keep TIMES SLOTS PACKETS",
     ))
 }

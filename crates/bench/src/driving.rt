@@ -2,6 +2,7 @@
 
 use crate::asking::{Case, Order};
 use crate::copying::{copied, kept};
+use crate::datagrams::taken;
 use crate::items::{SEEN, UNSEEN, address_of, frame_of, nack_of};
 use crate::room::{RECEIVERS, core_with, last_owner};
 use crate::tally::Tally;
@@ -13,6 +14,9 @@ use std::io;
 /// The packets that a full window has.
 const WINDOW: u16 = 512;
 
+/// A number whose address no member has.
+const NOWHERE: u16 = 60_000;
+
 /// Does what is ordered.
 pub fn driven(alloc: Global, order: &Order) -> io::Result<Tally> {
     let copies = usize::from(RECEIVERS) * usize::from(order.packets);
@@ -21,6 +25,8 @@ pub fn driven(alloc: Global, order: &Order) -> io::Result<Tally> {
         Case::Nobody => frames(alloc, order, UNSEEN),
         Case::Nack => nacks(alloc, order),
         Case::Find => Ok(finds(alloc, order)?),
+        Case::Datagram => taken(alloc, order, 0),
+        Case::Elsewhere => taken(alloc, order, NOWHERE),
         Case::Copy => Ok(copied(alloc, order.times, copies)?),
         Case::Keep => Ok(kept(alloc, order.times, copies)?),
     }

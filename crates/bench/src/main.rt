@@ -4,6 +4,7 @@
 
 mod asking;
 mod copying;
+mod datagrams;
 mod driving;
 mod items;
 mod room;

@@ -89,7 +89,7 @@ fn add_member(alloc: Global, core: &mut Core, member: u16) -> io::Result<()> {
     call(alloc, core, Command::AddMember(row))
 }
 
-fn add_source(alloc: Global, core: &mut Core, ssrc: u32) -> io::Result<()> {
+pub fn add_source(alloc: Global, core: &mut Core, ssrc: u32) -> io::Result<()> {
     let row = Source {
         ssrc,
         member: 0,
