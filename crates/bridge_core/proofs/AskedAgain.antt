@@ -12,7 +12,7 @@ use Rattle.forward_rewrite.specs.declared.sending.Stamp.{Stamp}
 use Rattle.forward_rewrite.specs.Streams.{StreamOf}
 use Rattle.feedback.specs.Asked.{firsts}
 use Rattle.feedback.specs.Resends.{resends_to, resends}
-use Rattle.bridge_core.specs.OwnStreams.{is_mine}
+use Rattle.forward_rewrite.specs.OwnStreams.{is_mine}
 use Rattle.intake.specs.Inputs.{Input, Request}
 use Rattle.bridge_core.specs.Sent.{Sent}
 use Rattle.bridge_core.specs.Lanes.{Visit, Routed, routed, packets_sent, stream_of, packets, goes, is_lanes}

@@ -14,7 +14,7 @@ use Rattle.topology.specs.Receivers.{receivers, receiver_at, receiving, receiver
 use Rattle.forward_rewrite.specs.Frame.{SourceFrame}
 use Rattle.forward_rewrite.specs.RoutedList.{part_of, numbered}
 use Rattle.frame_gate.specs.Frame.{SourcePacket}
-use Rattle.bridge_core.specs.OwnStreams.{is_mine}
+use Rattle.forward_rewrite.specs.OwnStreams.{is_mine}
 use Rattle.intake.specs.Inputs.{Input}
 use Rattle.bridge_core.specs.Lanes.{Visit, routed_to, packets_at, goes, is_lanes, sends_at}
 use Rattle.bridge_core.specs.LaneState.{visit_of}

@@ -13,7 +13,7 @@ use Rattle.forward_rewrite.specs.declared.sending.Stamp.{Stamp}
 use Rattle.forward_rewrite.specs.Frame.{SourceFrame}
 use Rattle.forward_rewrite.specs.Sending.{sending_of, out_of, IsOf}
 use Rattle.forward_rewrite.specs.Streams.{StreamOf, committed}
-use Rattle.bridge_core.specs.OwnStreams.{is_mine}
+use Rattle.forward_rewrite.specs.OwnStreams.{is_mine}
 use Rattle.bridge_core.specs.Sent.{Sent}
 use Rattle.bridge_core.specs.Lanes.{owner_of, goes}
 use Rattle.bridge_core.specs.LaneState.{StreamList, stream_at}

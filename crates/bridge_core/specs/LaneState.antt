@@ -3,7 +3,7 @@ use Rattle.std.specs.Prelude.{◌≡◌, ℕ, ◌+◌, true, nat_eq, List, [], �
 use Rattle.std.specs.Map.{lookup}
 use Rattle.desk_rows.specs.Desk.{Desk}
 use Rattle.forward_rewrite.specs.Streams.{StreamOf}
-use Rattle.bridge_core.specs.OwnStreams.{is_mine}
+use Rattle.forward_rewrite.specs.OwnStreams.{is_mine}
 use Rattle.intake.specs.Inputs.{Input}
 use Rattle.bridge_core.specs.Sent.{Sent}
 use Rattle.bridge_core.specs.Lanes.{Visit, routed, stream_of, sends_at}

@@ -13,7 +13,7 @@ use Rattle.forward_rewrite.specs.Sending.{Sending}
 use Rattle.forward_rewrite.specs.RoutedList.{packets_of}
 use Rattle.forward_rewrite.specs.Streams.{StreamOf, state_of}
 use Rattle.feedback.specs.Resends.{resends}
-use Rattle.bridge_core.specs.OwnStreams.{is_mine}
+use Rattle.forward_rewrite.specs.OwnStreams.{is_mine}
 use Rattle.intake.specs.Inputs.{Input}
 use Rattle.bridge_core.specs.Sent.{Sent}
 use Rattle.bridge_core.specs.Sent.Sent.{media}

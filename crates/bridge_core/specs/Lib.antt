@@ -1,4 +1,3 @@
-pub mod OwnStreams
 pub mod Sent
 pub mod Lanes
 pub mod LaneState

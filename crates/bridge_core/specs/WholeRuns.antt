@@ -5,7 +5,7 @@ use Rattle.desk_rows.specs.Desk.{Desk}
 use Rattle.topology.specs.declared.receivers.Receiver.{Receiver}
 use Rattle.topology.specs.Receivers.{receiver_on}
 use Rattle.forward_rewrite.specs.Frame.{SourceFrame}
-use Rattle.bridge_core.specs.OwnStreams.{is_mine}
+use Rattle.forward_rewrite.specs.OwnStreams.{is_mine}
 use Rattle.intake.specs.Inputs.{Input}
 use Rattle.bridge_core.specs.Sent.{Sent}
 use Rattle.intake.specs.Inputs.Input.{frame, nack}

@@ -9,10 +9,9 @@ ghost use Rattle.bridge_core.specs.inner.VideoStreams.{Answers};
 
 use crate::egress::Egress;
 use crate::fault::LaneFault;
-use crate::lane_place::LanePlace;
 use crate::video::VideoStreams;
 use desk_rows::Rows;
-use forward_rewrite::Stamp;
+use forward_rewrite::{LanePlace, Stamp};
 use intake::Item;
 use std::alloc::{AllocError, Allocator, Global};
 use std::marker::Model;

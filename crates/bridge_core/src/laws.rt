@@ -11,7 +11,7 @@ ghost use Rattle.desk_edit.specs.Calls.{CallHistory, no_calls};
 ghost use Rattle.topology.specs.declared.receivers.Receiver.{Receiver};
 ghost use Rattle.topology.specs.Receivers.{receiver_on};
 ghost use Rattle.forward_rewrite.specs.Frame.{SourceFrame};
-ghost use Rattle.bridge_core.specs.OwnStreams.{is_mine};
+ghost use Rattle.forward_rewrite.specs.OwnStreams.{is_mine};
 ghost use Rattle.intake.specs.Inputs.{Input, Request};
 ghost use Rattle.bridge_core.specs.Sent.{Sent};
 ghost use Rattle.bridge_core.specs.Lanes.{packets, goes, routed_to, sends_at};

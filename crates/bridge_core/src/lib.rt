@@ -5,7 +5,6 @@ mod bridge;
 mod egress;
 mod fault;
 mod lane;
-mod lane_place;
 mod laws;
 mod reply;
 mod video;

@@ -4,7 +4,7 @@ ghost use Rattle.std.specs.Prelude.{◌≡◌, ℕ, ◌+◌, ◌*◌, ◌≤◌,
 ghost use Rattle.indexmap.specs.IndexMap.{spare};
 ghost use Rattle.topology.specs.Receivers.{AreDistinct};
 ghost use Rattle.forward_rewrite.specs.Sending.{out_of};
-ghost use Rattle.bridge_core.specs.OwnStreams.{is_mine};
+ghost use Rattle.forward_rewrite.specs.OwnStreams.{is_mine};
 ghost use Rattle.intake.specs.Inputs.{Request};
 ghost use Rattle.bridge_core.specs.Sent.{sent_of};
 ghost use Rattle.intake.specs.Inputs.Input.{frame as frame_input, nack as nack_input};
@@ -14,10 +14,9 @@ ghost use Rattle.bridge_core.specs.inner.Readies.{Fits, AllFit, IsNext, AreNext,
 ghost use Rattle.bridge_core.specs.inner.VideoStreams.{Answers};
 
 use crate::egress::Egress;
-use crate::lane_place::LanePlace;
 use desk_rows::Rows;
 use feedback::resend;
-use forward_rewrite::{MediaFrame, OutPacket, Prepared, Stamp, Stream};
+use forward_rewrite::{LanePlace, MediaFrame, OutPacket, Prepared, Stamp, Stream};
 use indexmap::IndexMap;
 use retransmit::{Entry, Owner};
 use rtp_codec::Address;

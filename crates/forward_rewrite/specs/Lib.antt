@@ -3,5 +3,6 @@ pub mod Sending
 pub mod Timestamps
 pub mod RoutedList
 pub mod Streams
+pub mod OwnStreams
 pub mod inner
 pub mod laws

@@ -4,7 +4,9 @@
 //! A contract speaks of the list of frames so far. Begin with [`Stream::new`].
 #![tactic(auto)]
 
+mod counts;
 mod frame;
+mod lane_place;
 mod last_sent;
 mod laws;
 mod packets;
@@ -12,7 +14,9 @@ mod prepared;
 mod sending;
 mod stream;
 
+pub use self::counts::Counts;
 pub use self::frame::MediaFrame;
+pub use self::lane_place::LanePlace;
 pub use self::laws::{
     each_frame_goes_whole, found_is_what_was_sent, numbers_in_a_row, time_goes_on,
 };

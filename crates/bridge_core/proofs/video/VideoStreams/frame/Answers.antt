@@ -3,7 +3,7 @@ use Rattle.std.specs.Prelude.{filter, OnErr, Result, Ok, Err}
 use Rattle.topology.specs.declared.receivers.Receiver.{Receiver}
 use Rattle.topology.specs.Receivers.{receivers, AreDistinct}
 use Rattle.forward_rewrite.specs.Frame.{SourceFrame}
-use Rattle.bridge_core.specs.OwnStreams.{is_mine}
+use Rattle.forward_rewrite.specs.OwnStreams.{is_mine}
 use Rattle.bridge_core.specs.Sent.{sent_of}
 use Rattle.bridge_core.specs.LaneState.{StreamList, stream_at}
 use Rattle.bridge_core.specs.inner.Readies.{receivers_of, AreNext, kept_after, sent_for}

@@ -1,7 +1,7 @@
 //! Which streams are a lane's.
 
 ghost use Rattle.std.specs.Prelude.{◌≡◌, ◌<◌};
-ghost use Rattle.bridge_core.specs.OwnStreams.{is_mine};
+ghost use Rattle.forward_rewrite.specs.OwnStreams.{is_mine};
 
 /// A lane among several. It has the streams whose SSRC leaves its number when it is divided by
 /// the number of lanes.
