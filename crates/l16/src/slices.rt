@@ -1,0 +1,26 @@
+//! Whole packets of samples.
+
+ghost use Rattle.std.specs.Prelude.{◌≡◌, ◌*◌, length};
+ghost use Rattle.l16.specs.Samples.{samples_of, octets_of};
+
+/// Decodes each two octets into the place of their sample.
+pub fn decode(octets: &[u8], samples: &mut [i16])
+    requires { length octets.now ≡ 2 * length samples.old }
+    ensures { samples.new ≡ samples_of octets.now }
+{
+    for i in 0..samples.len() {
+        samples[i] = i16::from_be_bytes([octets[2 * i], octets[2 * i + 1]]);
+    }
+}
+
+/// Encodes each sample into the places of its two octets.
+pub fn encode(samples: &[i16], octets: &mut [u8])
+    requires { length octets.old ≡ 2 * length samples.now }
+    ensures { octets.new ≡ octets_of samples.now }
+{
+    for i in 0..samples.len() {
+        let [high, low] = samples[i].to_be_bytes();
+        octets[2 * i] = high;
+        octets[2 * i + 1] = low;
+    }
+}
