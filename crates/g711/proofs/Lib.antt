@@ -3,3 +3,4 @@ pub mod Placing
 pub mod Holding
 pub mod Again
 pub mod Zipped
+pub mod Codes

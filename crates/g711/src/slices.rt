@@ -2,7 +2,7 @@
 
 ghost use Rattle.std.specs.Prelude.{◌≡◌, length, map};
 ghost use Rattle.std.specs.List.{AllZip};
-ghost use Rattle.g711.specs.MuLaw.{decoded, IsCode};
+ghost use Rattle.g711.specs.MuLaw.{decoded, IsCode, code_of};
 
 use crate::samples::{decode, encode};
 
@@ -19,7 +19,8 @@ pub fn decode_all(codes: &[u8], out: &mut [i16])
 /// Encodes each sample into the place of its own.
 pub fn encode_all(samples: &[i16], out: &mut [u8])
     requires { length out.old ≡ length samples.now }
-    ensures { AllZip IsCode samples.now out.new }
+    ensures held { AllZip IsCode samples.now out.new }
+    ensures codes { out.new ≡ map code_of samples.now }
 {
     for i in 0..out.len() {
         out[i] = encode(samples[i]);
