@@ -3,6 +3,7 @@ pub mod Sending
 pub mod Timestamps
 pub mod RoutedList
 pub mod Streams
+pub mod Mixes
 pub mod OwnStreams
 pub mod inner
 pub mod laws

@@ -9,6 +9,7 @@ mod frame;
 mod lane_place;
 mod last_sent;
 mod laws;
+mod mix_stream;
 mod packets;
 mod prepared;
 mod sending;
@@ -20,6 +21,7 @@ pub use self::lane_place::LanePlace;
 pub use self::laws::{
     each_frame_goes_whole, found_is_what_was_sent, numbers_in_a_row, time_goes_on,
 };
+pub use self::mix_stream::{MixStream, PreparedMix};
 pub use self::prepared::Prepared;
 pub use self::sending::{OutPacket, Stamp};
 pub use self::stream::Stream;
