@@ -21,10 +21,13 @@ pub record MixTick : Type 0 where
   pub sound : Option Sound
   pub moment : ℕ
 
--- a tick with a sound
-abbrev pub sounding : Codec → List ℕ → List ℤ → ℕ → MixTick
-sounding codec csrcs samples moment =
-    record { sound = Some (record { codec = codec; csrcs = csrcs; samples = samples }); moment = moment }
+-- the sound of these samples
+abbrev pub sound_of : Codec → List ℕ → List ℤ → Sound
+sound_of codec csrcs samples = record { codec = codec; csrcs = csrcs; samples = samples }
+
+-- a tick with this sound
+abbrev pub sounding : Sound → ℕ → MixTick
+sounding sound moment = record { sound = Some sound; moment = moment }
 
 -- a tick without one
 abbrev pub silent : ℕ → MixTick

@@ -1,4 +1,5 @@
 pub mod Counters
+pub mod MixCounters
 pub mod Ready
 pub mod Row
 pub mod Sharing

@@ -9,6 +9,7 @@ mod frame;
 mod lane_place;
 mod last_sent;
 mod laws;
+mod mix_packets;
 mod mix_stream;
 mod packets;
 mod prepared;

@@ -2,16 +2,22 @@
 
 ghost use Rattle.std.specs.Prelude.{◌≡◌, ◌≤◌, [], ◌∷◌, ℕ, List, length, IfOk, OnErr};
 ghost use Rattle.rtp_codec.specs.Packet.{most_csrcs};
-ghost use Rattle.forward_rewrite.specs.Mixes.{MixTick, sounding, silent, mix_state, mix_counts, HasMixed, GivesTick};
+ghost use Rattle.forward_rewrite.specs.Mixes.{MixTick, sound_of, sounding, silent, mix_state, mix_counts, HasMixed, GivesTick};
+ghost use Rattle.forward_rewrite.specs.inner.MixCounters.{IsPreparedMix, after_silence};
 
 use crate::counts::Counts;
+use crate::mix_packets::{packet_of, payload_len, payload_type};
 use crate::sending::OutPacket;
 use desk_rows::Codec;
+use rtp_codec::{Header, seq_next};
 use std::alloc::{AllocError, Allocator, Global};
 use std::marker::Model;
 
 /// How far the timestamp goes on in a tick: 20 ms at 8000 Hz.
 const TICK_UNITS: u32 = 160;
+
+/// The clock of its timestamps, in Hz.
+const RATE: u32 = 8000;
 
 /// An outgoing mix stream, of PCMU or L16 at 8000 Hz. It begins with its first packet, and from then on each tick takes its
 /// timestamp on by 160.
@@ -96,12 +102,49 @@ impl MixStream {
         samples: &[i16],
         moment: u64,
     ) -> Result<PreparedMix<A>, AllocError>
-        requires csrcs { length csrcs.now ≤ most_csrcs }
-        requires stub { ⊥ }
-        ensures gives { IfOk result (λ p. GivesTick self.now p.next (sounding codec csrcs.now samples.now moment) (p.packet ∷ [])) }
+        requires { length csrcs.now ≤ most_csrcs }
+        ensures gives { IfOk result (λ p. GivesTick self.now p.next (sounding (sound_of codec csrcs.now samples.now) moment) (p.packet ∷ [])) }
         ensures ssrc { IfOk result (λ p. p.next.ssrc ≡ self.now.ssrc) }
     {
-        unreachable!()
+        self.by_counters(alloc, codec, csrcs, samples, moment)
+    }
+
+    /// The packet of a tick that sounds, by what the stream keeps.
+    fn by_counters<A: Allocator + Copy>(
+        &self,
+        alloc: A,
+        codec: Codec,
+        csrcs: &[u32],
+        samples: &[i16],
+        moment: u64,
+    ) -> Result<PreparedMix<A>, AllocError>
+        requires { length csrcs.now ≤ most_csrcs }
+        ensures { IfOk result (λ p. IsPreparedMix self.now (sound_of codec csrcs.now samples.now) moment p) }
+    {
+        let header = Header {
+            marker: !self.spoke,
+            pt: payload_type(codec),
+            seq: self.next,
+            ts: self.ts,
+            ssrc: self.ssrc,
+        };
+        let bytes = packet_of(alloc, &header, csrcs, codec, samples)?;
+        let octets = payload_len(codec, samples);
+        Ok(PreparedMix {
+            next: MixStream {
+                ssrc: self.ssrc,
+                next: seq_next(self.next),
+                ts: self.ts.wrapping_add(TICK_UNITS),
+                spoke: true,
+                packets: self.packets.wrapping_add(1),
+                octets: self.octets.wrapping_add((octets % 4_294_967_296) as u32),
+                moment: Some(moment),
+            },
+            packet: OutPacket {
+                number: self.next,
+                bytes,
+            },
+        })
     }
 
     /// Sends what was prepared. This takes no memory.
@@ -124,30 +167,47 @@ impl MixStream {
         samples: &[i16],
         moment: u64,
     ) -> Result<OutPacket<A>, AllocError>
-        requires csrcs { length csrcs.now ≤ most_csrcs }
-        requires stub { ⊥ }
-        ensures gives { IfOk result (λ out. GivesTick self.old self.new (sounding codec csrcs.now samples.now moment) (out ∷ [])) }
+        requires { length csrcs.now ≤ most_csrcs }
+        ensures gives { IfOk result (λ out. GivesTick self.old self.new (sounding (sound_of codec csrcs.now samples.now) moment) (out ∷ [])) }
         ensures ssrc { self.new.ssrc ≡ self.old.ssrc }
         ensures err { OnErr result (self.new ≡ self.old) }
     {
-        unreachable!()
+        let prepared = self.prepare(alloc, codec, csrcs, samples, moment)?;
+        Ok(self.commit(prepared))
     }
 
     /// A tick that sends no packet, at this moment in nanoseconds since 1970. Before the first packet it changes nothing. This takes
     /// no memory.
     pub fn pass(&mut self, moment: u64)
-        requires stub { ⊥ }
         ensures gives { GivesTick self.old self.new (silent moment) [] }
         ensures ssrc { self.new.ssrc ≡ self.old.ssrc }
     {
-        unreachable!()
+        self.go_on(moment);
+    }
+
+    /// A tick that sends no packet, by what the stream keeps.
+    fn go_on(&mut self, moment: u64)
+        ensures { self.new ≡ after_silence self.old moment }
+    {
+        self.spoke = false;
+        if self.moment.is_some() {
+            self.ts = self.ts.wrapping_add(TICK_UNITS);
+            self.moment = Some(moment);
+        }
     }
 
     /// What a sender report tells of it, once it has sent a packet. Ticks that sent none take its timestamp and moment on too.
     pub fn counts(&self) -> Option<Counts>
-        requires stub { ⊥ }
         ensures { (first_seq first_ts : ℕ) (ticks : List MixTick) → HasMixed self.now first_seq first_ts ticks → result ≡ mix_counts self.now.ssrc first_seq first_ts ticks }
     {
-        unreachable!()
+        let ts = self.ts.wrapping_sub(TICK_UNITS);
+        self.moment.map(|moment| Counts {
+            ssrc: self.ssrc,
+            packets: self.packets,
+            octets: self.octets,
+            ts,
+            moment,
+            rate: RATE,
+        })
     }
 }
