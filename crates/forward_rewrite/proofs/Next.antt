@@ -1,6 +1,7 @@
 -- One more frame.
-use Rattle.std.proofs.Common.{◌≡◌, ℕ, ◌+◌, ◌%◌, ◌^◌, true, false, cond, List, [], ◌∷◌, ◌++◌, length, map, Option, Some, refl, sym, ap, ◌∙◌, arith, length-append, append-nil, subst}
+use Rattle.std.proofs.Common.{◌≡◌, ℕ, ◌+◌, ◌%◌, ◌^◌, true, false, cond, List, [], ◌∷◌, ◌++◌, length, map, Option, Some, refl, sym, ap, ◌∙◌, arith, rules, length-append, append-nil, subst}
 use Rattle.std.proofs.lemmas.List.{length-map}
+use Rattle.std.proofs.lemmas.List.Sums.{sum_by-append}
 use Rattle.std.specs.Prelude.{option_map}
 use Rattle.std.specs.List.{AllByRecursion}
 use Rattle.frame_gate.specs.Frame.{SourcePacket}
@@ -11,7 +12,7 @@ use Rattle.retransmit.specs.Window.{room, latest}
 use Rattle.forward_rewrite.specs.declared.last_sent.LastSent.{LastSent}
 use Rattle.forward_rewrite.specs.Timestamps.{Stamped, same_run, stamp_in_run, pause, difference, stamped, last_or, last_of}
 use Rattle.forward_rewrite.specs.RoutedList.{part_of, parts, numbered, packets_of}
-use Rattle.forward_rewrite.specs.Streams.{StreamOf, PreparedOf, sent, state_of, committed, SendsNext}
+use Rattle.forward_rewrite.specs.Streams.{StreamOf, PreparedOf, payload_octets, sent, state_of, committed, SendsNext}
 use Rattle.forward_rewrite.specs.inner.Counters.{ts_after, stamped_next, next_parts, IsPrepared}
 use Rattle.forward_rewrite.proofs.Stamps.{InRun, begun, next, walk, end, stamped-cons, walk-append, end-before, Within, end_within}
 use Rattle.forward_rewrite.proofs.Numbers.{numbered-append, numbered_alike, length-numbered}
@@ -93,9 +94,19 @@ advanced s next = record {
   ssrc = s.ssrc;
   first_ts = s.first_ts;
   next = (s.next + length next.frame.frame.packets) % 2 ^ 16;
+  packets = (s.packets + length next.frame.frame.packets) % 2 ^ 32;
+  octets = (s.octets + payload_octets (next_parts s next) % 2 ^ 32) % 2 ^ 32;
   last = Some (sent next.frame (ts_after s.first_ts s.last next.frame));
   window = latest room (s.window ++ numbered s.ssrc s.next (next_parts s next));
 }
+
+-- a stream by its fields
+same_fields : (ssrc first_ts n n' packets packets' octets octets' : ℕ) (last last' : Option LastSent) (window window' : List SentPacket)
+    → n ≡ n' → packets ≡ packets' → octets ≡ octets' → last ≡ last' → window ≡ window'
+    → (let old : StreamOf = record { ssrc = ssrc; first_ts = first_ts; next = n; packets = packets; octets = octets; last = last; window = window } in
+    let new : StreamOf = record { ssrc = ssrc; first_ts = first_ts; next = n'; packets = packets'; octets = octets'; last = last'; window = window' } in
+    old ≡ new)
+same_fields ssrc first_ts n n' packets packets' octets octets' last last' window window' a b c d e = search rules
 
 pub state_more : (ssrc first_seq first_ts : ℕ) (before : List Sending) (s : Sending)
     → advanced (state_of ssrc first_seq first_ts before) s ≡ state_of ssrc first_seq first_ts (before ++ s ∷ [])
@@ -106,24 +117,31 @@ state_more ssrc first_seq first_ts before s =
     let ps = parts (stamped first_ts before) in
     let all = parts (stamped first_ts (before ++ s ∷ [])) in
     let new = numbered ssrc state.next (next_parts state s) in
-    let mk = λ (n : ℕ) (last : Option LastSent) (window : List SentPacket). let s : StreamOf = record { ssrc = ssrc; first_ts = first_ts; next = n; last = last; window = window } in s in
     let longer : length all ≡ length ps + length packets =
     ap length (parts-append ssrc first_seq first_ts before s) ∙ length-append ps (next_parts state s) ∙ ap (λ n. length ps + n) (length-map packets (part_of x)) in
-    let next : (state.next + length packets) % 2 ^ 16 ≡ (first_seq + length all) % 2 ^ 16 = omega arith in
+    let octets : payload_octets all ≡ payload_octets ps + payload_octets (next_parts state s) =
+    ap payload_octets (parts-append ssrc first_seq first_ts before s) ∙ sum_by-append (λ part. length part.packet.payload) ps (next_parts state s) in
     let last : Some (keep x) ≡ option_map keep (last_of (stamped first_ts (before ++ s ∷ []))) =
     sym (ap (λ xs. option_map keep (last_of xs)) (stamped-append first_ts before s) ∙ ap (option_map keep) (last_of-append (stamped first_ts before) x)) in
     let window : latest room (state.window ++ new) ≡ latest room (packets_of ssrc first_seq first_ts (before ++ s ∷ [])) =
     latest-append (packets_of ssrc first_seq first_ts before) new ∙ sym (ap (latest room) (packets_more ssrc first_seq first_ts before s)) in
-    ap (λ n. mk n (Some (keep x)) (latest room (state.window ++ new))) next
-    ∙ ap (λ l. mk ((first_seq + length all) % 2 ^ 16) l (latest room (state.window ++ new))) last
-    ∙ ap (mk ((first_seq + length all) % 2 ^ 16) (option_map keep (last_of (stamped first_ts (before ++ s ∷ []))))) window
+    same_fields ssrc first_ts _ _ _ _ _ _ _ _ _ _ (omega (arith, longer)) (omega (arith, longer)) (omega (arith, octets)) last window
+
+-- as many packets as the frame has
+pub count_next : (old : StreamOf) (s : Sending) (p : PreparedOf) → IsPrepared old s p → length p.packets ≡ length s.frame.frame.packets
+count_next old s p prepared =
+    ap length prepared.packets
+    ∙ length-numbered old.ssrc old.next (next_parts old s)
+    ∙ length-map s.frame.frame.packets (part_of (stamped_next old s))
 
 prepared_stream : (old : StreamOf) (s : Sending) (p : PreparedOf) → IsPrepared old s p → committed old p ≡ advanced old s
 prepared_stream old s p prepared =
-    let mk = λ (n : ℕ) (last : LastSent) (packets : List SentPacket). let s : StreamOf = record { ssrc = old.ssrc; first_ts = old.first_ts; next = n; last = Some last; window = latest room (old.window ++ packets) } in s in
-    ap (λ n. mk n p.last p.packets) prepared.behind
-    ∙ ap (λ l. mk ((old.next + length s.frame.frame.packets) % 2 ^ 16) l p.packets) prepared.last
-    ∙ ap (mk ((old.next + length s.frame.frame.packets) % 2 ^ 16) (sent s.frame (ts_after old.first_ts old.last s.frame))) prepared.packets
+    same_fields old.ssrc old.first_ts _ _ _ _ _ _ _ _ _ _
+    prepared.behind
+    (ap (λ n. (old.packets + n) % 2 ^ 32) (count_next old s p prepared))
+    (ap (λ n. (old.octets + n) % 2 ^ 32) prepared.octets)
+    (ap Some prepared.last)
+    (ap (λ xs. latest room (old.window ++ xs)) prepared.packets)
 
 -- what was prepared and then committed is the next frame
 pub sends_next : (old : StreamOf) (s : Sending) (p : PreparedOf) → IsPrepared old s p → SendsNext old (committed old p) s p.packets
@@ -133,13 +151,6 @@ sends_next old s p prepared first_seq first_ts before h = (
       (ap (λ (x : StreamOf). numbered x.ssrc x.next (next_parts x s)) (sym h) ∙ sym prepared.packets),
   prepared_stream old s p prepared ∙ ap (λ x. advanced x s) h ∙ state_more old.ssrc first_seq first_ts before s,
 )
-
--- as many packets as the frame has
-pub count_next : (old : StreamOf) (s : Sending) (p : PreparedOf) → IsPrepared old s p → length p.packets ≡ length s.frame.frame.packets
-count_next old s p prepared =
-    ap length prepared.packets
-    ∙ length-numbered old.ssrc old.next (next_parts old s)
-    ∙ length-map s.frame.frame.packets (part_of (stamped_next old s))
 
 all_are_of : (ssrc n : ℕ) (s : Stamped) (packets : List SourcePacket) → AllByRecursion (IsOf s.sending) (numbered ssrc n (map (part_of s) packets))
 all_are_of ssrc n s [] = tt

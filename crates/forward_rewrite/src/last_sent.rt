@@ -35,6 +35,20 @@ impl LastSent {
         }
     }
 
+    /// The timestamp under which it was sent.
+    pub fn ts(&self) -> u32
+        ensures { result ≡ self.now.ts }
+    {
+        self.ts
+    }
+
+    /// The moment at which it came, in nanoseconds since 1970.
+    pub fn moment(&self) -> u64
+        ensures { result ≡ self.now.moment }
+    {
+        self.moment
+    }
+
     /// The timestamp of one more frame.
     pub fn ts_for<A: Allocator + Copy>(&self, frame: &MediaFrame<A>) -> u32
         ensures { result ≡ ts_after 0 (Some self.now) frame.now }

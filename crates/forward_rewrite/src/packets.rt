@@ -1,6 +1,6 @@
 //! The packets of a frame as a stream sends them.
 
-ghost use Rattle.std.specs.Prelude.{◌≡◌, ◌≤◌, ◌∷◌, [], map, IfOk};
+ghost use Rattle.std.specs.Prelude.{◌≡◌, ◌≤◌, ◌%◌, ◌^◌, ◌∷◌, [], length, map, sum_by, IfOk};
 ghost use Rattle.std.specs.List.{All};
 ghost use Rattle.frame_gate.specs.Frame.{highest_pt};
 ghost use Rattle.rtp_codec.specs.Packet.{written};
@@ -94,6 +94,17 @@ pub fn entries_of<A: Allocator + Copy>(
         number = seq_next(number);
     }
     Ok(entries)
+}
+
+/// How many octets of payload packets have, modulo 2^32.
+pub fn payload_octets<A: Allocator + Copy>(packets: &[FramePacket<A>]) -> u32
+    ensures { result ≡ sum_by (λ p. length p.payload) packets.now % 2 ^ 32 }
+{
+    let mut octets: u32 = 0;
+    for packet in packets {
+        octets = octets.wrapping_add((packet.payload.len() % 4_294_967_296) as u32);
+    }
+    octets
 }
 
 /// A packet as it goes out: its number, and the octets that the window keeps too.

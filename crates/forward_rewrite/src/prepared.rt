@@ -15,6 +15,8 @@ pub struct Prepared<A: Allocator + Copy = Global> {
     pub(crate) first: u16,
     /// The number behind its last packet.
     pub(crate) next: u16,
+    /// How many octets of payload they have, modulo 2^32.
+    pub(crate) octets: u32,
     pub(crate) last: LastSent,
     /// What the window is to keep.
     pub(crate) entries: Vec<Entry<A>, A>,
@@ -28,7 +30,7 @@ impl<A: Allocator + Copy> Model for Prepared<A> {
 
     ghost Value = { PreparedOf };
 
-    ghost view = { λ p. record { first = p.first; next = p.next; last = p.last; packets = p.entries.items } };
+    ghost view = { λ p. record { first = p.first; next = p.next; octets = p.octets; last = p.last; packets = p.entries.items } };
 
     ghost invariant = { λ p. IsReady p.first p.next p.entries.items p.out.items };
 }

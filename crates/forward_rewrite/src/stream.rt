@@ -1,21 +1,25 @@
 //! Outgoing video streams: they number their packets in a row, keep a time of their own, and the last packets.
 
-ghost use Rattle.std.specs.Prelude.{◌≡◌, ◌≤◌, [], ◌++◌, length, map, IfOk, OnErr, option_copied};
+ghost use Rattle.std.specs.Prelude.{◌≡◌, ◌≤◌, ℕ, List, [], ◌++◌, length, map, IfOk, OnErr, option_copied};
 ghost use Rattle.std.specs.List.{AllByRecursion};
 ghost use Rattle.retransmit.specs.Window.{room, latest, resend_of};
-ghost use Rattle.forward_rewrite.specs.Sending.{sending_of, out_of, IsOf};
-ghost use Rattle.forward_rewrite.specs.Streams.{state_of, committed, SendsNext, GivesNext};
+ghost use Rattle.forward_rewrite.specs.Sending.{Sending, sending_of, out_of, IsOf};
+ghost use Rattle.forward_rewrite.specs.Streams.{state_of, counts_of, committed, HasSent, SendsNext, GivesNext};
 ghost use Rattle.forward_rewrite.specs.inner.Counters.{ts_after, IsPrepared};
 ghost use Rattle.forward_rewrite.specs.inner.Row.{MayGoOn};
 
+use crate::counts::Counts;
 use crate::frame::MediaFrame;
 use crate::last_sent::LastSent;
-use crate::packets::{Shared, entries_of, out_packets};
+use crate::packets::{Shared, entries_of, out_packets, payload_octets};
 use crate::prepared::Prepared;
 use crate::sending::{OutPacket, Stamp};
 use retransmit::{Entry, Owner, Window};
 use std::alloc::{AllocError, Allocator, Global};
 use std::marker::Model;
+
+/// The clock of video timestamps, in Hz.
+const RATE: u32 = 90000;
 
 /// An outgoing video stream. Its window keeps the last 512 packets.
 #[derive(Drop)]
@@ -25,6 +29,10 @@ pub struct Stream<A: Allocator + Copy = Global> {
     first_ts: u32,
     /// The number of the next packet.
     next: u16,
+    /// How many packets it has sent, modulo 2^32.
+    packets: u32,
+    /// How many octets of payload they had, modulo 2^32.
+    octets: u32,
     last: Option<LastSent>,
     window: Window<A>,
 }
@@ -35,7 +43,7 @@ impl<A: Allocator + Copy> Model for Stream<A> {
 
     ghost Value = { StreamOf };
 
-    ghost view = { λ s. record { ssrc = s.ssrc; first_ts = s.first_ts; next = s.next; last = s.last; window = s.window } };
+    ghost view = { λ s. record { ssrc = s.ssrc; first_ts = s.first_ts; next = s.next; packets = s.packets; octets = s.octets; last = s.last; window = s.window } };
 
     ghost invariant = { λ s. IsKept s.window s.next };
 }
@@ -64,6 +72,8 @@ impl<A: Allocator + Copy> Stream<A> {
             ssrc,
             first_ts,
             next: first_seq,
+            packets: 0,
+            octets: 0,
             last: None,
             window,
         })
@@ -74,6 +84,20 @@ impl<A: Allocator + Copy> Stream<A> {
         ensures { result ≡ self.now.ssrc }
     {
         self.ssrc
+    }
+
+    /// What a sender report tells of it, once it has sent a frame. What is sent again isn't counted.
+    pub fn counts(&self) -> Option<Counts>
+        ensures { (first_seq first_ts : ℕ) (sendings : List Sending) → HasSent self.now first_seq first_ts sendings → result ≡ counts_of self.now.ssrc first_ts sendings }
+    {
+        self.last.map(|last| Counts {
+            ssrc: self.ssrc,
+            packets: self.packets,
+            octets: self.octets,
+            ts: last.ts(),
+            moment: last.moment(),
+            rate: RATE,
+        })
     }
 
     /// The timestamp of one more frame.
@@ -128,6 +152,7 @@ impl<A: Allocator + Copy> Stream<A> {
         Ok(Prepared {
             first: self.next,
             next: self.next.wrapping_add(whole.len()),
+            octets: payload_octets(whole.sent()),
             last: LastSent::new(frame, ts),
             entries,
             out,
@@ -143,11 +168,16 @@ impl<A: Allocator + Copy> Stream<A> {
         let Prepared {
             first: _,
             next,
+            octets,
             last,
             entries,
             out,
         } = prepared;
         self.next = next;
+        self.packets = self
+            .packets
+            .wrapping_add((entries.len() % 4_294_967_296) as u32);
+        self.octets = self.octets.wrapping_add(octets);
         self.last = Some(last);
         keep(&mut self.window, entries);
         out

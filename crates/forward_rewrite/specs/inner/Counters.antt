@@ -6,7 +6,7 @@ use Rattle.forward_rewrite.specs.Frame.{SourceFrame}
 use Rattle.forward_rewrite.specs.Sending.{Sending}
 use Rattle.forward_rewrite.specs.Timestamps.{Stamped, pause}
 use Rattle.forward_rewrite.specs.RoutedList.{Part, part_of, numbered}
-use Rattle.forward_rewrite.specs.Streams.{StreamOf, PreparedOf, sent}
+use Rattle.forward_rewrite.specs.Streams.{StreamOf, PreparedOf, sent, payload_octets}
 
 -- the frame is of the run of the last one
 abbrev pub goes_on : LastSent → SourceFrame → Bool
@@ -31,5 +31,6 @@ next_parts s next = map (part_of (stamped_next s next)) next.frame.frame.packets
 pub record IsPrepared (s : StreamOf) (next : Sending) (p : PreparedOf) : Type 0 where
   pub first : p.first ≡ s.next
   pub behind : p.next ≡ (s.next + length next.frame.frame.packets) % 2 ^ 16
+  pub octets : p.octets ≡ payload_octets (next_parts s next) % 2 ^ 32
   pub last : p.last ≡ sent next.frame (ts_after s.first_ts s.last next.frame)
   pub packets : p.packets ≡ numbered s.ssrc s.next (next_parts s next)
