@@ -1,4 +1,5 @@
 pub mod Looking
 pub mod Choice
 pub mod Receivers
+pub mod Mixes
 pub mod inner

@@ -1,8 +1,9 @@
-//! Laws of the choice and of the receivers.
+//! Laws of the choice, of the receivers, and of mixes.
 
-ghost use Rattle.std.specs.Prelude.{◌≡◌, ◌≤◌, ℕ, true, false, if◌then◌else◌, None, Some};
+ghost use Rattle.std.specs.Prelude.{◌≡◌, ◌≤◌, ℕ, true, false, if◌then◌else◌, List, ◌∷◌, ◌++◌, All, length, filter, None, Some};
 ghost use Rattle.std.specs.Option.{option_map};
 ghost use Rattle.rtp_codec.specs.declared.address.Address.{Address};
+ghost use Rattle.desk_rows.specs.declared.row.Member.{Member};
 ghost use Rattle.desk_rows.specs.declared.row.Slot.{Slot};
 ghost use Rattle.desk_rows.specs.declared.row.Media.TheVariants.{Video};
 ghost use Rattle.desk_rows.specs.declared.row.Key.TheVariants as keys;
@@ -10,6 +11,7 @@ ghost use Rattle.desk_rows.specs.Desk.{Desk, good, room_at, same_room};
 ghost use Rattle.topology.specs.Looking.{slot_at, source_at, subscribed, pinned, holder, is_muted, is_this, sender_of, room_of_member};
 ghost use Rattle.topology.specs.Choice.{is_video_of, first_video, shown, is_barred, choice};
 ghost use Rattle.topology.specs.Receivers.{receivers, receiver_at, receiver_on, AreDistinct};
+ghost use Rattle.topology.specs.Mixes.{in_room, audio_sources, gain_of, mix_plan, mix_member};
 
 /// On a good desk no two receivers of a source have one slot.
 pub fn receivers_are_distinct()
@@ -49,4 +51,28 @@ pub fn nothing_falls_through()
     ensures pinned { (desk : Desk) (out_ssrc room source : ℕ) (slot : Slot) → slot_at desk out_ssrc ≡ Some slot → subscribed desk out_ssrc ≡ None → slot.index ≡ 0 → room_of_member desk slot.member ≡ Some room → pinned desk room ≡ Some source → choice desk out_ssrc ≡ (if is_barred desk slot source then None else Some source) }
     ensures floor { (desk : Desk) (out_ssrc room member source : ℕ) (slot : Slot) → slot_at desk out_ssrc ≡ Some slot → subscribed desk out_ssrc ≡ None → slot.index ≡ 0 → room_of_member desk slot.member ≡ Some room → pinned desk room ≡ None → holder desk room ≡ Some member → first_video desk member ≡ Some source → choice desk out_ssrc ≡ (if is_barred desk slot source then None else Some source) }
     ensures unshown { (desk : Desk) (out_ssrc room : ℕ) (slot : Slot) → slot_at desk out_ssrc ≡ Some slot → subscribed desk out_ssrc ≡ None → room_of_member desk slot.member ≡ Some room → shown desk room ≡ None → choice desk out_ssrc ≡ None }
+{}
+
+/// On a good desk no room has more than 64 audio sources to be mixed.
+pub fn rooms_are_small()
+    requires stub { ⊥ }
+    ensures { (desk : Desk) (room : ℕ) → good desk ≡ true → length (filter (in_room room) (audio_sources desk)) ≤ 64 }
+{}
+
+/// On a good desk gains are at most 1024, four times as loud as the source came.
+pub fn gains_are_small()
+    requires stub { ⊥ }
+    ensures { (desk : Desk) (member source : ℕ) → good desk ≡ true → gain_of desk member source ≤ 1024 }
+{}
+
+/// On a good desk no two members have their mixes on one stream.
+pub fn mixes_are_apart()
+    requires stub { ⊥ }
+    ensures { (desk : Desk) (before : List Member) (m : Member) (after : List Member) → good desk ≡ true → desk.members ≡ before ++ m ∷ after → mix_member desk m.out_audio ≡ Some m }
+{}
+
+/// On a good desk, the mix of a member is made of sources of its own room.
+pub fn mixes_stay_in_the_room()
+    requires stub { ⊥ }
+    ensures { (desk : Desk) (member : ℕ) → good desk ≡ true → All (λ s. room_of_member desk s.member ≡ room_of_member desk member) (mix_plan desk member) }
 {}
