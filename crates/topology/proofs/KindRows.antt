@@ -141,7 +141,7 @@ is_member (Gain r) = refl
 is_member (Pin r) = refl
 is_member (Floor r) = refl
 
-is_source : (r : Row) → is_of kinds.Source r ≡ is_some (source_in r)
+pub is_source : (r : Row) → is_of kinds.Source r ≡ is_some (source_in r)
 is_source (Room r) = refl
 is_source (Member r) = refl
 is_source (Source r) = refl

@@ -15,3 +15,4 @@ pub mod FromItsSide
 pub mod Viewers
 pub mod Order
 pub mod LeastVideo
+pub mod Heard

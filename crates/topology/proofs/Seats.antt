@@ -1,4 +1,4 @@
--- Slots seated at their members' places and sorted by these are the receivers in the order of the members.
+-- Things seated at their members' places and sorted by these are in the order of the members.
 use Rattle.std.proofs.Common.{◌≡◌, ℕ, zero, suc, ◌+◌, ◌<◌, ◌≤◌, inl, inr, Bool, true, false, cond, not, ◌&&◌, nat_eq, List, [], ◌∷◌, ◌++◌, map, length, Option, None, Some, refl, sym, ap, subst, ◌∙◌, arith, append_assoc, eqb-true}
 use denote.Param.Members.{Mut}
 use denote.Ref.{Bor}
@@ -6,14 +6,14 @@ use Rattle.std.specs.Prelude.{filter}
 use Rattle.std.specs.Option.{option_map}
 use Rattle.std.specs.Ordering.{nat_cmp, is_lt}
 use Rattle.std.specs.Fn.{Called}
-use Rattle.std.specs.List.{All, filter_map, cons_option, list_all, range_with_len}
+use Rattle.std.specs.List.{All, filter_map, cons_option, list_all, range_with_len, slice_get}
 use Rattle.std.specs.List.Sorted.{IsNonDecreasingBy, IsPermutation, IsStableByKeyClosure}
 use Rattle.std.proofs.lemmas.Fn.{always_returns_same}
 use Rattle.std.proofs.lemmas.Bool.{cases_Bool}
 use Rattle.std.proofs.lemmas.Bool.Decides.{nat_tests}
 use Rattle.std.proofs.lemmas.List.{map-append}
 use Rattle.std.proofs.lemmas.List.Elements.{All-nil, All-cons, All-head, All-tail}
-use Rattle.std.proofs.lemmas.List.Sorted.{All-permutation}
+use Rattle.std.proofs.lemmas.List.Sorted.{All-permutation, length_permutation}
 use Rattle.desk_rows.specs.declared.row.Member.{Member as MemberRow}
 use Rattle.desk_rows.specs.declared.row.Slot.{Slot as SlotRow}
 use Rattle.desk_rows.specs.declared.row.Kind.TheVariants as kinds
@@ -21,11 +21,10 @@ use Rattle.desk_rows.specs.Kinds.{is_of}
 use Rattle.desk_rows.specs.Places.{place_in}
 use Rattle.desk_rows.specs.laws.Equal.{number_itself}
 use Rattle.desk_rows.specs.Desk.{Desk, good}
-use Rattle.topology.specs.declared.receivers.Receiver.{Receiver}
-use Rattle.topology.specs.declared.receivers.Seated.{Seated}
+use Rattle.topology.specs.declared.seating.Seated.{Seated}
 use Rattle.topology.specs.Looking.{member_at}
-use Rattle.topology.specs.Receivers.{by_index, by_place, receiver}
-use Rattle.topology.specs.inner.Takers.{seat_at, seat}
+use Rattle.topology.specs.Receivers.{by_index}
+use Rattle.topology.specs.inner.Seating.{seat_at, seat_of, seat_with, seat, by_members, by_places}
 use Rattle.topology.proofs.Distinct.{at, Distinct, groups, past}
 use Rattle.topology.proofs.Finding.{turned}
 use Rattle.topology.proofs.KindRows.{number, member_row}
@@ -168,91 +167,117 @@ place_within (m ∷ ms) n q h = by (nat_eq m.member n) (place_in ms n) h (λ r. 
     by false None h later = absurd (cc)
     by false (Some r) h later = (let same : r + 1 ≡ q = cc in let less = later r refl in omega arith)
 
+-- ---- the seat of a member
+
+-- the member of a number stands at the place of it
+stands_at : (ms : List MemberRow) (n q : ℕ) → place_in ms n ≡ Some q → at number n ms ≡ slice_get ms q
+stands_at [] n q h = absurd (cc)
+stands_at (m ∷ ms) n q h = by (nat_eq m.member n) refl (place_in ms n) h (λ r. stands_at ms n r)
+  where
+    by : (b : Bool) → nat_eq m.member n ≡ b → (o : Option ℕ) → cond b (Some 0) (option_map (λ place. place + 1) o) ≡ Some q → ((r : ℕ) → o ≡ Some r → at number n ms ≡ slice_get ms r) → cond b (Some m) (at number n ms) ≡ slice_get (m ∷ ms) q
+    by true e o h later = (let same : 0 ≡ q = cc in ap (slice_get (m ∷ ms)) same)
+    by false e None h later = absurd (cc)
+    by false e (Some r) h later = (let same : r + 1 ≡ q = cc in let next : suc r ≡ q = omega arith in later r refl ∙ ap (slice_get (m ∷ ms)) next)
+
+pub seat_there : (d : Desk) (n q : ℕ) (o : Option MemberRow) → good d ≡ true → place_in d.members n ≡ Some q → o ≡ slice_get d.members q → seat_of d n ≡ seat_at (Some q) o
+seat_there d n q o g stands is = (λ i. seat_at (stands i) (member_at d n)) ∙ ap (seat_at (Some q)) (member_row d n (no_members d g) ∙ stands_at d.members n q stands ∙ sym is)
+
+pub seat_nowhere : (d : Desk) (n : ℕ) → place_in d.members n ≡ None → seat_of d n ≡ None
+seat_nowhere d n h = ap (λ o. seat_at o (member_at d n)) h
+
 -- ---- seats
 
-seat_place : (s : SlotRow) (place : Option ℕ) (m : Option MemberRow) (t : Seated) → seat_at s place m ≡ Some t → place ≡ Some t.place
-seat_place s None m t h = absurd (cc)
-seat_place s (Some p) None t h = absurd (cc)
-seat_place s (Some p) (Some m) t h = let same : record { place = p; receiver = receiver m s } ≡ t = cc in ap (λ (u : Seated). Some u.place) same
+seat_place : (place : Option ℕ) (m : Option MemberRow) (t : Seated MemberRow) → seat_at place m ≡ Some t → place ≡ Some t.place
+seat_place None m t h = absurd (cc)
+seat_place (Some p) None t h = absurd (cc)
+seat_place (Some p) (Some m) t h = let same : record { place = p; thing = m } ≡ t = cc in ap (λ (u : Seated MemberRow). Some u.place) same
 
-seats_within : (d : Desk) (slots : List SlotRow) → All (λ (t : Seated). t.place < length d.members) (filter_map (seat d) slots)
-seats_within d [] = All-nil (λ (t : Seated). t.place < length d.members)
-seats_within d (s ∷ slots) = by (seat d s) refl (seats_within d slots)
+seat_stands : {X Y : Type 0} (owner : X → ℕ) (make : MemberRow → X → Y) (d : Desk) (x : X) (t : Seated Y) → seat owner make d x ≡ Some t → place_in d.members (owner x) ≡ Some t.place
+seat_stands {Y = Y} owner make d x t h = by (seat_of d (owner x)) refl h
   where
-    Within : Seated → Type 0
-    Within t = t.place < length d.members
+    by : (o : Option (Seated MemberRow)) → seat_of d (owner x) ≡ o → option_map (seat_with make x) o ≡ Some t → place_in d.members (owner x) ≡ Some t.place
+    by None e h = absurd (cc)
+    by (Some u) e h = let same : seat_with make x u ≡ t = cc in seat_place (place_in d.members (owner x)) (member_at d (owner x)) u e ∙ ap (λ (v : Seated Y). Some v.place) same
 
-    by : (o : Option Seated) → seat d s ≡ o → All (λ (t : Seated). t.place < length d.members) (filter_map (seat d) slots) → All (λ (t : Seated). t.place < length d.members) (cons_option o (filter_map (seat d) slots))
+pub seats_within : {X Y : Type 0} (owner : X → ℕ) (make : MemberRow → X → Y) (d : Desk) (xs : List X) → All (λ t. t.place < length d.members) (filter_map (seat owner make d) xs)
+seats_within {Y = Y} owner make d [] = All-nil (λ (t : Seated Y). t.place < length d.members)
+seats_within {Y = Y} owner make d (x ∷ xs) = by (seat owner make d x) refl (seats_within owner make d xs)
+  where
+    by : (o : Option (Seated Y)) → seat owner make d x ≡ o → All (λ (t : Seated Y). t.place < length d.members) (filter_map (seat owner make d) xs)
+        → All (λ (t : Seated Y). t.place < length d.members) (cons_option o (filter_map (seat owner make d) xs))
     by None e rest = rest
-    by (Some t) e rest = All-cons (λ (t : Seated). t.place < length d.members) t (filter_map (seat d) slots) (place_within d.members s.member t.place (seat_place s (place_in d.members s.member) (member_at d s.member) t e)) rest
+    by (Some t) e rest = All-cons (λ (t : Seated Y). t.place < length d.members) t (filter_map (seat owner make d) xs) (place_within d.members (owner x) t.place (seat_stands owner make d x t e)) rest
 
-abbrev of_seat : Seated → Receiver
-of_seat t = t.receiver
-
--- those who sit at a member's place are the receivers of its slots
-one_place : (d : Desk) (m : MemberRow) (p : ℕ) → place_in d.members m.member ≡ Some p → ((n : ℕ) → place_in d.members n ≡ Some p → nat_eq m.member n ≡ true) → member_at d m.member ≡ Some m
-    → (slots : List SlotRow) → map of_seat (filter (λ t. nat_eq t.place p) (filter_map (seat d) slots)) ≡ map (receiver m) (filter (λ s. nat_eq s.member m.member) slots)
-one_place d m p stands who lives [] = refl
-one_place d m p stands who lives (s ∷ slots) = by (nat_eq s.member m.member) refl (one_place d m p stands who lives slots)
+-- what sits at a member's place is what is made of what belongs to it
+one_place : {X Y : Type 0} (owner : X → ℕ) (make : MemberRow → X → Y) (d : Desk) (m : MemberRow) (p : ℕ) → place_in d.members m.member ≡ Some p → ((n : ℕ) → place_in d.members n ≡ Some p → nat_eq m.member n ≡ true) → member_at d m.member ≡ Some m
+    → (xs : List X) → map (λ t. t.thing) (filter (λ t. nat_eq t.place p) (filter_map (seat owner make d) xs)) ≡ map (make m) (filter (λ x. nat_eq (owner x) m.member) xs)
+one_place owner make d m p stands who lives [] = refl
+one_place {Y = Y} owner make d m p stands who lives (x ∷ xs) = by (nat_eq (owner x) m.member) refl (one_place owner make d m p stands who lives xs)
   where
-    others : List Seated
-    others = filter_map (seat d) slots
+    others : List (Seated Y)
+    others = filter_map (seat owner make d) xs
 
-    here : Seated → Bool
+    here : Seated Y → Bool
     here t = nat_eq t.place p
 
-    mine : nat_eq s.member m.member ≡ true → seat d s ≡ Some (record { place = p; receiver = receiver m s })
-    mine e =
-        let is = eqb-true s.member m.member e in
-        (λ i. seat_at s (place_in d.members (is i)) (member_at d (is i))) ∙ (λ i. seat_at s (stands i) (lives i))
+    mine : nat_eq (owner x) m.member ≡ true → seat owner make d x ≡ Some (record { place = p; thing = make m x })
+    mine e = (let is = eqb-true (owner x) m.member e in (λ i. option_map (seat_with make x) (seat_of d (is i))) ∙ (λ i. option_map (seat_with make x) (seat_at (stands i) (lives i))))
 
-    skipped : nat_eq s.member m.member ≡ false → (o : Option Seated) → seat d s ≡ o → map of_seat (filter here (cons_option o others)) ≡ map of_seat (filter here others)
+    skipped : nat_eq (owner x) m.member ≡ false → (o : Option (Seated Y)) → seat owner make d x ≡ o → map (λ t. t.thing) (filter here (cons_option o others)) ≡ map (λ t. t.thing) (filter here others)
     skipped e None k = refl
     skipped e (Some t) k =
         elim (cases_Bool (nat_eq t.place p)) [
           | inl f ↦
-              let its = seat_place s (place_in d.members s.member) (member_at d s.member) t k ∙ ap Some (eqb-true t.place p f) in
-              let same = who s.member its in
-              absurd (let no' : nat_eq m.member s.member ≡ false = turned s.member m.member e in (let bad : true ≡ false = sym same ∙ no' in cc))
-          | inr f ↦ ap (λ b. map of_seat (cond b (t ∷ filter here others) (filter here others))) f
+              let its = seat_stands owner make d x t k ∙ ap Some (eqb-true t.place p f) in
+              let same = who (owner x) its in
+              absurd (let no' : nat_eq m.member (owner x) ≡ false = turned (owner x) m.member e in (let bad : true ≡ false = sym same ∙ no' in cc))
+          | inr f ↦ ap (λ b. map (λ (t : Seated Y). t.thing) (cond b (t ∷ filter here others) (filter here others))) f
         ]
 
-    by : (b : Bool) → nat_eq s.member m.member ≡ b → map of_seat (filter here others) ≡ map (receiver m) (filter (λ s. nat_eq s.member m.member) slots)
-        → map of_seat (filter here (cons_option (seat d s) others)) ≡ map (receiver m) (cond b (s ∷ filter (λ s. nat_eq s.member m.member) slots) (filter (λ s. nat_eq s.member m.member) slots))
+    by : (b : Bool) → nat_eq (owner x) m.member ≡ b → map (λ t. t.thing) (filter here others) ≡ map (make m) (filter (λ x. nat_eq (owner x) m.member) xs)
+        → map (λ t. t.thing) (filter here (cons_option (seat owner make d x) others)) ≡ map (make m) (cond b (x ∷ filter (λ x. nat_eq (owner x) m.member) xs) (filter (λ x. nat_eq (owner x) m.member) xs))
     by true e rest =
-        ap (λ o. map of_seat (filter here (cons_option o others))) (mine e)
-        ∙ ap (λ b. map of_seat (cond b (record { place = p; receiver = receiver m s } ∷ filter here others) (filter here others))) (number_itself p)
-        ∙ ap (λ rs. receiver m s ∷ rs) rest
-    by false e rest = skipped e (seat d s) refl ∙ rest
+        ap (λ o. map (λ (t : Seated Y). t.thing) (filter here (cons_option o others))) (mine e)
+        ∙ ap (λ b. map (λ (t : Seated Y). t.thing) (cond b (record { place = p; thing = make m x } ∷ filter here others) (filter here others))) (number_itself p)
+        ∙ ap (λ ys. make m x ∷ ys) rest
+    by false e rest = skipped e (seat owner make d x) refl ∙ rest
 
 one_longer : (front : List MemberRow) (m : MemberRow) → length (front ++ m ∷ []) ≡ length front + 1
 one_longer [] m = refl
 one_longer (x ∷ front) m = let rest = one_longer front m in omega (arith, rest)
 
--- the groups from a place on are the receivers of the members from it on
-from_place : (d : Desk) (slots : List SlotRow) (ys : List Seated) → list_all (λ r. not (is_of kinds.Member r)) d.others ≡ true → Distinct number d.members
-    → (MemberRow → (p : ℕ) → filter (λ t. nat_eq t.place p) ys ≡ filter (λ t. nat_eq t.place p) (filter_map (seat d) slots))
+-- the groups from a place on are those of the members from it on
+from_place : {X Y : Type 0} (owner : X → ℕ) (make : MemberRow → X → Y) (d : Desk) (xs : List X) → list_all (λ r. not (is_of kinds.Member r)) d.others ≡ true → Distinct number d.members
     → (front back : List MemberRow) → d.members ≡ front ++ back
-    → map of_seat (groups (λ t. t.place) (λ i. i) ys (range_with_len (length front) (length back))) ≡ by_place back slots
-from_place d slots ys plain apart same front [] e = refl
-from_place d slots ys plain apart same front (m ∷ back) e =
+    → map (λ t. t.thing) (groups (λ t. t.place) (λ i. i) (filter_map (seat owner make d) xs) (range_with_len (length front) (length back))) ≡ by_members owner make back xs
+from_place owner make d xs plain apart front [] e = refl
+from_place {X = X} {Y = Y} owner make d xs plain apart front (m ∷ back) e =
     let p = length front in
-    let here = λ (t : Seated). nat_eq t.place p in
-    let rest = groups (λ (t : Seated). t.place) (λ i. i) ys (range_with_len (p + 1) (length back)) in
+    let ys = filter_map (seat owner make d) xs in
+    let here = λ (t : Seated Y). nat_eq t.place p in
+    let rest = groups (λ (t : Seated Y). t.place) (λ i. i) ys (range_with_len (p + 1) (length back)) in
     let apart_here = subst (Distinct number) e apart in
     let stands = ap (λ ms. place_in ms m.member) e ∙ place_of front m back apart_here in
     let who = λ (n : ℕ) (h : place_in d.members n ≡ Some p). who_stands front m back n (sym (ap (λ ms. place_in ms n) e) ∙ h) in
     let lives = member_row d m.member plain ∙ ap (at number m.member) e ∙ found_there front m back apart_here in
-    map-append of_seat (filter here ys) rest
-    ∙ ap (λ rs. rs ++ map of_seat rest) (ap (map of_seat) (same m p) ∙ one_place d m p stands who lives slots)
-    ∙ ap (λ rs. map (receiver m) (filter (λ (s : SlotRow). nat_eq s.member m.member) slots) ++ rs)
-    (subst (λ k. map of_seat (groups (λ (t : Seated). t.place) (λ i. i) ys (range_with_len k (length back))) ≡ by_place back slots) (one_longer front m)
-    (from_place d slots ys plain apart same (front ++ m ∷ []) back (e ∙ sym (append_assoc front (m ∷ []) back))))
+    map-append (λ (t : Seated Y). t.thing) (filter here ys) rest
+    ∙ ap (λ zs. zs ++ map (λ (t : Seated Y). t.thing) rest) (one_place owner make d m p stands who lives xs)
+    ∙ ap (λ zs. map (make m) (filter (λ x. nat_eq (owner x) m.member) xs) ++ zs)
+    (subst (λ k. map (λ (t : Seated Y). t.thing) (groups (λ (t : Seated Y). t.place) (λ i. i) ys (range_with_len k (length back))) ≡ by_members owner make back xs) (one_longer front m)
+    (from_place owner make d xs plain apart (front ++ m ∷ []) back (e ∙ sym (append_assoc front (m ∷ []) back))))
 
--- seats sorted by place are the receivers in the order of the members
-pub seated_in_order : (d : Desk) (slots : List SlotRow) (ys : List Seated) → good d ≡ true → IsNonDecreasingBy (λ t. t.place) ys → IsPermutation (filter_map (seat d) slots) ys
-    → ((x : Seated) → filter (λ t. nat_eq t.place x.place) ys ≡ filter (λ t. nat_eq t.place x.place) (filter_map (seat d) slots))
-    → map (λ t. t.receiver) ys ≡ by_place d.members slots
-seated_in_order d slots ys g up moved same =
-    ap (map of_seat) (in_groups (λ t. t.place) ys (length d.members) up (All-permutation (λ (t : Seated). t.place < length d.members) (filter_map (seat d) slots) ys moved (seats_within d slots)))
-    ∙ from_place d slots ys (no_members d g) (members_distinct d g) (λ m p. same (record { place = p; receiver = receiver m (record { out_ssrc = 0; member = 0; index = 0; first_seq = 0; first_ts = 0 }) })) [] d.members refl
+-- seats place by place are in the order of the members
+pub seated_in_order : {X Y : Type 0} (owner : X → ℕ) (make : MemberRow → X → Y) (d : Desk) (xs : List X) → good d ≡ true → by_places (length d.members) (filter_map (seat owner make d) xs) ≡ by_members owner make d.members xs
+seated_in_order owner make d xs g = from_place owner make d xs (no_members d g) (members_distinct d g) [] d.members refl
+
+-- ---- seats that are sorted
+
+-- seats sorted by place are in the order of the places
+pub sorted_by_place : {X : Type 0} (n : ℕ) (seats sorted : List (Seated X)) → All (λ t. t.place < n) seats → IsNonDecreasingBy (λ t. t.place) sorted → IsPermutation seats sorted
+    → ((x : Seated X) → filter (λ t. nat_eq t.place x.place) sorted ≡ filter (λ t. nat_eq t.place x.place) seats) → map (λ t. t.thing) sorted ≡ by_places n seats
+sorted_by_place n [] [] within up moved same = sym (ap (map (λ (t : Seated _). t.thing)) (nothing_in_groups (λ (t : Seated _). t.place) 0 n))
+sorted_by_place n [] (y ∷ ys) within up moved same = absurd (let len = length_permutation [] (y ∷ ys) moved in omega arith)
+sorted_by_place {X = X} n (x ∷ seats) sorted within up moved same =
+    ap (map (λ (t : Seated X). t.thing))
+    (in_groups (λ t. t.place) sorted n up (All-permutation (λ (t : Seated X). t.place < n) (x ∷ seats) sorted moved within)
+    ∙ groups_same (λ (t : Seated X). t.place) (x ∷ seats) sorted (λ i. same (record { place = i; thing = x.thing })) (range_with_len 0 n))

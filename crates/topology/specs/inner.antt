@@ -1,1 +1,3 @@
 pub mod Takers
+pub mod Seating
+pub mod Audible

@@ -1,9 +1,13 @@
 //! Which sources the mix of a member is made of.
 
-ghost use Rattle.std.specs.Prelude.{◌≡◌, IfOk, length, map};
-ghost use Rattle.topology.specs.Mixes.{audio_sources, gain_of, mix_plan};
+ghost use Rattle.std.specs.Prelude.{◌≡◌, IfOk, filter, length, map};
+ghost use Rattle.std.specs.List.{filter_map};
+ghost use Rattle.topology.specs.Mixes.{audio_sources, gain_of, in_room, mix_source, mix_plan};
+ghost use Rattle.topology.specs.inner.Audible.{audio_in, audible_seat};
 
-use desk_rows::Rows;
+use crate::looking::{is_muted, room_of_member};
+use crate::seating::{Seated, by_places, seat_of};
+use desk_rows::{Key, Kind, Media, Row, Rows, Source};
 use rtp_codec::Address;
 use std::alloc::{AllocError, Allocator};
 
@@ -32,10 +36,68 @@ pub fn audio_sources<A: Allocator + Copy>(
     alloc: A,
     rows: &Rows<A>,
 ) -> Result<Vec<AudioSource, A>, AllocError>
-    requires stub { ⊥ }
     ensures { IfOk result (λ v. v.items ≡ audio_sources rows.now) }
 {
-    unreachable!()
+    rows.known();
+    let mut seats = seats(alloc, rows, rows.others_of(Kind::Source))?;
+    by_places(alloc, &mut seats)
+}
+
+/// The sources in these rows that may be heard, each at its member's place.
+fn seats<A: Allocator + Copy>(
+    alloc: A,
+    rows: &Rows<A>,
+    these: &[Row],
+) -> Result<Vec<Seated<AudioSource>, A>, AllocError>
+    ensures { IfOk result (λ v. v.items ≡ filter_map (audible_seat rows.now) these.now) }
+{
+    these
+        .iter()
+        .filter_map(|row| audible_seat(rows, row))
+        .collect(alloc)
+}
+
+/// The source in a row at its member's place, if it is audio and not muted.
+fn audible_seat<A: Allocator + Copy>(rows: &Rows<A>, row: &Row) -> Option<Seated<AudioSource>>
+    ensures { result ≡ audible_seat rows.now row.now }
+{
+    let source = audio_in(row)?;
+    if is_muted(rows, source.ssrc) {
+        return None;
+    }
+    let member = seat_of(rows, source.member)?;
+    Some(Seated {
+        place: member.place,
+        thing: AudioSource {
+            ssrc: source.ssrc,
+            address: member.thing.address,
+            member: member.thing.member,
+            room: member.thing.room,
+        },
+    })
+}
+
+/// The audio source in a row.
+fn audio_in(row: &Row) -> Option<Source>
+    ensures { result ≡ audio_in row.now }
+{
+    match row {
+        Row::Source(source) if source.media.is_same(Media::Audio) => Some(*source),
+        _ => None,
+    }
+}
+
+/// The gain of a source for which none is set, in 256ths: as loud as it came.
+const FULL_GAIN: u32 = 256;
+
+/// How loud a member hears a source, in 256ths.
+fn gain_of<A: Allocator + Copy>(rows: &Rows<A>, member: u32, source: u32) -> u32
+    ensures { result ≡ gain_of rows.now member source }
+{
+    match rows.find(&Key::Gain { member, source }) {
+        Some(Row::Gain(gain)) => gain.q8,
+        _ => FULL_GAIN,
+    }
 }
 
 /// Writes how loud a member hears each of these sources, in 256ths: 0 to 1024, and 256 where no
@@ -46,11 +108,12 @@ pub fn write_gains<A: Allocator + Copy>(
     sources: &[AudioSource],
     gains: &mut [u32],
 )
-    requires lengths { length gains.old ≡ length sources.now }
-    requires stub { ⊥ }
+    requires { length gains.old ≡ length sources.now }
     ensures { gains.new ≡ map (λ s. gain_of rows.now member s.ssrc) sources.now }
 {
-    unreachable!()
+    for i in 0..gains.len() {
+        gains[i] = gain_of(rows, member, sources[i].ssrc);
+    }
 }
 
 /// The sources of a member's mix: the audio sources of its room that aren't muted, its own among
@@ -62,8 +125,42 @@ pub fn mix_plan<A: Allocator + Copy>(
     rows: &Rows<A>,
     member: u32,
 ) -> Result<Vec<MixSource, A>, AllocError>
-    requires stub { ⊥ }
     ensures { IfOk result (λ v. v.items ≡ mix_plan rows.now member) }
 {
-    unreachable!()
+    match room_of_member(rows, member) {
+        None => Ok(Vec::new(alloc)),
+        Some(room) => {
+            let sources = audio_sources(alloc, rows)?;
+            room_mix(alloc, rows, member, room, &sources)
+        }
+    }
+}
+
+/// Those of the sources that are in the room, with the member's gains for them.
+fn room_mix<A: Allocator + Copy>(
+    alloc: A,
+    rows: &Rows<A>,
+    member: u32,
+    room: u32,
+    sources: &[AudioSource],
+) -> Result<Vec<MixSource, A>, AllocError>
+    ensures { IfOk result (λ v. v.items ≡ map (mix_source rows.now member) (filter (in_room room) sources.now)) }
+{
+    sources
+        .iter()
+        .filter(|source| source.room == room)
+        .map(|source| mix_source(rows, member, source))
+        .collect(alloc)
+}
+
+/// The source with the member's gain for it.
+fn mix_source<A: Allocator + Copy>(rows: &Rows<A>, member: u32, source: &AudioSource) -> MixSource
+    ensures { result ≡ mix_source rows.now member source.now }
+{
+    MixSource {
+        ssrc: source.ssrc,
+        address: source.address,
+        member: source.member,
+        gain: gain_of(rows, member, source.ssrc),
+    }
 }

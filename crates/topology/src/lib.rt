@@ -7,6 +7,7 @@ mod hearing;
 mod laws;
 mod looking;
 mod receivers;
+mod seating;
 
 pub use self::choosing::choice;
 pub use self::hearing::{AudioSource, MixSource, audio_sources, mix_plan, write_gains};

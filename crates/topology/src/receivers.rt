@@ -1,16 +1,18 @@
 //! Who gets what a source sends.
 
-ghost use Rattle.std.specs.Prelude.{◌≡◌, map, IfOk, Some};
+ghost use Rattle.std.specs.Prelude.{◌≡◌, IfOk, Some};
 ghost use Rattle.std.specs.List.{filter_map};
 ghost use Rattle.topology.specs.Looking.{is_this, sender_of};
 ghost use Rattle.topology.specs.Choice.{shown};
-ghost use Rattle.topology.specs.Receivers.{by_place, receivers};
-ghost use Rattle.topology.specs.inner.Takers.{sender_from, subscriber, first_slot, viewer, members_if_shown, takers, seat};
+ghost use Rattle.topology.specs.Receivers.{by_place, receiver, receivers};
+ghost use Rattle.topology.specs.inner.Takers.{sender_from, subscriber, first_slot, viewer, members_if_shown, takers};
+ghost use Rattle.topology.specs.inner.Seating.{seat};
 
 use crate::choosing::first_video;
 use crate::looking::{
     holder, is_muted, is_this, member_at, pinned, sender_of, slot_at, subscribed,
 };
+use crate::seating::{Seated, by_places, seat_of};
 use desk_rows::{Member, Rows, Slot, Sub};
 use rtp_codec::Address;
 use std::alloc::{AllocError, Allocator};
@@ -153,36 +155,26 @@ fn viewer<A: Allocator + Copy>(rows: &Rows<A>, sender: &Member, member: &Member)
     }
 }
 
-/// A receiver, and its member's place.
-#[derive(Clone, Copy)]
-struct Seated {
-    place: usize,
-    receiver: Receiver,
-}
-
-fn seat<A: Allocator + Copy>(rows: &Rows<A>, slot: &Slot) -> Option<Seated>
-    ensures { result ≡ seat rows.now slot.now }
+/// The slot as a receiver, at its member's place.
+fn seat<A: Allocator + Copy>(rows: &Rows<A>, slot: &Slot) -> Option<Seated<Receiver>>
+    ensures { result ≡ seat (λ s. s.member) receiver rows.now slot.now }
 {
-    let place = rows.place_of(slot.member);
-    let member = member_at(rows, slot.member);
-    match (place, member) {
-        (Some(place), Some(member)) => Some(Seated {
-            place,
-            receiver: Receiver {
-                slot: *slot,
-                address: member.address,
-            },
-        }),
-        _ => None,
-    }
+    let member = seat_of(rows, slot.member)?;
+    Some(Seated {
+        place: member.place,
+        thing: Receiver {
+            slot: *slot,
+            address: member.thing.address,
+        },
+    })
 }
 
 fn seats<A: Allocator + Copy>(
     alloc: A,
     rows: &Rows<A>,
     slots: &[Slot],
-) -> Result<Vec<Seated, A>, AllocError>
-    ensures { IfOk result (λ v. v.items ≡ filter_map (seat rows.now) slots.now) }
+) -> Result<Vec<Seated<Receiver>, A>, AllocError>
+    ensures { IfOk result (λ v. v.items ≡ filter_map (seat (λ s. s.member) receiver rows.now) slots.now) }
 {
     slots
         .iter()
@@ -200,12 +192,5 @@ fn by_place<A: Allocator + Copy>(
 {
     rows.known();
     let mut seats = seats(alloc, rows, slots)?;
-    seats.sort_by_key(|seat| seat.place)?;
-    receivers(alloc, &seats)
-}
-
-fn receivers<A: Allocator>(alloc: A, seats: &[Seated]) -> Result<Vec<Receiver, A>, AllocError>
-    ensures { IfOk result (λ v. v.items ≡ map (λ t. t.receiver) seats.now) }
-{
-    seats.iter().map(|seat| seat.receiver).collect(alloc)
+    by_places(alloc, &mut seats)
 }

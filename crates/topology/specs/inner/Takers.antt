@@ -7,13 +7,10 @@ use Rattle.rtp_codec.specs.Address.{same_address}
 use Rattle.desk_rows.specs.declared.row.Member.{Member as MemberRow}
 use Rattle.desk_rows.specs.declared.row.Slot.{Slot as SlotRow}
 use Rattle.desk_rows.specs.declared.row.Sub.{Sub as SubRow}
-use Rattle.desk_rows.specs.Places.{place_in}
 use Rattle.desk_rows.specs.Desk.{Desk}
 use Rattle.desk_rows.specs.Naming.{subs_naming, slots_naming}
-use Rattle.topology.specs.declared.receivers.Seated.{Seated}
 use Rattle.topology.specs.Looking.{member_at, slot_at, subscribed, is_muted, is_this, sender_of}
 use Rattle.topology.specs.Choice.{shown}
-use Rattle.topology.specs.Receivers.{receiver}
 
 -- a member, if it has this address
 abbrev pub if_at : Address → MemberRow → Option MemberRow
@@ -53,12 +50,3 @@ abbrev pub takers : Desk → ℕ → MemberRow → List SlotRow
 takers d source sender =
     filter_map (subscriber d sender) (subs_naming d source)
     ++ filter_map (viewer d sender) (members_if_shown d source sender.room)
-
--- a slot as a receiver at its member's place, where the member is there
-abbrev pub seat_at : SlotRow → Option ℕ → Option MemberRow → Option Seated
-seat_at slot (Some place) (Some m) = Some (record { place = place; receiver = receiver m slot })
-seat_at slot _ _ = None
-
--- a slot at the place that its member has
-abbrev pub seat : Desk → SlotRow → Option Seated
-seat d slot = seat_at slot (place_in d.members slot.member) (member_at d slot.member)

@@ -1,0 +1,77 @@
+-- The sources that may be heard, seated at their members' places, are those of the members in their order.
+use Rattle.std.proofs.Common.{◌≡◌, ℕ, ◌<◌, Bool, true, false, cond, not, ◌&&◌, nat_eq, List, [], ◌∷◌, ◌++◌, map, length, Option, None, Some, refl, sym, ap, subst, ◌∙◌}
+use Rattle.std.specs.Prelude.{filter, option_and_then}
+use Rattle.std.specs.List.{All, filter_map, cons_option, flat_map}
+use Rattle.desk_rows.specs.declared.row.Row.{Row}
+use Rattle.desk_rows.specs.declared.row.Member.{Member as MemberRow}
+use Rattle.desk_rows.specs.declared.row.Source.{Source as SourceRow}
+use Rattle.desk_rows.specs.declared.row.Media.TheVariants.{Audio}
+use Rattle.desk_rows.specs.declared.row.Kind.TheVariants as kinds
+use Rattle.desk_rows.specs.Row.{same_media}
+use Rattle.desk_rows.specs.Kinds.{is_of}
+use Rattle.desk_rows.specs.Desk.{Desk, good}
+use Rattle.topology.specs.declared.hearing.AudioSource.{AudioSource}
+use Rattle.topology.specs.declared.seating.Seated.{Seated}
+use Rattle.topology.specs.Looking.{source_in, is_muted}
+use Rattle.topology.specs.Choice.{sources_of}
+use Rattle.topology.specs.Mixes.{is_audible, audio_source, audio_sources}
+use Rattle.topology.specs.inner.Seating.{seat, by_members, by_places}
+use Rattle.topology.specs.inner.Audible.{unmuted_seat, audible_seat}
+use Rattle.topology.proofs.KindRows.{is_source, its_source, of_kind}
+use Rattle.topology.proofs.Parted.{filter-and}
+use Rattle.topology.proofs.Seats.{seats_within, seated_in_order}
+
+abbrev pub sender : SourceRow → ℕ
+sender s = s.member
+
+-- an audio source that isn't muted
+abbrev pub is_heard : Desk → SourceRow → Bool
+is_heard d s = same_media s.media Audio && not (is_muted d s.ssrc)
+
+-- the seat of a source that may be heard
+abbrev heard_seat : Desk → SourceRow → Option (Seated AudioSource)
+heard_seat d s = cond (same_media s.media Audio) (unmuted_seat d s) None
+
+seat_heard : (d : Desk) (s : SourceRow) → heard_seat d s ≡ cond (is_heard d s) (seat sender audio_source d s) None
+seat_heard d s = by (same_media s.media Audio) (is_muted d s.ssrc)
+  where
+    by : (a b : Bool) → cond a (cond b None (seat sender audio_source d s)) None ≡ cond (a && not b) (seat sender audio_source d s) None
+    by true true = refl
+    by true false = refl
+    by false b = refl
+
+-- what f gives of those that pass
+passing : {X Y : Type 0} (p : X → Bool) (f g : X → Option Y) → ((x : X) → g x ≡ cond (p x) (f x) None) → (xs : List X) → filter_map g xs ≡ filter_map f (filter p xs)
+passing p f g same [] = refl
+passing p f g same (x ∷ xs) =
+    ap (λ o. cons_option o (filter_map g xs)) (same x) ∙ ap (cons_option (cond (p x) (f x) None)) (passing p f g same xs) ∙ by (p x)
+  where
+    by : (b : Bool) → cons_option (cond b (f x) None) (filter_map f (filter p xs)) ≡ filter_map f (cond b (x ∷ filter p xs) (filter p xs))
+    by true = refl
+    by false = refl
+
+-- from the rows of sources
+of_row : (d : Desk) (r : Row) (s : SourceRow) → source_in r ≡ Some s → audible_seat d r ≡ heard_seat d s
+of_row d r s e = ap (audible_seat d) (its_source r s e) ∙ by (same_media s.media Audio)
+  where
+    by : (b : Bool) → option_and_then (unmuted_seat d) (cond b (Some s) None) ≡ cond b (unmuted_seat d s) None
+    by true = refl
+    by false = refl
+
+seats_heard : (d : Desk) → filter_map (audible_seat d) (filter (is_of kinds.Source) d.others) ≡ filter_map (seat sender audio_source d) (filter (is_heard d) (sources_of d))
+seats_heard d =
+    of_kind source_in (is_of kinds.Source) (audible_seat d) (heard_seat d) is_source (of_row d) d.others
+    ∙ passing (is_heard d) (seat sender audio_source d) (heard_seat d) (seat_heard d) (sources_of d)
+
+-- member by member
+of_members : (d : Desk) (ms : List MemberRow) → by_members sender audio_source ms (filter (is_heard d) (sources_of d)) ≡ flat_map (λ m. map (audio_source m) (filter (is_audible d m) (sources_of d))) ms
+of_members d [] = refl
+of_members d (m ∷ ms) =
+    ap (λ ss. map (audio_source m) ss ++ by_members sender audio_source ms (filter (is_heard d) (sources_of d))) (sym (filter-and (λ (s : SourceRow). nat_eq s.member m.member) (is_heard d) (sources_of d)))
+    ∙ ap (λ zs. map (audio_source m) (filter (is_audible d m) (sources_of d)) ++ zs) (of_members d ms)
+
+pub all_heard : (d : Desk) → good d ≡ true → by_places (length d.members) (filter_map (audible_seat d) (filter (is_of kinds.Source) d.others)) ≡ audio_sources d
+all_heard d g = ap (by_places (length d.members)) (seats_heard d) ∙ seated_in_order sender audio_source d (filter (is_heard d) (sources_of d)) g ∙ of_members d d.members
+
+pub heard_within : (d : Desk) → All (λ t. t.place < length d.members) (filter_map (audible_seat d) (filter (is_of kinds.Source) d.others))
+heard_within d = subst (All (λ (t : Seated AudioSource). t.place < length d.members)) (sym (seats_heard d)) (seats_within sender audio_source d (filter (is_heard d) (sources_of d)))
