@@ -89,9 +89,9 @@ no_members d h = (and_parts (in_order d.others) (list_all (λ r. not (is_of kind
 
 -- ---- rows that are found
 
-pub each : (p : Row → Bool) (rs : List Row) → list_all p rs ≡ true → AllByRecursion (λ r. p r ≡ true) rs
+pub each : {X : Type 0} (p : X → Bool) (xs : List X) → list_all p xs ≡ true → AllByRecursion (λ x. p x ≡ true) xs
 each p [] h = tt
-each p (r ∷ rs) h = (let both = and_parts (p r) (list_all p rs) h in (both.0, each p rs both.1))
+each p (x ∷ xs) h = (let both = and_parts (p x) (list_all p xs) h in (both.0, each p xs both.1))
 
 -- what is found has the key, and what is true of all
 pub of_found : (p : Row → Bool) (key : Key) (r : Row) (rs : List Row) → list_all p rs ≡ true → find (has_key key) rs ≡ Some r → (p r ≡ true) × (has_key key r ≡ true)
@@ -104,7 +104,7 @@ of_found p key r (x ∷ rs) all h =
     by false e here h later = later h
 
 -- what a row is asked for is found
-found_any : (key : Key) (rs : List Row) → list_any (has_key key) rs ≡ true → (r : Row) × (find (has_key key) rs ≡ Some r)
+pub found_any : (key : Key) (rs : List Row) → list_any (has_key key) rs ≡ true → (r : Row) × (find (has_key key) rs ≡ Some r)
 found_any key [] h = absurd (cc)
 found_any key (x ∷ rs) h = by (has_key key x) h (found_any key rs)
   where

@@ -16,3 +16,5 @@ pub mod Viewers
 pub mod Order
 pub mod LeastVideo
 pub mod Heard
+pub mod SmallRooms
+pub mod OneMix

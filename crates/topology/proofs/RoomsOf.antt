@@ -27,7 +27,7 @@ passes p (x ∷ rs) r h = by (p x) refl h (passes p rs r)
 its_key : (d : Desk) (key : Key) (r : Row) → row_at d key ≡ Some r → has_key key r ≡ true
 its_key d key r h = passes (has_key key) (rows_of d) r h
 
-room_inside : (o : Option Row) → room_in o ≡ option_map (λ m. m.room) (option_and_then member_in o)
+pub room_inside : (o : Option Row) → room_in o ≡ option_map (λ m. m.room) (option_and_then member_in o)
 room_inside None = refl
 room_inside (Some (Room r)) = refl
 room_inside (Some (Member r)) = refl

@@ -133,7 +133,7 @@ place_of (x ∷ front) m back d =
     ∙ ap Some (let more : length front + 1 ≡ suc (length front) = omega arith in more)
 
 -- and is found there
-found_there : (front : List MemberRow) (m : MemberRow) (back : List MemberRow) → Distinct number (front ++ m ∷ back) → at number m.member (front ++ m ∷ back) ≡ Some m
+pub found_there : (front : List MemberRow) (m : MemberRow) (back : List MemberRow) → Distinct number (front ++ m ∷ back) → at number m.member (front ++ m ∷ back) ≡ Some m
 found_there [] m back d = ap (λ b. cond b (Some m) (at number m.member back)) (number_itself m.member)
 found_there (x ∷ front) m back d = ap (λ b. cond b (Some x) (at number m.member (front ++ m ∷ back))) (turned m.member x.member (not_at x.member front m back d.0)) ∙ found_there front m back d.1
 

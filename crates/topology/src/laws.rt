@@ -55,24 +55,20 @@ pub fn nothing_falls_through()
 
 /// On a good desk no room has more than 64 audio sources to be mixed.
 pub fn rooms_are_small()
-    requires stub { ⊥ }
     ensures { (desk : Desk) (room : ℕ) → good desk ≡ true → length (filter (in_room room) (audio_sources desk)) ≤ 64 }
 {}
 
 /// On a good desk gains are at most 1024, four times as loud as the source came.
 pub fn gains_are_small()
-    requires stub { ⊥ }
     ensures { (desk : Desk) (member source : ℕ) → good desk ≡ true → gain_of desk member source ≤ 1024 }
 {}
 
 /// On a good desk no two members have their mixes on one stream.
 pub fn mixes_are_apart()
-    requires stub { ⊥ }
     ensures { (desk : Desk) (before : List Member) (m : Member) (after : List Member) → good desk ≡ true → desk.members ≡ before ++ m ∷ after → mix_member desk m.out_audio ≡ Some m }
 {}
 
 /// On a good desk, the mix of a member is made of sources of its own room.
 pub fn mixes_stay_in_the_room()
-    requires stub { ⊥ }
     ensures { (desk : Desk) (member : ℕ) → good desk ≡ true → All (λ s. room_of_member desk s.member ≡ room_of_member desk member) (mix_plan desk member) }
 {}
