@@ -63,7 +63,7 @@ found_none f k (x ∷ xs) (suc i) d rises long parts e =
 
 -- ---- rows in order, by key
 
-each_at : (p : Row → Bool) (xs : List Row) (i : ℕ) (d : Row) → list_all p xs ≡ true → i < length xs → p (get_or xs i d) ≡ true
+pub each_at : (p : Row → Bool) (xs : List Row) (i : ℕ) (d : Row) → list_all p xs ≡ true → i < length xs → p (get_or xs i d) ≡ true
 each_at p [] i d h l = absurd (omega arith)
 each_at p (x ∷ xs) zero d h l = (and_parts (p x) (list_all p xs) h).0
 each_at p (x ∷ xs) (suc i) d h l = each_at p xs i d (and_parts (p x) (list_all p xs) h).1 (omega arith)
@@ -161,7 +161,7 @@ order_of_rest zero xs h = h
 order_of_rest (suc i) [] h = refl
 order_of_rest (suc i) (x ∷ xs) h = order_of_rest i xs (and_parts (list_all (precedes x) xs) (in_order xs) h).1
 
-rest_fails : {X : Type 0} (p : X → Bool) (xs : List X) (i : ℕ) → Parts p xs i → list_all (λ x. not (p x)) (drop i xs) ≡ true
+pub rest_fails : {X : Type 0} (p : X → Bool) (xs : List X) (i : ℕ) → Parts p xs i → list_all (λ x. not (p x)) (drop i xs) ≡ true
 rest_fails p [] zero h = refl
 rest_fails p [] (suc i) h = refl
 rest_fails p (x ∷ xs) zero h = and_from _ _ (ap not (h.1 zero x (omega arith) (omega arith))) (rest_fails p xs zero (λ k d a b. absurd (omega arith), λ k d a b. h.1 (suc k) d (omega arith) (omega arith)))

@@ -16,3 +16,4 @@ pub mod SlidingLemmas
 pub mod GroupLemmas
 pub mod NamingLemmas
 pub mod AddressLemmas
+pub mod GainLemmas

@@ -26,6 +26,7 @@ pub use self::limits::{
     MAX_GAIN, MAX_GAINS, MAX_INDEX, MAX_MEMBERS, MAX_ROOM_AUDIO, MAX_ROOMS, MAX_SLOTS, MAX_SOURCES,
 };
 pub use self::looking::{Look, all_suit, are_together, count_audio, room_at, room_of};
+pub use self::ordering::find_row;
 pub use self::row::{
     Codec, Floor, Gain, Key, Kind, Media, Member, Mute, Pin, Room, Row, Slot, Source, Sub,
 };

@@ -4,6 +4,7 @@ ghost use Rattle.std.specs.Prelude.{◌≡◌, ℕ, ◌+◌, ◌≤◌, ◌++◌
 ghost use Rattle.std.specs.List.{find, list_all, list_any};
 ghost use Rattle.desk_rows.specs.Row.{has_key};
 ghost use Rattle.desk_rows.specs.Kinds.{is_of};
+ghost use Rattle.desk_rows.specs.Naming.{is_gain_of};
 ghost use Rattle.desk_rows.specs.Order.{precedes, precedes_head, in_order, key_is_new, are_apart, have_same_keys, is_in, with_rows, without_rows};
 
 use crate::row::{Key, Kind, Row};
@@ -74,8 +75,8 @@ pub(crate) fn have_same_keys(rows: &[Row], others: &[Row]) -> bool
     left.is_empty()
 }
 
-/// The row of this key.
-pub(crate) fn find_row(rows: &[Row], key: Key) -> Option<Row>
+/// The row of this key among rows in the order of kinds and keys, found by halving.
+pub fn find_row(rows: &[Row], key: Key) -> Option<Row>
     requires { in_order rows.now ≡ true }
     ensures { result ≡ find (has_key key) rows.now }
 {
@@ -95,6 +96,29 @@ pub(crate) fn rows_of_kind(rows: &[Row], kind: Kind) -> &[Row]
     let before = rows.partition_point(|row| row.key().kind().rank() < kind.rank());
     let (_, from) = rows.split_at(before);
     let count = from.partition_point(|row| row.key().kind().rank() <= kind.rank());
+    let (these, _) = from.split_at(count);
+    these
+}
+
+/// Whether the row is a gain of this member.
+fn is_gain_of(row: &Row, member: u32) -> bool
+    ensures { result ≡ is_gain_of member row.now }
+{
+    match row {
+        Row::Gain(gain) => gain.member == member,
+        _ => false,
+    }
+}
+
+/// The gains of this member.
+pub(crate) fn gains_of(rows: &[Row], member: u32) -> &[Row]
+    requires { in_order rows.now ≡ true }
+    ensures { result.now ≡ filter (is_gain_of member) rows.now }
+{
+    let least = Key::Gain { member, source: 0 };
+    let before = rows.partition_point(|row| row.key().precedes(least));
+    let (_, from) = rows.split_at(before);
+    let count = from.partition_point(|row| is_gain_of(row, member));
     let (these, _) = from.split_at(count);
     these
 }

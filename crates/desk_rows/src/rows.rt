@@ -6,7 +6,7 @@ ghost use Rattle.std.specs.List.Sorted.{IsNonDecreasingBy};
 ghost use Rattle.desk_rows.specs.declared.row.Row.TheVariants.{Member as MemberRow};
 ghost use Rattle.desk_rows.specs.Row.{has_key};
 ghost use Rattle.desk_rows.specs.Kinds.{is_of};
-ghost use Rattle.desk_rows.specs.Naming.{subs_naming, slots_naming};
+ghost use Rattle.desk_rows.specs.Naming.{subs_naming, slots_naming, gains_naming};
 ghost use Rattle.desk_rows.specs.Order.{in_order, is_in};
 ghost use Rattle.desk_rows.specs.inner.Index.{IsIndex};
 ghost use Rattle.desk_rows.specs.Places.{place_in};
@@ -22,7 +22,7 @@ use crate::grouping::{follow, group_of};
 use crate::index::{Entry, entry_of};
 use crate::limits::{MAX_MEMBERS, MAX_OTHERS, MAX_SLOTS};
 use crate::looking::Look;
-use crate::ordering::{contains, find_row, rows_of_kind};
+use crate::ordering::{contains, find_row, gains_of, rows_of_kind};
 use crate::row::{Key, Kind, Member, Row, Slot, Sub};
 use rtp_codec::Address;
 use std::alloc::{AllocError, Allocator, Global};
@@ -213,6 +213,13 @@ impl<A: Allocator + Copy> Rows<A> {
         ensures exactly { (index : ℕ) → filter (λ s. nat_eq s.index index) result.now ≡ filter (λ s. nat_eq s.index index) (slots_naming self.now member) }
     {
         group_of(&self.slots, member)
+    }
+
+    /// The gains of this member by the SSRC of their sources.
+    pub fn gains_of(&self, member: u32) -> &[Row]
+        ensures { result.now ≡ gains_naming self.now member }
+    {
+        gains_of(&self.others, member)
     }
 
     /// The numbers of the room's members by place.
