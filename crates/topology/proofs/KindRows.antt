@@ -57,7 +57,7 @@ found_part part p q same (r ∷ rs) = by (part r) refl (found_part part p q same
         ∙ elim (q x) as (λ b. option_and_then part (cond b (Some r) (find p rs)) ≡ cond b (Some x) (find q (filter_map part rs))) [ true ↦ e | false ↦ rest ]
 
 -- a row that is no member's is found behind them
-behind_members : (p : Row → Bool) → ((m : MemberRow) → p (Member m) ≡ false) → (ms : List MemberRow) (rs : List Row) → find p (map Member ms ++ rs) ≡ find p rs
+pub behind_members : (p : Row → Bool) → ((m : MemberRow) → p (Member m) ≡ false) → (ms : List MemberRow) (rs : List Row) → find p (map Member ms ++ rs) ≡ find p rs
 behind_members p none [] rs = refl
 behind_members p none (m ∷ ms) rs = ap (λ b. cond b (Some (Member m)) (find p (map Member ms ++ rs))) (none m) ∙ behind_members p none ms rs
 

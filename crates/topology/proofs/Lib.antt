@@ -18,3 +18,4 @@ pub mod LeastVideo
 pub mod Heard
 pub mod SmallRooms
 pub mod OneMix
+pub mod OwnGains

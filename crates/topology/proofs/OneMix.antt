@@ -1,5 +1,5 @@
 -- On a good desk no two members have their mixes on one stream, and a mix stays in its room.
-use Rattle.std.proofs.Common.{◌≡◌, ℕ, ◌+◌, Bool, true, false, cond, ◌&&◌, ◌||◌, nat_eq, List, [], ◌∷◌, ◌++◌, map, Option, None, Some, refl, sym, ap, subst, ◌∙◌, arith, append_assoc, eqb-true}
+use Rattle.std.proofs.Common.{◌≡◌, ℕ, ◌+◌, Bool, true, false, cond, ◌||◌, nat_eq, List, [], ◌∷◌, ◌++◌, map, Option, None, Some, refl, sym, ap, subst, ◌∙◌, arith, append_assoc, eqb-true}
 use Rattle.std.specs.Prelude.{filter, count_by, option_map}
 use Rattle.std.specs.List.{All, find, flat_map, list_all}
 use Rattle.std.proofs.lemmas.Bool.{and_parts}

@@ -1,13 +1,14 @@
 //! Which sources the mix of a member is made of.
 
-ghost use Rattle.std.specs.Prelude.{◌≡◌, IfOk, filter, length, map};
+ghost use Rattle.std.specs.Prelude.{◌≡◌, IfOk, filter, length, map, true};
 ghost use Rattle.std.specs.List.{filter_map};
+ghost use Rattle.desk_rows.specs.Order.{in_order};
 ghost use Rattle.topology.specs.Mixes.{audio_sources, gain_of, in_room, mix_source, mix_plan};
-ghost use Rattle.topology.specs.inner.Audible.{audio_in, audible_seat};
+ghost use Rattle.topology.specs.inner.Audible.{audio_in, is_muted_in, audible_seat, gain_among};
 
-use crate::looking::{is_muted, room_of_member};
+use crate::looking::room_of_member;
 use crate::seating::{Seated, by_places, seat_of};
-use desk_rows::{Key, Kind, Media, Row, Rows, Source};
+use desk_rows::{Key, Kind, Media, Row, Rows, Source, find_row};
 use rtp_codec::Address;
 use std::alloc::{AllocError, Allocator};
 
@@ -39,7 +40,8 @@ pub fn audio_sources<A: Allocator + Copy>(
     ensures { IfOk result (λ v. v.items ≡ audio_sources rows.now) }
 {
     rows.known();
-    let mut seats = seats(alloc, rows, rows.others_of(Kind::Source))?;
+    let mutes = rows.others_of(Kind::Mute);
+    let mut seats = seats(alloc, rows, mutes, rows.others_of(Kind::Source))?;
     by_places(alloc, &mut seats)
 }
 
@@ -47,22 +49,29 @@ pub fn audio_sources<A: Allocator + Copy>(
 fn seats<A: Allocator + Copy>(
     alloc: A,
     rows: &Rows<A>,
+    mutes: &[Row],
     these: &[Row],
 ) -> Result<Vec<Seated<AudioSource>, A>, AllocError>
-    ensures { IfOk result (λ v. v.items ≡ filter_map (audible_seat rows.now) these.now) }
+    requires { in_order mutes.now ≡ true }
+    ensures { IfOk result (λ v. v.items ≡ filter_map (audible_seat rows.now mutes.now) these.now) }
 {
     these
         .iter()
-        .filter_map(|row| audible_seat(rows, row))
+        .filter_map(|row| audible_seat(rows, mutes, row))
         .collect(alloc)
 }
 
 /// The source in a row at its member's place, if it is audio and not muted.
-fn audible_seat<A: Allocator + Copy>(rows: &Rows<A>, row: &Row) -> Option<Seated<AudioSource>>
-    ensures { result ≡ audible_seat rows.now row.now }
+fn audible_seat<A: Allocator + Copy>(
+    rows: &Rows<A>,
+    mutes: &[Row],
+    row: &Row,
+) -> Option<Seated<AudioSource>>
+    requires { in_order mutes.now ≡ true }
+    ensures { result ≡ audible_seat rows.now mutes.now row.now }
 {
     let source = audio_in(row)?;
-    if is_muted(rows, source.ssrc) {
+    if is_muted_in(mutes, source.ssrc) {
         return None;
     }
     let member = seat_of(rows, source.member)?;
@@ -87,16 +96,36 @@ fn audio_in(row: &Row) -> Option<Source>
     }
 }
 
+/// Whether the source is muted in these rows.
+fn is_muted_in(mutes: &[Row], source: u32) -> bool
+    requires { in_order mutes.now ≡ true }
+    ensures { result ≡ is_muted_in mutes.now source }
+{
+    find_row(mutes, Key::Mute(source)).is_some()
+}
+
 /// The gain of a source for which none is set, in 256ths: as loud as it came.
 const FULL_GAIN: u32 = 256;
 
-/// How loud a member hears a source, in 256ths.
-fn gain_of<A: Allocator + Copy>(rows: &Rows<A>, member: u32, source: u32) -> u32
-    ensures { result ≡ gain_of rows.now member source }
+/// The gain that these rows have for a member and a source, in 256ths.
+fn gain_among(gains: &[Row], member: u32, source: u32) -> u32
+    requires { in_order gains.now ≡ true }
+    ensures { result ≡ gain_among gains.now member source }
 {
-    match rows.find(&Key::Gain { member, source }) {
+    match find_row(gains, Key::Gain { member, source }) {
         Some(Row::Gain(gain)) => gain.q8,
         _ => FULL_GAIN,
+    }
+}
+
+/// Writes the gains that these rows have for a member and each of the sources.
+fn write_each(own: &[Row], member: u32, sources: &[AudioSource], gains: &mut [u32])
+    requires order { in_order own.now ≡ true }
+    requires lengths { length gains.old ≡ length sources.now }
+    ensures { gains.new ≡ map (λ s. gain_among own.now member s.ssrc) sources.now }
+{
+    for i in 0..gains.len() {
+        gains[i] = gain_among(own, member, sources[i].ssrc);
     }
 }
 
@@ -111,9 +140,21 @@ pub fn write_gains<A: Allocator + Copy>(
     requires { length gains.old ≡ length sources.now }
     ensures { gains.new ≡ map (λ s. gain_of rows.now member s.ssrc) sources.now }
 {
-    for i in 0..gains.len() {
-        gains[i] = gain_of(rows, member, sources[i].ssrc);
+    rows.known();
+    let own = rows.gains_of(member);
+    if own.is_empty() {
+        gains.fill(FULL_GAIN);
+    } else {
+        write_each(own, member, sources, gains);
     }
+}
+
+/// How loud a member hears a source, in 256ths.
+fn gain_of<A: Allocator + Copy>(rows: &Rows<A>, member: u32, source: u32) -> u32
+    ensures { result ≡ gain_of rows.now member source }
+{
+    rows.known();
+    gain_among(rows.gains_of(member), member, source)
 }
 
 /// The sources of a member's mix: the audio sources of its room that aren't muted, its own among
