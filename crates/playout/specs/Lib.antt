@@ -1,3 +1,4 @@
 pub mod Calls
 pub mod Playout
+pub mod Playouts
 pub mod inner

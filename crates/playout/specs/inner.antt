@@ -1,3 +1,4 @@
 pub mod Agrees
+pub mod Rated
 pub mod Represents
 pub mod Taking

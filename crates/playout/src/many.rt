@@ -1,0 +1,94 @@
+//! The playouts of many sources.
+
+ghost use Rattle.std.specs.Prelude.{◌≡◌, ◌≤◌, ◌<◌, ◌*◌, [], length, IfOk, OnOk, OnErr};
+ghost use Rattle.playout.specs.Playouts.{AudioEvent, PutOf, TakeAll, Has, HasAlso, ShowsOf};
+
+use crate::jitter_buffer::Playout;
+use indexmap::IndexMap;
+use rtp_codec::Address;
+use std::alloc::{AllocError, Allocator, Global};
+use std::hash::{BuildHasherDefault, FoldHasher};
+use std::marker::Model;
+
+/// The room for playouts that there is from the start.
+const FIRST_SOURCES: usize = 16;
+
+/// Whose playout it is: an SSRC, and the parts of an address.
+#[derive(Clone, Copy, PartialEq, Eq, Hash)]
+pub(crate) struct Key {
+    source: u32,
+    ip: [u8; 4],
+    port: u16,
+}
+
+type Table<A> = IndexMap<Key, Playout<A>, BuildHasherDefault<FoldHasher>, A>;
+
+/// The playouts of all sources that a lane (media worker) has had samples of, by SSRC and address. None of them is ever dropped.
+#[derive(Drop)]
+pub struct Playouts<A: Allocator + Copy = Global> {
+    rate: usize,
+    table: Table<A>,
+}
+
+impl<A: Allocator + Copy> Model for Playouts<A> {
+    ghost use Rattle.playout.specs.Playouts.{PlayoutsOf};
+    ghost use Rattle.playout.specs.inner.Rated.{AreRated};
+
+    ghost Value = { PlayoutsOf };
+
+    ghost view = { λ p. record { rate = p.rate; entries = p.table.entries } };
+
+    ghost invariant = { λ p. AreRated p.rate p.table.entries };
+}
+
+impl<A: Allocator + Copy> Playouts<A> {
+    /// No playout; each will be for so many samples a second, 50 to 48,000.
+    pub fn new(alloc: A, rate: usize) -> Result<Self, AllocError>
+        requires least { 50 ≤ rate }
+        requires most { rate ≤ 48000 }
+        ensures none { IfOk result (λ playouts. Has playouts []) }
+        ensures rate { IfOk result (λ playouts. playouts.rate ≡ rate) }
+    {
+        let table = IndexMap::with_capacity(alloc, FIRST_SOURCES)?;
+        Ok(Self { rate, table })
+    }
+
+    /// Puts samples of a source at the places from this timestamp on: at least one, and a fifth of a second at most. The first put of a
+    /// source takes memory.
+    pub fn put(
+        &mut self,
+        alloc: A,
+        source: u32,
+        address: &Address,
+        ts: u32,
+        samples: &[i16],
+    ) -> Result<(), AllocError>
+        requires some { 0 < length samples.now }
+        requires few { length samples.now * 5 ≤ self.old.rate }
+        requires stub { ⊥ }
+        ensures has { OnOk result (HasAlso self.old self.new (PutOf source address.now ts samples.now)) }
+        ensures rate { self.new.rate ≡ self.old.rate }
+        ensures err { OnErr result (self.new ≡ self.old) }
+    {
+        unreachable!()
+    }
+
+    /// Takes the next samples of every playout, a second's at most.
+    pub fn take_all(&mut self, count: usize)
+        requires within { count ≤ self.old.rate }
+        requires stub { ⊥ }
+        ensures has { HasAlso self.old self.new (TakeAll count) }
+        ensures rate { self.new.rate ≡ self.old.rate }
+    {
+        unreachable!()
+    }
+
+    /// Shows what the next samples of a source are, a second's at most, 0 where there is none, and tells how many there are.
+    pub fn peek(&self, source: u32, address: &Address, out: &mut [i16]) -> u32
+        requires within { length out.old ≤ self.now.rate }
+        requires stub { ⊥ }
+        ensures { ShowsOf self.now source address.now out.new result }
+    {
+        unreachable!()
+    }
+}
