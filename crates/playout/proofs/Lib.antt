@@ -1,4 +1,5 @@
 pub mod Begun
+pub mod Copied
 pub mod Falls
 pub mod Offered
 pub mod Taken

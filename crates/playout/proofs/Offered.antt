@@ -5,7 +5,7 @@ use Rattle.std.proofs.lemmas.Bool.Decides.{nat_tests}
 use Rattle.playout.specs.Playout.{Pair, sample_at, offer, offers}
 use Rattle.playout.specs.inner.Agrees.{Agrees, filled}
 
-eq_cases : (m n : ℕ) → (m ≡ n) ⊎ (m ≢ n)
+pub eq_cases : (m n : ℕ) → (m ≡ n) ⊎ (m ≢ n)
 eq_cases m n = elim (nat_eq m n) as (λ b. nat_eq m n ≡ b → (m ≡ n) ⊎ (m ≢ n)) [
   | true ↦ λ is. (let e : m ≡ n = grind (arith, nat_tests) in inl e)
   | false ↦ λ is. inr (λ same. (let e : nat_eq m n ≡ true = grind (arith, nat_tests) in let x : false ≡ true = sym is ∙ e in cc))
@@ -118,47 +118,6 @@ pub going_done : (cells : List (Option ℤ)) (p place k : ℕ) (samples : List �
 going_done cells p place k samples end count le g =
     let e : g.now ≡ end = sym (ap (offers p g.now place) (drop_all k samples le)) ∙ g.leads in
     (subst (λ (xs : List Pair). Agrees cells xs p) e g.agrees, ap length (sym e) ∙ g.long)
-
--- an empty cell at the end is no other than none
-pad : (xs : List (Option ℤ)) (j : ℕ) → get_or (xs ++ None ∷ []) j None ≡ get_or xs j None
-pad [] zero = refl
-pad [] (suc j) = refl
-pad (x ∷ xs) zero = refl
-pad (x ∷ xs) (suc j) = pad xs j
-
-tail : (xs : List (Option ℤ)) (j : ℕ) → get_or (drop 1 xs) j None ≡ get_or xs (suc j) None
-tail [] j = refl
-tail (x ∷ xs) j = refl
-
-beyond : (xs : List (Option ℤ)) (j : ℕ) → length xs ≤ j → get_or xs j None ≡ None
-beyond [] j le = refl
-beyond (x ∷ xs) zero le = absurd (omega (arith, le))
-beyond (x ∷ xs) (suc j) le = beyond xs j (omega (arith, le))
-
--- one place further on
-pub moved_on : (cells new : List (Option ℤ)) (pairs : List Pair) (p : ℕ) → new ≡ drop 1 cells ++ None ∷ [] → length new ≡ length cells → Agrees cells pairs p → Agrees new pairs (p + 1)
-moved_on cells new pairs p is long a = record { here = here; room = room }
-  where
-    cell : (j : ℕ) → get_or new j None ≡ get_or cells (suc j) None
-    cell j = ap (λ (xs : List (Option ℤ)). get_or xs j None) is ∙ pad (drop 1 cells) j ∙ tail cells j
-
-    here : (j : ℕ) → j < length new → get_or new j None ≡ sample_at pairs (p + 1 + j)
-    here j lt = elim (eq_cases (suc j) (length cells)) [
-      | inl last ↦
-          let le : length cells ≤ suc j = omega (arith, last) in
-          let far : p + length cells ≤ p + 1 + j = omega (arith, last) in
-          cell j ∙ beyond cells (suc j) le ∙ sym (a.room (p + 1 + j) far)
-      | inr other ↦
-          let less : suc j < length cells = omega (arith, lt, long, other) in
-          let e : p + suc j ≡ p + 1 + j = omega arith in
-          cell j ∙ a.here (suc j) less ∙ ap (sample_at pairs) e
-    ]
-
-    room : (n : ℕ) → p + 1 + length new ≤ n → sample_at pairs n ≡ None
-    room n above = a.room n (omega (arith, above, long))
-
-pub first_is : (cells : List (Option ℤ)) (pairs : List Pair) (p : ℕ) → 0 < length cells → Agrees cells pairs p → get_or cells 0 None ≡ sample_at pairs p
-first_is cells pairs p some a = let e : p + 0 ≡ p = omega arith in a.here 0 some ∙ ap (sample_at pairs) e
 
 below_yes : (q p : ℕ) → q < p → nat_lt q p ≡ true
 below_yes q p lt = grind (arith, nat_tests)

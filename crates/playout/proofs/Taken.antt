@@ -1,11 +1,12 @@
 -- Takes, for each list of calls.
-use Rattle.std.proofs.Common.{◌≡◌, ℕ, ℤ, zero, suc, ◌+◌, ◌^◌, ◌%◌, false, List, [], ◌∷◌, ◌++◌, length, Option, None, Some, refl, sym, ap, ◌∙◌, arith, subst}
-use Rattle.std.proofs.lemmas.List.Sums.{fold-append}
-use Rattle.playout.specs.Playout.{Pair, Play, present}
+use Rattle.std.proofs.Common.{◌≡◌, ℕ, ℤ, pos, zero, suc, ◌+◌, ◌<◌, ◌≤◌, ◌^◌, ◌%◌, Bool, true, false, cond, List, [], ◌∷◌, ◌++◌, length, map, take, get_or, count_by, Option, None, Some, is_some, refl, sym, ap, ◌∙◌, arith, subst}
+use Rattle.std.proofs.lemmas.List.{get_or-map, get_or-take, length-take}
+use Rattle.std.proofs.lemmas.List.Sums.{fold-append, count_by_more_yes, count_by_more_no}
+use Rattle.playout.specs.Playout.{Pair, Play, present, AreTaken}
 use Rattle.playout.specs.Calls.{Take, after, play_of, Takes}
 use Rattle.playout.specs.inner.Agrees.{Agrees, IsBlank}
 use Rattle.playout.specs.inner.Represents.{Held, Holds, Shows, HasTaken}
-use Rattle.playout.specs.inner.Taking.{TakenTo}
+use Rattle.playout.specs.inner.Cells.{heard}
 
 -- where there is no sample, the position makes no difference
 pub blank_at : (cells : List (Option ℤ)) (p : ℕ) → Agrees cells [] p → IsBlank cells
@@ -15,18 +16,35 @@ present-nothing : (p n : ℕ) → present [] p n ≡ 0
 present-nothing p zero = refl
 present-nothing p (suc n) = ap (λ (k : ℕ). k + 0) (present-nothing p n)
 
-pub shows_by : (held : Held) (out : List ℤ) (count i : ℕ) → (held.begun ≡ false → IsBlank held.cells) → i ≡ length out
-    → ((p : ℕ) (pairs : List Pair) → Agrees held.cells pairs p → TakenTo pairs p i out × (count ≡ present pairs p i))
-    → Shows held out count
-shows_by held out count i blank all step calls h = by (play_of (length held.cells) calls) h
+-- the samples of the first cells are those from the position on
+heard_taken : (cells : List (Option ℤ)) (pairs : List Pair) (p n : ℕ) (out : List ℤ) → n ≡ length out → out ≡ map heard (take n cells) → n ≤ length cells → Agrees cells pairs p → AreTaken pairs p out
+heard_taken cells pairs p n out all is within a i lt =
+    let least : i < n = omega (arith, lt, all) in
+    let some : i < length (take n cells) = omega (arith, length-take n cells, least, within) in
+    ap (λ (xs : List ℤ). get_or xs i (pos 0)) is ∙ get_or-map heard (take n cells) i None (pos 0) some ∙ ap heard (get_or-take n cells i None least ∙ a.here i (omega (arith, least, within)))
+
+-- and as many of them are there as of those cells
+counted : (cells : List (Option ℤ)) (pairs : List Pair) (p n : ℕ) → n ≤ length cells → Agrees cells pairs p → count_by is_some (take n cells) ≡ present pairs p n
+counted cells pairs p zero within a = refl
+counted cells pairs p (suc n) within a =
+    let lt : n < length cells = omega (arith, within) in
+    let more : suc n ≡ n + 1 = omega arith in
+    ap (λ k. count_by is_some (take k cells)) more ∙ by (is_some (get_or cells n None)) refl lt ∙ (λ i. counted cells pairs p n (omega (arith, within)) a i + cond (is_some (a.here n lt i)) 1 0)
   where
+    by : (b : Bool) → is_some (get_or cells n None) ≡ b → n < length cells → count_by is_some (take (n + 1) cells) ≡ count_by is_some (take n cells) + cond (is_some (get_or cells n None)) 1 0
+    by true is lt = count_by_more_yes is_some cells n None lt is ∙ ap (λ b. count_by is_some (take n cells) + cond b 1 0) (sym is)
+    by false is lt = let none : count_by is_some (take n cells) ≡ count_by is_some (take n cells) + 0 = omega arith in count_by_more_no is_some cells n None lt is ∙ none ∙ ap (λ b. count_by is_some (take n cells) + cond b 1 0) (sym is)
+
+pub shows_by : (held : Held) (out : List ℤ) (count n : ℕ) → (held.begun ≡ false → IsBlank held.cells) → n ≡ length out → n ≤ length held.cells
+    → out ≡ map heard (take n held.cells) → count ≡ count_by is_some (take n held.cells) → Shows held out count
+shows_by held out count n blank all within samples is calls h = by (play_of (length held.cells) calls) h
+  where
+    step : (p : ℕ) (pairs : List Pair) → Agrees held.cells pairs p → AreTaken pairs p out × (count ≡ present pairs p (length out))
+    step p pairs a = (heard_taken held.cells pairs p n out all samples within a, is ∙ counted held.cells pairs p n within a ∙ ap (present pairs p) all)
+
     by : (st : Option Play) → Holds held st → Takes st out count
-    by None none =
-        let both = step 0 [] (blank none 0) in
-        (subst (λ (n : ℕ). TakenTo [] 0 n out) all both.0, both.1 ∙ present-nothing 0 i)
-    by (Some play) (begun, now, half, had) =
-        let both = step play.position play.pairs had in
-        (subst (λ (n : ℕ). TakenTo play.pairs play.position n out) all both.0, both.1 ∙ ap (present play.pairs play.position) all)
+    by None none = let both = step 0 [] (blank none 0) in (both.0, both.1 ∙ present-nothing 0 (length out))
+    by (Some play) (begun, now, half, had) = step play.position play.pairs had
 
 pub taken_by : (old new : Held) (count : ℕ) → new.begun ≡ old.begun → new.position ≡ (old.position + count) % 2 ^ 32 → length new.cells ≡ length old.cells
     → ((p : ℕ) (pairs : List Pair) → Agrees old.cells pairs p → Agrees new.cells pairs (p + count))

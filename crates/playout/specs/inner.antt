@@ -1,4 +1,4 @@
 pub mod Agrees
+pub mod Cells
 pub mod Rated
 pub mod Represents
-pub mod Taking

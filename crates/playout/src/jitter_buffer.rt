@@ -5,9 +5,10 @@ ghost use Rattle.playout.specs.Playout.{delay, begun_by};
 ghost use Rattle.playout.specs.inner.Agrees.{Agrees, IsBlank};
 ghost use Rattle.playout.specs.inner.Represents.{Represents, Puts, Shows, HasTaken};
 
+use crate::cell::Cell;
 use crate::placed::Placed;
 use crate::putting::put_begun;
-use crate::ring::{clear, empty, keep, look, next};
+use crate::ring::{clear, empty, keep, read_first, skip};
 use circular_buffer::HeapCircularBuffer;
 use std::alloc::{AllocError, Allocator, Global};
 use std::marker::Model;
@@ -20,7 +21,7 @@ const DELAY: usize = 60;
 pub struct Playout<A: Allocator = Global> {
     begun: bool,
     position: u32,
-    ring: HeapCircularBuffer<Option<i16>, A>,
+    ring: HeapCircularBuffer<Cell, A>,
 }
 
 impl<A: Allocator> Model for Playout<A> {
@@ -94,14 +95,19 @@ impl<A: Allocator> Playout<A> {
         ensures taken { HasTaken self.old self.new (length out.old) }
         ensures rate { length self.new.cells ≡ length self.old.cells }
     {
-        let mut count = 0;
-        for i in 0..out.len() {
-            let sample = next(&mut self.ring);
-            out[i] = sample.unwrap_or(0);
-            count += sample.is_some() as u32;
-        }
-        self.position = self.position.wrapping_add(out.len() as u32);
+        let count = self.peek(out);
+        self.skip(out.len());
         count
+    }
+
+    /// Takes so many samples unseen.
+    pub fn skip(&mut self, count: usize)
+        requires { count ≤ length self.old.cells }
+        ensures taken { HasTaken self.old self.new count }
+        ensures rate { length self.new.cells ≡ length self.old.cells }
+    {
+        skip(&mut self.ring, count);
+        self.position = self.position.wrapping_add(count as u32);
     }
 
     /// Shows what [`take`](Self::take) would take.
@@ -109,12 +115,6 @@ impl<A: Allocator> Playout<A> {
         requires { length out.old ≤ length self.now.cells }
         ensures { Shows self.now out.new result }
     {
-        let mut count = 0;
-        for i in 0..out.len() {
-            let sample = look(&self.ring, i);
-            out[i] = sample.unwrap_or(0);
-            count += sample.is_some() as u32;
-        }
-        count
+        read_first(&self.ring, out)
     }
 }

@@ -3,6 +3,7 @@
 //! A contract speaks of the list of puts and takes so far. Begin with [`Playout::new`], or with [`Playouts::new`] for many sources.
 #![tactic(auto)]
 
+mod cell;
 mod jitter_buffer;
 mod many;
 mod placed;

@@ -4,6 +4,7 @@ ghost use Rattle.std.specs.Prelude.{◌≡◌, ℕ, ◌+◌, ◌-◌, ◌<◌, �
 ghost use Rattle.playout.specs.Playout.{Pair, placed_of, pairs_after};
 ghost use Rattle.playout.specs.inner.Agrees.{Agrees};
 
+use crate::cell::Cell;
 use crate::placed::Placed;
 use crate::ring::keep;
 use circular_buffer::HeapCircularBuffer;
@@ -21,7 +22,7 @@ fn distance(position: u32, ts: u32) -> u32
 
 /// Puts samples after the first put; at Reset the caller begins anew.
 pub fn put_begun<A: Allocator>(
-    ring: &mut HeapCircularBuffer<Option<i16>, A>,
+    ring: &mut HeapCircularBuffer<Cell, A>,
     position: u32,
     ts: u32,
     samples: &[i16],

@@ -1,15 +1,17 @@
 //! The samples of the places from the position on, as many as a second has.
 
-ghost use Rattle.std.specs.Prelude.{◌≡◌, IfOk, ℕ, ◌+◌, ◌<◌, ◌≤◌, length, slice_set, slice_index_or, is_none, None, Some, if◌then◌else◌, drop, ◌++◌, ◌∷◌, [], Bool, List, Option};
-ghost use Rattle.playout.specs.Playout.{Pair, offers, sample_at};
+ghost use Rattle.std.specs.Prelude.{◌≡◌, IfOk, ℕ, ◌+◌, ◌<◌, ◌≤◌, length, slice_index_or, is_none, is_some, None, map, take, replicate, count_by, [], List};
+ghost use Rattle.playout.specs.Playout.{Pair, offers};
 ghost use Rattle.playout.specs.inner.Agrees.{Agrees, IsBlank, filled};
+ghost use Rattle.playout.specs.inner.Cells.{heard};
 
+use crate::cell::Cell;
 use circular_buffer::HeapCircularBuffer;
 use std::alloc::{AllocError, Allocator};
 
 /// Keeps a sample where there is none.
 pub fn fill<A: Allocator>(
-    ring: &mut HeapCircularBuffer<Option<i16>, A>,
+    ring: &mut HeapCircularBuffer<Cell, A>,
     offset: usize,
     sample: i16,
 ) -> bool
@@ -20,36 +22,47 @@ pub fn fill<A: Allocator>(
 {
     match ring.get_mut(offset) {
         Some(cell) => {
-            if cell.is_some() {
+            if cell.is_present() {
                 return false;
             }
-            *cell = Some(sample);
+            *cell = Cell::of(sample);
             true
         }
         None => false,
     }
 }
 
-/// Moves on by one place.
-pub fn advance<A: Allocator>(ring: &mut HeapCircularBuffer<Option<i16>, A>) -> Option<i16>
+/// How many places it moves on by at a time.
+const BLOCK: usize = 160;
+
+/// Moves on by so many places, a block at most.
+fn advance<A: Allocator>(ring: &mut HeapCircularBuffer<Cell, A>, count: usize)
     requires full { length ring.old.items ≡ ring.old.capacity }
-    requires some { 0 < ring.old.capacity }
-    ensures items { ring.new.items ≡ drop 1 ring.old.items ++ None ∷ [] }
+    requires few { count ≤ 160 }
+    ensures agrees { (p : ℕ) (pairs : List Pair) → Agrees ring.old.items pairs p → Agrees ring.new.items pairs (p + count) }
     ensures capacity { ring.new.capacity ≡ ring.old.capacity }
-    ensures value { result ≡ slice_index_or ring.old.items 0 None }
     ensures full { length ring.new.items ≡ ring.new.capacity }
 {
-    let next = match ring.get(0) {
-        Some(cell) => *cell,
-        None => None,
-    };
-    ring.push_back(None);
-    next
+    let blanks = [Cell::blank(); BLOCK];
+    ring.extend_from_slice(&blanks[..count]);
+}
+
+/// Moves on by so many places.
+pub fn skip<A: Allocator>(ring: &mut HeapCircularBuffer<Cell, A>, count: usize)
+    requires full { length ring.old.items ≡ ring.old.capacity }
+    ensures agrees { (p : ℕ) (pairs : List Pair) → Agrees ring.old.items pairs p → Agrees ring.new.items pairs (p + count) }
+    ensures capacity { ring.new.capacity ≡ ring.old.capacity }
+    ensures full { length ring.new.items ≡ ring.new.capacity }
+{
+    for _ in 0..count / BLOCK {
+        advance(ring, BLOCK);
+    }
+    advance(ring, count % BLOCK);
 }
 
 /// Keeps samples from an offset on.
 pub fn keep<A: Allocator>(
-    ring: &mut HeapCircularBuffer<Option<i16>, A>,
+    ring: &mut HeapCircularBuffer<Cell, A>,
     offset: usize,
     samples: &[i16],
 ) -> u32
@@ -69,46 +82,50 @@ pub fn keep<A: Allocator>(
     count
 }
 
-/// Takes the next sample, if there is one, and moves on.
-pub fn next<A: Allocator>(ring: &mut HeapCircularBuffer<Option<i16>, A>) -> Option<i16>
-    requires full { length ring.old.items ≡ ring.old.capacity }
-    requires some { 0 < ring.old.capacity }
-    ensures agrees { (p : ℕ) (pairs : List Pair) → Agrees ring.old.items pairs p → Agrees ring.new.items pairs (p + 1) }
-    ensures value { (p : ℕ) (pairs : List Pair) → Agrees ring.old.items pairs p → result ≡ sample_at pairs p }
-    ensures capacity { ring.new.capacity ≡ ring.old.capacity }
-    ensures full { length ring.new.items ≡ ring.new.capacity }
+/// Copies the samples of some places, and counts those that there are.
+fn read(cells: &[Cell], out: &mut [i16]) -> u32
+    requires alike { length out.old ≡ length cells.now }
+    requires few { length cells.now ≤ 48000 }
+    ensures samples { out.new ≡ map heard cells.now }
+    ensures count { result ≡ count_by is_some cells.now }
 {
-    advance(ring)
+    let mut count = 0;
+    for i in 0..out.len() {
+        let cell = cells[i];
+        out[i] = cell.heard();
+        count += cell.is_present() as u32;
+    }
+    count
 }
 
-/// The sample at an offset, if there is one.
-pub fn look<A: Allocator>(ring: &HeapCircularBuffer<Option<i16>, A>, offset: usize) -> Option<i16>
-    requires { offset < length ring.now.items }
-    ensures { (p : ℕ) (pairs : List Pair) → Agrees ring.now.items pairs p → result ≡ sample_at pairs (p + offset) }
+/// Copies the samples of the first places, and counts those that there are.
+pub fn read_first<A: Allocator>(ring: &HeapCircularBuffer<Cell, A>, out: &mut [i16]) -> u32
+    requires within { length out.old ≤ length ring.now.items }
+    requires few { length ring.now.items ≤ 48000 }
+    ensures samples { out.new ≡ map heard (take (length out.old) ring.now.items) }
+    ensures count { result ≡ count_by is_some (take (length out.old) ring.now.items) }
 {
-    match ring.get(offset) {
-        Some(cell) => *cell,
-        None => None,
-    }
+    let (front, back) = ring.as_slices();
+    let split = front.len().min(out.len());
+    let rest = out.len() - split;
+    let (first, second) = out.split_at_mut(split);
+    read(&front[..split], first) + read(&back[..rest], second)
 }
 
 /// Fills a ring that has nothing with places of which none has a sample.
-fn fill_up<A: Allocator>(ring: &mut HeapCircularBuffer<Option<i16>, A>)
+fn fill_up<A: Allocator>(ring: &mut HeapCircularBuffer<Cell, A>)
     requires { ring.old.items ≡ [] }
     ensures blank { IsBlank ring.new.items }
     ensures capacity { ring.new.capacity ≡ ring.old.capacity }
     ensures full { length ring.new.items ≡ ring.old.capacity }
 {
     for _ in 0..ring.capacity() {
-        ring.push_back(None);
+        ring.push_back(Cell::blank());
     }
 }
 
 /// A ring of so many places, none of which has a sample.
-pub fn empty<A: Allocator>(
-    alloc: A,
-    rate: usize,
-) -> Result<HeapCircularBuffer<Option<i16>, A>, AllocError>
+pub fn empty<A: Allocator>(alloc: A, rate: usize) -> Result<HeapCircularBuffer<Cell, A>, AllocError>
     ensures blank { IfOk result (λ ring. IsBlank ring.items) }
     ensures capacity { IfOk result (λ ring. ring.capacity ≡ rate) }
     ensures full { IfOk result (λ ring. length ring.items ≡ rate) }
@@ -119,7 +136,7 @@ pub fn empty<A: Allocator>(
 }
 
 /// Leaves no sample.
-pub fn clear<A: Allocator>(ring: &mut HeapCircularBuffer<Option<i16>, A>)
+pub fn clear<A: Allocator>(ring: &mut HeapCircularBuffer<Cell, A>)
     ensures blank { IsBlank ring.new.items }
     ensures capacity { ring.new.capacity ≡ ring.old.capacity }
     ensures full { length ring.new.items ≡ ring.old.capacity }

@@ -1,11 +1,15 @@
-use Rattle.std.proofs.Common.{◌≡◌, false, length, arith, subst}
-use Rattle.playout.specs.inner.Agrees.{IsBlank}
-use Rattle.playout.specs.inner.Represents.{Held}
+use Rattle.std.proofs.Common.{◌≡◌, ◌≤◌, ap, subst, length, take, arith}
+use Rattle.std.proofs.lemmas.List.{length-map, length-take}
+use Rattle.playout.specs.inner.Cells.{heard}
+use Rattle.playout.specs.inner.Represents.{Held, Shows}
 use Rattle.playout.proofs.Taken.{shows_by}
 use Rattle.playout.proofs.jitter_buffer.Playout.peek.Goals as goal
 
 pub returns : goal.returns
 returns g c =
-    let blank = subst (λ (held : Held). held.begun ≡ false → IsBlank held.cells) c.self.view_is c.self.invariant.blank in
-    let all : c.loop-i.i ≡ length c.loop-i.out = omega (arith, c.loop-i-test.false, c.loop-i.auto.i-end, c.loop-i.auto.out) in
-    shows_by c.args.self.now c.loop-i.out c.loop-i.count c.loop-i.i blank all c.loop-i.invariant.going
+    let inside : Held = record { begun = c.self.inside.begun; position = c.self.inside.position; cells = c.self.inside.ring.items } in
+    let n = length c.args.out.now in
+    let within : n ≤ length inside.cells = omega (arith, c.requires, ap (λ (h : Held). length h.cells) c.self.view_is) in
+    let all : n ≡ length c.read_first.new.out = omega (arith, ap length c.read_first.ensures.samples, length-map (take n inside.cells) heard, length-take n inside.cells, within) in
+    subst (λ (h : Held). Shows h c.read_first.new.out c.read_first.result) c.self.view_is
+    (shows_by inside c.read_first.new.out c.read_first.result n c.self.invariant.blank all within c.read_first.ensures.samples c.read_first.ensures.count)
