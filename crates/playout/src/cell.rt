@@ -27,17 +27,13 @@ impl Model for Cell {
     ghost invariant = { λ c. c.present ≡ false → pos 0 ≡ c.sample };
 }
 
-impl Cell {
-    /// A place with no sample.
-    pub fn blank() -> Cell
-        ensures { result ≡ None }
-    {
-        Cell {
-            sample: 0,
-            present: false,
-        }
-    }
+/// A place with no sample.
+pub const BLANK: Cell = Cell {
+    sample: 0,
+    present: false,
+};
 
+impl Cell {
     /// A place with this sample.
     pub fn of(sample: i16) -> Cell
         ensures { result ≡ Some sample }

@@ -5,7 +5,7 @@ ghost use Rattle.playout.specs.Playout.{Pair, offers};
 ghost use Rattle.playout.specs.inner.Agrees.{Agrees, IsBlank, filled};
 ghost use Rattle.playout.specs.inner.Cells.{heard};
 
-use crate::cell::Cell;
+use crate::cell::{BLANK, Cell};
 use circular_buffer::HeapCircularBuffer;
 use std::alloc::{AllocError, Allocator};
 
@@ -35,6 +35,9 @@ pub fn fill<A: Allocator>(
 /// How many places it moves on by at a time.
 const BLOCK: usize = 160;
 
+/// A block of places, none of which has a sample.
+const BLANKS: [Cell; BLOCK] = [BLANK; BLOCK];
+
 /// Moves on by so many places, a block at most.
 fn advance<A: Allocator>(ring: &mut HeapCircularBuffer<Cell, A>, count: usize)
     requires full { length ring.old.items ≡ ring.old.capacity }
@@ -43,8 +46,7 @@ fn advance<A: Allocator>(ring: &mut HeapCircularBuffer<Cell, A>, count: usize)
     ensures capacity { ring.new.capacity ≡ ring.old.capacity }
     ensures full { length ring.new.items ≡ ring.new.capacity }
 {
-    let blanks = [Cell::blank(); BLOCK];
-    ring.extend_from_slice(&blanks[..count]);
+    ring.extend_from_slice(&BLANKS[..count]);
 }
 
 /// Moves on by so many places.
@@ -120,7 +122,7 @@ fn fill_up<A: Allocator>(ring: &mut HeapCircularBuffer<Cell, A>)
     ensures full { length ring.new.items ≡ ring.old.capacity }
 {
     for _ in 0..ring.capacity() {
-        ring.push_back(Cell::blank());
+        ring.push_back(BLANK);
     }
 }
 
