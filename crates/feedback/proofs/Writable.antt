@@ -1,42 +1,17 @@
 -- What goes up to a source can be written.
-use Rattle.std.proofs.Common.{◌≡◌, ℕ, ℤ, ◌+◌, ◌-◌, ◌*◌, ◌%◌, ◌≤◌, Bool, true, false, List, [], ◌∷◌, ◌++◌, length, map, replicate, inl, inr, refl, ap, subst, ◌∙◌, arith, length-append}
+use Rattle.std.proofs.Common.{◌≡◌, ℕ, ℤ, ◌+◌, ◌-◌, ◌*◌, ◌%◌, ◌≤◌, Bool, true, false, List, [], ◌∷◌, ◌++◌, length, map, replicate, inr, refl, ap, subst, ◌∙◌, arith, length-append}
 use Rattle.std.specs.Prelude.{Result, Ok, Err, IfOk}
 use Rattle.std.specs.List.{flat_map, AllByRecursion}
 use Rattle.std.proofs.lemmas.List.{length-map, length-replicate}
 use Rattle.std.proofs.lemmas.List.Concat.{flat_map-cons}
-use Rattle.rtcp_codec.specs.declared.fault.WriteFault.{WriteFault}
-use Rattle.rtcp_codec.specs.declared.fault.WriteFault.TheVariants as faults
 use Rattle.rtcp_codec.specs.declared.nack.NackWord.{NackWord}
-use Rattle.rtcp_codec.specs.Packet.{Packet, Receiver, Nack, Pli, fields, FitsTypes}
-use Rattle.rtcp_codec.specs.Description.{Item, Chunk, item_octets, chunk_octets, filled, most_text}
+use Rattle.rtcp_codec.specs.Packet.{Receiver, Nack, Pli, fields, FitsTypes}
+use Rattle.rtcp_codec.specs.CanonicalName.{named}
+use Rattle.rtcp_codec.specs.Description.{filled}
 use Rattle.rtcp_codec.specs.Nack.{word_octets, numbers_of, numbers_named, FitsWord}
 use Rattle.rtcp_codec.specs.Compound.{Part, IsPart, packets_in, IsCompound}
-use Rattle.rtcp_codec.specs.WriteFault.{IsWritable, AreWritable, IsFirstFault, HasPacketFault, HasWriteFault}
-use Rattle.feedback.specs.Upstream.{Asker, cname_type, seq_of, most_words, named, nack_of, pli_of, upstream_packets}
-
--- who asks, as an item and as a chunk
-abbrev item : List ℕ → Item
-item cname = record { kind = cname_type; text = cname }
-
-abbrev chunk : ℕ → List ℕ → Chunk
-chunk ssrc cname = record { ssrc = ssrc; items = item cname ∷ [] }
-
-no_first : (f : WriteFault) (p : Packet) → IsWritable p → IsFirstFault f p → ⊥
-no_first faults.Count p w h = h w.counted
-no_first faults.TooLong p w h = h.1 w.lengths
-no_first faults.Kind p w h = h.2 w.meaning
-no_first faults.First p w h = h
-no_first faults.OutOfMemory p w h = h
-
-none_has : (f : WriteFault) (ps : List Packet) → AllByRecursion IsWritable ps → HasPacketFault f ps → ⊥
-none_has f [] w h = h
-none_has f (p ∷ ps) w (inl h) = no_first f p w.0 h
-none_has f (p ∷ ps) w (inr h) = none_has f ps w.1 h.1
-
--- what can be written has no fault
-pub no_fault : (f : WriteFault) (ps : List Packet) → AreWritable ps → HasWriteFault f ps → ⊥
-no_fault f ps w (inl h) = h.1 w.report
-no_fault f ps w (inr h) = none_has f ps w.each h.1
+use Rattle.rtcp_codec.specs.WriteFault.{IsWritable, AreWritable}
+use Rattle.feedback.specs.Upstream.{Asker, seq_of, most_words, nack_of, pli_of, upstream_packets}
 
 -- ---- how long the parts are
 
@@ -47,25 +22,10 @@ words-length : (ws : List NackWord) → length (flat_map word_octets ws) ≡ 4 *
 words-length [] = refl
 words-length (w ∷ ws) = ap length (flat_map-cons word_octets w ws) ∙ omega (arith, words-length ws)
 
-named-length : (ssrc : ℕ) (cname : List ℕ) → length (fields (named (record { ssrc = ssrc; cname = cname }))) ≤ length cname + 10
-named-length ssrc cname =
-    let c = chunk ssrc cname in
-    let items : length (flat_map item_octets c.items) ≡ 2 + length cname = ap length (flat_map-cons item_octets (item cname) []) ∙ omega (arith, length-append cname []) in
-    let octets : length (chunk_octets c) ≡ 7 + length cname = omega (arith, length-append (flat_map item_octets c.items) (0 ∷ []), items) in
-    let whole = ap length (flat_map-cons (λ (d : Chunk). filled (chunk_octets d)) c []) in
-    omega (arith, whole, length-append (filled (chunk_octets c)) [], filled-length (chunk_octets c), octets)
-
 -- ---- what goes up can be written
 
 receiver_writable : (ssrc : ℕ) → IsWritable (Receiver ssrc [])
 receiver_writable ssrc = record { counted = omega arith; lengths = record { parts = tt; words = omega (arith, filled-length (fields (Receiver ssrc []))) }; meaning = tt }
-
-named_writable : (asker : Asker) → length asker.cname ≤ most_text → IsWritable (named asker)
-named_writable asker short = record {
-  counted = omega arith;
-  lengths = record { parts = ((short, tt), tt); words = omega (arith, short, filled-length (fields (named asker)), named-length asker.ssrc asker.cname) };
-  meaning = ((omega arith, tt), tt);
-}
 
 nack_writable : (ssrc source : ℕ) (w : NackWord) (ws : List NackWord) → length (w ∷ ws) ≤ most_words → IsWritable (Nack ssrc source (w ∷ ws))
 nack_writable ssrc source w ws few = record {
@@ -85,10 +45,10 @@ asked_writable : (asker source : ℕ) (words : List NackWord) (pli : Bool) → l
 asked_writable asker source [] pli few = plis_writable asker source pli
 asked_writable asker source (w ∷ ws) pli few = (nack_writable asker source w ws few, plis_writable asker source pli)
 
-pub upstream_writable : (asker : Asker) (source : ℕ) (words : List NackWord) (pli : Bool) → length asker.cname ≤ most_text → length words ≤ most_words → AreWritable (upstream_packets asker source words pli)
-upstream_writable asker source words pli short few = record {
+pub upstream_writable : (asker : Asker) (source : ℕ) (words : List NackWord) (pli : Bool) → IsWritable (named asker.ssrc asker.cname) → length words ≤ most_words → AreWritable (upstream_packets asker source words pli)
+upstream_writable asker source words pli name few = record {
   report = inr refl;
-  each = (receiver_writable asker.ssrc, (named_writable asker short, asked_writable asker.ssrc source words pli few));
+  each = (receiver_writable asker.ssrc, (name, asked_writable asker.ssrc source words pli few));
 }
 
 -- ---- the words

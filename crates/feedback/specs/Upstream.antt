@@ -1,9 +1,9 @@
 -- What goes up to a source: a compound (RFC 3550 section 6.1, RFC 4585 section 3.1; which packets it has is own).
-use Rattle.std.specs.Prelude.{◌≡◌, ℕ, ℤ, pos, ◌^◌, ◌-◌, ◌/◌, ◌≤◌, unsigned_abs, Bool, if◌then◌else◌, List, [], ◌∷◌, ◌++◌, length, map}
+use Rattle.std.specs.Prelude.{◌≡◌, ℕ, ℤ, pos, ◌^◌, ◌-◌, ◌/◌, unsigned_abs, Bool, if◌then◌else◌, List, [], ◌∷◌, ◌++◌, map}
 use Rattle.std.specs.Int.{int_rem_euclid}
 use Rattle.rtcp_codec.specs.declared.nack.NackWord.{NackWord}
-use Rattle.rtcp_codec.specs.Packet.{Packet, Receiver, Sdes, Nack, Pli}
-use Rattle.rtcp_codec.specs.Description.{most_text}
+use Rattle.rtcp_codec.specs.Packet.{Packet, Receiver, Nack, Pli}
+use Rattle.rtcp_codec.specs.CanonicalName.{named}
 use Rattle.rtcp_codec.specs.Nack.{IsPacking}
 use Rattle.rtcp_codec.specs.Compound.{IsCompound, written}
 use Rattle.rtcp_codec.specs.WriteFault.{most_octets}
@@ -13,14 +13,6 @@ pub record Asker : Type 0 where
   pub ssrc : ℕ
   pub cname : List ℕ
 
--- a canonical name has 1 to 255 octets (RFC 3550 section 6.5.1)
-abbrev pub IsCname : List ℕ → Type 0
-IsCname cname = (1 ≤ length cname) × (length cname ≤ most_text)
-
--- the type of a canonical name among the items of a source description (RFC 3550 section 6.5.1)
-abbrev pub cname_type : ℕ
-cname_type = 1
-
 -- the sequence number of an extended number: the number modulo 2^16, below 0 too (RFC 3550 section A.1)
 abbrev pub seq_of : ℤ → ℕ
 seq_of ext = unsigned_abs (int_rem_euclid ext (pos (2 ^ 16)))
@@ -28,10 +20,6 @@ seq_of ext = unsigned_abs (int_rem_euclid ext (pos (2 ^ 16)))
 -- the most words of a NACK: those of the longest body, but for the two SSRCs (RFC 4585 section 6.1)
 abbrev pub most_words : ℕ
 most_words = most_octets / 4 - 2
-
--- a source description that gives the SSRC its canonical name, and says nothing else
-abbrev pub named : Asker → Packet
-named asker = Sdes (record { ssrc = asker.ssrc; items = record { kind = cname_type; text = asker.cname } ∷ [] } ∷ [])
 
 -- a generic NACK of these words about the source, where there are any
 abbrev pub nack_of : (asker source : ℕ) → List NackWord → List Packet
@@ -45,7 +33,7 @@ pli_of asker source pli = if pli then Pli asker source ∷ [] else []
 -- what goes up to a source: a receiver report without blocks, the name of who asks, then a NACK, then a PLI
 abbrev pub upstream_packets : Asker → (source : ℕ) → List NackWord → Bool → List Packet
 upstream_packets asker source words pli =
-    Receiver asker.ssrc [] ∷ named asker ∷ nack_of asker.ssrc source words ++ pli_of asker.ssrc source pli
+    Receiver asker.ssrc [] ∷ named asker.ssrc asker.cname ∷ nack_of asker.ssrc source words ++ pli_of asker.ssrc source pli
 
 -- These octets go up to a source: words that name the sequence numbers of these extended numbers, and the PLI where one is due.
 pub record IsUpstream (asker : Asker) (source : ℕ) (exts : List ℤ) (pli : Bool) (words : List NackWord) (octets : List ℕ) : Type 0 where

@@ -2,20 +2,15 @@
 
 ghost use Rattle.std.specs.Prelude.{◌≡◌, ◌≤◌, ◌++◌, List, length, map, IfOk, OnOk};
 ghost use Rattle.rtcp_codec.specs.declared.nack.NackWord.{NackWord};
-ghost use Rattle.rtcp_codec.specs.Compound.{IsCompound, written};
+ghost use Rattle.rtcp_codec.specs.CanonicalName.{IsCname, named};
+ghost use Rattle.rtcp_codec.specs.Compound.{written};
 ghost use Rattle.rtcp_codec.specs.Nack.{numbers_named, ArePacked, IsPacking};
-ghost use Rattle.rtcp_codec.specs.View.{packet_of, packets_of};
-ghost use Rattle.rtcp_codec.specs.WriteFault.{AreWritable};
-ghost use Rattle.feedback.specs.Upstream.{IsCname, seq_of, most_words, named, nack_of, pli_of, upstream_packets, IsUpstream};
+ghost use Rattle.rtcp_codec.specs.View.{packets_of};
+ghost use Rattle.rtcp_codec.specs.WriteFault.{IsWritable};
+ghost use Rattle.feedback.specs.Upstream.{seq_of, most_words, nack_of, pli_of, upstream_packets, IsUpstream};
 
-use rtcp_codec::{
-    Nack, NackWord, Pli, ReceiverReport, Rtcp, SdesChunk, SdesItem, WriteFault, nack_words,
-    write_compound,
-};
+use rtcp_codec::{Nack, NackWord, Pli, ReceiverReport, Rtcp, compound_of, nack_words, named};
 use std::alloc::{AllocError, Allocator};
-
-/// The type of a canonical name among the items of a source description.
-const CNAME: u8 = 1;
 
 /// The sequence number of an extended number.
 fn seq_of(ext: i64) -> u16
@@ -33,20 +28,6 @@ fn seqs_of<A: Allocator>(alloc: A, exts: &[i64]) -> Result<Vec<u16, A>, AllocErr
         seqs.push(seq_of(*ext))?;
     }
     Ok(seqs)
-}
-
-/// The source description that names who asks.
-fn named<A: Allocator + Copy>(alloc: A, ssrc: u32, cname: &[u8]) -> Result<Rtcp<A>, AllocError>
-    ensures { IfOk result (λ p. packet_of p ≡ named (record { ssrc = ssrc; cname = cname.now })) }
-{
-    let mut items = Vec::with_capacity(alloc, 1)?;
-    items.push(SdesItem {
-        kind: CNAME,
-        text: Vec::from_slice(alloc, cname)?,
-    })?;
-    let mut chunks = Vec::with_capacity(alloc, 1)?;
-    chunks.push(SdesChunk { ssrc, items })?;
-    Ok(Rtcp::Sdes(chunks))
 }
 
 /// Appends a NACK of the words, where there are any.
@@ -93,7 +74,9 @@ fn packets_for<A: Allocator + Copy>(
     words: Vec<NackWord, A>,
     pli: bool,
 ) -> Result<Vec<Rtcp<A>, A>, AllocError>
-    ensures { IfOk result (λ packets. packets_of packets.items ≡ upstream_packets (record { ssrc = bridge_ssrc; cname = cname.now }) source words.items pli) }
+    requires { IsCname cname.now }
+    ensures packets { IfOk result (λ packets. packets_of packets.items ≡ upstream_packets (record { ssrc = bridge_ssrc; cname = cname.now }) source words.items pli) }
+    ensures name { OnOk result (IsWritable (named bridge_ssrc cname.now)) }
 {
     let mut packets = Vec::with_capacity(alloc, 4)?;
     packets.push(Rtcp::Receiver(ReceiverReport {
@@ -104,25 +87,6 @@ fn packets_for<A: Allocator + Copy>(
     push_nack(&mut packets, bridge_ssrc, source, words)?;
     push_pli(&mut packets, bridge_ssrc, source, pli)?;
     Ok(packets)
-}
-
-/// The octets of a compound that can be written.
-#[tactic(auto, using(crate::proofs::Writable::no_fault))]
-fn octets_of<A: Allocator + Copy>(alloc: A, packets: &[Rtcp<A>]) -> Result<Vec<u8, A>, AllocError>
-    requires { AreWritable (packets_of packets.now) }
-    ensures items { IfOk result (λ v. v.items ≡ written (packets_of packets.now)) }
-    ensures compound { IfOk result (λ v. IsCompound (packets_of packets.now) v.items) }
-{
-    let mut out = Vec::new(alloc);
-    match write_compound(packets, &mut out) {
-        Ok(()) => Ok(out),
-        Err(WriteFault::OutOfMemory) => Err(AllocError),
-        // What can be written has no fault.
-        Err(WriteFault::First) => unreachable!(),
-        Err(WriteFault::Count) => unreachable!(),
-        Err(WriteFault::TooLong) => unreachable!(),
-        Err(WriteFault::Kind) => unreachable!(),
-    }
 }
 
 /// The words that name the sequence numbers of extended numbers.
@@ -154,5 +118,5 @@ pub fn upstream<A: Allocator + Copy>(
 {
     let words = words_for(alloc, nacks)?;
     let packets = packets_for(alloc, bridge_ssrc, cname, source, words, pli)?;
-    octets_of(alloc, &packets)
+    compound_of(alloc, &packets)
 }

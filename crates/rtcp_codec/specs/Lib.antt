@@ -1,3 +1,4 @@
+pub mod CanonicalName
 pub mod Compound
 pub mod Description
 pub mod Kind

@@ -1,6 +1,6 @@
 //! Writing compounds.
 
-ghost use Rattle.std.specs.Prelude.{List, ◌≡◌, ◌+◌, ◌^◌, ◌<◌, ◌≤◌, ◌++◌, length, IfSome, IfErr, ◌⊎◌, IsErrOf, OnOk, OnErr, vec_len, vec_capacity};
+ghost use Rattle.std.specs.Prelude.{List, ◌≡◌, ◌+◌, ◌^◌, ◌<◌, ◌≤◌, ◌++◌, length, IfSome, IfOk, IfErr, ◌⊎◌, IsErrOf, OnOk, OnErr, vec_len, vec_capacity};
 ghost use Rattle.std.specs.Option.{option_map};
 ghost use Rattle.std.specs.List.{flat_map, AllByRecursion};
 ghost use Rattle.rtp_codec.specs.Packet.{number_octets};
@@ -21,7 +21,7 @@ use crate::nack::NackWord;
 use crate::packet::Rtcp;
 use crate::writing_descriptions::append_chunks;
 use crate::writing_reports::{append_blocks, sender_array};
-use std::alloc::Allocator;
+use std::alloc::{AllocError, Allocator};
 
 /// Appends the words of a NACK. There is room for them.
 fn append_words<A: Allocator>(words: &[NackWord], out: &mut Vec<u8, A>)
@@ -223,6 +223,30 @@ pub fn write_compound<A: Allocator, B: Allocator>(
     out.reserve(size)?;
     append_packets(packets, out);
     Ok(())
+}
+
+/// The compound of packets that can be written, as a vector of its own.
+///
+/// For who makes packets and knows that they have no fault: what is left is want of memory.
+#[tactic(auto, using(crate::proofs::FirstFaults::writable_has_no_fault))]
+pub fn compound_of<A: Allocator, B: Allocator>(
+    alloc: A,
+    packets: &[Rtcp<B>],
+) -> Result<Vec<u8, A>, AllocError>
+    requires { AreWritable (packets_of packets.now) }
+    ensures items { IfOk result (λ v. v.items ≡ written (packets_of packets.now)) }
+    ensures compound { IfOk result (λ v. IsCompound (packets_of packets.now) v.items) }
+{
+    let mut out = Vec::new(alloc);
+    match write_compound(packets, &mut out) {
+        Ok(()) => Ok(out),
+        Err(WriteFault::OutOfMemory) => Err(AllocError),
+        // What can be written has no fault.
+        Err(WriteFault::First) => unreachable!(),
+        Err(WriteFault::Count) => unreachable!(),
+        Err(WriteFault::TooLong) => unreachable!(),
+        Err(WriteFault::Kind) => unreachable!(),
+    }
 }
 
 /// The written form of packets that can be written and whose numbers fit is the compound of these
