@@ -1,4 +1,5 @@
 pub mod Resends
 pub mod Asked
 pub mod Upstream
+pub mod PassedUp
 pub mod inner

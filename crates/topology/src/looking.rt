@@ -8,7 +8,7 @@ use rtp_codec::Address;
 use std::alloc::Allocator;
 
 /// The member of this number.
-pub(crate) fn member_at<A: Allocator + Copy>(rows: &Rows<A>, member: u32) -> Option<Member>
+pub fn member_at<A: Allocator + Copy>(rows: &Rows<A>, member: u32) -> Option<Member>
     ensures { result ≡ member_at rows.now member }
 {
     match rows.find(&Key::Member(member)) {
@@ -28,7 +28,7 @@ fn source_at<A: Allocator + Copy>(rows: &Rows<A>, source: u32) -> Option<Source>
 }
 
 /// The slot of this SSRC.
-pub(crate) fn slot_at<A: Allocator + Copy>(rows: &Rows<A>, out_ssrc: u32) -> Option<Slot>
+pub fn slot_at<A: Allocator + Copy>(rows: &Rows<A>, out_ssrc: u32) -> Option<Slot>
     ensures { result ≡ slot_at rows.now out_ssrc }
 {
     match rows.find(&Key::Slot(out_ssrc)) {
@@ -85,7 +85,7 @@ pub(crate) fn is_this(number: u32, found: Option<u32>) -> bool
 }
 
 /// The member that a source is of.
-pub(crate) fn sender_of<A: Allocator + Copy>(rows: &Rows<A>, source: u32) -> Option<u32>
+pub fn sender_of<A: Allocator + Copy>(rows: &Rows<A>, source: u32) -> Option<u32>
     ensures { result ≡ sender_of rows.now source }
 {
     match source_at(rows, source) {
