@@ -1,0 +1,4 @@
+pub mod Times
+pub mod SenderReports
+pub mod ReceiverReports
+pub mod LossNotes

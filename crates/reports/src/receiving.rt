@@ -1,0 +1,86 @@
+//! Receiver reports.
+
+ghost use Rattle.std.specs.Prelude.{◌≡◌, ◌<◌, length, IfOk, OnOk};
+ghost use Rattle.std.specs.List.{AllByRecursion};
+ghost use Rattle.rtcp_codec.specs.CanonicalName.{IsCname, named};
+ghost use Rattle.rtcp_codec.specs.Compound.{IsCompound, written};
+ghost use Rattle.rtcp_codec.specs.Packet.{Receiver};
+ghost use Rattle.rtcp_codec.specs.Report.{FitsLost};
+ghost use Rattle.rtcp_codec.specs.View.{packet_of, packets_of};
+ghost use Rattle.rtcp_codec.specs.WriteFault.{IsWritable};
+ghost use Rattle.reports.specs.ReceiverReports.{blocks_at, count_of_reports, receiver_packets};
+
+use rtcp_codec::{ReceiverReport, ReportBlock, Rtcp, compound_of, named};
+use std::alloc::{AllocError, Allocator};
+
+/// The most blocks of a report.
+const MOST_BLOCKS: usize = 31;
+
+/// How many reports so many blocks take.
+fn count_of_reports(blocks: usize) -> usize
+    ensures { result ≡ count_of_reports blocks }
+{
+    blocks.saturating_sub(1) / MOST_BLOCKS + 1
+}
+
+/// The blocks of the report at this place.
+fn blocks_at(blocks: &[ReportBlock], place: usize) -> &[ReportBlock]
+    requires { place < count_of_reports (length blocks.now) }
+    ensures { result.now ≡ blocks_at blocks.now place }
+{
+    let rest = &blocks[MOST_BLOCKS * place..];
+    &rest[..MOST_BLOCKS.min(rest.len())]
+}
+
+/// The report at this place.
+fn report_at<A: Allocator>(
+    alloc: A,
+    ssrc: u32,
+    blocks: &[ReportBlock],
+    place: usize,
+) -> Result<Rtcp<A>, AllocError>
+    requires { place < count_of_reports (length blocks.now) }
+    ensures { IfOk result (λ p. packet_of p ≡ Receiver ssrc (blocks_at blocks.now place)) }
+{
+    let blocks = Vec::from_slice(alloc, blocks_at(blocks, place))?;
+    Ok(Rtcp::Receiver(ReceiverReport { ssrc, blocks }))
+}
+
+/// The packets of a receiver report.
+fn packets_for<A: Allocator + Copy>(
+    alloc: A,
+    ssrc: u32,
+    blocks: &[ReportBlock],
+    cname: &[u8],
+) -> Result<Vec<Rtcp<A>, A>, AllocError>
+    requires { IsCname cname.now }
+    ensures packets { IfOk result (λ v. packets_of v.items ≡ receiver_packets ssrc blocks.now cname.now) }
+    ensures name { OnOk result (IsWritable (named ssrc cname.now)) }
+{
+    let count = count_of_reports(blocks.len());
+    let mut packets = Vec::with_capacity(alloc, count + 1)?;
+    for place in 0..count {
+        packets.push(report_at(alloc, ssrc, blocks, place)?)?;
+    }
+    packets.push(named(alloc, ssrc, cname)?)?;
+    Ok(packets)
+}
+
+/// What the sender of sources is told of them: the report blocks in their order, 31 to a receiver report, and behind the reports the
+/// canonical name, of 1 to 255 octets, all under the bridge's SSRC (RFC 3550 sections 6.1, 6.4.2, 6.5.1).
+///
+/// Without a block there is one report, of no blocks. Each block's loss has 24 bits: -8388608 to 8388607.
+pub fn receiver_report<A: Allocator + Copy>(
+    alloc: A,
+    bridge_ssrc: u32,
+    blocks: &[ReportBlock],
+    cname: &[u8],
+) -> Result<Vec<u8, A>, AllocError>
+    requires name { IsCname cname.now }
+    requires losses { AllByRecursion (λ b. FitsLost b.lost) blocks.now }
+    ensures octets { IfOk result (λ v. v.items ≡ written (receiver_packets bridge_ssrc blocks.now cname.now)) }
+    ensures compound { IfOk result (λ v. IsCompound (receiver_packets bridge_ssrc blocks.now cname.now) v.items) }
+{
+    let packets = packets_for(alloc, bridge_ssrc, blocks, cname)?;
+    compound_of(alloc, &packets)
+}
