@@ -1,6 +1,7 @@
 //! The losses that a report block tells (RFC 3550 A.3).
 
 ghost use Rattle.std.specs.Prelude.{◌≡◌};
+ghost use Rattle.rtcp_codec.specs.Report.{FitsLost};
 ghost use Rattle.source_valid.specs.Reports.{fraction_of, lost_of};
 
 /// What a field of 24 bits with a sign holds.
@@ -21,7 +22,8 @@ pub fn fraction(expected: u64, received: u64) -> u8
 
 /// The packets lost, as far as 24 bits hold them.
 pub fn lost(expected: u64, received: u64) -> i32
-    ensures { result ≡ lost_of expected received }
+    ensures value { result ≡ lost_of expected received }
+    ensures fits { FitsLost result }
 {
     (expected as i128 - received as i128).clamp(LEAST_LOST, MOST_LOST) as i32
 }

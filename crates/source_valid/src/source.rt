@@ -1,6 +1,7 @@
 //! One RTP source.
 
 ghost use Rattle.std.specs.Prelude.{◌≡◌, ◌+◌, true, List, [], ◌∷◌, ◌++◌};
+ghost use Rattle.rtcp_codec.specs.Report.{FitsLost};
 ghost use Rattle.source_valid.specs.Histories.{Step, standing_of, past_probation_in};
 ghost use Rattle.source_valid.specs.Histories.{Number, Arrival, Sender, Block};
 ghost use Rattle.source_valid.specs.Represents.{Represents, Judges, Adds, Tells};
@@ -93,6 +94,8 @@ impl Source {
     pub fn block(&mut self, ssrc: u32, moment: u64) -> ReportBlock
         requires { is_counting self.old.phase ≡ true }
         ensures block { Tells self.old ssrc moment result }
+        // So it can be written.
+        ensures fits { FitsLost result.lost }
         ensures new { Adds self.old self.new Block }
     {
         match self.phase {
