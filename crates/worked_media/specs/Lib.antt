@@ -2,3 +2,4 @@ pub mod Blocks
 pub mod Sent
 pub mod Streamed
 pub mod Upstreams
+pub mod Reported

@@ -3,6 +3,7 @@
 
 pub mod jitter_buffers;
 pub mod mixes;
+pub mod reporting;
 pub mod resends;
 pub mod samples;
 pub mod sources;

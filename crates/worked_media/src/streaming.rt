@@ -11,7 +11,7 @@ use frame_gate::{Frame, FramePacket};
 use rtp_codec::Address;
 use std::alloc::{AllocError, Global};
 
-fn owner(member: u32, port: u16) -> Owner
+pub(crate) fn owner(member: u32, port: u16) -> Owner
     ensures { result ≡ owner_of member port }
 {
     let ip = [127, 0, 0, 1];
@@ -78,7 +78,7 @@ fn begun(alloc: Global) -> Result<Stream, AllocError>
 }
 
 /// And 40 milliseconds later one of source 6.
-fn switched(alloc: Global) -> Result<Stream, AllocError>
+pub(crate) fn switched(alloc: Global) -> Result<Stream, AllocError>
     ensures { IfOk result (λ s. s ≡ after_both) }
 {
     let mut stream = begun(alloc)?;
