@@ -7,3 +7,4 @@ pub mod KeepingTime
 pub mod Found
 pub mod Payloads
 pub mod Mixing
+pub mod Pace

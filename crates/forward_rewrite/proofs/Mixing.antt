@@ -19,38 +19,41 @@ abbrev pub tick_of : Option Sound → ℕ → MixTick
 tick_of sound moment = record { sound = sound; moment = moment }
 
 -- whether the last of them sounded
-abbrev ended : Bool → List (Option Sound) → Bool
+abbrev pub ended : Bool → List (Option Sound) → Bool
 ended spoke [] = spoke
 ended spoke (x ∷ xs) = ended (is_some x) xs
 
 at_zero : (ssrc number ts : ℕ) (spoke : Bool) (ys : List (Option Sound)) → mixed ssrc number ts spoke ys ≡ mixed ssrc (number + 0) (ts + tick_units * 0) spoke ys
 at_zero ssrc number ts spoke ys = ap (λ n. mixed ssrc n ts spoke ys) (omega arith) ∙ ap (λ t. mixed ssrc (number + 0) t spoke ys) (omega arith)
 
-mixed-append : (ssrc number ts : ℕ) (spoke : Bool) (xs : List (Option Sound)) (y : Option Sound)
-    → mixed ssrc number ts spoke (xs ++ y ∷ [])
-    ≡ mixed ssrc number ts spoke xs ++ mixed ssrc (number + length (mixed ssrc number ts spoke xs)) (ts + tick_units * length xs) (ended spoke xs) (y ∷ [])
-mixed-append ssrc number ts spoke [] y = at_zero ssrc number ts spoke (y ∷ [])
-mixed-append ssrc number ts spoke (None ∷ xs) y =
+pub mixed-append : (ssrc number ts : ℕ) (spoke : Bool) (xs ys : List (Option Sound))
+    → mixed ssrc number ts spoke (xs ++ ys)
+    ≡ mixed ssrc number ts spoke xs ++ mixed ssrc (number + length (mixed ssrc number ts spoke xs)) (ts + tick_units * length xs) (ended spoke xs) ys
+mixed-append ssrc number ts spoke [] ys = at_zero ssrc number ts spoke ys
+mixed-append ssrc number ts spoke (None ∷ xs) ys =
     let here = mixed ssrc number (ts + tick_units) false xs in
-    mixed-append ssrc number (ts + tick_units) false xs y
-    ∙ ap (λ t. here ++ mixed ssrc (number + length here) t (ended false xs) (y ∷ [])) (omega arith)
-mixed-append ssrc number ts spoke (Some sound ∷ xs) y =
+    mixed-append ssrc number (ts + tick_units) false xs ys
+    ∙ ap (λ t. here ++ mixed ssrc (number + length here) t (ended false xs) ys) (omega arith)
+mixed-append ssrc number ts spoke (Some sound ∷ xs) ys =
     let here = mixed ssrc (number + 1) (ts + tick_units) true xs in
     ap (λ zs. mix_packet ssrc number ts (not spoke) sound ∷ zs)
-    (mixed-append ssrc (number + 1) (ts + tick_units) true xs y
-    ∙ ap (λ t. here ++ mixed ssrc (number + 1 + length here) t (ended true xs) (y ∷ [])) (omega arith)
-    ∙ ap (λ n. here ++ mixed ssrc n (ts + tick_units * length (Some sound ∷ xs)) (ended true xs) (y ∷ [])) (omega arith))
+    (mixed-append ssrc (number + 1) (ts + tick_units) true xs ys
+    ∙ ap (λ t. here ++ mixed ssrc (number + 1 + length here) t (ended true xs) ys) (omega arith)
+    ∙ ap (λ n. here ++ mixed ssrc n (ts + tick_units * length (Some sound ∷ xs)) (ended true xs) ys) (omega arith))
 
 -- the ticks from the first sound on, after those from the first sound on before
-abbrev begun_more : List MixTick → MixTick → List MixTick
-begun_more [] tick = begun (tick ∷ [])
-begun_more (b ∷ bs) tick = b ∷ bs ++ tick ∷ []
+abbrev pub begun_then : List MixTick → List MixTick → List MixTick
+begun_then [] ticks = begun ticks
+begun_then (b ∷ bs) ticks = b ∷ bs ++ ticks
 
-begun-append : (ticks : List MixTick) (tick : MixTick) → begun (ticks ++ tick ∷ []) ≡ begun_more (begun ticks) tick
-begun-append [] tick = refl
-begun-append (x ∷ xs) tick =
-    elim (is_some x.sound) as (λ b. cond b (x ∷ xs ++ tick ∷ []) (begun (xs ++ tick ∷ [])) ≡ begun_more (cond b (x ∷ xs) (begun xs)) tick)
-    [ true ↦ refl | false ↦ begun-append xs tick ]
+pub begun-append : (before ticks : List MixTick) → begun (before ++ ticks) ≡ begun_then (begun before) ticks
+begun-append [] ticks = refl
+begun-append (x ∷ xs) ticks =
+    elim (is_some x.sound) as (λ b. cond b (x ∷ xs ++ ticks) (begun (xs ++ ticks)) ≡ begun_then (cond b (x ∷ xs) (begun xs)) ticks)
+    [ true ↦ refl | false ↦ begun-append xs ticks ]
+
+abbrev begun_more : List MixTick → MixTick → List MixTick
+begun_more bs tick = begun_then bs (tick ∷ [])
 
 ended-heard : (o : Option MixTick) (ticks : List MixTick) → ended (sounded o) (heard ticks) ≡ sounded (last_or o ticks)
 ended-heard o [] = refl
@@ -70,14 +73,14 @@ more_from ssrc first_seq first_ts (b ∷ bs) sound moment =
     let all = b ∷ bs in
     let before = mixed ssrc first_seq first_ts false (heard all) in
     ap (mixed ssrc first_seq first_ts false) (map-append (λ (t : MixTick). t.sound) all (tick_of sound moment ∷ []))
-    ∙ mixed-append ssrc first_seq first_ts false (heard all) sound
+    ∙ mixed-append ssrc first_seq first_ts false (heard all) (sound ∷ [])
     ∙ ap (λ n. before ++ mixed ssrc (first_seq + length before) (first_ts + tick_units * n) (ended false (heard all)) (sound ∷ [])) (length-map all (λ (t : MixTick). t.sound))
     ∙ ap (λ spoke. before ++ mixed ssrc (first_seq + length before) (first_ts + tick_units * length all) spoke (sound ∷ [])) (ended-heard None all)
 
 list_more : (ssrc first_seq first_ts : ℕ) (before : List MixTick) (sound : Option Sound) (moment : ℕ)
     → mix_list ssrc first_seq first_ts (before ++ tick_of sound moment ∷ []) ≡ mix_list ssrc first_seq first_ts before ++ one_more ssrc first_seq first_ts (begun before) sound
 list_more ssrc first_seq first_ts before sound moment =
-    ap (λ bs. mixed ssrc first_seq first_ts false (heard bs)) (begun-append before (tick_of sound moment))
+    ap (λ bs. mixed ssrc first_seq first_ts false (heard bs)) (begun-append before (tick_of sound moment ∷ []))
     ∙ more_from ssrc first_seq first_ts (begun before) sound moment
 
 -- only the number modulo 2 ^ 16 and the timestamp modulo 2 ^ 32 count
@@ -164,8 +167,8 @@ sound_state ssrc first_seq first_ts before sound moment =
     let sent = mix_list ssrc first_seq first_ts before in
     let all = mix_list ssrc first_seq first_ts (before ++ tick ∷ []) in
     let count : length all ≡ length sent + 1 = ap length (sound_list ssrc first_seq first_ts before sound moment) ∙ length-append sent (next_packet (mix_state ssrc first_seq first_ts before) sound ∷ []) in
-    let ticks : length (begun (before ++ tick ∷ [])) ≡ length bs + 1 = ap length (begun-append before tick) ∙ sound_length bs sound moment in
-    let last : last_or None (begun (before ++ tick ∷ [])) ≡ Some tick = ap (last_or None) (begun-append before tick) ∙ sound_last bs sound moment in
+    let ticks : length (begun (before ++ tick ∷ [])) ≡ length bs + 1 = ap length (begun-append before (tick ∷ [])) ∙ sound_length bs sound moment in
+    let last : last_or None (begun (before ++ tick ∷ [])) ≡ Some tick = ap (last_or None) (begun-append before (tick ∷ [])) ∙ sound_last bs sound moment in
     let octets : octets_in (before ++ tick ∷ []) ≡ octets_in before + (0 + length (payload_of sound)) = octets_more before tick in
     same_fields ssrc _ _ _ _ _ _ _ _ _ _ _ _
     (omega (arith, count)) (omega (arith, ticks)) (ap sounded (sym last)) (omega (arith, count)) (omega (arith, octets)) (ap (option_map (λ (t : MixTick). t.moment)) (sym last))
@@ -177,7 +180,7 @@ silence_state ssrc first_seq first_ts before moment =
     let bs = begun before in
     let count = ap length (sym (silence_list ssrc first_seq first_ts before moment)) in
     let octets : octets_in (before ++ tick ∷ []) ≡ octets_in before + 0 = octets_more before tick in
-    let longer = sym (begun-append before tick) in
+    let longer = sym (begun-append before (tick ∷ [])) in
     same_fields ssrc _ _ _ _ _ _ _ _ _ _ _ _
     (ap (λ n. (first_seq + n) % 2 ^ 16) count)
     (silence_ts first_ts bs moment ∙ ap (λ xs. (first_ts + tick_units * length xs) % 2 ^ 32) longer)

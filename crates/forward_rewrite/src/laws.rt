@@ -1,12 +1,14 @@
 //! Laws of the definitions, as functions that do nothing when they run.
 
-ghost use Rattle.std.specs.Prelude.{◌≡◌, ℕ, ◌%◌, ◌^◌, List, map, IfSome};
+ghost use Rattle.std.specs.Prelude.{◌≡◌, ℕ, ◌+◌, ◌%◌, ◌^◌, true, List, [], ◌∷◌, ◌++◌, map, IfSome};
 ghost use Rattle.std.specs.List.{slice_get};
 ghost use Rattle.retransmit.specs.Window.{AreInARow};
 ghost use Rattle.forward_rewrite.specs.Sending.{Sending};
 ghost use Rattle.forward_rewrite.specs.Timestamps.{Stamped, stamped};
 ghost use Rattle.forward_rewrite.specs.RoutedList.{Part, octets, packets_of};
 ghost use Rattle.forward_rewrite.specs.laws.Laws.{GoesWhole, KeepsTime, FindsOnlyWhatWasSent, FindsEach, by_parts};
+ghost use Rattle.forward_rewrite.specs.Mixes.{Sound, MixTick, silent, sounding, mix_packet, mix_list};
+ghost use Rattle.forward_rewrite.specs.laws.MixLaws.{KeepsPace};
 
 use retransmit::{found_is_the_only_one, owners_are_told_apart};
 
@@ -41,3 +43,16 @@ pub fn found_is_what_was_sent()
     found_is_the_only_one();
     owners_are_told_apart();
 }
+
+/// All the packets of a mix stream are numbered one after the other, whatever its ticks, from its first number on.
+pub fn mix_numbers_in_a_row()
+    ensures { (ssrc first_seq first_ts : ℕ) (ticks : List MixTick) (k : ℕ) → IfSome (slice_get (mix_list ssrc first_seq first_ts ticks) k) (λ p. p.number ≡ (first_seq + k) % 2 ^ 16) }
+{}
+
+/// The first packet of a mix stream has its first number, its first timestamp and the marker. A silent tick sends nothing. From a
+/// packet to the next the timestamp goes on by 160 for each tick, and the marker says that a silent tick lies between.
+pub fn mix_time_goes_on()
+    ensures first { (ssrc first_seq first_ts : ℕ) (moments : List ℕ) (sound : Sound) (moment : ℕ) → mix_list ssrc first_seq first_ts (map silent moments ++ sounding sound moment ∷ []) ≡ mix_packet ssrc first_seq first_ts true sound ∷ [] }
+    ensures silence { (ssrc first_seq first_ts : ℕ) (before : List MixTick) (moment : ℕ) → mix_list ssrc first_seq first_ts (before ++ silent moment ∷ []) ≡ mix_list ssrc first_seq first_ts before }
+    ensures pace { (ssrc first_seq first_ts : ℕ) (before : List MixTick) (sound : Sound) (moment : ℕ) (pauses : List ℕ) (later : Sound) (later_moment : ℕ) → KeepsPace ssrc first_seq first_ts before sound moment pauses later later_moment }
+{}

@@ -20,7 +20,8 @@ pub use self::counts::Counts;
 pub use self::frame::MediaFrame;
 pub use self::lane_place::LanePlace;
 pub use self::laws::{
-    each_frame_goes_whole, found_is_what_was_sent, numbers_in_a_row, time_goes_on,
+    each_frame_goes_whole, found_is_what_was_sent, mix_numbers_in_a_row, mix_time_goes_on,
+    numbers_in_a_row, time_goes_on,
 };
 pub use self::mix_stream::{MixStream, PreparedMix};
 pub use self::prepared::Prepared;

@@ -1,0 +1,12 @@
+use Rattle.forward_rewrite.proofs.Mixing.{silence_list}
+use Rattle.forward_rewrite.proofs.Pace.{first_packet, keeps_pace}
+use Rattle.forward_rewrite.proofs.laws.mix_time_goes_on.Goals as goal
+
+pub returns-clause-first : goal.returns-clause-first
+returns-clause-first c = first_packet
+
+pub returns-clause-silence : goal.returns-clause-silence
+returns-clause-silence c = silence_list
+
+pub returns-clause-pace : goal.returns-clause-pace
+returns-clause-pace c = keeps_pace
