@@ -1,7 +1,7 @@
-//! The sending side of a forwarded video stream: frames of changing sources go out as one stream, numbered in a row and
-//! with a time of its own, and its last 512 packets can be found again.
+//! The sending side of outgoing streams. A forwarded video stream: frames of changing sources go out as one stream, numbered in a row
+//! and with a time of its own, and its last 512 packets can be found again. A mix: in each tick of 20 ms a packet or none.
 //!
-//! A contract speaks of the list of frames so far. Begin with [`Stream::new`].
+//! A contract speaks of the list of frames or ticks so far. Begin with [`Stream::new`] and [`MixStream::new`].
 #![tactic(auto)]
 
 mod counts;
