@@ -1,5 +1,6 @@
 pub mod Begun
 pub mod Copied
+pub mod EachSource
 pub mod Falls
 pub mod Offered
 pub mod Taken

@@ -1,7 +1,6 @@
 -- The playouts of all sources of a lane, by SSRC and address, and what they have had (own).
 use Rattle.std.specs.Prelude.{ℕ, ℤ, Bool, ◌&&◌, if◌then◌else◌, nat_eq, List, [], ◌∷◌, ◌++◌, Option, None, Some, filter_map}
 use Rattle.std.specs.Map.{lookup}
-use Rattle.std.specs.Str.{bytes_eq}
 use Rattle.rtp_codec.specs.declared.address.Address.{Address}
 use Rattle.rtp_codec.specs.Address.{same_address}
 use Rattle.playout.specs.declared.many.Key.{Key}
@@ -20,7 +19,7 @@ same_source source address other at = nat_eq source other && same_address addres
 
 -- what this is to the playout of one source, if anything: a put where it is the source's own, and each take
 abbrev pub call_on : ℕ → Address → AudioEvent → Option Call
-call_on source address (PutOf other at ts samples) = if same_source source address other at then Some (Put ts samples) else None
+call_on source address (PutOf other at ts samples) = if same_source other at source address then Some (Put ts samples) else None
 call_on source address (TakeAll count) = Some (Take count)
 
 -- the playout of a source that has had these. Takes before its first put change nothing.
@@ -32,9 +31,13 @@ pub record PlayoutsOf : Type 0 where
   pub rate : ℕ
   pub entries : List (Key × Held)
 
+-- the address of a key
+abbrev pub address_of : Key → Address
+address_of key = record { ip = key.ip; port = key.port }
+
 -- the playout of a source, if there is one
 abbrev pub playout_at : ℕ → Address → PlayoutsOf → Option Held
-playout_at source address playouts = lookup (λ key. nat_eq source key.source && (bytes_eq address.ip key.ip && nat_eq address.port key.port)) playouts.entries
+playout_at source address playouts = lookup (λ key. same_source source address key.source (address_of key)) playouts.entries
 
 -- A playout is there where one has begun, and holds what that has.
 abbrev pub HoldsAt : Option Held → Option Play → Type 0

@@ -1,7 +1,7 @@
 //! The playouts of many sources.
 
-ghost use Rattle.std.specs.Prelude.{◌≡◌, ◌≤◌, ◌<◌, ◌*◌, [], length, IfOk, OnOk, OnErr};
-ghost use Rattle.playout.specs.Playouts.{AudioEvent, PutOf, TakeAll, Has, HasAlso, ShowsOf};
+ghost use Rattle.std.specs.Prelude.{◌≡◌, ◌≤◌, ◌<◌, ◌*◌, [], length, None, IfOk, OnOk, OnErr};
+ghost use Rattle.playout.specs.Playouts.{AudioEvent, PutOf, TakeAll, playout_at, Has, HasAlso, ShowsOf};
 
 use crate::jitter_buffer::Playout;
 use indexmap::IndexMap;
@@ -19,6 +19,17 @@ pub(crate) struct Key {
     source: u32,
     ip: [u8; 4],
     port: u16,
+}
+
+/// The key of a source.
+fn key_of(source: u32, address: &Address) -> Key
+    ensures { result ≡ record { source = source; ip = address.now.ip; port = address.now.port } }
+{
+    Key {
+        source,
+        ip: address.ip,
+        port: address.port,
+    }
 }
 
 type Table<A> = IndexMap<Key, Playout<A>, BuildHasherDefault<FoldHasher>, A>;
@@ -53,6 +64,28 @@ impl<A: Allocator + Copy> Playouts<A> {
         Ok(Self { rate, table })
     }
 
+    /// Begins the playout of a source that has none.
+    fn begin(
+        &mut self,
+        alloc: A,
+        source: u32,
+        address: &Address,
+        ts: u32,
+        samples: &[i16],
+    ) -> Result<(), AllocError>
+        requires new { playout_at source address.now self.old ≡ None }
+        requires some { 0 < length samples.now }
+        requires few { length samples.now * 5 ≤ self.old.rate }
+        ensures has { OnOk result (HasAlso self.old self.new (PutOf source address.now ts samples.now)) }
+        ensures rate { self.new.rate ≡ self.old.rate }
+        ensures err { OnErr result (self.new ≡ self.old) }
+    {
+        let mut playout = Playout::new(alloc, self.rate)?;
+        playout.put(ts, samples);
+        self.table.insert(key_of(source, address), playout)?;
+        Ok(())
+    }
+
     /// Puts samples of a source at the places from this timestamp on: at least one, and a fifth of a second at most. The first put of a
     /// source takes memory.
     pub fn put(
@@ -65,30 +98,43 @@ impl<A: Allocator + Copy> Playouts<A> {
     ) -> Result<(), AllocError>
         requires some { 0 < length samples.now }
         requires few { length samples.now * 5 ≤ self.old.rate }
-        requires stub { ⊥ }
         ensures has { OnOk result (HasAlso self.old self.new (PutOf source address.now ts samples.now)) }
         ensures rate { self.new.rate ≡ self.old.rate }
         ensures err { OnErr result (self.new ≡ self.old) }
     {
-        unreachable!()
+        match self.table.get_mut(&key_of(source, address)) {
+            Some(playout) => {
+                playout.put(ts, samples);
+                Ok(())
+            }
+            None => self.begin(alloc, source, address, ts, samples),
+        }
     }
 
     /// Takes the next samples of every playout, a second's at most.
     pub fn take_all(&mut self, count: usize)
-        requires within { count ≤ self.old.rate }
-        requires stub { ⊥ }
+        requires { count ≤ self.old.rate }
         ensures has { HasAlso self.old self.new (TakeAll count) }
         ensures rate { self.new.rate ≡ self.old.rate }
     {
-        unreachable!()
+        for index in 0..self.table.len() {
+            if let Some(playout) = self.table.get_index_mut(index) {
+                playout.skip(count);
+            }
+        }
     }
 
-    /// Shows what the next samples of a source are, a second's at most, 0 where there is none, and tells how many there are.
+    /// Shows the next samples of a source, a second's at most, 0 where there is none, and tells how many there are.
     pub fn peek(&self, source: u32, address: &Address, out: &mut [i16]) -> u32
-        requires within { length out.old ≤ self.now.rate }
-        requires stub { ⊥ }
+        requires { length out.old ≤ self.now.rate }
         ensures { ShowsOf self.now source address.now out.new result }
     {
-        unreachable!()
+        match self.table.get(&key_of(source, address)) {
+            Some(playout) => playout.peek(out),
+            None => {
+                out.fill(0);
+                0
+            }
+        }
     }
 }
