@@ -1,36 +1,37 @@
 //! One place of a playout.
 
-ghost use Rattle.std.specs.Prelude.{◌≡◌, Some, None, is_some};
+ghost use Rattle.std.specs.Prelude.{◌≡◌, Some, is_some};
 ghost use Rattle.playout.specs.inner.Cells.{heard};
 
 use std::marker::Model;
 
-/// A place, with its sample if it has one. What has none has 0, so that samples are copied without a look at each.
+/// A place, and its sample if it has one. What has none has 0, so that samples are copied without a look at each.
 #[derive(Clone, Copy)]
 pub struct Cell {
     sample: i16,
-    present: bool,
+    /// How many samples it has, 1 or 0. As wide as a sample, so that places are copied as they lie.
+    count: u16,
 }
 
 impl Model for Cell {
-    ghost use Rattle.std.specs.Prelude.{◌≡◌, ℤ, pos, false, Option, is_some};
-    ghost use Rattle.playout.specs.inner.Cells.{cell_of, heard, cell_back};
+    ghost use Rattle.std.specs.Prelude.{ℤ, Option};
+    ghost use Rattle.playout.specs.inner.Cells.{cell_of, heard, count_of, IsCell, cell_back};
 
     ghost Value = { Option ℤ };
 
-    ghost view = { λ c. cell_of c.present c.sample };
+    ghost view = { λ c. cell_of c.count c.sample };
 
-    ghost inverse = { λ o. record { sample = heard o; present = is_some o } };
+    ghost inverse = { λ o. record { sample = heard o; count = count_of o } };
 
-    ghost inverse_ok = { λ c h. λ i. record { sample = (cell_back c.present c.sample h).0 i; present = (cell_back c.present c.sample h).1 i } };
+    ghost inverse_ok = { λ c h. λ i. record { sample = (cell_back c.count c.sample h).0 i; count = (cell_back c.count c.sample h).1 i } };
 
-    ghost invariant = { λ c. c.present ≡ false → pos 0 ≡ c.sample };
+    ghost invariant = { λ c. IsCell c.count c.sample };
 }
 
 /// A place with no sample.
 pub const BLANK: Cell = Cell {
     sample: 0,
-    present: false,
+    count: 0,
 };
 
 impl Cell {
@@ -38,16 +39,13 @@ impl Cell {
     pub fn of(sample: i16) -> Cell
         ensures { result ≡ Some sample }
     {
-        Cell {
-            sample,
-            present: true,
-        }
+        Cell { sample, count: 1 }
     }
 
     pub fn is_present(self) -> bool
         ensures { result ≡ is_some self }
     {
-        self.present
+        self.count != 0
     }
 
     /// The sample, or 0 where there is none.
