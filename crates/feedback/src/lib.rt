@@ -11,7 +11,7 @@ mod picture_loss;
 mod resending;
 
 pub use asking::upstream;
-pub use laws::each_number_once;
+pub use laws::{each_number_once, picture_losses_reach_a_sender};
 pub use numbers::numbers_of;
 pub use picture_loss::pli_up;
 pub use resending::resend;

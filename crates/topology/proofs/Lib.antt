@@ -19,3 +19,4 @@ pub mod Heard
 pub mod SmallRooms
 pub mod OneMix
 pub mod OwnGains
+pub mod Senders

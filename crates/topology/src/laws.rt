@@ -1,14 +1,14 @@
 //! Laws of the choice, of the receivers, and of mixes.
 
 ghost use Rattle.std.specs.Prelude.{◌≡◌, ◌≤◌, ℕ, true, false, if◌then◌else◌, List, ◌∷◌, ◌++◌, All, length, filter, None, Some};
-ghost use Rattle.std.specs.Option.{option_map};
+ghost use Rattle.std.specs.Option.{is_some, option_map, option_and_then};
 ghost use Rattle.rtp_codec.specs.declared.address.Address.{Address};
 ghost use Rattle.desk_rows.specs.declared.row.Member.{Member};
 ghost use Rattle.desk_rows.specs.declared.row.Slot.{Slot};
 ghost use Rattle.desk_rows.specs.declared.row.Media.TheVariants.{Video};
 ghost use Rattle.desk_rows.specs.declared.row.Key.TheVariants as keys;
 ghost use Rattle.desk_rows.specs.Desk.{Desk, good, room_at, same_room};
-ghost use Rattle.topology.specs.Looking.{slot_at, source_at, subscribed, pinned, holder, is_muted, is_this, sender_of, room_of_member};
+ghost use Rattle.topology.specs.Looking.{member_at, slot_at, source_at, subscribed, pinned, holder, is_muted, is_this, sender_of, room_of_member};
 ghost use Rattle.topology.specs.Choice.{is_video_of, first_video, shown, is_barred, choice};
 ghost use Rattle.topology.specs.Receivers.{receivers, receiver_at, receiver_on, AreDistinct};
 ghost use Rattle.topology.specs.Mixes.{in_room, audio_sources, gain_of, mix_plan, mix_member};
@@ -26,11 +26,12 @@ pub fn all_who_chose_receive()
 {}
 
 /// On a good desk, what a stream sends is a video source of the room that its slot is in, not muted,
-/// and of another member than the slot.
+/// and of a member that is there, another one than the slot's.
 pub fn choices_stay_in_the_room()
     ensures room { (desk : Desk) (out_ssrc source : ℕ) → good desk ≡ true → choice desk out_ssrc ≡ Some source → same_room (room_at desk (keys.Source source)) (room_at desk (keys.Slot out_ssrc)) ≡ true }
     ensures video { (desk : Desk) (out_ssrc source : ℕ) → good desk ≡ true → choice desk out_ssrc ≡ Some source → option_map (λ s. s.media) (source_at desk source) ≡ Some Video }
     ensures heard { (desk : Desk) (out_ssrc source : ℕ) → choice desk out_ssrc ≡ Some source → is_muted desk source ≡ false }
+    ensures sender { (desk : Desk) (out_ssrc source : ℕ) → good desk ≡ true → choice desk out_ssrc ≡ Some source → is_some (option_and_then (member_at desk) (sender_of desk source)) ≡ true }
     ensures others { (desk : Desk) (out_ssrc source : ℕ) (slot : Slot) → choice desk out_ssrc ≡ Some source → slot_at desk out_ssrc ≡ Some slot → is_this slot.member (sender_of desk source) ≡ false }
 {}
 
