@@ -1,0 +1,4 @@
+pub mod Hearing
+pub mod Mixes
+pub mod Mixers
+pub mod inner

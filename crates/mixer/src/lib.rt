@@ -1,0 +1,11 @@
+//! The audio half of a lane: what members of a room hear, tick by tick (a media-mixing mixer, RFC 7667 section 3.6.1).
+#![tactic(auto)]
+
+mod hearing;
+mod mixer;
+mod rooms;
+mod streams;
+mod voices;
+
+pub use self::mixer::Mixer;
+pub use self::streams::MixPacket;

@@ -1,0 +1,97 @@
+//! One lane's mixer.
+
+ghost use Rattle.std.specs.Prelude.{◌≡◌, ℕ, ◌<◌, ◌≤◌, [], length, IfOk, OnOk, OnErr};
+ghost use Rattle.mixer.specs.Hearing.{put};
+ghost use Rattle.mixer.specs.Mixers.{WasGiven, IsGiven, Ticks};
+
+use crate::streams::{MixPacket, Table, commit_all, pass_all, ready_all};
+use crate::voices::{PLACES, voices_of};
+use desk_rows::Rows;
+use forward_rewrite::LanePlace;
+use indexmap::IndexMap;
+use playout::Playouts;
+use rtp_codec::Address;
+use std::alloc::{AllocError, Allocator, Global};
+use std::marker::Model;
+use topology::{audio_sources, mixes_are_apart, rooms_are_small};
+
+/// The clock rate of audio in Hz (RFC 3551 section 4.5.14; that L16 has it too is own).
+const RATE: usize = 8_000;
+
+/// The room for streams that a mixer has from the start.
+const FIRST_STREAMS: usize = 16;
+
+/// The audio half of a lane: the playouts of all sources, and the mix streams of the lane that have begun.
+#[derive(Drop)]
+pub struct Mixer<A: Allocator + Copy = Global> {
+    playouts: Playouts<A>,
+    streams: Table<A>,
+}
+
+impl<A: Allocator + Copy> Model for Mixer<A> {
+    ghost use Rattle.std.specs.Prelude.{◌≡◌};
+    ghost use Rattle.mixer.specs.Mixers.{MixerOf};
+    ghost use Rattle.mixer.specs.Hearing.{audio_rate};
+
+    ghost Value = { MixerOf };
+
+    ghost view = { λ m. record { playouts = m.playouts; streams = m.streams.entries } };
+
+    ghost invariant = { λ m. m.playouts.rate ≡ audio_rate };
+}
+
+impl<A: Allocator + Copy> Mixer<A> {
+    /// A mixer that was given nothing.
+    pub fn new(alloc: A) -> Result<Self, AllocError>
+        ensures nothing { IfOk result (λ mixer. (lane lanes : ℕ) → WasGiven lane lanes mixer []) }
+    {
+        let playouts = Playouts::new(alloc, RATE)?;
+        let streams = IndexMap::with_capacity(alloc, FIRST_STREAMS)?;
+        Ok(Self { playouts, streams })
+    }
+
+    /// Puts samples of a source at 8000 Hz on their way, from this timestamp on: 1 to 1,600 of them (200 ms), whatever the desk says. The
+    /// first ones of a source take memory, and the error is want of it, which changes nothing.
+    pub fn put(
+        &mut self,
+        alloc: A,
+        source: u32,
+        address: &Address,
+        ts: u32,
+        samples: &[i16],
+    ) -> Result<(), AllocError>
+        requires some { 0 < length samples.now }
+        requires few { length samples.now ≤ 1600 }
+        ensures given { OnOk result (IsGiven self.old self.new (put source address.now ts samples.now)) }
+        ensures err { OnErr result (self.new ≡ self.old) }
+    {
+        self.playouts.put(alloc, source, address, ts, samples)
+    }
+
+    /// A tick of 20 ms at a moment, in nanoseconds since 1970: the packets of the mixes on the lane's streams, by place of the member. 160
+    /// samples of each source are taken, whatever the desk says. All memory is taken before that, and a refusal changes nothing.
+    pub fn tick(
+        &mut self,
+        alloc: A,
+        place: &LanePlace,
+        rows: &Rows<A>,
+        moment: u64,
+    ) -> Result<Vec<MixPacket<A>, A>, AllocError>
+        ensures ticks { IfOk result (λ sent. Ticks place.now.lane place.now.lanes self.old self.new rows.now moment sent.items) }
+        ensures few { IfOk result (λ sent. length sent.items ≤ length rows.now.members) }
+        ensures err { OnErr result (self.new ≡ self.old) }
+    {
+        rows.known();
+        rooms_are_small();
+        mixes_are_apart();
+        let sources = audio_sources(alloc, rows)?;
+        let voices = voices_of(alloc, &self.playouts, &sources)?;
+        let ready = ready_all(alloc, &self.streams, place, rows, &voices, moment)?;
+        let mut out = Vec::with_capacity(alloc, ready.len())?;
+        self.streams.reserve(ready.len())?;
+        self.playouts.take_all(PLACES);
+        pass_all(&mut self.streams, moment);
+        commit_all(&mut self.streams, ready, &mut out);
+        Ok(out)
+    }
+}

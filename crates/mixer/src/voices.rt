@@ -1,0 +1,55 @@
+//! What sources sound like in a tick.
+
+ghost use Rattle.std.specs.Prelude.{◌≡◌, IfOk, List, map};
+ghost use Rattle.playout.specs.Playouts.{Has};
+ghost use Rattle.mixer.specs.Hearing.{Given, audio_rate, to_playouts, voice_of};
+
+use playout::Playouts;
+use std::alloc::{AllocError, Allocator};
+use topology::AudioSource;
+
+/// How many samples a tick has: 20 ms at 8000 Hz.
+pub const PLACES: usize = 160;
+
+/// A source, and its samples of a tick.
+#[derive(Clone, Copy)]
+pub struct Voice {
+    pub source: AudioSource,
+    /// The samples, 0 where none is there.
+    pub samples: [i16; PLACES],
+    /// How many of them are there.
+    pub filled: u32,
+}
+
+/// What a source sounds like in the next tick.
+fn voice_of<A: Allocator + Copy>(playouts: &Playouts<A>, source: &AudioSource) -> Voice
+    requires { playouts.now.rate ≡ audio_rate }
+    ensures heard { (given : List Given) → Has playouts.now (map to_playouts given) → result ≡ voice_of given source.now }
+    ensures source { result.source ≡ source.now }
+{
+    let mut samples = [0; PLACES];
+    let filled = playouts.peek(source.ssrc, &source.address, &mut samples);
+    Voice {
+        source: *source,
+        samples,
+        filled,
+    }
+}
+
+/// What sources sound like in the next tick.
+pub fn voices_of<A: Allocator + Copy>(
+    alloc: A,
+    playouts: &Playouts<A>,
+    sources: &[AudioSource],
+) -> Result<Vec<Voice, A>, AllocError>
+    requires { playouts.now.rate ≡ audio_rate }
+    ensures heard { IfOk result (λ v. (given : List Given) → Has playouts.now (map to_playouts given) → v.items ≡ map (voice_of given) sources.now) }
+    ensures sources { IfOk result (λ v. map (λ v. v.source) v.items ≡ sources.now) }
+{
+    let mut voices = Vec::with_capacity(alloc, sources.len())?;
+    for source in sources {
+        let voice = voice_of(playouts, source);
+        voices.push(voice)?;
+    }
+    Ok(voices)
+}
