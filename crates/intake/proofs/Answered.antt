@@ -5,8 +5,8 @@ use Rattle.frame_gate.specs.Answer.{Answer}
 use Rattle.intake.specs.declared.outcome.Outcome.{Outcome}
 use Rattle.intake.specs.Inputs.{Input}
 use Rattle.intake.specs.Ingested.{Ingested}
-use Rattle.intake.specs.Media.{Coming, origin_of}
-use Rattle.intake.specs.Taking.{Voice, asked_of, frames_from}
+use Rattle.intake.specs.Media.{Coming, origin_of, frames_from}
+use Rattle.intake.specs.Taking.{Voice, asked_of}
 use Rattle.intake.specs.inner.Moves.{outcome_at, given}
 
 abbrev pub ingested : Outcome → List (Address × List ℕ) → List Input → Ingested

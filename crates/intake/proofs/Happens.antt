@@ -10,10 +10,11 @@ use Rattle.intake.specs.declared.outcome.Outcome.TheVariants.{Spent}
 use Rattle.intake.specs.declared.known.Key.{Key}
 use Rattle.intake.specs.Stories.{Story, Mark, untold, judged, begins, judged_on}
 use Rattle.intake.specs.Sources.{Sources, story_at}
-use Rattle.intake.specs.Ingested.{Ingested, only}
-use Rattle.intake.specs.Media.{Coming, Course, origin_of, mark_of, told, plain, gated_with, newly}
+use Rattle.intake.specs.Inputs.{Input}
+use Rattle.intake.specs.Ingested.{Ingested, only, with_items}
+use Rattle.intake.specs.Media.{Coming, Course, origin_of, mark_of, told, plain, telling, frames_from, gated_with, newly}
 use Rattle.intake.proofs.Answered.{ingested}
-use Rattle.intake.specs.Taking.{Voice, IsVoice, asked_of, frames_from, most_epochs, answer_of, sources_after, sourced}
+use Rattle.intake.specs.Taking.{Voice, IsVoice, asked_of, most_epochs, answer_of, sources_after, sourced}
 use Rattle.intake.specs.Intakes.{Knows}
 use Rattle.intake.specs.inner.Kept.{KeptOf, JudgedOf, AdmissionOf, Keeps, Judges, Becomes}
 use Rattle.intake.specs.inner.Holding.{IntakeOf, key_of, kept_at, put_first}
@@ -85,14 +86,18 @@ module _ (rate : ℕ) (course_of : Verdict → Story → Course) (c : Coming) (o
     when_course voice ingested new course free is answered known = otherwise _ _ _ _ _ (sym spent_is ∙ free)
         (subst (λ x. Gives ingested new (answer_of voice c x, sources_after c (begins story (mark_of rate c).seq) x s)) (sym (course_is course is)) (answered, known))
 
+    pub when_telling : (voice : Voice) (new : IntakeOf) (items : List Input) → (j.begins && nat_eq old.epochs most_epochs) ≡ false → ((st : Story) → course_of j.verdict st ≡ telling j.verdict items st)
+        → Advances old new (key_of (origin_of c)) j None → Gives (with_items (told j.verdict) items) new (sourced voice rate course_of c s)
+    when_telling voice new items free is advances = when_course voice (with_items (told j.verdict) items) new (telling j.verdict items) free is refl
+        (knows_after new (telling j.verdict items later) advances.0 (keeps_plain kept story s.epochs (mark_of rate c) j at judges advances.0 (subst (λ n. Becomes kept (next_of kept n j None) advances.0) knows.epochs advances.1)) advances.2)
+
     pub when_plain : (voice : Voice) (new : IntakeOf) → (j.begins && nat_eq old.epochs most_epochs) ≡ false → ((st : Story) → course_of j.verdict st ≡ plain j.verdict st)
         → Advances old new (key_of (origin_of c)) j None → Gives (only (told j.verdict)) new (sourced voice rate course_of c s)
-    when_plain voice new free is advances = when_course voice (only (told j.verdict)) new (plain j.verdict) free is refl
-        (knows_after new (plain j.verdict later) advances.0 (keeps_plain kept story s.epochs (mark_of rate c) j at judges advances.0 (subst (λ n. Becomes kept (next_of kept n j None) advances.0) knows.epochs advances.1)) advances.2)
+    when_plain voice new free is advances = when_telling voice new [] free is advances
 
     -- what the gate answers is what is defined of the packet
     given_is : (voice : Voice) (p : NumberedPacket) (ext : ℤ) (restarts : Bool) (outcome : Place → Outcome) (a : AdmissionOf) (epoch : ℕ) → ((place : Place) → outcome place ≡ outcome_at restarts ext place)
-        → Answers (epoch_of later.gated) p a.prepared.answer → epoch ≡ later.epoch → given voice c epoch ext restarts a.prepared.answer ≡ answer_of voice c (gated_with p outcome restarts later)
+        → Answers (epoch_of later.gated) p a.prepared.answer → epoch ≡ later.epoch → given voice c epoch ext restarts a.prepared.answer ≡ answer_of voice c (gated_with c p outcome restarts later)
     given_is voice p ext restarts outcome a epoch tells answers same =
         let e = epoch_of later.gated in
         let answer = a.prepared.answer in
@@ -104,14 +109,14 @@ module _ (rate : ℕ) (course_of : Verdict → Story → Course) (c : Coming) (o
         ∙ ap (λ fs. ingested (outcome (place_of e p)) (asked_of voice (origin_of c) (nacks_of e p) (restarts || gives_up e p)) (frames_from (origin_of c) c.moment later.epoch fs)) (sym new_ones)
 
     pub when_gated : (voice : Voice) (ingested : Ingested) (new : IntakeOf) (p : NumberedPacket) (ext : ℤ) (restarts : Bool) (outcome : Place → Outcome) → IsVoice voice → voice.asker ≡ old.asker
-        → (j.begins && nat_eq old.epochs most_epochs) ≡ false → ((st : Story) → course_of j.verdict st ≡ gated_with p outcome restarts st) → ((place : Place) → outcome place ≡ outcome_at restarts ext place)
+        → (j.begins && nat_eq old.epochs most_epochs) ≡ false → ((st : Story) → course_of j.verdict st ≡ gated_with c p outcome restarts st) → ((place : Place) → outcome place ≡ outcome_at restarts ext place)
         → Gates old new (key_of (origin_of c)) j c p ext restarts ingested → Gives ingested new (sourced voice rate course_of c s)
     when_gated voice ingested new p ext restarts outcome right asker free is tells gates =
         let a = gates.admission in
         let k = gates.advances.0 in
         let becomes = subst (λ n. Becomes kept (next_of kept n j (Some a)) k) knows.epochs gates.advances.1 in
-        when_course voice ingested new (gated_with p outcome restarts) free is
+        when_course voice ingested new (gated_with c p outcome restarts) free is
         (gates.answers voice right asker ∙ given_is voice p ext restarts outcome a _ tells
         (answers_is kept story s.epochs (mark_of rate c) j at judges p a k gates.admits becomes)
         (subst (λ n. (next_of kept n j (Some a)).epoch ≡ later.epoch) (sym knows.epochs) (epoch_is kept story s.epochs (mark_of rate c) j at judges (Some a))))
-        (knows_after new (gated_with p outcome restarts later) k (keeps_packet kept story s.epochs (mark_of rate c) j at judges p a k gates.admits becomes) gates.advances.2)
+        (knows_after new (gated_with c p outcome restarts later) k (keeps_packet kept story s.epochs (mark_of rate c) j at judges p a k gates.admits becomes) gates.advances.2)

@@ -9,3 +9,4 @@ pub mod Happens
 pub mod Results
 pub mod Turns
 pub mod Read
+pub mod Sized

@@ -16,6 +16,10 @@ pub record Ingested : Type 0 where
 abbrev pub only : Outcome → Ingested
 only outcome = record { outcome = outcome; up = []; items = [] }
 
+-- this outcome, and these items
+abbrev pub with_items : Outcome → List Input → Ingested
+with_items outcome items = record { outcome = outcome; up = []; items = items }
+
 -- a datagram for an address, without where its octets lie
 abbrev pub datagram_of : {A : Type 0} → Address × Vec ℕ A → Address × List ℕ
 datagram_of d = (d.0, d.1.items)

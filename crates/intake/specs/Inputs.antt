@@ -1,9 +1,16 @@
 -- What lanes are given, wherever its octets lie in memory.
-use Rattle.std.specs.Prelude.{ℕ, List}
+use Rattle.std.specs.Prelude.{ℕ, ℤ, Bool, true, ◌&&◌, nat_le, List, length}
 use Rattle.rtp_codec.specs.declared.address.Address.{Address}
 use Rattle.forward_rewrite.specs.Frame.{SourceFrame}
 use Rattle.intake.specs.declared.item.Item.{Item}
-use Rattle.intake.specs.declared.item.Item.TheVariants.{Frame, Nack}
+use Rattle.intake.specs.declared.item.Item.TheVariants.{Frame, Audio, Tick, Nack}
+
+-- the sound of an audio packet: its source and the address it came from, the timestamp of its first sample, and its samples
+pub record Sound : Type 0 where
+  pub source : ℕ
+  pub address : Address
+  pub ts : ℕ
+  pub samples : List ℤ
 
 -- who asks, by its address, for packets of an outgoing stream again, and for which numbers
 pub record Request : Type 0 where
@@ -14,9 +21,24 @@ pub record Request : Type 0 where
 -- what a lane is given
 pub data Input : Type 0 where
   frame : SourceFrame → Input
+  audio : Sound → Input
+  tick : (moment : ℕ) → Input
   nack : Request → Input
 
 -- what a lane is given, without where its octets lie
 abbrev pub input_of : {A : Type 0} → Item A → Input
 input_of (Frame f) = Input.frame f
+input_of (Audio ssrc address ts samples) = Input.audio record { source = ssrc; address = address; ts = ts; samples = samples.items }
+input_of (Tick moment) = Input.tick moment
 input_of (Nack from out_ssrc numbers) = Input.nack record { from = from; out_ssrc = out_ssrc; numbers = numbers.items }
+
+-- the most samples of an audio packet: 200 ms (own)
+abbrev pub most_samples : ℕ
+most_samples = 1600
+
+-- sound has a sample at least, and no more than a packet may have
+abbrev pub is_sized : Input → Bool
+is_sized (audio sound) = nat_le 1 (length sound.samples) && nat_le (length sound.samples) most_samples
+is_sized (frame f) = true
+is_sized (tick moment) = true
+is_sized (nack request) = true

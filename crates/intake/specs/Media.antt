@@ -1,5 +1,5 @@
 -- What a media packet comes to for its source (audio: RFC 3551 sections 4.5.11 and 4.5.14; limits and payload types of L16 are own).
-use Rattle.std.specs.Prelude.{ℕ, ℤ, ◌*◌, ◌%◌, Bool, true, false, ◌&&◌, ◌||◌, nat_eq, nat_le, if◌then◌else◌, List, [], ◌∷◌, ◌++◌, length, drop}
+use Rattle.std.specs.Prelude.{ℕ, ℤ, ◌*◌, ◌%◌, Bool, true, false, ◌&&◌, ◌||◌, nat_eq, nat_le, if◌then◌else◌, List, [], ◌∷◌, ◌++◌, length, drop, map}
 use Rattle.rtp_codec.specs.declared.address.Address.{Address}
 use Rattle.rtp_codec.specs.Packet.{Packet}
 use Rattle.source_valid.specs.declared.verdict.Verdict.{Verdict}
@@ -8,9 +8,12 @@ use Rattle.frame_gate.specs.declared.packet.Place.{Place}
 use Rattle.frame_gate.specs.declared.packet.Place.TheVariants.{Taken, Late, Duplicate}
 use Rattle.frame_gate.specs.Packets.{GatePacket, NumberedPacket, numbered}
 use Rattle.frame_gate.specs.Frame.{WholeFrame}
+use Rattle.g711.specs.MuLaw.{decoded}
+use Rattle.l16.specs.Samples.{samples_of}
 use Rattle.frame_gate.specs.Epochs.{Epoch, epoch_of, after, frames_of, place_of, nacks_of, gives_up}
 use Rattle.intake.specs.declared.outcome.Outcome.{Outcome}
 use Rattle.intake.specs.declared.outcome.Outcome.TheVariants as outcomes
+use Rattle.intake.specs.Inputs.{Input, most_samples}
 use Rattle.intake.specs.Stories.{Story, Mark, units_of}
 use Rattle.intake.specs.Sources.{Origin}
 
@@ -34,21 +37,17 @@ audio_rate = 8000
 abbrev pub video_rate : ℕ
 video_rate = 90000
 
--- the most samples of an audio packet: 200 ms
-abbrev pub most_samples : ℕ
-most_samples = 1600
-
 -- a payload that is audio: PCMU is type 0 and has an octet for a sample, L16 is type 97 and has two
 abbrev pub is_audio : ℕ → ℕ → Bool
 is_audio pt octets =
     if nat_eq pt 0 then nat_le octets most_samples
     else nat_eq pt 97 && (nat_eq (octets % 2) 0 && nat_le octets (2 * most_samples))
 
--- what a packet comes to for its source: the outcome and the source's story, and the video frames that it closes, the numbers that are newly missing, and whether a picture is lost
+-- what a packet comes to for its source: the outcome and the source's story, the items that it makes, the numbers that are newly missing, and whether a picture is lost
 pub record Course : Type 0 where
   pub outcome : Outcome
   pub story : Story
-  pub frames : List WholeFrame
+  pub items : List Input
   pub nacks : List ℤ
   pub pli : Bool
 
@@ -59,9 +58,13 @@ told (Accepted ext) = outcomes.Accepted ext
 told Jump = outcomes.Jump
 told (Restarted ext) = outcomes.Restarted ext
 
+-- the verdict, and these items
+abbrev pub telling : Verdict → List Input → Story → Course
+telling verdict items story = record { outcome = told verdict; story = story; items = items; nacks = []; pli = false }
+
 -- the verdict, and no more
 abbrev pub plain : Verdict → Story → Course
-plain verdict story = record { outcome = told verdict; story = story; frames = []; nacks = []; pli = false }
+plain verdict story = telling verdict [] story
 
 -- the packet as the source's gate takes it
 abbrev pub gate_packet : Packet → GatePacket
@@ -77,22 +80,51 @@ placed ext Taken = outcomes.Accepted ext
 placed ext Late = outcomes.Late ext
 placed ext Duplicate = outcomes.Duplicate ext
 
+-- a frame of a source's epoch as an item, which came at this moment
+abbrev pub frame_item : Origin → (moment epoch : ℕ) → WholeFrame → Input
+frame_item o moment epoch f = Input.frame (record { source = o.ssrc; address = o.address; epoch = epoch; moment = moment; frame = f })
+
+abbrev pub frames_from : Origin → (moment epoch : ℕ) → List WholeFrame → List Input
+frames_from o moment epoch frames = map (frame_item o moment epoch) frames
+
 -- the packet comes to the gate; a restart loses the picture, and so does a gate that gives up
-abbrev pub gated_with : NumberedPacket → (Place → Outcome) → Bool → Story → Course
-gated_with p outcome restarts story = record {
+abbrev pub gated_with : Coming → NumberedPacket → (Place → Outcome) → Bool → Story → Course
+gated_with c p outcome restarts story = record {
   outcome = outcome (place_of (epoch_of story.gated) p);
   story = record { given = story.given; epoch = story.epoch; gated = story.gated ++ p ∷ [] };
-  frames = newly (epoch_of story.gated) p;
+  items = frames_from (origin_of c) c.moment story.epoch (newly (epoch_of story.gated) p);
   nacks = nacks_of (epoch_of story.gated) p;
   pli = restarts || gives_up (epoch_of story.gated) p;
 }
 
-abbrev pub video_course : Packet → Verdict → Story → Course
-video_course p Probation story = plain Probation story
-video_course p (Accepted ext) story = gated_with (numbered ext (gate_packet p)) (placed ext) false story
-video_course p Jump story = plain Jump story
-video_course p (Restarted ext) story = gated_with (numbered ext (gate_packet p)) (λ place. outcomes.Restarted ext) true story
+abbrev pub video_course : Coming → Verdict → Story → Course
+video_course c Probation story = plain Probation story
+video_course c (Accepted ext) story = gated_with c (numbered ext (gate_packet c.packet)) (placed ext) false story
+video_course c Jump story = plain Jump story
+video_course c (Restarted ext) story = gated_with c (numbered ext (gate_packet c.packet)) (λ place. outcomes.Restarted ext) true story
+
+-- the samples of a payload that is audio: PCMU by its octets, L16 by two octets each
+abbrev pub samples_of_packet : ℕ → List ℕ → List ℤ
+samples_of_packet pt payload = if nat_eq pt 0 then map decoded payload else samples_of payload
+
+-- an audio packet as an item; an empty payload makes none
+abbrev pub sound_of : Coming → List Input
+sound_of c =
+    if nat_eq (length c.packet.payload) 0 then []
+    else Input.audio (record {
+      source = c.packet.header.ssrc;
+      address = c.from;
+      ts = c.packet.header.ts;
+      samples = samples_of_packet c.packet.header.pt c.packet.payload;
+    }) ∷ []
+
+-- Only an accepted packet is heard.
+abbrev pub sounds : Coming → Verdict → List Input
+sounds c Probation = []
+sounds c (Accepted ext) = sound_of c
+sounds c Jump = []
+sounds c (Restarted ext) = sound_of c
 
 -- Audio has no gate.
-abbrev pub audio_course : Packet → Verdict → Story → Course
-audio_course p verdict story = plain verdict story
+abbrev pub audio_course : Coming → Verdict → Story → Course
+audio_course c verdict story = telling verdict (sounds c verdict) story

@@ -8,7 +8,6 @@ use Rattle.rtcp_codec.specs.Packet.{Packet as RtcpPacket}
 use Rattle.rtcp_codec.specs.Nack.{IsPacking}
 use Rattle.rtcp_codec.specs.Compound.{written}
 use Rattle.source_valid.specs.declared.verdict.Verdict.{Verdict}
-use Rattle.frame_gate.specs.Frame.{WholeFrame}
 use Rattle.desk_rows.specs.Desk.{Desk}
 use Rattle.desk_rows.specs.declared.row.Media.{Media}
 use Rattle.desk_rows.specs.declared.row.Media.TheVariants.{Audio, Video}
@@ -16,7 +15,6 @@ use Rattle.desk_rows.specs.declared.row.Source.{Source}
 use Rattle.topology.specs.Looking.{source_from, member_from}
 use Rattle.feedback.specs.Upstream.{Asker, seq_of, upstream_packets}
 use Rattle.intake.specs.declared.outcome.Outcome.TheVariants.{TooLong, Neither, BadRtp, BadRtcp, Unknown, BadPayload, Spent, Rtcp}
-use Rattle.intake.specs.Inputs.{Input}
 use Rattle.intake.specs.Readings.{Reading, too_long, neither, no_packet, packet, no_compound, compound}
 use Rattle.intake.specs.Stories.{Story, untold, judged, begins, judged_on}
 use Rattle.intake.specs.Sources.{Origin, Sources, no_sources, story_at, used}
@@ -54,19 +52,12 @@ asking voice source nacks pli = written (upstream_packets voice.asker source (vo
 abbrev pub asked_of : Voice → Origin → List ℤ → Bool → List (Address × List ℕ)
 asked_of voice o nacks pli = if nat_eq (length nacks) 0 && not pli then [] else (o.address, asking voice o.ssrc nacks pli) ∷ []
 
--- a frame of a source's epoch as an item, which came at this moment
-abbrev pub frame_item : Origin → (moment epoch : ℕ) → WholeFrame → Input
-frame_item o moment epoch f = Input.frame (record { source = o.ssrc; address = o.address; epoch = epoch; moment = moment; frame = f })
-
-abbrev pub frames_from : Origin → (moment epoch : ℕ) → List WholeFrame → List Input
-frames_from o moment epoch frames = map (frame_item o moment epoch) frames
-
 -- what is answered where a packet comes to this for its source
 abbrev pub answer_of : Voice → Coming → Course → Ingested
 answer_of voice c course = record {
   outcome = course.outcome;
   up = asked_of voice (origin_of c) course.nacks course.pli;
-  items = frames_from (origin_of c) c.moment course.story.epoch course.frames;
+  items = course.items;
 }
 
 -- the sources after it: this one was used last
@@ -92,8 +83,8 @@ sourced voice rate course_of c s = taken_by voice rate course_of c s (unwrap_or 
 -- by what its source sends
 abbrev pub of_media : Voice → Media → Coming → Sources → Ingested × Sources
 of_media voice Audio c s =
-    if is_audio c.packet.header.pt (length c.packet.payload) then sourced voice audio_rate (audio_course c.packet) c s else (only BadPayload, s)
-of_media voice Video c s = sourced voice video_rate (video_course c.packet) c s
+    if is_audio c.packet.header.pt (length c.packet.payload) then sourced voice audio_rate (audio_course c) c s else (only BadPayload, s)
+of_media voice Video c s = sourced voice video_rate (video_course c) c s
 
 -- a packet of the source in a row
 abbrev pub of_row : Voice → Option Source → Coming → Sources → Ingested × Sources

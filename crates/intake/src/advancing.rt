@@ -1,7 +1,9 @@
 //! A source with a judged packet.
 
-ghost use Rattle.std.specs.Prelude.{◌≡◌, ◌+◌, ◌&&◌, true, false, nat_eq, if◌then◌else◌, IfOk, OnOk, OnErr, IfSome, is_some, option_map, option_copied, None};
-ghost use Rattle.intake.specs.Ingested.{ingested_of, only};
+ghost use Rattle.std.specs.Prelude.{◌≡◌, ◌+◌, ◌&&◌, true, false, nat_eq, if◌then◌else◌, IfOk, OnOk, OnErr, IfSome, is_some, option_map, option_copied, None, map};
+ghost use Rattle.std.specs.List.{list_all};
+ghost use Rattle.intake.specs.Inputs.{input_of, is_sized};
+ghost use Rattle.intake.specs.Ingested.{ingested_of, only, with_items};
 ghost use Rattle.intake.specs.Media.{told};
 ghost use Rattle.intake.specs.Taking.{most_epochs};
 ghost use Rattle.intake.specs.inner.Kept.{Judges, base_of, gate_for};
@@ -11,6 +13,7 @@ ghost use Rattle.intake.specs.inner.Moves.{source_in, epoch_in, next_of, IsKept,
 use crate::admitting::Admission;
 use crate::ingest::Ingest;
 use crate::intake::Intake;
+use crate::item::Item;
 use crate::judging::{Judged, Mark, judge};
 use crate::kept::{Kept, Next};
 use crate::known::Key;
@@ -124,6 +127,29 @@ impl<A: Allocator + Copy> Intake<A> {
         self.keep(key, next)
     }
 
+    /// Keeps a source whose packet asks for nothing, and answers its verdict and these items.
+    pub(crate) fn telling(
+        &mut self,
+        alloc: A,
+        key: Key,
+        judged: &Judged,
+        items: Vec<Item<A>, A>,
+    ) -> Result<Ingest<A>, AllocError>
+        requires room { (judged.now.begins && nat_eq self.old.epochs most_epochs) ≡ false }
+        requires sized { list_all is_sized (map input_of items.items) ≡ true }
+        ensures advances { OnOk result (Advances self.old self.new key judged.now None) }
+        ensures ingest { IfOk result (λ ingest. ingested_of ingest ≡ with_items (told judged.now.verdict) (map input_of items.items)) }
+        ensures err { OnErr result (self.new ≡ self.old) }
+        ensures asker { self.new.asker ≡ self.old.asker }
+    {
+        self.advance(key, judged, None)?;
+        Ok(Ingest {
+            outcome: told(judged.verdict),
+            up: Vec::new(alloc),
+            items,
+        })
+    }
+
     /// Keeps a source whose packet has no other effect than its verdict.
     pub(crate) fn plain(
         &mut self,
@@ -137,7 +163,6 @@ impl<A: Allocator + Copy> Intake<A> {
         ensures err { OnErr result (self.new ≡ self.old) }
         ensures asker { self.new.asker ≡ self.old.asker }
     {
-        self.advance(key, judged, None)?;
-        Ok(Ingest::only(alloc, told(judged.verdict)))
+        self.telling(alloc, key, judged, Vec::new(alloc))
     }
 }

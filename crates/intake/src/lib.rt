@@ -18,6 +18,7 @@ mod laws;
 mod media;
 mod outcome;
 mod settings;
+mod sounding;
 mod upward;
 
 pub use self::ingest::Ingest;

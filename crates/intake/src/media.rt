@@ -1,6 +1,6 @@
 //! Media packets.
 
-ghost use Rattle.std.specs.Prelude.{◌≡◌, ◌≤◌, IfOk, OnOk, OnErr};
+ghost use Rattle.std.specs.Prelude.{◌≡◌, ◌≤◌, true, length, IfOk, OnOk, OnErr};
 ghost use Rattle.rtp_codec.specs.View.{packet_of};
 ghost use Rattle.frame_gate.specs.Frame.{highest_pt};
 ghost use Rattle.rtp_codec.specs.declared.class.Class.TheVariants as classes;
@@ -16,6 +16,7 @@ use crate::intake::Intake;
 use crate::judging::{Mark, units_of};
 use crate::known::key_of;
 use crate::outcome::Outcome;
+use crate::sounding::{is_audio, sounds};
 use desk_rows::{Media, Rows};
 use rtp_codec::{Address, RtpView, read};
 use source_valid::Verdict;
@@ -27,24 +28,6 @@ const AUDIO_RATE: u32 = 8_000;
 
 /// The clock rate of video in Hz (RFC 3551 section 5).
 const VIDEO_RATE: u32 = 90_000;
-
-/// The most samples of an audio packet: 200 ms.
-const MOST_SAMPLES: usize = 1_600;
-
-/// The payload types of audio.
-const PCMU: u8 = 0;
-
-const L16: u8 = 97;
-
-/// Whether the payload is audio: PCMU, or L16 in whole samples, of at most 200 ms.
-fn is_audio(pt: u8, octets: usize) -> bool
-    ensures { result ≡ is_audio pt octets }
-{
-    if pt == PCMU {
-        return octets <= MOST_SAMPLES;
-    }
-    pt == L16 && (octets % 2 == 0 && octets <= 2 * MOST_SAMPLES)
-}
 
 /// A packet as a source of this clock rate judges it.
 fn mark_of(rate: u32, moment: u64, view: &RtpView<'_>) -> Mark
@@ -66,7 +49,8 @@ impl<A: Allocator + Copy> Intake<A> {
         moment: u64,
         view: &RtpView<'_>,
     ) -> Result<Ingest<A>, AllocError>
-        ensures moves { IfOk result (λ ingest. Moves self.old self.new (ingested_of ingest) (λ voice s. sourced voice audio_rate (audio_course (packet_of view.now)) (record { from = from.now; moment = moment; packet = packet_of view.now }) s)) }
+        requires { is_audio view.now.pt (length view.now.payload.now) ≡ true }
+        ensures moves { IfOk result (λ ingest. Moves self.old self.new (ingested_of ingest) (λ voice s. sourced voice audio_rate (audio_course (record { from = from.now; moment = moment; packet = packet_of view.now })) (record { from = from.now; moment = moment; packet = packet_of view.now }) s)) }
         ensures err { OnErr result (self.new ≡ self.old) }
         ensures asker { self.new.asker ≡ self.old.asker }
     {
@@ -75,7 +59,8 @@ impl<A: Allocator + Copy> Intake<A> {
         if self.is_spent(&judged) {
             return Ok(Ingest::only(alloc, Outcome::Spent));
         }
-        self.plain(alloc, key, &judged)
+        let items = sounds(alloc, judged.verdict, from, view)?;
+        self.telling(alloc, key, &judged, items)
     }
 
     /// Takes in a video packet.
@@ -87,7 +72,7 @@ impl<A: Allocator + Copy> Intake<A> {
         view: &RtpView<'_>,
     ) -> Result<Ingest<A>, AllocError>
         requires { view.now.pt ≤ highest_pt }
-        ensures moves { IfOk result (λ ingest. Moves self.old self.new (ingested_of ingest) (λ voice s. sourced voice video_rate (video_course (packet_of view.now)) (record { from = from.now; moment = moment; packet = packet_of view.now }) s)) }
+        ensures moves { IfOk result (λ ingest. Moves self.old self.new (ingested_of ingest) (λ voice s. sourced voice video_rate (video_course (record { from = from.now; moment = moment; packet = packet_of view.now })) (record { from = from.now; moment = moment; packet = packet_of view.now }) s)) }
         ensures err { OnErr result (self.new ≡ self.old) }
         ensures asker { self.new.asker ≡ self.old.asker }
     {

@@ -9,8 +9,8 @@ use Rattle.intake.specs.declared.outcome.Outcome.{Outcome}
 use Rattle.intake.specs.declared.outcome.Outcome.TheVariants as outcomes
 use Rattle.intake.specs.declared.known.Key.{Key}
 use Rattle.intake.specs.Ingested.{Ingested}
-use Rattle.intake.specs.Media.{Coming, origin_of, placed}
-use Rattle.intake.specs.Taking.{Voice, IsVoice, asked_of, frames_from}
+use Rattle.intake.specs.Media.{Coming, origin_of, placed, frames_from}
+use Rattle.intake.specs.Taking.{Voice, IsVoice, asked_of}
 use Rattle.intake.specs.inner.Kept.{KeptOf, JudgedOf, AdmissionOf, NextOf, Admits, Becomes, gate_for}
 use Rattle.intake.specs.inner.Holding.{IntakeOf, kept_at, put_first}
 

@@ -2,7 +2,7 @@
 use Rattle.std.proofs.Common.{◌≡◌, ◌+◌, ◌≤◌, ◌++◌, length, map, vec_len, vec_capacity}
 use Rattle.std.specs.Vec.Iter.{into_iter_items}
 use Rattle.intake.specs.Inputs.{input_of}
-use Rattle.intake.specs.Taking.{frames_from}
+use Rattle.intake.specs.Media.{frames_from}
 use Rattle.intake.proofs.gating.put_frames.Given as goal
 
 abbrev pub invariant-loop-frame : goal.invariant-loop-frame

@@ -1,12 +1,12 @@
-use Rattle.std.proofs.Common.{◌∙◌, sym, subst, refl, None}
+use Rattle.std.proofs.Common.{◌∙◌, ap, sym, subst, None}
 use Rattle.rtp_codec.specs.View.{packet_of}
 use Rattle.intake.specs.declared.known.Key.{Key}
 use Rattle.intake.specs.Ingested.{Ingested}
-use Rattle.intake.specs.Media.{Coming, audio_rate, audio_course}
+use Rattle.intake.specs.Media.{Coming, audio_rate, audio_course, sounds, telling}
 use Rattle.intake.specs.Taking.{sourced}
 use Rattle.intake.specs.inner.Kept.{JudgedOf}
 use Rattle.intake.specs.inner.Moves.{Advances}
-use Rattle.intake.proofs.Happens.{Gives, named_so, when_spent, when_plain}
+use Rattle.intake.proofs.Happens.{Gives, named_so, when_spent, when_telling}
 use Rattle.intake.proofs.Results.{with_fact}
 use Rattle.intake.proofs.intake.Intake.audio.Goals as goal
 
@@ -16,8 +16,8 @@ returns-then-is_spent-clause-moves g c = λ voice s right asker knows.
     let coming : Coming = record { from = c.args.from.now; moment = c.args.moment; packet = packet_of c.args.view.now } in
     let j : JudgedOf = c.judged-judged.result in
     let judges = named_so old j _ _ _ _ c.key_of-key.ensures (c.mark_of.ensures c.args.from.now) c.judged-judged.ensures in
-    subst (λ (i : Ingested). Gives i old (sourced voice audio_rate (audio_course coming.packet) coming s)) (sym c.only.ensures)
-    (when_spent audio_rate (audio_course coming.packet) coming old j judges s knows voice (sym c.is_spent.ensures ∙ c.if-is_spent.true))
+    subst (λ (i : Ingested). Gives i old (sourced voice audio_rate (audio_course coming) coming s)) (sym c.only.ensures)
+    (when_spent audio_rate (audio_course coming) coming old j judges s knows voice (sym c.is_spent.ensures ∙ c.if-is_spent.true))
 
 pub returns-clause-moves : goal.returns-clause-moves
 returns-clause-moves g c =
@@ -25,7 +25,8 @@ returns-clause-moves g c =
     let coming : Coming = record { from = c.args.from.now; moment = c.args.moment; packet = packet_of c.args.view.now } in
     let j : JudgedOf = c.judged-judged.result in
     let judges = named_so old j _ _ _ _ c.key_of-key.ensures (c.mark_of.ensures c.args.from.now) c.judged-judged.ensures in
-    with_fact c.plain.result c.plain.ensures.advances c.plain.ensures.ingest (λ ingest advances is voice s right asker knows.
-    subst (λ (i : Ingested). Gives i c.plain.new.self (sourced voice audio_rate (audio_course coming.packet) coming s)) (sym is)
-    (when_plain audio_rate (audio_course coming.packet) coming old j judges s knows voice c.plain.new.self (sym c.is_spent.ensures ∙ c.if-is_spent.false) (λ st. refl)
-    (subst (λ (key : Key). Advances old c.plain.new.self key j None) c.key_of-key.ensures advances)))
+    let same = c.in_ok-items.ensures.items c.args.moment ∙ ap (λ (x : JudgedOf). sounds coming x.verdict) c.judged.view_is in
+    with_fact c.telling.result c.telling.ensures.advances c.telling.ensures.ingest (λ ingest advances is voice s right asker knows.
+    subst (λ (i : Ingested). Gives i c.telling.new.self (sourced voice audio_rate (audio_course coming) coming s)) (sym is)
+    (when_telling audio_rate (audio_course coming) coming old j judges s knows voice c.telling.new.self _ (sym c.is_spent.ensures ∙ c.if-is_spent.false) (λ st. ap (λ items. telling j.verdict items st) (sym same))
+    (subst (λ (key : Key). Advances old c.telling.new.self key j None) c.key_of-key.ensures advances)))

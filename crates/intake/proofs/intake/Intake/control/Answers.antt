@@ -1,9 +1,16 @@
-use Rattle.std.proofs.Common.{◌∙◌, ℕ, Option, sym, subst, IfOk}
+use Rattle.std.proofs.Common.{◌∙◌, ap, ℕ, Option, sym, subst, IfOk}
 use Rattle.rtcp_codec.specs.View.{packets_of}
+use Rattle.topology.specs.Looking.{member_from}
+use Rattle.intake.specs.declared.outcome.Outcome.TheVariants.{Unknown}
 use Rattle.intake.specs.Ingested.{ingested_of}
 use Rattle.intake.specs.Taking.{of_member}
 use Rattle.intake.specs.Intakes.{Moves}
+use Rattle.intake.proofs.Read.{stays}
 use Rattle.intake.proofs.intake.Intake.control.Goals as goal
+
+pub returns-in-None-clause-moves : goal.returns-in-None-clause-moves
+returns-in-None-clause-moves g c = stays _ Unknown c.args.self.now (λ voice s. of_member (member_from c.args.rows.now c.args.from.now) c.args.from.now c.args.moment (packets_of c.args.packets.now) s) c.only.ensures
+    (λ voice s. ap (λ m. of_member m c.args.from.now c.args.moment (packets_of c.args.packets.now) s) (sym c.member_from.ensures ∙ c.in-None.is))
 
 pub returns-in-Some-clause-moves : goal.returns-in-Some-clause-moves
 returns-in-Some-clause-moves g c =

@@ -1,18 +1,26 @@
 use Rattle.std.proofs.Common.{◌≡◌, ◌∙◌, ℤ, ap, sym, subst, arith, to_z, of_z, w64, map, ◌||◌, ◌++◌, ◌+◌, if◌then◌else◌}
 use Rattle.std.proofs.lemmas.Int.{to_z-of_z}
+use Rattle.std.specs.List.{list_all}
 use Rattle.rtp_codec.specs.View.{packet_of}
 use Rattle.frame_gate.specs.Packets.{numbered}
 use Rattle.frame_gate.specs.Answer.{Answer}
-use Rattle.intake.specs.Inputs.{input_of}
-use Rattle.intake.specs.Media.{Coming, gate_packet}
+use Rattle.intake.specs.Inputs.{input_of, is_sized}
+use Rattle.intake.specs.Media.{Coming, gate_packet, frames_from}
 use Rattle.intake.specs.Sources.{Origin}
-use Rattle.intake.specs.Taking.{asked_of, frames_from}
+use Rattle.intake.specs.Taking.{asked_of}
 use Rattle.intake.specs.inner.Kept.{JudgedOf, Admits, gate_for}
 use Rattle.intake.specs.inner.Holding.{kept_at}
 use Rattle.intake.specs.inner.Moves.{outcome_at, epoch_in}
 use Rattle.intake.proofs.AtGates.{some_injective}
 use Rattle.intake.proofs.Answered.{given_is}
+use Rattle.intake.proofs.Sized.{sized_frames}
 use Rattle.intake.proofs.intake.Intake.gated.Goals as goal
+
+pub invariant_of-result : goal.invariant_of-result
+invariant_of-result g c =
+    let origin : Origin = record { address = c.args.from.now; ssrc = c.args.view.now.ssrc } in
+    let frames = frames_from origin c.args.moment c.epoch_for-epoch.result c.admitted.inside.frames.items in
+    record { sized = ap (list_all is_sized) (c.put_frames.ensures.items ∙ ap (λ xs. map input_of xs ++ frames) c.in_ok-items.ensures.items) ∙ sized_frames origin c.args.moment c.epoch_for-epoch.result c.admitted.inside.frames.items }
 
 pub returns-clause-gates : goal.returns-clause-gates
 returns-clause-gates g c =

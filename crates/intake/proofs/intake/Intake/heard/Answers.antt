@@ -1,12 +1,17 @@
 use Rattle.std.proofs.Common.{◌∙◌, ap, sym, subst, length, map, []}
 use Rattle.std.proofs.lemmas.List.{length-map}
+use Rattle.std.specs.List.{list_all}
 use Rattle.rtcp_codec.specs.View.{packet_of, packets_of}
 use Rattle.intake.specs.declared.outcome.Outcome.TheVariants.{Rtcp}
-use Rattle.intake.specs.Inputs.{input_of}
+use Rattle.intake.specs.Inputs.{input_of, is_sized}
 use Rattle.intake.specs.Ingested.{datagram_of}
 use Rattle.intake.specs.inner.Holding.{IntakeOf, Holds}
 use Rattle.intake.proofs.Answered.{ingested}
+use Rattle.intake.proofs.Sized.{sized_asks}
 use Rattle.intake.proofs.intake.Intake.heard.Goals as goal
+
+pub invariant_of-result : goal.invariant_of-result
+invariant_of-result g c = record { sized = ap (list_all is_sized) c.in_ok-items.ensures ∙ sized_asks c.args.from.now (packets_of c.args.packets.now) }
 
 pub returns-clause-moves : goal.returns-clause-moves
 returns-clause-moves g c = λ member voice s right asker knows.

@@ -16,5 +16,5 @@ returns-else-not-is_audio-clause-moves g c =
     let heard = sym c.is_audio.ensures ∙ c.if-not-is_audio.false in
     from_fact c.audio.result c.audio.ensures.moves (λ ingest moves voice s right asker knows.
     let nothing : Ingested × Sources = (only BadPayload, s) in
-    let same = ap (λ r. of_row voice r coming s) there ∙ ap (λ m. of_media voice m coming s) c.in-Audio.is ∙ ap (λ b. if b then sourced voice audio_rate (audio_course coming.packet) coming s else nothing) heard in
+    let same = ap (λ r. of_row voice r coming s) there ∙ ap (λ m. of_media voice m coming s) c.in-Audio.is ∙ ap (λ b. if b then sourced voice audio_rate (audio_course coming) coming s else nothing) heard in
     subst (λ x. (ingested_of ingest ≡ x.0) × Knows c.audio.new.self x.1) (sym same) (moves voice s right asker knows))

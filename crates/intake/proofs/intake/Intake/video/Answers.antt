@@ -21,8 +21,8 @@ returns-then-is_spent-clause-moves g c = λ voice s right asker knows.
     let coming : Coming = record { from = c.args.from.now; moment = c.args.moment; packet = packet_of c.args.view.now } in
     let j : JudgedOf = c.judged-judged.result in
     let judges = named_so old j _ _ _ _ c.key_of-key.ensures (c.mark_of.ensures c.args.from.now) c.judged-judged.ensures in
-    subst (λ (i : Ingested). Gives i old (sourced voice video_rate (video_course coming.packet) coming s)) (sym c.only.ensures)
-    (when_spent video_rate (video_course coming.packet) coming old j judges s knows voice (sym c.is_spent.ensures ∙ c.if-is_spent.true))
+    subst (λ (i : Ingested). Gives i old (sourced voice video_rate (video_course coming) coming s)) (sym c.only.ensures)
+    (when_spent video_rate (video_course coming) coming old j judges s knows voice (sym c.is_spent.ensures ∙ c.if-is_spent.true))
 
 pub returns-in-Probation-clause-moves : goal.returns-in-Probation-clause-moves
 returns-in-Probation-clause-moves g c =
@@ -32,8 +32,8 @@ returns-in-Probation-clause-moves g c =
     let judges = named_so old j _ _ _ _ c.key_of-key.ensures (c.mark_of.ensures c.args.from.now) c.judged-judged.ensures in
     let verdict : j.verdict ≡ Probation = ap (λ (x : JudgedOf). x.verdict) (sym c.judged.view_is) ∙ c.in-Probation.is in
     with_fact c.plain.result c.plain.ensures.advances c.plain.ensures.ingest (λ ingest advances is voice s right asker knows.
-    subst (λ (i : Ingested). Gives i c.plain.new.self (sourced voice video_rate (video_course coming.packet) coming s)) (sym is)
-    (when_plain video_rate (video_course coming.packet) coming old j judges s knows voice c.plain.new.self (sym c.is_spent.ensures ∙ c.if-is_spent.false) (λ st. subst (λ v. video_course coming.packet v st ≡ plain v st) (sym verdict) refl)
+    subst (λ (i : Ingested). Gives i c.plain.new.self (sourced voice video_rate (video_course coming) coming s)) (sym is)
+    (when_plain video_rate (video_course coming) coming old j judges s knows voice c.plain.new.self (sym c.is_spent.ensures ∙ c.if-is_spent.false) (λ st. subst (λ v. video_course coming v st ≡ plain v st) (sym verdict) refl)
     (subst (λ (key : Key). Advances old c.plain.new.self key j None) c.key_of-key.ensures advances)))
 
 pub returns-in-Jump-clause-moves : goal.returns-in-Jump-clause-moves
@@ -44,8 +44,8 @@ returns-in-Jump-clause-moves g c =
     let judges = named_so old j _ _ _ _ c.key_of-key.ensures (c.mark_of.ensures c.args.from.now) c.judged-judged.ensures in
     let verdict : j.verdict ≡ Jump = ap (λ (x : JudgedOf). x.verdict) (sym c.judged.view_is) ∙ c.in-Jump.is in
     with_fact c.plain-in-Jump.result c.plain-in-Jump.ensures.advances c.plain-in-Jump.ensures.ingest (λ ingest advances is voice s right asker knows.
-    subst (λ (i : Ingested). Gives i c.plain-in-Jump.new.self (sourced voice video_rate (video_course coming.packet) coming s)) (sym is)
-    (when_plain video_rate (video_course coming.packet) coming old j judges s knows voice c.plain-in-Jump.new.self (sym c.is_spent.ensures ∙ c.if-is_spent.false) (λ st. subst (λ v. video_course coming.packet v st ≡ plain v st) (sym verdict) refl)
+    subst (λ (i : Ingested). Gives i c.plain-in-Jump.new.self (sourced voice video_rate (video_course coming) coming s)) (sym is)
+    (when_plain video_rate (video_course coming) coming old j judges s knows voice c.plain-in-Jump.new.self (sym c.is_spent.ensures ∙ c.if-is_spent.false) (λ st. subst (λ v. video_course coming v st ≡ plain v st) (sym verdict) refl)
     (subst (λ (key : Key). Advances old c.plain-in-Jump.new.self key j None) c.key_of-key.ensures advances)))
 
 pub returns-in-Accepted-clause-moves : goal.returns-in-Accepted-clause-moves
@@ -58,8 +58,8 @@ returns-in-Accepted-clause-moves g c =
     let range : IsExt c.in-Accepted.ext = subst IsInRange verdict c.judged-judged.ensures.range in
     let same : to_z w64 (of_z w64 c.in-Accepted.ext) ≡ c.in-Accepted.ext = grind (arith, to_z-of_z, range) in
     from_fact c.gated.result c.gated.ensures.gates (λ ingest gates voice s right asker knows.
-    when_gated video_rate (video_course coming.packet) coming old j judges s knows voice _ c.gated.new.self (numbered c.in-Accepted.ext (gate_packet coming.packet)) c.in-Accepted.ext false (placed c.in-Accepted.ext) right asker
-    (sym c.is_spent.ensures ∙ c.if-is_spent.false) (λ st. ap (λ v. video_course coming.packet v st) verdict) (λ place. refl)
+    when_gated video_rate (video_course coming) coming old j judges s knows voice _ c.gated.new.self (numbered c.in-Accepted.ext (gate_packet coming.packet)) c.in-Accepted.ext false (placed c.in-Accepted.ext) right asker
+    (sym c.is_spent.ensures ∙ c.if-is_spent.false) (λ st. ap (λ v. video_course coming v st) verdict) (λ place. refl)
     (gates_so _ _ _ _ _ _ _ _ _ _ _ c.key_of-key.ensures same gates))
 
 pub returns-in-Restarted-clause-moves : goal.returns-in-Restarted-clause-moves
@@ -72,6 +72,6 @@ returns-in-Restarted-clause-moves g c =
     let range : IsExt c.in-Restarted.ext = subst IsInRange verdict c.judged-judged.ensures.range in
     let same : to_z w64 (of_z w64 c.in-Restarted.ext) ≡ c.in-Restarted.ext = grind (arith, to_z-of_z, range) in
     from_fact c.gated-in-Restarted.result c.gated-in-Restarted.ensures.gates (λ ingest gates voice s right asker knows.
-    when_gated video_rate (video_course coming.packet) coming old j judges s knows voice _ c.gated-in-Restarted.new.self (numbered c.in-Restarted.ext (gate_packet coming.packet)) c.in-Restarted.ext true (λ place. outcomes.Restarted c.in-Restarted.ext) right asker
-    (sym c.is_spent.ensures ∙ c.if-is_spent.false) (λ st. ap (λ v. video_course coming.packet v st) verdict) (λ place. refl)
+    when_gated video_rate (video_course coming) coming old j judges s knows voice _ c.gated-in-Restarted.new.self (numbered c.in-Restarted.ext (gate_packet coming.packet)) c.in-Restarted.ext true (λ place. outcomes.Restarted c.in-Restarted.ext) right asker
+    (sym c.is_spent.ensures ∙ c.if-is_spent.false) (λ st. ap (λ v. video_course coming v st) verdict) (λ place. refl)
     (gates_so _ _ _ _ _ _ _ _ _ _ _ c.key_of-key.ensures same gates))
