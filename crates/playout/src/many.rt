@@ -1,7 +1,7 @@
 //! The playouts of many sources.
 
 ghost use Rattle.std.specs.Prelude.{◌≡◌, ◌≤◌, ◌<◌, ◌*◌, [], length, None, IfOk, OnOk, OnErr};
-ghost use Rattle.playout.specs.Playouts.{AudioEvent, PutOf, TakeAll, playout_at, Has, HasAlso, ShowsOf};
+ghost use Rattle.playout.specs.Playouts.{PutOf, TakeAll, playout_at, Has, HasAlso, ShowsOf};
 
 use crate::jitter_buffer::Playout;
 use indexmap::IndexMap;
