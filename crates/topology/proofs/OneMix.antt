@@ -52,8 +52,25 @@ first_of_mix m (x ∷ before) after h = by (nat_eq x.out_audio m.out_audio) refl
     by true e later = (let one : ◌≡◌ {A = ℕ} (cond (claims_it (Member x)) 1 0) 1 = ap (λ b. cond b 1 0) (its_mix m.out_audio x e) in absurd (omega (arith, h, next, one)))
     by false e later = later (omega (arith, h, next))
 
-pub one_mix : (d : Desk) (before : List MemberRow) (m : MemberRow) (after : List MemberRow) → good d ≡ true → d.members ≡ before ++ m ∷ after → mix_member d m.out_audio ≡ Some m
-one_mix d before m after g e =
+-- no member is found where none claims the SSRC
+none_of_mix : (k : ℕ) (ms : List MemberRow) → count_by (makes (claims.Ssrc k)) (map Member ms) ≡ 0 → find (λ n. nat_eq n.out_audio k) ms ≡ None
+none_of_mix k [] h = refl
+none_of_mix k (x ∷ ms) h = by (nat_eq x.out_audio k) refl (λ none. none_of_mix k ms none)
+  where
+    claims_it : Row → Bool
+    claims_it r = makes (claims.Ssrc k) r
+
+    next : count_by claims_it (map Member (x ∷ ms)) ≡ cond (claims_it (Member x)) 1 0 + count_by claims_it (map Member ms)
+    next = count_next claims_it (Member x) (map Member ms)
+
+    by : (b : Bool) → nat_eq x.out_audio k ≡ b → (count_by claims_it (map Member ms) ≡ 0 → find (λ n. nat_eq n.out_audio k) ms ≡ None) → cond b (Some x) (find (λ n. nat_eq n.out_audio k) ms) ≡ None
+    by true e later = (let one : ◌≡◌ {A = ℕ} (cond (claims_it (Member x)) 1 0) 1 = ap (λ b. cond b 1 0) (its_mix k x e) in absurd (omega (arith, h, next, one)))
+    by false e later = later (omega (arith, h, next))
+
+-- no other member claims the SSRC of a member's mix
+claimed_once : (d : Desk) (before : List MemberRow) (m : MemberRow) (after : List MemberRow) → good d ≡ true → d.members ≡ before ++ m ∷ after
+    → (count_by (makes (claims.Ssrc m.out_audio)) (map Member before) ≡ 0) × (count_by (makes (claims.Ssrc m.out_audio)) (map Member after) ≡ 0)
+claimed_once d before m after g e =
     let claim = makes (claims.Ssrc m.out_audio) in
     let behind = map Member after ++ d.others in
     let rows : rows_of d ≡ map Member before ++ Member m ∷ behind =
@@ -65,8 +82,15 @@ one_mix d before m after g e =
     let once : count_by claim (rows_of d) ≡ 1 = eqb-true (count_by claim (rows_of d)) 1 (and_parts (nat_eq (count_by claim (rows_of d)) 1) _ third.0).0 in
     let split : count_by claim (rows_of d) ≡ count_by claim (map Member before) + count_by claim (Member m ∷ behind) = ap (count_by claim) rows ∙ count_by-append claim (map Member before) (Member m ∷ behind) in
     let here : ◌≡◌ {A = ℕ} (cond (claim (Member m)) 1 0) 1 = ap (λ b. cond b 1 0) (its_mix m.out_audio m (number_itself m.out_audio)) in
-    let none : count_by claim (map Member before) ≡ 0 = omega (arith, once, split, here, count_next claim (Member m) behind) in
-    ap (find (λ (n : MemberRow). nat_eq n.out_audio m.out_audio)) e ∙ first_of_mix m before after none
+    let next = count_next claim (Member m) behind in
+    let rest : count_by claim behind ≡ count_by claim (map Member after) + count_by claim d.others = count_by-append claim (map Member after) d.others in
+    (omega (arith, once, split, here, next), omega (arith, once, split, here, next, rest))
+
+pub one_mix : (d : Desk) (before : List MemberRow) (m : MemberRow) (after : List MemberRow) → good d ≡ true → d.members ≡ before ++ m ∷ after → mix_member d m.out_audio ≡ Some m
+one_mix d before m after g e = ap (find (λ (n : MemberRow). nat_eq n.out_audio m.out_audio)) e ∙ first_of_mix m before after (claimed_once d before m after g e).0
+
+pub no_other_mix : (d : Desk) (before : List MemberRow) (m : MemberRow) (after : List MemberRow) → good d ≡ true → d.members ≡ before ++ m ∷ after → find (λ n. nat_eq n.out_audio m.out_audio) after ≡ None
+no_other_mix d before m after g e = none_of_mix m.out_audio after (claimed_once d before m after g e).1
 
 -- ---- the room of a mix
 

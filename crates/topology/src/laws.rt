@@ -1,6 +1,7 @@
 //! Laws of the choice, of the receivers, and of mixes.
 
-ghost use Rattle.std.specs.Prelude.{◌≡◌, ◌≤◌, ℕ, true, false, if◌then◌else◌, List, ◌∷◌, ◌++◌, All, length, filter, None, Some};
+ghost use Rattle.std.specs.Prelude.{◌≡◌, ◌≤◌, ℕ, true, false, if◌then◌else◌, nat_eq, List, ◌∷◌, ◌++◌, All, length, filter, None, Some};
+ghost use Rattle.std.specs.List.{find};
 ghost use Rattle.std.specs.Option.{is_some, option_map, option_and_then};
 ghost use Rattle.rtp_codec.specs.declared.address.Address.{Address};
 ghost use Rattle.desk_rows.specs.declared.row.Member.{Member};
@@ -67,6 +68,11 @@ pub fn gains_are_small()
 /// On a good desk no two members have their mixes on one stream.
 pub fn mixes_are_apart()
     ensures { (desk : Desk) (before : List Member) (m : Member) (after : List Member) → good desk ≡ true → desk.members ≡ before ++ m ∷ after → mix_member desk m.out_audio ≡ Some m }
+{}
+
+/// On a good desk, no member behind another one in joining order has its mix on the other one's stream.
+pub fn mixes_have_one_member()
+    ensures { (desk : Desk) (before : List Member) (m : Member) (after : List Member) → good desk ≡ true → desk.members ≡ before ++ m ∷ after → find (λ n. nat_eq n.out_audio m.out_audio) after ≡ None }
 {}
 
 /// On a good desk, the mix of a member is made of sources of its own room.
