@@ -6,3 +6,5 @@ pub mod StreamSteps
 pub mod Turns
 pub mod TickSends
 pub mod Givens
+pub mod OverTicks
+pub mod EachMember

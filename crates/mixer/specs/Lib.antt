@@ -1,4 +1,5 @@
 pub mod Hearing
 pub mod Mixes
 pub mod Mixers
+pub mod MixLists
 pub mod inner

@@ -1,0 +1,31 @@
+//! Laws of mixes over all ticks, as functions that do nothing when they run.
+
+ghost use Rattle.std.specs.Prelude.{◌≡◌, ℕ, ℤ, true, List, [], ◌∷◌, ◌++◌};
+ghost use Rattle.rtp_codec.specs.declared.address.Address.{Address};
+ghost use Rattle.desk_rows.specs.Desk.{Desk, good};
+ghost use Rattle.topology.specs.Mixes.{mix_member};
+ghost use Rattle.mixer.specs.Hearing.{Given, put, tick};
+ghost use Rattle.mixer.specs.Mixes.{turn_of, mixes, mixes_at, sent_by};
+ghost use Rattle.mixer.specs.MixLists.{AreInARow, Carries, on_stream, to_its_member};
+
+use topology::mixes_have_one_member;
+
+/// All the packets of a mix stream are numbered one after the other, over all ticks and whatever the desks.
+pub fn mixes_are_in_a_row()
+    ensures { (ssrc : ℕ) (given : List Given) → AreInARow (mixes ssrc given) }
+{}
+
+/// A tick adds to a mix stream one packet of what its member hears, behind all that went before, and nothing where
+/// nothing is heard. Samples add nothing.
+pub fn ticks_add_what_is_heard()
+    ensures behind { (ssrc : ℕ) (before : List Given) (d : Desk) (moment : ℕ) → mixes ssrc (before ++ tick d moment ∷ []) ≡ mixes ssrc before ++ mixes_at ssrc before d moment }
+    ensures heard { (ssrc : ℕ) (before : List Given) (d : Desk) (moment : ℕ) → Carries ssrc (turn_of ssrc before d moment).heard (mixes_at ssrc before d moment) }
+    ensures samples { (ssrc : ℕ) (before : List Given) (source : ℕ) (address : Address) (ts : ℕ) (samples : List ℤ) → mixes ssrc (before ++ put source address ts samples ∷ []) ≡ mixes ssrc before }
+{}
+
+/// On a good desk, what a tick sends on a stream is what it adds to the mix, once, to the member whose mix it is.
+pub fn mixes_go_to_their_members()
+    ensures { (ssrc : ℕ) (before : List Given) (d : Desk) (moment : ℕ) → good d ≡ true → on_stream ssrc (sent_by before d moment) ≡ to_its_member (mix_member d ssrc) (mixes_at ssrc before d moment) }
+{
+    mixes_have_one_member();
+}
