@@ -1,5 +1,6 @@
 pub mod Readies
 pub mod Handled
+pub mod PartsLaws
 pub mod StepLaws
 pub mod RunLaws
 pub mod OnStreams
@@ -7,6 +8,8 @@ pub mod AskedAgain
 pub mod RoutedLists
 pub mod Chosen
 pub mod LedBack
+pub mod MixesSent
+pub mod MixesHeard
 pub mod WholeRunLaws
 pub mod LaneCount
 pub mod EveryLaneLaws

@@ -69,17 +69,22 @@ module _ (below : Below) (count k : ℕ) (start : Desk) where
   abbrev told : List Step → List Sent
   told before = map (goes k None) (packets k (visits (k % count) start before))
 
-  told-item : (before : List Step) (lane : ℕ) (input : Input) → good (desk_of start before) ≡ true → told before ++ firsts_at count start (video k) before (Step.item lane input) ≡ told (before ++ Step.item lane input ∷ [])
-  told-item before lane (Input.nack request) h =
-      let input = Input.nack request in
+  -- an item that brings the stream nothing
+  told-still : (before : List Step) (lane : ℕ) (input : Input) → routed_at k (visit_after start before lane input) ≡ None → told before ++ [] ≡ told (before ++ Step.item lane input ∷ [])
+  told-still before lane input none =
       append-nil (told before)
       ∙ ap (map (goes k None))
       (elim (cases_eq lane (k % count)) [
         | inl same ↦
             sym (subst (λ j. packets k (visits j start (before ++ Step.item lane input ∷ [])) ≡ packets k (visits j start before)) same
-            (ap (packets k) (visits-mine lane start before input) ∙ ap (packets_sent k) (not_routed k (visits lane start before) (visit_after start before lane input) refl)))
+            (ap (packets k) (visits-mine lane start before input) ∙ ap (packets_sent k) (not_routed k (visits lane start before) (visit_after start before lane input) none)))
         | inr other ↦ sym (ap (packets k) (visits-other (k % count) lane start before input other))
       ])
+
+  told-item : (before : List Step) (lane : ℕ) (input : Input) → good (desk_of start before) ≡ true → told before ++ firsts_at count start (video k) before (Step.item lane input) ≡ told (before ++ Step.item lane input ∷ [])
+  told-item before lane (Input.audio sound) h = told-still before lane (Input.audio sound) refl
+  told-item before lane (Input.tick moment) h = told-still before lane (Input.tick moment) refl
+  told-item before lane (Input.nack request) h = told-still before lane (Input.nack request) refl
   told-item before lane (Input.frame f) h =
       let input = Input.frame f in
       let v = visit_after start before lane input in
@@ -126,22 +131,13 @@ pub no_gap : (k : ℕ) (ps : List SentPacket) → AreInARow ps → HaveNoGap (nu
 no_gap k [] h = tt
 no_gap k (p ∷ ps) h = follow_on k 0 p ps h
 
--- on a mix nothing is sent yet
-no_mix : (count k : ℕ) (start : Desk) (before steps : List Step) → along (firsts_at count start (record { kind = Kind.mix; ssrc = k })) before steps ≡ []
-no_mix count k start before [] = refl
-no_mix count k start before (Step.publish next ∷ steps) = no_mix count k start (before ++ Step.publish next ∷ []) steps
-no_mix count k start before (Step.item lane (Input.frame f) ∷ steps) = no_mix count k start (before ++ Step.item lane (Input.frame f) ∷ []) steps
-no_mix count k start before (Step.item lane (Input.nack r) ∷ steps) = no_mix count k start (before ++ Step.item lane (Input.nack r) ∷ []) steps
-
 sent_in_a_row : ((ssrc first_seq first_ts : ℕ) (sendings : List Sending) → AreInARow (packets_of ssrc first_seq first_ts sendings)) → (k : ℕ) (rs : List Routed) → AreInARow (packets_sent k rs)
 sent_in_a_row row k [] = tt
 sent_in_a_row row k (r ∷ rs) = row k r.slot.first_seq r.slot.first_ts (sendings (r ∷ rs))
 
-pub no_gaps : (count : ℕ) (start : Desk) (steps : List Step) (name : Name)
-    → firsts count start (video name.ssrc) steps ≡ map (goes name.ssrc None) (packets name.ssrc (visits (name.ssrc % count) start steps))
-    → ((ssrc first_seq first_ts : ℕ) (sendings : List Sending) → AreInARow (packets_of ssrc first_seq first_ts sendings)) → HaveNoGap (numbers (firsts count start name steps))
-no_gaps count start steps name lists row = go name.kind
-  where
-    go : (kind : Kind) → HaveNoGap (numbers (firsts count start (record { kind = kind; ssrc = name.ssrc }) steps))
-    go Kind.video = subst (λ es. HaveNoGap (numbers es)) (sym lists) (no_gap name.ssrc (packets name.ssrc (visits (name.ssrc % count) start steps)) (sent_in_a_row row name.ssrc (routed name.ssrc (visits (name.ssrc % count) start steps))))
-    go Kind.mix = subst (λ es. HaveNoGap (numbers es)) (sym (no_mix count name.ssrc start [] steps)) tt
+pub no_video_gap : (count : ℕ) (start : Desk) (steps : List Step) (ssrc : ℕ)
+    → firsts count start (video ssrc) steps ≡ map (goes ssrc None) (packets ssrc (visits (ssrc % count) start steps))
+    → ((ssrc first_seq first_ts : ℕ) (sendings : List Sending) → AreInARow (packets_of ssrc first_seq first_ts sendings)) → HaveNoGap (numbers (firsts count start (video ssrc) steps))
+no_video_gap count start steps ssrc lists row =
+    let all = visits (ssrc % count) start steps in
+    subst (λ es. HaveNoGap (numbers es)) (sym lists) (no_gap ssrc (packets ssrc all) (sent_in_a_row row ssrc (routed ssrc all)))

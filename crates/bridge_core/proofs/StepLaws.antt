@@ -1,16 +1,20 @@
 -- One more step.
 use Rattle.std.proofs.Common.{◌≡◌, ℕ, ◌+◌, true, false, cond, nat_eq, nat_lt, ◌≤◌, List, [], ◌∷◌, ◌++◌, length, set, None, Some, refl, sym, ap, subst, ◌∙◌, arith, append-nil, append_assoc, inl, inr, ◌⊎◌, ◌≢◌, zero, suc, eq-eqb, length-set}
 use Rattle.std.specs.Prelude.{slice_get, OnOk, Result, Ok, Err}
+use Rattle.std.specs.Result.{is_err}
 use Rattle.std.proofs.lemmas.Bool.Decides.{nat_tests}
 use Rattle.std.proofs.lemmas.List.{length_push}
 use Rattle.desk_rows.specs.Edit.{EditOf}
 use Rattle.desk_rows.specs.Desk.{Desk}
+use Rattle.desk_edit.specs.declared.command.Call.TheVariants.{Undo, Redo}
+use Rattle.desk_edit.specs.Calls.{refusal_at}
+use Rattle.mixer.specs.Mixers.{WasGiven}
 use Rattle.intake.specs.Inputs.{Input}
 use Rattle.bridge_core.specs.Sent.{Sent}
-use Rattle.bridge_core.specs.Lanes.{Visit, sends_at}
+use Rattle.bridge_core.specs.Lanes.{Visit, given_of, sends_at}
 use Rattle.bridge_core.specs.LaneState.{LaneOf, visit_of, AreLeft, HasHandled, Handles}
-use Rattle.bridge_core.specs.inner.VideoStreams.{Answers}
-use Rattle.bridge_core.specs.Sound.{IsSound, AreFresh}
+use Rattle.bridge_core.specs.inner.Parts.{PartsAnswer}
+use Rattle.bridge_core.specs.Sound.{IsSound, AreFresh, most_calls}
 use Rattle.bridge_core.specs.Calls.{core_fault, most_lanes}
 use Rattle.intake.specs.Names.{is_name}
 use Rattle.bridge_core.specs.Steps.{Step, version_of, desk_of, count_of, along, visit_at, visits, visit_after, CoreOf, Takes}
@@ -88,16 +92,17 @@ slice_get-set (z ∷ xs) (suc i) (suc j) x y e =
     elim (slice_get-set xs i j x y e) [ inl p ↦ inl (ap suc p.0, p.1) | inr p ↦ inr ((λ h. p.0 (omega arith)), p.1) ]
 
 -- what the parts of a lane answer, a lane handles
-pub handles : (old new : LaneOf) (version : ℕ) (desk : Desk) (input : Input) (sent : List Sent) → Answers old.lane old.lanes old.video new.video (visit_of version (old.handled + 1) desk input) sent
+pub handles : (old new : LaneOf) (version : ℕ) (desk : Desk) (input : Input) (sent : List Sent) → PartsAnswer old new (visit_of version (old.handled + 1) desk input) sent
     → new.lane ≡ old.lane → new.lanes ≡ old.lanes → new.handled ≡ old.handled + 1 → Handles old new version desk input sent
 handles old new version desk input sent does lane lanes handled before stands =
     let v = visit_of version (length before + 1) desk input in
     let same : visit_of version (old.handled + 1) desk input ≡ v = ap (λ n. visit_of version (n + 1) desk input) stands.handled in
-    let done = subst (λ (w : Visit). Answers old.lane old.lanes old.video new.video w sent) same does before stands.video in (
+    let done = subst (λ (w : Visit). PartsAnswer old new w sent) same does before stands.video stands.audio in (
       done.0,
       record {
         handled = omega (arith, length_push before v, handled, stands.handled);
         video = subst (λ l. AreLeft l new.lanes new.video (before ++ v ∷ [])) (sym lane) (subst (λ l. AreLeft old.lane l new.video (before ++ v ∷ [])) (sym lanes) done.1);
+        audio = subst (λ l. WasGiven l new.lanes new.audio (given_of (before ++ v ∷ []))) (sym lane) (subst (λ l. WasGiven old.lane l new.audio (given_of (before ++ v ∷ []))) (sym lanes) done.2);
       },
     )
 
@@ -172,3 +177,21 @@ no_fault lanes cname some few named =
     let first : nat_eq lanes 0 ≡ false = grind (arith, nat_tests) in
     let second : nat_lt most_lanes lanes ≡ false = grind (arith, nat_tests) in
     rw first (rw second (rw named refl))
+
+-- nothing stands against a call that names the last one, where something is left and the log has room
+pub undo_free : (last version done undone : ℕ) (d : Desk) → last ≡ version → done ≢ 0 → nat_eq version most_calls ≡ false → refusal_at version d done undone (Undo last) ≡ None
+undo_free last version done undone d same some room =
+    let first : nat_eq last version ≡ true = grind (arith, nat_tests) in
+    let second : nat_eq done 0 ≡ false = grind (arith, nat_tests) in
+    rw first (rw second (rw room refl))
+
+pub redo_free : (last version done undone : ℕ) (d : Desk) → last ≡ version → undone ≢ 0 → nat_eq version most_calls ≡ false → refusal_at version d done undone (Redo last) ≡ None
+redo_free last version done undone d same some room =
+    let first : nat_eq last version ≡ true = grind (arith, nat_tests) in
+    let second : nat_eq undone 0 ≡ false = grind (arith, nat_tests) in
+    rw first (rw second (rw room refl))
+
+-- what holds of an answer that is no refusal
+pub of_ok : {T E : Type 0} (P : Type 0) (r : Result T E) → false ≡ is_err r → OnOk r P → P
+of_ok P (Ok x) e h = h
+of_ok P (Err x) e h = absurd cc

@@ -1,25 +1,34 @@
 -- Each stream numbers without a gap, each packet is its version's choice, each frame goes whole to all who chose it, and what is sent again was sent before.
-use Rattle.std.specs.Prelude.{◌≡◌, ℕ, ◌+◌, ◌%◌, ◌^◌, true, List, [], ◌∷◌, map, Some, None, option_map}
+use Rattle.std.specs.Prelude.{◌≡◌, ℕ, ◌+◌, ◌%◌, ◌^◌, true, Bool, List, [], ◌∷◌, map, Some, None, option_map}
 use Rattle.std.specs.List.{AllByRecursion, Contains}
+use Rattle.desk_rows.specs.declared.row.Member.{Member as MemberRow}
 use Rattle.desk_rows.specs.Desk.{Desk, good}
 use Rattle.retransmit.specs.SentPacket.{SentPacket}
 use Rattle.retransmit.specs.Window.{room, latest}
 use Rattle.topology.specs.Looking.{comes_from, member_from}
 use Rattle.topology.specs.Choice.{choice}
 use Rattle.topology.specs.Receivers.{receiver_on}
+use Rattle.topology.specs.Mixes.{mix_member}
 use Rattle.forward_rewrite.specs.Frame.{SourceFrame}
-use Rattle.forward_rewrite.specs.Sending.{Sending}
+use Rattle.forward_rewrite.specs.Sending.{Sending, Numbered}
+use Rattle.forward_rewrite.specs.Mixes.{Sound, mix_packet}
 use Rattle.forward_rewrite.specs.RoutedList.{part_of, numbered}
+use Rattle.mixer.specs.Hearing.{Given, voices_of, sound_for}
+use Rattle.mixer.specs.Mixes.{to_member}
 use Rattle.intake.specs.Inputs.{Request}
 use Rattle.bridge_core.specs.Sent.{Sent, MediaPacket}
 use Rattle.bridge_core.specs.Sent.Sent.{media}
-use Rattle.bridge_core.specs.Lanes.{Visit, packets, goes}
+use Rattle.bridge_core.specs.Lanes.{Visit, packets, goes, mix_goes}
 use Rattle.bridge_core.specs.Steps.{Step, visits}
 use Rattle.bridge_core.specs.Named.{Kind, firsts}
 
 -- a packet's number
 abbrev pub number_of : Sent → ℕ
 number_of (media p) = p.number
+
+-- a packet's number and its octets
+abbrev pub numbered_of : Sent → Numbered
+numbered_of (media p) = record { number = p.number; bytes = p.bytes }
 
 -- the numbers of packets in a row
 abbrev pub numbers : List Sent → List ℕ
@@ -56,6 +65,32 @@ pub record IsChosen (visit : Visit) (f : SourceFrame) (p : MediaPacket) : Type 0
 -- What is sent of a frame is chosen.
 abbrev pub IsChosenOf : Visit → SourceFrame → Sent → Type 0
 IsChosenOf visit f (media p) = IsChosen visit f p
+
+-- The packet is sent first at this visit, after what the mixer was given; by its version's desk, it goes to the member whose mix its stream is, at its address, and carries what the member hears, under some number and timestamp, with or without the marker.
+pub record IsMix (before : List Given) (visit : Visit) (p : MediaPacket) : Type 0 where
+  pub version : p.version ≡ visit.version
+  pub item : p.item ≡ visit.item
+  pub first : p.resent_by ≡ None
+  pub member : MemberRow
+  pub mix : mix_member visit.desk p.ssrc ≡ Some member
+  pub to : p.to ≡ member.address
+  pub sound : Sound
+  pub heard : sound_for (voices_of before visit.desk) visit.desk member ≡ Some sound
+  pub number : ℕ
+  pub ts : ℕ
+  pub marker : Bool
+  pub packet : numbered_of (media p) ≡ mix_packet p.ssrc number ts marker sound
+
+-- What is sent at a tick is a mix.
+abbrev pub IsMixOf : List Given → Visit → Sent → Type 0
+IsMixOf before visit (media p) = IsMix before visit p
+
+-- What is sent on a stream is one packet of this sound, to this member, for the first time.
+pub record GoesOnce (visit : Visit) (m : MemberRow) (sound : Sound) (sent : List Sent) : Type 0 where
+  pub number : ℕ
+  pub ts : ℕ
+  pub marker : Bool
+  pub once : sent ≡ mix_goes visit (to_member m (mix_packet m.out_audio number ts marker sound)) ∷ []
 
 -- What is sent on a stream is all packets of this frame, in order, numbered in a row and with one timestamp, for the first time.
 pub record GoesWhole (ssrc : ℕ) (sending : Sending) (sent : List Sent) : Type 0 where

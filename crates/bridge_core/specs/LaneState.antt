@@ -4,20 +4,22 @@ use Rattle.std.specs.Map.{lookup}
 use Rattle.desk_rows.specs.Desk.{Desk}
 use Rattle.forward_rewrite.specs.Streams.{StreamOf}
 use Rattle.forward_rewrite.specs.OwnStreams.{is_mine}
+use Rattle.mixer.specs.Mixers.{MixerOf, WasGiven}
 use Rattle.intake.specs.Inputs.{Input}
 use Rattle.bridge_core.specs.Sent.{Sent}
-use Rattle.bridge_core.specs.Lanes.{Visit, routed, stream_of, sends_at}
+use Rattle.bridge_core.specs.Lanes.{Visit, routed, stream_of, given_of, sends_at}
 
 -- the streams that have begun, by SSRC
 abbrev pub StreamList : Type 0
 StreamList = List (ℕ × StreamOf)
 
--- the lane, how many lanes there are, how many items it has handled, and its video streams
+-- the lane, how many lanes there are, how many items it has handled, its video streams, and its mixer
 pub record LaneOf : Type 0 where
   pub lane : ℕ
   pub lanes : ℕ
   pub handled : ℕ
   pub video : StreamList
+  pub audio : MixerOf
 
 -- the stream with this SSRC, if it has begun
 abbrev pub stream_at : ℕ → StreamList → Option StreamOf
@@ -31,6 +33,7 @@ AreLeft lane lanes streams visits = (ssrc : ℕ) → is_mine lane lanes ssrc ≡
 pub record HasHandled (state : LaneOf) (visits : List Visit) : Type 0 where
   pub handled : state.handled ≡ length visits
   pub video : AreLeft state.lane state.lanes state.video visits
+  pub audio : WasGiven state.lane state.lanes state.audio (given_of visits)
 
 -- an input under this version, as this item, with this desk
 abbrev pub visit_of : ℕ → ℕ → Desk → Input → Visit

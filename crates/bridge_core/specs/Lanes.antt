@@ -14,10 +14,12 @@ use Rattle.forward_rewrite.specs.RoutedList.{packets_of}
 use Rattle.forward_rewrite.specs.Streams.{StreamOf, state_of}
 use Rattle.feedback.specs.Resends.{resends}
 use Rattle.forward_rewrite.specs.OwnStreams.{is_mine}
+use Rattle.mixer.specs.Hearing.{Given}
+use Rattle.mixer.specs.Mixes.{MixSent, sent_by}
 use Rattle.intake.specs.Inputs.{Input}
 use Rattle.bridge_core.specs.Sent.{Sent}
 use Rattle.bridge_core.specs.Sent.Sent.{media}
-use Rattle.intake.specs.Inputs.Input.{frame, nack}
+use Rattle.intake.specs.Inputs.Input.{frame, audio, tick, nack}
 
 -- an item that a lane handles: under which version, as which of the lane's items from 1, with the desk of that version
 pub record Visit : Type 0 where
@@ -45,6 +47,8 @@ routed_to visit f r = record {
 -- what an input brings to a stream: a frame where the desk has the stream's slot, this chose the frame's source, and the source's member has the frame's address
 abbrev pub routed_of : ℕ → Visit → Input → Option Routed
 routed_of ssrc visit (frame f) = option_map (routed_to visit f) (receiver_on visit.desk f.source f.address ssrc)
+routed_of ssrc visit (audio sound) = None
+routed_of ssrc visit (tick moment) = None
 routed_of ssrc visit (nack request) = None
 
 -- what a visit brings to a stream
@@ -89,10 +93,39 @@ goes ssrc resent_by p = media record {
   resent_by = resent_by;
 }
 
--- what is sent of an input, after the items before it: a frame to each of its receivers, by place and index; to who asks again, what it was sent of the stream's last 512 packets
+-- what an input gives the mixer: sound its samples, whatever the desk says, and a tick the desk of its version
+abbrev pub given_by : Desk → Input → Option Given
+given_by desk (frame f) = None
+given_by desk (audio sound) = Some (Given.put sound.source sound.address sound.ts sound.samples)
+given_by desk (tick moment) = Some (Given.tick desk moment)
+given_by desk (nack request) = None
+
+-- what a visit gives the mixer
+abbrev pub given_at : Visit → Option Given
+given_at visit = given_by visit.desk visit.input
+
+-- all that visits give the mixer
+abbrev pub given_of : List Visit → List Given
+given_of visits = filter_map given_at visits
+
+-- a packet of a mix as it goes to its member, by the version and as the item of the visit
+abbrev pub mix_goes : Visit → MixSent → Sent
+mix_goes visit p = media record {
+  version = visit.version;
+  item = visit.item;
+  to = p.to;
+  ssrc = p.ssrc;
+  number = p.packet.number;
+  bytes = p.packet.bytes;
+  resent_by = None;
+}
+
+-- what is sent of an input, after the items before it: a frame to each of its receivers, by place and index; nothing for sound; at a tick to each member what it hears, by place; to who asks again, what it was sent of the stream's last 512 packets
 abbrev pub sent_of_input : List Visit → Visit → Input → List Sent
 sent_of_input before visit (frame f) =
     flat_map (λ r. map (goes r.slot.out_ssrc None) (packets_at r.slot.out_ssrc before visit)) (receivers visit.desk f.source f.address)
+sent_of_input before visit (audio sound) = []
+sent_of_input before visit (tick moment) = map (mix_goes visit) (sent_by (given_of before) visit.desk moment)
 sent_of_input before visit (nack request) =
     map (goes request.out_ssrc (Some visit.version)) (resends visit.desk request.from request.numbers (latest room (packets request.out_ssrc before)))
 

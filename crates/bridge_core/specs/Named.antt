@@ -5,7 +5,7 @@ use Rattle.desk_rows.specs.Desk.{Desk}
 use Rattle.intake.specs.Inputs.{Input}
 use Rattle.bridge_core.specs.Sent.{Sent}
 use Rattle.bridge_core.specs.Sent.Sent.{media}
-use Rattle.intake.specs.Inputs.Input.{frame, nack}
+use Rattle.intake.specs.Inputs.Input.{frame, audio, tick, nack}
 use Rattle.bridge_core.specs.Lanes.{sends_at}
 use Rattle.bridge_core.specs.Steps.{Step, along, visits, visit_after}
 
@@ -27,11 +27,15 @@ is_on ssrc (media p) = nat_eq p.ssrc ssrc
 abbrev pub sent_on : ℕ → List (List Sent) → List Sent
 sent_on ssrc sent = filter (is_on ssrc) (flat_map (λ es. es) sent)
 
--- an input of which packets go out on streams of this kind for the first time: a frame goes out on video streams, and what is asked for again was sent before
+-- an input of which packets go out on streams of this kind for the first time: a frame goes out on video streams and a tick on mixes, sound on none, and what is asked for again was sent before
 abbrev pub begins : Kind → Input → Bool
 begins Kind.video (frame f) = true
+begins Kind.video (audio sound) = false
+begins Kind.video (tick moment) = false
 begins Kind.video (nack request) = false
 begins Kind.mix (frame f) = false
+begins Kind.mix (audio sound) = false
+begins Kind.mix (tick moment) = true
 begins Kind.mix (nack request) = false
 
 -- what is sent on a stream for the first time at a step

@@ -1,18 +1,23 @@
 -- What is promised of whole runs.
-use Rattle.std.specs.Prelude.{◌≡◌, ℕ, ◌%◌, true, List, ◌∷◌, ◌++◌, map, filter, None, Some}
+use Rattle.std.specs.Prelude.{◌≡◌, ℕ, ◌%◌, true, List, ◌∷◌, [], ◌++◌, map, filter, None, Some}
 use Rattle.std.specs.List.{AllByRecursion}
+use Rattle.desk_rows.specs.declared.row.Member.{Member as MemberRow}
 use Rattle.desk_rows.specs.Desk.{Desk}
 use Rattle.topology.specs.declared.receivers.Receiver.{Receiver}
 use Rattle.topology.specs.Receivers.{receiver_on}
+use Rattle.topology.specs.Mixes.{mix_member}
 use Rattle.forward_rewrite.specs.Frame.{SourceFrame}
+use Rattle.forward_rewrite.specs.Mixes.{Sound}
 use Rattle.forward_rewrite.specs.OwnStreams.{is_mine}
+use Rattle.mixer.specs.Hearing.{voices_of, sound_for}
+use Rattle.mixer.specs.Mixes.{mixes}
 use Rattle.intake.specs.Inputs.{Input}
 use Rattle.bridge_core.specs.Sent.{Sent}
-use Rattle.intake.specs.Inputs.Input.{frame, nack}
-use Rattle.bridge_core.specs.Lanes.{packets, goes, routed_to, sends_at}
+use Rattle.intake.specs.Inputs.Input.{frame, audio, tick, nack}
+use Rattle.bridge_core.specs.Lanes.{packets, goes, routed_to, given_of, sends_at}
 use Rattle.bridge_core.specs.Steps.{Step, visits, visit_after, sends}
 use Rattle.bridge_core.specs.Named.{Name, Kind, is_on, firsts}
-use Rattle.bridge_core.specs.Headline.{HaveNoGap, numbers, IsChosenOf, GoesWhole, LeadsBack}
+use Rattle.bridge_core.specs.Headline.{HaveNoGap, numbers, numbered_of, IsChosenOf, GoesWhole, IsMixOf, GoesOnce, LeadsBack}
 
 -- what a lane sends for an input that comes after these steps
 abbrev pub sent_after : ℕ → Desk → List Step → ℕ → Input → List Sent
@@ -24,15 +29,25 @@ pub record IsShared (lanes : ℕ) (start : Desk) (before : List Step) (lane : �
   pub whole : (ssrc : ℕ) (r : Receiver) → is_mine lane lanes ssrc ≡ true → receiver_on (visit_after start before lane (frame f)).desk f.source f.address ssrc ≡ Some r
       → GoesWhole ssrc (routed_to (visit_after start before lane (frame f)) f r).sending (filter (is_on ssrc) (sent_after lanes start before lane (frame f)))
 
--- An input is answered by what was promised of its kind: a frame goes to all who chose it, and what is sent again leads back.
+-- Each packet of the tick is a mix that the desk of its version gives, and all members whose mixes are on the lane's streams and who hear anything get theirs.
+pub record IsMixed (lanes : ℕ) (start : Desk) (before : List Step) (lane moment : ℕ) : Type 0 where
+  pub heard : AllByRecursion (IsMixOf (given_of (visits lane start before)) (visit_after start before lane (tick moment))) (sent_after lanes start before lane (tick moment))
+  pub whole : (m : MemberRow) (sound : Sound) → is_mine lane lanes m.out_audio ≡ true → mix_member (visit_after start before lane (tick moment)).desk m.out_audio ≡ Some m
+      → sound_for (voices_of (given_of (visits lane start before)) (visit_after start before lane (tick moment)).desk) (visit_after start before lane (tick moment)).desk m ≡ Some sound
+      → GoesOnce (visit_after start before lane (tick moment)) m sound (filter (is_on m.out_audio) (sent_after lanes start before lane (tick moment)))
+
+-- An input is answered by what was promised of its kind: a frame goes to all who chose it, sound sends nothing, at a tick all hear their mixes, and what is sent again leads back.
 abbrev pub IsKept : ℕ → Desk → List Step → ℕ → Input → Type 0
 IsKept lanes start before lane (frame f) = IsShared lanes start before lane f
+IsKept lanes start before lane (audio sound) = sent_after lanes start before lane (audio sound) ≡ []
+IsKept lanes start before lane (tick moment) = IsMixed lanes start before lane moment
 IsKept lanes start before lane (nack request) =
     AllByRecursion (LeadsBack lanes start before lane (visit_after start before lane (nack request)) request) (sent_after lanes start before lane (nack request))
 
--- What holds of all that is sent over these steps, on so many lanes from this desk on: it is what the definition gives; each stream's first sendings are its routed list, and number without a gap; and each item is answered as was promised.
+-- What holds of all that is sent over these steps, on so many lanes from this desk on: it is what the definition gives; each stream's first sendings are its routed list or its mix list, and number without a gap; and each item is answered as was promised.
 pub record Holds (lanes : ℕ) (start : Desk) (steps : List Step) (sent : List (List Sent)) : Type 0 where
   pub given : sent ≡ sends lanes start steps
   pub lists : (ssrc : ℕ) → firsts lanes start (record { kind = Kind.video; ssrc = ssrc }) steps ≡ map (goes ssrc None) (packets ssrc (visits (ssrc % lanes) start steps))
+  pub mix_lists : (ssrc : ℕ) → map numbered_of (firsts lanes start (record { kind = Kind.mix; ssrc = ssrc }) steps) ≡ mixes ssrc (given_of (visits (ssrc % lanes) start steps))
   pub no_gap : (name : Name) → HaveNoGap (numbers (firsts lanes start name steps))
   pub kept : (before after : List Step) (lane : ℕ) (input : Input) → steps ≡ before ++ Step.item lane input ∷ after → IsKept lanes start before lane input

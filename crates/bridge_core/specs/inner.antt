@@ -1,2 +1,3 @@
 pub mod Readies
 pub mod VideoStreams
+pub mod Parts

@@ -5,7 +5,7 @@ ghost use Rattle.desk_rows.specs.Desk.{blank, good};
 ghost use Rattle.desk_rows.specs.Exchange.{fits, after};
 ghost use Rattle.desk_edit.specs.Commands.{desk_after};
 ghost use Rattle.desk_edit.specs.Calls.{CallHistory, no_calls};
-ghost use Rattle.intake.specs.Inputs.{input_of};
+ghost use Rattle.intake.specs.Inputs.{input_of, is_sized};
 ghost use Rattle.intake.specs.Sources.{no_sources};
 ghost use Rattle.intake.specs.Readings.{Reading, IsReading};
 ghost use Rattle.intake.specs.Ingested.{ingested_of};
@@ -242,14 +242,16 @@ impl<A: Allocator + Copy> Core<A> {
         Ok(())
     }
 
-    /// A lane handles an item under the desk of this version.
+    /// A lane handles an item under the desk of this version. Sound has 1 to 1,600 samples, as what the
+    /// intake gives has.
     pub fn item(
         &mut self,
         alloc: A,
         lane: u32,
         item: &Item<A>,
     ) -> Result<Vec<Egress<A>, A>, LaneFault>
-        requires { lane < length self.old.lanes }
+        requires lane { lane < length self.old.lanes }
+        requires sized { is_sized (input_of item.now) ≡ true }
         ensures takes { IfOk result (λ sent. Takes self.old self.new (Step.item lane (input_of item.now)) (map sent_of sent.items ∷ [])) }
         ensures spent { (result ≡ Err LaneFault.Spent) ↔ IsSpent self.old lane }
         ensures err { OnErr result (self.new ≡ self.old) }

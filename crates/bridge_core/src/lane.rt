@@ -1,30 +1,33 @@
 //! Lanes: each has its share of the outgoing streams.
 
-ghost use Rattle.std.specs.Prelude.{◌≡◌, ◌+◌, ◌-◌, ◌<◌, ◌≤◌, ◌^◌, ◌↔◌, map, [], IfOk, OnOk, OnErr};
+ghost use Rattle.std.specs.Prelude.{◌≡◌, ◌+◌, ◌-◌, ◌<◌, ◌≤◌, ◌^◌, ◌↔◌, true, map, [], IfOk, OnOk, OnErr};
 ghost use Rattle.bridge_core.specs.Calls.{most_lanes};
-ghost use Rattle.intake.specs.Inputs.{input_of};
+ghost use Rattle.intake.specs.Inputs.{input_of, is_sized};
 ghost use Rattle.bridge_core.specs.Sent.{sent_of};
 ghost use Rattle.bridge_core.specs.LaneState.{HasHandled, Handles, visit_of};
-ghost use Rattle.bridge_core.specs.inner.VideoStreams.{Answers};
+ghost use Rattle.bridge_core.specs.inner.Parts.{PartsAnswer};
 
+use crate::audio::{put_sound, send_mixes};
 use crate::egress::Egress;
 use crate::fault::LaneFault;
 use crate::video::VideoStreams;
 use desk_rows::Rows;
 use forward_rewrite::{LanePlace, Stamp};
 use intake::Item;
+use mixer::Mixer;
 use std::alloc::{AllocError, Allocator, Global};
 use std::marker::Model;
 
 /// The most lanes that there may be.
 pub const LANES: u32 = 16;
 
-/// A lane (a media worker) of several, with its streams that have begun.
+/// A lane (a media worker) of several, with its streams that have begun and its playouts.
 #[derive(Drop)]
 pub struct LaneState<A: Allocator + Copy = Global> {
     place: LanePlace,
     handled: u64,
     video: VideoStreams<A>,
+    audio: Mixer<A>,
 }
 
 impl<A: Allocator + Copy> Model for LaneState<A> {
@@ -32,7 +35,7 @@ impl<A: Allocator + Copy> Model for LaneState<A> {
 
     ghost Value = { LaneOf };
 
-    ghost view = { λ s. record { lane = s.place.lane; lanes = s.place.lanes; handled = s.handled; video = s.video } };
+    ghost view = { λ s. record { lane = s.place.lane; lanes = s.place.lanes; handled = s.handled; video = s.video; audio = s.audio } };
 }
 
 impl<A: Allocator + Copy> LaneState<A> {
@@ -43,14 +46,17 @@ impl<A: Allocator + Copy> LaneState<A> {
         ensures nothing_handled { IfOk result (λ state. HasHandled state []) }
         ensures place { IfOk result (λ state. (state.lane ≡ lane) × (state.lanes ≡ lanes)) }
     {
+        let video = VideoStreams::new(alloc)?;
+        let audio = Mixer::new(alloc)?;
         Ok(Self {
             place: LanePlace { lane, lanes },
             handled: 0,
-            video: VideoStreams::new(alloc)?,
+            video,
+            audio,
         })
     }
 
-    /// Handles one more item under a version of the desk. A refusal changes nothing.
+    /// Handles one more item under a version of the desk; sound has 1 to 1,600 samples. A refusal changes nothing.
     pub fn step(
         &mut self,
         alloc: A,
@@ -58,6 +64,7 @@ impl<A: Allocator + Copy> LaneState<A> {
         rows: &Rows<A>,
         item: &Item<A>,
     ) -> Result<Vec<Egress<A>, A>, LaneFault>
+        requires sized { is_sized (input_of item.now) ≡ true }
         ensures sends { IfOk result (λ sent. Handles self.old self.new version rows.now (input_of item.now) (map sent_of sent.items)) }
         ensures place { (self.new.lane ≡ self.old.lane) × (self.new.lanes ≡ self.old.lanes) }
         ensures count { OnOk result (self.new.handled ≡ self.old.handled + 1) }
@@ -84,7 +91,8 @@ impl<A: Allocator + Copy> LaneState<A> {
         rows: &Rows<A>,
         item: &Item<A>,
     ) -> Result<Vec<Egress<A>, A>, AllocError>
-        ensures sends { IfOk result (λ sent. Answers self.old.lane self.old.lanes self.old.video self.new.video (visit_of stamp.version stamp.item rows.now (input_of item.now)) (map sent_of sent.items)) }
+        requires sized { is_sized (input_of item.now) ≡ true }
+        ensures sends { IfOk result (λ sent. PartsAnswer self.old self.new (visit_of stamp.version stamp.item rows.now (input_of item.now)) (map sent_of sent.items)) }
         ensures place { (self.new.lane ≡ self.old.lane) × (self.new.lanes ≡ self.old.lanes) }
         ensures count { self.new.handled ≡ self.old.handled }
         ensures err { OnErr result (self.new ≡ self.old) }
@@ -92,6 +100,15 @@ impl<A: Allocator + Copy> LaneState<A> {
         let place = self.place;
         match item {
             Item::Frame(frame) => self.video.frame(alloc, &place, stamp, rows, frame),
+            Item::Audio {
+                ssrc,
+                address,
+                ts,
+                samples,
+            } => put_sound(alloc, &mut self.audio, *ssrc, address, *ts, samples),
+            Item::Tick { moment } => {
+                send_mixes(alloc, &mut self.audio, &place, stamp, rows, *moment)
+            }
             Item::Nack {
                 from,
                 out_ssrc,

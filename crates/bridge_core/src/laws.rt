@@ -2,6 +2,7 @@
 
 ghost use Rattle.std.specs.Prelude.{◌≡◌, ℕ, ◌+◌, ◌%◌, ◌<◌, ◌≤◌, true, List, [], ◌∷◌, length, map, filter, fold, reverse, None, Some};
 ghost use Rattle.std.specs.List.{AllByRecursion};
+ghost use Rattle.desk_rows.specs.declared.row.Member.{Member};
 ghost use Rattle.desk_rows.specs.Desk.{Desk, good};
 ghost use Rattle.undo_log.specs.Timeline.{rewound};
 ghost use Rattle.desk_rows.specs.Edit.{inverse};
@@ -10,11 +11,15 @@ ghost use Rattle.desk_edit.specs.declared.command.Command.{Command};
 ghost use Rattle.desk_edit.specs.Calls.{CallHistory, no_calls};
 ghost use Rattle.topology.specs.declared.receivers.Receiver.{Receiver};
 ghost use Rattle.topology.specs.Receivers.{receiver_on};
+ghost use Rattle.topology.specs.Mixes.{mix_member};
 ghost use Rattle.forward_rewrite.specs.Frame.{SourceFrame};
+ghost use Rattle.forward_rewrite.specs.Mixes.{Sound};
 ghost use Rattle.forward_rewrite.specs.OwnStreams.{is_mine};
+ghost use Rattle.mixer.specs.Hearing.{voices_of, sound_for};
+ghost use Rattle.mixer.specs.Mixes.{mixes};
 ghost use Rattle.intake.specs.Inputs.{Input, Request};
 ghost use Rattle.bridge_core.specs.Sent.{Sent};
-ghost use Rattle.bridge_core.specs.Lanes.{packets, goes, routed_to, sends_at};
+ghost use Rattle.bridge_core.specs.Lanes.{packets, goes, routed_to, given_of, sends_at};
 ghost use Rattle.bridge_core.specs.Steps.{Step, sends, sent_at, visits, visit_after, desk_of, CoreOf, HasTaken};
 ghost use Rattle.bridge_core.specs.declared.reply.Reply.{Reply};
 ghost use Rattle.bridge_core.specs.Following.{HasCalled};
@@ -24,10 +29,11 @@ ghost use Rattle.bridge_core.specs.EveryLane.{to_every};
 ghost use Rattle.bridge_core.specs.Events.{Event, Plays, steps_of};
 ghost use Rattle.bridge_core.specs.WholeRuns.{Holds};
 ghost use Rattle.bridge_core.specs.Named.{Name, Kind, is_on, sent_on, firsts};
-ghost use Rattle.bridge_core.specs.Headline.{AreGood, HaveNoGap, numbers, IsChosenOf, GoesWhole, LeadsBack};
+ghost use Rattle.bridge_core.specs.Headline.{AreGood, HaveNoGap, numbers, numbered_of, IsChosenOf, GoesWhole, IsMixOf, GoesOnce, LeadsBack};
 
 use forward_rewrite::{each_frame_goes_whole, found_is_what_was_sent, numbers_in_a_row};
-use topology::{all_who_chose_receive, receivers_are_distinct};
+use mixer::{mixes_are_in_a_row, mixes_go_to_their_members, ticks_add_what_is_heard};
+use topology::{all_who_chose_receive, mixes_are_apart, receivers_are_distinct};
 
 /// Over any steps that cores take one by one, from a core that has taken nothing on: what is sent,
 /// joined in order, is what `sends` gives for the whole list, and the last core has taken all of it.
@@ -45,6 +51,15 @@ pub fn streams_are_routed_lists()
     all_who_chose_receive();
 }
 
+/// What is sent on a mix stream for the first time, over all versions of the desk and however many lanes
+/// there are, is its mix list: the packets of all ticks of its lane.
+pub fn mixes_are_mix_lists()
+    ensures { (lanes : ℕ) (start : Desk) (steps : List Step) (ssrc : ℕ) → good start ≡ true → AreGood steps → map numbered_of (firsts lanes start (record { kind = Kind.mix; ssrc = ssrc }) steps) ≡ mixes ssrc (given_of (visits (ssrc % lanes) start steps)) }
+{
+    ticks_add_what_is_heard();
+    mixes_go_to_their_members();
+}
+
 /// Each outgoing stream numbers its packets without a gap modulo 65536, over all versions of the
 /// desk and however many lanes there are. What is sent again has the number that it had.
 pub fn streams_have_no_gap()
@@ -52,6 +67,8 @@ pub fn streams_have_no_gap()
 {
     streams_are_routed_lists();
     numbers_in_a_row();
+    mixes_are_mix_lists();
+    mixes_are_in_a_row();
 }
 
 /// What is sent on a stream follows from the items of its lane and their desks alone: there may be
@@ -80,6 +97,25 @@ pub fn frames_go_whole()
     each_frame_goes_whole();
     receivers_are_distinct();
     all_who_chose_receive();
+}
+
+/// Each packet that is sent at a tick names the version and the item, and goes where the desk of that
+/// version has it go: to the member whose mix its stream is, at its address. It carries what the member
+/// hears of all that the lane was given before.
+pub fn mixes_are_heard()
+    ensures { (lanes lane : ℕ) (start : Desk) (before : List Step) (moment : ℕ) → good (desk_of start before) ≡ true → AllByRecursion (AllByRecursion (IsMixOf (given_of (visits lane start before)) (visit_after start before lane (Input.tick moment)))) (sent_at lanes start before (Step.item lane (Input.tick moment))) }
+{
+    ticks_add_what_is_heard();
+    mixes_go_to_their_members();
+    mixes_are_apart();
+}
+
+/// At a tick, each member who hears anything and whose mix is on a stream of the lane gets one packet of it.
+pub fn all_who_hear_get_it()
+    ensures { (lanes lane : ℕ) (start : Desk) (before : List Step) (moment : ℕ) (m : Member) (sound : Sound) → good (desk_of start before) ≡ true → is_mine lane lanes m.out_audio ≡ true → mix_member (desk_of start before) m.out_audio ≡ Some m → sound_for (voices_of (given_of (visits lane start before)) (desk_of start before)) (desk_of start before) m ≡ Some sound → (let visit = visit_after start before lane (Input.tick moment) in GoesOnce visit m sound (filter (is_on m.out_audio) (sends_at lane lanes (visits lane start before) visit))) }
+{
+    ticks_add_what_is_heard();
+    mixes_go_to_their_members();
 }
 
 /// Each packet that is sent again is, octet for octet and under its number, one of the last 512 that
@@ -125,7 +161,8 @@ pub fn undos_are_redone()
 ///
 /// - accepted commands, undone from their end, give back the desk before them, members at their places;
 /// - each packet is what the desk of the version that it names says: it chose the packet's source, who
-///   gets it, and that all who chose it get the whole frame;
+///   gets it, and that all who chose it get the whole frame; and at a tick each member who hears anything
+///   gets what it hears, which is what a mix packet carries;
 /// - each stream numbers without a gap modulo 65536;
 /// - a number asked for again leads back to just the packet that had it, for its owner alone;
 /// - the number of lanes makes no difference to a stream.
@@ -137,8 +174,11 @@ pub fn the_headline()
     commands_come_back();
     streams_are_routed_lists();
     streams_have_no_gap();
+    mixes_are_mix_lists();
     packets_are_chosen();
     frames_go_whole();
+    mixes_are_heard();
+    all_who_hear_get_it();
     resends_lead_back();
     lane_count_does_not_matter();
 }

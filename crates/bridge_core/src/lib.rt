@@ -1,6 +1,7 @@
 //! The core of the bridge: the desk, and the lanes that send by it.
 #![tactic(auto)]
 
+mod audio;
 mod bridge;
 mod egress;
 mod fault;
@@ -14,9 +15,10 @@ pub use self::egress::Egress;
 pub use self::fault::{CoreFault, LaneFault};
 pub use self::lane::LaneState;
 pub use self::laws::{
-    all_that_is_sent, commands_come_back, edits_lead_back, frames_go_whole,
-    lane_count_does_not_matter, packets_are_chosen, resends_lead_back, streams_are_routed_lists,
-    streams_have_no_gap, the_headline, undos_and_redos_are_accepted, undos_are_redone,
+    all_that_is_sent, all_who_hear_get_it, commands_come_back, edits_lead_back, frames_go_whole,
+    lane_count_does_not_matter, mixes_are_heard, mixes_are_mix_lists, packets_are_chosen,
+    resends_lead_back, streams_are_routed_lists, streams_have_no_gap, the_headline,
+    undos_and_redos_are_accepted, undos_are_redone,
 };
 pub use self::reply::Reply;
 pub use forward_rewrite::MediaFrame;

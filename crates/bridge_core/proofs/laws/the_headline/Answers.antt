@@ -1,4 +1,4 @@
-use Rattle.std.proofs.Common.{[], ◌∷◌, length, subst}
+use Rattle.std.proofs.Common.{[], ◌∷◌, length, refl, subst}
 use Rattle.desk_edit.specs.Calls.{no_calls}
 use Rattle.intake.specs.Inputs.{Input}
 use Rattle.bridge_core.specs.Steps.{Step}
@@ -19,6 +19,7 @@ returns-clause-holds c start events sent first last h taken called plays =
     record {
       given = run.0;
       lists = λ ssrc. c.streams_are_routed_lists.ensures lanes start steps ssrc h run.1;
+      mix_lists = λ ssrc. c.mixes_are_mix_lists.ensures lanes start steps ssrc h run.1;
       no_gap = λ name. c.streams_have_no_gap.ensures lanes start steps name h run.1;
       kept = λ before after lane input is.
           let all : AreGood before = good_before before (Step.item lane input ∷ after) (subst AreGood is run.1) in
@@ -27,6 +28,11 @@ returns-clause-holds c start events sent first last h taken called plays =
             | Input.frame f ↦ record {
               chosen = (c.packets_are_chosen.ensures lanes lane start before f desk).0;
               whole = λ ssrc r mine at. c.frames_go_whole.ensures lanes lane start before f ssrc r desk mine at;
+            }
+            | Input.audio sound ↦ refl
+            | Input.tick moment ↦ record {
+              heard = (c.mixes_are_heard.ensures lanes lane start before moment desk).0;
+              whole = λ m sound mine its hears_it. c.all_who_hear_get_it.ensures lanes lane start before moment m sound desk mine its hears_it;
             }
             | Input.nack request ↦ (c.resends_lead_back.ensures lanes lane start before request h all).0
           ];

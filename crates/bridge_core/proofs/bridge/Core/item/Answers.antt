@@ -15,7 +15,7 @@ use Rattle.bridge_core.proofs.bridge.Core.item.Goals as goal
 
 there : (g : Over) (c : goal.After-self-1 g) → slice_get c.self.inside.lanes.items c.args.lane ≡ Some c.index_mut.result.now
 there g c =
-    let within : c.args.lane < length c.self.inside.lanes.items = subst (λ (core : CoreOf). c.args.lane < length core.lanes) (sym c.self.view_is) c.requires in
+    let within : c.args.lane < length c.self.inside.lanes.items = subst (λ (core : CoreOf). c.args.lane < length core.lanes) (sym c.self.view_is) c.requires.lane in
     slice_get_read _ _ _ _ refl within c.index_mut.ensures.value
 
 pub invariant_of-self : goal.invariant_of-self

@@ -1,20 +1,47 @@
-use Rattle.std.proofs.Common.{ℕ, List, map, ap, sym, subst, ◌∙◌}
+use Rattle.std.proofs.Common.{List, ℕ, ℤ, map, refl, ap, sym, subst, ◌∙◌}
 use Rattle.std.specs.Prelude.{IfOk}
 use Rattle.intake.specs.Inputs.{Input, input_of}
 use Rattle.bridge_core.specs.Sent.{sent_of}
 use Rattle.bridge_core.specs.LaneState.{LaneOf, visit_of}
-use Rattle.bridge_core.specs.inner.VideoStreams.{Answers}
+use Rattle.bridge_core.specs.inner.Parts.{PartsAnswer}
+use Rattle.bridge_core.proofs.PartsLaws.{ok_by_video, ok_by_sound, ok_by_tick}
 use Rattle.bridge_core.proofs.lane.LaneState.answer.Goals as goal
 
 pub returns-in-Frame-clause-sends : goal.returns-in-Frame-clause-sends
 returns-in-Frame-clause-sends g c =
-    subst (λ (s : LaneOf). IfOk c.frame.result (λ sent. Answers s.lane s.lanes s.video c.frame.new.self (visit_of c.args.stamp.version c.args.stamp.item c.args.rows.now (input_of c.args.item.now)) (map sent_of sent.items))) c.self.view_is
-    (subst (λ (input : Input). IfOk c.frame.result (λ sent. Answers c.self.inside.place.lane c.self.inside.place.lanes c.self.inside.video c.frame.new.self (visit_of c.args.stamp.version c.args.stamp.item c.args.rows.now input) (map sent_of sent.items)))
-    (sym (ap input_of c.in-Frame.is)) c.frame.ensures.sends)
+    let was = c.self.inside in
+    let old : LaneOf = record { lane = was.place.lane; lanes = was.place.lanes; handled = was.handled; video = was.video; audio = was.audio } in
+    let new : LaneOf = record { lane = was.place.lane; lanes = was.place.lanes; handled = was.handled; video = c.frame.new.self; audio = was.audio } in
+    let f = c.in-Frame.frame in
+    subst (λ (s : LaneOf). IfOk c.frame.result (λ sent. PartsAnswer s new (visit_of c.args.stamp.version c.args.stamp.item c.args.rows.now (input_of c.args.item.now)) (map sent_of sent.items))) c.self.view_is
+    (subst (λ (input : Input). IfOk c.frame.result (λ sent. PartsAnswer old new (visit_of c.args.stamp.version c.args.stamp.item c.args.rows.now input) (map sent_of sent.items))) (sym (ap input_of c.in-Frame.is))
+    (ok_by_video c.frame.result (λ sent. map sent_of sent.items) old new (visit_of c.args.stamp.version c.args.stamp.item c.args.rows.now (Input.frame f)) refl refl c.frame.ensures.sends))
+
+pub returns-in-Audio-clause-sends : goal.returns-in-Audio-clause-sends
+returns-in-Audio-clause-sends g c =
+    let was = c.self.inside in
+    let old : LaneOf = record { lane = was.place.lane; lanes = was.place.lanes; handled = was.handled; video = was.video; audio = was.audio } in
+    let new : LaneOf = record { lane = was.place.lane; lanes = was.place.lanes; handled = was.handled; video = was.video; audio = c.put_sound.new.mixer } in
+    let sound = λ (samples : List ℤ). Input.audio record { source = c.in-Audio.ssrc; address = c.in-Audio.address; ts = c.in-Audio.ts; samples = samples } in
+    subst (λ (s : LaneOf). IfOk c.put_sound.result (λ sent. PartsAnswer s new (visit_of c.args.stamp.version c.args.stamp.item c.args.rows.now (input_of c.args.item.now)) (map sent_of sent.items))) c.self.view_is
+    (subst (λ (input : Input). IfOk c.put_sound.result (λ sent. PartsAnswer old new (visit_of c.args.stamp.version c.args.stamp.item c.args.rows.now input) (map sent_of sent.items))) (ap sound c.deref.ensures.value ∙ sym (ap input_of c.in-Audio.is))
+    (ok_by_sound c.put_sound.result (λ sent. map sent_of sent.items) old new c.args.stamp.version c.args.stamp.item c.args.rows.now
+    (record { source = c.in-Audio.ssrc; address = c.in-Audio.address; ts = c.in-Audio.ts; samples = c.deref.result.now }) refl c.put_sound.ensures.given c.put_sound.ensures.nothing))
+
+pub returns-in-Tick-clause-sends : goal.returns-in-Tick-clause-sends
+returns-in-Tick-clause-sends g c =
+    let was = c.self.inside in
+    let old : LaneOf = record { lane = was.place.lane; lanes = was.place.lanes; handled = was.handled; video = was.video; audio = was.audio } in
+    let new : LaneOf = record { lane = was.place.lane; lanes = was.place.lanes; handled = was.handled; video = was.video; audio = c.send_mixes.new.mixer } in
+    subst (λ (s : LaneOf). IfOk c.send_mixes.result (λ sent. PartsAnswer s new (visit_of c.args.stamp.version c.args.stamp.item c.args.rows.now (input_of c.args.item.now)) (map sent_of sent.items))) c.self.view_is
+    (subst (λ (input : Input). IfOk c.send_mixes.result (λ sent. PartsAnswer old new (visit_of c.args.stamp.version c.args.stamp.item c.args.rows.now input) (map sent_of sent.items))) (sym (ap input_of c.in-Tick.is))
+    (ok_by_tick c.send_mixes.result (λ sent. map sent_of sent.items) old new c.args.stamp c.args.rows.now c.in-Tick.moment refl c.send_mixes.ensures.ticks))
 
 pub returns-in-Nack-clause-sends : goal.returns-in-Nack-clause-sends
 returns-in-Nack-clause-sends g c =
+    let was = c.self.inside in
+    let old : LaneOf = record { lane = was.place.lane; lanes = was.place.lanes; handled = was.handled; video = was.video; audio = was.audio } in
     let asked = λ (numbers : List ℕ). Input.nack record { from = c.in-Nack.from; out_ssrc = c.in-Nack.out_ssrc; numbers = numbers } in
-    subst (λ (s : LaneOf). IfOk c.nack.result (λ sent. Answers s.lane s.lanes s.video s.video (visit_of c.args.stamp.version c.args.stamp.item c.args.rows.now (input_of c.args.item.now)) (map sent_of sent.items))) c.self.view_is
-    (subst (λ (input : Input). IfOk c.nack.result (λ sent. Answers c.self.inside.place.lane c.self.inside.place.lanes c.self.inside.video c.self.inside.video (visit_of c.args.stamp.version c.args.stamp.item c.args.rows.now input) (map sent_of sent.items)))
-    (ap asked c.deref.ensures.value ∙ sym (ap input_of c.in-Nack.is)) c.nack.ensures.sends)
+    subst (λ (s : LaneOf). IfOk c.nack.result (λ sent. PartsAnswer s s (visit_of c.args.stamp.version c.args.stamp.item c.args.rows.now (input_of c.args.item.now)) (map sent_of sent.items))) c.self.view_is
+    (subst (λ (input : Input). IfOk c.nack.result (λ sent. PartsAnswer old old (visit_of c.args.stamp.version c.args.stamp.item c.args.rows.now input) (map sent_of sent.items))) (ap asked c.deref-in-Nack.ensures.value ∙ sym (ap input_of c.in-Nack.is))
+    (ok_by_video c.nack.result (λ sent. map sent_of sent.items) old old (visit_of c.args.stamp.version c.args.stamp.item c.args.rows.now (asked c.deref-in-Nack.result.now)) refl refl c.nack.ensures.sends))
