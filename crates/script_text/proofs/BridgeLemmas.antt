@@ -1,5 +1,5 @@
 -- The core goes on as the bridge does.
-use Rattle.std.proofs.Common.{◌≡◌, ℕ, Option, List, [], ◌∷◌, ◌++◌, length, true, false, Some, None, Result, Ok, Err, refl, sym, ap, ◌∙◌, subst, append_assoc}
+use Rattle.std.proofs.Common.{◌≡◌, ℕ, Option, List, [], ◌∷◌, ◌++◌, length, map, get_or, zero, suc, ◌<◌, arith, true, false, Some, None, Result, Ok, Err, refl, sym, ap, ◌∙◌, subst, append_assoc}
 use Rattle.std.proofs.lemmas.List.{append-nil}
 use Rattle.std.specs.Result.{OnOk}
 use Rattle.desk_rows.specs.Desk.{Desk}
@@ -10,14 +10,15 @@ use Rattle.desk_edit.specs.declared.refusal.Refusal.TheVariants.{OutOfMemory}
 use Rattle.desk_edit.specs.Calls.{no_calls, desk_now, refusal_of, after_call as history_after}
 use Rattle.bridge_core.specs.declared.reply.Reply.{Reply}
 use Rattle.bridge_core.specs.declared.reply.Reply.TheVariants.{Accepted, Refused}
-use Rattle.intake.specs.Inputs.{Input}
+use Rattle.intake.specs.Inputs.{Input, is_sized}
 use Rattle.bridge_core.specs.Sent.{Sent}
 use Rattle.std.specs.Prelude.{slice_get}
 use Rattle.bridge_core.specs.LaneState.{LaneOf}
 use Rattle.bridge_core.specs.Calls.{Answers, OnAccepted}
 use Rattle.bridge_core.specs.Following.{HasCalled, IsTold, IsAnswered}
 use Rattle.bridge_core.specs.Steps.{CoreOf, Step, HasTaken, Takes, sent_at, visits, visit_after}
-use Rattle.std.specs.List.{flat_map}
+use Rattle.std.specs.List.{flat_map, list_all}
+use Rattle.std.proofs.lemmas.Bool.{and_parts}
 use Rattle.bridge_core.specs.Lanes.{sends_at}
 use Rattle.rtp_codec.specs.declared.address.Address.{Address}
 use Rattle.intake.specs.Ingested.{Ingested}
@@ -161,3 +162,9 @@ opens core wire taken called lanes knows speaks = record { taken = taken; called
 pub on_ok : {X E : Type 0} (r : Result X E) (P Q : Type 0) → OnOk r P → (P → Q) → OnOk r Q
 on_ok (Ok x) P Q h f = f h
 on_ok (Err e) P Q h f = tt
+
+-- what all items are, each is
+pub each_sized : {X : Type 0} (f : X → Input) (xs : List X) (i : ℕ) (x : X) → list_all is_sized (map f xs) ≡ true → i < length xs → x ≡ get_or xs i x → is_sized (f x) ≡ true
+each_sized f [] i x all less is = absurd (omega (arith, less))
+each_sized f (y ∷ ys) zero x all less is = ap (λ z. is_sized (f z)) is ∙ (and_parts (is_sized (f y)) (list_all is_sized (map f ys)) all).0
+each_sized f (y ∷ ys) (suc i) x all less is = each_sized f ys i x (and_parts (is_sized (f y)) (list_all is_sized (map f ys)) all).1 (omega (arith, less)) is

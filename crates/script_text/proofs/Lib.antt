@@ -13,6 +13,7 @@ pub mod ExtLemmas
 pub mod PacketLaws
 pub mod FrameLaws
 pub mod RxLaws
+pub mod TickLaws
 pub mod GoodDesks
 pub mod BridgeLemmas
 pub mod ScriptLaws

@@ -9,7 +9,7 @@ use Rattle.frame_gate.specs.declared.frame.FrameFault.{FrameFault}
 use Rattle.frame_gate.specs.Frame.{SourcePacket, fault_of}
 use Rattle.forward_rewrite.specs.Frame.{SourceFrame}
 use Rattle.intake.specs.Inputs.{Input}
-use Rattle.intake.specs.Inputs.Input.{frame}
+use Rattle.intake.specs.Inputs.Input.{frame, tick}
 use Rattle.script_text.specs.declared.fault.Fault.{Fault}
 use Rattle.script_text.specs.declared.fault.Fault.TheVariants.{LineTooLong, BadByte, UnknownWord, MissingWord, BadHex, BadFrame}
 use Rattle.script_text.specs.declared.value.Field.{Field}
@@ -37,21 +37,23 @@ abbrev pub kind_text : Kind → List ℕ
 kind_text kinds.Desk = codes "desk"
 kind_text kinds.Frame = codes "frame"
 kind_text kinds.Rx = codes "rx"
+kind_text kinds.Tick = codes "tick"
 kind_text kinds.Show = codes "show"
 
 -- the kinds of lines
 abbrev pub line_kinds : List Kind
-line_kinds = kinds.Desk ∷ kinds.Frame ∷ kinds.Rx ∷ kinds.Show ∷ []
+line_kinds = kinds.Desk ∷ kinds.Frame ∷ kinds.Rx ∷ kinds.Tick ∷ kinds.Show ∷ []
 
 -- the kind of line that a word begins
 abbrev pub kind_of : List ℕ → Option Kind
 kind_of word = find (λ kind. bytes_eq word (kind_text kind)) line_kinds
 
--- the fields that stand first behind it: OP; MOMENT ADDRESS SSRC EPOCH TS; MOMENT ADDRESS
+-- the fields that stand first behind it: OP; MOMENT ADDRESS SSRC EPOCH TS; MOMENT ADDRESS; MOMENT
 abbrev pub front_of : Kind → List Field
 front_of kinds.Desk = fields.Operator ∷ []
 front_of kinds.Frame = fields.U64 ∷ fields.Address ∷ fields.U32 ∷ fields.U64 ∷ fields.U32 ∷ []
 front_of kinds.Rx = fields.U64 ∷ fields.Address ∷ []
+front_of kinds.Tick = fields.U64 ∷ []
 front_of kinds.Show = []
 
 -- at least one packet
@@ -92,6 +94,12 @@ rx_of moment from words = do
   end ← none_left 5 word.1
   Ok (Rx moment from octets)
 
+-- a tick at a moment, where no word is left
+abbrev pub tick_of : ℕ → List (List ℕ) → Result Request (ℕ × Fault)
+tick_of moment words = do
+  end ← none_left 3 words
+  Ok (Item (tick moment))
+
 -- the desk's rows, where no word is left
 abbrev pub show_of : List (List ℕ) → Result Request (ℕ × Fault)
 show_of words = do
@@ -103,6 +111,7 @@ abbrev pub request_with : Kind → List Value → List (List ℕ) → Result Req
 request_with kinds.Desk vs words = desk_of (number_at 0 vs) words
 request_with kinds.Frame vs words = frame_of (sighted vs) words
 request_with kinds.Rx vs words = rx_of (number_at 0 vs) (address_at 1 vs) words
+request_with kinds.Tick vs words = tick_of (number_at 0 vs) words
 request_with kinds.Show vs words = show_of words
 
 -- what words ask for
@@ -132,6 +141,14 @@ rx_words moment from octets = kind_text kinds.Rx ∷ map value_text (U64 moment 
 -- the line of a datagram
 abbrev pub rx_line : (moment : ℕ) → Endpoint → List ℕ → List ℕ
 rx_line moment from octets = join_with_byte 32 (rx_words moment from (encode_lower octets))
+
+-- the words of a tick's line
+abbrev pub tick_words : (moment : ℕ) → List (List ℕ)
+tick_words moment = kind_text kinds.Tick ∷ value_text (U64 moment) ∷ []
+
+-- the line of a tick
+abbrev pub tick_line : (moment : ℕ) → List ℕ
+tick_line moment = join_with_byte 32 (tick_words moment)
 
 -- there are octets, and all numbers are in range
 pub record IsDatagram (moment : ℕ) (from : Endpoint) (octets : List ℕ) : Type 0 where

@@ -1,8 +1,8 @@
 //! The answer to one line.
 
-ghost use Rattle.std.specs.Prelude.{◌≡◌, ◌≢◌, ◌⊎◌, ◌^◌, ◌++◌, [], OnOk, map};
-ghost use Rattle.std.specs.List.{flat_map};
-ghost use Rattle.intake.specs.Inputs.{input_of};
+ghost use Rattle.std.specs.Prelude.{◌≡◌, ◌≢◌, ◌⊎◌, ◌^◌, ◌++◌, true, [], OnOk, map};
+ghost use Rattle.std.specs.List.{flat_map, list_all};
+ghost use Rattle.intake.specs.Inputs.{input_of, is_sized};
 ghost use Rattle.bridge_core.specs.Sent.{sent_of};
 ghost use Rattle.script_text.specs.Text.{sent_text};
 ghost use Rattle.script_text.specs.Requests.{Desk, Rx, Show as ShowRequest};
@@ -76,7 +76,8 @@ fn answer_item<A: Allocator + Copy>(
     item: &Item<A>,
     out: &mut Vec<u8, A>,
 ) -> Result<(), AllocError>
-    requires { HasLane core.old }
+    requires lane { HasLane core.old }
+    requires sized { is_sized (input_of item.now) ≡ true }
     ensures answer { OnOk result (HandsItem core.old (input_of item.now) core.new out.old.items out.new.items) }
     ensures lane { HasLane core.new }
 {
@@ -94,7 +95,8 @@ fn answer_items<A: Allocator + Copy>(
     items: &[Item<A>],
     out: &mut Vec<u8, A>,
 ) -> Result<(), AllocError>
-    requires { HasLane core.old }
+    requires lane { HasLane core.old }
+    requires sized { list_all is_sized (map input_of items.now) ≡ true }
     ensures answer { OnOk result (HandsItems core.old (map input_of items.now) core.new out.old.items out.new.items) }
     ensures lane { HasLane core.new }
 {
@@ -148,12 +150,13 @@ fn answer_request<A: Allocator + Copy>(
     match line {
         Line::Nothing => Ok(()),
         Line::Desk { op, call } => answer_call(alloc, core, op, call, out),
-        Line::Item(item) => answer_item(alloc, core, &item, out),
+        Line::Frame(frame) => answer_item(alloc, core, &Item::Frame(frame), out),
         Line::Rx {
             moment,
             from,
             octets,
         } => answer_datagram(alloc, core, moment, from, &octets, out),
+        Line::Tick { moment } => answer_item(alloc, core, &Item::Tick { moment }, out),
         Line::Show => answer_show(core, out),
     }
 }

@@ -21,10 +21,10 @@ ghost use Rattle.script_text.specs.Numbers.{number_of, ext_of, IsExt};
 ghost use Rattle.script_text.specs.Addresses.{address_of, address_text, IsAddress};
 ghost use Rattle.frame_gate.specs.Frame.{SourcePacket};
 ghost use Rattle.forward_rewrite.specs.Frame.{SourceFrame};
-ghost use Rattle.intake.specs.Inputs.Input.{frame};
+ghost use Rattle.intake.specs.Inputs.Input.{frame, tick};
 ghost use Rattle.desk_edit.specs.declared.command.Call.{Call};
 ghost use Rattle.script_text.specs.Calls.{call_of, call_line, IsCall};
-ghost use Rattle.script_text.specs.Requests.{words_request, Desk, desk_line, Item, frame_words, frame_line, IsFrame, Rx, rx_words, rx_line, IsDatagram};
+ghost use Rattle.script_text.specs.Requests.{words_request, Desk, desk_line, Item, frame_words, frame_line, IsFrame, Rx, rx_words, rx_line, IsDatagram, tick_line};
 ghost use Rattle.script_text.specs.Packets.{SpellPackets, packet_of, packet_text, SpellsExt, SpellsHex, SpellsPacket, IsReadable};
 ghost use Rattle.script_text.specs.Lines.{parts_of};
 
@@ -108,6 +108,13 @@ pub fn datagram_lines()
         → words_request (words_of line) ≡ Ok (Rx moment from octets)
         → (word : List ℕ) × (line ≡ join_with_byte 32 (rx_words moment from word)) × SpellsHex word octets
         × IsDatagram moment from octets }
+{}
+
+/// The words of a tick's line are that tick, and what is read as a tick is spelled by its line.
+pub fn tick_lines()
+    ensures read { (moment : ℕ) → moment < 2 ^ 64 → words_request (words_of (tick_line moment)) ≡ Ok (Item (tick moment)) }
+    ensures spelled { (line : List ℕ) (moment : ℕ) → words_request (words_of line) ≡ Ok (Item (tick moment))
+        → (line ≡ tick_line moment) × (moment < 2 ^ 64) }
 {}
 
 /// The bridge of a script speaks as SSRC 1, under the canonical name `bridge`.

@@ -31,7 +31,7 @@ pub use self::fault::{Fault, ParseFault, RunFault};
 pub use self::laws::{
     address_words, call_lines, datagram_lines, ext_words, frame_lines, hex_words, number_words,
     packet_words, pieces_join, refusal_words, script_bridge, script_sends,
-    script_streams_have_no_gap,
+    script_streams_have_no_gap, tick_lines,
 };
 pub use self::print::{print_egress, print_reply};
 pub use self::running::{output, run};

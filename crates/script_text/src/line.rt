@@ -6,7 +6,7 @@ ghost use Rattle.frame_gate.specs.Frame.{fault_of};
 ghost use Rattle.script_text.specs.Words.{Gives};
 ghost use Rattle.script_text.specs.inner.Cursor.{words_in, size_of, view, sighting};
 ghost use Rattle.script_text.specs.Values.{field_of};
-ghost use Rattle.script_text.specs.Requests.{some_packets, framed, frame_of, desk_of, some_octets, rx_of, show_of, front_of, request_with, words_request, request_of};
+ghost use Rattle.script_text.specs.Requests.{some_packets, framed, frame_of, desk_of, some_octets, rx_of, tick_of, show_of, front_of, request_with, words_request, request_of};
 
 use crate::building::call;
 use crate::fault::{Fault, ParseFault};
@@ -15,7 +15,7 @@ use crate::packet::{octets, packets};
 use crate::reading::read_values;
 use crate::value::{Value, address_at, operator_at, u32_at, u64_at};
 use crate::words::{end_of_words, next_word};
-use bridge_core::{Frame, FramePacket, Item, MediaFrame};
+use bridge_core::{Frame, FramePacket, MediaFrame};
 use desk_edit::Call;
 use rtp_codec::Address;
 use std::alloc::{Allocator, Global};
@@ -31,11 +31,14 @@ pub(crate) enum Line<A: Allocator + Copy = Global> {
         op: u8,
         call: Call,
     },
-    Item(Item<A>),
+    Frame(MediaFrame<A>),
     Rx {
         moment: u64,
         from: Address,
         octets: Vec<u8, A>,
+    },
+    Tick {
+        moment: u64,
     },
     Show,
 }
@@ -80,7 +83,7 @@ fn some_packets<A: Allocator + Copy>(
     }
 }
 
-/// The item of these packets, which have to make a frame.
+/// The frame of these packets, which have to make one.
 fn framed<A: Allocator + Copy>(
     head: Head,
     packets: Vec<FramePacket<A>, A>,
@@ -96,13 +99,13 @@ fn framed<A: Allocator + Copy>(
     } = head;
     match Frame::new(ts, packets) {
         Err(_) => Err(Fault::BadFrame.at(7)),
-        Ok(frame) => Ok(Line::Item(Item::Frame(MediaFrame {
+        Ok(frame) => Ok(Line::Frame(MediaFrame {
             source,
             address,
             epoch,
             moment,
             frame,
-        }))),
+        })),
     }
 }
 
@@ -154,6 +157,14 @@ fn rx<A: Allocator + Copy>(
     })
 }
 
+/// A tick at a moment.
+fn tick<A: Allocator + Copy>(moment: u64, words: Option<&[u8]>) -> Result<Line<A>, ParseFault>
+    ensures { Gives view result (tick_of moment (words_in words.entry)) }
+{
+    end_of_words(words, 3)?;
+    Ok(Line::Tick { moment })
+}
+
 /// What a line of this kind asks for, with these values first.
 fn line_with<A: Allocator + Copy>(
     alloc: A,
@@ -178,6 +189,7 @@ fn line_with<A: Allocator + Copy>(
             frame(alloc, head, words)
         }
         Kind::Rx => rx(alloc, u64_at(values, 0), address_at(values, 1), words),
+        Kind::Tick => tick(u64_at(values, 0), words),
         Kind::Show => show(words),
     }
 }

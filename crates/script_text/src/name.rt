@@ -12,6 +12,7 @@ pub(crate) enum Kind {
     Desk,
     Frame,
     Rx,
+    Tick,
     Show,
 }
 
@@ -25,6 +26,8 @@ pub(crate) fn parse_kind(word: &[u8]) -> Option<Kind>
         Some(Kind::Frame)
     } else if word == b"rx".as_slice() {
         Some(Kind::Rx)
+    } else if word == b"tick".as_slice() {
+        Some(Kind::Tick)
     } else if word == b"show".as_slice() {
         Some(Kind::Show)
     } else {
@@ -47,6 +50,7 @@ pub(crate) fn front(kind: Kind) -> &'static [Field]
             Field::U32,
         ],
         Kind::Rx => &[Field::U64, Field::Address],
+        Kind::Tick => &[Field::U64],
         Kind::Show => &[],
     }
 }

@@ -3,7 +3,7 @@ use Rattle.std.specs.Prelude.{◌≡◌, ◌≢◌, ℕ, ◌+◌, List, [], ◌�
 use Rattle.std.specs.Borrow.{Bor}
 use Rattle.frame_gate.specs.Frame.{SourcePacket}
 use Rattle.forward_rewrite.specs.Frame.{SourceFrame}
-use Rattle.intake.specs.Inputs.{input_of}
+use Rattle.intake.specs.Inputs.Input.{frame, tick}
 use Rattle.script_text.specs.declared.fault.ParseFault.{ParseFault}
 use Rattle.script_text.specs.declared.packet.Parts.{Parts}
 use Rattle.script_text.specs.declared.line.Head.{Head}
@@ -22,7 +22,8 @@ words_in (Some text) = words_of text.now
 abbrev pub view : {A : Type 0} → Line A → Request
 view lines.Nothing = Nothing
 view (lines.Desk op call) = Desk op call
-view (lines.Item item) = Item (input_of item)
+view (lines.Frame f) = Item (frame f)
+view (lines.Tick moment) = Item (tick moment)
 view (lines.Rx moment from octets) = Rx moment from octets.items
 view lines.Show = Show
 

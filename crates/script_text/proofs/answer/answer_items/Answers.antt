@@ -2,11 +2,17 @@ use Rattle.std.proofs.Common.{◌≡◌, ◌+◌, ◌++◌, [], ◌∷◌, List,
 use Rattle.std.proofs.lemmas.List.{take_more, take_all, map-append}
 use Rattle.intake.specs.Inputs.{Input, input_of}
 use Rattle.script_text.specs.inner.Steps.{HandsItems}
-use Rattle.script_text.proofs.BridgeLemmas.{hands_none, hands_more}
+use Rattle.script_text.proofs.BridgeLemmas.{hands_none, hands_more, each_sized}
 use Rattle.script_text.proofs.answer.answer_items.Goals as goal
 
 pub loop-item-init : goal.loop-item-init
-loop-item-init g c = record { lane = c.requires; hands = hands_none c.args.core.now c.args.out.now.items }
+loop-item-init g c = record { lane = c.requires.lane; hands = hands_none c.args.core.now c.args.out.now.items }
+
+pub answer_item-requires : goal.answer_item-requires
+answer_item-requires g c = record {
+  lane = c.loop-item.invariant.lane;
+  sized = each_sized input_of c.args.items.now c.loop-item.item-index c.item-item.result c.requires.sized c.loop-item-test.true c.item-item.is;
+}
 
 pub loop-item-preserved : goal.loop-item-preserved
 loop-item-preserved g c =
