@@ -1,2 +1,4 @@
 pub mod CutLemmas
+pub mod SettingsLemmas
+pub mod SpellingLemmas
 pub mod WholeLemmas

@@ -1,5 +1,9 @@
 pub mod Attempts
 pub mod Cut
 pub mod Fed
+pub mod Settings
+pub mod SettingsTold
+pub mod SettingValues
+pub mod Spelling
 pub mod inner
 pub mod laws

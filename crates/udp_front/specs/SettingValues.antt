@@ -1,0 +1,37 @@
+-- What a value of TOML is as a setting (own).
+use Rattle.std.specs.Prelude.{ℕ, pos, Bool, ◌&&◌, ◌==◌, nat_le, if◌then◌else◌, List, slice_index, Option, Some, None}
+use Rattle.std.specs.List.{list_all}
+use Rattle.std.specs.Option.{option_and_then}
+use Rattle.toml.specs.Data.{Data, integer, as_str}
+use Rattle.rtp_codec.specs.declared.address.Address.{Address}
+use Rattle.intake.specs.Names.{is_name}
+use Rattle.udp_front.specs.Spelling.{address_of}
+
+-- the address that a text spells
+abbrev pub address_in : Data → Option Address
+address_in value = option_and_then address_of (as_str value)
+
+-- the address is in 127.0.0.0/8, which no packet from another machine reaches (RFC 1122 section 3.2.1.3)
+abbrev pub is_loopback : Address → Bool
+is_loopback address = slice_index address.ip 0 == 127
+
+-- an address that is in there
+abbrev pub loopback_in : Data → Option Address
+loopback_in value = option_and_then (λ address. if is_loopback address then Some address else None) (address_in value)
+
+-- a number from low to high
+abbrev pub number_in : ℕ → ℕ → Data → Option ℕ
+number_in low high (integer (pos n)) = if nat_le low n && nat_le n high then Some n else None
+number_in low high _ = None
+
+-- an octet that is printed: 32 to 126
+abbrev pub is_printable : ℕ → Bool
+is_printable octet = nat_le 32 octet && nat_le octet 126
+
+-- a text that can be a canonical name, all of it printed
+abbrev pub is_cname : List ℕ → Bool
+is_cname text = is_name text && list_all is_printable text
+
+-- such a text
+abbrev pub cname_in : Data → Option (List ℕ)
+cname_in value = option_and_then (λ text. if is_cname text then Some text else None) (as_str value)
