@@ -23,7 +23,7 @@ pub struct FrontSettings {
 }
 
 /// A key of the settings. They are judged in this order.
-#[derive(Clone, Copy, Debug, PartialEq, Eq)]
+#[derive(Clone, Copy, Debug)]
 pub enum Key {
     Udp,
     Tcp,
