@@ -1,6 +1,7 @@
 //! Items of a lane, at the end of what it can count.
 
-ghost use Rattle.std.specs.Prelude.{◌≡◌, ◌≢◌, Err};
+ghost use Rattle.std.specs.Prelude.{◌≡◌, ◌≢◌, true, Err};
+ghost use Rattle.intake.specs.Inputs.{input_of, is_sized};
 
 use bridge_core::{Egress, Item, LaneFault, LaneState};
 use desk_rows::Rows;
@@ -13,7 +14,8 @@ pub fn has_a_number_left(
     rows: &Rows,
     item: &Item,
 ) -> Result<Vec<Egress>, LaneFault>
-    requires { state.old.handled ≡ 18446744073709551614 }
+    requires handled { state.old.handled ≡ 18446744073709551614 }
+    requires sized { is_sized (input_of item.now) ≡ true }
     ensures { result ≢ Err LaneFault.Spent }
 {
     state.step(alloc, 7, rows, item)
@@ -26,7 +28,8 @@ pub fn has_no_number_left(
     rows: &Rows,
     item: &Item,
 ) -> Result<Vec<Egress>, LaneFault>
-    requires { state.old.handled ≡ 18446744073709551615 }
+    requires handled { state.old.handled ≡ 18446744073709551615 }
+    requires sized { is_sized (input_of item.now) ≡ true }
     ensures fault { result ≡ Err LaneFault.Spent }
     ensures same { state.new ≡ state.old }
 {
