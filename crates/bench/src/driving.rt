@@ -1,5 +1,8 @@
 //! The cases.
 
+ghost use Rattle.std.specs.Prelude.{◌≡◌, true};
+ghost use Rattle.intake.specs.Inputs.{input_of, is_sized};
+
 use crate::asking::{Case, Order};
 use crate::copying::{copied, kept};
 use crate::datagrams::taken;
@@ -33,7 +36,9 @@ pub fn driven(alloc: Global, order: &Order) -> io::Result<Tally> {
 }
 
 /// Gives an item to the lane so often, and counts what goes out.
-fn drive(alloc: Global, core: &mut Core, item: &Item, times: u64) -> io::Result<Tally> {
+fn drive(alloc: Global, core: &mut Core, item: &Item, times: u64) -> io::Result<Tally>
+    requires { is_sized (input_of item.now) ≡ true }
+{
     let mut tally = Tally::new();
     for _time in 0..times {
         give(alloc, core, item, &mut tally)?;
@@ -42,7 +47,9 @@ fn drive(alloc: Global, core: &mut Core, item: &Item, times: u64) -> io::Result<
 }
 
 /// Gives an item to the lane, and counts what goes out.
-fn give(alloc: Global, core: &mut Core, item: &Item, tally: &mut Tally) -> io::Result<()> {
+fn give(alloc: Global, core: &mut Core, item: &Item, tally: &mut Tally) -> io::Result<()>
+    requires { is_sized (input_of item.now) ≡ true }
+{
     if core.lanes() == 0 {
         return Err(io::Error::other("there is no lane"));
     }

@@ -1,5 +1,8 @@
 //! The items that are given to the core.
 
+ghost use Rattle.std.specs.Prelude.{◌≡◌, true};
+ghost use Rattle.intake.specs.Inputs.{input_of, is_sized};
+
 use bridge_core::{Frame, FramePacket, Item, MediaFrame};
 use bytes::Bytes;
 use rtp_codec::Address;
@@ -55,7 +58,9 @@ pub fn frame_of(alloc: Global, source: u32, packets: u16) -> io::Result<MediaFra
 }
 
 /// A NACK of a member for these numbers of a stream.
-pub fn nack_of(member: u16, out_ssrc: u32, numbers: Vec<u16>) -> Item {
+pub fn nack_of(member: u16, out_ssrc: u32, numbers: Vec<u16>) -> Item
+    ensures { is_sized (input_of result) ≡ true }
+{
     Item::Nack {
         from: address_of(member),
         out_ssrc,

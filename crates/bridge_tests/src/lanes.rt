@@ -1,5 +1,8 @@
 //! Lanes side by side.
 
+ghost use Rattle.std.specs.Prelude.{◌≡◌, true};
+ghost use Rattle.intake.specs.Inputs.{input_of, is_sized};
+
 use crate::setup::{core, frame};
 use bridge_core::{Egress, Item};
 use std::alloc::Global;
@@ -16,7 +19,9 @@ fn share(sent: &[Egress], lane: u32, lanes: u32) -> usize {
 }
 
 /// How many packets all lanes send for an item, if each sends those of its own streams alone.
-fn sent_by_all(alloc: Global, lanes: u32, item: &Item) -> Result<usize, Fail> {
+fn sent_by_all(alloc: Global, lanes: u32, item: &Item) -> Result<usize, Fail>
+    requires { is_sized (input_of item.now) ≡ true }
+{
     let mut core = core(alloc, lanes, 16)?;
     let mut count: usize = 0;
     for lane in 0..lanes {
@@ -37,8 +42,8 @@ fn sent_by_all(alloc: Global, lanes: u32, item: &Item) -> Result<usize, Fail> {
 /// Sixteen streams go out, each in its lane, however many lanes there are.
 #[test]
 fn streams_are_shared_by_all_lanes(rt: HostRuntime) -> Result<(), Fail> {
-    let item = frame(rt.alloc())?;
     for lanes in [1, 2, 5, 16] {
+        let item = frame(rt.alloc())?;
         assert!(rt;
             sent_by_all(rt.alloc(), lanes, &item)? == 16,
             "{lanes} lanes"

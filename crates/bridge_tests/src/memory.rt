@@ -1,5 +1,8 @@
 //! Refused memory: each allocation in turn, after which all is as if the call had not been made.
 
+ghost use Rattle.std.specs.Prelude.{◌≡◌, true};
+ghost use Rattle.intake.specs.Inputs.{input_of, is_sized};
+
 use crate::setup::{core, frame, nack, settings};
 use bridge_core::{Core, CoreFault, Egress, Item, LaneFault, LaneState, Reply};
 use desk_edit::{Call, Command, Refusal};
@@ -59,7 +62,9 @@ fn sent_at_last<'a>(
     core: &mut Core<&'a LocalHeap>,
     item: &Item<&'a LocalHeap>,
     more: usize,
-) -> Result<Sent, Fail> {
+) -> Result<Sent, Fail>
+    requires { is_sized (input_of item.now) ≡ true }
+{
     let mut refusals: u32 = 0;
     for pieces in 0..1_024 {
         let _held = hold(alloc, heap, more.saturating_mul(pieces))?;

@@ -1,12 +1,17 @@
 //! What was sent is sent again, to whom it went.
 
+ghost use Rattle.std.specs.Prelude.{◌≡◌, true};
+ghost use Rattle.intake.specs.Inputs.{input_of, is_sized};
+
 use crate::setup::{core, frame, frame_of, nack};
 use bridge_core::{Core, Egress, Item};
 use std::alloc::Global;
 use std::test::Fail;
 
 /// What the lane of stream 501, of so many lanes, sends for an item.
-fn given(alloc: Global, core: &mut Core, lanes: u32, item: &Item) -> Result<Vec<Egress>, Fail> {
+fn given(alloc: Global, core: &mut Core, lanes: u32, item: &Item) -> Result<Vec<Egress>, Fail>
+    requires { is_sized (input_of item.now) ≡ true }
+{
     let lane = match 501u32.checked_rem(lanes) {
         Some(lane) => lane,
         None => return Err(Fail::from("no lane")),
@@ -48,7 +53,9 @@ fn an_owner_alone_is_answered(rt: HostRuntime) -> Result<(), Fail> {
 }
 
 /// How many packets the lane sends for so many frames.
-fn sent_for(alloc: Global, core: &mut Core, item: &Item, frames: u32) -> Result<usize, Fail> {
+fn sent_for(alloc: Global, core: &mut Core, item: &Item, frames: u32) -> Result<usize, Fail>
+    requires { is_sized (input_of item.now) ≡ true }
+{
     let mut count: usize = 0;
     for _frame in 0..frames {
         count = count.saturating_add(given(alloc, core, 1, item)?.len());

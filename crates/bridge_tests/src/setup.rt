@@ -1,5 +1,8 @@
 //! The bridge that tests begin with.
 
+ghost use Rattle.std.specs.Prelude.{◌≡◌, true, IfOk};
+ghost use Rattle.intake.specs.Inputs.{input_of, is_sized};
+
 use bridge_core::{Core, Frame, FramePacket, Item, MediaFrame, Settings};
 use bytes::Bytes;
 use rtp_codec::Address;
@@ -51,12 +54,16 @@ pub fn core<A: Allocator + Copy>(alloc: A, lanes: u32, slots: u32) -> Result<Cor
 }
 
 /// A frame of one packet of the source 101.
-pub fn frame<A: Allocator + Copy>(alloc: A) -> Result<Item<A>, Fail> {
+pub fn frame<A: Allocator + Copy>(alloc: A) -> Result<Item<A>, Fail>
+    ensures { IfOk result (λ item. is_sized (input_of item) ≡ true) }
+{
     frame_of(alloc, 1)
 }
 
 /// A frame of so many packets of the source 101.
-pub fn frame_of<A: Allocator + Copy>(alloc: A, count: u16) -> Result<Item<A>, Fail> {
+pub fn frame_of<A: Allocator + Copy>(alloc: A, count: u16) -> Result<Item<A>, Fail>
+    ensures { IfOk result (λ item. is_sized (input_of item) ≡ true) }
+{
     let mut packets = Vec::new(alloc);
     for place in 0..count {
         let ext = i64::from(place) + 1;
@@ -86,7 +93,9 @@ pub fn at(n: u8) -> Address {
 }
 
 /// A NACK from 10.0.0.N:5000 for numbers of stream 501.
-pub fn nack<A: Allocator + Copy>(alloc: A, n: u8, asked: &[u16]) -> Result<Item<A>, Fail> {
+pub fn nack<A: Allocator + Copy>(alloc: A, n: u8, asked: &[u16]) -> Result<Item<A>, Fail>
+    ensures { IfOk result (λ item. is_sized (input_of item) ≡ true) }
+{
     let mut numbers = Vec::new(alloc);
     numbers.extend_from_slice(asked)?;
     Ok(Item::Nack {
