@@ -316,6 +316,9 @@ class Bridge:
                     lines.append(f"re {self.version} {text}")
         return lines
 
+    def sound(self, address, packet):
+        """Samples on their way to no mix: nobody ticks here."""
+
     def up(self, address, ssrc, nacks, pli):
         if not nacks and not pli:
             return []
@@ -369,6 +372,9 @@ class Bridge:
             source.epoch, source.gate = self.epoch, Gate()
         name = "restarted" if verdict == "restarted" else "accepted"
         if audio:
+            if p["payload"]:
+                self.items += 1
+                self.sound(address, p)
             return [f"rx {name} {ext}"]
         place, frames, nacks, pli = source.gate.admit(ext, p)
         if place != "accepted":
