@@ -8,12 +8,10 @@ mute, set gains, move, remove and undo. BINARY is confbridge; without one the pr
 seconds. The status is 0 where all lines are the same.
 """
 
-import argparse
 import collections
-import random
 import sys
 
-from random_rx import Bridge, compare, printed, rtp
+from random_rx import Bridge, compared, rtp
 
 RATE, TICK, DELAY = 8000, 160, 480
 
@@ -186,22 +184,5 @@ def drawn(r, count):
     return script
 
 
-def main():
-    parser = argparse.ArgumentParser(usage=__doc__)
-    parser.add_argument("--lines", type=int, default=1_000)
-    parser.add_argument("--seed", type=int, default=1)
-    parser.add_argument("--seconds", type=int, default=300)
-    parser.add_argument("binary", nargs="?")
-    args = parser.parse_args()
-    script = drawn(random.Random(args.seed), args.lines)
-    counts = collections.Counter(" ".join(text.split(" ")[: 4 if " dropped " in text else 2 if text.startswith("rx") else 1]) for _, texts in script for text in texts)
-    lines = compare(script, printed([line for line, _ in script], args.binary, args.seconds))
-    print(", ".join(f"{name} {count}" for name, count in sorted(counts.items())))
-    if lines is None:
-        return 1
-    print(f"{len(script)} lines, {lines} lines of answers, no difference")
-    return 0
-
-
 if __name__ == "__main__":
-    sys.exit(main())
+    sys.exit(compared(__doc__, drawn, 1_000))

@@ -517,9 +517,10 @@ def compare(script, got):
     return at
 
 
-def main():
-    parser = argparse.ArgumentParser(usage=__doc__)
-    parser.add_argument("--lines", type=int, default=3_000)
+def compared(usage, drawn, most):
+    """Draws a script, of so many lines where nobody says how many, and compares what is printed. The exit status."""
+    parser = argparse.ArgumentParser(usage=usage)
+    parser.add_argument("--lines", type=int, default=most)
     parser.add_argument("--seed", type=int, default=1)
     parser.add_argument("--seconds", type=int, default=300)
     parser.add_argument("binary", nargs="?")
@@ -535,4 +536,4 @@ def main():
 
 
 if __name__ == "__main__":
-    sys.exit(main())
+    sys.exit(compared(__doc__, drawn, 3_000))
