@@ -49,6 +49,11 @@ few : (d : Desk) → good d ≡ true → (xs : List SlotRow) → AllByRecursion 
 few d g [] each = All-nil (λ (s : SlotRow). s.index < 16)
 few d g (x ∷ xs) each = All-cons (λ (s : SlotRow). s.index < 16) x xs (index_few d x.out_ssrc x g each.0) (few d g xs each.1)
 
+-- so have those of a member
+pub slots_to_few : (d : Desk) (member : ℕ) → good d ≡ true → All (λ (s : SlotRow). s.index < 16) (filter (λ s. nat_eq s.member member) (slots_of d))
+slots_to_few d member g =
+    All-filter (λ s. nat_eq s.member member) (λ (s : SlotRow). s.index < 16) (slots_of d) (few d g (slots_of d) (all_found slot_ssrc (slots_of d) (slots_rise d g)))
+
 takers_few : (d : Desk) (source : ℕ) (address : Address) (sender : MemberRow) → good d ≡ true → Heard d source address sender → All (λ (s : SlotRow). s.index < 16) (takers d source sender)
 takers_few d source address sender g h =
     let chosen = filter (chooses d source) (slots_of d) in

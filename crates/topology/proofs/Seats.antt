@@ -1,5 +1,5 @@
 -- Things seated at their members' places and sorted by these are in the order of the members.
-use Rattle.std.proofs.Common.{◌≡◌, ℕ, zero, suc, ◌+◌, ◌<◌, ◌≤◌, inl, inr, Bool, true, false, cond, not, ◌&&◌, nat_eq, List, [], ◌∷◌, ◌++◌, map, length, Option, None, Some, refl, sym, ap, subst, ◌∙◌, arith, append_assoc, eqb-true}
+use Rattle.std.proofs.Common.{◌≡◌, ℕ, zero, suc, ◌+◌, ◌<◌, ◌≤◌, inl, inr, Bool, true, false, cond, not, ◌&&◌, nat_eq, nat_lt, List, [], ◌∷◌, ◌++◌, map, length, Option, None, Some, refl, sym, ap, subst, ◌∙◌, arith, append_assoc, eqb-true}
 use denote.Param.Members.{Mut}
 use denote.Ref.{Bor}
 use Rattle.std.specs.Prelude.{filter}
@@ -116,6 +116,39 @@ unfolding by_index
 sorted_by_index slots sorted few up moved same =
     in_groups (λ s. s.index) sorted 16 up (All-permutation (λ (s : SlotRow). s.index < 16) slots sorted moved few)
     ∙ groups_same (λ s. s.index) slots sorted (λ i. same (record { out_ssrc = 0; member = 0; index = i; first_seq = 0; first_ts = 0 })) (range_with_len 0 16)
+
+-- no key is great where none of a great one is
+all_small : {X : Type 0} (n : X → ℕ) (l : ℕ) (ys : List X) → ((i : ℕ) → l ≤ i → filter (λ y. nat_eq (n y) i) ys ≡ []) → All (λ y. n y < l) ys
+all_small {X = X} n l [] none = All-nil (λ (y : X). n y < l)
+all_small {X = X} n l (y ∷ ys) none = All-cons (λ (y : X). n y < l) y ys (by (nat_lt (n y) l) refl) (all_small n l ys (λ i great. later (nat_eq (n y) i) (filter (λ y. nat_eq (n y) i) ys) (none i great)))
+  where
+    later : (b : Bool) (zs : List X) → cond b (y ∷ zs) zs ≡ [] → zs ≡ []
+    later true zs h = absurd (cc)
+    later false zs h = h
+
+    by : (b : Bool) → nat_lt (n y) l ≡ b → n y < l
+    by true e = grind (arith, nat_tests)
+    by false e = absurd (let bad : y ∷ filter (λ z. nat_eq (n z) (n y)) ys ≡ [] = sym (ap (λ b. cond b (y ∷ filter (λ z. nat_eq (n z) (n y)) ys) (filter (λ z. nat_eq (n z) (n y)) ys)) (number_itself (n y))) ∙ none (n y) (great e) in cc)
+      where
+        great : nat_lt (n y) l ≡ false → l ≤ n y
+        great e = grind (arith, nat_tests)
+
+-- slots whose indexes don't fall, those of each index being as they stood, are in the order of their indexes
+pub rising_by_index : (slots sorted : List SlotRow) → All (λ s. s.index < 16) slots → IsNonDecreasingBy (λ s. s.index) sorted
+    → ((i : ℕ) → filter (λ s. nat_eq s.index i) sorted ≡ filter (λ s. nat_eq s.index i) slots) → sorted ≡ by_index slots
+unfolding by_index
+rising_by_index slots sorted few up same =
+    in_groups (λ s. s.index) sorted 16 up (all_small (λ (s : SlotRow). s.index) 16 sorted (λ i great. same i ∙ none_great slots few i great))
+    ∙ groups_same (λ s. s.index) slots sorted same (range_with_len 0 16)
+  where
+    none_great : (xs : List SlotRow) → All (λ s. s.index < 16) xs → (i : ℕ) → 16 ≤ i → filter (λ s. nat_eq s.index i) xs ≡ []
+    none_great [] few i great = refl
+    none_great (x ∷ xs) few i great =
+        ap (λ b. cond b (x ∷ filter (λ s. nat_eq s.index i) xs) (filter (λ s. nat_eq s.index i) xs)) (other x.index i (All-head (λ (s : SlotRow). s.index < 16) x xs few) great)
+        ∙ none_great xs (All-tail (λ (s : SlotRow). s.index < 16) x xs few) i great
+      where
+        other : (a b : ℕ) → a < 16 → 16 ≤ b → nat_eq a b ≡ false
+        other a b low high = grind (arith, nat_tests)
 
 -- ---- places
 

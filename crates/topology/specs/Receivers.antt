@@ -25,6 +25,10 @@ chooses d source slot = is_this source (chosen d slot)
 unfoldable pub by_index : List SlotRow → List SlotRow
 by_index slots = flat_map (λ index. filter (λ s. nat_eq s.index index) slots) (range_with_len 0 16)
 
+-- the slots of a member, by index
+abbrev pub slots_to : Desk → ℕ → List SlotRow
+slots_to d member = by_index (filter (λ s. nat_eq s.member member) (slots_of d))
+
 -- a slot as a receiver, at the address of a member
 abbrev pub receiver : MemberRow → SlotRow → Receiver
 receiver m slot = record { slot = slot; address = m.address }

@@ -16,5 +16,5 @@ pub use self::laws::{
     mixes_are_apart, mixes_have_one_member, mixes_stay_in_the_room, nothing_falls_through,
     receivers_are_distinct, rooms_are_small,
 };
-pub use self::looking::{member_at, member_from, sender_of, slot_at, source_from};
+pub use self::looking::{member_at, member_from, sender_of, slot_at, slots_to, source_from};
 pub use self::receivers::{Receiver, receivers_of};

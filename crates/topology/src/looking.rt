@@ -2,6 +2,7 @@
 
 ghost use Rattle.std.specs.Prelude.{◌≡◌};
 ghost use Rattle.topology.specs.Looking.{member_at, slot_at, source_at, subscribed, pinned, holder, is_muted, is_this, sender_of, room_of_member, comes_from, source_from, member_from};
+ghost use Rattle.topology.specs.Receivers.{slots_to};
 
 use desk_rows::{Key, Member, Row, Rows, Slot, Source};
 use rtp_codec::Address;
@@ -35,6 +36,14 @@ pub fn slot_at<A: Allocator + Copy>(rows: &Rows<A>, out_ssrc: u32) -> Option<Slo
         Some(Row::Slot(slot)) => Some(slot),
         _ => None,
     }
+}
+
+/// The slots of a member, by index.
+pub fn slots_to<A: Allocator + Copy>(rows: &Rows<A>, member: u32) -> &[Slot]
+    ensures { result.now ≡ slots_to rows.now member }
+{
+    rows.known();
+    rows.slots_of(member)
 }
 
 /// The source that the slot of this SSRC has subscribed to.
