@@ -8,3 +8,4 @@ pub mod TickSends
 pub mod Givens
 pub mod OverTicks
 pub mod EachMember
+pub mod Told

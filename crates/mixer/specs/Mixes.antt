@@ -6,8 +6,9 @@ use Rattle.rtp_codec.specs.declared.address.Address.{Address}
 use Rattle.desk_rows.specs.declared.row.Member.{Member as MemberRow}
 use Rattle.desk_rows.specs.Desk.{Desk}
 use Rattle.topology.specs.Mixes.{mix_member}
+use Rattle.forward_rewrite.specs.declared.counts.Counts.{Counts}
 use Rattle.forward_rewrite.specs.Sending.{Numbered}
-use Rattle.forward_rewrite.specs.Mixes.{Sound, MixTick, MixOf, mix_list, mix_state}
+use Rattle.forward_rewrite.specs.Mixes.{Sound, MixTick, MixOf, mix_list, mix_state, mix_counts}
 use Rattle.forward_rewrite.specs.OwnStreams.{is_mine}
 use Rattle.mixer.specs.Hearing.{Given, put, tick, voices_of, sound_for}
 
@@ -53,6 +54,11 @@ packets_of ssrc (t ∷ ts) = unwrap_or (option_map (λ h. mix_list ssrc h.member
 abbrev pub stream_of : ℕ → List Turn → Option MixOf
 stream_of ssrc [] = None
 stream_of ssrc (t ∷ ts) = option_or (option_map (λ h. mix_state ssrc h.member.first_seq h.member.first_ts (map tick_of (t ∷ ts))) t.heard) (stream_of ssrc ts)
+
+-- what a sender report tells of the stream after these ticks, once it has begun
+abbrev pub counts_of : ℕ → List Turn → Option Counts
+counts_of ssrc [] = None
+counts_of ssrc (t ∷ ts) = unwrap_or (option_map (λ h. mix_counts ssrc h.member.first_seq h.member.first_ts (map tick_of (t ∷ ts))) t.heard) (counts_of ssrc ts)
 
 -- all packets of a stream
 abbrev pub mixes : ℕ → List Given → List Numbered

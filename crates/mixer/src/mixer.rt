@@ -1,13 +1,15 @@
 //! One lane's mixer.
 
-ghost use Rattle.std.specs.Prelude.{◌≡◌, ℕ, ◌<◌, ◌≤◌, [], length, IfOk, OnOk, OnErr};
-ghost use Rattle.mixer.specs.Hearing.{put};
+ghost use Rattle.std.specs.Prelude.{◌≡◌, ℕ, ◌<◌, ◌≤◌, true, List, [], length, IfOk, OnOk, OnErr};
+ghost use Rattle.forward_rewrite.specs.OwnStreams.{is_mine};
+ghost use Rattle.mixer.specs.Hearing.{Given, put};
+ghost use Rattle.mixer.specs.Mixes.{turns, counts_of};
 ghost use Rattle.mixer.specs.Mixers.{WasGiven, IsGiven, Ticks};
 
 use crate::streams::{MixPacket, Table, commit_all, pass_all, ready_all};
 use crate::voices::{PLACES, voices_of};
 use desk_rows::Rows;
-use forward_rewrite::LanePlace;
+use forward_rewrite::{Counts, LanePlace};
 use indexmap::IndexMap;
 use playout::Playouts;
 use rtp_codec::Address;
@@ -93,5 +95,12 @@ impl<A: Allocator + Copy> Mixer<A> {
         pass_all(&mut self.streams, moment);
         commit_all(&mut self.streams, ready, &mut out);
         Ok(out)
+    }
+
+    /// What a sender report tells of the mix stream of this SSRC (RFC 3550 section 6.4.1), if it is the lane's and has begun.
+    pub fn counts(&self, out_audio: u32) -> Option<Counts>
+        ensures { (lane lanes : ℕ) (given : List Given) → is_mine lane lanes out_audio ≡ true → WasGiven lane lanes self.now given → result ≡ counts_of out_audio (turns out_audio given) }
+    {
+        self.streams.get(&out_audio)?.counts()
     }
 }
