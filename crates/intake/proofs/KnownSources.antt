@@ -39,7 +39,7 @@ equal_numbers m n h = eqb-true m n h
 key_with : List ℕ → ℕ → ℕ → Key
 key_with ip port ssrc = record { ip = ip; port = port; ssrc = ssrc }
 
-equal_keys : (o p : Origin) → same_origin o p ≡ true → key_of p ≡ key_of o
+pub equal_keys : (o p : Origin) → same_origin o p ≡ true → key_of p ≡ key_of o
 unfolding key_with
 equal_keys o p h =
     let one = both (bytes_eq o.address.ip p.address.ip) (nat_eq o.address.port p.address.port && nat_eq o.ssrc p.ssrc) h in

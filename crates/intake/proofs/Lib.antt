@@ -5,6 +5,8 @@ pub mod Moved
 pub mod Answered
 pub mod Courses
 pub mod KnownSources
+pub mod BlocksFrom
+pub mod Renewals
 pub mod Happens
 pub mod Results
 pub mod Turns

@@ -1,26 +1,31 @@
 -- The items that a datagram makes have no more and no fewer samples than they may.
-use Rattle.std.proofs.Common.{◌≡◌, ℕ, ◌-◌, ◌*◌, ◌/◌, ◌%◌, ◌≤◌, true, false, ◌&&◌, nat_eq, nat_le, List, [], ◌∷◌, length, refl, ap, ◌∙◌, arith}
+use Rattle.std.proofs.Common.{◌≡◌, ℕ, ◌-◌, ◌*◌, ◌/◌, ◌%◌, ◌≤◌, true, false, ◌&&◌, nat_eq, nat_le, List, [], ◌∷◌, ◌++◌, length, map, refl, ap, ◌∙◌, arith}
 use Rattle.std.specs.List.{list_all, flat_map}
 use Rattle.std.proofs.lemmas.List.{length-map}
 use Rattle.std.proofs.lemmas.Bool.{and_parts, le-leb, leb-true, eqb-true, eqb-false}
 use Rattle.rtp_codec.specs.declared.address.Address.{Address}
+use Rattle.rtcp_codec.specs.declared.report.ReportBlock.{ReportBlock}
 use Rattle.rtcp_codec.specs.Packet.{Packet, Sender, Receiver, Sdes, Bye, App, Nack, Pli, Other}
 use Rattle.frame_gate.specs.Frame.{WholeFrame}
 use Rattle.g711.specs.MuLaw.{decoded}
 use Rattle.l16.specs.Samples.{samples_of}
-use Rattle.intake.specs.Inputs.{most_samples, is_sized}
+use Rattle.intake.specs.Inputs.{Input, most_samples, is_sized}
 use Rattle.intake.specs.Sources.{Origin}
 use Rattle.intake.specs.Media.{Coming, frames_from, is_audio, samples_of_packet, sound_of}
-use Rattle.intake.specs.Control.{asks}
+use Rattle.intake.specs.Control.{asks, block_item}
 
 pub sized_frames : (o : Origin) (moment epoch : ℕ) (frames : List WholeFrame) → list_all is_sized (frames_from o moment epoch frames) ≡ true
 sized_frames o moment epoch [] = refl
 sized_frames o moment epoch (f ∷ frames) = sized_frames o moment epoch frames
 
+sized_blocks : (from : Address) (blocks : List ReportBlock) (rest : List Input) → list_all is_sized rest ≡ true → list_all is_sized (map (block_item from) blocks ++ rest) ≡ true
+sized_blocks from [] rest h = h
+sized_blocks from (b ∷ blocks) rest h = sized_blocks from blocks rest h
+
 pub sized_asks : (from : Address) (packets : List Packet) → list_all is_sized (flat_map (asks from) packets) ≡ true
 sized_asks from [] = refl
-sized_asks from (Sender ssrc ntp ts packets octets blocks ∷ ps) = sized_asks from ps
-sized_asks from (Receiver ssrc blocks ∷ ps) = sized_asks from ps
+sized_asks from (Sender ssrc ntp ts packets octets blocks ∷ ps) = sized_blocks from blocks _ (sized_asks from ps)
+sized_asks from (Receiver ssrc blocks ∷ ps) = sized_blocks from blocks _ (sized_asks from ps)
 sized_asks from (Sdes chunks ∷ ps) = sized_asks from ps
 sized_asks from (Bye ssrcs reason ∷ ps) = sized_asks from ps
 sized_asks from (App subtype ssrc name content ∷ ps) = sized_asks from ps

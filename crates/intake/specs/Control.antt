@@ -1,6 +1,7 @@
--- What an RTCP compound comes to (RFC 3550 section 6.4.1, RFC 4585 section 6.2.1; what has no effect is own).
-use Rattle.std.specs.Prelude.{ℕ, if◌then◌else◌, List, [], ◌∷◌, ◌++◌, fold}
+-- What an RTCP compound comes to (RFC 3550 section 6.4.1, RFC 4585 sections 6.2.1 and 6.3.1; what has no effect is own).
+use Rattle.std.specs.Prelude.{ℕ, if◌then◌else◌, List, [], ◌∷◌, ◌++◌, map, fold}
 use Rattle.rtp_codec.specs.declared.address.Address.{Address}
+use Rattle.rtcp_codec.specs.declared.report.ReportBlock.{ReportBlock}
 use Rattle.rtcp_codec.specs.Packet.{Packet, Sender, Receiver, Sdes, Bye, App, Nack, Pli, Other}
 use Rattle.source_valid.specs.declared.heard.Heard.{Heard}
 use Rattle.source_valid.specs.Histories.{Sender as Noted, standing_of, past_probation_in}
@@ -9,15 +10,19 @@ use Rattle.intake.specs.Inputs.{Input}
 use Rattle.intake.specs.Stories.{Story}
 use Rattle.intake.specs.Sources.{Known, retold}
 
--- the items that a packet makes: a NACK is one
+-- a report block as an item
+abbrev pub block_item : Address → ReportBlock → Input
+block_item from b = Input.block (record { from = from; block = b })
+
+-- the items that a packet makes: each report block is one, so is a NACK, so is a PLI
 abbrev pub asks : Address → Packet → List Input
 asks from (Nack sender media words) = Input.nack (record { from = from; out_ssrc = media; numbers = asked_in (Nack sender media words) }) ∷ []
-asks from (Sender ssrc ntp ts packets octets blocks) = []
-asks from (Receiver ssrc blocks) = []
+asks from (Sender ssrc ntp ts packets octets blocks) = map (block_item from) blocks
+asks from (Receiver ssrc blocks) = map (block_item from) blocks
 asks from (Sdes chunks) = []
 asks from (Bye ssrcs reason) = []
 asks from (App subtype ssrc name content) = []
-asks from (Pli sender media) = []
+asks from (Pli sender media) = Input.pli (record { from = from; out_ssrc = media }) ∷ []
 asks from (Other pt count body) = []
 
 -- a source past probation is given the sender report

@@ -1,9 +1,10 @@
 -- What lanes are given, wherever its octets lie in memory.
 use Rattle.std.specs.Prelude.{ℕ, ℤ, Bool, true, ◌&&◌, nat_le, List, length}
 use Rattle.rtp_codec.specs.declared.address.Address.{Address}
+use Rattle.rtcp_codec.specs.declared.report.ReportBlock.{ReportBlock}
 use Rattle.forward_rewrite.specs.Frame.{SourceFrame}
 use Rattle.intake.specs.declared.item.Item.{Item}
-use Rattle.intake.specs.declared.item.Item.TheVariants.{Frame, Audio, Tick, Nack}
+use Rattle.intake.specs.declared.item.Item.TheVariants.{Frame, Audio, Tick, Nack, Block, Pli, Report}
 
 -- the sound of an audio packet: its source and the address it came from, the timestamp of its first sample, and its samples
 pub record Sound : Type 0 where
@@ -18,12 +19,25 @@ pub record Request : Type 0 where
   pub out_ssrc : ℕ
   pub numbers : List ℕ
 
+-- what a receiver, by its address, tells of an outgoing stream
+pub record Told : Type 0 where
+  pub from : Address
+  pub block : ReportBlock
+
+-- who has lost the picture of an outgoing stream, by its address
+pub record Loss : Type 0 where
+  pub from : Address
+  pub out_ssrc : ℕ
+
 -- what a lane is given
 pub data Input : Type 0 where
   frame : SourceFrame → Input
   audio : Sound → Input
   tick : (moment : ℕ) → Input
   nack : Request → Input
+  block : Told → Input
+  pli : Loss → Input
+  report : (moment : ℕ) → Input
 
 -- what a lane is given, without where its octets lie
 abbrev pub input_of : {A : Type 0} → Item A → Input
@@ -31,6 +45,9 @@ input_of (Frame f) = Input.frame f
 input_of (Audio ssrc address ts samples) = Input.audio record { source = ssrc; address = address; ts = ts; samples = samples.items }
 input_of (Tick moment) = Input.tick moment
 input_of (Nack from out_ssrc numbers) = Input.nack record { from = from; out_ssrc = out_ssrc; numbers = numbers.items }
+input_of (Block from b) = Input.block record { from = from; block = b }
+input_of (Pli from out_ssrc) = Input.pli record { from = from; out_ssrc = out_ssrc }
+input_of (Report moment) = Input.report moment
 
 -- the most samples of an audio packet: 200 ms (own)
 abbrev pub most_samples : ℕ
@@ -42,3 +59,6 @@ is_sized (audio sound) = nat_le 1 (length sound.samples) && nat_le (length sound
 is_sized (frame f) = true
 is_sized (tick moment) = true
 is_sized (nack request) = true
+is_sized (block told) = true
+is_sized (pli loss) = true
+is_sized (report moment) = true

@@ -5,6 +5,9 @@ use Rattle.intake.specs.Sources.{Sources}
 use Rattle.intake.specs.Ingested.{Ingested}
 use Rattle.intake.specs.Taking.{Voice, IsVoice, Datagram, taken_in}
 use Rattle.intake.specs.inner.Holding.{Holds, IntakeOf}
+use Rattle.intake.specs.Reported.{reported}
+use Rattle.rtp_codec.specs.declared.address.Address.{Address}
+use Rattle.desk_rows.specs.Desk.{Desk}
 
 -- These are the sources that the intake knows.
 pub record Knows (i : IntakeOf) (s : Sources) : Type 0 where
@@ -20,3 +23,8 @@ Moves old new ingested happens =
 abbrev pub TakesIn : IntakeOf → IntakeOf → Ingested → List ℕ → (Reading → Datagram) → Type 0
 TakesIn old new ingested octets datagram =
     (r : Reading) → IsReading octets r → Moves old new ingested (λ voice s. taken_in voice s (datagram r))
+
+-- Whatever sources the old intake knew, this is what is told of them to their senders, and the new one knows them with their new intervals.
+abbrev pub Tells : IntakeOf → IntakeOf → List (Address × List ℕ) → Desk → ℕ → Type 0
+Tells old new told desk moment =
+    (s : Sources) → Knows old s → (told ≡ (reported old.asker desk moment s).0) × Knows new (reported old.asker desk moment s).1

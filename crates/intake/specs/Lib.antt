@@ -7,5 +7,6 @@ pub mod Ingested
 pub mod Media
 pub mod Control
 pub mod Taking
+pub mod Reported
 pub mod Intakes
 pub mod inner

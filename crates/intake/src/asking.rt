@@ -4,15 +4,32 @@ ghost use Rattle.std.specs.Prelude.{◌≡◌, ◌++◌, map, IfOk, OnOk};
 ghost use Rattle.std.specs.List.{flat_map};
 ghost use Rattle.rtcp_codec.specs.View.{packet_of, packets_of};
 ghost use Rattle.intake.specs.Inputs.{input_of};
-ghost use Rattle.intake.specs.Control.{asks};
+ghost use Rattle.intake.specs.Control.{asks, block_item};
 
 use crate::item::Item;
 use feedback::numbers_of;
-use rtcp_codec::Rtcp;
+use rtcp_codec::{ReportBlock, Rtcp};
 use rtp_codec::Address;
 use std::alloc::{AllocError, Allocator};
 
-/// Appends the item that a packet makes, if it makes one.
+/// Appends an item for each report block.
+fn put_blocks<A: Allocator + Copy>(
+    items: &mut Vec<Item<A>, A>,
+    from: &Address,
+    blocks: &[ReportBlock],
+) -> Result<(), AllocError>
+    ensures { OnOk result (map input_of items.new.items ≡ map input_of items.old.items ++ map (block_item from.now) blocks.now) }
+{
+    for block in blocks {
+        items.push(Item::Block {
+            from: *from,
+            block: *block,
+        })?;
+    }
+    Ok(())
+}
+
+/// Appends the items that a packet makes.
 fn put_asked<A: Allocator + Copy>(
     alloc: A,
     items: &mut Vec<Item<A>, A>,
@@ -31,13 +48,16 @@ fn put_asked<A: Allocator + Copy>(
             })?;
             Ok(())
         }
-        Rtcp::Sender(_)
-        | Rtcp::Receiver(_)
-        | Rtcp::Sdes(_)
-        | Rtcp::Bye(_)
-        | Rtcp::App(_)
-        | Rtcp::Pli(_)
-        | Rtcp::Other(_) => Ok(()),
+        Rtcp::Pli(pli) => {
+            items.push(Item::Pli {
+                from: *from,
+                out_ssrc: pli.media,
+            })?;
+            Ok(())
+        }
+        Rtcp::Sender(report) => put_blocks(items, from, &report.blocks),
+        Rtcp::Receiver(report) => put_blocks(items, from, &report.blocks),
+        Rtcp::Sdes(_) | Rtcp::Bye(_) | Rtcp::App(_) | Rtcp::Other(_) => Ok(()),
     }
 }
 

@@ -2,17 +2,19 @@
 //!
 //! Its other methods: a media packet goes on in `media`, which turns to `advancing` for its source, to `gating` for the source's
 //! gate, and from there to `upward` for what the source is asked for; a compound goes on in `control`.
+//! What is told of sources is made in `reporting`.
 
-ghost use Rattle.std.specs.Prelude.{◌≡◌, true, IfOk, OnOk, OnErr};
+ghost use Rattle.std.specs.Prelude.{◌≡◌, true, map, IfOk, OnOk, OnErr};
 ghost use Rattle.intake.specs.Readings.{Reading, IsReading};
 ghost use Rattle.intake.specs.Names.{is_name};
 ghost use Rattle.intake.specs.Sources.{no_sources};
-ghost use Rattle.intake.specs.Ingested.{ingested_of};
-ghost use Rattle.intake.specs.Intakes.{Knows, TakesIn};
+ghost use Rattle.intake.specs.Ingested.{ingested_of, datagram_of};
+ghost use Rattle.intake.specs.Intakes.{Knows, TakesIn, Tells};
 
 use crate::ingest::Ingest;
 use crate::known::Known;
 use crate::outcome::Outcome;
+use crate::reporting::sources_of;
 use crate::settings::Settings;
 use desk_rows::Rows;
 use rtp_codec::{Address, Class, classify};
@@ -84,5 +86,28 @@ impl<A: Allocator + Copy> Intake<A> {
             Class::Rtp => self.rtp(alloc, rows, from, moment, octets),
             Class::Rtcp => self.rtcp(alloc, rows, from, moment, octets),
         }
+    }
+
+    /// The receiver reports of the bridge at a moment, in nanoseconds since 1970: for each member, by place, of whose sources one at
+    /// least is known and past probation at the member's address, one datagram to this address (RFC 3550 section 6.4.2), a block
+    /// for each such source by SSRC, muted ones too.
+    ///
+    /// For each source that is told of, and for no other, a new interval begins. The order of use stays.
+    ///
+    /// An error says that memory was refused, and then nothing has changed.
+    pub fn reports(
+        &mut self,
+        alloc: A,
+        rows: &Rows<A>,
+        moment: u64,
+    ) -> Result<Vec<(Address, Vec<u8, A>), A>, AllocError>
+        ensures tells { IfOk result (λ up. Tells self.old self.new (map datagram_of up.items) rows.now moment) }
+        ensures err { OnErr result (self.new ≡ self.old) }
+        ensures asker { self.new.asker ≡ self.old.asker }
+    {
+        let sources = sources_of(alloc, rows)?;
+        let up = self.told_to(alloc, rows.members(), &sources, moment)?;
+        self.known.renew_all(rows, &sources);
+        Ok(up)
     }
 }

@@ -1,6 +1,7 @@
 //! What a lane is given.
 
 use forward_rewrite::MediaFrame;
+use rtcp_codec::ReportBlock;
 use rtp_codec::Address;
 use std::alloc::{Allocator, Global};
 
@@ -33,5 +34,24 @@ pub enum Item<A: Allocator + Copy = Global> {
         out_ssrc: u32,
         /// Their sequence numbers. Each counts at its first place.
         numbers: Vec<u16, A>,
+    },
+    /// What a receiver tells of an outgoing stream: a report block (RFC 3550 section 6.4.1).
+    Block {
+        /// From where it came.
+        from: Address,
+        /// The block; its SSRC is that of the outgoing stream.
+        block: ReportBlock,
+    },
+    /// A picture loss indication (RFC 4585 section 6.3.1): a receiver has lost the picture.
+    Pli {
+        /// From where it came.
+        from: Address,
+        /// The outgoing stream whose picture is lost.
+        out_ssrc: u32,
+    },
+    /// Sender reports of all streams are due. The intake makes none.
+    Report {
+        /// Nanoseconds since 1970.
+        moment: u64,
     },
 }

@@ -1,12 +1,15 @@
 //! What is kept of a source.
 
 ghost use Rattle.std.specs.Prelude.{◌≡◌, None, Some, true, is_some, IfSome, option_map};
+ghost use Rattle.rtcp_codec.specs.Report.{FitsLost};
 ghost use Rattle.intake.specs.Stories.{Story};
 ghost use Rattle.intake.specs.Control.{heard_on};
+ghost use Rattle.intake.specs.Reported.{block_on, renewed};
 ghost use Rattle.intake.specs.inner.Kept.{Keeps, base_of, gate_for, SettlesAll, Becomes};
 
 use crate::admitting::{Admission, settle};
 use frame_gate::{Admitted, Gate};
+use rtcp_codec::ReportBlock;
 use source_valid::Source;
 use std::alloc::{Allocator, Global};
 use std::marker::Model;
@@ -88,6 +91,29 @@ impl<A: Allocator + Copy> Kept<A> {
     {
         if self.source.past_probation() {
             self.source.sender_report(ntp, moment);
+        }
+    }
+
+    /// The report block at a moment, past probation.
+    pub(crate) fn block(&self, ssrc: u32, moment: u64) -> Option<ReportBlock>
+        ensures block { (story : Story) → Keeps self.now story → result ≡ block_on ssrc moment story }
+        ensures fits { IfSome result (λ b. FitsLost b.lost) }
+    {
+        let mut source = self.source;
+        if !source.past_probation() {
+            return None;
+        }
+        Some(source.block(ssrc, moment))
+    }
+
+    /// Begins a new interval, past probation.
+    pub(crate) fn renew(&mut self)
+        ensures { (story : Story) → Keeps self.old story → Keeps self.new (renewed story) }
+    {
+        let source = &mut self.source;
+        if source.past_probation() {
+            // What the block says was told before.
+            source.block(0, 0);
         }
     }
 }

@@ -5,6 +5,7 @@ ghost use Rattle.std.specs.Prelude.{List};
 ghost use Rattle.rtcp_codec.specs.View.{packet_of, packets_of};
 ghost use Rattle.intake.specs.Sources.{most_known, Known as KnownOf, retold};
 ghost use Rattle.intake.specs.Control.{heard_on, noted, noted_all};
+ghost use Rattle.intake.specs.Reported.{renewed};
 ghost use Rattle.intake.specs.inner.Kept.{KeptOf, base_of, gate_for, Becomes};
 ghost use Rattle.intake.specs.inner.Holding.{Holds, kept_at, key_of, put_first};
 
@@ -122,6 +123,16 @@ impl<A: Allocator + Copy> Known<A> {
         let key = key_of(from, ssrc);
         match self.cache.peek_mut(&key) {
             Some(kept) => kept.hear(ntp, moment),
+            None => {}
+        }
+    }
+
+    /// Begins a new interval of a source, if it is known and past probation. The order of use stays.
+    pub(crate) fn renew(&mut self, from: &Address, ssrc: u32)
+        ensures { (known : List KnownOf) → Holds self.old known → Holds self.new (retold (record { address = from.now; ssrc = ssrc }) renewed known) }
+    {
+        match self.cache.peek_mut(&key_of(from, ssrc)) {
+            Some(kept) => kept.renew(),
             None => {}
         }
     }

@@ -1,10 +1,10 @@
 //! Settings.
 
-ghost use Rattle.std.specs.Prelude.{◌≡◌};
+ghost use Rattle.std.specs.Prelude.{◌≡◌, IfOk};
 ghost use Rattle.intake.specs.Names.{is_name};
 
 use bytes::Bytes;
-use std::alloc::{Allocator, Global};
+use std::alloc::{AllocError, Allocator, Global};
 
 /// The most octets of a canonical name.
 const NAME_OCTETS: usize = 255;
@@ -25,5 +25,16 @@ impl<A: Allocator + Copy> Settings<A> {
     {
         let octets = self.cname.len();
         0 < octets && octets <= NAME_OCTETS
+    }
+
+    /// The same settings again. The octets of the name are shared.
+    pub fn try_clone(&self) -> Result<Self, AllocError>
+        ensures { IfOk result (λ s. (s.bridge_ssrc ≡ self.now.bridge_ssrc) × (s.cname ≡ self.now.cname)) }
+    {
+        let cname = self.cname.clone()?;
+        Ok(Self {
+            bridge_ssrc: self.bridge_ssrc,
+            cname,
+        })
     }
 }

@@ -1,0 +1,143 @@
+//! What is told of sources to the members that send them.
+
+ghost use Rattle.std.specs.Prelude.{◌≡◌, ◌++◌, List, map, filter_map, IfOk, OnOk, IfSome};
+ghost use Rattle.std.specs.List.{AllByRecursion};
+ghost use Rattle.rtcp_codec.specs.Report.{FitsLost};
+ghost use Rattle.topology.specs.Looking.{source_in};
+ghost use Rattle.topology.specs.Choice.{sources_of};
+ghost use Rattle.intake.specs.Ingested.{datagram_of};
+ghost use Rattle.intake.specs.Sources.{Known as KnownOf};
+ghost use Rattle.intake.specs.Reported.{block_from, blocks_of, report_to, told_to_members, renewed_on, all_renewed};
+ghost use Rattle.intake.specs.inner.Holding.{Holds};
+
+use crate::intake::Intake;
+use crate::known::{Known, key_of};
+use crate::settings::Settings;
+use desk_rows::{Kind, Member, Row, Rows, Source};
+use reports::receiver_report;
+use rtcp_codec::ReportBlock;
+use rtp_codec::Address;
+use std::alloc::{AllocError, Allocator};
+use topology::member_at;
+
+/// The source in a row.
+fn source_in(row: &Row) -> Option<Source>
+    ensures { result ≡ source_in row.now }
+{
+    match row {
+        Row::Source(source) => Some(*source),
+        _ => None,
+    }
+}
+
+/// The sources in these rows.
+fn sources_in<A: Allocator>(alloc: A, these: &[Row]) -> Result<Vec<Source, A>, AllocError>
+    ensures { IfOk result (λ v. v.items ≡ filter_map source_in these.now) }
+{
+    these.iter().filter_map(|row| source_in(row)).collect(alloc)
+}
+
+/// The sources of the desk by SSRC.
+pub(crate) fn sources_of<A: Allocator + Copy>(
+    alloc: A,
+    rows: &Rows<A>,
+) -> Result<Vec<Source, A>, AllocError>
+    ensures { IfOk result (λ v. v.items ≡ sources_of rows.now) }
+{
+    sources_in(alloc, rows.others_of(Kind::Source))
+}
+
+impl<A: Allocator + Copy> Known<A> {
+    /// The block of a source at a moment, where it is this member's, known at the member's address, and past probation.
+    fn block_from(&self, member: &Member, source: &Source, moment: u64) -> Option<ReportBlock>
+        ensures block { (known : List KnownOf) → Holds self.now known → result ≡ block_from moment known member.now source.now }
+        ensures fits { IfSome result (λ b. FitsLost b.lost) }
+    {
+        if source.member != member.member {
+            return None;
+        }
+        match self.at(&key_of(&member.address, source.ssrc)) {
+            None => None,
+            Some(kept) => kept.block(source.ssrc, moment),
+        }
+    }
+
+    /// The blocks of the member's sources among these, in their order.
+    fn blocks_of(
+        &self,
+        alloc: A,
+        member: &Member,
+        sources: &[Source],
+        moment: u64,
+    ) -> Result<Vec<ReportBlock, A>, AllocError>
+        ensures blocks { (known : List KnownOf) → Holds self.now known → IfOk result (λ v. v.items ≡ blocks_of sources.now moment known member.now) }
+        ensures fits { IfOk result (λ v. AllByRecursion (λ b. FitsLost b.lost) v.items) }
+    {
+        let mut blocks = Vec::new(alloc);
+        for source in sources {
+            if let Some(block) = self.block_from(member, source, moment) {
+                blocks.push(block)?;
+            }
+        }
+        Ok(blocks)
+    }
+
+    /// Begins new intervals of those of these sources that are known at their members' addresses, and past probation.
+    pub(crate) fn renew_all(&mut self, rows: &Rows<A>, sources: &[Source])
+        ensures { (known : List KnownOf) → Holds self.old known → Holds self.new (all_renewed rows.now known sources.now) }
+    {
+        for source in sources {
+            self.renew_on(rows, source);
+        }
+    }
+
+    /// Begins a new interval of a source, if it is known at its member's address, and past probation.
+    fn renew_on(&mut self, rows: &Rows<A>, source: &Source)
+        ensures { (known : List KnownOf) → Holds self.old known → Holds self.new (renewed_on rows.now known source.now) }
+    {
+        match member_at(rows, source.member) {
+            None => {}
+            Some(member) => self.renew(&member.address, source.ssrc),
+        }
+    }
+}
+
+impl<A: Allocator + Copy> Intake<A> {
+    /// Appends what a member is told of those of the sources that are its own, if there is anything.
+    fn put_report(
+        &self,
+        alloc: A,
+        up: &mut Vec<(Address, Vec<u8, A>), A>,
+        member: &Member,
+        sources: &[Source],
+        moment: u64,
+    ) -> Result<(), AllocError>
+        ensures { (known : List KnownOf) → Holds self.now.entries known → OnOk result (map datagram_of up.new.items ≡ map datagram_of up.old.items ++ report_to self.now.asker member.now.address (blocks_of sources.now moment known member.now)) }
+    {
+        let blocks = self.known.blocks_of(alloc, member, sources, moment)?;
+        if blocks.is_empty() {
+            return Ok(());
+        }
+        let Settings { bridge_ssrc, cname } = &self.settings;
+        let octets = receiver_report(alloc, *bridge_ssrc, &blocks, cname)?;
+        up.push((member.address, octets))?;
+        Ok(())
+    }
+
+    /// What the members are told of those of the sources that are theirs.
+    pub(crate) fn told_to(
+        &self,
+        alloc: A,
+        members: &[Member],
+        sources: &[Source],
+        moment: u64,
+    ) -> Result<Vec<(Address, Vec<u8, A>), A>, AllocError>
+        ensures { (known : List KnownOf) → Holds self.now.entries known → IfOk result (λ up. map datagram_of up.items ≡ told_to_members self.now.asker sources.now moment known members.now) }
+    {
+        let mut up = Vec::new(alloc);
+        for member in members {
+            self.put_report(alloc, &mut up, member, sources, moment)?;
+        }
+        Ok(up)
+    }
+}
