@@ -14,6 +14,7 @@ use Rattle.feedback.specs.Asked.{firsts}
 use Rattle.feedback.specs.Resends.{resends_to, resends}
 use Rattle.forward_rewrite.specs.OwnStreams.{is_mine}
 use Rattle.intake.specs.Inputs.{Input, Request}
+use Rattle.feedback.specs.Upstream.{Asker}
 use Rattle.bridge_core.specs.Sent.{Sent}
 use Rattle.bridge_core.specs.Lanes.{Visit, Routed, routed, packets_sent, stream_of, packets, goes, is_lanes}
 use Rattle.bridge_core.specs.LaneState.{StreamList, stream_at, visit_of, AreLeft}
@@ -38,7 +39,7 @@ nothing_again d from numbers = by (member_from d from)
     by None = refl
     by (Some member) = nothing_to (record { member = member; address = from }) (firsts numbers)
 
-module _ (lane lanes : ℕ) (streams : StreamList) (stamp : Stamp) (desk : Desk) (request : Request) (sent : List Sent) where
+module _ (who : Asker) (lane lanes : ℕ) (streams : StreamList) (stamp : Stamp) (desk : Desk) (request : Request) (sent : List Sent) where
   abbrev k : ℕ
   k = request.out_ssrc
 
@@ -58,13 +59,13 @@ module _ (lane lanes : ℕ) (streams : StreamList) (stamp : Stamp) (desk : Desk)
   share window = all_or_none (is_lanes lane lanes) (is_mine lane lanes k) k (Some stamp.version) (λ p. refl) (resends desk request.from request.numbers window)
 
   -- the stream is another lane's
-  pub others_answered : is_mine lane lanes k ≡ false → sent ≡ [] → Answers lane lanes streams streams visit sent
+  pub others_answered : is_mine lane lanes k ≡ false → sent ≡ [] → Answers who lane lanes streams streams visit sent
   others_answered not is before left =
       let window = latest room (packets k before) in
       (is ∙ sym (ap (λ b. cond b (map (goes k (Some stamp.version)) (resends desk request.from request.numbers window)) []) not) ∙ sym (share window), stay before left)
 
   -- the stream is the lane's
-  pub mine_answered : is_mine lane lanes k ≡ true → sent ≡ map (goes k (Some stamp.version)) (resends desk request.from request.numbers (window_of (stream_at k streams))) → Answers lane lanes streams streams visit sent
+  pub mine_answered : is_mine lane lanes k ≡ true → sent ≡ map (goes k (Some stamp.version)) (resends desk request.from request.numbers (window_of (stream_at k streams))) → Answers who lane lanes streams streams visit sent
   mine_answered mine is before left =
       let window = latest room (packets k before) in (
         is ∙ ap (λ w. map (goes k (Some stamp.version)) (resends desk request.from request.numbers w)) (window_left (routed k before) (stream_at k streams) (left k mine))

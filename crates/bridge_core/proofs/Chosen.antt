@@ -16,6 +16,7 @@ use Rattle.forward_rewrite.specs.RoutedList.{part_of, numbered}
 use Rattle.frame_gate.specs.Frame.{SourcePacket}
 use Rattle.forward_rewrite.specs.OwnStreams.{is_mine}
 use Rattle.intake.specs.Inputs.{Input}
+use Rattle.feedback.specs.Upstream.{Asker}
 use Rattle.bridge_core.specs.Lanes.{Visit, routed_to, packets_at, goes, is_lanes, sends_at}
 use Rattle.bridge_core.specs.LaneState.{visit_of}
 use Rattle.bridge_core.specs.Headline.{IsChosenOf, GoesWhole}
@@ -103,21 +104,21 @@ module _ (version item : ℕ) (d : Desk) (f : SourceFrame) (below : Below) (befo
       (subst (λ ps. AllByRecursion (IsChosenOf visit f) (map (goes k None) ps)) (sym whole.3) (each_part k whole.0 whole.1 r all.0 f.frame.packets))
       (each_receiver rs all.1)
 
-  pub all_chosen : (lane lanes : ℕ) → AllByRecursion (IsChosenOf visit f) (sends_at lane lanes before visit)
-  all_chosen lane lanes =
+  pub all_chosen : (who : Asker) (lane lanes : ℕ) → AllByRecursion (IsChosenOf visit f) (sends_at who lane lanes before visit)
+  all_chosen who lane lanes =
       let is = below.found d f h in
       let all = receivers d f.source f.address in
       all-filter (IsChosenOf visit f) (is_lanes lane lanes) (flat_map (λ r. map (goes r.slot.out_ssrc None) (packets_at r.slot.out_ssrc before visit)) all)
       (each_receiver all (all_on d f is all (all_found all is.apart)))
 
-  pub goes_whole : (lane lanes k : ℕ) (r : Receiver) → is_mine lane lanes k ≡ true → receiver_on d f.source f.address k ≡ Some r
-      → GoesWhole k (routed_to visit f r).sending (on k (sends_at lane lanes before visit))
-  goes_whole lane lanes k r mine at =
+  pub goes_whole : (who : Asker) (lane lanes k : ℕ) (r : Receiver) → is_mine lane lanes k ≡ true → receiver_on d f.source f.address k ≡ Some r
+      → GoesWhole k (routed_to visit f r).sending (on k (sends_at who lane lanes before visit))
+  goes_whole who lane lanes k r mine at =
       let whole = whole_at below.grows k before visit (routed_to visit f r) (ap (option_map (routed_to visit f)) at) in record {
         number = whole.0;
         ts = whole.1;
         whole =
-            on_of_lane k lane lanes version item d f before (below.found d f h)
+            on_of_lane who k lane lanes version item d f before (below.found d f h)
             ∙ ap (λ b. cond b (map (goes k None) (packets_at k before visit)) []) mine
             ∙ ap (map (goes k None)) whole.3;
       }

@@ -16,6 +16,7 @@ use Rattle.forward_rewrite.specs.RoutedList.{packets_of}
 use Rattle.forward_rewrite.specs.Streams.{PreparedOf, state_of, committed, SendsNext}
 use Rattle.forward_rewrite.specs.OwnStreams.{is_mine}
 use Rattle.intake.specs.Inputs.{Input}
+use Rattle.feedback.specs.Upstream.{Asker}
 use Rattle.bridge_core.specs.Sent.{Sent}
 use Rattle.bridge_core.specs.Lanes.{Visit, Routed, routed_to, routed_at, routed, sendings, packets_sent, stream_of, packets, packets_at, owner_of, goes, is_lanes, sends_at}
 use Rattle.bridge_core.specs.LaneState.{StreamList, stream_at, visit_of, AreLeft}
@@ -132,10 +133,10 @@ share_of_all lane lanes packets (r ∷ rs) =
     ∙ ap (λ es. cond (is_mine lane lanes r.slot.out_ssrc) (G r) [] ++ es) (share_of_all lane lanes packets rs)
     ∙ (elim (is_mine lane lanes r.slot.out_ssrc) as (λ b. cond b (G r) [] ++ flat_map G left ≡ flat_map G (cond b (r ∷ left) left)) [ true ↦ refl | false ↦ refl ])
 
-module _ (lane lanes : ℕ) (streams : StreamList) (stamp : Stamp) (desk : Desk) (f : SourceFrame) (rs : List ReadyOf) (is : IsFor lane lanes streams stamp desk f rs) (before : List Visit)
+module _ (who : Asker) (lane lanes : ℕ) (streams : StreamList) (stamp : Stamp) (desk : Desk) (f : SourceFrame) (rs : List ReadyOf) (is : IsFor lane lanes streams stamp desk f rs) (before : List Visit)
     (left : AreLeft lane lanes streams before) where
   -- what is sent for a frame
-  sent_alike : sent_for rs ≡ sends_at lane lanes before (frame_visit stamp desk f)
+  sent_alike : sent_for rs ≡ sends_at who lane lanes before (frame_visit stamp desk f)
   sent_alike =
       let v = frame_visit stamp desk f in
       let packets_for = λ (r : Receiver). packets_at r.slot.out_ssrc before v in
@@ -152,18 +153,18 @@ module _ (lane lanes : ℕ) (streams : StreamList) (stamp : Stamp) (desk : Desk)
       ∙ sym (share_of_all lane lanes packets_for (receivers desk f.source f.address))
 
 -- the streams answer a frame
-pub frame_answered : (lane lanes : ℕ) (old new : StreamList) (stamp : Stamp) (desk : Desk) (f : SourceFrame) (rs : List ReadyOf) (sent : List Sent) → AreDistinct (receivers desk f.source f.address)
+pub frame_answered : (who : Asker) (lane lanes : ℕ) (old new : StreamList) (stamp : Stamp) (desk : Desk) (f : SourceFrame) (rs : List ReadyOf) (sent : List Sent) → AreDistinct (receivers desk f.source f.address)
     → ((k : ℕ) → receiver_at k (receivers desk f.source f.address) ≡ receiver_on desk f.source f.address k)
     → receivers_of rs ≡ filter (λ r. is_mine lane lanes r.slot.out_ssrc) (receivers desk f.source f.address) → AreNext old stamp f rs
     → ((k : ℕ) → stream_at k new ≡ kept_after k rs (stream_at k old)) → sent ≡ sent_for rs
-    → Answers lane lanes old new (visit_of stamp.version stamp.item desk (Input.frame f)) sent
-frame_answered lane lanes old new stamp desk f rs sent distinct found same next streams are before left =
+    → Answers who lane lanes old new (visit_of stamp.version stamp.item desk (Input.frame f)) sent
+frame_answered who lane lanes old new stamp desk f rs sent distinct found same next streams are before left =
     let is : IsFor lane lanes old stamp desk f rs = record {
       apart = subst AreDistinct (sym same) (AreDistinct-filter _ (receivers desk f.source f.address) distinct);
       all = same;
       found = found;
       next = next;
     } in (
-      are ∙ sent_alike lane lanes old stamp desk f rs is before left,
+      are ∙ sent_alike who lane lanes old stamp desk f rs is before left,
       λ k mine. streams k ∙ kept_after-distinct k rs (stream_at k old) is.apart ∙ sym ((at_key lane lanes old stamp desk f rs is before k mine (left k mine) (ready_at k rs) refl).0),
     )

@@ -15,6 +15,7 @@ use Rattle.feedback.specs.Resends.{resends_to, resends}
 use Rattle.feedback.specs.Asked.{firsts as each_once}
 use Rattle.forward_rewrite.specs.OwnStreams.{is_mine}
 use Rattle.intake.specs.Inputs.{Input, Request}
+use Rattle.feedback.specs.Upstream.{Asker}
 use Rattle.bridge_core.specs.Sent.{Sent}
 use Rattle.bridge_core.specs.Lanes.{Visit, Routed, routed, sendings, packets_sent, packets, goes, is_lanes, sends_at}
 use Rattle.bridge_core.specs.Steps.{Step, visits, visit_after}
@@ -37,7 +38,7 @@ found_in : Finds → (k : ℕ) (rs : List Routed) (number : ℕ) (owner : Owner)
 found_in finds k [] number owner p e = absurd (cc)
 found_in finds k (r ∷ rs) number owner p e = finds k r.slot.first_seq r.slot.first_ts (sendings (r ∷ rs)) number owner p e
 
-module _ (finds : Finds) (lanes lane : ℕ) (start : Desk) (before : List Step) (request : Request) where
+module _ (finds : Finds) (who : Asker) (lanes lane : ℕ) (start : Desk) (before : List Step) (request : Request) where
   abbrev k : ℕ
   k = request.out_ssrc
 
@@ -48,9 +49,9 @@ module _ (finds : Finds) (lanes lane : ℕ) (start : Desk) (before : List Step) 
   window = latest room (packets k (visits lane start before))
 
   abbrev Leads : Sent → Type 0
-  Leads sent = LeadsBack lanes start before lane visit request sent
+  Leads sent = LeadsBack who lanes start before lane visit request sent
 
-  module _ (list : firsts lanes start (record { kind = Kind.video; ssrc = k }) before ≡ map (goes k None) (packets k (visits lane start before))) where
+  module _ (list : firsts who lanes start (record { kind = Kind.video; ssrc = k }) before ≡ map (goes k None) (packets k (visits lane start before))) where
     one : (member : ℕ) (from : member_from visit.desk request.from ≡ Some member) (number : ℕ) (p : SentPacket) → resend_of number (record { member = member; address = request.from }) window ≡ Some p → Leads (goes k (Some visit.version) p)
     one member from number p e =
         let is = found_in finds k (routed k (visits lane start before)) number (record { member = member; address = request.from }) p e in record {
@@ -79,7 +80,7 @@ module _ (finds : Finds) (lanes lane : ℕ) (start : Desk) (before : List Step) 
     all_of None e = tt
     all_of (Some member) e = each member e (each_once request.numbers)
 
-  pub all_lead_back : firsts lanes start (record { kind = Kind.video; ssrc = k }) before ≡ map (goes k None) (packets k (visits (k % lanes) start before)) → AllByRecursion Leads (sends_at lane lanes (visits lane start before) visit)
+  pub all_lead_back : firsts who lanes start (record { kind = Kind.video; ssrc = k }) before ≡ map (goes k None) (packets k (visits (k % lanes) start before)) → AllByRecursion Leads (sends_at who lane lanes (visits lane start before) visit)
   all_lead_back list =
       let ps = resends visit.desk request.from request.numbers window in
       subst (AllByRecursion Leads) (sym (all_or_none (is_lanes lane lanes) (is_mine lane lanes k) k (Some visit.version) (λ p. refl) ps)) (by (is_mine lane lanes k) refl)

@@ -1,5 +1,8 @@
 pub mod Readies
 pub mod Handled
+pub mod Shares
+pub mod Counted
+pub mod Told
 pub mod PartsLaws
 pub mod StepLaws
 pub mod RunLaws

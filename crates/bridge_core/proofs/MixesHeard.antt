@@ -14,6 +14,7 @@ use Rattle.mixer.specs.Hearing.{voices_of, sound_for}
 use Rattle.mixer.specs.Mixes.{Hears, hears, to_member, mixes_at, sent_by}
 use Rattle.mixer.specs.MixLists.{Carries, to_its_member}
 use Rattle.intake.specs.Inputs.{Input}
+use Rattle.feedback.specs.Upstream.{Asker}
 use Rattle.bridge_core.specs.Lanes.{Visit, given_of, mix_goes, is_lanes, sends_at}
 use Rattle.bridge_core.specs.LaneState.{visit_of}
 use Rattle.bridge_core.specs.Headline.{IsMixOf, GoesOnce}
@@ -72,13 +73,13 @@ module _ (below : MixBelow) (version item : ℕ) (d : Desk) (moment : ℕ) (befo
       (each_mix m (own front m back e))
       (each_member own (front ++ m ∷ []) back (e ∙ sym (append_assoc front (m ∷ []) back))))
 
-  pub all_mixes : AreOwn d → (lane lanes : ℕ) → AllByRecursion (IsMixOf (given_of before) visit) (sends_at lane lanes before visit)
-  all_mixes own lane lanes =
+  pub all_mixes : AreOwn d → (who : Asker) (lane lanes : ℕ) → AllByRecursion (IsMixOf (given_of before) visit) (sends_at who lane lanes before visit)
+  all_mixes own who lane lanes =
       all-filter (IsMixOf (given_of before) visit) (is_lanes lane lanes) (map (mix_goes visit) (sent_by (given_of before) d moment)) (each_member own [] d.members refl)
 
-  pub goes_once : good d ≡ true → (lane lanes : ℕ) (m : MemberRow) (sound : Sound) → is_mine lane lanes m.out_audio ≡ true → mix_member d m.out_audio ≡ Some m → sound_for (voices_of (given_of before) d) d m ≡ Some sound
-      → GoesOnce visit m sound (on m.out_audio (sends_at lane lanes before visit))
-  goes_once h lane lanes m sound mine its hears_it =
+  pub goes_once : good d ≡ true → (who : Asker) (lane lanes : ℕ) (m : MemberRow) (sound : Sound) → is_mine lane lanes m.out_audio ≡ true → mix_member d m.out_audio ≡ Some m → sound_for (voices_of (given_of before) d) d m ≡ Some sound
+      → GoesOnce visit m sound (on m.out_audio (sends_at who lane lanes before visit))
+  goes_once h who lane lanes m sound mine its hears_it =
       let k = m.out_audio in
       let ps = mixes_at k (given_of before) d moment in
       let one = subst (λ (o : Option Sound). Carries k (option_map (λ (sound : Sound). let h : Hears = record { member = m; sound = sound } in h) o) ps) hears_it (added m its) in
@@ -87,7 +88,7 @@ module _ (below : MixBelow) (version item : ℕ) (d : Desk) (moment : ℕ) (befo
         ts = one.ts;
         marker = one.marker;
         once =
-            mixes_on below version item d moment before h k lane lanes
+            mixes_on below version item d moment before h who k lane lanes
             ∙ ap (λ b. cond b (map (mix_goes visit) (to_its_member (mix_member d k) ps)) []) mine
             ∙ ap (λ o. map (mix_goes visit) (to_its_member o ps)) its
             ∙ ap (λ (qs : List Numbered). map (mix_goes visit) (map (to_member m) qs)) one.packet;

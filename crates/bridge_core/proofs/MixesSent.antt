@@ -15,13 +15,14 @@ use Rattle.mixer.specs.Hearing.{Given}
 use Rattle.mixer.specs.Mixes.{Hears, MixSent, hears, turn_of, to_member, mixes, mixes_at, sent_by}
 use Rattle.mixer.specs.MixLists.{GoOn, AreInARow, Carries, on_stream, to_its_member}
 use Rattle.intake.specs.Inputs.{Input}
+use Rattle.feedback.specs.Upstream.{Asker}
 use Rattle.bridge_core.specs.Sent.{Sent}
-use Rattle.bridge_core.specs.Sent.Sent.{media}
+use Rattle.bridge_core.specs.Sent.Sent.{media, control, note}
 use Rattle.bridge_core.specs.Lanes.{Visit, given_of, mix_goes, sent_of_input, sends_at}
 use Rattle.bridge_core.specs.LaneState.{visit_of}
 use Rattle.bridge_core.specs.Steps.{Step, visits, visit_after, along, desk_of, version_of, count_of}
 use Rattle.bridge_core.specs.Named.{Name, Kind, firsts_at, firsts}
-use Rattle.bridge_core.specs.Headline.{numbers, numbered_of, FollowOn, HaveNoGap, IsGood}
+use Rattle.bridge_core.specs.Headline.{number_of, numbers, numbered_of, FollowOn, HaveNoGap, IsGood}
 use Rattle.bridge_core.proofs.OnStreams.{on, on_share}
 use Rattle.bridge_core.proofs.PartsLaws.{not_given, is_given}
 use Rattle.bridge_core.proofs.StepLaws.{desk_of-publish, desk_of-item, visits-publish, visits-mine, visits-other}
@@ -46,9 +47,9 @@ module _ (below : MixBelow) (version item : ℕ) (d : Desk) (moment : ℕ) (befo
   visit = visit_of version item d (Input.tick moment)
 
   -- what a lane sends on a stream at a tick, if the stream is the lane's
-  pub mixes_on : (k lane lanes : ℕ) → on k (sends_at lane lanes before visit) ≡ cond (is_mine lane lanes k) (map (mix_goes visit) (to_its_member (mix_member d k) (mixes_at k (given_of before) d moment))) []
-  mixes_on k lane lanes =
-      on_share k lane lanes (sent_of_input before visit (Input.tick moment))
+  pub mixes_on : (who : Asker) (k lane lanes : ℕ) → on k (sends_at who lane lanes before visit) ≡ cond (is_mine lane lanes k) (map (mix_goes visit) (to_its_member (mix_member d k) (mixes_at k (given_of before) d moment))) []
+  mixes_on who k lane lanes =
+      on_share k lane lanes (sent_of_input who before visit (Input.tick moment))
       ∙ ap (λ es. cond (is_mine lane lanes k) es []) (on_mixes k visit (sent_by (given_of before) d moment) ∙ ap (map (mix_goes visit)) (below.once k (given_of before) d moment h))
 
   told_by : (m : MemberRow) (ps : List Numbered) → map numbered_of (map (mix_goes visit) (map (to_member m) ps)) ≡ ps
@@ -66,7 +67,7 @@ module _ (below : MixBelow) (version item : ℕ) (d : Desk) (moment : ℕ) (befo
 abbrev pub mix : ℕ → Name
 mix ssrc = record { kind = Kind.mix; ssrc = ssrc }
 
-module _ (below : MixBelow) (count k : ℕ) (start : Desk) where
+module _ (below : MixBelow) (who : Asker) (count k : ℕ) (start : Desk) where
   -- what the stream's lane was given in these steps
   abbrev given : List Step → List Given
   given before = given_of (visits (k % count) start before)
@@ -87,9 +88,12 @@ module _ (below : MixBelow) (count k : ℕ) (start : Desk) where
         | inr other ↦ sym (ap (λ vs. mixes k (given_of vs)) (visits-other (k % count) lane start before input other))
       ])
 
-  told-item : (before : List Step) (lane : ℕ) (input : Input) → good (desk_of start before) ≡ true → told before ++ map numbered_of (firsts_at count start (mix k) before (Step.item lane input)) ≡ told (before ++ Step.item lane input ∷ [])
+  told-item : (before : List Step) (lane : ℕ) (input : Input) → good (desk_of start before) ≡ true → told before ++ map numbered_of (firsts_at who count start (mix k) before (Step.item lane input)) ≡ told (before ++ Step.item lane input ∷ [])
   told-item before lane (Input.frame f) h = told-still before lane (Input.frame f) (ap (mixes k) (not_given (visits lane start before) (visit_after start before lane (Input.frame f)) refl))
   told-item before lane (Input.nack request) h = told-still before lane (Input.nack request) (ap (mixes k) (not_given (visits lane start before) (visit_after start before lane (Input.nack request)) refl))
+  told-item before lane (Input.block told) h = told-still before lane (Input.block told) (ap (mixes k) (not_given (visits lane start before) (visit_after start before lane (Input.block told)) refl))
+  told-item before lane (Input.pli loss) h = told-still before lane (Input.pli loss) (ap (mixes k) (not_given (visits lane start before) (visit_after start before lane (Input.pli loss)) refl))
+  told-item before lane (Input.report moment) h = told-still before lane (Input.report moment) (ap (mixes k) (not_given (visits lane start before) (visit_after start before lane (Input.report moment)) refl))
   told-item before lane (Input.audio sound) h =
       let here = visits lane start before in
       told-still before lane (Input.audio sound)
@@ -100,7 +104,7 @@ module _ (below : MixBelow) (count k : ℕ) (start : Desk) where
       let d = desk_of start before in
       let v = visit_after start before lane input in
       let added = map (mix_goes v) (to_its_member (mix_member d k) (mixes_at k (given_of here) d moment)) in
-      ap (λ es. told before ++ map numbered_of es) (mixes_on below (version_of before) (count_of lane before + 1) d moment here h k lane count)
+      ap (λ es. told before ++ map numbered_of es) (mixes_on below (version_of before) (count_of lane before + 1) d moment here h who k lane count)
       ∙ (elim (cases_eq lane (k % count)) [
         | inl same ↦
             let mine : is_mine lane count k ≡ true = grind (arith, nat_tests) in
@@ -116,32 +120,37 @@ module _ (below : MixBelow) (count k : ℕ) (start : Desk) where
 
   -- the packets so far, and those that the steps add
   told-along : (before steps : List Step) → good (desk_of start before) ≡ true → AllByRecursion IsGood steps
-      → told before ++ map numbered_of (along (firsts_at count start (mix k)) before steps) ≡ told (before ++ steps)
+      → told before ++ map numbered_of (along (firsts_at who count start (mix k)) before steps) ≡ told (before ++ steps)
   told-along before [] h all = append-nil (told before) ∙ ap told (sym (append-nil before))
   told-along before (Step.publish next ∷ steps) h all =
       let after = before ++ Step.publish next ∷ [] in
       let same : told after ≡ told before = ap (λ vs. mixes k (given_of vs)) (visits-publish (k % count) start before next) in
-      ap (λ ps. ps ++ map numbered_of (along (firsts_at count start (mix k)) after steps)) (sym same)
+      ap (λ ps. ps ++ map numbered_of (along (firsts_at who count start (mix k)) after steps)) (sym same)
       ∙ told-along after steps (ap good (desk_of-publish start before next) ∙ all.0) all.1
       ∙ ap told (append_assoc before (Step.publish next ∷ []) steps)
   told-along before (Step.item lane input ∷ steps) h all =
       let after = before ++ Step.item lane input ∷ [] in
-      let now = firsts_at count start (mix k) before (Step.item lane input) in
-      let rest = along (firsts_at count start (mix k)) after steps in
+      let now = firsts_at who count start (mix k) before (Step.item lane input) in
+      let rest = along (firsts_at who count start (mix k)) after steps in
       ap (λ ps. told before ++ ps) (map-append numbered_of now rest)
       ∙ sym (append_assoc (told before) (map numbered_of now) (map numbered_of rest))
       ∙ ap (λ ps. ps ++ map numbered_of rest) (told-item before lane input h)
       ∙ told-along after steps (ap good (desk_of-item start before lane input) ∙ h) all.1
       ∙ ap told (append_assoc before (Step.item lane input ∷ []) steps)
 
-  pub mix_list : (steps : List Step) → good start ≡ true → AllByRecursion IsGood steps → map numbered_of (firsts count start (mix k) steps) ≡ told steps
+  pub mix_list : (steps : List Step) → good start ≡ true → AllByRecursion IsGood steps → map numbered_of (firsts who count start (mix k) steps) ≡ told steps
   mix_list steps h all = told-along [] steps h all
 
 -- ---- numbers
 
+number_alike : (e : Sent) → number_of e ≡ (numbered_of e).number
+number_alike (media p) = refl
+number_alike (control c) = refl
+number_alike (note n) = refl
+
 numbers_alike : (es : List Sent) → numbers es ≡ map (λ (p : Numbered). p.number) (map numbered_of es)
 numbers_alike [] = refl
-numbers_alike (media p ∷ es) = ap (λ ns. p.number ∷ ns) (numbers_alike es)
+numbers_alike (e ∷ es) = ap (λ ns. number_of e ∷ ns) (numbers_alike es) ∙ ap (λ n. n ∷ map (λ (p : Numbered). p.number) (map numbered_of es)) (number_alike e)
 
 follow_on : (n : ℕ) (ps : List Numbered) → GoOn n ps → FollowOn n (map (λ (p : Numbered). p.number) ps)
 follow_on n [] h = tt
@@ -151,8 +160,8 @@ no_gap : (ps : List Numbered) → AreInARow ps → HaveNoGap (map (λ (p : Numbe
 no_gap [] h = tt
 no_gap (p ∷ ps) h = follow_on p.number ps h
 
-pub no_mix_gap : (count : ℕ) (start : Desk) (steps : List Step) (ssrc : ℕ) → map numbered_of (firsts count start (mix ssrc) steps) ≡ mixes ssrc (given_of (visits (ssrc % count) start steps))
-    → ((ssrc : ℕ) (given : List Given) → AreInARow (mixes ssrc given)) → HaveNoGap (numbers (firsts count start (mix ssrc) steps))
-no_mix_gap count start steps ssrc lists row =
+pub no_mix_gap : (who : Asker) (count : ℕ) (start : Desk) (steps : List Step) (ssrc : ℕ) → map numbered_of (firsts who count start (mix ssrc) steps) ≡ mixes ssrc (given_of (visits (ssrc % count) start steps))
+    → ((ssrc : ℕ) (given : List Given) → AreInARow (mixes ssrc given)) → HaveNoGap (numbers (firsts who count start (mix ssrc) steps))
+no_mix_gap who count start steps ssrc lists row =
     let all = given_of (visits (ssrc % count) start steps) in
-    subst HaveNoGap (sym (numbers_alike (firsts count start (mix ssrc) steps) ∙ ap (map (λ (p : Numbered). p.number)) lists)) (no_gap (mixes ssrc all) (row ssrc all))
+    subst HaveNoGap (sym (numbers_alike (firsts who count start (mix ssrc) steps) ∙ ap (map (λ (p : Numbered). p.number)) lists)) (no_gap (mixes ssrc all) (row ssrc all))

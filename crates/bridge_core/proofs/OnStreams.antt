@@ -13,8 +13,8 @@ use Rattle.topology.specs.Receivers.{receivers, receiver_on, receiver_at, AreDis
 use Rattle.forward_rewrite.specs.Frame.{SourceFrame}
 use Rattle.forward_rewrite.specs.OwnStreams.{is_mine}
 use Rattle.intake.specs.Inputs.{Input}
-use Rattle.bridge_core.specs.Sent.{Sent}
-use Rattle.bridge_core.specs.Sent.Sent.{media}
+use Rattle.feedback.specs.Upstream.{Asker}
+use Rattle.bridge_core.specs.Sent.{Sent, about}
 use Rattle.bridge_core.specs.Lanes.{Visit, routed_at, routed_to, packets, packets_at, packets_sent, goes, is_lanes, sent_of_input, sends_at}
 use Rattle.bridge_core.specs.LaneState.{visit_of}
 use Rattle.bridge_core.specs.Named.{is_on}
@@ -35,25 +35,25 @@ on k es = filter (is_on k) es
 -- of a lane's share, a stream's packets are all that there are, or none
 pub on_share : (k lane lanes : ℕ) (es : List Sent) → on k (filter (is_lanes lane lanes) es) ≡ cond (is_mine lane lanes k) (on k es) []
 on_share k lane lanes [] = elim (is_mine lane lanes k) as (λ b. ◌≡◌ {A = List Sent} [] (cond b [] [])) [ true ↦ refl | false ↦ refl ]
-on_share k lane lanes (media p ∷ es) =
+on_share k lane lanes (e ∷ es) =
     let left = filter (is_lanes lane lanes) es in
     let rest = on_share k lane lanes es in
-    elim (cases_eq p.ssrc k) [
+    elim (cases_eq (about e) k) [
       | inl same ↦
-          let is : nat_eq p.ssrc k ≡ true = grind (arith, nat_tests) in
-          ap (λ n. on k (cond (is_mine lane lanes n) (media p ∷ left) left)) same
-          ∙ (elim (is_mine lane lanes k) as (λ b. on k left ≡ cond b (on k es) [] → on k (cond b (media p ∷ left) left) ≡ cond b (on k (media p ∷ es)) []) [
-            | true ↦ λ r. ap (λ b. cond b (media p ∷ on k left) (on k left)) is ∙ ap (λ xs. media p ∷ xs) r ∙ sym (ap (λ b. cond b (media p ∷ on k es) (on k es)) is)
+          let is : nat_eq (about e) k ≡ true = grind (arith, nat_tests) in
+          ap (λ n. on k (cond (is_mine lane lanes n) (e ∷ left) left)) same
+          ∙ (elim (is_mine lane lanes k) as (λ b. on k left ≡ cond b (on k es) [] → on k (cond b (e ∷ left) left) ≡ cond b (on k (e ∷ es)) []) [
+            | true ↦ λ r. ap (λ b. cond b (e ∷ on k left) (on k left)) is ∙ ap (λ xs. e ∷ xs) r ∙ sym (ap (λ b. cond b (e ∷ on k es) (on k es)) is)
             | false ↦ λ r. r
           ]) rest
       | inr other ↦
-          let not : nat_eq p.ssrc k ≡ false = grind (arith, nat_tests) in
-          (elim (is_mine lane lanes p.ssrc) as (λ b. on k (cond b (media p ∷ left) left) ≡ on k left) [
-            | true ↦ ap (λ b. cond b (media p ∷ on k left) (on k left)) not
+          let not : nat_eq (about e) k ≡ false = grind (arith, nat_tests) in
+          (elim (is_mine lane lanes (about e)) as (λ b. on k (cond b (e ∷ left) left) ≡ on k left) [
+            | true ↦ ap (λ b. cond b (e ∷ on k left) (on k left)) not
             | false ↦ refl
           ])
           ∙ rest
-          ∙ sym (ap (λ es. cond (is_mine lane lanes k) es []) (ap (λ b. cond b (media p ∷ on k es) (on k es)) not))
+          ∙ sym (ap (λ es. cond (is_mine lane lanes k) es []) (ap (λ b. cond b (e ∷ on k es) (on k es)) not))
     ]
 
 -- what a receiver gets on a stream
@@ -97,9 +97,9 @@ nothing_at k before v none =
     ∙ drop_at (packets k before) [] (length (packets k before)) refl
 
 -- of what is sent of a frame, a stream's packets are those that the frame adds to it
-pub on_of_frame : (k version item : ℕ) (d : Desk) (f : SourceFrame) (before : List Visit) → AreFound d f
-    → on k (sent_of_input before (visit_of version item d (Input.frame f)) (Input.frame f)) ≡ map (goes k None) (packets_at k before (visit_of version item d (Input.frame f)))
-on_of_frame k version item d f before is =
+pub on_of_frame : (who : Asker) (k version item : ℕ) (d : Desk) (f : SourceFrame) (before : List Visit) → AreFound d f
+    → on k (sent_of_input who before (visit_of version item d (Input.frame f)) (Input.frame f)) ≡ map (goes k None) (packets_at k before (visit_of version item d (Input.frame f)))
+on_of_frame who k version item d f before is =
     let v = visit_of version item d (Input.frame f) in
     filtered k before v (receivers d f.source f.address) is.apart ∙ ap (given k before v) (is.found k) ∙ by (receiver_on d f.source f.address k) refl
   where
@@ -108,8 +108,8 @@ on_of_frame k version item d f before is =
     by (Some r) e = refl
 
 -- and of what a lane sends of it, all of them if the stream is the lane's
-pub on_of_lane : (k lane lanes version item : ℕ) (d : Desk) (f : SourceFrame) (before : List Visit) → AreFound d f
-    → on k (sends_at lane lanes before (visit_of version item d (Input.frame f))) ≡ cond (is_mine lane lanes k) (map (goes k None) (packets_at k before (visit_of version item d (Input.frame f)))) []
-on_of_lane k lane lanes version item d f before is =
+pub on_of_lane : (who : Asker) (k lane lanes version item : ℕ) (d : Desk) (f : SourceFrame) (before : List Visit) → AreFound d f
+    → on k (sends_at who lane lanes before (visit_of version item d (Input.frame f))) ≡ cond (is_mine lane lanes k) (map (goes k None) (packets_at k before (visit_of version item d (Input.frame f)))) []
+on_of_lane who k lane lanes version item d f before is =
     let v = visit_of version item d (Input.frame f) in
-    on_share k lane lanes (sent_of_input before v (Input.frame f)) ∙ ap (λ es. cond (is_mine lane lanes k) es []) (on_of_frame k version item d f before is)
+    on_share k lane lanes (sent_of_input who before v (Input.frame f)) ∙ ap (λ es. cond (is_mine lane lanes k) es []) (on_of_frame who k version item d f before is)

@@ -12,6 +12,7 @@ use Rattle.forward_rewrite.specs.Sending.{Sending}
 use Rattle.forward_rewrite.specs.RoutedList.{part_of, numbered, packets_of}
 use Rattle.forward_rewrite.specs.OwnStreams.{is_mine}
 use Rattle.intake.specs.Inputs.{Input}
+use Rattle.feedback.specs.Upstream.{Asker}
 use Rattle.bridge_core.specs.Sent.{Sent}
 use Rattle.bridge_core.specs.Lanes.{Visit, Routed, routed, routed_at, sendings, packets_sent, packets, packets_at, goes}
 use Rattle.bridge_core.specs.Steps.{Step, visits, visit_after, along, desk_of, version_of, count_of}
@@ -64,7 +65,7 @@ pub record Below : Type 0 where
 abbrev video : ℕ → Name
 video ssrc = record { kind = Kind.video; ssrc = ssrc }
 
-module _ (below : Below) (count k : ℕ) (start : Desk) where
+module _ (below : Below) (who : Asker) (count k : ℕ) (start : Desk) where
   -- the stream's packets after these steps
   abbrev told : List Step → List Sent
   told before = map (goes k None) (packets k (visits (k % count) start before))
@@ -81,15 +82,18 @@ module _ (below : Below) (count k : ℕ) (start : Desk) where
         | inr other ↦ sym (ap (packets k) (visits-other (k % count) lane start before input other))
       ])
 
-  told-item : (before : List Step) (lane : ℕ) (input : Input) → good (desk_of start before) ≡ true → told before ++ firsts_at count start (video k) before (Step.item lane input) ≡ told (before ++ Step.item lane input ∷ [])
+  told-item : (before : List Step) (lane : ℕ) (input : Input) → good (desk_of start before) ≡ true → told before ++ firsts_at who count start (video k) before (Step.item lane input) ≡ told (before ++ Step.item lane input ∷ [])
   told-item before lane (Input.audio sound) h = told-still before lane (Input.audio sound) refl
   told-item before lane (Input.tick moment) h = told-still before lane (Input.tick moment) refl
   told-item before lane (Input.nack request) h = told-still before lane (Input.nack request) refl
+  told-item before lane (Input.block told) h = told-still before lane (Input.block told) refl
+  told-item before lane (Input.pli loss) h = told-still before lane (Input.pli loss) refl
+  told-item before lane (Input.report moment) h = told-still before lane (Input.report moment) refl
   told-item before lane (Input.frame f) h =
       let input = Input.frame f in
       let v = visit_after start before lane input in
       let here = visits lane start before in
-      ap (λ es. told before ++ es) (on_of_lane k lane count (version_of before) (count_of lane before + 1) (desk_of start before) f here (below.found (desk_of start before) f h))
+      ap (λ es. told before ++ es) (on_of_lane who k lane count (version_of before) (count_of lane before + 1) (desk_of start before) f here (below.found (desk_of start before) f h))
       ∙ (elim (cases_eq lane (k % count)) [
         | inl same ↦
             let mine : is_mine lane count k ≡ true = grind (arith, nat_tests) in
@@ -103,23 +107,23 @@ module _ (below : Below) (count k : ℕ) (start : Desk) where
       ])
 
   -- the packets so far, and those that the steps add
-  told-along : (before steps : List Step) → good (desk_of start before) ≡ true → AllByRecursion IsGood steps → told before ++ along (firsts_at count start (video k)) before steps ≡ told (before ++ steps)
+  told-along : (before steps : List Step) → good (desk_of start before) ≡ true → AllByRecursion IsGood steps → told before ++ along (firsts_at who count start (video k)) before steps ≡ told (before ++ steps)
   told-along before [] h all = append-nil (told before) ∙ ap told (sym (append-nil before))
   told-along before (Step.publish next ∷ steps) h all =
       let after = before ++ Step.publish next ∷ [] in
       let same : told after ≡ told before = ap (λ vs. map (goes k None) (packets k vs)) (visits-publish (k % count) start before next) in
-      ap (λ es. es ++ along (firsts_at count start (video k)) after steps) (sym same)
+      ap (λ es. es ++ along (firsts_at who count start (video k)) after steps) (sym same)
       ∙ told-along after steps (ap good (desk_of-publish start before next) ∙ all.0) all.1
       ∙ ap told (append_assoc before (Step.publish next ∷ []) steps)
   told-along before (Step.item lane input ∷ steps) h all =
       let after = before ++ Step.item lane input ∷ [] in
-      let rest = along (firsts_at count start (video k)) after steps in
-      sym (append_assoc (told before) (firsts_at count start (video k) before (Step.item lane input)) rest)
+      let rest = along (firsts_at who count start (video k)) after steps in
+      sym (append_assoc (told before) (firsts_at who count start (video k) before (Step.item lane input)) rest)
       ∙ ap (λ es. es ++ rest) (told-item before lane input h)
       ∙ told-along after steps (ap good (desk_of-item start before lane input) ∙ h) all.1
       ∙ ap told (append_assoc before (Step.item lane input ∷ []) steps)
 
-  pub routed_list : (steps : List Step) → good start ≡ true → AllByRecursion IsGood steps → firsts count start (video k) steps ≡ told steps
+  pub routed_list : (steps : List Step) → good start ≡ true → AllByRecursion IsGood steps → firsts who count start (video k) steps ≡ told steps
   routed_list steps h all = told-along [] steps h all
 
 -- packets in a row have numbers in a row
@@ -135,9 +139,9 @@ sent_in_a_row : ((ssrc first_seq first_ts : ℕ) (sendings : List Sending) → A
 sent_in_a_row row k [] = tt
 sent_in_a_row row k (r ∷ rs) = row k r.slot.first_seq r.slot.first_ts (sendings (r ∷ rs))
 
-pub no_video_gap : (count : ℕ) (start : Desk) (steps : List Step) (ssrc : ℕ)
-    → firsts count start (video ssrc) steps ≡ map (goes ssrc None) (packets ssrc (visits (ssrc % count) start steps))
-    → ((ssrc first_seq first_ts : ℕ) (sendings : List Sending) → AreInARow (packets_of ssrc first_seq first_ts sendings)) → HaveNoGap (numbers (firsts count start (video ssrc) steps))
-no_video_gap count start steps ssrc lists row =
+pub no_video_gap : (who : Asker) (count : ℕ) (start : Desk) (steps : List Step) (ssrc : ℕ)
+    → firsts who count start (video ssrc) steps ≡ map (goes ssrc None) (packets ssrc (visits (ssrc % count) start steps))
+    → ((ssrc first_seq first_ts : ℕ) (sendings : List Sending) → AreInARow (packets_of ssrc first_seq first_ts sendings)) → HaveNoGap (numbers (firsts who count start (video ssrc) steps))
+no_video_gap who count start steps ssrc lists row =
     let all = visits (ssrc % count) start steps in
     subst (λ es. HaveNoGap (numbers es)) (sym lists) (no_gap ssrc (packets ssrc all) (sent_in_a_row row ssrc (routed ssrc all)))

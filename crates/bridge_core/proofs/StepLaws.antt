@@ -10,6 +10,7 @@ use Rattle.desk_edit.specs.declared.command.Call.TheVariants.{Undo, Redo}
 use Rattle.desk_edit.specs.Calls.{refusal_at}
 use Rattle.mixer.specs.Mixers.{WasGiven}
 use Rattle.intake.specs.Inputs.{Input}
+use Rattle.feedback.specs.Upstream.{Asker}
 use Rattle.bridge_core.specs.Sent.{Sent}
 use Rattle.bridge_core.specs.Lanes.{Visit, given_of, sends_at}
 use Rattle.bridge_core.specs.LaneState.{LaneOf, visit_of, AreLeft, HasHandled, Handles}
@@ -108,7 +109,7 @@ handles old new version desk input sent does lane lanes handled before stands =
 
 -- an item that a lane handles
 pub handled : (old new : CoreOf) (lane : ℕ) (state after : LaneOf) (input : Input) (sent : List Sent)
-    → IsSound old.version old.done old.lanes → slice_get old.lanes lane ≡ Some state → Handles state after old.version old.desk input sent
+    → IsSound old.version old.done old.lanes old.intake.asker → slice_get old.lanes lane ≡ Some state → Handles state after old.version old.desk input sent
     → new.version ≡ old.version → new.desk ≡ old.desk → new.lanes ≡ set old.lanes lane after
     → Takes old new (Step.item lane input) (sent ∷ [])
 handled old new lane state after input sent sound at does version desk lanes start before taken =
@@ -120,8 +121,10 @@ handled old new lane state after input sent sound at does version desk lanes sta
     ap (λ n. visit_of n (length vs + 1) old.desk input) taken.version
     ∙ ap (λ n. visit_of (version_of before) (n + 1) old.desk input) (length-visits lane start [] before)
     ∙ ap (λ d. visit_of (version_of before) (count_of lane before + 1) d input) taken.desk in (
-      ap (λ s. s ∷ []) (done.0 ∙ ap (λ l. sends_at l state.lanes vs (visit_of old.version (length vs + 1) old.desk input)) place.0
-          ∙ ap (λ l. sends_at lane l vs (visit_of old.version (length vs + 1) old.desk input)) place.1 ∙ ap (sends_at lane (length old.lanes) vs) same),
+      ap (λ s. s ∷ []) (done.0 ∙ ap (λ l. sends_at state.who l state.lanes vs (visit_of old.version (length vs + 1) old.desk input)) place.0
+          ∙ ap (λ l. sends_at state.who lane l vs (visit_of old.version (length vs + 1) old.desk input)) place.1
+          ∙ ap (λ who. sends_at who lane (length old.lanes) vs (visit_of old.version (length vs + 1) old.desk input)) place.2
+          ∙ ap (sends_at old.intake.asker lane (length old.lanes) vs) same),
       record {
         version = version ∙ taken.version ∙ sym (version_of-item before lane input);
         desk = desk ∙ taken.desk ∙ sym (desk_of-item start before lane input);
@@ -136,14 +139,14 @@ handled old new lane state after input sent sound at does version desk lanes sta
     )
 
 -- a lane keeps its place
-pub still_sound : (version : ℕ) (done : List EditOf) (old new : List LaneOf) (lane : ℕ) (state after : LaneOf) → IsSound version done old → slice_get old lane ≡ Some state → after.lane ≡ state.lane → after.lanes ≡ state.lanes
-    → new ≡ set old lane after → IsSound version done new
-still_sound version done old new lane state after sound at place places lanes = record {
+pub still_sound : (version : ℕ) (done : List EditOf) (who : Asker) (old new : List LaneOf) (lane : ℕ) (state after : LaneOf) → IsSound version done old who → slice_get old lane ≡ Some state
+    → after.lane ≡ state.lane → after.lanes ≡ state.lanes → after.who ≡ state.who → new ≡ set old lane after → IsSound version done new who
+still_sound version done who old new lane state after sound at place places name lanes = record {
   places = λ i s there.
       let size : length new ≡ length old = ap length lanes ∙ length-set old lane after in
       elim (slice_get-set old lane i after s (ap (λ xs. slice_get xs i) (sym lanes) ∙ there)) [
-        | inl p ↦ (let was = sound.places lane state at in (ap (λ (t : LaneOf). t.lane) (sym p.1) ∙ place ∙ was.0 ∙ p.0, ap (λ (t : LaneOf). t.lanes) (sym p.1) ∙ places ∙ was.1 ∙ sym size))
-        | inr p ↦ (let was = sound.places i s p.1 in (was.0, was.1 ∙ sym size))
+        | inl p ↦ (let was = sound.places lane state at in (ap (λ (t : LaneOf). t.lane) (sym p.1) ∙ place ∙ was.0 ∙ p.0, ap (λ (t : LaneOf). t.lanes) (sym p.1) ∙ places ∙ was.1 ∙ sym size, ap (λ (t : LaneOf). t.who) (sym p.1) ∙ name ∙ was.2))
+        | inr p ↦ (let was = sound.places i s p.1 in (was.0, was.1 ∙ sym size, was.2))
       ];
   fewer = sound.fewer;
   limit = sound.limit;
@@ -156,17 +159,18 @@ slice_get-push (z ∷ xs) x y zero e = inr e
 slice_get-push (z ∷ xs) x y (suc j) e = elim (slice_get-push xs x y j e) [ inl p ↦ inl (ap suc p.0, p.1) | inr p ↦ inr p ]
 
 -- one more lane
-pub AreFresh-push : (lanes : ℕ) (states : List LaneOf) (state : LaneOf) → AreFresh lanes states → state.lane ≡ length states → state.lanes ≡ lanes → HasHandled state [] → AreFresh lanes (states ++ state ∷ [])
-AreFresh-push lanes states state fresh place places nothing lane s at =
+pub AreFresh-push : (lanes : ℕ) (who : Asker) (states : List LaneOf) (state : LaneOf) → AreFresh lanes who states → state.lane ≡ length states → state.lanes ≡ lanes → state.who ≡ who → HasHandled state []
+    → AreFresh lanes who (states ++ state ∷ [])
+AreFresh-push lanes who states state fresh place places name nothing lane s at =
     elim (slice_get-push states state s lane at) [
-      | inl p ↦ subst (λ (t : LaneOf). (t.lane ≡ lane) × (t.lanes ≡ lanes) × HasHandled t []) p.1 (place ∙ sym p.0, places, nothing)
+      | inl p ↦ subst (λ (t : LaneOf). (t.lane ≡ lane) × (t.lanes ≡ lanes) × (t.who ≡ who) × HasHandled t []) p.1 (place ∙ sym p.0, places, name, nothing)
       | inr there ↦ fresh lane s there
     ]
 
 -- fresh lanes make a sound core
-pub sound_at_first : (lanes : ℕ) (states : List LaneOf) (done : List EditOf) → AreFresh lanes states → length states ≡ lanes → done ≡ [] → IsSound 0 done states
-sound_at_first lanes states done fresh count none = record {
-  places = λ lane state at. let f = fresh lane state at in (f.0, f.1 ∙ sym count);
+pub sound_at_first : (lanes : ℕ) (who : Asker) (states : List LaneOf) (done : List EditOf) → AreFresh lanes who states → length states ≡ lanes → done ≡ [] → IsSound 0 done states who
+sound_at_first lanes who states done fresh count none = record {
+  places = λ lane state at. let f = fresh lane state at in (f.0, f.1 ∙ sym count, f.2);
   fewer = omega (arith, ap length none);
   limit = omega arith;
 }

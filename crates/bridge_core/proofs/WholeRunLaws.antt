@@ -3,6 +3,7 @@ use Rattle.std.proofs.Common.{◌≡◌, ℕ, true, List, [], ◌∷◌, ◌++�
 use Rattle.desk_rows.specs.Desk.{Desk, good}
 use Rattle.desk_rows.specs.Edit.{EditOf}
 use Rattle.desk_edit.specs.Calls.{CallHistory, desk_now, after_call}
+use Rattle.feedback.specs.Upstream.{Asker}
 use Rattle.bridge_core.specs.Sent.{Sent}
 use Rattle.bridge_core.specs.Steps.{Step, along, sent_at, desk_of, CoreOf, HasTaken}
 use Rattle.bridge_core.specs.Following.{Follows, HasCalled}
@@ -20,7 +21,7 @@ called_still old new h version desk done undone called = record {
 
 -- what is sent, and that all desks are good
 pub played : (start : Desk) (before : List Step) (h : CallHistory) (events : List Event) (sent : List (List Sent)) (first last : CoreOf) → HasTaken first start before → HasCalled first h → Plays first events sent last
-    → (sent ≡ along (sent_at (length first.lanes) start) before (steps_of h events)) × AreGood (steps_of h events)
+    → (sent ≡ along (sent_at first.intake.asker (length first.lanes) start) before (steps_of h events)) × AreGood (steps_of h events)
 played start before h [] sent first last taken called plays = (plays.0, tt)
 played start before h (Event.called call ∷ events) sent first last taken called (next, accepts, plays) =
     let after = accepts.answered h called in
@@ -28,16 +29,18 @@ played start before h (Event.called call ∷ events) sent first last taken calle
     let step = accepts.takes start before taken in
     let rest = played start (before ++ Step.publish next.desk ∷ []) (after_call h call) events sent next last step.1 after.2 plays in (
       rest.0
-          ∙ ap (λ (lanes : ℕ). along (sent_at lanes start) (before ++ Step.publish next.desk ∷ []) (steps_of (after_call h call) events)) (ap length accepts.lanes)
-          ∙ ap (λ (d : Desk). along (sent_at (length first.lanes) start) (before ++ Step.publish d ∷ []) (steps_of (after_call h call) events)) desk,
+          ∙ ap (λ (lanes : ℕ). along (sent_at next.intake.asker lanes start) (before ++ Step.publish next.desk ∷ []) (steps_of (after_call h call) events)) (ap length accepts.lanes)
+          ∙ ap (λ (who : Asker). along (sent_at who (length first.lanes) start) (before ++ Step.publish next.desk ∷ []) (steps_of (after_call h call) events)) accepts.who
+          ∙ ap (λ (d : Desk). along (sent_at first.intake.asker (length first.lanes) start) (before ++ Step.publish d ∷ []) (steps_of (after_call h call) events)) desk,
       (ap good (sym desk) ∙ accepts.good, rest.1),
     )
 played start before h (Event.item lane input ∷ events) sent first last taken called (next, now, later, is, sends, plays) =
     let step = sends.takes start before taken in
     let rest = played start (before ++ Step.item lane input ∷ []) h events later next last step.1 (called_still first next h sends.version sends.desk sends.done sends.undone called) plays in (
       is ∙ ap (λ (es : List (List Sent)). es ++ later) step.0
-          ∙ ap (λ (es : List (List Sent)). sent_at (length first.lanes) start before (Step.item lane input) ++ es)
-          (rest.0 ∙ ap (λ (lanes : ℕ). along (sent_at lanes start) (before ++ Step.item lane input ∷ []) (steps_of h events)) sends.lanes),
+          ∙ ap (λ (es : List (List Sent)). sent_at first.intake.asker (length first.lanes) start before (Step.item lane input) ++ es)
+          (rest.0 ∙ ap (λ (lanes : ℕ). along (sent_at next.intake.asker lanes start) (before ++ Step.item lane input ∷ []) (steps_of h events)) sends.lanes
+          ∙ ap (λ (who : Asker). along (sent_at who (length first.lanes) start) (before ++ Step.item lane input ∷ []) (steps_of h events)) sends.who),
       (tt, rest.1),
     )
 

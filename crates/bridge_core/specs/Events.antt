@@ -27,6 +27,7 @@ pub record Accepts (old new : CoreOf) (call : Call) : Type 0 where
   pub takes : Takes old new (Step.publish new.desk) []
   pub good : good new.desk ≡ true
   pub lanes : new.lanes ≡ old.lanes
+  pub who : new.intake.asker ≡ old.intake.asker
 
 -- This is what a core answers to an item: whatever steps have led to it, what is sent, and its desk and its edits stay.
 pub record Sends (old new : CoreOf) (lane : ℕ) (input : Input) (sent : List Sent) : Type 0 where
@@ -36,6 +37,7 @@ pub record Sends (old new : CoreOf) (lane : ℕ) (input : Input) (sent : List Se
   pub done : new.done ≡ old.done
   pub undone : new.undone ≡ old.undone
   pub lanes : length new.lanes ≡ length old.lanes
+  pub who : new.intake.asker ≡ old.intake.asker
 
 -- From the first core to the last, each takes one of the events; this is what is sent for the items, in order.
 abbrev pub Plays : CoreOf → List Event → List (List Sent) → CoreOf → Type 0

@@ -17,18 +17,23 @@ use Rattle.mixer.specs.Hearing.{Given, voices_of, sound_for}
 use Rattle.mixer.specs.Mixes.{to_member}
 use Rattle.intake.specs.Inputs.{Request}
 use Rattle.bridge_core.specs.Sent.{Sent, MediaPacket}
-use Rattle.bridge_core.specs.Sent.Sent.{media}
+use Rattle.bridge_core.specs.Sent.Sent.{media, control, note}
+use Rattle.feedback.specs.Upstream.{Asker}
 use Rattle.bridge_core.specs.Lanes.{Visit, packets, goes, mix_goes}
 use Rattle.bridge_core.specs.Steps.{Step, visits}
 use Rattle.bridge_core.specs.Named.{Kind, firsts}
 
--- a packet's number
+-- a packet's number; nothing else has one
 abbrev pub number_of : Sent → ℕ
 number_of (media p) = p.number
+number_of (control c) = 0
+number_of (note n) = 0
 
 -- a packet's number and its octets
 abbrev pub numbered_of : Sent → Numbered
 numbered_of (media p) = record { number = p.number; bytes = p.bytes }
+numbered_of (control c) = record { number = 0; bytes = c.bytes }
+numbered_of (note n) = record { number = 0; bytes = [] }
 
 -- the numbers of packets in a row
 abbrev pub numbers : List Sent → List ℕ
@@ -62,9 +67,11 @@ pub record IsChosen (visit : Visit) (f : SourceFrame) (p : MediaPacket) : Type 0
   pub from : comes_from visit.desk f.source f.address ≡ true
   pub to : option_map (λ r. r.address) (receiver_on visit.desk f.source f.address p.ssrc) ≡ Some p.to
 
--- What is sent of a frame is chosen.
+-- What is sent of a frame is a packet, and is chosen.
 abbrev pub IsChosenOf : Visit → SourceFrame → Sent → Type 0
 IsChosenOf visit f (media p) = IsChosen visit f p
+IsChosenOf visit f (control c) = ⊥
+IsChosenOf visit f (note n) = ⊥
 
 -- The packet is sent first at this visit, after what the mixer was given; by its version's desk, it goes to the member whose mix its stream is, at its address, and carries what the member hears, under some number and timestamp, with or without the marker.
 pub record IsMix (before : List Given) (visit : Visit) (p : MediaPacket) : Type 0 where
@@ -81,9 +88,11 @@ pub record IsMix (before : List Given) (visit : Visit) (p : MediaPacket) : Type 
   pub marker : Bool
   pub packet : numbered_of (media p) ≡ mix_packet p.ssrc number ts marker sound
 
--- What is sent at a tick is a mix.
+-- What is sent at a tick is a packet, and is a mix.
 abbrev pub IsMixOf : List Given → Visit → Sent → Type 0
 IsMixOf before visit (media p) = IsMix before visit p
+IsMixOf before visit (control c) = ⊥
+IsMixOf before visit (note n) = ⊥
 
 -- What is sent on a stream is one packet of this sound, to this member, for the first time.
 pub record GoesOnce (visit : Visit) (m : MemberRow) (sound : Sound) (sent : List Sent) : Type 0 where
@@ -99,10 +108,10 @@ pub record GoesWhole (ssrc : ℕ) (sending : Sending) (sent : List Sent) : Type 
   pub whole : sent ≡ map (goes ssrc None) (numbered ssrc number (map (part_of record { sending = sending; ts = ts }) sending.frame.frame.packets))
 
 -- What is sent again is, octet for octet, one of the last 512 packets that were sent on the stream for the first time; who asks is a member at the address to which it went then.
-pub record LeadsBack (lanes : ℕ) (start : Desk) (before : List Step) (lane : ℕ) (visit : Visit) (request : Request) (sent : Sent) : Type 0 where
+pub record LeadsBack (who : Asker) (lanes : ℕ) (start : Desk) (before : List Step) (lane : ℕ) (visit : Visit) (request : Request) (sent : Sent) : Type 0 where
   pub packet : SentPacket
   pub same : sent ≡ goes request.out_ssrc (Some visit.version) packet
-  pub sent_before : Contains (firsts lanes start (record { kind = Kind.video; ssrc = request.out_ssrc }) before) (goes request.out_ssrc None packet)
+  pub sent_before : Contains (firsts who lanes start (record { kind = Kind.video; ssrc = request.out_ssrc }) before) (goes request.out_ssrc None packet)
   pub recent : Contains (latest room (packets request.out_ssrc (visits lane start before))) packet
   pub address : packet.owner.address ≡ request.from
   pub member : member_from visit.desk request.from ≡ Some packet.owner.member

@@ -5,6 +5,7 @@ use Rattle.desk_rows.specs.Desk.{Desk}
 use Rattle.forward_rewrite.specs.Streams.{StreamOf}
 use Rattle.forward_rewrite.specs.OwnStreams.{is_mine}
 use Rattle.mixer.specs.Mixers.{MixerOf, WasGiven}
+use Rattle.feedback.specs.Upstream.{Asker}
 use Rattle.intake.specs.Inputs.{Input}
 use Rattle.bridge_core.specs.Sent.{Sent}
 use Rattle.bridge_core.specs.Lanes.{Visit, routed, stream_of, given_of, sends_at}
@@ -13,10 +14,11 @@ use Rattle.bridge_core.specs.Lanes.{Visit, routed, stream_of, given_of, sends_at
 abbrev pub StreamList : Type 0
 StreamList = List (ℕ × StreamOf)
 
--- the lane, how many lanes there are, how many items it has handled, its video streams, and its mixer
+-- the lane, how many lanes there are, who the bridge is, how many items it has handled, its video streams, and its mixer
 pub record LaneOf : Type 0 where
   pub lane : ℕ
   pub lanes : ℕ
+  pub who : Asker
   pub handled : ℕ
   pub video : StreamList
   pub audio : MixerOf
@@ -44,4 +46,4 @@ abbrev pub Handles : LaneOf → LaneOf → ℕ → Desk → Input → List Sent 
 Handles old new version desk input sent =
     (before : List Visit) → HasHandled old before →
     let visit = visit_of version (length before + 1) desk input in
-    (sent ≡ sends_at old.lane old.lanes before visit) × HasHandled new (before ++ visit ∷ [])
+    (sent ≡ sends_at old.who old.lane old.lanes before visit) × HasHandled new (before ++ visit ∷ [])

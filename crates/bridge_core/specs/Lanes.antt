@@ -1,5 +1,5 @@
--- What a lane sends, as a function of all its items, in their order.
-use Rattle.std.specs.Prelude.{ℕ, Bool, List, [], ◌∷◌, ◌++◌, length, map, filter, drop, Option, None, Some, option_map}
+-- What a lane sends, as a function of all its items, in their order, and of who the bridge is.
+use Rattle.std.specs.Prelude.{ℕ, Bool, true, if◌then◌else◌, List, [], ◌∷◌, ◌++◌, length, map, filter, drop, Option, None, Some, option_map}
 use Rattle.std.specs.List.{flat_map, filter_map}
 use Rattle.desk_rows.specs.declared.row.Slot.{Slot as SlotRow}
 use Rattle.desk_rows.specs.Desk.{Desk}
@@ -17,9 +17,22 @@ use Rattle.forward_rewrite.specs.OwnStreams.{is_mine}
 use Rattle.mixer.specs.Hearing.{Given}
 use Rattle.mixer.specs.Mixes.{MixSent, sent_by}
 use Rattle.intake.specs.Inputs.{Input}
-use Rattle.bridge_core.specs.Sent.{Sent}
-use Rattle.bridge_core.specs.Sent.Sent.{media}
-use Rattle.intake.specs.Inputs.Input.{frame, audio, tick, nack}
+use Rattle.rtp_codec.specs.declared.address.Address.{Address}
+use Rattle.rtcp_codec.specs.Compound.{written}
+use Rattle.desk_rows.specs.declared.row.Member.{Member as MemberRow}
+use Rattle.topology.specs.Looking.{member_from}
+use Rattle.topology.specs.Receivers.{slots_to}
+use Rattle.forward_rewrite.specs.declared.counts.Counts.{Counts}
+use Rattle.forward_rewrite.specs.Streams.{counts_of}
+use Rattle.mixer.specs.Mixes.{turns, counts_of as mix_counts_of}
+use Rattle.feedback.specs.Upstream.{Asker, upstream_packets}
+use Rattle.feedback.specs.PassedUp.{pli_up}
+use Rattle.reports.specs.SenderReports.{sender_packets}
+use Rattle.reports.specs.LossNotes.{note_of}
+use Rattle.intake.specs.Inputs.{Told, Loss}
+use Rattle.intake.specs.Inputs.Input.{frame, audio, tick, nack, block, pli, report}
+use Rattle.bridge_core.specs.Sent.{Sent, about}
+use Rattle.bridge_core.specs.Sent.Sent.{media, control, note}
 
 -- an item that a lane handles: under which version, as which of the lane's items from 1, with the desk of that version
 pub record Visit : Type 0 where
@@ -50,6 +63,9 @@ routed_of ssrc visit (frame f) = option_map (routed_to visit f) (receiver_on vis
 routed_of ssrc visit (audio sound) = None
 routed_of ssrc visit (tick moment) = None
 routed_of ssrc visit (nack request) = None
+routed_of ssrc visit (block told) = None
+routed_of ssrc visit (pli loss) = None
+routed_of ssrc visit (report moment) = None
 
 -- what a visit brings to a stream
 abbrev pub routed_at : ℕ → Visit → Option Routed
@@ -99,6 +115,9 @@ given_by desk (frame f) = None
 given_by desk (audio sound) = Some (Given.put sound.source sound.address sound.ts sound.samples)
 given_by desk (tick moment) = Some (Given.tick desk moment)
 given_by desk (nack request) = None
+given_by desk (block told) = None
+given_by desk (pli loss) = None
+given_by desk (report moment) = None
 
 -- what a visit gives the mixer
 abbrev pub given_at : Visit → Option Given
@@ -120,19 +139,67 @@ mix_goes visit p = media record {
   resent_by = None;
 }
 
--- what is sent of an input, after the items before it: a frame to each of its receivers, by place and index; nothing for sound; at a tick to each member what it hears, by place; to who asks again, what it was sent of the stream's last 512 packets
-abbrev pub sent_of_input : List Visit → Visit → Input → List Sent
-sent_of_input before visit (frame f) =
+-- ---- RTCP
+
+-- a compound for a stream, by the version and as the item of the visit
+abbrev pub controls : Visit → (ssrc : ℕ) → Address → List ℕ → Sent
+controls visit ssrc to bytes = control record { version = visit.version; item = visit.item; to = to; ssrc = ssrc; bytes = bytes }
+
+-- a lost picture is asked for again where it is to be passed up: a PLI to that address about that source
+abbrev pub passed_up : Asker → Visit → Loss → Option (Address × ℕ) → List Sent
+passed_up who visit loss None = []
+passed_up who visit loss (Some up) = controls visit loss.out_ssrc up.0 (written (upstream_packets who up.1 [] true)) ∷ []
+
+-- what a member tells of a stream, as the items before leave it, if it has begun
+abbrev pub notes : Visit → Told → Option ℕ → Option StreamOf → List Sent
+notes visit told None stream = []
+notes visit told (Some member) None = []
+notes visit told (Some member) (Some stream) =
+    note record { version = visit.version; item = visit.item; from = told.from; note = note_of told.block (record { member = member; address = told.from }) stream.window } ∷ []
+
+-- what a sender report tells of a video stream, if it has begun
+abbrev pub video_counts : ℕ → List Routed → Option Counts
+video_counts ssrc [] = None
+video_counts ssrc (r ∷ rs) = counts_of ssrc r.slot.first_ts (sendings (r ∷ rs))
+
+-- a stream's sender report of a moment, to a member
+abbrev pub tells : Asker → Visit → (moment : ℕ) → MemberRow → (ssrc : ℕ) → Option Counts → List Sent
+tells who visit moment m ssrc None = []
+tells who visit moment m ssrc (Some counts) = controls visit ssrc m.address (written (sender_packets counts moment who.cname)) ∷ []
+
+-- the sender reports to a member: of its mix, then of its slots' streams
+abbrev pub reports_to : Asker → List Visit → Visit → (moment : ℕ) → MemberRow → List Sent
+reports_to who before visit moment m =
+    tells who visit moment m m.out_audio (mix_counts_of m.out_audio (turns m.out_audio (given_of before)))
+    ++ flat_map (λ s. tells who visit moment m s.out_ssrc (video_counts s.out_ssrc (routed s.out_ssrc before))) (slots_to visit.desk m.member)
+
+-- of these, those of the lane's own streams
+abbrev pub own_tells : Asker → (lane lanes : ℕ) → Visit → (moment : ℕ) → MemberRow → (ssrc : ℕ) → Option Counts → List Sent
+own_tells who lane lanes visit moment m ssrc counts = if is_mine lane lanes ssrc then tells who visit moment m ssrc counts else []
+
+abbrev pub lanes_reports : Asker → (lane lanes : ℕ) → List Visit → Visit → (moment : ℕ) → MemberRow → List Sent
+lanes_reports who lane lanes before visit moment m =
+    own_tells who lane lanes visit moment m m.out_audio (mix_counts_of m.out_audio (turns m.out_audio (given_of before)))
+    ++ flat_map (λ s. own_tells who lane lanes visit moment m s.out_ssrc (video_counts s.out_ssrc (routed s.out_ssrc before))) (slots_to visit.desk m.member)
+
+-- ---- all that is sent
+
+-- what is sent of an input, after the items before it: a frame to each of its receivers, by place and index; nothing for sound; at a tick to each member what it hears, by place; to who asks again, what it was sent of the stream's last 512 packets; to operators, what a member tells of a stream; to the source's member, that a picture is lost; and to each member the reports of its streams, by place
+abbrev pub sent_of_input : Asker → List Visit → Visit → Input → List Sent
+sent_of_input who before visit (frame f) =
     flat_map (λ r. map (goes r.slot.out_ssrc None) (packets_at r.slot.out_ssrc before visit)) (receivers visit.desk f.source f.address)
-sent_of_input before visit (audio sound) = []
-sent_of_input before visit (tick moment) = map (mix_goes visit) (sent_by (given_of before) visit.desk moment)
-sent_of_input before visit (nack request) =
+sent_of_input who before visit (audio sound) = []
+sent_of_input who before visit (tick moment) = map (mix_goes visit) (sent_by (given_of before) visit.desk moment)
+sent_of_input who before visit (nack request) =
     map (goes request.out_ssrc (Some visit.version)) (resends visit.desk request.from request.numbers (latest room (packets request.out_ssrc before)))
+sent_of_input who before visit (block told) = notes visit told (member_from visit.desk told.from) (stream_of told.block.ssrc (routed told.block.ssrc before))
+sent_of_input who before visit (pli loss) = passed_up who visit loss (pli_up visit.desk loss.from loss.out_ssrc)
+sent_of_input who before visit (report moment) = flat_map (reports_to who before visit moment) visit.desk.members
 
--- the packet is on one of the lane's streams
+-- it is about one of the lane's streams
 abbrev pub is_lanes : ℕ → ℕ → Sent → Bool
-is_lanes lane lanes (media p) = is_mine lane lanes p.ssrc
+is_lanes lane lanes sent = is_mine lane lanes (about sent)
 
--- what a lane sends at a visit, after those before it: of what is sent of the input, the packets on its own streams
-abbrev pub sends_at : ℕ → ℕ → List Visit → Visit → List Sent
-sends_at lane lanes before visit = filter (is_lanes lane lanes) (sent_of_input before visit visit.input)
+-- what a lane sends at a visit, after those before it: of what is sent of the input, all that is about its own streams
+abbrev pub sends_at : Asker → ℕ → ℕ → List Visit → Visit → List Sent
+sends_at who lane lanes before visit = filter (is_lanes lane lanes) (sent_of_input who before visit visit.input)

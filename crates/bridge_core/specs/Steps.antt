@@ -2,6 +2,7 @@
 use Rattle.std.specs.Prelude.{◌≡◌, ℕ, ◌+◌, ◌-◌, ◌^◌, nat_eq, if◌then◌else◌, List, [], ◌∷◌, ◌++◌, length, Some, slice_get}
 use Rattle.desk_rows.specs.Edit.{EditOf}
 use Rattle.desk_rows.specs.Desk.{Desk}
+use Rattle.feedback.specs.Upstream.{Asker}
 use Rattle.intake.specs.Inputs.{Input}
 use Rattle.intake.specs.inner.Holding.{IntakeOf}
 use Rattle.bridge_core.specs.Sent.{Sent}
@@ -50,14 +51,14 @@ abbrev pub visits : ℕ → Desk → List Step → List Visit
 visits lane start steps = along (visit_at lane start) [] steps
 
 -- what is sent at a step: for an item one list
-abbrev pub sent_at : ℕ → Desk → List Step → Step → List (List Sent)
-sent_at lanes start before (Step.publish next) = []
-sent_at lanes start before (Step.item lane input) =
-    sends_at lane lanes (visits lane start before) (visit_after start before lane input) ∷ []
+abbrev pub sent_at : Asker → ℕ → Desk → List Step → Step → List (List Sent)
+sent_at who lanes start before (Step.publish next) = []
+sent_at who lanes start before (Step.item lane input) =
+    sends_at who lane lanes (visits lane start before) (visit_after start before lane input) ∷ []
 
--- what is sent for each item, on so many lanes
-abbrev pub sends : ℕ → Desk → List Step → List (List Sent)
-sends lanes start steps = along (sent_at lanes start) [] steps
+-- what a bridge of this name sends for each item, on so many lanes
+abbrev pub sends : Asker → ℕ → Desk → List Step → List (List Sent)
+sends who lanes start steps = along (sent_at who lanes start) [] steps
 
 -- the core: how many calls were accepted, the desk with the edits done and those undone, the lanes, and the intake
 pub record CoreOf : Type 0 where
@@ -78,7 +79,7 @@ pub record HasTaken (core : CoreOf) (start : Desk) (steps : List Step) : Type 0 
 abbrev pub Takes : CoreOf → CoreOf → Step → List (List Sent) → Type 0
 Takes old new step sent =
     (start : Desk) (before : List Step) → HasTaken old start before →
-    (sent ≡ sent_at (length old.lanes) start before step) × HasTaken new start (before ++ step ∷ [])
+    (sent ≡ sent_at old.intake.asker (length old.lanes) start before step) × HasTaken new start (before ++ step ∷ [])
 
 -- the lane has handled as many items as have numbers
 abbrev pub IsSpent : CoreOf → ℕ → Type 0

@@ -1,6 +1,6 @@
 -- What is promised of whole runs.
-use Rattle.std.specs.Prelude.{◌≡◌, ℕ, ◌%◌, true, List, ◌∷◌, [], ◌++◌, map, filter, None, Some}
-use Rattle.std.specs.List.{AllByRecursion}
+use Rattle.std.specs.Prelude.{◌≡◌, ℕ, ◌%◌, true, if◌then◌else◌, List, ◌∷◌, [], ◌++◌, map, filter, None, Some}
+use Rattle.std.specs.List.{AllByRecursion, flat_map}
 use Rattle.desk_rows.specs.declared.row.Member.{Member as MemberRow}
 use Rattle.desk_rows.specs.Desk.{Desk}
 use Rattle.topology.specs.declared.receivers.Receiver.{Receiver}
@@ -11,43 +11,56 @@ use Rattle.forward_rewrite.specs.Mixes.{Sound}
 use Rattle.forward_rewrite.specs.OwnStreams.{is_mine}
 use Rattle.mixer.specs.Hearing.{voices_of, sound_for}
 use Rattle.mixer.specs.Mixes.{mixes}
-use Rattle.intake.specs.Inputs.{Input}
+use Rattle.feedback.specs.Upstream.{Asker}
+use Rattle.intake.specs.Inputs.{Input, Told, Loss}
 use Rattle.bridge_core.specs.Sent.{Sent}
-use Rattle.intake.specs.Inputs.Input.{frame, audio, tick, nack}
-use Rattle.bridge_core.specs.Lanes.{packets, goes, routed_to, given_of, sends_at}
+use Rattle.intake.specs.Inputs.Input.{frame, audio, tick, nack, block, pli, report}
+use Rattle.topology.specs.Looking.{member_from}
+use Rattle.feedback.specs.PassedUp.{pli_up}
+use Rattle.bridge_core.specs.Lanes.{packets, goes, routed, routed_to, stream_of, given_of, passed_up, notes, lanes_reports, sends_at}
 use Rattle.bridge_core.specs.Steps.{Step, visits, visit_after, sends}
 use Rattle.bridge_core.specs.Named.{Name, Kind, is_on, firsts}
 use Rattle.bridge_core.specs.Headline.{HaveNoGap, numbers, numbered_of, IsChosenOf, GoesWhole, IsMixOf, GoesOnce, LeadsBack}
 
 -- what a lane sends for an input that comes after these steps
-abbrev pub sent_after : ℕ → Desk → List Step → ℕ → Input → List Sent
-sent_after lanes start before lane input = sends_at lane lanes (visits lane start before) (visit_after start before lane input)
+abbrev pub sent_after : Asker → ℕ → Desk → List Step → ℕ → Input → List Sent
+sent_after who lanes start before lane input = sends_at who lane lanes (visits lane start before) (visit_after start before lane input)
 
 -- Each packet of the frame is one that the desk of its version chose, and all whose streams are the lane's and who chose the frame's source get all of it.
-pub record IsShared (lanes : ℕ) (start : Desk) (before : List Step) (lane : ℕ) (f : SourceFrame) : Type 0 where
-  pub chosen : AllByRecursion (IsChosenOf (visit_after start before lane (frame f)) f) (sent_after lanes start before lane (frame f))
+pub record IsShared (who : Asker) (lanes : ℕ) (start : Desk) (before : List Step) (lane : ℕ) (f : SourceFrame) : Type 0 where
+  pub chosen : AllByRecursion (IsChosenOf (visit_after start before lane (frame f)) f) (sent_after who lanes start before lane (frame f))
   pub whole : (ssrc : ℕ) (r : Receiver) → is_mine lane lanes ssrc ≡ true → receiver_on (visit_after start before lane (frame f)).desk f.source f.address ssrc ≡ Some r
-      → GoesWhole ssrc (routed_to (visit_after start before lane (frame f)) f r).sending (filter (is_on ssrc) (sent_after lanes start before lane (frame f)))
+      → GoesWhole ssrc (routed_to (visit_after start before lane (frame f)) f r).sending (filter (is_on ssrc) (sent_after who lanes start before lane (frame f)))
 
 -- Each packet of the tick is a mix that the desk of its version gives, and all members whose mixes are on the lane's streams and who hear anything get theirs.
-pub record IsMixed (lanes : ℕ) (start : Desk) (before : List Step) (lane moment : ℕ) : Type 0 where
-  pub heard : AllByRecursion (IsMixOf (given_of (visits lane start before)) (visit_after start before lane (tick moment))) (sent_after lanes start before lane (tick moment))
+pub record IsMixed (who : Asker) (lanes : ℕ) (start : Desk) (before : List Step) (lane moment : ℕ) : Type 0 where
+  pub heard : AllByRecursion (IsMixOf (given_of (visits lane start before)) (visit_after start before lane (tick moment))) (sent_after who lanes start before lane (tick moment))
   pub whole : (m : MemberRow) (sound : Sound) → is_mine lane lanes m.out_audio ≡ true → mix_member (visit_after start before lane (tick moment)).desk m.out_audio ≡ Some m
       → sound_for (voices_of (given_of (visits lane start before)) (visit_after start before lane (tick moment)).desk) (visit_after start before lane (tick moment)).desk m ≡ Some sound
-      → GoesOnce (visit_after start before lane (tick moment)) m sound (filter (is_on m.out_audio) (sent_after lanes start before lane (tick moment)))
+      → GoesOnce (visit_after start before lane (tick moment)) m sound (filter (is_on m.out_audio) (sent_after who lanes start before lane (tick moment)))
 
--- An input is answered by what was promised of its kind: a frame goes to all who chose it, sound sends nothing, at a tick all hear their mixes, and what is sent again leads back.
-abbrev pub IsKept : ℕ → Desk → List Step → ℕ → Input → Type 0
-IsKept lanes start before lane (frame f) = IsShared lanes start before lane f
-IsKept lanes start before lane (audio sound) = sent_after lanes start before lane (audio sound) ≡ []
-IsKept lanes start before lane (tick moment) = IsMixed lanes start before lane moment
-IsKept lanes start before lane (nack request) =
-    AllByRecursion (LeadsBack lanes start before lane (visit_after start before lane (nack request)) request) (sent_after lanes start before lane (nack request))
+-- An input is answered by what was promised of its kind: a frame goes to all who chose it, sound sends nothing, at a tick all hear their mixes, and what is sent again leads back; what a receiver tells of a stream, and that it lost the picture, is answered in the lane of the stream alone; and each member gets the reports of its streams.
+abbrev pub IsKept : Asker → ℕ → Desk → List Step → ℕ → Input → Type 0
+IsKept who lanes start before lane (frame f) = IsShared who lanes start before lane f
+IsKept who lanes start before lane (audio sound) = sent_after who lanes start before lane (audio sound) ≡ []
+IsKept who lanes start before lane (tick moment) = IsMixed who lanes start before lane moment
+IsKept who lanes start before lane (nack request) =
+    AllByRecursion (LeadsBack who lanes start before lane (visit_after start before lane (nack request)) request) (sent_after who lanes start before lane (nack request))
+IsKept who lanes start before lane (block told) =
+    let visit = visit_after start before lane (block told) in
+    sent_after who lanes start before lane (block told)
+    ≡ (if is_mine lane lanes told.block.ssrc then notes visit told (member_from visit.desk told.from) (stream_of told.block.ssrc (routed told.block.ssrc (visits lane start before))) else [])
+IsKept who lanes start before lane (pli loss) =
+    let visit = visit_after start before lane (pli loss) in
+    sent_after who lanes start before lane (pli loss) ≡ (if is_mine lane lanes loss.out_ssrc then passed_up who visit loss (pli_up visit.desk loss.from loss.out_ssrc) else [])
+IsKept who lanes start before lane (report moment) =
+    let visit = visit_after start before lane (report moment) in
+    sent_after who lanes start before lane (report moment) ≡ flat_map (lanes_reports who lane lanes (visits lane start before) visit moment) visit.desk.members
 
 -- What holds of all that is sent over these steps, on so many lanes from this desk on: it is what the definition gives; each stream's first sendings are its routed list or its mix list, and number without a gap; and each item is answered as was promised.
-pub record Holds (lanes : ℕ) (start : Desk) (steps : List Step) (sent : List (List Sent)) : Type 0 where
-  pub given : sent ≡ sends lanes start steps
-  pub lists : (ssrc : ℕ) → firsts lanes start (record { kind = Kind.video; ssrc = ssrc }) steps ≡ map (goes ssrc None) (packets ssrc (visits (ssrc % lanes) start steps))
-  pub mix_lists : (ssrc : ℕ) → map numbered_of (firsts lanes start (record { kind = Kind.mix; ssrc = ssrc }) steps) ≡ mixes ssrc (given_of (visits (ssrc % lanes) start steps))
-  pub no_gap : (name : Name) → HaveNoGap (numbers (firsts lanes start name steps))
-  pub kept : (before after : List Step) (lane : ℕ) (input : Input) → steps ≡ before ++ Step.item lane input ∷ after → IsKept lanes start before lane input
+pub record Holds (who : Asker) (lanes : ℕ) (start : Desk) (steps : List Step) (sent : List (List Sent)) : Type 0 where
+  pub given : sent ≡ sends who lanes start steps
+  pub lists : (ssrc : ℕ) → firsts who lanes start (record { kind = Kind.video; ssrc = ssrc }) steps ≡ map (goes ssrc None) (packets ssrc (visits (ssrc % lanes) start steps))
+  pub mix_lists : (ssrc : ℕ) → map numbered_of (firsts who lanes start (record { kind = Kind.mix; ssrc = ssrc }) steps) ≡ mixes ssrc (given_of (visits (ssrc % lanes) start steps))
+  pub no_gap : (name : Name) → HaveNoGap (numbers (firsts who lanes start name steps))
+  pub kept : (before after : List Step) (lane : ℕ) (input : Input) → steps ≡ before ++ Step.item lane input ∷ after → IsKept who lanes start before lane input

@@ -1,3 +1,4 @@
 pub mod Readies
 pub mod VideoStreams
 pub mod Parts
+pub mod Control

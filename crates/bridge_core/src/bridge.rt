@@ -8,8 +8,9 @@ ghost use Rattle.desk_edit.specs.Calls.{CallHistory, no_calls};
 ghost use Rattle.intake.specs.Inputs.{input_of, is_sized};
 ghost use Rattle.intake.specs.Sources.{no_sources};
 ghost use Rattle.intake.specs.Readings.{Reading, IsReading};
-ghost use Rattle.intake.specs.Ingested.{ingested_of};
-ghost use Rattle.intake.specs.Intakes.{Knows, TakesIn};
+ghost use Rattle.intake.specs.Ingested.{ingested_of, datagram_of};
+ghost use Rattle.intake.specs.Names.{is_name};
+ghost use Rattle.intake.specs.Intakes.{Knows, TakesIn, Tells};
 ghost use Rattle.bridge_core.specs.Sent.{sent_of};
 ghost use Rattle.bridge_core.specs.Sound.{AreFresh, most_calls};
 ghost use Rattle.bridge_core.specs.Steps.{CoreOf, HasTaken, Takes, Step, IsSpent};
@@ -54,7 +55,7 @@ impl<A: Allocator + Copy> Model for Core<A> {
       intake = c.intake;
     } };
 
-    ghost invariant = { λ c. IsSound c.version c.history.done c.lanes.items };
+    ghost invariant = { λ c. IsSound c.version c.history.done c.lanes.items c.intake.asker };
 }
 
 impl<A: Allocator + Copy> Core<A> {
@@ -79,7 +80,7 @@ impl<A: Allocator + Copy> Core<A> {
         let Ok(rows) = Rows::new(alloc, settings.bridge_ssrc) else {
             return Err(CoreFault::OutOfMemory);
         };
-        let Ok(states) = lane_states(alloc, lanes) else {
+        let Ok(states) = lane_states(alloc, lanes, &settings) else {
             return Err(CoreFault::OutOfMemory);
         };
         let Ok(intake) = Intake::new(alloc, settings) else {
@@ -284,6 +285,23 @@ impl<A: Allocator + Copy> Core<A> {
         let rows = self.history.state();
         self.intake.datagram(alloc, rows, from, moment, octets)
     }
+
+    /// The receiver reports of the bridge at a moment, in nanoseconds since 1970: one datagram for each member of whose sources one
+    /// at least is known and past probation, with a block for each such source (RFC 3550 section 6.4.2). These sources begin a new
+    /// interval. An error says that memory was refused, and then nothing has changed.
+    pub fn reports(
+        &mut self,
+        alloc: A,
+        moment: u64,
+    ) -> Result<Vec<(Address, Vec<u8, A>), A>, AllocError>
+        ensures tells { IfOk result (λ up. Tells self.old.intake self.new.intake (map datagram_of up.items) self.old.desk moment) }
+        ensures others { (self.new.version ≡ self.old.version) × (self.new.desk ≡ self.old.desk) × (self.new.done ≡ self.old.done) × (self.new.undone ≡ self.old.undone) × (self.new.lanes ≡ self.old.lanes) }
+        ensures asker { self.new.intake.asker ≡ self.old.intake.asker }
+        ensures err { OnErr result (self.new ≡ self.old) }
+    {
+        let rows = self.history.state();
+        self.intake.reports(alloc, rows, moment)
+    }
 }
 
 /// Whether as many calls were accepted as the log can hold.
@@ -307,14 +325,16 @@ fn before_memory(why: Refusal, version: u64) -> Refusal
 fn lane_states<A: Allocator + Copy>(
     alloc: A,
     lanes: u32,
+    settings: &Settings<A>,
 ) -> Result<Vec<LaneState<A>, A>, AllocError>
-    requires { lanes ≤ most_lanes }
-    ensures fresh { IfOk result (λ v. AreFresh lanes v.items) }
+    requires lanes { lanes ≤ most_lanes }
+    requires name { is_name settings.now.cname ≡ true }
+    ensures fresh { IfOk result (λ v. AreFresh lanes (record { ssrc = settings.now.bridge_ssrc; cname = settings.now.cname }) v.items) }
     ensures count { IfOk result (λ v. length v.items ≡ lanes) }
 {
     let mut states = Vec::with_capacity(alloc, lanes as usize)?;
     for lane in 0..lanes {
-        let state = LaneState::new(alloc, lane, lanes)?;
+        let state = LaneState::new(alloc, lane, lanes, settings.try_clone()?)?;
         states.push(state)?;
     }
     Ok(states)

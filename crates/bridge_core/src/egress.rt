@@ -1,6 +1,7 @@
 //! What a lane gives.
 
 use bytes::Bytes;
+use reports::LossNote;
 use rtp_codec::Address;
 use std::alloc::{Allocator, Global};
 
@@ -19,5 +20,26 @@ pub enum Egress<A: Allocator + Copy = Global> {
         bytes: Bytes<A>,
         /// The desk version by which it is sent again, if it was sent before.
         resent_by: Option<u64>,
+    },
+    /// An RTCP compound (RFC 3550 section 6.1).
+    Control {
+        /// The desk version by which it is sent.
+        version: u64,
+        /// The number, from 1, of the item of its lane by which it is sent.
+        item: u64,
+        to: Address,
+        /// The outgoing stream for which it is sent.
+        ssrc: u32,
+        bytes: Vec<u8, A>,
+    },
+    /// What a receiver tells of an outgoing stream. It is for operators, and goes nowhere by itself.
+    Note {
+        /// The desk version by which it is told.
+        version: u64,
+        /// The number, from 1, of the item of its lane by which it is told.
+        item: u64,
+        /// The receiver's address.
+        from: Address,
+        note: LossNote,
     },
 }

@@ -17,6 +17,7 @@ ghost use Rattle.forward_rewrite.specs.Mixes.{Sound};
 ghost use Rattle.forward_rewrite.specs.OwnStreams.{is_mine};
 ghost use Rattle.mixer.specs.Hearing.{voices_of, sound_for};
 ghost use Rattle.mixer.specs.Mixes.{mixes};
+ghost use Rattle.feedback.specs.Upstream.{Asker};
 ghost use Rattle.intake.specs.Inputs.{Input, Request};
 ghost use Rattle.bridge_core.specs.Sent.{Sent};
 ghost use Rattle.bridge_core.specs.Lanes.{packets, goes, routed_to, given_of, sends_at};
@@ -38,13 +39,13 @@ use topology::{all_who_chose_receive, mixes_are_apart, receivers_are_distinct};
 /// Over any steps that cores take one by one, from a core that has taken nothing on: what is sent,
 /// joined in order, is what `sends` gives for the whole list, and the last core has taken all of it.
 pub fn all_that_is_sent()
-    ensures { (start : Desk) (steps : List Step) (sent : List (List Sent)) (first last : CoreOf) → HasTaken first start [] → Runs first steps sent last → (sent ≡ sends (length first.lanes) start steps) × HasTaken last start steps }
+    ensures { (start : Desk) (steps : List Step) (sent : List (List Sent)) (first last : CoreOf) → HasTaken first start [] → Runs first steps sent last → (sent ≡ sends first.intake.asker (length first.lanes) start steps) × HasTaken last start steps }
 {}
 
 /// What is sent on a video stream for the first time, over all versions of the desk and however many
 /// lanes there are, is its routed list: all packets of all frames that the items of its lane bring it.
 pub fn streams_are_routed_lists()
-    ensures { (lanes : ℕ) (start : Desk) (steps : List Step) (ssrc : ℕ) → good start ≡ true → AreGood steps → firsts lanes start (record { kind = Kind.video; ssrc = ssrc }) steps ≡ map (goes ssrc None) (packets ssrc (visits (ssrc % lanes) start steps)) }
+    ensures { (who : Asker) (lanes : ℕ) (start : Desk) (steps : List Step) (ssrc : ℕ) → good start ≡ true → AreGood steps → firsts who lanes start (record { kind = Kind.video; ssrc = ssrc }) steps ≡ map (goes ssrc None) (packets ssrc (visits (ssrc % lanes) start steps)) }
 {
     each_frame_goes_whole();
     receivers_are_distinct();
@@ -54,7 +55,7 @@ pub fn streams_are_routed_lists()
 /// What is sent on a mix stream for the first time, over all versions of the desk and however many lanes
 /// there are, is its mix list: the packets of all ticks of its lane.
 pub fn mixes_are_mix_lists()
-    ensures { (lanes : ℕ) (start : Desk) (steps : List Step) (ssrc : ℕ) → good start ≡ true → AreGood steps → map numbered_of (firsts lanes start (record { kind = Kind.mix; ssrc = ssrc }) steps) ≡ mixes ssrc (given_of (visits (ssrc % lanes) start steps)) }
+    ensures { (who : Asker) (lanes : ℕ) (start : Desk) (steps : List Step) (ssrc : ℕ) → good start ≡ true → AreGood steps → map numbered_of (firsts who lanes start (record { kind = Kind.mix; ssrc = ssrc }) steps) ≡ mixes ssrc (given_of (visits (ssrc % lanes) start steps)) }
 {
     ticks_add_what_is_heard();
     mixes_go_to_their_members();
@@ -63,7 +64,7 @@ pub fn mixes_are_mix_lists()
 /// Each outgoing stream numbers its packets without a gap modulo 65536, over all versions of the
 /// desk and however many lanes there are. What is sent again has the number that it had.
 pub fn streams_have_no_gap()
-    ensures { (lanes : ℕ) (start : Desk) (steps : List Step) (name : Name) → good start ≡ true → AreGood steps → HaveNoGap (numbers (firsts lanes start name steps)) }
+    ensures { (who : Asker) (lanes : ℕ) (start : Desk) (steps : List Step) (name : Name) → good start ≡ true → AreGood steps → HaveNoGap (numbers (firsts who lanes start name steps)) }
 {
     streams_are_routed_lists();
     numbers_in_a_row();
@@ -75,14 +76,14 @@ pub fn streams_have_no_gap()
 /// any number of lanes, and the other lanes may be given anything. So it is the same on any number of
 /// lanes that are all given every item.
 pub fn lane_count_does_not_matter()
-    ensures same_items { (few many : ℕ) (start : Desk) (these those : List Step) (ssrc : ℕ) → visits (ssrc % few) start these ≡ visits (ssrc % many) start those → sent_on ssrc (sends few start these) ≡ sent_on ssrc (sends many start those) }
-    ensures every_lane { (few many : ℕ) (start : Desk) (steps : List Step) (ssrc : ℕ) → 0 < few → 0 < many → sent_on ssrc (sends few start (to_every few steps)) ≡ sent_on ssrc (sends many start (to_every many steps)) }
+    ensures same_items { (who : Asker) (few many : ℕ) (start : Desk) (these those : List Step) (ssrc : ℕ) → visits (ssrc % few) start these ≡ visits (ssrc % many) start those → sent_on ssrc (sends who few start these) ≡ sent_on ssrc (sends who many start those) }
+    ensures every_lane { (who : Asker) (few many : ℕ) (start : Desk) (steps : List Step) (ssrc : ℕ) → 0 < few → 0 < many → sent_on ssrc (sends who few start (to_every few steps)) ≡ sent_on ssrc (sends who many start (to_every many steps)) }
 {}
 
 /// Each packet that is sent for a frame names the version and the item, and goes where the desk of
 /// that version has it go: its stream chose the frame's source, and its slot's member has the address.
 pub fn packets_are_chosen()
-    ensures { (lanes lane : ℕ) (start : Desk) (before : List Step) (f : SourceFrame) → good (desk_of start before) ≡ true → AllByRecursion (AllByRecursion (IsChosenOf (visit_after start before lane (Input.frame f)) f)) (sent_at lanes start before (Step.item lane (Input.frame f))) }
+    ensures { (who : Asker) (lanes lane : ℕ) (start : Desk) (before : List Step) (f : SourceFrame) → good (desk_of start before) ≡ true → AllByRecursion (AllByRecursion (IsChosenOf (visit_after start before lane (Input.frame f)) f)) (sent_at who lanes start before (Step.item lane (Input.frame f))) }
 {
     each_frame_goes_whole();
     receivers_are_distinct();
@@ -92,7 +93,7 @@ pub fn packets_are_chosen()
 /// All whose streams are the lane's and chose the frame's source at its address get all packets of
 /// the frame, in order, with its payloads, markers and payload types.
 pub fn frames_go_whole()
-    ensures { (lanes lane : ℕ) (start : Desk) (before : List Step) (f : SourceFrame) (ssrc : ℕ) (r : Receiver) → good (desk_of start before) ≡ true → is_mine lane lanes ssrc ≡ true → receiver_on (desk_of start before) f.source f.address ssrc ≡ Some r → (let visit = visit_after start before lane (Input.frame f) in GoesWhole ssrc (routed_to visit f r).sending (filter (is_on ssrc) (sends_at lane lanes (visits lane start before) visit))) }
+    ensures { (who : Asker) (lanes lane : ℕ) (start : Desk) (before : List Step) (f : SourceFrame) (ssrc : ℕ) (r : Receiver) → good (desk_of start before) ≡ true → is_mine lane lanes ssrc ≡ true → receiver_on (desk_of start before) f.source f.address ssrc ≡ Some r → (let visit = visit_after start before lane (Input.frame f) in GoesWhole ssrc (routed_to visit f r).sending (filter (is_on ssrc) (sends_at who lane lanes (visits lane start before) visit))) }
 {
     each_frame_goes_whole();
     receivers_are_distinct();
@@ -103,7 +104,7 @@ pub fn frames_go_whole()
 /// version has it go: to the member whose mix its stream is, at its address. It carries what the member
 /// hears of all that the lane was given before.
 pub fn mixes_are_heard()
-    ensures { (lanes lane : ℕ) (start : Desk) (before : List Step) (moment : ℕ) → good (desk_of start before) ≡ true → AllByRecursion (AllByRecursion (IsMixOf (given_of (visits lane start before)) (visit_after start before lane (Input.tick moment)))) (sent_at lanes start before (Step.item lane (Input.tick moment))) }
+    ensures { (who : Asker) (lanes lane : ℕ) (start : Desk) (before : List Step) (moment : ℕ) → good (desk_of start before) ≡ true → AllByRecursion (AllByRecursion (IsMixOf (given_of (visits lane start before)) (visit_after start before lane (Input.tick moment)))) (sent_at who lanes start before (Step.item lane (Input.tick moment))) }
 {
     ticks_add_what_is_heard();
     mixes_go_to_their_members();
@@ -112,7 +113,7 @@ pub fn mixes_are_heard()
 
 /// At a tick, each member who hears anything and whose mix is on a stream of the lane gets one packet of it.
 pub fn all_who_hear_get_it()
-    ensures { (lanes lane : ℕ) (start : Desk) (before : List Step) (moment : ℕ) (m : Member) (sound : Sound) → good (desk_of start before) ≡ true → is_mine lane lanes m.out_audio ≡ true → mix_member (desk_of start before) m.out_audio ≡ Some m → sound_for (voices_of (given_of (visits lane start before)) (desk_of start before)) (desk_of start before) m ≡ Some sound → (let visit = visit_after start before lane (Input.tick moment) in GoesOnce visit m sound (filter (is_on m.out_audio) (sends_at lane lanes (visits lane start before) visit))) }
+    ensures { (who : Asker) (lanes lane : ℕ) (start : Desk) (before : List Step) (moment : ℕ) (m : Member) (sound : Sound) → good (desk_of start before) ≡ true → is_mine lane lanes m.out_audio ≡ true → mix_member (desk_of start before) m.out_audio ≡ Some m → sound_for (voices_of (given_of (visits lane start before)) (desk_of start before)) (desk_of start before) m ≡ Some sound → (let visit = visit_after start before lane (Input.tick moment) in GoesOnce visit m sound (filter (is_on m.out_audio) (sends_at who lane lanes (visits lane start before) visit))) }
 {
     ticks_add_what_is_heard();
     mixes_go_to_their_members();
@@ -122,7 +123,7 @@ pub fn all_who_hear_get_it()
 /// were sent on its stream; and who asks for it is the member to whom it went, at the address to which
 /// it went. It names the version and the item by which it was sent first.
 pub fn resends_lead_back()
-    ensures { (lanes lane : ℕ) (start : Desk) (before : List Step) (request : Request) → good start ≡ true → AreGood before → (let visit = visit_after start before lane (Input.nack request) in AllByRecursion (AllByRecursion (LeadsBack lanes start before lane visit request)) (sent_at lanes start before (Step.item lane (Input.nack request)))) }
+    ensures { (who : Asker) (lanes lane : ℕ) (start : Desk) (before : List Step) (request : Request) → good start ≡ true → AreGood before → (let visit = visit_after start before lane (Input.nack request) in AllByRecursion (AllByRecursion (LeadsBack who lanes start before lane visit request)) (sent_at who lanes start before (Step.item lane (Input.nack request)))) }
 {
     streams_are_routed_lists();
     found_is_what_was_sent();
@@ -168,8 +169,8 @@ pub fn undos_are_redone()
 /// - the number of lanes makes no difference to a stream.
 pub fn the_headline()
     ensures undone { (first middle last : CoreOf) (commands : List Command) (replies : List Reply) → AcceptsAll first commands middle → UndoesInARow middle (length commands) replies last → (replies ≡ all_accepted middle.version (length commands)) × (last.desk ≡ first.desk) × (last.done ≡ first.done) }
-    ensures holds { (start : Desk) (events : List Event) (sent : List (List Sent)) (first last : CoreOf) → good start ≡ true → HasTaken first start [] → HasCalled first (no_calls start) → Plays first events sent last → Holds (length first.lanes) start (steps_of (no_calls start) events) sent }
-    ensures lanes { (few many : ℕ) (start : Desk) (events : List Event) (ssrc : ℕ) → 0 < few → 0 < many → (let steps = steps_of (no_calls start) events in sent_on ssrc (sends few start (to_every few steps)) ≡ sent_on ssrc (sends many start (to_every many steps))) }
+    ensures holds { (start : Desk) (events : List Event) (sent : List (List Sent)) (first last : CoreOf) → good start ≡ true → HasTaken first start [] → HasCalled first (no_calls start) → Plays first events sent last → Holds first.intake.asker (length first.lanes) start (steps_of (no_calls start) events) sent }
+    ensures lanes { (who : Asker) (few many : ℕ) (start : Desk) (events : List Event) (ssrc : ℕ) → 0 < few → 0 < many → (let steps = steps_of (no_calls start) events in sent_on ssrc (sends who few start (to_every few steps)) ≡ sent_on ssrc (sends who many start (to_every many steps))) }
 {
     commands_come_back();
     streams_are_routed_lists();

@@ -3,11 +3,13 @@
 
 mod audio;
 mod bridge;
+mod control;
 mod egress;
 mod fault;
 mod lane;
 mod laws;
 mod reply;
+mod reporting;
 mod video;
 
 pub use self::bridge::Core;
@@ -24,3 +26,4 @@ pub use self::reply::Reply;
 pub use forward_rewrite::MediaFrame;
 pub use frame_gate::{Frame, FrameFault, FramePacket};
 pub use intake::{Ingest, Intake, Item, Outcome, Settings};
+pub use reports::LossNote;

@@ -1,10 +1,11 @@
 //! A lane's outgoing video streams.
 
-ghost use Rattle.std.specs.Prelude.{◌≡◌, ℕ, ◌+◌, ◌*◌, ◌≤◌, ◌<◌, ◌++◌, [], length, map, filter, IfOk, OnErr, vec_len, vec_capacity, Some};
+ghost use Rattle.std.specs.Prelude.{◌≡◌, ℕ, ◌+◌, ◌*◌, ◌≤◌, ◌<◌, ◌++◌, [], length, map, filter, IfOk, OnErr, vec_len, vec_capacity, Some, option_copied};
 ghost use Rattle.indexmap.specs.IndexMap.{spare};
 ghost use Rattle.topology.specs.Receivers.{AreDistinct};
 ghost use Rattle.forward_rewrite.specs.Sending.{out_of};
 ghost use Rattle.forward_rewrite.specs.OwnStreams.{is_mine};
+ghost use Rattle.feedback.specs.Upstream.{Asker};
 ghost use Rattle.intake.specs.Inputs.{Request};
 ghost use Rattle.bridge_core.specs.Sent.{sent_of};
 ghost use Rattle.intake.specs.Inputs.Input.{frame as frame_input, nack as nack_input};
@@ -252,6 +253,13 @@ impl<A: Allocator + Copy> VideoStreams<A> {
         Ok(Self { table })
     }
 
+    /// The stream of this SSRC, if it has begun.
+    pub fn stream(&self, ssrc: u32) -> Option<&Stream<A>>
+        ensures { option_copied result ≡ stream_at ssrc self.now }
+    {
+        self.table.get(&ssrc)
+    }
+
     /// Sends a frame to those of its receivers whose streams are the lane's. All of it is made ready
     /// before a stream changes, so a refusal changes nothing.
     pub fn frame(
@@ -262,7 +270,7 @@ impl<A: Allocator + Copy> VideoStreams<A> {
         rows: &Rows<A>,
         frame: &MediaFrame<A>,
     ) -> Result<Vec<Egress<A>, A>, AllocError>
-        ensures sends { IfOk result (λ sent. Answers place.now.lane place.now.lanes self.old self.new (visit_of stamp.version stamp.item rows.now (frame_input frame.now)) (map sent_of sent.items)) }
+        ensures sends { (who : Asker) → IfOk result (λ sent. Answers who place.now.lane place.now.lanes self.old self.new (visit_of stamp.version stamp.item rows.now (frame_input frame.now)) (map sent_of sent.items)) }
         ensures err { OnErr result (self.new ≡ self.old) }
     {
         rows.known();
@@ -292,7 +300,7 @@ impl<A: Allocator + Copy> VideoStreams<A> {
         out_ssrc: u32,
         numbers: &[u16],
     ) -> Result<Vec<Egress<A>, A>, AllocError>
-        ensures sends { IfOk result (λ sent. Answers place.now.lane place.now.lanes self.now self.now (visit_of stamp.version stamp.item rows.now (nack_input (record { from = from.now; out_ssrc = out_ssrc; numbers = numbers.now }))) (map sent_of sent.items)) }
+        ensures sends { (who : Asker) → IfOk result (λ sent. Answers who place.now.lane place.now.lanes self.now self.now (visit_of stamp.version stamp.item rows.now (nack_input (record { from = from.now; out_ssrc = out_ssrc; numbers = numbers.now }))) (map sent_of sent.items)) }
     {
         if !place.is_mine(out_ssrc) {
             return Ok(Vec::new(alloc));

@@ -25,6 +25,6 @@ TicksAs lane lanes old new stamp desk moment sent =
 abbrev pub PartsAnswer : LaneOf → LaneOf → Visit → List Sent → Type 0
 PartsAnswer old new visit sent =
     (before : List Visit) → AreLeft old.lane old.lanes old.video before → WasGiven old.lane old.lanes old.audio (given_of before) →
-    (sent ≡ sends_at old.lane old.lanes before visit)
+    (sent ≡ sends_at old.who old.lane old.lanes before visit)
     × AreLeft old.lane old.lanes new.video (before ++ visit ∷ [])
     × WasGiven old.lane old.lanes new.audio (given_of (before ++ visit ∷ []))

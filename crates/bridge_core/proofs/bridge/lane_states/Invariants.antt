@@ -5,6 +5,6 @@ use Rattle.bridge_core.proofs.bridge.lane_states.Given as goal
 
 abbrev pub invariant-loop-lane : goal.invariant-loop-lane
 invariant-loop-lane g l = record {
-  fresh : AreFresh l.lanes l.states.items;
+  fresh : AreFresh l.lanes (record { ssrc = l.settings.bridge_ssrc; cname = l.settings.cname }) l.states.items;
   count : length l.states.items ≡ l.lane;
 }

@@ -2,5 +2,5 @@ use Rattle.bridge_core.proofs.LedBack.{all_lead_back}
 use Rattle.bridge_core.proofs.laws.resends_lead_back.Goals as goal
 
 pub returns : goal.returns
-returns c lanes lane start before request h all =
-    (all_lead_back c.found_is_what_was_sent.ensures.found lanes lane start before request (c.streams_are_routed_lists.ensures lanes start before request.out_ssrc h all), tt)
+returns c who lanes lane start before request h all =
+    (all_lead_back c.found_is_what_was_sent.ensures.found who lanes lane start before request (c.streams_are_routed_lists.ensures who lanes start before request.out_ssrc h all), tt)

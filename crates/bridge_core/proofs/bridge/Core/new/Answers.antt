@@ -1,16 +1,19 @@
-use Rattle.std.proofs.Common.{◌≡◌, true, refl, sym, ◌∙◌}
+use Rattle.std.proofs.Common.{◌≡◌, true, refl, sym, subst, ◌∙◌}
 use Rattle.intake.specs.Names.{is_name}
+use Rattle.bridge_core.specs.Sound.{IsSound}
 use Rattle.bridge_core.proofs.StepLaws.{sound_at_first, no_fault}
 use Rattle.bridge_core.proofs.bridge.Core.new.Goals as goal
 
 pub invariant_of-result : goal.invariant_of-result
-invariant_of-result g c = sound_at_first c.args.lanes c.in-Ok-lane_states.states.items c.new-3.result.done c.in-Ok-lane_states.ensures.fresh c.in-Ok-lane_states.ensures.count c.new-3.ensures.done
+invariant_of-result g c =
+    subst (IsSound 0 c.new-3.result.done c.in-Ok-lane_states.states.items) (sym c.in-Ok-new.ensures.asker)
+    (sound_at_first c.args.lanes _ c.in-Ok-lane_states.states.items c.new-3.result.done c.in-Ok-lane_states.ensures.fresh c.in-Ok-lane_states.ensures.count c.new-3.ensures.done)
 
 pub returns-clause-fresh : goal.returns-clause-fresh
 returns-clause-fresh g c = record {
   version = refl;
   desk = c.new-3.ensures.state ∙ c.in-Ok.ensures;
-  lanes = λ lane state at. (c.in-Ok-lane_states.ensures.fresh lane state at).2;
+  lanes = λ lane state at. (c.in-Ok-lane_states.ensures.fresh lane state at).3;
 }
 
 pub returns-clause-good : goal.returns-clause-good

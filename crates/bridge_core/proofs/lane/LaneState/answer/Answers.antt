@@ -1,27 +1,28 @@
 use Rattle.std.proofs.Common.{List, ℕ, ℤ, map, refl, ap, sym, subst, ◌∙◌}
 use Rattle.std.specs.Prelude.{IfOk}
+use Rattle.std.proofs.lemmas.Result.{IfOk-weaker}
 use Rattle.intake.specs.Inputs.{Input, input_of}
 use Rattle.bridge_core.specs.Sent.{sent_of}
 use Rattle.bridge_core.specs.LaneState.{LaneOf, visit_of}
 use Rattle.bridge_core.specs.inner.Parts.{PartsAnswer}
-use Rattle.bridge_core.proofs.PartsLaws.{ok_by_video, ok_by_sound, ok_by_tick}
+use Rattle.bridge_core.proofs.PartsLaws.{ok_by_video, ok_by_sound, ok_by_tick, by_note, by_loss, ok_by_report}
 use Rattle.bridge_core.proofs.lane.LaneState.answer.Goals as goal
 
 pub returns-in-Frame-clause-sends : goal.returns-in-Frame-clause-sends
 returns-in-Frame-clause-sends g c =
     let was = c.self.inside in
-    let old : LaneOf = record { lane = was.place.lane; lanes = was.place.lanes; handled = was.handled; video = was.video; audio = was.audio } in
-    let new : LaneOf = record { lane = was.place.lane; lanes = was.place.lanes; handled = was.handled; video = c.frame.new.self; audio = was.audio } in
+    let old : LaneOf = record { lane = was.place.lane; lanes = was.place.lanes; who = record { ssrc = was.settings.bridge_ssrc; cname = was.settings.cname }; handled = was.handled; video = was.video; audio = was.audio } in
+    let new : LaneOf = record { lane = was.place.lane; lanes = was.place.lanes; who = record { ssrc = was.settings.bridge_ssrc; cname = was.settings.cname }; handled = was.handled; video = c.frame.new.self; audio = was.audio } in
     let f = c.in-Frame.frame in
     subst (λ (s : LaneOf). IfOk c.frame.result (λ sent. PartsAnswer s new (visit_of c.args.stamp.version c.args.stamp.item c.args.rows.now (input_of c.args.item.now)) (map sent_of sent.items))) c.self.view_is
     (subst (λ (input : Input). IfOk c.frame.result (λ sent. PartsAnswer old new (visit_of c.args.stamp.version c.args.stamp.item c.args.rows.now input) (map sent_of sent.items))) (sym (ap input_of c.in-Frame.is))
-    (ok_by_video c.frame.result (λ sent. map sent_of sent.items) old new (visit_of c.args.stamp.version c.args.stamp.item c.args.rows.now (Input.frame f)) refl refl c.frame.ensures.sends))
+    (ok_by_video c.frame.result (λ sent. map sent_of sent.items) old new (visit_of c.args.stamp.version c.args.stamp.item c.args.rows.now (Input.frame f)) refl refl (c.frame.ensures.sends old.who)))
 
 pub returns-in-Audio-clause-sends : goal.returns-in-Audio-clause-sends
 returns-in-Audio-clause-sends g c =
     let was = c.self.inside in
-    let old : LaneOf = record { lane = was.place.lane; lanes = was.place.lanes; handled = was.handled; video = was.video; audio = was.audio } in
-    let new : LaneOf = record { lane = was.place.lane; lanes = was.place.lanes; handled = was.handled; video = was.video; audio = c.put_sound.new.mixer } in
+    let old : LaneOf = record { lane = was.place.lane; lanes = was.place.lanes; who = record { ssrc = was.settings.bridge_ssrc; cname = was.settings.cname }; handled = was.handled; video = was.video; audio = was.audio } in
+    let new : LaneOf = record { lane = was.place.lane; lanes = was.place.lanes; who = record { ssrc = was.settings.bridge_ssrc; cname = was.settings.cname }; handled = was.handled; video = was.video; audio = c.put_sound.new.mixer } in
     let sound = λ (samples : List ℤ). Input.audio record { source = c.in-Audio.ssrc; address = c.in-Audio.address; ts = c.in-Audio.ts; samples = samples } in
     subst (λ (s : LaneOf). IfOk c.put_sound.result (λ sent. PartsAnswer s new (visit_of c.args.stamp.version c.args.stamp.item c.args.rows.now (input_of c.args.item.now)) (map sent_of sent.items))) c.self.view_is
     (subst (λ (input : Input). IfOk c.put_sound.result (λ sent. PartsAnswer old new (visit_of c.args.stamp.version c.args.stamp.item c.args.rows.now input) (map sent_of sent.items))) (ap sound c.deref.ensures.value ∙ sym (ap input_of c.in-Audio.is))
@@ -31,8 +32,8 @@ returns-in-Audio-clause-sends g c =
 pub returns-in-Tick-clause-sends : goal.returns-in-Tick-clause-sends
 returns-in-Tick-clause-sends g c =
     let was = c.self.inside in
-    let old : LaneOf = record { lane = was.place.lane; lanes = was.place.lanes; handled = was.handled; video = was.video; audio = was.audio } in
-    let new : LaneOf = record { lane = was.place.lane; lanes = was.place.lanes; handled = was.handled; video = was.video; audio = c.send_mixes.new.mixer } in
+    let old : LaneOf = record { lane = was.place.lane; lanes = was.place.lanes; who = record { ssrc = was.settings.bridge_ssrc; cname = was.settings.cname }; handled = was.handled; video = was.video; audio = was.audio } in
+    let new : LaneOf = record { lane = was.place.lane; lanes = was.place.lanes; who = record { ssrc = was.settings.bridge_ssrc; cname = was.settings.cname }; handled = was.handled; video = was.video; audio = c.send_mixes.new.mixer } in
     subst (λ (s : LaneOf). IfOk c.send_mixes.result (λ sent. PartsAnswer s new (visit_of c.args.stamp.version c.args.stamp.item c.args.rows.now (input_of c.args.item.now)) (map sent_of sent.items))) c.self.view_is
     (subst (λ (input : Input). IfOk c.send_mixes.result (λ sent. PartsAnswer old new (visit_of c.args.stamp.version c.args.stamp.item c.args.rows.now input) (map sent_of sent.items))) (sym (ap input_of c.in-Tick.is))
     (ok_by_tick c.send_mixes.result (λ sent. map sent_of sent.items) old new c.args.stamp c.args.rows.now c.in-Tick.moment refl c.send_mixes.ensures.ticks))
@@ -40,8 +41,30 @@ returns-in-Tick-clause-sends g c =
 pub returns-in-Nack-clause-sends : goal.returns-in-Nack-clause-sends
 returns-in-Nack-clause-sends g c =
     let was = c.self.inside in
-    let old : LaneOf = record { lane = was.place.lane; lanes = was.place.lanes; handled = was.handled; video = was.video; audio = was.audio } in
+    let old : LaneOf = record { lane = was.place.lane; lanes = was.place.lanes; who = record { ssrc = was.settings.bridge_ssrc; cname = was.settings.cname }; handled = was.handled; video = was.video; audio = was.audio } in
     let asked = λ (numbers : List ℕ). Input.nack record { from = c.in-Nack.from; out_ssrc = c.in-Nack.out_ssrc; numbers = numbers } in
     subst (λ (s : LaneOf). IfOk c.nack.result (λ sent. PartsAnswer s s (visit_of c.args.stamp.version c.args.stamp.item c.args.rows.now (input_of c.args.item.now)) (map sent_of sent.items))) c.self.view_is
     (subst (λ (input : Input). IfOk c.nack.result (λ sent. PartsAnswer old old (visit_of c.args.stamp.version c.args.stamp.item c.args.rows.now input) (map sent_of sent.items))) (ap asked c.deref-in-Nack.ensures.value ∙ sym (ap input_of c.in-Nack.is))
-    (ok_by_video c.nack.result (λ sent. map sent_of sent.items) old old (visit_of c.args.stamp.version c.args.stamp.item c.args.rows.now (asked c.deref-in-Nack.result.now)) refl refl c.nack.ensures.sends))
+    (ok_by_video c.nack.result (λ sent. map sent_of sent.items) old old (visit_of c.args.stamp.version c.args.stamp.item c.args.rows.now (asked c.deref-in-Nack.result.now)) refl refl (c.nack.ensures.sends old.who)))
+
+pub returns-in-Block-clause-sends : goal.returns-in-Block-clause-sends
+returns-in-Block-clause-sends g c =
+    let was = c.self.inside in
+    let old : LaneOf = record { lane = was.place.lane; lanes = was.place.lanes; who = record { ssrc = was.settings.bridge_ssrc; cname = was.settings.cname }; handled = was.handled; video = was.video; audio = was.audio } in
+    subst (λ (s : LaneOf). IfOk c.note_block.result (λ sent. PartsAnswer s s (visit_of c.args.stamp.version c.args.stamp.item c.args.rows.now (input_of c.args.item.now)) (map sent_of sent.items))) c.self.view_is
+    (subst (λ (input : Input). IfOk c.note_block.result (λ sent. PartsAnswer old old (visit_of c.args.stamp.version c.args.stamp.item c.args.rows.now input) (map sent_of sent.items))) (sym (ap input_of c.in-Block.is))
+    (IfOk-weaker c.note_block.result _ _ (λ sent is. by_note old c.args.stamp c.args.rows.now (record { from = c.in-Block.from; block = c.in-Block.block }) (map sent_of sent.items) is) c.note_block.ensures))
+
+pub returns-in-Pli-clause-sends : goal.returns-in-Pli-clause-sends
+returns-in-Pli-clause-sends g c =
+    let was = c.self.inside in
+    let old : LaneOf = record { lane = was.place.lane; lanes = was.place.lanes; who = record { ssrc = was.settings.bridge_ssrc; cname = was.settings.cname }; handled = was.handled; video = was.video; audio = was.audio } in
+    subst (λ (s : LaneOf). IfOk c.pass_up.result (λ sent. PartsAnswer s s (visit_of c.args.stamp.version c.args.stamp.item c.args.rows.now (input_of c.args.item.now)) (map sent_of sent.items))) c.self.view_is
+    (subst (λ (input : Input). IfOk c.pass_up.result (λ sent. PartsAnswer old old (visit_of c.args.stamp.version c.args.stamp.item c.args.rows.now input) (map sent_of sent.items))) (sym (ap input_of c.in-Pli.is))
+    (IfOk-weaker c.pass_up.result _ _ (λ sent is. by_loss old c.args.stamp c.args.rows.now (record { from = c.in-Pli.from; out_ssrc = c.in-Pli.out_ssrc }) (map sent_of sent.items) is) c.pass_up.ensures))
+
+pub returns-in-Report-clause-sends : goal.returns-in-Report-clause-sends
+returns-in-Report-clause-sends g c =
+    let at = c.args.self.now in
+    subst (λ (input : Input). IfOk c.report.result (λ sent. PartsAnswer at at (visit_of c.args.stamp.version c.args.stamp.item c.args.rows.now input) (map sent_of sent.items))) (sym (ap input_of c.in-Report.is))
+    (ok_by_report c.report.result (λ sent. map sent_of sent.items) at c.args.stamp c.args.rows.now c.in-Report.moment c.report.ensures)

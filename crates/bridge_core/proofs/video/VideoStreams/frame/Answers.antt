@@ -32,7 +32,7 @@ commit_all-requires-clause-apart g c =
     subst AreDistinct (sym same) (AreDistinct-filter _ (receivers desk f.source f.address) (c.receivers_are_distinct.ensures desk f.source f.address c.known.ensures))
 
 pub returns-clause-sends : goal.returns-clause-sends
-returns-clause-sends g c =
+returns-clause-sends g c who =
     let desk = c.args.rows.now in
     let f = c.args.frame.now in
     let lane = c.args.place.now.lane in
@@ -45,7 +45,7 @@ returns-clause-sends g c =
     let old = c.args.self.now in
     let new = c.commit_all.new.table.entries in
     let table = c.reserve.ensures.entries ∙ c.self.view_is in
-    frame_answered lane lanes old new c.args.stamp desk f ready (map sent_of c.commit_all.new.out.items)
+    frame_answered who lane lanes old new c.args.stamp desk f ready (map sent_of c.commit_all.new.out.items)
     (c.receivers_are_distinct.ensures desk f.source f.address c.known.ensures)
     (λ k. c.all_who_chose_receive.ensures desk f.source f.address k c.known.ensures)
     same

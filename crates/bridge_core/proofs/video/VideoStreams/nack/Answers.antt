@@ -12,15 +12,15 @@ pub returns-then-not-is_mine : goal.returns-then-not-is_mine
 returns-then-not-is_mine g c =
     let request : Request = record { from = c.args.from.now; out_ssrc = c.args.out_ssrc; numbers = c.args.numbers.now } in
     record {
-      sends = others_answered c.args.place.now.lane c.args.place.now.lanes c.args.self.now c.args.stamp c.args.rows.now request (map sent_of c.new.result.items) (sym c.is_mine.ensures ∙ c.if-not-is_mine.true) (ap (map sent_of) c.new.ensures.items);
+      sends = λ who. others_answered who c.args.place.now.lane c.args.place.now.lanes c.args.self.now c.args.stamp c.args.rows.now request (map sent_of c.new.result.items) (sym c.is_mine.ensures ∙ c.if-not-is_mine.true) (ap (map sent_of) c.new.ensures.items);
     }
 
 pub returns-in_ok-entries-in-Some : goal.returns-in_ok-entries-in-Some
 returns-in_ok-entries-in-Some g c =
     let request : Request = record { from = c.args.from.now; out_ssrc = c.args.out_ssrc; numbers = c.args.numbers.now } in
     record {
-      sends = IfOk-weaker c.all_again.result _ _ (λ sent is.
-          mine_answered c.args.place.now.lane c.args.place.now.lanes c.args.self.now c.args.stamp c.args.rows.now request (map sent_of sent.items) (sym c.is_mine.ensures ∙ c.if-not-is_mine.false)
+      sends = λ who. IfOk-weaker c.all_again.result _ _ (λ sent is.
+          mine_answered who c.args.place.now.lane c.args.place.now.lanes c.args.self.now c.args.stamp c.args.rows.now request (map sent_of sent.items) (sym c.is_mine.ensures ∙ c.if-not-is_mine.false)
           (is ∙ ap (map (goes c.args.out_ssrc (Some c.args.stamp.version))) (c.in_ok-entries-in-Some.ensures ∙ ap (λ w. resends c.args.rows.now c.args.from.now c.args.numbers.now (window_of w)) (c.in-Some.ensures.value ∙ ap (stream_at c.args.out_ssrc) c.self.view_is)))) c.all_again.ensures;
     }
 
@@ -28,6 +28,6 @@ pub returns-in-None : goal.returns-in-None
 returns-in-None g c =
     let request : Request = record { from = c.args.from.now; out_ssrc = c.args.out_ssrc; numbers = c.args.numbers.now } in
     record {
-      sends = mine_answered c.args.place.now.lane c.args.place.now.lanes c.args.self.now c.args.stamp c.args.rows.now request (map sent_of c.new-in-None.result.items) (sym c.is_mine.ensures ∙ c.if-not-is_mine.false)
+      sends = λ who. mine_answered who c.args.place.now.lane c.args.place.now.lanes c.args.self.now c.args.stamp c.args.rows.now request (map sent_of c.new-in-None.result.items) (sym c.is_mine.ensures ∙ c.if-not-is_mine.false)
           (ap (map sent_of) c.new-in-None.ensures.items ∙ ap (map (goes c.args.out_ssrc (Some c.args.stamp.version))) (sym (nothing_again c.args.rows.now c.args.from.now c.args.numbers.now) ∙ ap (λ w. resends c.args.rows.now c.args.from.now c.args.numbers.now (window_of w)) (c.in-None.ensures.value ∙ ap (stream_at c.args.out_ssrc) c.self.view_is)));
     }
