@@ -10,7 +10,9 @@ use Rattle.desk_edit.specs.declared.refusal.Refusal.TheVariants.{OutOfMemory}
 use Rattle.desk_edit.specs.Calls.{no_calls, desk_now, refusal_of, after_call as history_after}
 use Rattle.bridge_core.specs.declared.reply.Reply.{Reply}
 use Rattle.bridge_core.specs.declared.reply.Reply.TheVariants.{Accepted, Refused}
+use Rattle.feedback.specs.Upstream.{Asker}
 use Rattle.intake.specs.Inputs.{Input, is_sized}
+use Rattle.intake.specs.Inputs.Input.{report}
 use Rattle.bridge_core.specs.Sent.{Sent}
 use Rattle.std.specs.Prelude.{slice_get}
 use Rattle.bridge_core.specs.LaneState.{LaneOf}
@@ -22,15 +24,16 @@ use Rattle.std.proofs.lemmas.Bool.{and_parts}
 use Rattle.bridge_core.specs.Lanes.{sends_at}
 use Rattle.rtp_codec.specs.declared.address.Address.{Address}
 use Rattle.intake.specs.Ingested.{Ingested}
-use Rattle.intake.specs.Sources.{no_sources}
+use Rattle.intake.specs.Sources.{Sources, no_sources}
 use Rattle.intake.specs.Taking.{taken_in}
-use Rattle.intake.specs.Intakes.{Knows, TakesIn}
+use Rattle.intake.specs.Intakes.{Knows, TakesIn, Tells}
+use Rattle.intake.specs.Reported.{reported}
 use Rattle.script_text.specs.Wire.{Wire, script_asker, voice_of}
-use Rattle.script_text.specs.Requests.{Desk as DeskRequest, Rx, Show}
+use Rattle.script_text.specs.Requests.{Desk as DeskRequest, Rx, Report, Show}
 use Rattle.script_text.specs.Datagrams.{outcome_text, up_text}
 use Rattle.script_text.specs.Text.{reply_text, sent_text}
 use Rattle.script_text.specs.RowLines.{show_text}
-use Rattle.script_text.specs.Bridge.{answer_call, Bridge, first_desk, answer_text, after, text_of, opening_bridge, item_sent, after_item, items_sent, items_text, after_items, knowing, taken_at}
+use Rattle.script_text.specs.Bridge.{answer_call, Bridge, first_desk, answer_text, after, text_of, opening_bridge, item_sent, after_item, items_sent, items_text, after_items, knowing, taken_at, reported_at}
 use Rattle.script_text.specs.inner.Steps.{wants_memory, Stands, AnswersRequest, HandsItem, HandsItems}
 
 not_memory : (at : ℕ) (why : Refusal) → wants_memory (Refused at why) ≡ false → why ≡ OutOfMemory → ⊥
@@ -78,8 +81,8 @@ pub item_answered : (old new : CoreOf) (bridge : Bridge) (item : Input) (out : L
     → Stands new (after_item bridge item) × (out ≡ item_sent bridge item)
 item_answered old new bridge item out s takes version desk done undone lanes intake =
     let t = takes first_desk bridge.steps s.taken in
-    let sends : List Sent = sends_at 0 1 (visits 0 first_desk bridge.steps) (visit_after first_desk bridge.steps 0 item) in
-    let same : out ≡ sends = first_same out sends (subst (λ (n : ℕ). out ∷ [] ≡ sent_at n first_desk bridge.steps (Step.item 0 item)) s.lanes t.0) in (
+    let sends : List Sent = sends_at script_asker 0 1 (visits 0 first_desk bridge.steps) (visit_after first_desk bridge.steps 0 item) in
+    let same : out ≡ sends = first_same out sends (subst (λ (n : ℕ). out ∷ [] ≡ sent_at script_asker n first_desk bridge.steps (Step.item 0 item)) s.lanes (subst (λ (who : Asker). out ∷ [] ≡ sent_at who (length old.lanes) first_desk bridge.steps (Step.item 0 item)) s.speaks t.0)) in (
       record {
         taken = t.1;
         called = record { version = version ∙ s.called.version; desk = desk ∙ s.called.desk; follows = rw done s.called.follows; ahead = rw undone s.called.ahead };
@@ -121,11 +124,30 @@ hands_more old mid new items item before text now h k bridge s =
           ∙ ap (λ (t : List ℕ). before ++ t) (sym (text_last (items_sent bridge items) one) ∙ ap items_text (sym (items_last bridge items item))))),
     )
 
+-- ---- what the intake knows
+
+-- nothing of the core is another, but for its intake
+abbrev pub IsElse : CoreOf → CoreOf → Type 0
+IsElse old new = (new.version ≡ old.version) × (new.desk ≡ old.desk) × (new.done ≡ old.done) × (new.undone ≡ old.undone) × (new.lanes ≡ old.lanes)
+
+now_knows : (old new : CoreOf) (bridge : Bridge) (sources : Sources) → IsElse old new → new.intake.asker ≡ old.intake.asker → Knows new.intake sources → Stands old bridge → Stands new (knowing sources bridge)
+now_knows old new bridge sources others asker knows s = record {
+  taken = record {
+    version = others.0 ∙ s.taken.version;
+    desk = others.1 ∙ s.taken.desk;
+    lanes = λ lane state at. s.taken.lanes lane state (subst (λ (lanes : List LaneOf). slice_get lanes lane ≡ Some state) others.4 at);
+  };
+  called = record { version = others.0 ∙ s.called.version; desk = others.1 ∙ s.called.desk; follows = rw others.2 s.called.follows; ahead = rw others.3 s.called.ahead };
+  lanes = ap length others.4 ∙ s.lanes;
+  knows = knows;
+  speaks = asker ∙ s.speaks;
+}
+
 -- ---- datagrams
 
 pub datagram_answered : (old mid new : CoreOf) (moment : ℕ) (from : Address) (octets : List ℕ) (ingested : Ingested) (before now : List ℕ)
     → TakesIn old.intake mid.intake ingested octets (λ r. record { desk = old.desk; from = from; moment = moment; reading = r })
-    → (mid.version ≡ old.version) × (mid.desk ≡ old.desk) × (mid.done ≡ old.done) × (mid.undone ≡ old.undone) × (mid.lanes ≡ old.lanes) → mid.intake.asker ≡ old.intake.asker
+    → IsElse old mid → mid.intake.asker ≡ old.intake.asker
     → before ≡ outcome_text ingested.outcome ++ flat_map up_text ingested.up → HandsItems mid ingested.items new before now → AnswersRequest old (Rx moment from octets) new now
 datagram_answered old mid new moment from octets ingested before now takes others asker text hands bridge heard s =
     let desk : old.desk ≡ desk_now bridge.calls = s.called.desk in
@@ -133,20 +155,24 @@ datagram_answered old mid new moment from octets ingested before now takes other
     let here = taken_at bridge moment from octets in
     let same : ingested ≡ here.0 = took.0 ∙ ap (λ (d : Desk). (taken_in (voice_of bridge.wire) bridge.sources (record { desk = d; from = from; moment = moment; reading = bridge.wire.reading octets })).0) desk in
     let knows : Knows mid.intake here.1 = subst (λ (d : Desk). Knows mid.intake (taken_in (voice_of bridge.wire) bridge.sources (record { desk = d; from = from; moment = moment; reading = bridge.wire.reading octets })).1) desk took.1 in
-    let stands : Stands mid (knowing here.1 bridge) = record {
-      taken = record {
-        version = others.0 ∙ s.taken.version;
-        desk = others.1 ∙ s.taken.desk;
-        lanes = λ lane state at. s.taken.lanes lane state (subst (λ (lanes : List LaneOf). slice_get lanes lane ≡ Some state) others.4 at);
-      };
-      called = record { version = others.0 ∙ s.called.version; desk = others.1 ∙ s.called.desk; follows = rw others.2 s.called.follows; ahead = rw others.3 s.called.ahead };
-      lanes = ap length others.4 ∙ s.lanes;
-      knows = knows;
-      speaks = asker ∙ s.speaks;
-    } in
-    let h = hands (knowing here.1 bridge) stands in
+    let h = hands (knowing here.1 bridge) (now_knows old mid bridge here.1 others asker knows s) in
     subst (λ (i : Ingested). Stands new (after_items (knowing here.1 bridge) i.items) × (now ≡ outcome_text i.outcome ++ flat_map up_text i.up ++ items_text (items_sent (knowing here.1 bridge) i.items))) same
     (h.0, h.1 ∙ ap (λ (t : List ℕ). t ++ items_text (items_sent (knowing here.1 bridge) ingested.items)) text)
+
+-- ---- reports
+
+pub report_answered : (old mid new : CoreOf) (moment : ℕ) (up : List (Address × List ℕ)) (before now : List ℕ)
+    → Tells old.intake mid.intake up old.desk moment → IsElse old mid → mid.intake.asker ≡ old.intake.asker
+    → before ≡ flat_map up_text up → HandsItem mid (report moment) new before now → AnswersRequest old (Report moment) new now
+report_answered old mid new moment up before now tells others asker text hands bridge heard s =
+    let here = reported_at bridge moment in
+    let desk : old.desk ≡ desk_now bridge.calls = s.called.desk in
+    let told = tells bridge.sources s.knows in
+    let is : reported old.intake.asker old.desk moment bridge.sources ≡ here = ap (λ (who : Asker). reported who old.desk moment bridge.sources) s.speaks ∙ ap (λ (d : Desk). reported script_asker d moment bridge.sources) desk in
+    let same : up ≡ here.0 = told.0 ∙ ap (λ (r : List (Address × List ℕ) × Sources). r.0) is in
+    let knows : Knows mid.intake here.1 = subst (λ (r : List (Address × List ℕ) × Sources). Knows mid.intake r.1) is told.1 in
+    let h = hands (knowing here.1 bridge) (now_knows old mid bridge here.1 others asker knows s) in
+    (h.0, h.1 ∙ ap (λ (t : List ℕ). t ++ flat_map sent_text (item_sent (knowing here.1 bridge) (report moment))) (text ∙ ap (λ (u : List (Address × List ℕ)). flat_map up_text u) same))
 
 -- ---- rows
 

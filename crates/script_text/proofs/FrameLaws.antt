@@ -123,6 +123,7 @@ frame_by kinds.Rx vs words f e =
     let n = bind_ok (none_left 5 w.0.1) _ (Item (frame f)) o.2 in
     absurd cc
 frame_by kinds.Tick vs words f e = let none = bind_ok (none_left 3 words) _ (Item (frame f)) e in absurd cc
+frame_by kinds.Report vs words f e = let none = bind_ok (none_left 3 words) _ (Item (frame f)) e in absurd cc
 frame_by kinds.Show vs words f e = let none = bind_ok (none_left 2 words) _ (Item (frame f)) e in absurd cc
 frame_by kinds.Frame vs words f e =
     let p = bind_ok (some_packets 7 words) _ (Item (frame f)) e in

@@ -13,10 +13,11 @@ use Rattle.desk_edit.specs.Calls.{CallHistory, desk_now, front, final, or_log_fu
 use Rattle.bridge_core.specs.Steps.{Step}
 use Rattle.bridge_core.specs.Headline.{IsGood, AreGood}
 use Rattle.intake.specs.Inputs.{Input}
-use Rattle.script_text.specs.Requests.{Request, Nothing, Desk, Item, Rx, Show}
+use Rattle.intake.specs.Inputs.Input.{report}
+use Rattle.script_text.specs.Requests.{Request, Nothing, Desk, Item, Rx, Report, Show}
 use Rattle.script_text.specs.Wire.{Wire}
 use Rattle.script_text.specs.Lines.{lines_of}
-use Rattle.script_text.specs.Bridge.{Bridge, first_desk, opening_bridge, answer_call, after_item, after_items, knowing, taken_at, after}
+use Rattle.script_text.specs.Bridge.{Bridge, first_desk, opening_bridge, answer_call, after_item, after_items, knowing, taken_at, reported_at, after}
 use Rattle.script_text.specs.Scripts.{requests_of, after_all, steps_of}
 
 -- a command that is not refused leaves a good desk
@@ -113,6 +114,7 @@ after_good keeps b (Item item) fine = item_good b item fine
 after_good keeps b (Rx moment from octets) fine =
     let took = taken_at b moment from octets in
     items_good (knowing took.1 b) took.0.items (record { calls = fine.calls; steps = fine.steps })
+after_good keeps b (Report moment) fine = item_good (knowing (reported_at b moment).1 b) (report moment) (record { calls = fine.calls; steps = fine.steps })
 
 all_good : Keeps → (b : Bridge) (requests : List Request) → Fine b → Fine (after_all b requests)
 all_good keeps b [] fine = fine

@@ -14,6 +14,7 @@ pub mod PacketLaws
 pub mod FrameLaws
 pub mod RxLaws
 pub mod TickLaws
+pub mod ReportLaws
 pub mod GoodDesks
 pub mod BridgeLemmas
 pub mod ScriptLaws

@@ -67,6 +67,7 @@ rx_by : (kind : Kind) (vs : List Value) (words : List (List ℕ)) (moment : ℕ)
 unfolding frame_of rx_of
 rx_by kinds.Desk vs words moment from octets e = let c = bind_ok (call_of 2 words) _ (Rx moment from octets) e in absurd cc
 rx_by kinds.Tick vs words moment from octets e = let none = bind_ok (none_left 3 words) _ (Rx moment from octets) e in absurd cc
+rx_by kinds.Report vs words moment from octets e = let none = bind_ok (none_left 3 words) _ (Rx moment from octets) e in absurd cc
 rx_by kinds.Show vs words moment from octets e = let none = bind_ok (none_left 2 words) _ (Rx moment from octets) e in absurd cc
 rx_by kinds.Frame vs words moment from octets e =
     let p = bind_ok (some_packets 7 words) _ (Rx moment from octets) e in

@@ -16,7 +16,7 @@ use Rattle.intake.specs.Inputs.{Input}
 use Rattle.script_text.specs.Wire.{Wire, Hears, HearsAll}
 use Rattle.script_text.specs.Bridge.{Bridge, answer_call, after_item, after_items, knowing, taken_at, answer_text, after}
 use Rattle.bridge_core.specs.Steps.{CoreOf}
-use Rattle.script_text.specs.Requests.{Request, Nothing, Desk, Item, Rx, Show, request_of}
+use Rattle.script_text.specs.Requests.{Request, Nothing, Desk, Item, Rx, Report, Show, request_of}
 use Rattle.script_text.specs.Lines.{parts_of, lines_by, whole, ended}
 use Rattle.script_text.specs.Output.{Outcome, nothing, told, stopped, continues, outcome_of}
 use Rattle.script_text.specs.inner.Steps.{Held, place_of, Place, to_come, Goes, StepFails, HearsComing, StepEnds, LineEnds, FinishEnds}
@@ -84,6 +84,7 @@ same_wire bridge Nothing = refl
 same_wire bridge Show = refl
 same_wire bridge (Desk op call) = call_wire bridge (history_after bridge.calls call) (refusal_of bridge.calls call)
 same_wire bridge (Item item) = refl
+same_wire bridge (Report moment) = refl
 same_wire bridge (Rx moment from octets) = items_wire (knowing (taken_at bridge moment from octets).1 bridge) (taken_at bridge moment from octets).0.items
 
 -- the line that an LF ends, and those behind it

@@ -9,6 +9,7 @@ use Rattle.intake.specs.Inputs.Input.{tick}
 use Rattle.script_text.specs.declared.fault.Fault.TheVariants.{UnknownWord}
 use Rattle.script_text.specs.declared.value.Value.{Value}
 use Rattle.script_text.specs.declared.value.Value.TheVariants as values
+use Rattle.script_text.specs.declared.value.Field.TheVariants as fields
 use Rattle.script_text.specs.declared.name.Kind.{Kind}
 use Rattle.script_text.specs.declared.name.Kind.TheVariants as kinds
 use Rattle.script_text.specs.Words.{words_of, word_at, none_left, value_or}
@@ -20,7 +21,7 @@ use Rattle.script_text.proofs.ValueLaws.{found_text, free_values, bind_ok, word_
 use Rattle.script_text.proofs.CallLaws.{kind_free, read_from, with_field, read_all}
 
 -- the value that stands first
-abbrev front : ℕ → List Value
+abbrev pub front : ℕ → List Value
 front moment = values.U64 moment ∷ []
 
 words_again : (moment : ℕ) → AllFit (front moment) → words_request (tick_words moment) ≡ Ok (Item (tick moment))
@@ -34,13 +35,14 @@ tick_again moment small =
 
 -- ---- what is read as a tick
 
-none_back : (words : List (List ℕ)) → none_left 3 words ≡ Ok tt → words ≡ []
+pub none_back : (words : List (List ℕ)) → none_left 3 words ≡ Ok tt → words ≡ []
 none_back [] e = refl
 none_back (w ∷ ws) e = absurd cc
 
 tick_by : (kind : Kind) (vs : List Value) (words : List (List ℕ)) (moment : ℕ) → request_with kind vs words ≡ Ok (Item (tick moment)) → (kind ≡ kinds.Tick) × (words ≡ []) × (number_at 0 vs ≡ moment)
 unfolding frame_of rx_of
 tick_by kinds.Desk vs words moment e = let c = bind_ok (call_of 2 words) _ (Item (tick moment)) e in absurd cc
+tick_by kinds.Report vs words moment e = let none = bind_ok (none_left 3 words) _ (Item (tick moment)) e in absurd cc
 tick_by kinds.Show vs words moment e = let none = bind_ok (none_left 2 words) _ (Item (tick moment)) e in absurd cc
 tick_by kinds.Rx vs words moment e =
     let w = bind_ok (word_at 4 words) _ (Item (tick moment)) e in
@@ -60,9 +62,9 @@ tick_by kinds.Tick vs words moment e =
     (refl, none_back words n.1, cc)
 
 -- the value of the one field
-front_of_one : (vs : List Value) → map field_of vs ≡ front_of kinds.Tick → vs ≡ front (number_at 0 vs)
+pub front_of_one : (vs : List Value) → map field_of vs ≡ fields.U64 ∷ [] → vs ≡ front (number_at 0 vs)
 unfolding read_from with_field
-front_of_one vs h = sym (read_all (front_of kinds.Tick) vs h)
+front_of_one vs h = sym (read_all (fields.U64 ∷ []) vs h)
 
 pub tick_back : (line : List ℕ) (moment : ℕ) → words_request (words_of line) ≡ Ok (Item (tick moment)) → (line ≡ tick_line moment) × (moment < 2 ^ 64)
 unfolding words_request

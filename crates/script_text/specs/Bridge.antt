@@ -10,17 +10,19 @@ use Rattle.bridge_core.specs.declared.reply.Reply.TheVariants.{Accepted, Refused
 use Rattle.rtp_codec.specs.declared.address.Address.{Address}
 use Rattle.intake.specs.declared.outcome.Outcome.{Outcome}
 use Rattle.intake.specs.Inputs.{Input}
+use Rattle.intake.specs.Inputs.Input.{report}
 use Rattle.intake.specs.Ingested.{Ingested}
 use Rattle.intake.specs.Sources.{Sources, no_sources}
 use Rattle.intake.specs.Taking.{Datagram, taken_in}
+use Rattle.intake.specs.Reported.{reported}
 use Rattle.bridge_core.specs.Sent.{Sent}
 use Rattle.bridge_core.specs.Lanes.{sends_at}
 use Rattle.bridge_core.specs.Steps.{Step, visits, visit_after}
 use Rattle.script_text.specs.declared.script.TheConstants.{BRIDGE_SSRC}
-use Rattle.script_text.specs.Requests.{Request, Nothing, Desk as DeskRequest, Item, Rx, Show}
+use Rattle.script_text.specs.Requests.{Request, Nothing, Desk as DeskRequest, Item, Rx, Report, Show}
 use Rattle.script_text.specs.Text.{reply_text, sent_text}
 use Rattle.script_text.specs.Datagrams.{outcome_text, up_text}
-use Rattle.script_text.specs.Wire.{Wire, voice_of}
+use Rattle.script_text.specs.Wire.{Wire, script_asker, voice_of}
 use Rattle.script_text.specs.RowLines.{show_text}
 
 -- the bridge between two lines: how it reads the wire, what its calls have come to, the accepted calls and the items so far, and the sources that it knows
@@ -38,12 +40,13 @@ first_desk = blank BRIDGE_SSRC
 abbrev pub opening_bridge : Wire → Bridge
 opening_bridge wire = record { wire = wire; calls = no_calls first_desk; steps = []; sources = no_sources }
 
--- what is answered to a request: nothing, a reply, what goes out, a datagram's outcome with what goes up and what goes out for each item, or a desk with its version
+-- what is answered to a request: nothing, a reply, what goes out, a datagram's outcome with what goes up and what goes out for each item, receiver reports that go up with the sender reports that go out, or a desk with its version
 pub data Answer : Type 0 where
   silence : Answer
   replied : Reply → Answer
   sent : List Sent → Answer
   heard : Outcome → List (Address × List ℕ) → List (List Sent) → Answer
+  reports : List (Address × List ℕ) → List Sent → Answer
   shown : Desk → ℕ → Answer
 
 -- how that is written which goes out for each item
@@ -56,6 +59,7 @@ text_of silence = []
 text_of (replied reply) = reply_text reply
 text_of (sent out) = flat_map sent_text out
 text_of (heard outcome up out) = outcome_text outcome ++ flat_map up_text up ++ items_text out
+text_of (reports up out) = flat_map up_text up ++ flat_map sent_text out
 text_of (shown desk version) = show_text desk version
 
 -- an accepted call takes the next number and publishes the desk that it leaves; a refused one names the version and changes nothing
@@ -65,7 +69,7 @@ answer_call bridge next (Some why) = (replied (Refused bridge.calls.accepted why
 
 -- what lane 0 of 1 sends for an item
 abbrev pub item_sent : Bridge → Input → List Sent
-item_sent bridge item = sends_at 0 1 (visits 0 first_desk bridge.steps) (visit_after first_desk bridge.steps 0 item)
+item_sent bridge item = sends_at script_asker 0 1 (visits 0 first_desk bridge.steps) (visit_after first_desk bridge.steps 0 item)
 
 -- the bridge after an item
 abbrev pub after_item : Bridge → Input → Bridge
@@ -99,12 +103,24 @@ datagram_at bridge moment from octets = record { desk = desk_now bridge.calls; f
 abbrev pub taken_at : Bridge → (moment : ℕ) → Address → List ℕ → Ingested × Sources
 taken_at bridge moment from octets = taken_in (voice_of bridge.wire) bridge.sources (datagram_at bridge moment from octets)
 
+-- what the senders are told of their sources at a moment, and the sources after it
+abbrev pub reported_at : Bridge → (moment : ℕ) → List (Address × List ℕ) × Sources
+reported_at bridge moment = reported script_asker (desk_now bridge.calls) moment bridge.sources
+
+-- what is answered where the senders are told so, and the bridge knows these sources from then on: the lane is given the report as an item
+abbrev pub answer_report : Bridge → (moment : ℕ) → List (Address × List ℕ) → Sources → Answer × Bridge
+answer_report bridge moment up sources = (
+  reports up (item_sent (knowing sources bridge) (report moment)),
+  after_item (knowing sources bridge) (report moment),
+)
+
 -- the answer to a request, and the bridge after it
 abbrev pub answer : Bridge → Request → Answer × Bridge
 answer bridge Nothing = (silence, bridge)
 answer bridge (DeskRequest op call) = answer_call bridge (history_after bridge.calls call) (refusal_of bridge.calls call)
 answer bridge (Item item) = (sent (item_sent bridge item), after_item bridge item)
 answer bridge (Rx moment from octets) = answer_datagram bridge (taken_at bridge moment from octets).0 (taken_at bridge moment from octets).1
+answer bridge (Report moment) = answer_report bridge moment (reported_at bridge moment).0 (reported_at bridge moment).1
 answer bridge Show = (shown (desk_now bridge.calls) bridge.calls.accepted, bridge)
 
 -- what is written for a request

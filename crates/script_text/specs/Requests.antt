@@ -24,12 +24,13 @@ use Rattle.script_text.specs.Values.{value_text, values_of, number_at, address_a
 use Rattle.script_text.specs.Packets.{packet_text, octets_or, packets_of, AllReadable}
 use Rattle.script_text.specs.Calls.{call_of, call_words}
 
--- nothing, an operator's call, an item for the lane, a datagram from an address at a moment, or the desk's rows
+-- nothing, an operator's call, an item for the lane, a datagram from an address at a moment, the reports of a moment, or the desk's rows
 pub data Request : Type 0 where
   Nothing : Request
   Desk : (op : ℕ) (call : Call) → Request
   Item : (item : Input) → Request
   Rx : (moment : ℕ) (from : Endpoint) (octets : List ℕ) → Request
+  Report : (moment : ℕ) → Request
   Show : Request
 
 -- how the first word of a line is written
@@ -38,22 +39,24 @@ kind_text kinds.Desk = codes "desk"
 kind_text kinds.Frame = codes "frame"
 kind_text kinds.Rx = codes "rx"
 kind_text kinds.Tick = codes "tick"
+kind_text kinds.Report = codes "report"
 kind_text kinds.Show = codes "show"
 
 -- the kinds of lines
 abbrev pub line_kinds : List Kind
-line_kinds = kinds.Desk ∷ kinds.Frame ∷ kinds.Rx ∷ kinds.Tick ∷ kinds.Show ∷ []
+line_kinds = kinds.Desk ∷ kinds.Frame ∷ kinds.Rx ∷ kinds.Tick ∷ kinds.Report ∷ kinds.Show ∷ []
 
 -- the kind of line that a word begins
 abbrev pub kind_of : List ℕ → Option Kind
 kind_of word = find (λ kind. bytes_eq word (kind_text kind)) line_kinds
 
--- the fields that stand first behind it: OP; MOMENT ADDRESS SSRC EPOCH TS; MOMENT ADDRESS; MOMENT
+-- the fields that stand first behind it: OP; MOMENT ADDRESS SSRC EPOCH TS; MOMENT ADDRESS; MOMENT; MOMENT
 abbrev pub front_of : Kind → List Field
 front_of kinds.Desk = fields.Operator ∷ []
 front_of kinds.Frame = fields.U64 ∷ fields.Address ∷ fields.U32 ∷ fields.U64 ∷ fields.U32 ∷ []
 front_of kinds.Rx = fields.U64 ∷ fields.Address ∷ []
 front_of kinds.Tick = fields.U64 ∷ []
+front_of kinds.Report = fields.U64 ∷ []
 front_of kinds.Show = []
 
 -- at least one packet
@@ -100,6 +103,12 @@ tick_of moment words = do
   end ← none_left 3 words
   Ok (Item (tick moment))
 
+-- the reports of a moment, where no word is left
+abbrev pub report_of : ℕ → List (List ℕ) → Result Request (ℕ × Fault)
+report_of moment words = do
+  end ← none_left 3 words
+  Ok (Report moment)
+
 -- the desk's rows, where no word is left
 abbrev pub show_of : List (List ℕ) → Result Request (ℕ × Fault)
 show_of words = do
@@ -112,6 +121,7 @@ request_with kinds.Desk vs words = desk_of (number_at 0 vs) words
 request_with kinds.Frame vs words = frame_of (sighted vs) words
 request_with kinds.Rx vs words = rx_of (number_at 0 vs) (address_at 1 vs) words
 request_with kinds.Tick vs words = tick_of (number_at 0 vs) words
+request_with kinds.Report vs words = report_of (number_at 0 vs) words
 request_with kinds.Show vs words = show_of words
 
 -- what words ask for
@@ -149,6 +159,14 @@ tick_words moment = kind_text kinds.Tick ∷ value_text (U64 moment) ∷ []
 -- the line of a tick
 abbrev pub tick_line : (moment : ℕ) → List ℕ
 tick_line moment = join_with_byte 32 (tick_words moment)
+
+-- the words of a line of reports
+abbrev pub report_words : (moment : ℕ) → List (List ℕ)
+report_words moment = kind_text kinds.Report ∷ value_text (U64 moment) ∷ []
+
+-- the line of reports
+abbrev pub report_line : (moment : ℕ) → List ℕ
+report_line moment = join_with_byte 32 (report_words moment)
 
 -- there are octets, and all numbers are in range
 pub record IsDatagram (moment : ℕ) (from : Endpoint) (octets : List ℕ) : Type 0 where

@@ -6,7 +6,7 @@ use Rattle.script_text.specs.declared.fault.Fault.{Fault}
 use Rattle.script_text.specs.Requests.{Request, request_of}
 use Rattle.script_text.specs.Lines.{lines_of}
 use Rattle.script_text.specs.Wire.{Wire}
-use Rattle.script_text.specs.Bridge.{Bridge, opening_bridge, Answer, silence, replied, sent, heard, shown, answer, after}
+use Rattle.script_text.specs.Bridge.{Bridge, opening_bridge, Answer, silence, replied, sent, heard, reports, shown, answer, after}
 
 -- a request before others; a line with a fault ends them
 abbrev pub followed : Result Request (ℕ × Fault) → List Request → List Request
@@ -35,6 +35,7 @@ sent_in (silence ∷ answers) = sent_in answers
 sent_in (replied reply ∷ answers) = sent_in answers
 sent_in (sent out ∷ answers) = out ∷ sent_in answers
 sent_in (heard outcome up out ∷ answers) = out ++ sent_in answers
+sent_in (reports up out ∷ answers) = out ∷ sent_in answers
 sent_in (shown desk version ∷ answers) = sent_in answers
 
 -- the answers to a script

@@ -45,7 +45,7 @@ run_text errors.OutOfMemory = codes "out of memory"
 
 -- what is told of it on standard error; nothing of a run to its end
 abbrev pub outcome_text : Outcome → List ℕ
-outcome_text outcomes.Usage = codes "usage: confbridge replay"
+outcome_text outcomes.Usage = codes "usage: confbridge replay | confbridge serve FILE"
 outcome_text outcomes.OutOfMemory = codes "confbridge: out of memory"
 outcome_text (outcomes.Ran (Ok u)) = []
 outcome_text (outcomes.Ran (Err fault)) = codes "confbridge: " ++ run_text fault

@@ -6,7 +6,7 @@ use Rattle.intake.specs.Readings.{Reading, IsReading}
 use Rattle.intake.specs.Taking.{Voice, IsVoice}
 use Rattle.script_text.specs.declared.script.TheConstants.{BRIDGE_SSRC}
 use Rattle.script_text.specs.declared.fault.Fault.{Fault}
-use Rattle.script_text.specs.Requests.{Request, Nothing, Desk, Item, Rx, Show, request_of}
+use Rattle.script_text.specs.Requests.{Request, Nothing, Desk, Item, Rx, Report, Show, request_of}
 
 -- what the octets of a datagram are, and the words by which lost packets are named
 pub record Wire : Type 0 where
@@ -32,6 +32,7 @@ Hears wire (Ok Nothing) = Unit {0}
 Hears wire (Ok (Desk op call)) = Unit {0}
 Hears wire (Ok (Item item)) = Unit {0}
 Hears wire (Ok (Rx moment from octets)) = IsHeard wire octets
+Hears wire (Ok (Report moment)) = Unit {0}
 Hears wire (Ok Show) = Unit {0}
 Hears wire (Err e) = Unit {0}
 

@@ -5,7 +5,7 @@ ghost use Rattle.std.specs.List.{flat_map, list_all};
 ghost use Rattle.intake.specs.Inputs.{input_of, is_sized};
 ghost use Rattle.bridge_core.specs.Sent.{sent_of};
 ghost use Rattle.script_text.specs.Text.{sent_text};
-ghost use Rattle.script_text.specs.Requests.{Desk, Rx, Show as ShowRequest};
+ghost use Rattle.script_text.specs.Requests.{Desk, Rx, Report as ReportRequest, Show as ShowRequest};
 ghost use Rattle.script_text.specs.inner.Cursor.{view};
 ghost use Rattle.script_text.specs.inner.Steps.{HasLane, wants_memory, HandsItem, HandsItems, AnswersRequest, AnswersLine};
 
@@ -127,6 +127,23 @@ fn answer_datagram<A: Allocator + Copy>(
     answer_items(alloc, core, &ingest.items, out)
 }
 
+/// Appends the lines of the receiver reports of a moment, and then of what goes out for the sender reports.
+fn answer_report<A: Allocator + Copy>(
+    alloc: A,
+    core: &mut Core<A>,
+    moment: u64,
+    out: &mut Vec<u8, A>,
+) -> Result<(), AllocError>
+    requires lane { HasLane core.old }
+    requires empty { out.old.items ≡ [] }
+    ensures answer { OnOk result (AnswersRequest core.old (ReportRequest moment) core.new out.new.items) }
+    ensures lane { HasLane core.new }
+{
+    let up = core.reports(alloc, moment)?;
+    print_all_up(&up, out)?;
+    answer_item(alloc, core, &Item::Report { moment }, out)
+}
+
 /// Appends the lines of the desk's rows.
 fn answer_show<A: Allocator + Copy>(core: &Core<A>, out: &mut Vec<u8, A>) -> Result<(), AllocError>
     requires { out.old.items ≡ [] }
@@ -157,6 +174,7 @@ fn answer_request<A: Allocator + Copy>(
             octets,
         } => answer_datagram(alloc, core, moment, from, &octets, out),
         Line::Tick { moment } => answer_item(alloc, core, &Item::Tick { moment }, out),
+        Line::Report { moment } => answer_report(alloc, core, moment, out),
         Line::Show => answer_show(core, out),
     }
 }

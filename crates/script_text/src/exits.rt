@@ -79,7 +79,7 @@ impl fmt::Display for Outcome {
 
     fn fmt<W: fmt::Write>(&self, f: &mut fmt::Formatter<W>) -> fmt::Result {
         match self {
-            Outcome::Usage => write!(f, "usage: confbridge replay"),
+            Outcome::Usage => write!(f, "usage: confbridge replay | confbridge serve FILE"),
             Outcome::OutOfMemory => write!(f, "confbridge: out of memory"),
             Outcome::Ran(Ok(())) => Ok(()),
             Outcome::Ran(Err(fault)) => write!(f, "confbridge: {fault}"),

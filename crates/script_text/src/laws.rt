@@ -6,7 +6,7 @@ ghost use Rattle.std.specs.List.{join_with_byte, flat_map, All};
 ghost use Rattle.hex.specs.Hex.{IsBytes, decode_of, encode_lower};
 ghost use Rattle.rtp_codec.specs.declared.address.Address.{Address};
 ghost use Rattle.desk_rows.specs.Desk.{Desk as Rows, blank};
-ghost use Rattle.script_text.specs.Wire.{Wire};
+ghost use Rattle.script_text.specs.Wire.{Wire, script_asker};
 ghost use Rattle.script_text.specs.Bridge.{first_desk, text_of};
 ghost use Rattle.script_text.specs.Output.{output_of};
 ghost use Rattle.script_text.specs.Scripts.{answers_of, sent_in, steps_of};
@@ -24,7 +24,7 @@ ghost use Rattle.forward_rewrite.specs.Frame.{SourceFrame};
 ghost use Rattle.intake.specs.Inputs.Input.{frame, tick};
 ghost use Rattle.desk_edit.specs.declared.command.Call.{Call};
 ghost use Rattle.script_text.specs.Calls.{call_of, call_line, IsCall};
-ghost use Rattle.script_text.specs.Requests.{words_request, Desk, desk_line, Item, frame_words, frame_line, IsFrame, Rx, rx_words, rx_line, IsDatagram, tick_line};
+ghost use Rattle.script_text.specs.Requests.{words_request, Desk, desk_line, Item, frame_words, frame_line, IsFrame, Rx, rx_words, rx_line, IsDatagram, tick_line, Report, report_line};
 ghost use Rattle.script_text.specs.Packets.{SpellPackets, packet_of, packet_text, SpellsExt, SpellsHex, SpellsPacket, IsReadable};
 ghost use Rattle.script_text.specs.Lines.{parts_of};
 
@@ -117,6 +117,14 @@ pub fn tick_lines()
         → (line ≡ tick_line moment) × (moment < 2 ^ 64) }
 {}
 
+/// The words of a line of reports are these reports, and what is read as reports is spelled by their
+/// line.
+pub fn report_lines()
+    ensures read { (moment : ℕ) → moment < 2 ^ 64 → words_request (words_of (report_line moment)) ≡ Ok (Report moment) }
+    ensures spelled { (line : List ℕ) (moment : ℕ) → words_request (words_of line) ≡ Ok (Report moment)
+        → (line ≡ report_line moment) × (moment < 2 ^ 64) }
+{}
+
 /// The bridge of a script speaks as SSRC 1, under the canonical name `bridge`.
 pub fn script_bridge()
     ensures ssrc { BRIDGE_SSRC ≡ 1 }
@@ -138,14 +146,14 @@ pub fn refusal_words()
 /// streams and choices speak of scripts.
 pub fn script_sends()
     ensures text { (wire : Wire) (input : List ℕ) → (output_of wire input).text ≡ flat_map text_of (answers_of wire input) }
-    ensures sends { (wire : Wire) (input : List ℕ) → sent_in (answers_of wire input) ≡ sends 1 first_desk (steps_of wire input) }
+    ensures sends { (wire : Wire) (input : List ℕ) → sent_in (answers_of wire input) ≡ sends script_asker 1 first_desk (steps_of wire input) }
 {}
 
 /// Each desk that a script publishes is good, so the core's laws on good desks speak of scripts: each
 /// stream of a script numbers the packets that it sends for the first time without a gap modulo 65536.
 pub fn script_streams_have_no_gap()
     ensures good { (wire : Wire) (input : List ℕ) → AreGood (steps_of wire input) }
-    ensures no_gap { (wire : Wire) (input : List ℕ) (name : Name) → HaveNoGap (numbers (firsts 1 first_desk name (steps_of wire input))) }
+    ensures no_gap { (wire : Wire) (input : List ℕ) (name : Name) → HaveNoGap (numbers (firsts script_asker 1 first_desk name (steps_of wire input))) }
 {
     good_desks_stay_good();
     streams_have_no_gap();

@@ -30,10 +30,11 @@ pub use self::exits::{Ask, Outcome, asked, exit_status, status, unread};
 pub use self::fault::{Fault, ParseFault, RunFault};
 pub use self::laws::{
     address_words, call_lines, datagram_lines, ext_words, frame_lines, hex_words, number_words,
-    packet_words, pieces_join, refusal_words, script_bridge, script_sends,
+    packet_words, pieces_join, refusal_words, report_lines, script_bridge, script_sends,
     script_streams_have_no_gap, tick_lines,
 };
 pub use self::print::{print_egress, print_reply};
 pub use self::running::{output, run};
+pub use self::showing::print_rows;
 pub use self::sink::{Portion, Sink, Writer};
 pub use self::source::{Piece, Reader, Source};

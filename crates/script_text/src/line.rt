@@ -6,7 +6,7 @@ ghost use Rattle.frame_gate.specs.Frame.{fault_of};
 ghost use Rattle.script_text.specs.Words.{Gives};
 ghost use Rattle.script_text.specs.inner.Cursor.{words_in, size_of, view, sighting};
 ghost use Rattle.script_text.specs.Values.{field_of};
-ghost use Rattle.script_text.specs.Requests.{some_packets, framed, frame_of, desk_of, some_octets, rx_of, tick_of, show_of, front_of, request_with, words_request, request_of};
+ghost use Rattle.script_text.specs.Requests.{some_packets, framed, frame_of, desk_of, some_octets, rx_of, tick_of, report_of, show_of, front_of, request_with, words_request, request_of};
 
 use crate::building::call;
 use crate::fault::{Fault, ParseFault};
@@ -38,6 +38,9 @@ pub(crate) enum Line<A: Allocator + Copy = Global> {
         octets: Vec<u8, A>,
     },
     Tick {
+        moment: u64,
+    },
+    Report {
         moment: u64,
     },
     Show,
@@ -165,6 +168,14 @@ fn tick<A: Allocator + Copy>(moment: u64, words: Option<&[u8]>) -> Result<Line<A
     Ok(Line::Tick { moment })
 }
 
+/// The reports of a moment.
+fn report<A: Allocator + Copy>(moment: u64, words: Option<&[u8]>) -> Result<Line<A>, ParseFault>
+    ensures { Gives view result (report_of moment (words_in words.entry)) }
+{
+    end_of_words(words, 3)?;
+    Ok(Line::Report { moment })
+}
+
 /// What a line of this kind asks for, with these values first.
 fn line_with<A: Allocator + Copy>(
     alloc: A,
@@ -190,6 +201,7 @@ fn line_with<A: Allocator + Copy>(
         }
         Kind::Rx => rx(alloc, u64_at(values, 0), address_at(values, 1), words),
         Kind::Tick => tick(u64_at(values, 0), words),
+        Kind::Report => report(u64_at(values, 0), words),
         Kind::Show => show(words),
     }
 }

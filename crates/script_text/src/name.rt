@@ -13,6 +13,7 @@ pub(crate) enum Kind {
     Frame,
     Rx,
     Tick,
+    Report,
     Show,
 }
 
@@ -28,6 +29,8 @@ pub(crate) fn parse_kind(word: &[u8]) -> Option<Kind>
         Some(Kind::Rx)
     } else if word == b"tick".as_slice() {
         Some(Kind::Tick)
+    } else if word == b"report".as_slice() {
+        Some(Kind::Report)
     } else if word == b"show".as_slice() {
         Some(Kind::Show)
     } else {
@@ -50,7 +53,7 @@ pub(crate) fn front(kind: Kind) -> &'static [Field]
             Field::U32,
         ],
         Kind::Rx => &[Field::U64, Field::Address],
-        Kind::Tick => &[Field::U64],
+        Kind::Tick | Kind::Report => &[Field::U64],
         Kind::Show => &[],
     }
 }

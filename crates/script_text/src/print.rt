@@ -1,15 +1,17 @@
 //! What is printed for replies and for what goes out.
 
-ghost use Rattle.std.specs.Prelude.{◌≡◌, ◌+◌, ◌<◌, ◌∷◌, ◌++◌, codes, length, OnOk, OnErr, vec_len, vec_capacity};
+ghost use Rattle.std.specs.Prelude.{◌≡◌, ◌+◌, ◌<◌, ◌∷◌, ◌++◌, codes, length, map, OnOk, OnErr, vec_len, vec_capacity};
 ghost use Rattle.script_text.specs.declared.value.Value.TheVariants.{U64};
-ghost use Rattle.script_text.specs.Text.{fixed, value, line_text, told_words, reply_text, sent_text};
+ghost use Rattle.script_text.specs.Text.{fixed, value, line_text, told_words, reply_text, head_words, media_words, source_words, loss_words, sent_text};
+ghost use Rattle.script_text.specs.inner.Shown.{said};
 ghost use Rattle.desk_edit.specs.Told.{told_in};
 ghost use Rattle.bridge_core.specs.Sent.{sent_of};
 
 use crate::appending::{Word, print_line};
 use crate::value::Value;
-use bridge_core::{Egress, Reply};
+use bridge_core::{Egress, LossNote, Reply};
 use desk_edit::{Carried, RefusalRow};
+use rtp_codec::Address;
 use std::alloc::{AllocError, Allocator};
 
 /// Appends the line of a reply. An `Err` changes nothing, and comes only where the line has no room.
@@ -53,6 +55,60 @@ fn print_refused<A: Allocator>(
     }
 }
 
+/// The words that stand first of what goes out: the version, the number of the item in its lane, and an
+/// address.
+fn head_words<'a>(version: u64, item: u64, address: Address) -> [Word<'a>; 3]
+    ensures { map said result ≡ head_words version item address }
+{
+    [
+        Word::Value(Value::U64(version)),
+        Word::Value(Value::U64(item)),
+        Word::Value(Value::Address(address)),
+    ]
+}
+
+/// Appends the line of a packet with these words: for the first time, or again by a version.
+fn print_media<A: Allocator>(
+    words: [Word<'_>; 6],
+    resent_by: Option<u64>,
+    out: &mut Vec<u8, A>,
+) -> Result<(), AllocError>
+    ensures ok { OnOk result (out.new.items ≡ out.old.items ++ line_text (media_words resent_by (map said words.entry))) }
+    ensures err { OnErr result (out.new.items ≡ out.old.items) }
+    ensures full { OnErr result (vec_capacity out.old
+        < vec_len out.old + length (line_text (media_words resent_by (map said words.entry)))) }
+{
+    match resent_by {
+        None => print_line(b"tx", &words, out),
+        Some(now) => {
+            let [version, item, to, ssrc, number, octets] = words;
+            let now = Word::Value(Value::U64(now));
+            print_line(b"re", &[now, version, item, to, ssrc, number, octets], out)
+        }
+    }
+}
+
+/// The words of a source's packet, or marks that there is none.
+fn source_words<'a>(source: Option<(u32, i64)>) -> [Word<'a>; 2]
+    ensures { map said result ≡ source_words source }
+{
+    match source {
+        None => [Word::Fixed(b"-"), Word::Fixed(b"-")],
+        Some((ssrc, ext)) => [Word::Value(Value::U32(ssrc)), Word::Signed(ext)],
+    }
+}
+
+/// The words of what a receiver tells of its losses.
+fn loss_words<'a>(note: LossNote) -> [Word<'a>; 5]
+    ensures { map said result ≡ loss_words note }
+{
+    let out_ssrc = Word::Value(Value::U32(note.out_ssrc));
+    let fraction = Word::Value(Value::U16(u16::from(note.fraction)));
+    let lost = Word::Signed(i64::from(note.lost));
+    let [ssrc, ext] = source_words(note.source);
+    [out_ssrc, fraction, lost, ssrc, ext]
+}
+
 /// Appends the line of what goes out. An `Err` changes nothing, and comes only where the line has
 /// no room.
 pub fn print_egress<A: Allocator + Copy>(
@@ -63,26 +119,45 @@ pub fn print_egress<A: Allocator + Copy>(
     ensures err { OnErr result (out.new.items ≡ out.old.items) }
     ensures full { OnErr result (vec_capacity out.old < vec_len out.old + length (sent_text (sent_of egress.now))) }
 {
-    let Egress::Media {
-        version,
-        item,
-        to,
-        ssrc,
-        number,
-        bytes,
-        resent_by,
-    } = egress;
-    let version = Word::Value(Value::U64(*version));
-    let item = Word::Value(Value::U64(*item));
-    let to = Word::Value(Value::Address(*to));
-    let ssrc = Word::Value(Value::U32(*ssrc));
-    let number = Word::Value(Value::U16(*number));
-    let octets = Word::Hex(bytes.as_slice());
-    match *resent_by {
-        None => print_line(b"tx", &[version, item, to, ssrc, number, octets], out),
-        Some(now) => {
-            let now = Word::Value(Value::U64(now));
-            print_line(b"re", &[now, version, item, to, ssrc, number, octets], out)
+    match egress {
+        Egress::Media {
+            version,
+            item,
+            to,
+            ssrc,
+            number,
+            bytes,
+            resent_by,
+        } => {
+            let [version, item, to] = head_words(*version, *item, *to);
+            let ssrc = Word::Value(Value::U32(*ssrc));
+            let number = Word::Value(Value::U16(*number));
+            let octets = Word::Hex(bytes.as_slice());
+            print_media([version, item, to, ssrc, number, octets], *resent_by, out)
+        }
+        Egress::Control {
+            version,
+            item,
+            to,
+            bytes,
+            ..
+        } => {
+            let [version, item, to] = head_words(*version, *item, *to);
+            print_line(b"ct", &[version, item, to, Word::Hex(bytes)], out)
+        }
+        Egress::Note {
+            version,
+            item,
+            from,
+            note,
+        } => {
+            let [version, item, from] = head_words(*version, *item, *from);
+            let [out_ssrc, fraction, lost, ssrc, ext] = loss_words(*note);
+            print_line(
+                b"note",
+                &[version, item, from, out_ssrc, fraction, lost, ssrc, ext],
+                out,
+            )
         }
     }
 }

@@ -121,7 +121,7 @@ fn print_kinds<A: Allocator + Copy>(rows: &Rows<A>, out: &mut Vec<u8, A>) -> Res
 }
 
 /// Appends a line for each row, and the version.
-pub(crate) fn print_rows<A: Allocator + Copy>(
+pub fn print_rows<A: Allocator + Copy>(
     rows: &Rows<A>,
     version: u64,
     out: &mut Vec<u8, A>,

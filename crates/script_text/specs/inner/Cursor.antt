@@ -11,7 +11,7 @@ use Rattle.script_text.specs.declared.line.Line.{Line}
 use Rattle.script_text.specs.declared.line.Line.TheVariants as lines
 use Rattle.script_text.specs.Words.{Fails, words_of}
 use Rattle.script_text.specs.Packets.{packet_of}
-use Rattle.script_text.specs.Requests.{Request, Nothing, Desk, Item, Rx, Show}
+use Rattle.script_text.specs.Requests.{Request, Nothing, Desk, Item, Rx, Report, Show}
 
 -- the words that are left of a line, where nothing is left once the last was taken
 abbrev pub words_in : Option (Bor (List ℕ)) → List (List ℕ)
@@ -24,6 +24,7 @@ view lines.Nothing = Nothing
 view (lines.Desk op call) = Desk op call
 view (lines.Frame f) = Item (frame f)
 view (lines.Tick moment) = Item (tick moment)
+view (lines.Report moment) = Report moment
 view (lines.Rx moment from octets) = Rx moment from octets.items
 view lines.Show = Show
 
