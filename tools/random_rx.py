@@ -23,6 +23,8 @@ RTP_FAULTS = {1: "Short", 2: "Version", 3: "Csrc", 4: "Extension", 5: "Padding"}
 RTCP_FAULTS = {1: "Short", 2: "Version", 3: "First", 4: "Length", 5: "Padding", 6: "Body"}
 SENT_BEFORE = 512
 KEPT = 4096
+# A receiver report without blocks, and the bridge's name.
+FRONT = "80c9000100000001" + "81ca000400000001010662726964676500000000"
 
 
 def number(octets):
@@ -139,7 +141,7 @@ class Source:
     """The numbers of a source (RFC 3550 A.1), and its frames since it was initialised."""
 
     def __init__(self):
-        self.before = self.greatest = self.awaited = self.epoch = self.gate = None
+        self.before = self.greatest = self.awaited = self.epoch = self.gate = self.report = None
 
     def verdict(self, seq):
         if self.greatest is None:
@@ -295,11 +297,11 @@ class Bridge:
             out = (stream.ts + max(1, max(0, moment - stream.moment) // 1000 * 9 // 100)) % 2**32
         stream.run, stream.ts, stream.source_ts, stream.moment = run, out, ts, moment
         lines = []
-        for _, p in packets:
+        for n, p in packets:
             head = bytes([0x81, p["marker"] << 7 | p["pt"]]) + stream.next.to_bytes(2, "big") + out.to_bytes(4, "big")
             octets = (head + slot["out"].to_bytes(4, "big") + ssrc.to_bytes(4, "big") + p["payload"]).hex()
             text = f"{self.version} {self.items} {m['address']} {slot['out']} {stream.next} {octets}"
-            stream.sent = (stream.sent + [(stream.next, m["member"], m["address"], text)])[-SENT_BEFORE:]
+            stream.sent = (stream.sent + [(stream.next, m["member"], m["address"], text, f"{ssrc} {n}")])[-SENT_BEFORE:]
             lines.append("tx " + text)
             stream.next = (stream.next + 1) % 65536
         return lines
@@ -311,10 +313,40 @@ class Bridge:
             pid, blp = number(body[at : at + 2]), number(body[at + 2 : at + 4])
             asked += [pid] + [(pid + i) % 65536 for i in range(1, 17) if blp >> i - 1 & 1]
         for n in dict.fromkeys(asked):
-            for seq, member, owner, text in stream.sent if stream and asker else []:
+            for seq, member, owner, text, _ in stream.sent if stream and asker else []:
                 if (seq, member, owner) == (n, asker["member"], address):
                     lines.append(f"re {self.version} {text}")
         return lines
+
+    def block(self, address, body):
+        """What a report block tells (RFC 3550 section 6.4.1)."""
+        self.items += 1
+        stream, teller, found = self.streams.get(number(body[:4])), self.member_at(address), "- -"
+        if not stream or not teller:
+            return []
+        for seq, member, owner, _, source in stream.sent:
+            if (seq, member, owner) == (number(body[10:12]), teller["member"], address):
+                found = source
+        lost = int.from_bytes(body[5:8], "big", signed=True)
+        return [f"note {self.version} {self.items} {address} {number(body[:4])} {body[4]} {lost} {found}"]
+
+    def pli(self, address, body):
+        self.items += 1
+        slot, teller = self.desk.one("slots", out=number(body[4:8])), self.member_at(address)
+        ssrc = self.choice(slot) if slot and teller and slot["member"] == teller["member"] else None
+        if ssrc is None:
+            return []
+        to = self.desk.one("members", member=self.desk.one("sources", ssrc=ssrc)["member"])["address"]
+        return [f"ct {self.version} {self.items} {to} {FRONT}81ce000200000001{ssrc:08x}"]
+
+    def noted(self, moment, address, body):
+        """A sender report, noted at its source (RFC 3550 section 6.4.1: LSR)."""
+        source = self.kept.get((address, number(body[:4])))
+        if source and source.greatest is not None:
+            source.report = number(body[6:10]), moment
+
+    def arrived(self, source, verdict, moment, rate, ts):
+        """What counts for reports, which nobody asks for here."""
 
     def sound(self, address, packet):
         """Samples on their way to no mix: nobody ticks here."""
@@ -322,7 +354,7 @@ class Bridge:
     def up(self, address, ssrc, nacks, pli):
         if not nacks and not pli:
             return []
-        octets = "80c9000100000001" + "81ca000400000001010662726964676500000000"
+        octets = FRONT
         if nacks:
             words = words_of(nacks)
             octets += f"81cd{2 + len(words):04x}00000001{ssrc:08x}" + "".join(f"{pid:04x}{blp:04x}" for pid, blp in words)
@@ -347,8 +379,15 @@ class Bridge:
                 raise Dropped("Unknown")
             lines = [f"rx rtcp {len(packets)}"]
             for pt, count, body in packets:
+                if pt == 200:
+                    self.noted(moment, address, body)
+                if pt in (200, 201):
+                    first = 24 if pt == 200 else 4
+                    lines += [line for at in range(first, first + 24 * count, 24) for line in self.block(address, body[at : at + 24])]
                 if pt == 205 and count == 1:
                     lines += self.nack(address, body)
+                if pt == 206 and count == 1:
+                    lines += self.pli(address, body)
             return lines
         p = read_rtp(d)
         row, member = self.desk.one("sources", ssrc=p["ssrc"]), self.member_at(address)
@@ -370,6 +409,7 @@ class Bridge:
         if verdict in ("begun", "restarted"):
             self.epoch += 1
             source.epoch, source.gate = self.epoch, Gate()
+        self.arrived(source, verdict, moment, 8000 if audio else 90000, p["ts"])
         name = "restarted" if verdict == "restarted" else "accepted"
         if audio:
             if p["payload"]:
@@ -500,7 +540,7 @@ def printed(lines, binary, seconds):
     command = ["rt", "try", "--seconds", str(seconds), "--", "replay"]
     run = subprocess.run(command, cwd=TOP / "crates/confbridge", input=text, stdout=subprocess.PIPE, stderr=subprocess.STDOUT)
     said = run.stdout.decode().splitlines()
-    return [line for line in said if line.split(" ")[0] in ("ok", "no", "rx", "up", "tx", "re")]
+    return [line for line in said if line.split(" ")[0] in ("ok", "no", "rx", "up", "tx", "re", "ct", "note")]
 
 
 def compare(script, got):
