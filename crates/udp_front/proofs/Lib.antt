@@ -1,4 +1,6 @@
 pub mod CutLemmas
+pub mod SendLemmas
 pub mod SettingsLemmas
 pub mod SpellingLemmas
 pub mod WholeLemmas
+pub mod WireLemmas

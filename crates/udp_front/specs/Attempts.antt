@@ -1,8 +1,10 @@
 -- What was tried on a wire (own).
-use Rattle.std.specs.Prelude.{◌≡◌, ℕ, Bool, not, List, ◌++◌, length, map, filter}
+use Rattle.std.specs.Prelude.{◌≡◌, ℕ, Bool, not, List, [], ◌∷◌, ◌++◌, length, map, filter, if◌then◌else◌, Option}
+use Rattle.std.specs.List.{flat_map}
+use Rattle.std.specs.Option.{option_map}
 use Rattle.rtp_codec.specs.declared.address.Address.{Address}
 use Rattle.bridge_core.specs.declared.egress.Egress.{Egress}
-use Rattle.bridge_core.specs.declared.egress.Egress.TheVariants.{Media}
+use Rattle.bridge_core.specs.declared.egress.Egress.TheVariants.{Media, Control, Note}
 
 -- a datagram that was tried, and whether it was sent
 pub record Attempt : Type 0 where
@@ -10,9 +12,11 @@ pub record Attempt : Type 0 where
   pub octets : List ℕ
   pub sent : Bool
 
--- to whom the datagram of an egress goes, and its octets
-abbrev pub datagram_of : {A : Type 0} → Egress A → Address × List ℕ
-datagram_of (Media version item to ssrc number bytes resent_by) = (to, bytes)
+-- what goes out of an egress, to whom, and which octets: a note goes nowhere
+abbrev pub datagrams_of : {A : Type 0} → Egress A → List (Address × List ℕ)
+datagrams_of (Media version item to ssrc number bytes resent_by) = (to, bytes) ∷ []
+datagrams_of (Control version item to ssrc bytes) = (to, bytes.items) ∷ []
+datagrams_of (Note version item from note) = []
 
 -- to whom it was tried, and which octets
 abbrev pub tried_of : Attempt → Address × List ℕ
@@ -22,7 +26,16 @@ tried_of attempt = (attempt.to, attempt.octets)
 abbrev pub failures : List Attempt → ℕ
 failures attempts = length (filter (λ attempt. not attempt.sent) attempts)
 
--- the attempts grew by one for each egress, in order, and so many of them failed
-abbrev pub GrewBy : {A : Type 0} → List (ℕ × Egress A) → List Attempt → List Attempt → ℕ → Type 0
+-- the attempts with these behind them, where they are known
+abbrev pub with_tried : List Attempt → Option (List Attempt) → Option (List Attempt)
+with_tried tried attempts = option_map (λ before. before ++ tried) attempts
+
+-- the attempts grew by what goes out of each egress, in order, and so many of them failed
+abbrev pub GrewBy : {A : Type 0} → List (Egress A) → Option (List Attempt) → Option (List Attempt) → ℕ → Type 0
 GrewBy egresses old new failed =
-    (tried : List Attempt) × (new ≡ old ++ tried) × (map tried_of tried ≡ map (λ e. datagram_of e.1) egresses) × (failed ≡ failures tried)
+    (tried : List Attempt) × (new ≡ with_tried tried old) × (map tried_of tried ≡ flat_map datagrams_of egresses) × (failed ≡ failures tried)
+
+-- the attempts grew by this one datagram, and so many failed
+abbrev pub Tried : Address → List ℕ → Option (List Attempt) → Option (List Attempt) → ℕ → Type 0
+Tried to octets old new failed =
+    (sent : Bool) × (new ≡ with_tried (record { to = to; octets = octets; sent = sent } ∷ []) old) × (failed ≡ (if sent then 0 else 1))

@@ -1,6 +1,11 @@
 pub mod Attempts
 pub mod Cut
+pub mod Ended
 pub mod Fed
+pub mod Operators
+pub mod Outbound
+pub mod Pacing
+pub mod Seats
 pub mod Settings
 pub mod SettingsTold
 pub mod SettingValues

@@ -1,21 +1,41 @@
-//! The front of a bridge that runs on sockets, as far as it needs none: its settings, the lines that operators send, and
-//! what goes out onto a wire.
+//! The front of a bridge that runs on sockets: its settings, the lines that operators send and what they are answered,
+//! what goes out onto a wire, and the rounds of the bridge on one thread.
 //!
-//! Begin with [`settings`] and [`Lines::feed`].
+//! Begin with [`settings`] and [`Front::bind`], then [`Lines::feed`] and [`answer`]. A [`Front`] becomes a [`Serving`], which
+//! goes on round by round. Of the sockets, and so of `bind`, `run` and `round`, contracts say nothing.
 #![tactic(auto)]
 
+mod answering;
+mod asking;
+mod connection;
+mod ending;
 mod fault;
 mod feeding;
+mod front;
 mod laws;
+mod moments;
+mod outgoing;
+mod pacing;
 mod reading;
+mod seats;
+mod sending;
+mod serving;
 mod setup;
+mod socket;
 mod spelling;
 mod values;
 mod wire;
 
+pub use answering::{Next, answer, busy, print_too_long};
+pub use ending::{FrontFault, front_status};
 pub use fault::SettingsFault;
 pub use feeding::{Fed, Lines};
-pub use laws::{cuts_are_whole, too_long_for_good};
+pub use front::{Front, Listening};
+pub use laws::{cuts_are_whole, sizes_are_kept, too_long_for_good};
+pub use outgoing::Outgoing;
+pub use pacing::{ReportTimer, Ticks};
 pub use reading::settings;
+pub use seats::free_seat;
+pub use serving::Serving;
 pub use setup::{FrontSettings, Key};
-pub use wire::{Wire, send_all};
+pub use wire::{Wire, send_all, send_each};

@@ -1,33 +1,62 @@
 //! What goes out onto a wire.
 
-ghost use Rattle.std.specs.Prelude.{◌≡◌, ◌++◌, ◌∷◌, [], List};
-ghost use Rattle.udp_front.specs.Attempts.{Attempt, GrewBy};
+ghost use Rattle.std.specs.Prelude.{◌≡◌, ◌++◌, ◌∷◌, [], ◌≤◌, List, map, Option};
+ghost use Rattle.udp_front.specs.Attempts.{Attempt, Tried, with_tried, GrewBy};
 
 use bridge_core::Egress;
 use rtp_codec::Address;
 use std::alloc::Allocator;
 
-/// Where datagrams are sent. Contracts see it as the list of its attempts, oldest first.
+/// Where datagrams are sent. Contracts see it as the list of its attempts, oldest first, where that is known.
 pub trait Wire {
-    /// What was tried so far, and whether it was sent.
-    ghost attempts: { Self → List Attempt };
+    /// What was tried so far, and whether it was sent. Nothing is known of a socket.
+    ghost attempts: { Self → Option (List Attempt) };
 
     /// Tries once to send a datagram, and tells whether it was sent.
     fn send(&mut self, to: Address, octets: &[u8]) -> bool
-        ensures { attempts self.new ≡ attempts self.old ++ record { to = to; octets = octets.now; sent = result } ∷ [] };
+        ensures { attempts self.new ≡ with_tried (record { to = to; octets = octets.now; sent = result } ∷ []) (attempts self.old) };
 }
 
 /// Tries to send each datagram once, in order, whatever failed before, and answers how many failed.
 /// The number beside each is its lane's, and does not matter here.
 pub fn send_all<A: Allocator + Copy, W: Wire>(egresses: &[(u32, Egress<A>)], wire: &mut W) -> u64
-    ensures { GrewBy egresses.now (W.attempts wire.old) (W.attempts wire.new) result }
+    ensures { GrewBy (map (λ e. e.1) egresses.now) (W.attempts wire.old) (W.attempts wire.new) result }
 {
     let mut failed = 0;
     for (_, egress) in egresses {
-        let Egress::Media { to, bytes, .. } = egress;
-        if !wire.send(*to, bytes.as_slice()) {
-            failed += 1;
-        }
+        failed += send_one(egress, wire);
     }
     failed
+}
+
+/// Tries to send what a lane gave for an item, as `send_all` does.
+pub fn send_each<A: Allocator + Copy, W: Wire>(egresses: &[Egress<A>], wire: &mut W) -> u64
+    ensures { GrewBy egresses.now (W.attempts wire.old) (W.attempts wire.new) result }
+{
+    let mut failed = 0;
+    for egress in egresses {
+        failed += send_one(egress, wire);
+    }
+    failed
+}
+
+/// Tries to send a datagram, and counts the failure.
+fn attempt<W: Wire>(to: Address, octets: &[u8], wire: &mut W) -> u64
+    ensures tried { Tried to octets.now (W.attempts wire.old) (W.attempts wire.new) result }
+    ensures small { result ≤ 1 }
+{
+    if wire.send(to, octets) { 0 } else { 1 }
+}
+
+/// Tries to send what goes out of an egress, if anything does, and counts the failure.
+#[tactic(auto, using(crate::proofs::WireLemmas::grew_one, crate::proofs::WireLemmas::grew_none))]
+fn send_one<A: Allocator + Copy, W: Wire>(egress: &Egress<A>, wire: &mut W) -> u64
+    ensures grew { GrewBy (egress.now ∷ []) (W.attempts wire.old) (W.attempts wire.new) result }
+    ensures small { result ≤ 1 }
+{
+    match egress {
+        Egress::Media { to, bytes, .. } => attempt(*to, bytes.as_slice(), wire),
+        Egress::Control { to, bytes, .. } => attempt(*to, bytes, wire),
+        Egress::Note { .. } => 0,
+    }
 }

@@ -1,0 +1,97 @@
+//! How a bridge on sockets ends.
+
+ghost use Rattle.std.specs.Prelude.{◌≡◌, Some};
+ghost use Rattle.udp_front.specs.Ended.{front_text, front_status_of};
+
+use crate::fault::SettingsFault;
+use bridge_core::{CoreFault, LaneFault};
+use std::alloc::{AllocError, AllocFailed};
+use std::error::Error;
+use std::io::ErrorKind;
+use std::{fmt, io};
+
+/// Why a bridge on sockets ended otherwise than by `stop`, or did not begin.
+#[derive(Debug, Drop)]
+pub enum FrontFault {
+    /// The settings are not good.
+    Settings(SettingsFault),
+    /// A file, a socket or a clock failed, or a lane's items were used up.
+    Io,
+    OutOfMemory,
+}
+
+impl fmt::Display for FrontFault {
+    ghost output = { λ fault. Some (front_text fault) };
+
+    fn fmt<W: fmt::Write>(&self, f: &mut fmt::Formatter<W>) -> fmt::Result {
+        match self {
+            FrontFault::Settings(fault) => write!(f, "settings: {fault}"),
+            FrontFault::Io => write!(f, "input or output failed"),
+            FrontFault::OutOfMemory => write!(f, "out of memory"),
+        }
+    }
+}
+
+impl Error for FrontFault {}
+
+/// The exit status of a bridge on sockets: 0 after `stop`, 1 for a fault of the settings, 2 for want of memory, 3 where
+/// a file, a socket or a clock failed.
+pub fn front_status(answer: &Result<(), FrontFault>) -> u8
+    ensures { result ≡ front_status_of answer.now }
+{
+    match answer {
+        Ok(()) => 0,
+        Err(FrontFault::Settings(_)) => 1,
+        Err(FrontFault::OutOfMemory) => 2,
+        Err(FrontFault::Io) => 3,
+    }
+}
+
+impl From<SettingsFault> for FrontFault {
+    fn from(fault: SettingsFault) -> FrontFault {
+        match fault {
+            SettingsFault::OutOfMemory => FrontFault::OutOfMemory,
+            fault => FrontFault::Settings(fault),
+        }
+    }
+}
+
+impl From<io::Error> for FrontFault {
+    fn from(error: io::Error) -> FrontFault {
+        match error.kind() {
+            ErrorKind::OutOfMemory => FrontFault::OutOfMemory,
+            _ => FrontFault::Io,
+        }
+    }
+}
+
+impl From<AllocError> for FrontFault {
+    fn from(_error: AllocError) -> FrontFault {
+        FrontFault::OutOfMemory
+    }
+}
+
+impl<T: Drop> From<AllocFailed<T>> for FrontFault {
+    fn from(_error: AllocFailed<T>) -> FrontFault {
+        FrontFault::OutOfMemory
+    }
+}
+
+impl From<LaneFault> for FrontFault {
+    fn from(fault: LaneFault) -> FrontFault {
+        match fault {
+            LaneFault::OutOfMemory => FrontFault::OutOfMemory,
+            LaneFault::Spent => FrontFault::Io,
+        }
+    }
+}
+
+impl From<CoreFault> for FrontFault {
+    fn from(fault: CoreFault) -> FrontFault {
+        match fault {
+            CoreFault::OutOfMemory => FrontFault::OutOfMemory,
+            // The settings were judged when they were read.
+            CoreFault::BadLanes | CoreFault::BadSettings => FrontFault::Io,
+        }
+    }
+}

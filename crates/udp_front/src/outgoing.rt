@@ -1,0 +1,109 @@
+//! What an operator has not read yet.
+
+ghost use Rattle.std.specs.Prelude.{◌≡◌, ◌++◌, ◌≤◌, ℕ, List, [], length, take, drop, nat_eq, OnOk, OnErr};
+ghost use Rattle.udp_front.specs.Outbound.{piece, is_too_much};
+
+use std::alloc::{AllocError, Allocator, Global};
+use std::marker::Model;
+
+/// How many octets an operator may leave unread. What a `show` of a full desk takes is under 2,700,000.
+pub(crate) const UNREAD_LIMIT: usize = 4_194_304;
+
+/// How many octets are written at a time at most.
+pub(crate) const PIECE: usize = 65_536;
+
+/// The octets that wait to be written to an operator.
+/// Contracts see those, oldest first.
+#[derive(Drop)]
+pub struct Outgoing<A: Allocator + Copy = Global> {
+    octets: Vec<u8, A>,
+    /// How many of them are written.
+    written: usize,
+}
+
+impl<A: Allocator + Copy> Model for Outgoing<A> {
+    ghost Value = { List ℕ };
+
+    ghost view = { λ o. drop o.written o.octets.items };
+
+    ghost invariant = { λ o. o.written ≤ length o.octets.items };
+}
+
+impl<A: Allocator + Copy> Outgoing<A> {
+    /// Nothing waits.
+    pub fn new(alloc: A) -> Self
+        ensures { result ≡ [] }
+    {
+        Self {
+            octets: Vec::new(alloc),
+            written: 0,
+        }
+    }
+
+    /// What waits.
+    fn waiting(&self) -> &[u8]
+        ensures { result.now ≡ self.now }
+    {
+        &self.octets[self.written..]
+    }
+
+    /// What is to be written next: what waits, or its first 65,536 octets.
+    pub fn next(&self) -> &[u8]
+        ensures { result.now ≡ take piece self.now }
+    {
+        let waiting = self.waiting();
+        if waiting.len() > PIECE {
+            &waiting[..PIECE]
+        } else {
+            waiting
+        }
+    }
+
+    /// Whether nothing waits.
+    pub fn is_empty(&self) -> bool
+        ensures { result ≡ nat_eq (length self.now) 0 }
+    {
+        self.waiting().is_empty()
+    }
+
+    /// Whether more waits than an operator may leave unread.
+    pub fn is_over(&self) -> bool
+        ensures { result ≡ is_too_much self.now }
+    {
+        self.waiting().len() > UNREAD_LIMIT
+    }
+
+    /// Forgets what is written, in place.
+    fn compact(&mut self)
+        ensures { self.new ≡ self.old }
+    {
+        let waiting = self.octets.len() - self.written;
+        self.octets.copy_within(self.written.., 0);
+        self.octets.truncate(waiting);
+        self.written = 0;
+    }
+
+    /// Lets more wait, behind the rest. An `Err` changes nothing.
+    pub fn append(&mut self, text: &[u8]) -> Result<(), AllocError>
+        ensures ok { OnOk result (self.new ≡ self.old ++ text.now) }
+        ensures err { OnErr result (self.new ≡ self.old) }
+    {
+        // So each octet is moved once at most, whatever is appended.
+        if self.written > self.octets.len() / 2 {
+            self.compact();
+        }
+        self.octets.extend_from_slice(text)
+    }
+
+    /// So many of the octets that waited are written, the first ones.
+    pub fn took(&mut self, count: usize)
+        ensures { self.new ≡ drop count self.old }
+    {
+        if count < self.waiting().len() {
+            self.written += count;
+        } else {
+            self.octets.clear();
+            self.written = 0;
+        }
+    }
+}

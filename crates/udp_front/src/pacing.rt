@@ -1,0 +1,61 @@
+//! When ticks and reports are due.
+
+ghost use Rattle.std.specs.Prelude.{◌≡◌};
+ghost use Rattle.udp_front.specs.Pacing.{tick_due, after_tick, report_due, after_report};
+
+/// How many nanoseconds lie between two ticks.
+const TICK_GAP: u64 = 20_000_000;
+/// How many ticks are made up for at most.
+const MOST_TICKS: u64 = 50;
+/// How many nanoseconds lie between two reports.
+const REPORT_GAP: u64 = 5_000_000_000;
+
+/// The ticks of a bridge: one for each whole 20 ms since its start.
+#[derive(Clone, Copy, Debug, PartialEq, Eq)]
+pub struct Ticks {
+    /// The start, in nanoseconds since 1970.
+    pub start: u64,
+    /// How many whole 20 ms have had their tick, or never get one.
+    pub had: u64,
+}
+
+impl Ticks {
+    /// The moment of the next tick that is due now, in nanoseconds since 1970: the start plus a whole multiple of
+    /// 20 ms, the first that has had none. Of more than 50 such the last 50 are given, one at each call.
+    pub fn due(&mut self, now: u64) -> Option<u64>
+        ensures moment { result ≡ tick_due self.old now }
+        ensures had { self.new ≡ after_tick self.old now }
+    {
+        let passed = now.saturating_sub(self.start) / TICK_GAP;
+        if passed <= self.had {
+            return None;
+        }
+        let oldest = passed.saturating_sub(MOST_TICKS);
+        if self.had < oldest {
+            self.had = oldest;
+        }
+        self.had += 1;
+        Some(self.start + self.had * TICK_GAP)
+    }
+}
+
+/// The reports of a bridge: one whenever 5 s have passed since the last one, or since the start.
+#[derive(Clone, Copy, Debug, PartialEq, Eq)]
+pub struct ReportTimer {
+    /// The moment of the last one, or the start, in nanoseconds since 1970.
+    pub last: u64,
+}
+
+impl ReportTimer {
+    /// Whether a report is due now, which then counts as given.
+    pub fn due(&mut self, now: u64) -> bool
+        ensures due { result ≡ report_due self.old now }
+        ensures last { self.new ≡ after_report self.old now }
+    {
+        if now.saturating_sub(self.last) < REPORT_GAP {
+            return false;
+        }
+        self.last = now;
+        true
+    }
+}

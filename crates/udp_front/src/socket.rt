@@ -1,0 +1,37 @@
+//! Addresses of sockets, and the socket that datagrams go out from.
+
+use crate::wire::Wire;
+use mio::net::UdpSocket;
+use rtp_codec::Address;
+use std::net::{IpAddr, Ipv4Addr, SocketAddr};
+
+/// An address as the system has it.
+pub(crate) fn socket_address(address: Address) -> SocketAddr {
+    let [a, b, c, d] = address.ip;
+    SocketAddr::new(IpAddr::V4(Ipv4Addr::new(a, b, c, d)), address.port)
+}
+
+/// The address that the system tells, which is of IPv4 on a socket of IPv4.
+pub(crate) fn address_of(told: SocketAddr) -> Option<Address> {
+    match told.ip() {
+        IpAddr::V4(ip) => Some(Address {
+            ip: ip.octets(),
+            port: told.port(),
+        }),
+        IpAddr::V6(_) => None,
+    }
+}
+
+/// A socket as a wire. What it has sent is not known.
+#[derive(Drop)]
+pub(crate) struct UdpWire<'a>(pub(crate) &'a UdpSocket);
+
+impl<'a> Wire for UdpWire<'a> {
+    ghost use Rattle.std.specs.Prelude.{None};
+
+    ghost attempts = { λ wire. None };
+
+    fn send(&mut self, to: Address, octets: &[u8]) -> bool {
+        self.0.send_to(octets, socket_address(to)).is_ok()
+    }
+}
