@@ -1,24 +1,46 @@
-//! The bridge's program. `confbridge replay` answers a script from standard input.
+//! The bridge's program. `confbridge replay` answers a script from standard input, `confbridge serve FILE` runs a bridge
+//! on sockets.
 #![tactic(auto)]
 
 use script_text::{Ask, Outcome, Reader, Writer, asked, exit_status, run, unread};
+use std::alloc::AllocGlobal;
+use std::fs::Files;
+use std::net::Net;
 use std::process::ExitCode;
-use std::{env, io};
+use std::rt::Runtime;
+use std::sync::Wait;
+use std::{env, fs, io};
+use udp_front::{Front, FrontFault, FrontSettings, SettingsFault, front_status, settings};
 
 /// What the arguments ask for.
-fn arguments(rt: &HostRuntime) -> Ask {
-    match env::args(rt) {
-        Err(e) => unread(e.kind()),
-        Ok(mut words) => {
-            let _program = words.next();
-            let first = words.next();
-            let second = words.next();
-            asked(first.as_deref(), second.as_deref())
-        }
-    }
+#[derive(Drop)]
+enum Task {
+    /// What needs standard input alone, or nothing.
+    Script(Ask),
+    /// A bridge on sockets, with the settings of this file.
+    Serve(String),
 }
 
-/// Does what is asked for.
+/// What the arguments ask for.
+fn arguments(rt: &HostRuntime) -> Task {
+    let mut words = match env::args(rt) {
+        Err(e) => return Task::Script(unread(e.kind())),
+        Ok(words) => words,
+    };
+    let _program = words.next();
+    let first = words.next();
+    let second = words.next();
+    let third = words.next();
+    if first.as_deref() == Some("serve") && third.is_none() {
+        return match second {
+            Some(file) => Task::Serve(file),
+            None => Task::Script(Ask::Unknown),
+        };
+    }
+    Task::Script(asked(first.as_deref(), second.as_deref()))
+}
+
+/// Does what is asked for with standard input.
 fn outcome(rt: &HostRuntime, ask: Ask) -> Outcome {
     match ask {
         Ask::Replay => {
@@ -40,8 +62,39 @@ fn tell(rt: &HostRuntime, outcome: &Outcome) -> ExitCode {
     ExitCode::from(status)
 }
 
+/// The settings that a file gives.
+fn settings_in<R: Files + AllocGlobal>(rt: &R, path: &str) -> Result<FrontSettings, FrontFault> {
+    let octets = fs::read(rt, path)?;
+    match str::from_utf8(&octets) {
+        Ok(text) => Ok(settings(rt.alloc(), text)?),
+        Err(_) => Err(FrontFault::Settings(SettingsFault::BadToml)),
+    }
+}
+
+/// Runs a bridge with the settings of a file until it is stopped. Where it listens is told on standard error.
+fn serve<R: Runtime + AllocGlobal + Net + Wait>(rt: &R, path: &str) -> Result<(), FrontFault> {
+    let front = Front::bind(rt, settings_in(rt, path)?)?;
+    let listening = front.listening()?;
+    let _ = eprintln!(rt; "confbridge: listening on {listening}");
+    front.run(rt)
+}
+
+/// Runs a bridge, and says how it ended on standard error and by the exit status.
+fn served<R: Runtime + AllocGlobal + Net + Wait>(rt: &R, path: &str) -> ExitCode {
+    let answer = serve(rt, path);
+    let _ = match &answer {
+        Ok(()) => eprintln!(rt; "confbridge: stopped"),
+        Err(fault) => eprintln!(rt; "confbridge: {fault}"),
+    };
+    ExitCode::from(front_status(&answer))
+}
+
 fn main(rt: HostRuntime) -> ExitCode {
-    let ask = arguments(&rt);
-    let outcome = outcome(&rt, ask);
-    tell(&rt, &outcome)
+    match arguments(&rt) {
+        Task::Serve(path) => served(&rt, path.as_str()),
+        Task::Script(ask) => {
+            let outcome = outcome(&rt, ask);
+            tell(&rt, &outcome)
+        }
+    }
 }
