@@ -57,8 +57,11 @@ fn give(alloc: Global, core: &mut Core, item: &Item, tally: &mut Tally) -> io::R
         return Err(io::Error::other("an item is refused"));
     };
     for egress in &sent {
-        let Egress::Media { bytes, .. } = egress;
-        tally.count(bytes.len());
+        match egress {
+            Egress::Media { bytes, .. } => tally.count(bytes.len()),
+            Egress::Control { bytes, .. } => tally.count(bytes.len()),
+            Egress::Note { .. } => {}
+        }
     }
     Ok(())
 }

@@ -12,7 +12,9 @@ use std::test::Fail;
 fn share(sent: &[Egress], lane: u32, lanes: u32) -> usize {
     let mut count: usize = 0;
     for egress in sent {
-        let Egress::Media { ssrc, .. } = egress;
+        let Egress::Media { ssrc, .. } = egress else {
+            continue;
+        };
         count = count.saturating_add(usize::from(ssrc.checked_rem(lanes) == Some(lane)));
     }
     count

@@ -19,4 +19,6 @@ mod starving;
 #[cfg(test)]
 mod taking;
 #[cfg(test)]
+mod telling;
+#[cfg(test)]
 mod writing;

@@ -35,28 +35,32 @@ pub fn hold(
 /// What was sent at last: how many packets, the item of the first and its stream, the stream of the
 /// last; and how often memory was refused before.
 #[derive(Clone, Copy)]
-struct Sent {
-    count: usize,
-    ends: Option<(u64, u32, u32)>,
-    refusals: u32,
+pub struct Sent {
+    pub count: usize,
+    pub ends: Option<(u64, u32, u32)>,
+    pub refusals: u32,
 }
 
 /// The item of a packet that goes out, and its stream.
-fn place(egress: &Egress<&LocalHeap>) -> (u64, u32) {
-    let Egress::Media { item, ssrc, .. } = egress;
-    (*item, *ssrc)
+fn place(egress: &Egress<&LocalHeap>) -> Option<(u64, u32)> {
+    match egress {
+        Egress::Media { item, ssrc, .. } | Egress::Control { item, ssrc, .. } => {
+            Some((*item, *ssrc))
+        }
+        Egress::Note { .. } => None,
+    }
 }
 
 /// The item of the first packet, its stream, and that of the last.
 fn ends(sent: &[Egress<&LocalHeap>]) -> Option<(u64, u32, u32)> {
-    let first = place(sent.first()?);
-    let last = place(sent.last()?);
+    let first = place(sent.first()?)?;
+    let last = place(sent.last()?)?;
     Some((first.0, first.1, last.1))
 }
 
 /// What lane 0 sends for an item once the heap has enough memory left, which grows by so many
 /// octets.
-fn sent_at_last<'a>(
+pub fn sent_at_last<'a>(
     alloc: Global,
     heap: &'a LocalHeap,
     core: &mut Core<&'a LocalHeap>,
@@ -190,7 +194,11 @@ fn a_bridge_without_memory_is_refused(rt: HostRuntime) -> Result<(), Fail> {
     let none = LocalHeap::new(rt.alloc(), 16)?;
     let _held = Box::new(&none, 0u8)?;
     let settings = settings(&ample)?;
-    let lane = LaneState::new(&none, 0, 1).is_err();
+    let own = settings.try_clone().map_err(|_| Fail::from("memory"))?;
+    if !own.is_good() {
+        return Err(Fail::from("no name"));
+    }
+    let lane = LaneState::new(&none, 0, 1, own).is_err();
     let core = Core::new(&none, 1, settings).err();
     assert!(rt; lane && core == Some(CoreFault::OutOfMemory));
     Ok(())

@@ -1,6 +1,6 @@
 //! What is printed, and the exit statuses.
 
-ghost use Rattle.std.specs.Prelude.{◌≡◌, [], ◌∷◌, codes, IfOk, OnOk, None, Some};
+ghost use Rattle.std.specs.Prelude.{◌≡◌, [], ◌∷◌, codes, pos, negsuc, IfOk, OnOk, None, Some};
 ghost use Rattle.bridge_core.specs.Sent.{Sent, sent_of};
 
 use bridge_core::{Egress, Reply};
@@ -55,6 +55,33 @@ pub fn prints_a_resend(egress: &Egress, out: &mut Vec<u8>) -> Result<(), AllocEr
     requires packet { sent_of egress.now ≡ Sent.media record { version = 6; item = 1; to = record { ip = 10 ∷ 0 ∷ 0 ∷ 2 ∷ []; port = 5000 }; ssrc = 501; number = 0; bytes = 129 ∷ 228 ∷ []; resent_by = Some 11 } }
     requires behind { out.old.items ≡ [] }
     ensures { OnOk result (out.new.items ≡ codes "re 11 6 1 10.0.0.2:5000 501 0 81e4\n") }
+{
+    print_egress(egress, out)
+}
+
+/// The line of an RTCP compound.
+pub fn prints_a_compound(egress: &Egress, out: &mut Vec<u8>) -> Result<(), AllocError>
+    requires compound { sent_of egress.now ≡ Sent.control record { version = 6; item = 2; to = record { ip = 10 ∷ 0 ∷ 0 ∷ 1 ∷ []; port = 5000 }; ssrc = 501; bytes = 128 ∷ 201 ∷ 0 ∷ 1 ∷ [] } }
+    requires behind { out.old.items ≡ [] }
+    ensures { OnOk result (out.new.items ≡ codes "ct 6 2 10.0.0.1:5000 80c90001\n") }
+{
+    print_egress(egress, out)
+}
+
+/// The line of a receiver that had more packets than were sent, and its highest from a source.
+pub fn prints_a_note(egress: &Egress, out: &mut Vec<u8>) -> Result<(), AllocError>
+    requires note { sent_of egress.now ≡ Sent.note record { version = 6; item = 3; from = record { ip = 10 ∷ 0 ∷ 0 ∷ 2 ∷ []; port = 5000 }; note = record { out_ssrc = 501; fraction = 64; lost = negsuc 1; source = Some (101, negsuc 7) } } }
+    requires behind { out.old.items ≡ [] }
+    ensures { OnOk result (out.new.items ≡ codes "note 6 3 10.0.0.2:5000 501 64 -2 101 -8\n") }
+{
+    print_egress(egress, out)
+}
+
+/// The line of a receiver whose highest packet leads back to none of a source.
+pub fn prints_a_note_without_a_source(egress: &Egress, out: &mut Vec<u8>) -> Result<(), AllocError>
+    requires note { sent_of egress.now ≡ Sent.note record { version = 6; item = 3; from = record { ip = 10 ∷ 0 ∷ 0 ∷ 2 ∷ []; port = 5000 }; note = record { out_ssrc = 501; fraction = 0; lost = pos 1; source = None } } }
+    requires behind { out.old.items ≡ [] }
+    ensures { OnOk result (out.new.items ≡ codes "note 6 3 10.0.0.2:5000 501 0 1 - -\n") }
 {
     print_egress(egress, out)
 }

@@ -1,2 +1,3 @@
 pub mod PacketsSent
 pub mod FrameSent
+pub mod MixesSent

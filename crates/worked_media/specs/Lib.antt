@@ -3,3 +3,4 @@ pub mod Sent
 pub mod Streamed
 pub mod Upstreams
 pub mod Reported
+pub mod Rooms

@@ -1,8 +1,11 @@
 //! Samples that wait to be taken.
 
-ghost use Rattle.std.specs.Prelude.{◌≡◌, IfSome};
+ghost use Rattle.std.specs.Prelude.{◌≡◌, pos, [], ◌∷◌, IfSome};
+ghost use Rattle.playout.specs.Playouts.{PutOf, TakeAll, Has};
+ghost use Rattle.worked_media.specs.Sent.{owner};
 
-use playout::{Placed, Playout};
+use playout::{Placed, Playout, Playouts};
+use rtp_codec::Address;
 use std::alloc::Global;
 
 /// The first samples are all kept. At 50 samples a second 60 ms are 3 places.
@@ -69,4 +72,15 @@ pub fn more_than_a_second_ahead_begins_anew(alloc: Global) -> Option<Placed>
     };
     playout.put(1000, &[5, 6]);
     Some(playout.put(1046, &[7, 8]))
+}
+
+/// Sources of one SSRC at two addresses have a playout each: of two samples, and of one. Nothing is there of who put nothing.
+pub fn each_address_has_its_own(playouts: &Playouts, address: &Address) -> u32
+    requires rate { playouts.now.rate ≡ 50 }
+    requires had { Has playouts.now (PutOf 21 (owner 1 7).address 1000 (pos 5 ∷ pos 6 ∷ []) ∷ PutOf 21 (owner 2 8).address 1000 (pos 9 ∷ []) ∷ TakeAll 3 ∷ []) }
+    ensures two { address.now ≡ (owner 1 7).address → result ≡ 2 }
+    ensures one { address.now ≡ (owner 2 8).address → result ≡ 1 }
+    ensures none { address.now ≡ (owner 3 9).address → result ≡ 0 }
+{
+    playouts.peek(21, address, &mut [0; 4])
 }

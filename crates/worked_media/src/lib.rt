@@ -1,7 +1,8 @@
-//! Worked calls over the crates of single media streams: each answer is proved from the contract of the call alone.
+//! Worked calls over the crates of single media streams and over the mixer: each answer is proved from the contract of the call alone.
 #![tactic(auto)]
 
 pub mod jitter_buffers;
+pub mod mixed_ticks;
 pub mod mixes;
 pub mod reporting;
 pub mod resends;

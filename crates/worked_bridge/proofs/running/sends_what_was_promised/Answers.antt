@@ -1,7 +1,9 @@
 use Rattle.std.proofs.Common.{◌≡◌, ℕ, true, List, [], ◌∷◌, map, refl, ap, sym, subst, ◌∙◌}
 use Rattle.desk_rows.specs.Desk.{blank, good}
 use Rattle.desk_edit.specs.Calls.{no_calls}
+use Rattle.feedback.specs.Upstream.{Asker}
 use Rattle.intake.specs.Inputs.{input_of}
+use Rattle.intake.specs.inner.Holding.{IntakeOf}
 use Rattle.bridge_core.specs.Sent.{sent_of}
 use Rattle.bridge_core.specs.Events.{Event, Accepts, Sends, Plays, steps_of}
 use Rattle.bridge_core.specs.WholeRuns.{Holds}
@@ -23,6 +25,7 @@ returns-in-Ok-item c =
       takes = c.in-Accepted.ensures.takes;
       good = c.in-Accepted.ensures.good;
       lanes = c.in-Accepted.ensures.answer.2;
+      who = ap (λ (i : IntakeOf). i.asker) c.in-Accepted.ensures.intake;
     } in
     let sends : Sends middle last 2 input sent = record {
       takes = c.in-Ok-item.ensures.takes;
@@ -31,7 +34,9 @@ returns-in-Ok-item c =
       done = c.in-Ok-item.ensures.history.0;
       undone = c.in-Ok-item.ensures.history.1;
       lanes = c.in-Ok-item.ensures.lanes;
+      who = ap (λ (i : IntakeOf). i.asker) c.in-Ok-item.ensures.intake;
     } in
     let plays : Plays first events (sent ∷ []) last = (middle, accepts, (last, sent, [], refl, sends, (refl, refl))) in
-    subst (λ (n : ℕ). Holds n start (steps_of (no_calls start) events) (sent ∷ [])) c.in-Ok.ensures.lanes
-    (c.the_headline.ensures.holds start events (sent ∷ []) first last begins c.in-Ok.ensures.fresh c.in-Ok.ensures.history plays)
+    subst (λ (who : Asker). Holds who 3 start (steps_of (no_calls start) events) (sent ∷ [])) c.in-Ok.ensures.asker
+    (subst (λ (n : ℕ). Holds first.intake.asker n start (steps_of (no_calls start) events) (sent ∷ [])) c.in-Ok.ensures.lanes
+    (c.the_headline.ensures.holds start events (sent ∷ []) first last begins c.in-Ok.ensures.fresh c.in-Ok.ensures.history plays))
