@@ -474,22 +474,28 @@ static size_t random_line(char *at)
     return size;
 }
 
-/* Lines go out as the bridge takes them, and its answers are read meanwhile; a closed connection is opened again. */
+/* Lines go out as the bridge takes them, and its answers are read meanwhile; a closed connection is opened again, and lines
+ * behind a `quit` or too long a line are lost with it. At the end all answers are awaited. */
 static void storm_lines(long count)
 {
     static char text[1 << 16], told[1 << 16];
     long sent = 0, answers = 0, closed = 0;
     size_t size = 0, at = 0;
     time_t moved = time(0);
-    int one = connected();
+    int one = connected(), quits = 0;
     while (1) {
         if (at == size && sent < count) {
             at = size = 0;
             for (int i = 0; i < 8 && sent < count; i++, sent++)
                 size += random_line(text + size);
         }
-        if (at == size && sent == count)
-            break;
+        if (at == size && sent == count) {
+            if (quits)
+                break;
+            at = 0;
+            size = sprintf(text, "quit\n");
+            quits = 1;
+        }
         struct pollfd wait = {.fd = one, .events = POLLIN | POLLOUT};
         poll(&wait, 1, 1000);
         if (time(0) - moved > 20)
@@ -514,6 +520,9 @@ static void storm_lines(long count)
             }
         }
     }
+    for (ssize_t n; (n = recv(one, told, sizeof told, 0)) > 0;)
+        for (ssize_t i = 0; i < n; i++)
+            answers += told[i] == '\n';
     close(one);
     printf("%ld random lines, %ld lines of answers, %ld connections closed by the bridge; VmRSS %ld kB\n", count, answers, closed,
            resident(server));
