@@ -384,7 +384,7 @@ static long waiting(long *lost)
     while (file && fgets(text, sizeof text, file)) {
         unsigned port, rx;
         long drops;
-        if (sscanf(text, " %*d: %*x:%x %*x:%*x %*x %*x:%x %*s %*s %*s %*s %*s %*s %ld", &port, &rx, &drops) == 3 &&
+        if (sscanf(text, " %*d: %*x:%x %*x:%*x %*x %*x:%x %*s %*s %*s %*s %*s %*s %*s %ld", &port, &rx, &drops) == 3 &&
             port == ntohs(udp.sin_port)) {
             queue = rx;
             *lost = drops;
