@@ -13,19 +13,32 @@ pub enum Case {
     Nack,
     /// The same 512 numbers are looked up in the stream alone.
     Find,
-    /// Video packets of so many sources in turn come in.
+    /// Video packets of so many sources in turn come in, and the frames that they make are seen by nobody.
     Datagram,
     /// The same, from an address where there is no member.
     Elsewhere,
+    /// Each of so many members speaks, and a tick sends each the mix of the others.
+    Tick,
+    /// The same sound and tick, where nobody is in the room.
+    Sound,
+    /// The tick alone, where nobody is in the room.
+    Silence,
+    /// 160 samples are encoded.
+    Encode,
+    /// 160 octets are decoded.
+    Decode,
     /// The yardstick: as many octets as 16 receivers of a frame get are copied into fresh vectors,
     /// which are let go together.
     Copy,
     /// The yardstick where each vector is kept until 16 windows are full of later ones.
     Keep,
+    /// The yardstick of datagrams: as many octets as their payloads have, copied into fresh vectors that are
+    /// kept until the frame is whole.
+    Await,
 }
 
-/// A case, how often it is done, on a desk of how many slots or sources, and with how many packets in a
-/// frame.
+/// A case, how often it is done, on a desk of how many slots, sources or members, and with how many packets
+/// in a frame.
 #[derive(Clone, Copy)]
 pub struct Order {
     pub case: Case,
@@ -43,8 +56,14 @@ fn case_of(word: &str) -> Option<Case> {
         "find" => Some(Case::Find),
         "datagram" => Some(Case::Datagram),
         "elsewhere" => Some(Case::Elsewhere),
+        "tick" => Some(Case::Tick),
+        "sound" => Some(Case::Sound),
+        "silence" => Some(Case::Silence),
+        "encode" => Some(Case::Encode),
+        "decode" => Some(Case::Decode),
         "copy" => Some(Case::Copy),
         "keep" => Some(Case::Keep),
+        "await" => Some(Case::Await),
         _ => None,
     }
 }
@@ -73,6 +92,6 @@ pub fn asked(
         _ => None,
     };
     order.ok_or(io::Error::other(
-        "usage: bench frame|nobody|nack|find|datagram|elsewhere|copy|keep TIMES SLOTS PACKETS",
+        "usage: bench frame|nobody|nack|find|datagram|elsewhere|tick|sound|silence|encode|decode|copy|keep|await TIMES SLOTS PACKETS",
     ))
 }

@@ -5,34 +5,38 @@ use crate::items::address_of;
 use crate::room::{add_source, core_with};
 use crate::tally::Tally;
 use bridge_core::{Core, Outcome};
+use desk_rows::Media;
 use std::alloc::Global;
 use std::io;
 
 /// The first source that sends.
 const FIRST_SOURCE: u32 = 1_000;
 
-/// The octets of a datagram: the fixed header and 1,200 of payload.
-const DATAGRAM: usize = 1_212;
+/// The octets of a payload.
+pub const PAYLOAD: usize = 1_200;
 
-/// One packet of a source in so many ends a frame.
-const FRAME: u64 = 64;
+/// The octets of a datagram: the fixed header and a payload.
+const DATAGRAM: usize = 12 + PAYLOAD;
 
 /// A bridge with this many more sources of member 0.
 fn core_of(alloc: Global, sources: u16) -> io::Result<Core> {
     let mut core = core_with(alloc, 1)?;
     for source in 0..sources {
-        add_source(alloc, &mut core, FIRST_SOURCE + u32::from(source))?;
+        let ssrc = FIRST_SOURCE + u32::from(source);
+        add_source(alloc, &mut core, ssrc, 0, Media::Video)?;
     }
     Ok(core)
 }
 
-/// Writes the header of a datagram: the sources take turns, and each counts on.
-fn write_header(octets: &mut [u8; DATAGRAM], time: u64, sources: u16) {
+/// Writes the header of a datagram: the sources take turns, and each counts on. So many packets are a
+/// frame.
+fn write_header(octets: &mut [u8; DATAGRAM], time: u64, sources: u16, packets: u16) {
     let sources = u64::from(sources.max(1));
+    let packets = u64::from(packets.max(1));
     let number = time / sources;
-    let ends = number % FRAME == FRAME - 1;
+    let ends = number % packets == packets - 1;
     let seq = (number % 65_536) as u16;
-    let ts = (number / FRAME % 1_000_000) as u32;
+    let ts = (number / packets % 1_000_000) as u32;
     let [seq_high, seq_low] = seq.to_be_bytes();
     let [ts_0, ts_1, ts_2, ts_3] = (ts * 3_000).to_be_bytes();
     let [ssrc_0, ssrc_1, ssrc_2, ssrc_3] = (FIRST_SOURCE + (time % sources) as u32).to_be_bytes();
@@ -57,7 +61,7 @@ pub fn taken(alloc: Global, order: &Order, from: u16) -> io::Result<Tally> {
     let mut octets = [0xee; DATAGRAM];
     let mut tally = Tally::new();
     for time in 0..order.times {
-        write_header(&mut octets, time, order.slots);
+        write_header(&mut octets, time, order.slots, order.packets);
         let taken = core.datagram(alloc, &address_of(from), time, &octets)?;
         if let Outcome::Accepted { .. } = taken.outcome {
             tally.count(DATAGRAM);

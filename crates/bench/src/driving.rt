@@ -4,10 +4,12 @@ ghost use Rattle.std.specs.Prelude.{◌≡◌, true};
 ghost use Rattle.intake.specs.Inputs.{input_of, is_sized};
 
 use crate::asking::{Case, Order};
-use crate::copying::{copied, kept};
+use crate::coding::{decoded, encoded};
+use crate::copying::{awaited, copied, kept};
 use crate::datagrams::taken;
 use crate::items::{SEEN, UNSEEN, address_of, frame_of, nack_of};
 use crate::room::{RECEIVERS, core_with, last_owner};
+use crate::talking::{heard, silent, unheard};
 use crate::tally::Tally;
 use bridge_core::{Core, Egress, Item};
 use forward_rewrite::{Owner, Stamp, Stream};
@@ -30,8 +32,14 @@ pub fn driven(alloc: Global, order: &Order) -> io::Result<Tally> {
         Case::Find => Ok(finds(alloc, order)?),
         Case::Datagram => taken(alloc, order, 0),
         Case::Elsewhere => taken(alloc, order, NOWHERE),
+        Case::Tick => heard(alloc, order),
+        Case::Sound => unheard(alloc, order),
+        Case::Silence => silent(alloc, order),
+        Case::Encode => Ok(encoded(order.times)),
+        Case::Decode => Ok(decoded(order.times)),
         Case::Copy => Ok(copied(alloc, order.times, copies)?),
         Case::Keep => Ok(kept(alloc, order.times, copies)?),
+        Case::Await => Ok(awaited(alloc, order.times, order.slots, order.packets)?),
     }
 }
 
@@ -47,7 +55,7 @@ fn drive(alloc: Global, core: &mut Core, item: &Item, times: u64) -> io::Result<
 }
 
 /// Gives an item to the lane, and counts what goes out.
-fn give(alloc: Global, core: &mut Core, item: &Item, tally: &mut Tally) -> io::Result<()>
+pub fn give(alloc: Global, core: &mut Core, item: &Item, tally: &mut Tally) -> io::Result<()>
     requires { is_sized (input_of item.now) ≡ true }
 {
     if core.lanes() == 0 {

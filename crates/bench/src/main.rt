@@ -3,11 +3,13 @@
 #![tactic(auto)]
 
 mod asking;
+mod coding;
 mod copying;
 mod datagrams;
 mod driving;
 mod items;
 mod room;
+mod talking;
 mod tally;
 
 use crate::asking::asked;

@@ -1,4 +1,4 @@
-//! The desk that frames are sent by: one room, whose member 0 sends and whose others have slots.
+//! A desk with one room, and the one that frames are sent by: its member 0 sends, and its others have slots.
 
 ghost use Rattle.std.specs.Prelude.{◌<◌};
 
@@ -76,7 +76,7 @@ fn call(alloc: Global, core: &mut Core, command: Command) -> io::Result<()> {
     }
 }
 
-fn add_member(alloc: Global, core: &mut Core, member: u16) -> io::Result<()> {
+pub fn add_member(alloc: Global, core: &mut Core, member: u16) -> io::Result<()> {
     let row = Member {
         member: u32::from(member),
         room: 1,
@@ -89,11 +89,17 @@ fn add_member(alloc: Global, core: &mut Core, member: u16) -> io::Result<()> {
     call(alloc, core, Command::AddMember(row))
 }
 
-pub fn add_source(alloc: Global, core: &mut Core, ssrc: u32) -> io::Result<()> {
+pub fn add_source(
+    alloc: Global,
+    core: &mut Core,
+    ssrc: u32,
+    member: u16,
+    media: Media,
+) -> io::Result<()> {
     let row = Source {
         ssrc,
-        member: 0,
-        media: Media::Video,
+        member: u32::from(member),
+        media,
     };
     call(alloc, core, Command::AddSource(row))
 }
@@ -114,9 +120,8 @@ fn add_slot(alloc: Global, core: &mut Core, slots: u16, slot: u16) -> io::Result
     call(alloc, core, Command::Subscribe(Sub { out_ssrc, source }))
 }
 
-/// A bridge with one lane and this many slots, of which 16 have the source that is seen, all others
-/// another one, and none the one that is not seen.
-pub fn core_with(alloc: Global, slots: u16) -> io::Result<Core> {
+/// A bridge with one lane and an empty room.
+pub fn empty_core(alloc: Global) -> io::Result<Core> {
     let settings = Settings {
         bridge_ssrc: 1,
         cname: Bytes::copy_from_slice(alloc, b"bridge")?,
@@ -125,11 +130,18 @@ pub fn core_with(alloc: Global, slots: u16) -> io::Result<Core> {
         return Err(io::Error::other("no core is made"));
     };
     call(alloc, &mut core, Command::AddRoom(Room { room: 1 }))?;
+    Ok(core)
+}
+
+/// A bridge with one lane and this many slots, of which 16 have the source that is seen, all others
+/// another one, and none the one that is not seen.
+pub fn core_with(alloc: Global, slots: u16) -> io::Result<Core> {
+    let mut core = empty_core(alloc)?;
     for member in 0..members(slots).saturating_add(1) {
         add_member(alloc, &mut core, member)?;
     }
     for source in [SEEN, ELSEWHERE, UNSEEN] {
-        add_source(alloc, &mut core, source)?;
+        add_source(alloc, &mut core, source, 0, Media::Video)?;
     }
     for slot in 0..slots {
         add_slot(alloc, &mut core, slots, slot)?;
