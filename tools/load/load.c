@@ -4,7 +4,8 @@
  * /tmp/load BINARY fan SECONDS            1 video source to 16 receivers, 1,000 packets/s in frames of 4
  * /tmp/load BINARY room SECONDS           64 members with PCMU of 160 samples each 20 ms
  * /tmp/load BINARY both SECONDS           both together, with the resident memory each minute
- * /tmp/load BINARY storm DATAGRAMS LINES  random datagrams and operator lines; then a call
+ * /tmp/load BINARY storm DATAGRAMS LINES  random datagrams and operator lines; then a call. Lines
+ *                                         behind a `quit` or too long a line go with their connection
  *
  * `fan` and `room` run the bridge and then the floor, each for SECONDS. Processor time is user and system time of
  * /proc/PID/stat. The status is 0 where the bridge answered to its end.
