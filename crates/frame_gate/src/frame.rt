@@ -5,7 +5,7 @@ ghost use Rattle.std.specs.List.{All};
 ghost use Rattle.frame_gate.specs.Frame.{most_packets, highest_pt, WholeFrame, fault_of, numbers_rise, rise_from, marker_is_early, lacks_payload, has_bad_kind};
 
 use bytes::Bytes;
-use std::alloc::{Allocator, Global};
+use std::alloc::{AllocError, Allocator, Global};
 use std::marker::Model;
 use thiserror::Error;
 
@@ -32,6 +32,20 @@ impl<A: Allocator + Copy> Model for FramePacket<A> {
     ghost Value = { SourcePacket };
 
     ghost view = { λ p. record { ext = p.ext; marker = p.marker; pt = p.pt; payload = p.payload } };
+}
+
+impl<A: Allocator + Copy> FramePacket<A> {
+    /// The same packet once more. The payload is shared, so that its octets aren't copied.
+    pub fn try_clone(&self) -> Result<Self, AllocError>
+        ensures { IfOk result (λ packet. packet ≡ self.now) }
+    {
+        Ok(Self {
+            ext: self.ext,
+            marker: self.marker,
+            pt: self.pt,
+            payload: self.payload.clone()?,
+        })
+    }
 }
 
 /// A whole video frame: packets of one timestamp.
@@ -90,6 +104,20 @@ impl<A: Allocator + Copy> Frame<A> {
             return Err(fault);
         }
         Ok(Self { ts, packets })
+    }
+
+    /// The same frame once more. The payloads are shared.
+    pub fn try_clone(&self, alloc: A) -> Result<Self, AllocError>
+        ensures { IfOk result (λ frame. frame ≡ self.now) }
+    {
+        let mut packets = Vec::with_capacity(alloc, self.packets.len())?;
+        for packet in &self.packets {
+            packets.push(packet.try_clone()?)?;
+        }
+        Ok(Self {
+            ts: self.ts,
+            packets,
+        })
     }
 
     /// The frame's packets.

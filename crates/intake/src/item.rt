@@ -1,9 +1,12 @@
 //! What a lane is given.
 
+ghost use Rattle.std.specs.Prelude.{◌≡◌, IfOk};
+ghost use Rattle.intake.specs.Inputs.{input_of};
+
 use forward_rewrite::MediaFrame;
 use rtcp_codec::ReportBlock;
 use rtp_codec::Address;
-use std::alloc::{Allocator, Global};
+use std::alloc::{AllocError, Allocator, Global};
 
 /// An input event of the lanes.
 #[derive(Drop)]
@@ -54,4 +57,54 @@ pub enum Item<A: Allocator + Copy = Global> {
         /// Nanoseconds since 1970.
         moment: u64,
     },
+}
+
+impl<A: Allocator + Copy> Item<A> {
+    /// The same item once more, as each lane takes one of its own. A frame's payloads are shared; samples and numbers are copied.
+    pub fn try_clone(&self, alloc: A) -> Result<Self, AllocError>
+        ensures { IfOk result (λ item. input_of item ≡ input_of self.now) }
+    {
+        match self {
+            Item::Frame(frame) => Ok(Item::Frame(frame.try_clone(alloc)?)),
+            Item::Audio {
+                ssrc,
+                address,
+                ts,
+                samples,
+            } => Ok(Item::Audio {
+                ssrc: *ssrc,
+                address: *address,
+                ts: *ts,
+                samples: copied(alloc, samples)?,
+            }),
+            Item::Tick { moment } => Ok(Item::Tick { moment: *moment }),
+            Item::Nack {
+                from,
+                out_ssrc,
+                numbers,
+            } => Ok(Item::Nack {
+                from: *from,
+                out_ssrc: *out_ssrc,
+                numbers: copied(alloc, numbers)?,
+            }),
+            Item::Block { from, block } => Ok(Item::Block {
+                from: *from,
+                block: *block,
+            }),
+            Item::Pli { from, out_ssrc } => Ok(Item::Pli {
+                from: *from,
+                out_ssrc: *out_ssrc,
+            }),
+            Item::Report { moment } => Ok(Item::Report { moment: *moment }),
+        }
+    }
+}
+
+/// The same numbers in a vector of their own.
+fn copied<T: Copy, A: Allocator>(alloc: A, numbers: &[T]) -> Result<Vec<T, A>, AllocError>
+    ensures { IfOk result (λ copy. copy.items ≡ numbers.now) }
+{
+    let mut copy = Vec::with_capacity(alloc, numbers.len())?;
+    copy.extend_from_slice(numbers)?;
+    Ok(copy)
 }
