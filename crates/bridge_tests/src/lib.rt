@@ -3,6 +3,8 @@
 #![tactic(auto)]
 
 #[cfg(test)]
+mod copying;
+#[cfg(test)]
 mod gating;
 #[cfg(test)]
 mod lanes;
