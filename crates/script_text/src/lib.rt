@@ -38,3 +38,5 @@ pub use self::running::{output, run};
 pub use self::showing::print_rows;
 pub use self::sink::{Portion, Sink, Writer};
 pub use self::source::{Piece, Reader, Source};
+pub use self::spelling::parse_address;
+pub use self::words::cut;

@@ -24,9 +24,10 @@ fn field(text: &[u8], octet: u8) -> Option<(u8, &[u8])>
     }
 }
 
-/// The address that a word spells.
+/// The address that a word spells: four numbers up to 255 with dots between, a colon, and a port up to 65535, all decimal without leading
+/// zeros.
 #[tactic(auto, unfolding(crate::specs::Addresses::address_of))]
-pub(crate) fn parse_address(word: &[u8]) -> Option<Address>
+pub fn parse_address(word: &[u8]) -> Option<Address>
     ensures { result ≡ address_of word.now }
 {
     let Some((a, rest)) = field(word, b'.') else {

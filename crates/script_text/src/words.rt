@@ -15,7 +15,7 @@ fn place_of(text: &[u8], octet: u8) -> Option<usize>
 }
 
 /// What stands before and behind the first such octet.
-pub(crate) fn cut(text: &[u8], octet: u8) -> Option<(&[u8], &[u8])>
+pub fn cut(text: &[u8], octet: u8) -> Option<(&[u8], &[u8])>
     ensures { option_map (λ x. (x.0.now, x.1.now)) result ≡ cut_of octet text.now }
 {
     match place_of(text, octet) {

@@ -1,6 +1,5 @@
 pub mod CutLemmas
 pub mod SendLemmas
 pub mod SettingsLemmas
-pub mod SpellingLemmas
 pub mod WholeLemmas
 pub mod WireLemmas

@@ -9,6 +9,5 @@ pub mod Seats
 pub mod Settings
 pub mod SettingsTold
 pub mod SettingValues
-pub mod Spelling
 pub mod inner
 pub mod laws

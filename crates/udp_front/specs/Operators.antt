@@ -8,10 +8,10 @@ use Rattle.bridge_core.specs.Steps.{CoreOf}
 use Rattle.bridge_core.specs.Calls.{Answers}
 use Rattle.script_text.specs.declared.fault.Fault.{Fault}
 use Rattle.script_text.specs.declared.fault.Fault.TheVariants.{BadByte, ExtraWord}
+use Rattle.script_text.specs.Words.{cut_of}
 use Rattle.script_text.specs.Calls.{call_of, spoken_words}
 use Rattle.script_text.specs.RowLines.{show_text}
 use Rattle.script_text.specs.Text.{fault_text, reply_text}
-use Rattle.udp_front.specs.Spelling.{cut_of}
 use Rattle.udp_front.specs.declared.asking.Ask.{Ask}
 use Rattle.udp_front.specs.declared.asking.Ask.TheVariants as asks
 use Rattle.udp_front.specs.declared.answering.Next.{Next}

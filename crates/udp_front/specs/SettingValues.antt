@@ -5,7 +5,7 @@ use Rattle.std.specs.Option.{option_and_then}
 use Rattle.toml.specs.Data.{Data, integer, as_str}
 use Rattle.rtp_codec.specs.declared.address.Address.{Address}
 use Rattle.intake.specs.Names.{is_name}
-use Rattle.udp_front.specs.Spelling.{address_of}
+use Rattle.script_text.specs.Addresses.{address_of}
 
 -- the address that a text spells
 abbrev pub address_in : Data → Option Address

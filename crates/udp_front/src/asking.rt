@@ -1,14 +1,12 @@
 //! What an operator's line asks for.
 
 ghost use Rattle.std.specs.Prelude.{◌≡◌, ◌≢◌, Err};
-ghost use Rattle.script_text.specs.Words.{Gives};
+ghost use Rattle.script_text.specs.Words.{Gives, cut_of};
 ghost use Rattle.udp_front.specs.Operators.{alone_of, asked_call, asked_in, asked_of, is_printed};
 ghost use Rattle.script_text.specs.Calls.{call_of, spoken_words};
-ghost use Rattle.udp_front.specs.Spelling.{cut_of};
 
-use crate::spelling::cut;
 use desk_edit::Call;
-use script_text::{Fault, ParseFault, parse_desk};
+use script_text::{Fault, ParseFault, cut, parse_desk};
 
 /// What a line of an operator asks for.
 #[derive(Clone, Copy)]

@@ -22,7 +22,6 @@ mod sending;
 mod serving;
 mod setup;
 mod socket;
-mod spelling;
 mod values;
 mod wire;
 

@@ -11,8 +11,8 @@ ghost use Rattle.udp_front.specs.SettingsTold.{Gives};
 
 use crate::fault::SettingsFault;
 use crate::setup::Key;
-use crate::spelling::parse_address;
 use rtp_codec::Address;
+use script_text::parse_address;
 use toml::{Table, Value};
 
 /// The address that a text value spells.
