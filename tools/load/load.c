@@ -4,8 +4,7 @@
  * /tmp/load BINARY fan SECONDS            1 video source to 16 receivers, 1,000 packets/s in frames of 4
  * /tmp/load BINARY room SECONDS           64 members with PCMU of 160 samples each 20 ms
  * /tmp/load BINARY both SECONDS           both together, with the resident memory each minute
- * /tmp/load BINARY storm DATAGRAMS LINES  random datagrams and operator lines; then a call. Lines
- *                                         behind a `quit` or too long a line go with their connection
+ * /tmp/load BINARY storm DATAGRAMS LINES  random datagrams and operator lines; then a call
  *
  * `fan` and `room` run the bridge and then the floor, each for SECONDS. Processor time is user and system time of
  * /proc/PID/stat. The status is 0 where the bridge answered to its end.
@@ -475,57 +474,70 @@ static size_t random_line(char *at)
     return size;
 }
 
-/* Lines go out as the bridge takes them, and its answers are read meanwhile; a closed connection is opened again, and lines
- * behind a `quit` or too long a line are lost with it. At the end all answers are awaited. */
+/* The end of the first line from here on that ends its connection, a `quit` or too long a one, or else of all. */
+static size_t reach(const char *text, size_t at, size_t size, int *ends)
+{
+    *ends = 0;
+    while (at < size && !*ends) {
+        const char *line = text + at;
+        size_t length = (const char *)memchr(line, '\n', size - at) - line;
+        *ends = length > 4096 || (length == 4 && !memcmp(line, "quit", 4)) || (length == 5 && !memcmp(line, "quit\r", 5));
+        at += length + 1;
+    }
+    return at;
+}
+
+/* Lines go out as the bridge takes them, and its answers are read meanwhile. Behind a line that ends its connection the bridge
+ * closes it, and no other; what follows goes out on a new one. */
 static void storm_lines(long count)
 {
     static char text[1 << 16], told[1 << 16];
     long sent = 0, answers = 0, closed = 0;
-    size_t size = 0, at = 0;
+    size_t size = 0, at = 0, until = 0;
     time_t moved = time(0);
-    int one = connected(), quits = 0;
+    int one = connected(), ends = 0, last = 0;
     while (1) {
-        if (at == size && sent < count) {
-            at = size = 0;
-            for (int i = 0; i < 8 && sent < count; i++, sent++)
-                size += random_line(text + size);
+        if (at == until && !ends) {
+            if (at == size) {
+                at = size = 0;
+                for (int i = 0; i < 8 && sent < count; i++, sent++)
+                    size += random_line(text + size);
+                last = size == 0;
+                if (last)
+                    size = sprintf(text, "quit\n");
+            }
+            until = reach(text, at, size, &ends);
         }
-        if (at == size && sent == count) {
-            if (quits)
-                break;
-            at = 0;
-            size = sprintf(text, "quit\n");
-            quits = 1;
-        }
-        struct pollfd wait = {.fd = one, .events = POLLIN | POLLOUT};
+        struct pollfd wait = {.fd = one, .events = at < until ? POLLIN | POLLOUT : POLLIN};
         poll(&wait, 1, 1000);
         if (time(0) - moved > 20)
             die("the desk stands still");
         if (wait.revents & (POLLIN | POLLHUP | POLLERR)) {
             ssize_t n = recv(one, told, sizeof told, MSG_DONTWAIT);
+            moved = time(0);
             if (n > 0)
                 for (ssize_t i = 0; i < n; i++)
                     answers += told[i] == '\n';
             else if (n == 0 || errno != EAGAIN) {
+                if (!ends)
+                    die("the bridge closed a connection");
                 close(one);
-                one = connected();
                 closed++;
-                at = size;
+                if (last)
+                    break;
+                one = connected();
+                at = until;
+                ends = 0;
             }
-            moved = time(0);
         } else if (wait.revents & POLLOUT) {
-            ssize_t n = send(one, text + at, size - at, MSG_DONTWAIT | MSG_NOSIGNAL);
+            ssize_t n = send(one, text + at, until - at, MSG_DONTWAIT | MSG_NOSIGNAL);
             if (n > 0) {
                 at += n;
                 moved = time(0);
             }
         }
     }
-    for (ssize_t n; (n = recv(one, told, sizeof told, 0)) > 0;)
-        for (ssize_t i = 0; i < n; i++)
-            answers += told[i] == '\n';
-    close(one);
-    printf("%ld random lines, %ld lines of answers, %ld connections closed by the bridge; VmRSS %ld kB\n", count, answers, closed,
+    printf("%ld random lines, %ld lines of answers, %ld connections ended by a line; VmRSS %ld kB\n", count, answers, closed,
            resident(server));
     fflush(stdout);
 }
