@@ -24,6 +24,7 @@ import time
 
 NEEDED = ("gst-launch-1.0", "ffmpeg", "tshark")
 RATE = 8000
+WIDTH, HEIGHT = 320, 240
 failed = 0
 
 
@@ -150,17 +151,83 @@ def ffmpeg_tone(hertz, relay, stream):
 
 
 def gst_video(relay, stream):
-    return gst("videotestsrc is-live=true ! video/x-raw,width=320,height=240,framerate=25/1 ! vp8enc deadline=1 keyframe-max-dist=25 !",
+    return gst(f"videotestsrc is-live=true ! video/x-raw,width={WIDTH},height={HEIGHT},framerate=25/1 ! vp8enc deadline=1 keyframe-max-dist=25 !",
                f"rtpvp8pay pt=100 ssrc={stream} mtu=1100 ! udpsink host=127.0.0.1 port={relay.inner_port}")
 
 
 def ffmpeg_video(relay, stream):
-    return ["ffmpeg", "-v", "error", "-re", "-f", "lavfi", "-i", "testsrc=size=320x240:rate=25", "-c:v", "libvpx", "-deadline", "realtime", "-g", "25",
+    return ["ffmpeg", "-v", "error", "-re", "-f", "lavfi", "-i", f"testsrc=size={WIDTH}x{HEIGHT}:rate=25", "-c:v", "libvpx", "-deadline", "realtime", "-g", "25",
             "-payload_type", "100", "-ssrc", str(stream), "-f", "rtp", f"rtp://127.0.0.1:{relay.inner_port}?rtcpport={relay.inner_port}&pkt_size=1100"]
 
 
 def contributors(packets):
     return {struct.unpack(">I", p[12:16])[0] for p in packets if p[0] & 15}
+
+
+def gst_hears(port, heard):
+    caps = "application/x-rtp,media=audio,encoding-name=L16,clock-rate=8000,channels=1,payload=97"
+    return gst(f"-e udpsrc port={port} caps={caps} ! rtpjitterbuffer ! rtpL16depay ! audioconvert ! wavenc ! filesink location={heard}")
+
+
+def gst_sees(port, seen):
+    caps = "application/x-rtp,media=video,encoding-name=VP8,clock-rate=90000,payload=100"
+    return gst(f"-e udpsrc port={port} caps={caps} ! rtpjitterbuffer ! rtpvp8depay ! vp8dec ! videoconvert !",
+               f"video/x-raw,format=GRAY8,width={WIDTH},height={HEIGHT} ! filesink location={seen}")
+
+
+def ffmpeg_hears(port, heard, where):
+    sdp = where / "mix.sdp"
+    sdp.write_text(f"v=0\no=- 0 0 IN IP4 127.0.0.1\ns=mix\nc=IN IP4 127.0.0.1\nt=0 0\nm=audio {port} RTP/AVP 0\n")
+    return ["ffmpeg", "-v", "error", "-protocol_whitelist", "file,udp,rtp", "-i", str(sdp), "-c:a", "pcm_s16le", "-f", "s16le", str(heard)]
+
+
+def free_port():
+    """A port that nobody has, and nobody the next one, where a program wants to hear reports."""
+    while True:
+        with udp() as one, socket.socket(socket.AF_INET, socket.SOCK_DGRAM) as next_one:
+            port = one.getsockname()[1]
+            try:
+                next_one.bind(("127.0.0.1", port + 1))
+            except OSError:
+                continue
+            if port % 2 == 0:
+                return port
+
+
+def are_tones(sound, own, others):
+    """Whether the others' tones are heard and the own one isn't, and how strong each is."""
+    tones = {hertz: round(power(sound, hertz), 4) for hertz in (own, *others)}
+    return tones[own] < 0.001 and all(tones[hertz] > 0.01 for hertz in others), tones
+
+
+def checks_tell(where):
+    """That the checks below refuse what is wrong: a gap, a number twice, the own tone, a tone that is missing, a report cut off."""
+    packets = [struct.pack(">BBHII", 0x80, 0, n % 65536, 160 * n, 9001) + b"\xff" * 160 for n in range(65530, 65540)]
+    wave = {h: [8000 * math.sin(2 * math.pi * h * n / RATE) for n in range(RATE)] for h in (440, 1000, 2000)}
+    mixed = [a + b for a, b in zip(wave[1000], wave[2000])]
+    numbers = no_gap(packets) and not no_gap(packets[:4] + packets[5:]) and not no_gap(packets[:4] + packets[3:])
+    tones = are_tones(mixed, 440, (1000, 2000))[0] and not are_tones(mixed, 1000, (440, 2000))[0] and not are_tones(wave[1000], 440, (1000, 2000))[0]
+    capture = str(where / "wrong.pcap")
+    with udp() as one:
+        port = one.getsockname()[1]
+        shark = listening(port, capture)
+        one.sendto(packets[0], ("127.0.0.1", port))
+        one.sendto(bytes.fromhex("80c900080000000981ca"), ("127.0.0.1", port))
+        time.sleep(1)
+        stopped(shark)
+    count, wrong = dissected(capture, port)
+    check(numbers and tones and count == 2 and len(wrong) == 1, "what is wrong is told", (numbers, tones, count, wrong))
+
+
+def listening(port, capture):
+    shark = subprocess.Popen(["tshark", "-q", "-i", "lo", "-f", f"udp port {port}", "-w", capture], stderr=subprocess.DEVNULL)
+    time.sleep(2)
+    return shark
+
+
+def stopped(program):
+    program.send_signal(signal.SIGINT)
+    program.wait(timeout=10)
 
 
 def nack_answered(relay):
@@ -189,21 +256,17 @@ def held(bridge_at, desk_at, running, where):
     desk = Desk(desk_at)
     p, q, r = (Relay(bridge_at) for _ in range(3))
     capture = str(where / "call.pcap")
-    running.append(subprocess.Popen(["tshark", "-q", "-i", "lo", "-f", f"udp port {bridge_at[1]}", "-w", capture], stderr=subprocess.DEVNULL))
-    time.sleep(2)
+    running.append(listening(bridge_at[1], capture))
     lines = ["add-room 1", f"add-member 10 1 127.0.0.1:{p.port} pcmu 9001 65500 0", f"add-member 11 1 127.0.0.1:{q.port} pcmu 9002 0 0",
              f"add-member 12 1 127.0.0.1:{r.port} l16 9003 0 0", "add-source 201 10 audio", "add-source 202 11 audio", "add-source 203 12 audio",
              "add-source 101 10 video", "add-source 102 11 video", "add-slot 501 12 0 65535 1000", "pin 1 101"]
     told = [desk.ask(line) for line in lines]
     check(all(t.startswith("ok") for t in told), "the desk is set", told)
-    heard = where / "heard.wav"
-    with udp() as one:
-        r_port = one.getsockname()[1]
-    r.to[9003] = r_port
-    caps = "application/x-rtp,media=audio,encoding-name=L16,clock-rate=8000,channels=1,payload=97"
-    running.append(subprocess.Popen(gst(f"-e udpsrc port={r_port} caps={caps} ! rtpjitterbuffer ! rtpL16depay ! audioconvert ! wavenc ! "
-                                        f"filesink location={heard}")))
-    receiver = running[-1]
+    heard, heard_by_ffmpeg, seen = where / "heard.wav", where / "heard.raw", where / "seen.raw"
+    r.to[9003], r.to[501], q.to[9002] = free_port(), free_port(), free_port()
+    hearing = [subprocess.Popen(words, stdin=subprocess.DEVNULL) for words in (
+        gst_hears(r.to[9003], heard), gst_sees(r.to[501], seen), ffmpeg_hears(q.to[9002], heard_by_ffmpeg, where))]
+    running += hearing
     for words in (gst_tone(440, p, 201, "pcmu"), ffmpeg_tone(1000, q, 202), gst_tone(2000, r, 203, "l16"), gst_video(p, 101), ffmpeg_video(q, 102)):
         running.append(subprocess.Popen(words, stdout=subprocess.DEVNULL))
     time.sleep(6)
@@ -224,15 +287,21 @@ def held(bridge_at, desk_at, running, where):
                                           (q, 9002, 1000, (440, 2000), "PCMU to ffmpeg's member"), (r, 9003, 2000, (440, 1000), "L16")):
         mixes = relay.media(out)
         check(no_gap(mixes), f"{what}: numbers have no gap", [number(m) for m in mixes[:5]])
-        sound = samples(mixes[-100:])
-        tones = {h: round(power(sound, h), 4) for h in (440, 1000, 2000)}
-        check(tones[own] < 0.001 and all(tones[h] > 0.01 for h in others), f"{what}: the others' tones and not its own", tones)
+        good, tones = are_tones(samples(mixes[-100:]), own, others)
+        check(good, f"{what}: the others' tones and not its own", tones)
     check(any(is_rtcp(d) and d[1] == 200 for d in r.got) and any(is_rtcp(d) for d in p.got), "reports come")
-    receiver.send_signal(signal.SIGINT)
-    receiver.wait(timeout=10)
-    check(heard.exists() and heard.stat().st_size > 16000, "GStreamer decodes the L16 mix")
-    running[0].send_signal(signal.SIGINT)
-    running[0].wait(timeout=10)
+    for program in hearing:
+        stopped(program)
+    octets = heard.read_bytes()[44:] if heard.exists() else b""
+    good, tones = are_tones([v for v, in struct.iter_unpack("<h", octets[-32000:])], 2000, (440, 1000))
+    check(good, "GStreamer hears the L16 mix", (len(octets), tones))
+    octets = heard_by_ffmpeg.read_bytes() if heard_by_ffmpeg.exists() else b""
+    good, tones = are_tones([v for v, in struct.iter_unpack("<h", octets[-32000:])], 1000, (440, 2000))
+    check(good, "ffmpeg hears the PCMU mix", (len(octets), tones))
+    octets = seen.read_bytes() if seen.exists() else b""
+    pictures = {octets[at:at + WIDTH] for at in range(0, len(octets), WIDTH * HEIGHT)}
+    check(len(octets) > 150 * WIDTH * HEIGHT and len(pictures) > 2, "GStreamer sees both videos", (len(octets), len(pictures)))
+    stopped(running[0])
     count, wrong = dissected(capture, bridge_at[1])
     check(count > 100 and not wrong, f"tshark dissects {count} datagrams of the bridge without a complaint", wrong[:3])
     desk.ask("quit")
@@ -246,8 +315,10 @@ def main():
         sys.exit(f"try_peers: missing programs: {' '.join(missing)}")
     bridge, bridge_at, desk_at = started(sys.argv[1])
     running = []
+    where = pathlib.Path(tempfile.mkdtemp())
     try:
-        held(bridge_at, desk_at, running, pathlib.Path(tempfile.mkdtemp()))
+        checks_tell(where)
+        held(bridge_at, desk_at, running, where)
         check(bridge.poll() is None, "the bridge still runs")
     finally:
         for one in [*running, bridge]:
