@@ -181,6 +181,16 @@ def ffmpeg_hears(port, heard, where):
     return ["ffmpeg", "-v", "error", "-protocol_whitelist", "file,udp,rtp", "-i", str(sdp), "-c:a", "pcm_s16le", "-f", "s16le", str(heard)]
 
 
+def turns_of(pictures):
+    """How often one video follows another: they differ in how bright the first line of a picture is."""
+    lines = [sum(pictures[at:at + WIDTH]) / WIDTH for at in range(0, len(pictures), WIDTH * HEIGHT)]
+    if not lines:
+        return 0
+    middle = (min(lines) + max(lines)) / 2 if max(lines) - min(lines) > 5 else 0
+    bright = [line > middle for line in lines]
+    return 1 + sum(a != b for a, b in zip(bright, bright[1:]))
+
+
 def free_port():
     """A port that nobody has, and nobody the next one, where a program wants to hear reports."""
     while True:
@@ -299,8 +309,8 @@ def held(bridge_at, desk_at, running, where):
     good, tones = are_tones([v for v, in struct.iter_unpack("<h", octets[-32000:])], 1000, (440, 2000))
     check(good, "ffmpeg hears the PCMU mix", (len(octets), tones))
     octets = seen.read_bytes() if seen.exists() else b""
-    pictures = {octets[at:at + WIDTH] for at in range(0, len(octets), WIDTH * HEIGHT)}
-    check(len(octets) > 150 * WIDTH * HEIGHT and len(pictures) > 2, "GStreamer sees both videos", (len(octets), len(pictures)))
+    shown = turns_of(octets)
+    check(len(octets) > 150 * WIDTH * HEIGHT and shown == 3, "GStreamer sees the one video, the other, and the one again", (len(octets), shown))
     stopped(running[0])
     count, wrong = dissected(capture, bridge_at[1])
     check(count > 100 and not wrong, f"tshark dissects {count} datagrams of the bridge without a complaint", wrong[:3])
