@@ -3,8 +3,6 @@
 #![tactic(auto)]
 
 #[cfg(test)]
-mod copying;
-#[cfg(test)]
 mod gating;
 #[cfg(test)]
 mod lanes;

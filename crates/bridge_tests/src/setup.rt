@@ -84,22 +84,6 @@ pub fn frame_of<A: Allocator + Copy>(alloc: A, count: u16) -> Result<Item<A>, Fa
     }))
 }
 
-/// An audio packet of the source 102: 20 ms.
-pub fn sound<A: Allocator + Copy>(alloc: A) -> Result<Item<A>, Fail>
-    ensures { IfOk result (λ item. is_sized (input_of item) ≡ true) }
-{
-    let samples = vec![in alloc; 1_000; 160]?;
-    if samples.is_empty() || samples.len() > 1_600 {
-        return Err(Fail::from("no sound"));
-    }
-    Ok(Item::Audio {
-        ssrc: 102,
-        address: at(1),
-        ts: 0,
-        samples,
-    })
-}
-
 /// The address 10.0.0.N:5000.
 pub fn at(n: u8) -> Address {
     Address {

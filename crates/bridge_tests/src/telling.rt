@@ -1,12 +1,31 @@
 //! Ticks, reports and what receivers tell, while memory is refused.
 
+ghost use Rattle.std.specs.Prelude.{◌≡◌, true, IfOk};
+ghost use Rattle.intake.specs.Inputs.{input_of, is_sized};
+
 use crate::memory::{Sent, hold, sent_at_last};
-use crate::setup::{at, call, core, frame, sound};
+use crate::setup::{at, call, core, frame};
 use bridge_core::{Core, Item};
 use linked_list_allocator::LocalHeap;
 use rtcp_codec::ReportBlock;
-use std::alloc::Global;
+use std::alloc::{Allocator, Global};
 use std::test::Fail;
+
+/// An audio packet of the source 102: 20 ms.
+fn sound<A: Allocator + Copy>(alloc: A) -> Result<Item<A>, Fail>
+    ensures { IfOk result (λ item. is_sized (input_of item) ≡ true) }
+{
+    let samples = vec![in alloc; 1_000; 160]?;
+    if samples.is_empty() || samples.len() > 1_600 {
+        return Err(Fail::from("no sound"));
+    }
+    Ok(Item::Audio {
+        ssrc: 102,
+        address: at(1),
+        ts: 0,
+        samples,
+    })
+}
 
 /// A block about stream 501: its first packet came.
 fn block() -> ReportBlock {
