@@ -47,34 +47,3 @@ fn a_frame_goes_to_the_other_member(rt: HostRuntime) -> Result<(), Fail> {
     }
     Ok(())
 }
-
-/// Of two members with a slot each one is gone, and the other gets its whole frame.
-#[test]
-fn a_receiver_is_gone(rt: HostRuntime) -> Result<(), Fail> {
-    let (mut serving, listening) = bridge(&rt, 1)?;
-    let desk = operator(&rt, listening)?;
-    let one = member(&rt)?;
-    let gone = member(&rt)?;
-    let other = member(&rt)?;
-    let (here, nowhere, there) = (port(&one)?, port(&gone)?, port(&other)?);
-    let lines = format!(in rt.alloc();
-        "add-room 1\nadd-member 10 1 127.0.0.1:{here} pcmu 9001 0 0\nadd-member 12 1 127.0.0.1:{nowhere} pcmu 9003 0 0\nadd-member 11 1 127.0.0.1:{there} pcmu 9002 0 0\nadd-source 101 10 video\nadd-slot 502 12 0 1 0\nadd-slot 501 11 0 65535 1000\nsubscribe 502 101\nsubscribe 501 101\n"
-    )?;
-    ask(
-        &rt,
-        &mut serving,
-        &desk,
-        lines.as_str(),
-        "ok 1\nok 2\nok 3\nok 4\nok 5\nok 6\nok 7\nok 8\nok 9\n",
-    )?;
-    drop(gone);
-    let to = socket_address(listening.udp);
-    for octets in PACKETS {
-        one.send_to(octets, to)?;
-    }
-    for wanted in FRAME {
-        let got = received(&rt, &mut serving, &other)?;
-        assert!(rt; got.as_slice() == wanted.as_slice());
-    }
-    ask(&rt, &mut serving, &desk, "remove-member 12\n", "ok 10\n")
-}

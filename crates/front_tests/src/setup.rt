@@ -57,14 +57,6 @@ pub fn round(rt: &impl Clock, serving: &mut Serving) -> Result<bool, Fail> {
     serving.round(rt).map_err(|_| Fail::from("a round failed"))
 }
 
-/// Goes on for some rounds, so that what has been sent is taken.
-pub fn rounds(rt: &impl Clock, serving: &mut Serving) -> Result<(), Fail> {
-    for _ in 0..10 {
-        round(rt, serving)?;
-    }
-    Ok(())
-}
-
 /// What an operator has been told once so many octets have come, or the connection has ended.
 pub fn told<R: Clock + AllocGlobal>(
     rt: &R,
