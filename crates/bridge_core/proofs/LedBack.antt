@@ -23,10 +23,10 @@ use Rattle.bridge_core.specs.Named.{Kind, firsts}
 use Rattle.bridge_core.specs.Headline.{LeadsBack}
 use Rattle.bridge_core.proofs.OnStreams.{all_or_none}
 
-Contains-map : {X Y : Type 0} (f : X → Y) (xs : List X) (x : X) → Contains xs x → Contains (map f xs) (f x)
+pub Contains-map : {X Y : Type 0} (f : X → Y) (xs : List X) (x : X) → Contains xs x → Contains (map f xs) (f x)
 Contains-map f xs x h = (h.0, omega (arith, h.1, length-map xs f), get_or-map f xs h.0 x (f x) h.1 ∙ ap f h.2)
 
-Contains-drop : {X : Type 0} (n : ℕ) (xs : List X) (x : X) → Contains (drop n xs) x → Contains xs x
+pub Contains-drop : {X : Type 0} (n : ℕ) (xs : List X) (x : X) → Contains (drop n xs) x → Contains xs x
 Contains-drop n xs x h = subst (λ ys. Contains ys x) (take-append-drop n xs) (Contains-append_right _ (drop n xs) x h)
 
 -- what is found in the window of a stream is one of its packets

@@ -1,5 +1,5 @@
 -- Of what goes by RTCP, a lane's share.
-use Rattle.std.proofs.Common.{◌≡◌, ℕ, true, false, cond, List, [], ◌∷◌, ◌++◌, Option, Some, None, refl, sym, ap, ◌∙◌}
+use Rattle.std.proofs.Common.{◌≡◌, ℕ, true, false, cond, List, [], ◌∷◌, ◌++◌, Option, Some, None, refl, ap, ◌∙◌}
 use Rattle.std.specs.Prelude.{filter}
 use Rattle.std.specs.List.{flat_map, AllByRecursion}
 use Rattle.std.proofs.lemmas.List.Elements.{filter-append}
@@ -19,7 +19,7 @@ use Rattle.intake.specs.Inputs.{Input, Told, Loss}
 use Rattle.bridge_core.specs.Sent.{Sent, about}
 use Rattle.bridge_core.specs.Lanes.{Visit, given_of, routed, stream_of, video_counts, notes, passed_up, tells, own_tells, reports_to, lanes_reports, is_lanes}
 use Rattle.bridge_core.specs.Steps.{Step, visits, visit_after}
-use Rattle.bridge_core.specs.WholeRuns.{IsKept}
+use Rattle.bridge_core.specs.WholeRuns.{sent_after}
 
 -- what is all about one stream is a lane's all together or not at all
 pub share_all : (lane lanes k : ℕ) (es : List Sent) → AllByRecursion (λ e. about e ≡ k) es → filter (is_lanes lane lanes) es ≡ cond (is_mine lane lanes k) es []
@@ -83,17 +83,20 @@ module _ (lane lanes : ℕ) (who : Asker) (before : List Visit) (visit : Visit) 
       ∙ ap (λ es. es ++ filter (is_lanes lane lanes) (flat_map (reports_to who before visit moment) ms)) (member_share m)
       ∙ ap (λ es. lanes_reports who lane lanes before visit moment m ++ es) (share_of_reports ms)
 
-pub note_share : (who : Asker) (lanes lane : ℕ) (start : Desk) (before : List Step) (told : Told) → IsKept who lanes start before lane (Input.block told)
+pub note_share : (who : Asker) (lanes lane : ℕ) (start : Desk) (before : List Step) (told : Told)
+    → sent_after who lanes start before lane (Input.block told) ≡ cond (is_mine lane lanes told.block.ssrc) (notes (visit_after start before lane (Input.block told)) told (member_from (visit_after start before lane (Input.block told)).desk told.from) (stream_of told.block.ssrc (routed told.block.ssrc (visits lane start before)))) []
 note_share who lanes lane start before told =
     let visit = visit_after start before lane (Input.block told) in
     share_of_note lane lanes visit told (member_from visit.desk told.from) (stream_of told.block.ssrc (routed told.block.ssrc (visits lane start before)))
 
-pub loss_share : (who : Asker) (lanes lane : ℕ) (start : Desk) (before : List Step) (loss : Loss) → IsKept who lanes start before lane (Input.pli loss)
+pub loss_share : (who : Asker) (lanes lane : ℕ) (start : Desk) (before : List Step) (loss : Loss)
+    → sent_after who lanes start before lane (Input.pli loss) ≡ cond (is_mine lane lanes loss.out_ssrc) (passed_up who (visit_after start before lane (Input.pli loss)) loss (pli_up (visit_after start before lane (Input.pli loss)).desk loss.from loss.out_ssrc)) []
 loss_share who lanes lane start before loss =
     let visit = visit_after start before lane (Input.pli loss) in
     share_of_loss lane lanes who visit loss (pli_up visit.desk loss.from loss.out_ssrc)
 
-pub report_share : (who : Asker) (lanes lane : ℕ) (start : Desk) (before : List Step) (moment : ℕ) → IsKept who lanes start before lane (Input.report moment)
+pub report_share : (who : Asker) (lanes lane : ℕ) (start : Desk) (before : List Step) (moment : ℕ)
+    → sent_after who lanes start before lane (Input.report moment) ≡ flat_map (lanes_reports who lane lanes (visits lane start before) (visit_after start before lane (Input.report moment)) moment) (visit_after start before lane (Input.report moment)).desk.members
 report_share who lanes lane start before moment =
     let visit = visit_after start before lane (Input.report moment) in
     share_of_reports lane lanes who (visits lane start before) visit moment visit.desk.members

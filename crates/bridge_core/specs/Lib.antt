@@ -8,6 +8,7 @@ pub mod Sound
 pub mod Runs
 pub mod EveryLane
 pub mod Headline
+pub mod Telling
 pub mod Following
 pub mod UndoRuns
 pub mod Events

@@ -7,7 +7,6 @@ ghost use Rattle.desk_edit.specs.Commands.{desk_after};
 ghost use Rattle.desk_edit.specs.Calls.{CallHistory, no_calls};
 ghost use Rattle.intake.specs.Inputs.{input_of, is_sized};
 ghost use Rattle.intake.specs.Sources.{no_sources};
-ghost use Rattle.intake.specs.Readings.{Reading, IsReading};
 ghost use Rattle.intake.specs.Ingested.{ingested_of, datagram_of};
 ghost use Rattle.intake.specs.Names.{is_name};
 ghost use Rattle.intake.specs.Intakes.{Knows, TakesIn, Tells};
@@ -277,7 +276,6 @@ impl<A: Allocator + Copy> Core<A> {
         octets: &[u8],
     ) -> Result<Ingest<A>, AllocError>
         ensures takes { IfOk result (λ ingest. TakesIn self.old.intake self.new.intake (ingested_of ingest) octets.now (λ r. record { desk = self.old.desk; from = from.now; moment = moment; reading = r })) }
-        ensures read { OnOk result ((r : Reading) × IsReading octets.now r) }
         ensures others { (self.new.version ≡ self.old.version) × (self.new.desk ≡ self.old.desk) × (self.new.done ≡ self.old.done) × (self.new.undone ≡ self.old.undone) × (self.new.lanes ≡ self.old.lanes) }
         ensures asker { self.new.intake.asker ≡ self.old.intake.asker }
         ensures err { OnErr result (self.new ≡ self.old) }

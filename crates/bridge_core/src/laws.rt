@@ -18,7 +18,7 @@ ghost use Rattle.forward_rewrite.specs.OwnStreams.{is_mine};
 ghost use Rattle.mixer.specs.Hearing.{voices_of, sound_for};
 ghost use Rattle.mixer.specs.Mixes.{mixes};
 ghost use Rattle.feedback.specs.Upstream.{Asker};
-ghost use Rattle.intake.specs.Inputs.{Input, Request};
+ghost use Rattle.intake.specs.Inputs.{Input, Request, Told, Loss};
 ghost use Rattle.bridge_core.specs.Sent.{Sent};
 ghost use Rattle.bridge_core.specs.Lanes.{packets, goes, routed_to, given_of, sends_at};
 ghost use Rattle.bridge_core.specs.Steps.{Step, sends, sent_at, visits, visit_after, desk_of, CoreOf, HasTaken};
@@ -31,6 +31,7 @@ ghost use Rattle.bridge_core.specs.Events.{Event, Plays, steps_of};
 ghost use Rattle.bridge_core.specs.WholeRuns.{Holds};
 ghost use Rattle.bridge_core.specs.Named.{Name, Kind, is_on, sent_on, firsts};
 ghost use Rattle.bridge_core.specs.Headline.{AreGood, HaveNoGap, numbers, numbered_of, IsChosenOf, GoesWhole, IsMixOf, GoesOnce, LeadsBack};
+ghost use Rattle.bridge_core.specs.Telling.{IsSenderReportOf, IsNoteOf, IsPassedUpOf};
 
 use forward_rewrite::{each_frame_goes_whole, found_is_what_was_sent, numbers_in_a_row};
 use mixer::{mixes_are_in_a_row, mixes_go_to_their_members, ticks_add_what_is_heard};
@@ -129,6 +130,31 @@ pub fn resends_lead_back()
     found_is_what_was_sent();
 }
 
+/// What is sent at a report is sender reports, to members of its version's desk at their addresses, of their own streams. Each counts
+/// all packets that were sent on its stream for the first time, modulo 2^32, and none that was sent again.
+pub fn reports_count_first_sendings()
+    ensures { (who : Asker) (lanes lane : ℕ) (start : Desk) (before : List Step) (moment : ℕ) → good start ≡ true → AreGood before → AllByRecursion (AllByRecursion (IsSenderReportOf who lanes start before (visit_after start before lane (Input.report moment)) moment)) (sent_at who lanes start before (Step.item lane (Input.report moment))) }
+{
+    streams_are_routed_lists();
+    mixes_are_mix_lists();
+}
+
+/// What operators are told of a receiver's report block is its losses, and which source packet its highest number reaches: the one
+/// that went to this member at this address under that number, of the last 512 that were sent on the stream for the first time. Where
+/// no packet is told, there is none.
+pub fn notes_lead_back()
+    ensures { (who : Asker) (lanes lane : ℕ) (start : Desk) (before : List Step) (told : Told) → good start ≡ true → AreGood before → AllByRecursion (AllByRecursion (IsNoteOf who lanes start before lane (visit_after start before lane (Input.block told)) told)) (sent_at who lanes start before (Step.item lane (Input.block told))) }
+{
+    streams_are_routed_lists();
+    found_is_what_was_sent();
+}
+
+/// A receiver's picture loss is passed up by a PLI about the source that its slot chose, to the address of the source's member, and
+/// by nothing else; and only where the slot's member is who tells of it.
+pub fn picture_losses_go_to_the_chosen()
+    ensures { (who : Asker) (lanes lane : ℕ) (start : Desk) (before : List Step) (loss : Loss) → AllByRecursion (AllByRecursion (IsPassedUpOf who (visit_after start before lane (Input.pli loss)) loss)) (sent_at who lanes start before (Step.item lane (Input.pli loss))) }
+{}
+
 /// The edits that are kept lead from the start to the desk of the command equations; taken back,
 /// the last one first, they lead to the start again, whatever the commands removed.
 pub fn edits_lead_back()
@@ -166,6 +192,8 @@ pub fn undos_are_redone()
 ///   gets what it hears, which is what a mix packet carries;
 /// - each stream numbers without a gap modulo 65536;
 /// - a number asked for again leads back to just the packet that had it, for its owner alone;
+/// - a sender report counts just what was sent on its stream for the first time, a note leads back to the packet that the receiver
+///   had last, and a lost picture is asked for from the source that the slot chose;
 /// - the number of lanes makes no difference to a stream.
 pub fn the_headline()
     ensures undone { (first middle last : CoreOf) (commands : List Command) (replies : List Reply) → AcceptsAll first commands middle → UndoesInARow middle (length commands) replies last → (replies ≡ all_accepted middle.version (length commands)) × (last.desk ≡ first.desk) × (last.done ≡ first.done) }
@@ -181,5 +209,8 @@ pub fn the_headline()
     mixes_are_heard();
     all_who_hear_get_it();
     resends_lead_back();
+    notes_lead_back();
+    picture_losses_go_to_the_chosen();
+    reports_count_first_sendings();
     lane_count_does_not_matter();
 }

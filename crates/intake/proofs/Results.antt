@@ -8,11 +8,3 @@ with_fact (Err e) p q f = tt
 pub from_fact : {T E : Type 0} {Q R : T → Type 0} (r : Result T E) → IfOk r Q → ((x : T) → Q x → R x) → IfOk r R
 from_fact (Ok x) q f = f x q
 from_fact (Err e) q f = tt
-
-pub on_ok : {T E P : Type 0} {Q : T → Type 0} (r : Result T E) → IfOk r Q → ((x : T) → Q x → P) → OnOk r P
-on_ok (Ok x) q f = f x q
-on_ok (Err e) q f = tt
-
-pub both_on_ok : {T E P R : Type 0} (r : Result T E) → OnOk r P → (P → R) → OnOk r R
-both_on_ok (Ok x) p f = f p
-both_on_ok (Err e) p f = tt

@@ -1,5 +1,5 @@
 -- What a datagram comes to, and what is known of sources after it: the first outcome that holds (own).
-use Rattle.std.specs.Prelude.{ℕ, ℤ, ◌+◌, ◌-◌, ◌<◌, ◌^◌, Bool, not, ◌&&◌, nat_eq, if◌then◌else◌, List, [], ◌∷◌, length, map, fold, Option, None, Some}
+use Rattle.std.specs.Prelude.{ℕ, ℤ, ◌+◌, ◌-◌, ◌<◌, ◌^◌, Bool, not, ◌&&◌, nat_eq, if◌then◌else◌, List, [], ◌∷◌, length, map, Option, None, Some}
 use Rattle.std.specs.Option.{unwrap_or}
 use Rattle.std.specs.List.{flat_map, AllByRecursion}
 use Rattle.rtp_codec.specs.declared.address.Address.{Address}
@@ -17,7 +17,7 @@ use Rattle.feedback.specs.Upstream.{Asker, seq_of, upstream_packets}
 use Rattle.intake.specs.declared.outcome.Outcome.TheVariants.{TooLong, Neither, BadRtp, BadRtcp, Unknown, BadPayload, Spent, Rtcp}
 use Rattle.intake.specs.Readings.{Reading, too_long, neither, no_packet, packet, no_compound, compound}
 use Rattle.intake.specs.Stories.{Story, untold, judged, begins, judged_on}
-use Rattle.intake.specs.Sources.{Origin, Sources, no_sources, story_at, used}
+use Rattle.intake.specs.Sources.{Origin, Sources, story_at, used}
 use Rattle.intake.specs.Ingested.{Ingested, only}
 use Rattle.intake.specs.Media.{Coming, Course, origin_of, mark_of, audio_rate, video_rate, is_audio, audio_course, video_course}
 use Rattle.intake.specs.Control.{asks, noted_all}
@@ -114,7 +114,3 @@ read_as voice d (compound packets) s = of_member (member_from d.desk d.from) d.f
 -- what a datagram comes to, and the sources after it
 abbrev pub taken_in : Voice → Sources → Datagram → Ingested × Sources
 taken_in voice s d = read_as voice d d.reading s
-
--- the sources after datagrams, one after another
-abbrev pub sources_of : Voice → List Datagram → Sources
-sources_of voice datagrams = fold (λ s d. (taken_in voice s d).1) no_sources datagrams

@@ -4,7 +4,7 @@ ghost use Rattle.std.specs.Prelude.{◌≡◌, ◌≢◌, ℕ, IfOk, OnOk, OnErr
 ghost use Rattle.rtp_codec.specs.declared.class.Class.TheVariants as classes;
 ghost use Rattle.rtcp_codec.specs.View.{packets_of};
 ghost use Rattle.topology.specs.Looking.{member_from};
-ghost use Rattle.intake.specs.Readings.{Reading, IsOf, IsReading};
+ghost use Rattle.intake.specs.Readings.{IsOf};
 ghost use Rattle.intake.specs.Ingested.{ingested_of, only};
 ghost use Rattle.intake.specs.Taking.{of_member};
 ghost use Rattle.intake.specs.Intakes.{Moves, TakesIn};
@@ -89,7 +89,6 @@ impl<A: Allocator + Copy> Intake<A> {
     ) -> Result<Ingest<A>, AllocError>
         requires { IsOf classes.Rtcp octets.now }
         ensures takes { IfOk result (λ ingest. TakesIn self.old self.new (ingested_of ingest) octets.now (λ r. record { desk = rows.now; from = from.now; moment = moment; reading = r })) }
-        ensures read { OnOk result ((r : Reading) × IsReading octets.now r) }
         ensures err { OnErr result (self.new ≡ self.old) }
         ensures asker { self.new.asker ≡ self.old.asker }
     {

@@ -4,8 +4,7 @@
 //! gate, and from there to `upward` for what the source is asked for; a compound goes on in `control`.
 //! What is told of sources is made in `reporting`.
 
-ghost use Rattle.std.specs.Prelude.{◌≡◌, true, map, IfOk, OnOk, OnErr};
-ghost use Rattle.intake.specs.Readings.{Reading, IsReading};
+ghost use Rattle.std.specs.Prelude.{◌≡◌, true, map, IfOk, OnErr};
 ghost use Rattle.intake.specs.Names.{is_name};
 ghost use Rattle.intake.specs.Sources.{no_sources};
 ghost use Rattle.intake.specs.Ingested.{ingested_of, datagram_of};
@@ -22,11 +21,11 @@ use std::alloc::{AllocError, Allocator, Global};
 use std::marker::Model;
 
 /// The most octets of a datagram.
-const MOST_OCTETS: usize = 8_192;
+pub(crate) const MOST_OCTETS: usize = 8_192;
 
 /// Takes in what comes off the wire: judges each datagram, and turns it into items for the lanes and into what its sender is asked for.
 ///
-/// Contracts see the sources that it knows, as a function of the datagrams so far. Begin with [`new`](Self::new).
+/// Contracts see the sources that it knows, as a function of the datagrams and reports so far. Begin with [`new`](Self::new).
 #[derive(Drop)]
 pub struct Intake<A: Allocator + Copy = Global> {
     pub(crate) settings: Settings<A>,
@@ -74,7 +73,6 @@ impl<A: Allocator + Copy> Intake<A> {
         octets: &[u8],
     ) -> Result<Ingest<A>, AllocError>
         ensures takes { IfOk result (λ ingest. TakesIn self.old self.new (ingested_of ingest) octets.now (λ r. record { desk = rows.now; from = from.now; moment = moment; reading = r })) }
-        ensures read { OnOk result ((r : Reading) × IsReading octets.now r) }
         ensures err { OnErr result (self.new ≡ self.old) }
         ensures asker { self.new.asker ≡ self.old.asker }
     {

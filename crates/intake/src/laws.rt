@@ -1,18 +1,69 @@
 //! Laws of the definitions.
 
 ghost use Rattle.std.specs.Prelude.{◌≡◌, ℕ, true, if◌then◌else◌, List, map, IfSome, option_map};
+ghost use Rattle.rtp_codec.specs.declared.class.Class.TheVariants as classes;
 ghost use Rattle.desk_rows.specs.Desk.{Desk, good};
 ghost use Rattle.topology.specs.Looking.{comes_from};
 ghost use Rattle.feedback.specs.Upstream.{Asker};
-ghost use Rattle.intake.specs.Readings.{Reading, IsReading};
+ghost use Rattle.intake.specs.Readings.{Reading, IsOf, IsReading};
 ghost use Rattle.intake.specs.Stories.{Story};
 ghost use Rattle.intake.specs.Sources.{Origin, Sources, story_at};
+ghost use Rattle.intake.specs.Taking.{Voice, IsVoice};
 ghost use Rattle.intake.specs.Reported.{block_on, renewed, reported};
+
+use crate::intake::MOST_OCTETS;
+use rtcp_codec::{numbers_have_words, read_compound};
+use rtp_codec::{Class, classify, read};
+use std::alloc::Allocator;
 
 /// Octets are one thing: two readings of a datagram are the same.
 pub fn readings_agree()
     ensures { (octets : List ℕ) (r s : Reading) → IsReading octets r → IsReading octets s → r ≡ s }
 {}
+
+/// Octets that are RTP by the first of them are a packet, or no packet for a reason.
+fn rtp_is_read(octets: &[u8])
+    requires { IsOf classes.Rtp octets.now }
+    ensures { (r : Reading) × IsReading octets.now r }
+{
+    match read(octets) {
+        Err(fault) => {}
+        Ok(view) => {}
+    }
+}
+
+/// Octets that are RTCP by the first of them are a compound, or no compound for a reason.
+fn rtcp_is_read<A: Allocator + Copy>(alloc: A, octets: &[u8])
+    requires { IsOf classes.Rtcp octets.now }
+    ensures { (r : Reading) × IsReading octets.now r }
+{
+    match read_compound(alloc, octets) {
+        Err(fault) => {}
+        Ok(packets) => {}
+    }
+}
+
+/// Each datagram has a reading, whatever memory there is: it is too long, neither RTP nor RTCP, or a packet or a compound, or
+/// it is none for a reason.
+pub fn datagrams_are_read<A: Allocator + Copy>(alloc: A, octets: &[u8])
+    ensures { (r : Reading) × IsReading octets.now r }
+{
+    if octets.len() > MOST_OCTETS {
+        return;
+    }
+    match classify(octets) {
+        Class::Neither => {}
+        Class::Rtp => rtp_is_read(octets),
+        Class::Rtcp => rtcp_is_read(alloc, octets),
+    }
+}
+
+/// Whoever asks for packets has words for them: there is a voice.
+pub fn voices_are_there()
+    ensures { (asker : Asker) → (voice : Voice) × IsVoice voice × (voice.asker ≡ asker) }
+{
+    numbers_have_words();
+}
 
 /// When reports go out under a good desk, new intervals begin of just those known sources that a member of the desk sends from its
 /// address. The order of use stays. A source that is told of again at once has lost nothing since.

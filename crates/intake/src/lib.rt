@@ -25,6 +25,8 @@ mod upward;
 pub use self::ingest::Ingest;
 pub use self::intake::Intake;
 pub use self::item::Item;
-pub use self::laws::{readings_agree, reports_begin_intervals};
+pub use self::laws::{
+    datagrams_are_read, readings_agree, reports_begin_intervals, voices_are_there,
+};
 pub use self::outcome::Outcome;
 pub use self::settings::Settings;

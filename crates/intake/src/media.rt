@@ -1,11 +1,11 @@
 //! Media packets.
 
-ghost use Rattle.std.specs.Prelude.{◌≡◌, ◌≤◌, true, length, IfOk, OnOk, OnErr};
+ghost use Rattle.std.specs.Prelude.{◌≡◌, ◌≤◌, true, length, IfOk, OnErr};
 ghost use Rattle.rtp_codec.specs.View.{packet_of};
 ghost use Rattle.frame_gate.specs.Frame.{highest_pt};
 ghost use Rattle.rtp_codec.specs.declared.class.Class.TheVariants as classes;
 ghost use Rattle.topology.specs.Looking.{source_from};
-ghost use Rattle.intake.specs.Readings.{Reading, IsOf, IsReading};
+ghost use Rattle.intake.specs.Readings.{IsOf};
 ghost use Rattle.intake.specs.Ingested.{ingested_of};
 ghost use Rattle.intake.specs.Media.{is_audio, audio_rate, video_rate, audio_course, video_course, mark_of};
 ghost use Rattle.intake.specs.Taking.{sourced, of_row};
@@ -132,7 +132,6 @@ impl<A: Allocator + Copy> Intake<A> {
     ) -> Result<Ingest<A>, AllocError>
         requires { IsOf classes.Rtp octets.now }
         ensures takes { IfOk result (λ ingest. TakesIn self.old self.new (ingested_of ingest) octets.now (λ r. record { desk = rows.now; from = from.now; moment = moment; reading = r })) }
-        ensures read { OnOk result ((r : Reading) × IsReading octets.now r) }
         ensures err { OnErr result (self.new ≡ self.old) }
         ensures asker { self.new.asker ≡ self.old.asker }
     {

@@ -7,6 +7,7 @@ pub mod Fitting
 pub mod Framing
 pub mod Lists
 pub mod Words
+pub mod Packable
 pub mod PackedOnce
 pub mod Packing
 pub mod WrittenLemmas

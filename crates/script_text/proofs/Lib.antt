@@ -19,5 +19,6 @@ pub mod GoodDesks
 pub mod BridgeLemmas
 pub mod ScriptLaws
 pub mod JudgedLaws
+pub mod HeardLaws
 pub mod GrowLemmas
 pub mod RowLemmas

@@ -2,11 +2,11 @@
 
 ghost use Rattle.std.specs.Prelude.{◌≡◌, ℕ, ℤ, pos, ◌^◌, ◌<◌, ◌≤◌, List, ◌∷◌, Some, Ok, codes};
 ghost use Rattle.std.specs.Fmt.{decimal, signed_decimal};
-ghost use Rattle.std.specs.List.{join_with_byte, flat_map, All};
+ghost use Rattle.std.specs.List.{join_with_byte, flat_map, All, AllByRecursion};
 ghost use Rattle.hex.specs.Hex.{IsBytes, decode_of, encode_lower};
 ghost use Rattle.rtp_codec.specs.declared.address.Address.{Address};
 ghost use Rattle.desk_rows.specs.Desk.{Desk as Rows, blank};
-ghost use Rattle.script_text.specs.Wire.{Wire, script_asker};
+ghost use Rattle.script_text.specs.Wire.{Wire, script_asker, IsHeard, Hears, HearsAll};
 ghost use Rattle.script_text.specs.Bridge.{first_desk, text_of};
 ghost use Rattle.script_text.specs.Output.{output_of};
 ghost use Rattle.script_text.specs.Scripts.{answers_of, sent_in, steps_of};
@@ -24,13 +24,15 @@ ghost use Rattle.forward_rewrite.specs.Frame.{SourceFrame};
 ghost use Rattle.intake.specs.Inputs.Input.{frame, tick};
 ghost use Rattle.desk_edit.specs.declared.command.Call.{Call};
 ghost use Rattle.script_text.specs.Calls.{call_of, call_line, IsCall};
-ghost use Rattle.script_text.specs.Requests.{words_request, Desk, desk_line, Item, frame_words, frame_line, IsFrame, Rx, rx_words, rx_line, IsDatagram, tick_line, Report, report_line};
+ghost use Rattle.script_text.specs.Requests.{request_of, words_request, Desk, desk_line, Item, frame_words, frame_line, IsFrame, Rx, rx_words, rx_line, IsDatagram, tick_line, Report, report_line};
 ghost use Rattle.script_text.specs.Packets.{SpellPackets, packet_of, packet_text, SpellsExt, SpellsHex, SpellsPacket, IsReadable};
 ghost use Rattle.script_text.specs.Lines.{parts_of};
 
 use crate::script::{BRIDGE_SSRC, CNAME};
 use bridge_core::streams_have_no_gap;
 use desk_edit::good_desks_stay_good;
+use intake::{datagrams_are_read, voices_are_there};
+use std::alloc::Allocator;
 
 /// The words of a line have no space, and with single spaces between them they are the line; no
 /// others do. So it is with the parts of a script between its LFs.
@@ -140,6 +142,21 @@ pub fn refusal_words()
     ensures rising { (version done undone : ℕ) (d : Rows) (call : Call)
         → Rises (case_numbers (call_cases version d done undone call)) }
 {}
+
+/// Each datagram is heard, whatever memory there is: its octets have a reading, and the bridge has words for lost packets.
+pub fn datagrams_are_heard<A: Allocator + Copy>(alloc: A, octets: &[u8])
+    ensures { (wire : Wire) × IsHeard wire octets.now }
+{
+    voices_are_there();
+    datagrams_are_read(alloc, octets);
+}
+
+/// Where each line of a script is heard, one wire hears them all. Only datagrams have to be heard.
+pub fn scripts_are_heard()
+    ensures { (lines : List (List ℕ)) → AllByRecursion (λ line. (wire : Wire) × Hears wire (request_of line)) lines → (wire : Wire) × HearsAll wire lines }
+{
+    voices_are_there();
+}
 
 /// The output of a script is what its requests are answered, and what goes out among it is all that
 /// the core's definition sends over the script's accepted calls and items: so the core's laws on

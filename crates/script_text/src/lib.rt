@@ -29,9 +29,9 @@ pub use self::building::parse_desk;
 pub use self::exits::{Ask, Outcome, asked, exit_status, status, unread};
 pub use self::fault::{Fault, ParseFault, RunFault};
 pub use self::laws::{
-    address_words, call_lines, datagram_lines, ext_words, frame_lines, hex_words, number_words,
-    packet_words, pieces_join, refusal_words, report_lines, script_bridge, script_sends,
-    script_streams_have_no_gap, tick_lines,
+    address_words, call_lines, datagram_lines, datagrams_are_heard, ext_words, frame_lines,
+    hex_words, number_words, packet_words, pieces_join, refusal_words, report_lines, script_bridge,
+    script_sends, script_streams_have_no_gap, scripts_are_heard, tick_lines,
 };
 pub use self::print::{print_egress, print_reply};
 pub use self::running::{output, run};

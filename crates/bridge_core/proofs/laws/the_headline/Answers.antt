@@ -37,9 +37,9 @@ returns-clause-holds c start events sent first last h taken called plays =
               whole = λ m sound mine its hears_it. c.all_who_hear_get_it.ensures who lanes lane start before moment m sound desk mine its hears_it;
             }
             | Input.nack request ↦ (c.resends_lead_back.ensures who lanes lane start before request h all).0
-            | Input.block told ↦ note_share who lanes lane start before told
-            | Input.pli loss ↦ loss_share who lanes lane start before loss
-            | Input.report moment ↦ report_share who lanes lane start before moment
+            | Input.block told ↦ record { given = note_share who lanes lane start before told; each = (c.notes_lead_back.ensures who lanes lane start before told h all).0 }
+            | Input.pli loss ↦ record { given = loss_share who lanes lane start before loss; each = (c.picture_losses_go_to_the_chosen.ensures who lanes lane start before loss).0 }
+            | Input.report moment ↦ record { given = report_share who lanes lane start before moment; each = (c.reports_count_first_sendings.ensures who lanes lane start before moment h all).0 }
           ];
     }
 

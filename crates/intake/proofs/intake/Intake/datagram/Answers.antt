@@ -18,6 +18,3 @@ returns-in-Neither-clause-takes g c =
     let octets = c.args.octets.now in
     let datagram : Reading → Datagram = λ r. record { desk = c.args.rows.now; from = c.args.from.now; moment = c.args.moment; reading = r } in
     takes_by old old _ octets datagram neither (alone_neither octets (record { length_fits = c.if-octets-gt-MOST_OCTETS.false; its_class = sym c.classify.ensures ∙ c.in-Neither.is })) (stays _ Neither old (λ voice s. taken_in voice s (datagram neither)) c.only-in-Neither.ensures (λ voice s. refl))
-
-pub returns-in-Neither-clause-read : goal.returns-in-Neither-clause-read
-returns-in-Neither-clause-read g c = (neither, record { length_fits = c.if-octets-gt-MOST_OCTETS.false; its_class = sym c.classify.ensures ∙ c.in-Neither.is })

@@ -1,4 +1,4 @@
-use Rattle.std.proofs.Common.{sym, subst, refl, inl, inr}
+use Rattle.std.proofs.Common.{sym, subst, refl}
 use Rattle.rtcp_codec.specs.View.{packets_of}
 use Rattle.intake.specs.declared.outcome.Outcome.TheVariants.{BadRtcp}
 use Rattle.intake.specs.Readings.{Reading, no_compound, compound}
@@ -6,7 +6,7 @@ use Rattle.intake.specs.Ingested.{ingested_of}
 use Rattle.intake.specs.Taking.{Datagram, taken_in}
 use Rattle.intake.specs.Intakes.{Moves}
 use Rattle.intake.proofs.Read.{stays, takes_by, alone_no_compound, alone_compound}
-use Rattle.intake.proofs.Results.{with_fact, from_fact, on_ok, both_on_ok}
+use Rattle.intake.proofs.Results.{with_fact, from_fact}
 use Rattle.intake.proofs.intake.Intake.rtcp.Goals as goal
 
 pub returns-in-Err-clause-takes : goal.returns-in-Err-clause-takes
@@ -19,9 +19,6 @@ returns-in-Err-clause-takes g c =
     (alone_no_compound octets fault c.requires (λ f h. (let same = c.in-Err.ensures.told f h in cc)) (λ ps h. told (c.in-Err.ensures.only ps h)))
     (stays _ (BadRtcp fault) old (λ voice s. taken_in voice s (datagram (no_compound fault))) is (λ voice s. refl)))
 
-pub returns-in-Err-clause-read : goal.returns-in-Err-clause-read
-returns-in-Err-clause-read g c = both_on_ok c.no_compound.result c.no_compound.ensures.fault (λ told. (no_compound c.in-Err.fault, (c.requires, elim c.in-Err.ensures.fault [ inl e ↦ absurd (told e) | inr h ↦ h ])))
-
 pub returns-in-Ok-clause-takes : goal.returns-in-Ok-clause-takes
 returns-in-Ok-clause-takes g c =
     let old = c.args.self.now in
@@ -31,6 +28,3 @@ returns-in-Ok-clause-takes g c =
     from_fact c.control.result c.control.ensures.moves (λ ingest moves. takes_by old c.control.new.self (ingested_of ingest) octets datagram (compound (packets_of packets))
     (alone_compound octets (packets_of packets) c.requires (λ f h. (let same = c.in-Ok.ensures.told f h in cc)) (λ qs is. sym (c.in-Ok.ensures.only qs is)))
     (subst (λ ps. Moves old c.control.new.self (ingested_of ingest) (λ voice s. taken_in voice s (datagram (compound (packets_of ps))))) c.deref.ensures.value moves))
-
-pub returns-in-Ok-clause-read : goal.returns-in-Ok-clause-read
-returns-in-Ok-clause-read g c = on_ok c.control.result c.control.ensures.moves (λ ingest moves. (compound (packets_of c.in-Ok.packets.items), (c.requires, c.in-Ok.ensures.found)))
