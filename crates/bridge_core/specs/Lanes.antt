@@ -177,6 +177,7 @@ reports_to who before visit moment m =
 abbrev pub own_tells : Asker → (lane lanes : ℕ) → Visit → (moment : ℕ) → MemberRow → (ssrc : ℕ) → Option Counts → List Sent
 own_tells who lane lanes visit moment m ssrc counts = if is_mine lane lanes ssrc then tells who visit moment m ssrc counts else []
 
+-- a lane's share of the sender reports to a member: of its mix and then of its slots' streams, those that are the lane's
 abbrev pub lanes_reports : Asker → (lane lanes : ℕ) → List Visit → Visit → (moment : ℕ) → MemberRow → List Sent
 lanes_reports who lane lanes before visit moment m =
     own_tells who lane lanes visit moment m m.out_audio (mix_counts_of m.out_audio (turns m.out_audio (given_of before)))

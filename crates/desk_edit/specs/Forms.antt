@@ -6,6 +6,7 @@ use Rattle.desk_edit.specs.declared.command.Command.TheVariants as commands
 use Rattle.desk_edit.specs.declared.command.Form.{Form}
 use Rattle.desk_edit.specs.declared.command.Form.TheVariants.{Put, Remove, Move}
 
+-- what each command does to rows: puts one, or one in another's stead, removes the row of a key, or moves a member
 abbrev pub form_of : Command → Form
 form_of (commands.AddRoom r) = Put (rows.Room r)
 form_of (commands.RemoveRoom room) = Remove (keys.Room room)

@@ -66,6 +66,7 @@ is_replaced (rows.Pin p) = true
 is_replaced (rows.Floor f) = true
 is_replaced _ = false
 
+-- an SSRC is claimed
 abbrev pub is_ssrc : Claim → Bool
 is_ssrc (claims.Ssrc s) = true
 is_ssrc _ = false
@@ -82,6 +83,7 @@ is_there d r = (not (is_replaced r) && has d (key_of r)) || list_any (is_other_c
 abbrev pub is_ssrc_taken : Desk → Claim → Bool
 is_ssrc_taken d c = is_ssrc c && (is_bridges d c || is_claimed d c)
 
+-- an SSRC of the row's is taken
 abbrev pub ssrc_is_taken : Desk → Row → Bool
 ssrc_is_taken d r = list_any (is_ssrc_taken d) (other_claims r)
 

@@ -100,6 +100,7 @@ room_of_found d (Some r) = room_of d r
 abbrev pub room_at : Desk → Key → Option ℕ
 room_at d key = room_of_found d (row_at d key)
 
+-- both are in a room, and in one
 abbrev pub same_room : Option ℕ → Option ℕ → Bool
 same_room (Some a) (Some b) = nat_eq a b
 same_room _ _ = false

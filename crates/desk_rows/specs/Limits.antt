@@ -9,9 +9,11 @@ room_limit = 64
 abbrev pub member_limit : ℕ
 member_limit = 1024
 
+-- so many sources
 abbrev pub source_limit : ℕ
 source_limit = 2048
 
+-- so many slots
 abbrev pub slot_limit : ℕ
 slot_limit = 4096
 
@@ -23,6 +25,7 @@ room_audio_limit = 64
 abbrev pub index_limit : ℕ
 index_limit = 15
 
+-- so many gains
 abbrev pub gain_limit : ℕ
 gain_limit = 65536
 

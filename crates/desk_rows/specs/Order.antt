@@ -10,6 +10,7 @@ use Rattle.desk_rows.specs.Row.{key_numbers, key_of, same_key, same_row}
 abbrev pub key_precedes : Key → Key → Bool
 key_precedes a b = numbers_precede (key_numbers a) (key_numbers b)
 
+-- whether a row stands before another: by their keys
 abbrev pub precedes : Row → Row → Bool
 precedes a b = key_precedes (key_of a) (key_of b)
 

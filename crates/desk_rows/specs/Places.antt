@@ -23,14 +23,17 @@ is_at [] i m = false
 is_at (x ∷ xs) zero m = same_row (rows.Member x) (rows.Member m)
 is_at (x ∷ xs) (suc i) m = is_at xs i m
 
+-- each of these members stands at its place, so that all can be taken from there, the last one first
 abbrev pub can_take : List Placed → List Member → Bool
 can_take [] xs = true
 can_take (p ∷ ps) xs = can_take ps xs && is_at (take_at ps xs) p.place p.row
 
+-- each of these members has a place to be put at, the first one first
 abbrev pub can_put : List Placed → List Member → Bool
 can_put [] xs = true
 can_put (p ∷ ps) xs = nat_le p.place (length xs) && can_put ps (insert xs p.place p.row)
 
+-- each place is above all those before it
 abbrev pub places_rise : List Placed → Bool
 places_rise [] = true
 places_rise (p ∷ ps) = list_all (λ q. nat_lt p.place q.place) ps && places_rise ps

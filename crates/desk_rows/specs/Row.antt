@@ -80,14 +80,17 @@ has_key key r = same_key (key_of r) key
 
 -- ---- rows
 
+-- a codec as a number
 abbrev pub codec_number : Codec → ℕ
 codec_number codecs.Pcmu = 0
 codec_number codecs.L16 = 1
 
+-- a kind of media as a number
 abbrev pub media_number : Media → ℕ
 media_number medias.Audio = 0
 media_number medias.Video = 1
 
+-- two kinds of media are one
 abbrev pub same_media : Media → Media → Bool
 same_media a b = nat_eq (media_number a) (media_number b)
 

@@ -41,6 +41,7 @@ pub record Takes (old : Kept) (packet : NumberedPacket) (walk : Walk) (new : Kep
   pub others : MayForget walk.next (slice_set old.cells (packet.number % 256) (Some packet)) new.cells
   pub gone : Forgets old.walk.next walk.next (slice_set old.cells (packet.number % 256) (Some packet)) new.cells
 
+-- By the packet's place: it is taken, or the gate stays as it was.
 abbrev pub CommitsAt : Place → Kept → PreparedOf → Kept → Type 0
 CommitsAt Taken old r new = Takes old r.packet r.walk new
 CommitsAt Late old r new = new ≡ old

@@ -13,12 +13,15 @@ pub record Epoch : Type 0 where
   pub cut : ℕ
   pub earlier : List WholeFrame
 
+-- an epoch to which nothing has come
 abbrev pub blank : Epoch
 blank = record { taken = []; cut = 0; earlier = [] }
 
+-- the taken packet of a number
 abbrev pub packet_at : List NumberedPacket → ℕ → Option NumberedPacket
 packet_at taken n = find (λ p. nat_eq p.number n) taken
 
+-- the greatest number of these packets, 0 where there is none
 abbrev pub greatest : List NumberedPacket → ℕ
 greatest [] = 0
 greatest (p ∷ ps) = max p.number (greatest ps)
@@ -27,6 +30,7 @@ greatest (p ∷ ps) = max p.number (greatest ps)
 abbrev pub run : Epoch → List NumberedPacket
 run e = row (packet_at e.taken) e.cut (greatest e.taken + 1 - e.cut)
 
+-- the run, divided
 abbrev pub pieces : Epoch → Divided
 pieces e = divided (run e)
 
@@ -56,12 +60,14 @@ resynced (suc most) e n = if nat_le (next_of e + 256) n then resynced most (plac
 abbrev pub opened : Epoch → NumberedPacket → Epoch
 opened e p = elim e.taken [ [] ↦ record { taken = []; cut = p.number; earlier = e.earlier } | q ∷ qs ↦ e ]
 
+-- what becomes of a packet: it is late where its number is decided, a duplicate where its number was taken, and else it is taken
 abbrev pub place_of : Epoch → NumberedPacket → Place
 place_of e p =
     if nat_lt p.number (next_of (opened e p)) then Late
     else if is_some (packet_at e.taken p.number) then Duplicate
     else Taken
 
+-- with one more packet taken
 abbrev pub taking : Epoch → NumberedPacket → Epoch
 taking e p = record { taken = e.taken ++ p ∷ []; cut = e.cut; earlier = e.earlier }
 

@@ -33,6 +33,7 @@ number_of ext = nat_abs (ext +ℤ below)
 abbrev pub ext_of : ℕ → ℤ
 ext_of number = pos number -ℤ below
 
+-- a packet under its extended number
 abbrev pub numbered : ℤ → GatePacket → NumberedPacket
 numbered ext p = record { number = number_of ext; marker = p.marker; pt = p.pt; ts = p.ts; payload = p.payload }
 

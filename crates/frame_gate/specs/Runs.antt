@@ -4,9 +4,11 @@ use Rattle.std.specs.List.{list_any, flat_map}
 use Rattle.frame_gate.specs.Packets.{NumberedPacket, frame_packet}
 use Rattle.frame_gate.specs.Frame.{WholeFrame}
 
+-- The packet has no payload.
 abbrev pub is_empty : NumberedPacket → Bool
 is_empty p = nat_eq (length p.payload) 0
 
+-- The packet has a payload.
 abbrev pub is_full : NumberedPacket → Bool
 is_full p = not (is_empty p)
 
@@ -27,6 +29,7 @@ pub record Divided : Type 0 where
   pub closed : List (List NumberedPacket)
   pub unclosed : List NumberedPacket
 
+-- no packets yet
 abbrev pub undivided : Divided
 undivided = record { closed = []; unclosed = [] }
 
@@ -34,6 +37,7 @@ undivided = record { closed = []; unclosed = [] }
 abbrev pub closes : Divided → Divided
 closes d = record { closed = d.closed ++ d.unclosed ∷ []; unclosed = [] }
 
+-- one more packet in the unclosed piece
 abbrev pub joins : Divided → NumberedPacket → Divided
 joins d p = record { closed = d.closed; unclosed = d.unclosed ++ p ∷ [] }
 
@@ -45,9 +49,11 @@ parted d p = if differs d.unclosed p then closes d else d
 abbrev pub ended : Divided → NumberedPacket → Divided
 ended d p = if ends p then closes d else d
 
+-- one more packet, with the divisions before and after it
 abbrev pub with_packet : Divided → NumberedPacket → Divided
 with_packet d p = ended (joins (parted d p) p) p
 
+-- more packets, one after another
 abbrev pub divide_on : Divided → List NumberedPacket → Divided
 divide_on d run = fold with_packet d run
 
@@ -55,6 +61,7 @@ divide_on d run = fold with_packet d run
 abbrev pub divided : List NumberedPacket → Divided
 divided run = divide_on undivided run
 
+-- all pieces but the first
 abbrev pub but_first : List (List NumberedPacket) → List (List NumberedPacket)
 but_first [] = []
 but_first (piece ∷ pieces) = pieces

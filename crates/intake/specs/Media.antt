@@ -23,6 +23,7 @@ pub record Coming : Type 0 where
   pub moment : ℕ
   pub packet : Packet
 
+-- the source that a packet comes from: its address and its SSRC
 abbrev pub origin_of : Coming → Origin
 origin_of c = record { address = c.from; ssrc = c.packet.header.ssrc }
 
@@ -30,10 +31,11 @@ origin_of c = record { address = c.from; ssrc = c.packet.header.ssrc }
 abbrev pub mark_of : ℕ → Coming → Mark
 mark_of rate c = record { seq = c.packet.header.seq; ts = c.packet.header.ts; units = units_of rate c.moment }
 
--- the clock rates of audio and video in Hz
+-- the clock rate of audio in Hz
 abbrev pub audio_rate : ℕ
 audio_rate = 8000
 
+-- the clock rate of video in Hz
 abbrev pub video_rate : ℕ
 video_rate = 90000
 
@@ -84,6 +86,7 @@ placed ext Duplicate = outcomes.Duplicate ext
 abbrev pub frame_item : Origin → (moment epoch : ℕ) → WholeFrame → Input
 frame_item o moment epoch f = Input.frame (record { source = o.ssrc; address = o.address; epoch = epoch; moment = moment; frame = f })
 
+-- whole frames as items, in order
 abbrev pub frames_from : Origin → (moment epoch : ℕ) → List WholeFrame → List Input
 frames_from o moment epoch frames = map (frame_item o moment epoch) frames
 
@@ -97,6 +100,7 @@ gated_with c p outcome restarts story = record {
   pli = restarts || gives_up (epoch_of story.gated) p;
 }
 
+-- what a video packet comes to by its verdict: nothing but the verdict on probation and at a jump, else what its gate gives
 abbrev pub video_course : Coming → Verdict → Story → Course
 video_course c Probation story = plain Probation story
 video_course c (Accepted ext) story = gated_with c (numbered ext (gate_packet c.packet)) (placed ext) false story

@@ -38,6 +38,7 @@ turns_after ssrc before [] = []
 turns_after ssrc before (put source address ts samples ∷ given) = turns_after ssrc (before ++ put source address ts samples ∷ []) given
 turns_after ssrc before (tick d moment ∷ given) = turn_of ssrc before d moment ∷ turns_after ssrc (before ++ tick d moment ∷ []) given
 
+-- all ticks of a stream
 abbrev pub turns : ℕ → List Given → List Turn
 turns ssrc given = turns_after ssrc [] given
 

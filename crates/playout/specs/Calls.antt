@@ -22,6 +22,7 @@ after rate None (Take count) = None
 after rate (Some play) (Put ts samples) = Some (put_after rate play ts samples)
 after rate (Some play) (Take count) = Some (record { position = play.position + count; pairs = play.pairs })
 
+-- the playout after these calls, if a put is among them
 abbrev pub play_of : ℕ → List Call → Option Play
 play_of rate calls = fold (after rate) None calls
 

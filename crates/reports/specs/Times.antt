@@ -2,13 +2,15 @@
 use Rattle.std.specs.Prelude.{ℕ, ◌+◌, ◌-◌, ◌*◌, ◌/◌, ◌%◌, ◌^◌}
 use Rattle.forward_rewrite.specs.declared.counts.Counts.{Counts}
 
--- the nanoseconds of a second and of a microsecond, and the microseconds of a second
+-- the nanoseconds of a second
 abbrev pub second : ℕ
 second = 10 ^ 9
 
+-- the nanoseconds of a microsecond
 abbrev pub microsecond : ℕ
 microsecond = 10 ^ 3
 
+-- the microseconds of a second
 abbrev pub microseconds : ℕ
 microseconds = 10 ^ 6
 

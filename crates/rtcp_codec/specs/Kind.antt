@@ -8,21 +8,27 @@ use Rattle.rtcp_codec.specs.declared.kind.Kind.TheVariants as kinds
 abbrev pub sr : ℕ
 sr = 200
 
+-- a receiver report
 abbrev pub rr : ℕ
 rr = 201
 
+-- a source description
 abbrev pub sdes : ℕ
 sdes = 202
 
+-- a goodbye
 abbrev pub bye : ℕ
 bye = 203
 
+-- a packet of an application
 abbrev pub app : ℕ
 app = 204
 
+-- feedback on transport
 abbrev pub rtpfb : ℕ
 rtpfb = 205
 
+-- feedback on payload
 abbrev pub psfb : ℕ
 psfb = 206
 

@@ -18,10 +18,11 @@ block_octets b =
     to_be_bytes w32 b.ssrc ++ b.fraction ∷ octets_24 (twos_complement b.lost) ++ to_be_bytes w32 b.highest
     ++ to_be_bytes w32 b.jitter ++ to_be_bytes w32 b.lsr ++ to_be_bytes w32 b.dlsr
 
--- the least and the most packets lost that 24 bits can spell (RFC 3550 section 6.4.1): negsuc n is -(n + 1)
+-- the least number of packets lost that 24 bits can spell (RFC 3550 section 6.4.1): negsuc n is -(n + 1)
 abbrev pub least_lost : ℤ
 least_lost = negsuc 8388607
 
+-- the greatest number of packets lost that 24 bits can spell
 abbrev pub most_lost : ℤ
 most_lost = pos 8388607
 

@@ -114,11 +114,14 @@ media_in value = Audio
 abbrev pub number_at : ℕ → List Value → ℕ
 number_at place vs = number_in (value_at place vs)
 
+-- the address at this place, else that of no value
 abbrev pub address_at : ℕ → List Value → Address
 address_at place vs = address_in (value_at place vs)
 
+-- the codec at this place
 abbrev pub codec_at : ℕ → List Value → Codec
 codec_at place vs = codec_in (value_at place vs)
 
+-- the kind of media at this place
 abbrev pub media_at : ℕ → List Value → Media
 media_at place vs = media_in (value_at place vs)

@@ -26,39 +26,47 @@ verdict_of Unheard n = Probation
 verdict_of (Waiting last) n = if nat_eq n (following last) then Accepted (pos n) else Probation
 verdict_of (Valid s) n = verdict_in s n
 
+-- how far a source has come by one more number
 abbrev pub after_number : Standing → ℕ → Standing
 after_number Unheard n = Waiting n
 after_number (Waiting last) n = if nat_eq n (following last) then Valid (begun n) else Waiting n
 after_number (Valid s) n = Valid (given (verdict_in s n) n s)
 
+-- how far it has come by a block: an interval ends
 abbrev pub after_block : Standing → Standing
 after_block Unheard = Unheard
 after_block (Waiting last) = Waiting last
 after_block (Valid s) = Valid (told_in s)
 
+-- how far it has come by one more step; arrivals and sender reports change nothing of it
 abbrev pub after : Standing → Step → Standing
 after st (Number n) = after_number st n
 after st (Arrival ts units) = st
 after st (Sender heard) = st
 after st Block = after_block st
 
+-- how far it has come by all its steps
 abbrev pub standing_of : List Step → Standing
 standing_of steps = fold after Unheard steps
 
+-- It is past probation.
 abbrev pub past_probation_in : Standing → Bool
 past_probation_in Unheard = false
 past_probation_in (Waiting last) = false
 past_probation_in (Valid s) = true
 
+-- what is known of its timing after one more step: each arrival tells of it
 abbrev pub timing_after : Timing → Step → Timing
 timing_after t (Number n) = t
 timing_after t (Arrival ts units) = timed t ts units
 timing_after t (Sender heard) = t
 timing_after t Block = t
 
+-- what is known of its timing
 abbrev pub timing_of : List Step → Timing
 timing_of steps = fold timing_after untimed steps
 
+-- the last sender report after one more step
 abbrev pub heard_after : Option Heard → Step → Option Heard
 heard_after h (Number n) = h
 heard_after h (Arrival ts units) = h

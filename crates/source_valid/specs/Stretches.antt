@@ -36,6 +36,7 @@ further g (negsuc n) = g
 abbrev pub greatest : ℕ → List ℤ → ℕ
 greatest base exts = fold further base exts
 
+-- the greatest extended number that was accepted
 abbrev pub greatest_of : Stretch → ℕ
 greatest_of s = greatest s.base s.accepted
 
@@ -60,6 +61,7 @@ judged g jump n u =
     else if follows_jump jump n then Restarted (pos n)
     else Jump
 
+-- the verdict on one more number
 abbrev pub verdict_in : Stretch → ℕ → Verdict
 verdict_in s n = judged (greatest_of s) s.jump n (distance (greatest_of s) n)
 
