@@ -185,7 +185,7 @@ lanes_reports who lane lanes before visit moment m =
 
 -- ---- all that is sent
 
--- what is sent of an input, after the items before it: a frame to each of its receivers, by place and index; nothing for sound; at a tick to each member what it hears, by place; to who asks again, what it was sent of the stream's last 512 packets; to operators, what a member tells of a stream; to the source's member, that a picture is lost; and to each member the reports of its streams, by place
+-- what is sent of an input, after the items before it: a frame to each of its receivers, by place and index; nothing for sound; at a tick to each member what it hears, by place; to who asks again, what it was sent of the stream's last 512 packets; what a member tells of a stream, which goes to nobody; to the source's member, that a picture is lost; and to each member the reports of its streams, by place
 abbrev pub sent_of_input : Asker → List Visit → Visit → Input → List Sent
 sent_of_input who before visit (frame f) =
     flat_map (λ r. map (goes r.slot.out_ssrc None) (packets_at r.slot.out_ssrc before visit)) (receivers visit.desk f.source f.address)

@@ -54,7 +54,7 @@ pub record IsReached (who : Asker) (lanes : ℕ) (start : Desk) (before : List S
   pub sent_before : Contains (firsts who lanes start (record { kind = Kind.video; ssrc = block.ssrc }) before) (goes block.ssrc None p)
   pub recent : Contains (latest room (packets block.ssrc (visits lane start before))) p
 
--- At this visit operators are told what the block of a member says: its losses, and the source packet that it reaches, where there is one.
+-- At this visit a note says what the block of a member says: its losses, and the source packet that it reaches, where there is one.
 pub record IsNote (who : Asker) (lanes : ℕ) (start : Desk) (before : List Step) (lane : ℕ) (visit : Visit) (told : Told) (n : Notice) : Type 0 where
   pub version : n.version ≡ visit.version
   pub item : n.item ≡ visit.item

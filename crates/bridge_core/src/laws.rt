@@ -139,7 +139,7 @@ pub fn reports_count_first_sendings()
     mixes_are_mix_lists();
 }
 
-/// What operators are told of a receiver's report block is its losses, and which source packet its highest number reaches: the one
+/// What a note tells of a receiver's report block is its losses, and which source packet its highest number reaches: the one
 /// that went to this member at this address under that number, of the last 512 that were sent on the stream for the first time. Where
 /// no packet is told, there is none.
 pub fn notes_lead_back()
