@@ -2,6 +2,7 @@
 
 ghost use Rattle.source_valid.specs.laws.Delays.{Delays};
 ghost use Rattle.source_valid.specs.laws.Intervals.{Intervals};
+ghost use Rattle.source_valid.specs.laws.Losses.{Losses};
 ghost use Rattle.source_valid.specs.laws.Probations.{Probations};
 ghost use Rattle.source_valid.specs.laws.Restarts.{Restarts};
 ghost use Rattle.source_valid.specs.laws.Steady.{Steady};
@@ -35,4 +36,10 @@ pub fn steady()
 /// A delay of whole seconds is told exactly.
 pub fn delays()
     ensures { Delays }
+{}
+
+/// The fraction that was lost is rounded down, 0 where none was and 255 where all were. The loss is told where 24 bits can spell it,
+/// and else as the nearest number that they can (RFC 3550 A.3 and section 6.4.1).
+pub fn losses()
+    ensures { Losses }
 {}

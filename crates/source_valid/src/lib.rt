@@ -12,6 +12,6 @@ mod source;
 mod timing;
 mod verdict;
 
-pub use laws::{delays, intervals, probations, restarts, steady, true_numbers};
+pub use laws::{delays, intervals, losses, probations, restarts, steady, true_numbers};
 pub use source::Source;
 pub use verdict::Verdict;

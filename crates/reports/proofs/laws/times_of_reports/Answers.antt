@@ -11,3 +11,12 @@ units from n rate = ap (λ k. k * rate / microseconds) (whole_seconds from n) �
 
 pub returns-clause-ahead : goal.returns-clause-ahead
 returns-clause-ahead c = λ counts n. ap (λ k. (counts.ts + k) % 2 ^ 32) (units counts.moment n counts.rate)
+
+pub returns-clause-seconds : goal.returns-clause-seconds
+returns-clause-seconds c moment = omega arith
+
+pub returns-clause-not_later : goal.returns-clause-not_later
+returns-clause-not_later c moment = omega arith
+
+pub returns-clause-not_earlier : goal.returns-clause-not_earlier
+returns-clause-not_earlier c moment = omega arith
