@@ -7,7 +7,9 @@
  * /tmp/load BINARY storm DATAGRAMS LINES  random datagrams and operator lines; then a call
  *
  * `fan` and `room` run the bridge and then the floor, each for SECONDS. Processor time is user and system time of
- * /proc/PID/stat. The status is 0 where the bridge answered to its end.
+ * /proc/PID/stat. What is told beside it says where packets were lost: before the bridge (its own socket was full), behind it (a
+ * member's was), and whether this program or the machine stood still: steps of 4 ms that it couldn't take, which it leaves out, and
+ * the share of processor time that the machine beneath took away. The status is 0 where the bridge answered to its end.
  */
 #define _GNU_SOURCE
 #include <arpa/inet.h>
@@ -45,11 +47,13 @@ static struct sockaddr_in loopback(int port)
     return a;
 }
 
-/* A UDP socket of the system's choice of port, which never waits. */
+/* A UDP socket of the system's choice of port, which never waits, with much room where the system lets it have any. */
 static int udp_socket(struct sockaddr_in *at)
 {
-    int one = socket(AF_INET, SOCK_DGRAM | SOCK_NONBLOCK, 0);
+    int one = socket(AF_INET, SOCK_DGRAM | SOCK_NONBLOCK, 0), room = 8 << 20;
     socklen_t size = sizeof *at;
+    if (setsockopt(one, SOL_SOCKET, SO_RCVBUFFORCE, &room, sizeof room))
+        setsockopt(one, SOL_SOCKET, SO_RCVBUF, &room, sizeof room);
     *at = loopback(0);
     if (one < 0 || bind(one, (void *)at, sizeof *at) || getsockname(one, (void *)at, &size))
         die("no socket");
@@ -222,21 +226,39 @@ static void drain(int *some, int count, long *got)
         }
 }
 
-/* Both kinds of sending for so many seconds, in steps of 4 ms; a line each minute where it is asked for. */
+/* What was sent, and how many steps were left out since they were due too long ago. */
+static long pictures_sent, sounds_sent, steps_left_out;
+
+static double seconds_now(void)
+{
+    struct timespec now;
+    clock_gettime(CLOCK_MONOTONIC, &now);
+    return now.tv_sec + now.tv_nsec * 1e-9;
+}
+
+/* Both kinds of sending for so many seconds, in steps of 4 ms; a line each minute where it is asked for. A step that is more than
+ * 20 ms late is left out, so that no burst follows where this program stood still; timestamps and steps go on by the clock from the
+ * first one on, so that a source never comes later than it began. */
 static void talk(const struct sockaddr_in *to, double seconds, int with_fan, int with_room, pid_t watched)
 {
     static unsigned seq, tick;
+    static struct timespec next;
+    static long step;
     uint8_t octets[12 + VIDEO] = {0};
-    struct timespec next;
-    clock_gettime(CLOCK_MONOTONIC, &next);
-    long steps = seconds * 250;
-    for (long step = 0; step < steps; step++) {
-        if (with_fan)
-            for (int i = 0; i < 4; i++, seq++) {
+    if (!next.tv_sec)
+        clock_gettime(CLOCK_MONOTONIC, &next);
+    for (long until = step + seconds * 250; step < until; step++) {
+        int is_late = seconds_now() - (next.tv_sec + next.tv_nsec * 1e-9) > 0.02;
+        steps_left_out += is_late;
+        if (with_fan && !is_late)
+            for (int i = 0; i < 4; i++, seq++, pictures_sent++) {
                 header(octets, 100 | (i == 3) << 7, seq, seq / 4 * 360, 101);
                 sendto(fan[0], octets, sizeof octets, 0, (void *)to, sizeof *to);
             }
-        if (with_room && step % 5 == 0) {
+        if (with_room && step % 5 == 0 && is_late)
+            tick++;
+        if (with_room && step % 5 == 0 && !is_late) {
+            sounds_sent += ROOM;
             for (int i = 0; i < ROOM; i++) {
                 header(octets, 0, tick, tick * SAMPLES, 30000 + i);
                 for (int j = 0; j < SAMPLES; j++)
@@ -329,17 +351,65 @@ static void floor_of(int one)
     }
 }
 
+/* What was lost at the UDP socket of a port since it was opened. */
+static long lost_at(int port)
+{
+    char text[512];
+    long lost = 0;
+    FILE *file = fopen("/proc/net/udp", "r");
+    while (file && fgets(text, sizeof text, file)) {
+        unsigned at;
+        long drops;
+        if (sscanf(text, " %*d: %*x:%x %*x:%*x %*x %*x:%*x %*s %*s %*s %*s %*s %*s %*s %ld", &at, &drops) == 2 && (int)at == port)
+            lost = drops;
+    }
+    if (file)
+        fclose(file);
+    return lost;
+}
+
+static long lost_behind(void)
+{
+    long lost = 0;
+    for (int i = 0; i <= RECEIVERS; i++)
+        lost += lost_at(ntohs(fan_at[i].sin_port));
+    for (int i = 0; i < ROOM; i++)
+        lost += lost_at(ntohs(room_at[i].sin_port));
+    return lost;
+}
+
+/* All processor time of the machine since it began, and what the machine beneath it took of that, in ticks. */
+static void machine(double *all, double *taken)
+{
+    double part[8] = {0};
+    FILE *file = fopen("/proc/stat", "r");
+    *all = 0;
+    if (file && fscanf(file, "cpu %lf %lf %lf %lf %lf %lf %lf %lf", part, part + 1, part + 2, part + 3, part + 4, part + 5, part + 6, part + 7) == 8)
+        for (int i = 0; i < 8; i++)
+            *all += part[i];
+    *taken = part[7];
+    if (file)
+        fclose(file);
+}
+
 static double measured(const char *what, const struct sockaddr_in *to, pid_t pid, double seconds, int with_fan)
 {
+    double all, taken, all_after, taken_after;
     talk(to, 2, with_fan, !with_fan, 0);
     double before = processor(pid);
-    long had = fan_got + room_got;
+    long had = fan_got + room_got, front = lost_at(ntohs(to->sin_port)), behind = lost_behind();
+    pictures_sent = sounds_sent = steps_left_out = 0;
+    machine(&all, &taken);
     talk(to, seconds, with_fan, !with_fan, 0);
+    machine(&all_after, &taken_after);
     double spent = processor(pid) - before;
     long came = fan_got + room_got - had;
     double each = with_fan ? spent / came : spent / (seconds * 50);
     printf("%s: %.2f s of processor time, %ld packets came of %.0f, %.2f us a %s\n", what, spent, came,
-           with_fan ? seconds * 1000 * RECEIVERS : seconds * 50 * ROOM, each * 1e6, with_fan ? "packet out" : "tick");
+           with_fan ? (double)pictures_sent * RECEIVERS : seconds * 50 * ROOM, each * 1e6, with_fan ? "packet out" : "tick");
+    printf("%s: %ld packets sent, %ld lost before it, %ld behind it, %ld steps of 4 ms left out, %.1f %% of the machine taken away\n", what,
+           pictures_sent + sounds_sent, lost_at(ntohs(to->sin_port)) - front, lost_behind() - behind, steps_left_out,
+           100 * (taken_after - taken) / (all_after - all));
     fflush(stdout);
     return each;
 }
@@ -353,7 +423,8 @@ static void beside_floor(const char *binary, double seconds, int with_fan)
     set_desk(with_fan, !with_fan);
     double bridge = measured("bridge", &udp, server, seconds, with_fan);
     stop_bridge();
-    int one = udp_socket(&at);
+    int one = udp_socket(&at), plain = 212992 / 2;
+    setsockopt(one, SOL_SOCKET, SO_RCVBUF, &plain, sizeof plain); /* what the bridge's has, by the system's choice */
     server = fork();
     if (server == 0)
         floor_of(one);
