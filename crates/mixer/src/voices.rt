@@ -27,13 +27,14 @@ fn voice_of<A: Allocator + Copy>(playouts: &Playouts<A>, source: &AudioSource) -
     ensures heard { (given : List Given) → Has playouts.now (map to_playouts given) → result ≡ voice_of given source.now }
     ensures source { result.source ≡ source.now }
 {
-    let mut samples = [0; PLACES];
-    let filled = playouts.peek(source.ssrc, &source.address, &mut samples);
-    Voice {
+    let mut voice = Voice {
         source: *source,
-        samples,
-        filled,
-    }
+        samples: [0; PLACES],
+        filled: 0,
+    };
+    let filled = playouts.peek(source.ssrc, &source.address, &mut voice.samples);
+    voice.filled = filled;
+    voice
 }
 
 /// What sources sound like in the next tick.
