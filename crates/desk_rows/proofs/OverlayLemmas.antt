@@ -10,7 +10,7 @@ use Rattle.desk_rows.specs.declared.row.Key.{Key}
 use Rattle.desk_rows.specs.declared.row.Kind.TheVariants as kinds
 use Rattle.desk_rows.specs.Kinds.{is_of}
 use Rattle.desk_rows.specs.Limits.{member_limit, slot_limit, other_limit}
-use Rattle.desk_rows.specs.Order.{in_order, key_is_new, are_apart, with_rows, without_rows}
+use Rattle.desk_rows.specs.Order.{in_order, key_is_new, is_in, are_apart, have_same_keys, with_rows, without_rows}
 use Rattle.desk_rows.specs.Places.{take_at, put_at, can_take, can_put}
 use Rattle.desk_rows.specs.Edit.{EditOf, outs, ins}
 use Rattle.desk_rows.specs.Desk.{Desk, good, rows_of, row_at, is_within_limits}
@@ -110,6 +110,8 @@ pub record Absorbs (d : Desk) (e : EditOf) : Type 0 where
   pub numbers : (n : ℕ) → count_by (λ m. nat_eq m.member n) (put_at e.put.members (take_at e.taken.members d.members)) ≤ 1
   pub members_few : length (take_at e.taken.members d.members) + length e.put.members ≤ member_limit
   pub orders : HasOrders e
+  pub there : list_all (is_in d.others) (outs e) ≡ true
+  pub paired : have_same_keys e.replaced.old e.replaced.new ≡ true
   pub apart : are_apart e.put.others e.replaced.new ≡ true
   pub others_few : length (with_rows (ins e) (without_rows (outs e) d.others)) ≤ other_limit
   pub subs_few : length (filter (is_of kinds.Sub) (with_rows (ins e) (without_rows (outs e) d.others))) ≤ slot_limit
@@ -130,6 +132,8 @@ absorbs d e h =
       numbers = once_each (exchanged d e) f.later;
       members_few = (let l = length-put_at e.put.members (take_at e.taken.members d.members) f.apt.put in omega (arith, few.0, l));
       orders = orders_of d e (apt_from d e f.apt);
+      there = f.apt.outs_there;
+      paired = f.apt.paired;
       apart = f.apt.ins_apart;
       others_few = few.1;
       subs_few = slots.0;

@@ -1,13 +1,13 @@
 -- A row put in, or taken out, at the place that parts the rows before it from those behind.
 use Rattle.std.specs.Prelude.{slice_get}
-use Rattle.std.proofs.Common.{◌≡◌, ℕ, zero, suc, ◌≤◌, Bool, true, false, not, cond, ◌||◌, List, [], ◌∷◌, length, insert, remove, refl, sym, ap, ◌∙◌, inl, inr, arith}
+use Rattle.std.proofs.Common.{◌≡◌, ℕ, zero, suc, ◌<◌, ◌≤◌, Bool, true, false, not, cond, ◌||◌, List, [], ◌∷◌, length, insert, remove, set, refl, sym, ap, ◌∙◌, inl, inr, arith}
 use Rattle.std.specs.List.{list_all}
-use Rattle.std.proofs.lemmas.Bool.{and_parts, and_from, cases_Bool}
+use Rattle.std.proofs.lemmas.Bool.{and_parts, and_from, or_cases, cases_Bool}
 use Rattle.desk_rows.specs.declared.row.Row.{Row}
 use Rattle.desk_rows.specs.Row.{key_of, same_row}
-use Rattle.desk_rows.specs.Order.{precedes, in_order, is_in, with_row, without_rows}
+use Rattle.desk_rows.specs.Order.{key_precedes, precedes, in_order, is_in, with_row, without_rows}
 use Rattle.desk_rows.specs.inner.Parting.{Parts, is_found_as}
-use Rattle.desk_rows.specs.laws.Equal.{same_row_is, keys_precede_on, not_before_itself}
+use Rattle.desk_rows.specs.laws.Equal.{same_row_is, row_itself, keys_precede_on, not_before_itself}
 use Rattle.desk_rows.specs.laws.OrderLaws.{at_each, from_each, filter_all, in_order-filter}
 use Rattle.desk_rows.proofs.Counts.{true_false}
 use Rattle.desk_rows.proofs.Halving.{later_parts}
@@ -118,3 +118,43 @@ first_stays t x ts xs h late other =
       | inr one ↦ one
     ] in
     (λ i. cond (not (other i || none i)) (x ∷ without_rows (t ∷ ts) xs) (without_rows (t ∷ ts) xs))
+
+-- ---- one in place of another
+
+-- a row of the key of one that stood before all of these stands before them
+put_first : (x n : Row) (xs : List Row) → key_of x ≡ key_of n → list_all (precedes x) xs ≡ true → with_row n xs ≡ n ∷ xs
+put_first x n [] same h = refl
+put_first x n (y ∷ ys) same h = ap (λ b. cond b (n ∷ y ∷ ys) (y ∷ with_row n ys)) (ap (λ k. key_precedes k (key_of y)) (sym same) ∙ (and_parts (precedes x y) (list_all (precedes x) ys) h).0)
+
+pub replaced_at : (o n : Row) (xs : List Row) (i : ℕ) → in_order xs ≡ true → Parts (λ x. precedes x o) xs i → is_in xs o ≡ true → key_of o ≡ key_of n →
+    (i < length xs) × (with_row n (without_rows (o ∷ []) xs) ≡ set xs i n)
+replaced_at o n [] i h p there same = absurd (true_false (sym there))
+replaced_at o n (x ∷ xs) zero h p there same =
+    let order = and_parts (list_all (precedes x) xs) (in_order xs) h in
+    let late = p.1 zero x (omega arith) (omega arith) in
+    let is : x ≡ o = elim (or_cases (same_row o x) (is_in xs o) there) [
+      | inl e ↦ sym (same_row_is o x e)
+      | inr e ↦ absurd (true_false (sym (at_each (precedes x) xs o order.0 e) ∙ late))
+    ] in
+    let gone : without_rows (o ∷ []) (x ∷ xs) ≡ xs =
+    ap (λ y. cond (not (same_row y o || false)) (x ∷ without_rows (o ∷ []) xs) (without_rows (o ∷ []) xs)) is
+    ∙ ap (λ b. cond (not (b || false)) (x ∷ without_rows (o ∷ []) xs) (without_rows (o ∷ []) xs)) (row_itself o)
+    ∙ others_stay o xs (none_behind o x xs order.0 late) in
+    (omega arith, ap (with_row n) gone ∙ put_first x n xs (ap key_of is ∙ same) order.0)
+replaced_at o n (x ∷ xs) (suc i) h p there same =
+    let order = and_parts (list_all (precedes x) xs) (in_order xs) h in
+    let first = p.0 zero x (omega arith) (omega arith) in
+    let later : is_in xs o ≡ true = elim (or_cases (same_row o x) (is_in xs o) there) [
+      | inl e ↦ absurd (true_false (sym first ∙ ap (precedes x) (same_row_is o x e) ∙ not_before_itself x))
+      | inr e ↦ e
+    ] in
+    let rest = replaced_at o n xs i order.1 (later_parts (λ y. precedes y o) x xs i p) later same in
+    let behind : precedes n x ≡ false = elim (cases_Bool (precedes n x)) [
+      | inl e ↦ absurd (true_false (sym (keys_precede_on (key_of x) (key_of o) (key_of x) first (ap (λ k. key_precedes k (key_of x)) same ∙ e)) ∙ not_before_itself x))
+      | inr e ↦ e
+    ] in (
+      omega (arith, rest.0),
+      ap (λ b. with_row n (cond (not (b || false)) (x ∷ without_rows (o ∷ []) xs) (without_rows (o ∷ []) xs))) (differs o x first)
+          ∙ ap (λ b. cond b (n ∷ x ∷ without_rows (o ∷ []) xs) (x ∷ with_row n (without_rows (o ∷ []) xs))) behind
+          ∙ ap (λ ys. x ∷ ys) rest.1,
+    )

@@ -1,6 +1,6 @@
 //! Rows, and an edit of them.
 
-ghost use Rattle.std.specs.Prelude.{◌≡◌, ℕ, ◌+◌, ◌≤◌, ◌&&◌, true, not, count_by, nat_eq, length, vec_len, vec_capacity};
+ghost use Rattle.std.specs.Prelude.{◌≡◌, ℕ, ◌+◌, ◌≤◌, ◌&&◌, true, not, count_by, nat_eq, length, vec_len, vec_capacity, IfSome};
 ghost use Rattle.std.specs.List.{list_any, list_all};
 ghost use Rattle.desk_rows.specs.declared.row.Kind.TheVariants as kinds;
 ghost use Rattle.desk_rows.specs.declared.row.Row.TheVariants.{Member as MemberRow};
@@ -13,7 +13,7 @@ ghost use Rattle.desk_rows.specs.Exchange.{is_apt, exchanged, fits};
 ghost use Rattle.desk_rows.specs.Desk.{good};
 ghost use Rattle.desk_rows.specs.inner.Index.{IsIndex};
 ghost use Rattle.desk_rows.specs.inner.Addressed.{IsByAddress};
-ghost use Rattle.desk_rows.specs.inner.Judged.{HasOrders, takes, puts, coming, is_free, comes_once, keys_are_new};
+ghost use Rattle.desk_rows.specs.inner.Judged.{HasOrders, OnlyReplaces, takes, puts, coming, is_free, comes_once, keys_are_new};
 
 use crate::edit::{Edit, Placed};
 use crate::index::{Entry, move_members};
@@ -22,6 +22,7 @@ use crate::overlay::Overlay;
 use crate::places::{can_be_put, can_be_taken};
 use crate::row::{Key, Kind, Member, Row};
 use crate::rows::Rows;
+use crate::sliding::replace_one;
 use std::alloc::Allocator;
 
 /// A desk, and an edit of it: the rows that go are there, those that come have places, and a row is
@@ -247,13 +248,22 @@ fn put_two<A: Allocator>(
     }
 }
 
+/// The one row that is replaced, and the one in its stead, where the edit does nothing else to rows
+/// beside the members.
+fn only_replaced<A: Allocator + Copy>(edit: &Edit<A>) -> Option<(Row, Row)>
+    ensures { IfSome result (λ pair. OnlyReplaces edit.now pair.0 pair.1) }
+{
+    let (old, new) = (edit.old(), edit.new());
+    let moved = edit.taken_others().len() + edit.put_others().len();
+    if moved == 0 && old.len() == 1 && new.len() == 1 {
+        return Some((old[0], new[0]));
+    }
+    None
+}
+
 /// Takes the other rows that go, and puts those that come, each where it keeps the order. There is
 /// room for them.
-pub(crate) fn exchange_rows<A: Allocator + Copy>(
-    others: &mut Vec<Row, A>,
-    spare: &mut Vec<Row, A>,
-    edit: &Edit<A>,
-)
+fn move_rows<A: Allocator + Copy>(others: &mut Vec<Row, A>, spare: &mut Vec<Row, A>, edit: &Edit<A>)
     requires rows { in_order others.old.items ≡ true }
     requires fit { length others.old.items ≤ 78016 }
     requires orders { HasOrders edit.now }
@@ -269,5 +279,29 @@ pub(crate) fn exchange_rows<A: Allocator + Copy>(
         put_rows(others, spare, edit.put_others());
     } else {
         put_two(others, spare, edit.put_others(), new);
+    }
+}
+
+/// Takes the other rows that go, and puts those that come. One that is replaced is overwritten where
+/// it stands. There is room for all.
+pub(crate) fn exchange_rows<A: Allocator + Copy>(
+    others: &mut Vec<Row, A>,
+    spare: &mut Vec<Row, A>,
+    edit: &Edit<A>,
+)
+    requires rows { in_order others.old.items ≡ true }
+    requires fit { length others.old.items ≤ 78016 }
+    requires orders { HasOrders edit.now }
+    requires there { list_all (is_in others.old.items) (outs edit.now) ≡ true }
+    requires paired { have_same_keys edit.now.replaced.old edit.now.replaced.new ≡ true }
+    requires apart { are_apart edit.now.put.others edit.now.replaced.new ≡ true }
+    requires few { length (with_rows (ins edit.now) (without_rows (outs edit.now) others.old.items)) ≤ 78016 }
+    requires room { (78016 ≤ vec_capacity others.old) × (78016 ≤ vec_capacity spare.old) }
+    ensures items { others.new.items ≡ with_rows (ins edit.now) (without_rows (outs edit.now) others.old.items) }
+    ensures room { (78016 ≤ vec_capacity others.new) × (78016 ≤ vec_capacity spare.new) }
+{
+    match only_replaced(edit) {
+        Some((old, new)) => replace_one(others, &old, &new),
+        None => move_rows(others, spare, edit),
     }
 }

@@ -1,7 +1,8 @@
 //! One row, put in, taken out or replaced at its place.
 
 ghost use Rattle.std.specs.Prelude.{◌≡◌, ◌+◌, ◌≤◌, ◌∷◌, [], true, not, length, slice_get, vec_len, vec_capacity};
-ghost use Rattle.desk_rows.specs.Order.{precedes, in_order, with_row, without_rows};
+ghost use Rattle.desk_rows.specs.Row.{key_of, same_key};
+ghost use Rattle.desk_rows.specs.Order.{precedes, in_order, is_in, with_row, without_rows};
 ghost use Rattle.desk_rows.specs.inner.Parting.{Parts, is_found_as};
 
 use crate::row::Row;
@@ -58,4 +59,16 @@ pub(crate) fn put_one<A: Allocator>(rows: &mut Vec<Row, A>, row: &Row)
     if rows.insert(place, *row).is_err() {
         return;
     }
+}
+
+/// Puts a row in place of another of its key, which is there.
+pub(crate) fn replace_one<A: Allocator>(rows: &mut Vec<Row, A>, old: &Row, new: &Row)
+    requires order { in_order rows.old.items ≡ true }
+    requires there { is_in rows.old.items old.now ≡ true }
+    requires key { same_key (key_of old.now) (key_of new.now) ≡ true }
+    ensures items { rows.new.items ≡ with_row new.now (without_rows (old.now ∷ []) rows.old.items) }
+    ensures capacity { vec_capacity rows.old ≤ vec_capacity rows.new }
+{
+    let place = place_of(rows, old);
+    rows[place] = *new;
 }

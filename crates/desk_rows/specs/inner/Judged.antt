@@ -24,6 +24,13 @@ pub record HasOrders (e : EditOf) : Type 0 where
   pub put : in_order e.put.others ≡ true
   pub new : in_order e.replaced.new ≡ true
 
+-- beside members, all that an edit does is to put the second row in place of the first
+pub record OnlyReplaces (e : EditOf) (r s : Row) : Type 0 where
+  pub taken : e.taken.others ≡ []
+  pub put : e.put.others ≡ []
+  pub old : e.replaced.old ≡ r ∷ []
+  pub new : e.replaced.new ≡ s ∷ []
+
 -- ---- the rows that stay, those that go and those that come
 
 abbrev pub stay_rows : Desk → EditOf → List Row

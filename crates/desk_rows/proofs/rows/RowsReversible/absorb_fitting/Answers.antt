@@ -39,6 +39,12 @@ exchange_rows-requires-clause-fit g c = (few_rows _ c.self.invariant.0).1
 pub exchange_rows-requires-clause-orders : goal.exchange_rows-requires-clause-orders
 exchange_rows-requires-clause-orders g c = (at _ _ c.args.edit.now c.self.view_is c.requires).orders
 
+pub exchange_rows-requires-clause-there : goal.exchange_rows-requires-clause-there
+exchange_rows-requires-clause-there g c = (at _ _ c.args.edit.now c.self.view_is c.requires).there
+
+pub exchange_rows-requires-clause-paired : goal.exchange_rows-requires-clause-paired
+exchange_rows-requires-clause-paired g c = (at _ _ c.args.edit.now c.self.view_is c.requires).paired
+
 pub exchange_rows-requires-clause-apart : goal.exchange_rows-requires-clause-apart
 exchange_rows-requires-clause-apart g c = (at _ _ c.args.edit.now c.self.view_is c.requires).apart
 

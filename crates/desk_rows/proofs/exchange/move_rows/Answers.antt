@@ -5,7 +5,7 @@ use Rattle.desk_rows.specs.Edit.{outs, ins}
 use Rattle.desk_rows.proofs.ExchangeLemmas.{length-with_rows}
 use Rattle.desk_rows.proofs.Merging.{put_in_turn}
 use Rattle.desk_rows.proofs.SlidingLemmas.{rest_in_order}
-use Rattle.desk_rows.proofs.exchange.exchange_rows.Goals as goal
+use Rattle.desk_rows.proofs.exchange.move_rows.Goals as goal
 
 pub put_rows-requires-clause-rows : goal.put_rows-requires-clause-rows
 put_rows-requires-clause-rows g c =
