@@ -1,7 +1,8 @@
 -- What goes is found kind by kind.
-use Rattle.std.proofs.Common.{append-nil, append_assoc, ◌≡◌, ℕ, zero, suc, ◌+◌, ◌<◌, ◌≤◌, nat_le, nat_lt, nat_eq, Bool, true, false, not, cond, ◌&&◌, ◌||◌, List, [], ◌∷◌, ◌++◌, filter, refl, sym, ap, ◌∙◌, inl, inr, ◌⊎◌, arith}
+use Rattle.std.proofs.Common.{append-nil, append_assoc, ◌≡◌, ℕ, ◌+◌, nat_le, nat_lt, nat_eq, Bool, true, false, not, cond, ◌&&◌, ◌||◌, List, [], ◌∷◌, ◌++◌, filter, refl, sym, ap, ◌∙◌, inl, inr, arith}
 use Rattle.std.specs.List.{list_any, list_all}
 use Rattle.std.proofs.lemmas.Bool.{and_parts, and_from, cases_Bool}
+use borrow.Author.Tests.{eqb-true}
 use Rattle.desk_rows.specs.declared.row.Row.{Row}
 use Rattle.desk_rows.specs.declared.row.Row.TheVariants as rows
 use Rattle.desk_rows.specs.declared.row.Key.{Key}
@@ -10,7 +11,7 @@ use Rattle.desk_rows.specs.declared.row.Kind.{Kind}
 use Rattle.desk_rows.specs.declared.row.Kind.TheVariants as kinds
 use Rattle.desk_rows.specs.Row.{rank, kind_of, key_of, has_key, same_key, names}
 use Rattle.desk_rows.specs.Kinds.{is_of}
-use Rattle.desk_rows.specs.Order.{precedes, in_order, is_in}
+use Rattle.desk_rows.specs.Order.{precedes, in_order}
 use Rattle.desk_rows.specs.Desk.{Desk, good, rows_of}
 use Rattle.desk_rows.specs.laws.OrderLaws.{at_each, from_each}
 use Rattle.desk_rows.specs.laws.Laws.{good_order}
@@ -18,7 +19,7 @@ use Rattle.desk_rows.proofs.Counts.{true_false}
 use Rattle.desk_rows.proofs.Halving.{below_falls}
 use Rattle.desk_rows.proofs.KindLemmas.{plain_others}
 use Rattle.desk_edit.specs.Depends.{goes_within, goes_with}
-use Rattle.desk_edit.specs.inner.Levels.{level, is_above, can_go}
+use Rattle.desk_edit.specs.inner.Levels.{is_above, can_go}
 use Rattle.desk_edit.proofs.GoingLemmas.{none_goes}
 
 -- ---- kinds of which none can go
@@ -37,7 +38,7 @@ no_name d key (k ∷ ks) h =
 stays_put : (d : Desk) (key : Key) (x : Row) → has_key key x ≡ false → list_all (λ k. not (is_above k key) && not (same_key k key)) (names x) ≡ true → goes_with d key x ≡ false
 stays_put d key x own h = (λ i. own i || no_name d key (names x) h i)
 
-kind_stays : (d : Desk) (key : Key) (x : Row) → can_go (kind_of (key_of x)) (kind_of key) ≡ false → goes_with d key x ≡ false
+pub kind_stays : (d : Desk) (key : Key) (x : Row) → can_go (kind_of (key_of x)) (kind_of key) ≡ false → goes_with d key x ≡ false
 kind_stays d (keys.Member n) (rows.Room r) h = stays_put d (keys.Member n) (rows.Room r) refl refl
 kind_stays d (keys.Member n) (rows.Member r) h = absurd (true_false h)
 kind_stays d (keys.Member n) (rows.Source r) h = absurd (true_false h)
@@ -72,90 +73,27 @@ kind_stays d (keys.Gain m n) x h = absurd (true_false h)
 kind_stays d (keys.Pin n) x h = absurd (true_false h)
 kind_stays d (keys.Floor n) x h = absurd (true_false h)
 
-rank_injects : (kind : Kind) (x : Row) → is_of kind x ≡ true → (top : Kind) → can_go kind top ≡ can_go (kind_of (key_of x)) top
-rank_injects kinds.Room (rows.Room r) e top = refl
-rank_injects kinds.Room (rows.Member r) e top = absurd (true_false (sym e))
-rank_injects kinds.Room (rows.Source r) e top = absurd (true_false (sym e))
-rank_injects kinds.Room (rows.Slot r) e top = absurd (true_false (sym e))
-rank_injects kinds.Room (rows.Sub r) e top = absurd (true_false (sym e))
-rank_injects kinds.Room (rows.Mute r) e top = absurd (true_false (sym e))
-rank_injects kinds.Room (rows.Gain r) e top = absurd (true_false (sym e))
-rank_injects kinds.Room (rows.Pin r) e top = absurd (true_false (sym e))
-rank_injects kinds.Room (rows.Floor r) e top = absurd (true_false (sym e))
-rank_injects kinds.Member (rows.Room r) e top = absurd (true_false (sym e))
-rank_injects kinds.Member (rows.Member r) e top = refl
-rank_injects kinds.Member (rows.Source r) e top = absurd (true_false (sym e))
-rank_injects kinds.Member (rows.Slot r) e top = absurd (true_false (sym e))
-rank_injects kinds.Member (rows.Sub r) e top = absurd (true_false (sym e))
-rank_injects kinds.Member (rows.Mute r) e top = absurd (true_false (sym e))
-rank_injects kinds.Member (rows.Gain r) e top = absurd (true_false (sym e))
-rank_injects kinds.Member (rows.Pin r) e top = absurd (true_false (sym e))
-rank_injects kinds.Member (rows.Floor r) e top = absurd (true_false (sym e))
-rank_injects kinds.Source (rows.Room r) e top = absurd (true_false (sym e))
-rank_injects kinds.Source (rows.Member r) e top = absurd (true_false (sym e))
-rank_injects kinds.Source (rows.Source r) e top = refl
-rank_injects kinds.Source (rows.Slot r) e top = absurd (true_false (sym e))
-rank_injects kinds.Source (rows.Sub r) e top = absurd (true_false (sym e))
-rank_injects kinds.Source (rows.Mute r) e top = absurd (true_false (sym e))
-rank_injects kinds.Source (rows.Gain r) e top = absurd (true_false (sym e))
-rank_injects kinds.Source (rows.Pin r) e top = absurd (true_false (sym e))
-rank_injects kinds.Source (rows.Floor r) e top = absurd (true_false (sym e))
-rank_injects kinds.Slot (rows.Room r) e top = absurd (true_false (sym e))
-rank_injects kinds.Slot (rows.Member r) e top = absurd (true_false (sym e))
-rank_injects kinds.Slot (rows.Source r) e top = absurd (true_false (sym e))
-rank_injects kinds.Slot (rows.Slot r) e top = refl
-rank_injects kinds.Slot (rows.Sub r) e top = absurd (true_false (sym e))
-rank_injects kinds.Slot (rows.Mute r) e top = absurd (true_false (sym e))
-rank_injects kinds.Slot (rows.Gain r) e top = absurd (true_false (sym e))
-rank_injects kinds.Slot (rows.Pin r) e top = absurd (true_false (sym e))
-rank_injects kinds.Slot (rows.Floor r) e top = absurd (true_false (sym e))
-rank_injects kinds.Sub (rows.Room r) e top = absurd (true_false (sym e))
-rank_injects kinds.Sub (rows.Member r) e top = absurd (true_false (sym e))
-rank_injects kinds.Sub (rows.Source r) e top = absurd (true_false (sym e))
-rank_injects kinds.Sub (rows.Slot r) e top = absurd (true_false (sym e))
-rank_injects kinds.Sub (rows.Sub r) e top = refl
-rank_injects kinds.Sub (rows.Mute r) e top = absurd (true_false (sym e))
-rank_injects kinds.Sub (rows.Gain r) e top = absurd (true_false (sym e))
-rank_injects kinds.Sub (rows.Pin r) e top = absurd (true_false (sym e))
-rank_injects kinds.Sub (rows.Floor r) e top = absurd (true_false (sym e))
-rank_injects kinds.Mute (rows.Room r) e top = absurd (true_false (sym e))
-rank_injects kinds.Mute (rows.Member r) e top = absurd (true_false (sym e))
-rank_injects kinds.Mute (rows.Source r) e top = absurd (true_false (sym e))
-rank_injects kinds.Mute (rows.Slot r) e top = absurd (true_false (sym e))
-rank_injects kinds.Mute (rows.Sub r) e top = absurd (true_false (sym e))
-rank_injects kinds.Mute (rows.Mute r) e top = refl
-rank_injects kinds.Mute (rows.Gain r) e top = absurd (true_false (sym e))
-rank_injects kinds.Mute (rows.Pin r) e top = absurd (true_false (sym e))
-rank_injects kinds.Mute (rows.Floor r) e top = absurd (true_false (sym e))
-rank_injects kinds.Gain (rows.Room r) e top = absurd (true_false (sym e))
-rank_injects kinds.Gain (rows.Member r) e top = absurd (true_false (sym e))
-rank_injects kinds.Gain (rows.Source r) e top = absurd (true_false (sym e))
-rank_injects kinds.Gain (rows.Slot r) e top = absurd (true_false (sym e))
-rank_injects kinds.Gain (rows.Sub r) e top = absurd (true_false (sym e))
-rank_injects kinds.Gain (rows.Mute r) e top = absurd (true_false (sym e))
-rank_injects kinds.Gain (rows.Gain r) e top = refl
-rank_injects kinds.Gain (rows.Pin r) e top = absurd (true_false (sym e))
-rank_injects kinds.Gain (rows.Floor r) e top = absurd (true_false (sym e))
-rank_injects kinds.Pin (rows.Room r) e top = absurd (true_false (sym e))
-rank_injects kinds.Pin (rows.Member r) e top = absurd (true_false (sym e))
-rank_injects kinds.Pin (rows.Source r) e top = absurd (true_false (sym e))
-rank_injects kinds.Pin (rows.Slot r) e top = absurd (true_false (sym e))
-rank_injects kinds.Pin (rows.Sub r) e top = absurd (true_false (sym e))
-rank_injects kinds.Pin (rows.Mute r) e top = absurd (true_false (sym e))
-rank_injects kinds.Pin (rows.Gain r) e top = absurd (true_false (sym e))
-rank_injects kinds.Pin (rows.Pin r) e top = refl
-rank_injects kinds.Pin (rows.Floor r) e top = absurd (true_false (sym e))
-rank_injects kinds.Floor (rows.Room r) e top = absurd (true_false (sym e))
-rank_injects kinds.Floor (rows.Member r) e top = absurd (true_false (sym e))
-rank_injects kinds.Floor (rows.Source r) e top = absurd (true_false (sym e))
-rank_injects kinds.Floor (rows.Slot r) e top = absurd (true_false (sym e))
-rank_injects kinds.Floor (rows.Sub r) e top = absurd (true_false (sym e))
-rank_injects kinds.Floor (rows.Mute r) e top = absurd (true_false (sym e))
-rank_injects kinds.Floor (rows.Gain r) e top = absurd (true_false (sym e))
-rank_injects kinds.Floor (rows.Pin r) e top = absurd (true_false (sym e))
-rank_injects kinds.Floor (rows.Floor r) e top = refl
+-- the kind of a rank
+abbrev kind_at : ℕ → Kind
+kind_at n =
+    cond (nat_eq n 0) kinds.Room (cond (nat_eq n 1) kinds.Member (cond (nat_eq n 2) kinds.Source (cond (nat_eq n 3) kinds.Slot
+    (cond (nat_eq n 4) kinds.Sub (cond (nat_eq n 5) kinds.Mute (cond (nat_eq n 6) kinds.Gain (cond (nat_eq n 7) kinds.Pin kinds.Floor)))))))
 
-none_pass : (p : Row → Bool) (xs : List Row) → list_all (λ x. not (p x)) xs ≡ true → filter p xs ≡ []
+kind_back : (kind : Kind) → kind_at (rank kind) ≡ kind
+kind_back kinds.Room = refl
+kind_back kinds.Member = refl
+kind_back kinds.Source = refl
+kind_back kinds.Slot = refl
+kind_back kinds.Sub = refl
+kind_back kinds.Mute = refl
+kind_back kinds.Gain = refl
+kind_back kinds.Pin = refl
+kind_back kinds.Floor = refl
+
+pub its_kind : (kind : Kind) (x : Row) → is_of kind x ≡ true → kind_of (key_of x) ≡ kind
+its_kind kind x e = sym (kind_back (kind_of (key_of x))) ∙ ap kind_at (eqb-true (rank (kind_of (key_of x))) (rank kind) e) ∙ kind_back kind
+
+pub none_pass : (p : Row → Bool) (xs : List Row) → list_all (λ x. not (p x)) xs ≡ true → filter p xs ≡ []
 none_pass p [] h = refl
 none_pass p (x ∷ xs) h =
     let both = and_parts (not (p x)) (list_all (λ x. not (p x)) xs) h in
@@ -174,7 +112,7 @@ filter_passes p (x ∷ xs) = by (p x) refl (filter_passes p xs) where
 pub kind_none : (d : Desk) (key : Key) (kind : Kind) → can_go kind (kind_of key) ≡ false → filter (goes_with d key) (filter (is_of kind) d.others) ≡ []
 kind_none d key kind h =
     none_pass (goes_with d key) (filter (is_of kind) d.others) (from_each (λ x. not (goes_with d key x)) (filter (is_of kind) d.others) (λ x one.
-    ap not (kind_stays d key x (sym (rank_injects kind x (at_each (is_of kind) (filter (is_of kind) d.others) x (filter_passes (is_of kind) d.others) one) (kind_of key)) ∙ h))))
+    ap not (kind_stays d key x (ap (λ k. can_go k (kind_of key)) (its_kind kind x (at_each (is_of kind) (filter (is_of kind) d.others) x (filter_passes (is_of kind) d.others) one)) ∙ h))))
 
 -- ---- rows in order, kind by kind
 

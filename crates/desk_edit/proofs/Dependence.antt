@@ -9,6 +9,7 @@ use Rattle.desk_rows.specs.declared.row.Kind.{Kind}
 use Rattle.desk_rows.specs.declared.row.Kind.TheVariants as kinds
 use Rattle.desk_rows.specs.Row.{kind_of, key_of, has_key, names, same_row}
 use Rattle.desk_rows.specs.laws.Equal.{its_key, same_row_is}
+use Rattle.desk_rows.specs.laws.OrderLaws.{both_ways}
 use Rattle.desk_rows.specs.Order.{is_in}
 use Rattle.desk_rows.specs.Desk.{Desk, rows_of, holds}
 use Rattle.desk_rows.proofs.Counts.{true_false, witness}
@@ -54,7 +55,7 @@ one_further n d key r t named held goes =
     or_right (has_key key r) _ (k.2 (λ j. list_any (λ s. has_key j s && goes_within n d key s) (rows_of d))
     (row_some (λ s. has_key k.0 s && goes_within n d key s) (rows_of d) t held (and_from _ _ k.1 goes)))
 
-own_goes : (n : ℕ) (d : Desk) (key : Key) (s : Row) → has_key key s ≡ true → goes_within n d key s ≡ true
+pub own_goes : (n : ℕ) (d : Desk) (key : Key) (s : Row) → has_key key s ≡ true → goes_within n d key s ≡ true
 own_goes zero d key s h = h
 own_goes (suc n) d key s h = or_left _ _ h
 
@@ -92,7 +93,7 @@ lower_key n t (k ∷ ks) all h =
 lower : (r t : Row) → Names r t → level (kind_of (key_of t)) < level (kind_of (key_of r))
 lower r t named = lower_key (level (kind_of (key_of r))) t (names r) (names_lower r) named
 
-within : (n : ℕ) (d : Desk) (key : Key) (r s : Row) → level (kind_of (key_of r)) ≤ n → holds d s ≡ true → has_key key s ≡ true → Depends d r s → goes_within n d key r ≡ true
+pub within : (n : ℕ) (d : Desk) (key : Key) (r s : Row) → level (kind_of (key_of r)) ≤ n → holds d s ≡ true → has_key key s ≡ true → Depends d r s → goes_within n d key r ≡ true
 within zero d key r s few held own (Depends.direct _ _ named) = absurd (let less = lower r s named in omega (arith, less, few))
 within zero d key r s few held own (Depends.through _ t _ named there rest) = absurd (let less = lower r t named in omega (arith, less, few))
 within (suc n) d key r s few held own (Depends.direct _ _ named) = one_further n d key r s named held (own_goes n d key s own)
@@ -101,6 +102,18 @@ within (suc n) d key r s few held own (Depends.through _ t _ named there rest) =
 
 pub dependent_goes : (d : Desk) (key : Key) (r : Row) → IsDependent d key r → goes_with d key r ≡ true
 dependent_goes d key r h = within 3 d key r h.0 (three_at_most (kind_of (key_of r))) h.1 h.2 h.3
+
+-- more steps than a row's level say the same
+pub steady : (n : ℕ) (d : Desk) (key : Key) (r : Row) → level (kind_of (key_of r)) ≤ n → goes_within n d key r ≡ goes_with d key r
+steady n d key r few = both_ways (goes_within n d key r) (goes_with d key r)
+    (λ h. elim (only_dependent n d key r h) [
+      | inl own ↦ own_goes 3 d key r own
+      | inr more ↦ dependent_goes d key r more
+    ])
+    (λ h. elim (only_dependent 3 d key r h) [
+      | inl own ↦ own_goes n d key r own
+      | inr more ↦ within n d key r more.0 few more.1 more.2 more.3
+    ])
 
 -- what depends on a row stands above it
 above : (d : Desk) (r s : Row) → Depends d r s → level (kind_of (key_of s)) < level (kind_of (key_of r))

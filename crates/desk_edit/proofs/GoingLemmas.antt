@@ -77,7 +77,7 @@ three_at_most kinds.Floor = omega arith
 not_member : (key : Key) → level (kind_of key) ≡ 3 → (n : ℕ) → key ≡ keys.Member n → ⊥
 not_member key top n is = let one : level (kind_of key) ≡ 1 = ap (λ k. level (kind_of k)) is in omega (arith, top, one)
 
-only_its : (d : Desk) (key : Key) → level (kind_of key) ≡ 3 → (x : Row) → goes_with d key x ≡ has_key key x
+pub only_its : (d : Desk) (key : Key) → level (kind_of key) ≡ 3 → (x : Row) → goes_with d key x ≡ has_key key x
 only_its d key top x = by (cases_Bool (goes_with d key x)) (cases_Bool (has_key key x)) where
   by : (goes_with d key x ≡ true) ⊎ (goes_with d key x ≡ false) → (has_key key x ≡ true) ⊎ (has_key key x ≡ false) → goes_with d key x ≡ has_key key x
   by (inl e) (inl f) = e ∙ sym f
@@ -97,13 +97,13 @@ filter_none : (p : Row → Bool) (xs : List Row) → list_any p xs ≡ false →
 filter_none p [] h = refl
 filter_none p (x ∷ xs) h = let both = neither (p x) (list_any p xs) h in ap (λ b. cond b (x ∷ filter p xs) (filter p xs)) both.0 ∙ filter_none p xs both.1
 
-filter_alike : (p q : Row → Bool) (xs : List Row) → ((x : Row) → is_in xs x ≡ true → p x ≡ q x) → filter p xs ≡ filter q xs
+pub filter_alike : (p q : Row → Bool) (xs : List Row) → ((x : Row) → is_in xs x ≡ true → p x ≡ q x) → filter p xs ≡ filter q xs
 filter_alike p q [] each = refl
 filter_alike p q (x ∷ xs) each =
     let rest = filter_alike p q xs (λ y one. each y (or_right _ _ one)) in
     (λ i. cond (each x (or_left _ _ (row_itself x)) i) (x ∷ rest i) (rest i))
 
-filter_found : (p : Row → Bool) (xs : List Row) → count_by p xs ≤ 1 → filter p xs ≡ found_list (find p xs)
+pub filter_found : (p : Row → Bool) (xs : List Row) → count_by p xs ≤ 1 → filter p xs ≡ found_list (find p xs)
 filter_found p [] few = refl
 filter_found p (x ∷ xs) few = by (cases_Bool (p x)) (filter_found p xs) where
   none : (ys : List Row) → count_by p ys ≤ 0 → filter p ys ≡ []

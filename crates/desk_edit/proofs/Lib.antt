@@ -13,3 +13,5 @@ pub mod Relocating
 pub mod Outcomes
 pub mod Claimed
 pub mod ByKinds
+pub mod MembersGoing
+pub mod GoneLemmas

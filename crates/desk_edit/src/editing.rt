@@ -11,13 +11,13 @@ ghost use Rattle.desk_edit.specs.inner.Levels.{found_list};
 ghost use Rattle.desk_edit.specs.inner.Edits.{puts_other, puts_member, replaces, puts_in_place, puts, placed_from, takes_all, placed_in, moves_member, edit_for};
 
 use crate::command::Form;
-use crate::going::{Going, can_go, level};
 use crate::moving::Moved;
 use crate::picking::{Picked, all_placed_in, members_picked};
-use desk_rows::{Edit, Key, Kind, Member, Part, Placed, Replaced, Row, Rows};
+use crate::removing::{members_going, others_going};
+use desk_rows::{Edit, Key, Member, Part, Placed, Replaced, Row, Rows};
 use std::alloc::{AllocError, Allocator};
 
-fn one_row<A: Allocator>(alloc: A, row: Row) -> Result<Vec<Row, A>, AllocError>
+pub(crate) fn one_row<A: Allocator>(alloc: A, row: Row) -> Result<Vec<Row, A>, AllocError>
     ensures { IfOk result (λ v. v.items ≡ row ∷ []) }
 {
     let mut rows = Vec::new(alloc);
@@ -93,91 +93,14 @@ fn put<A: Allocator + Copy>(alloc: A, rows: &Rows<A>, row: Row) -> Result<Edit<A
     }
 }
 
-/// The row that was found, if there is one.
-fn found_alone<A: Allocator>(alloc: A, found: Option<Row>) -> Result<Vec<Row, A>, AllocError>
-    ensures { IfOk result (λ v. v.items ≡ found_list found) }
-{
-    match found {
-        None => Ok(Vec::new(alloc)),
-        Some(row) => one_row(alloc, row),
-    }
-}
-
-fn going_of<A: Allocator + Copy>(
-    alloc: A,
-    going: &Going<'_, A>,
-    others: &[Row],
-) -> Result<Vec<Row, A>, AllocError>
-    ensures { IfOk result (λ v. v.items ≡ filter (goes_with going.now.rows.now going.now.key) others.now) }
-{
-    others
-        .iter()
-        .copied()
-        .filter(|row| going.takes(row))
-        .collect(alloc)
-}
-
-/// Appends the rows of this kind that go. A kind of which none can go isn't looked at.
-fn append_going<A: Allocator + Copy>(
-    alloc: A,
-    rows: &Rows<A>,
-    key: Key,
-    kind: Kind,
-    out: &mut Vec<Row, A>,
-) -> Result<(), AllocError>
-    ensures { OnOk result (out.new.items ≡ out.old.items ++ filter (goes_with rows.now key) (filter (is_of kind) rows.now.others)) }
-{
-    if !can_go(kind, key.kind()) {
-        return Ok(());
-    }
-    let going = Going::of(rows, key);
-    let these = going_of(alloc, &going, rows.others_of(kind))?;
-    out.extend_from_slice(&these)
-}
-
-fn all_going<A: Allocator + Copy>(
-    alloc: A,
-    rows: &Rows<A>,
-    key: Key,
-) -> Result<Vec<Row, A>, AllocError>
-    ensures { IfOk result (λ v. v.items ≡ filter (goes_with rows.now key) rows.now.others) }
-{
-    rows.known();
-    let mut out = Vec::new(alloc);
-    append_going(alloc, rows, key, Kind::Room, &mut out)?;
-    append_going(alloc, rows, key, Kind::Source, &mut out)?;
-    append_going(alloc, rows, key, Kind::Slot, &mut out)?;
-    append_going(alloc, rows, key, Kind::Sub, &mut out)?;
-    append_going(alloc, rows, key, Kind::Mute, &mut out)?;
-    append_going(alloc, rows, key, Kind::Gain, &mut out)?;
-    append_going(alloc, rows, key, Kind::Pin, &mut out)?;
-    append_going(alloc, rows, key, Kind::Floor, &mut out)?;
-    Ok(out)
-}
-
-/// The other rows that go: of a kind that no row names, the row of the key alone.
-fn others_going<A: Allocator + Copy>(
-    alloc: A,
-    rows: &Rows<A>,
-    key: Key,
-) -> Result<Vec<Row, A>, AllocError>
-    ensures { IfOk result (λ v. v.items ≡ filter (goes_with rows.now key) rows.now.others) }
-{
-    rows.known();
-    if level(key.kind()) == 3 {
-        found_alone(alloc, rows.find(&key))
-    } else {
-        all_going(alloc, rows, key)
-    }
-}
-
 /// Takes the row of this key, and all that depends on it.
 fn remove<A: Allocator + Copy>(alloc: A, rows: &Rows<A>, key: Key) -> Result<Edit<A>, AllocError>
     ensures { IfOk result (λ edit. edit ≡ takes_all rows.now (goes_with rows.now key)) }
 {
-    let members = members_picked(alloc, rows, Picked::With(key))?;
+    let members = members_going(alloc, rows, key)?;
+    let others = others_going(alloc, rows, key, members.is_empty())?;
     Ok(Edit {
-        taken: Part::new(members, others_going(alloc, rows, key)?),
+        taken: Part::new(members, others),
         put: Part::none(alloc),
         replaced: Replaced::none(alloc),
     })
@@ -208,7 +131,7 @@ fn move_member<A: Allocator + Copy>(
 ) -> Result<Edit<A>, AllocError>
     ensures { IfOk result (λ edit. edit ≡ moves_member rows.now member room) }
 {
-    let members = members_picked(alloc, rows, Picked::Only(member))?;
+    let members = members_picked(alloc, rows.members(), Picked::Only(member))?;
     let moved = all_placed_in(alloc, room, &members)?;
     Ok(Edit {
         taken: Part::new(members, others_parted(alloc, rows, member, room)?),

@@ -5,7 +5,7 @@ ghost use Rattle.std.specs.List.{list_any};
 ghost use Rattle.desk_rows.specs.Row.{has_key};
 ghost use Rattle.desk_rows.specs.Desk.{rows_of};
 ghost use Rattle.desk_rows.specs.inner.Found.{finds};
-ghost use Rattle.desk_edit.specs.Depends.{goes_within, goes_with};
+ghost use Rattle.desk_edit.specs.Depends.{goes_within};
 ghost use Rattle.desk_edit.specs.inner.Levels.{level, can_go, is_above};
 ghost use Rattle.desk_edit.specs.Refusals.{has};
 
@@ -48,7 +48,7 @@ pub(crate) struct Going<'a, A: Allocator + Copy> {
     pub(crate) rows: &'a Rows<A>,
     pub(crate) key: Key,
     /// Whether the row of the key is there, so that it isn't looked for again.
-    is_there: bool,
+    pub(crate) is_there: bool,
     ghost there: { is_there ≡ has rows.now key },
 }
 
@@ -131,7 +131,7 @@ impl<'a, A: Allocator + Copy> Going<'a, A> {
     }
 
     /// Whether a row goes that names members at most.
-    fn goes_by_member(&self, row: &Row) -> bool
+    pub(crate) fn goes_by_member(&self, row: &Row) -> bool
         ensures { result ≡ goes_within 2 self.now.rows.now self.now.key row.now }
     {
         let named = match row.names() {
@@ -152,8 +152,8 @@ impl<'a, A: Allocator + Copy> Going<'a, A> {
         }
     }
 
-    /// Whether a source or a slot goes.
-    fn stream_goes(&self, name: Key) -> bool
+    /// Whether a row goes that other rows than rooms name.
+    pub(crate) fn stream_goes(&self, name: Key) -> bool
         ensures { result ≡ list_any (λ s. has_key name s && goes_within 2 self.now.rows.now self.now.key s) (rows_of self.now.rows.now) }
     {
         if name.is_same(self.key) {
@@ -163,17 +163,5 @@ impl<'a, A: Allocator + Copy> Going<'a, A> {
             return false;
         }
         self.finds_stream(self.rows.look(name))
-    }
-
-    /// Whether the row goes with the row of the key.
-    pub(crate) fn takes(&self, row: &Row) -> bool
-        ensures { result ≡ goes_with self.now.rows.now self.now.key row.now }
-    {
-        let named = match row.names() {
-            Few::Nothing => false,
-            Few::One(name) => self.stream_goes(name),
-            Few::Two(name, other) => self.stream_goes(name) || self.stream_goes(other),
-        };
-        row.has_key(self.key) || named
     }
 }

@@ -11,6 +11,7 @@ mod picking;
 mod planning;
 mod refusal;
 mod refusing;
+mod removing;
 
 pub use self::command::{Call, Command, Form};
 pub use self::laws::{dependent_rows_go, good_desks_stay_good};

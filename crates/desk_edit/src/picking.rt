@@ -2,41 +2,54 @@
 
 ghost use Rattle.std.specs.Prelude.{◌≡◌, ◌++◌, [], ◌∷◌, map, IfOk, OnOk};
 ghost use Rattle.desk_edit.specs.inner.Edits.{placed_from, placed_in};
-ghost use Rattle.desk_edit.specs.inner.Moving.{picks};
+ghost use Rattle.desk_edit.specs.inner.Moving.{picked_with, picks};
 
-use crate::going::Going;
-use desk_rows::{Key, Member, Placed, Row, Rows};
+use desk_rows::{Key, Member, Placed};
 use std::alloc::{AllocError, Allocator};
 
 /// Which members are picked.
 #[derive(Clone, Copy)]
 pub(crate) enum Picked {
-    /// Those that go with the row of this key.
-    With(Key),
+    /// Those of this room.
+    In(u32),
     /// The one of this number.
     Only(u32),
+    Nobody,
 }
 
-fn picks<A: Allocator + Copy>(rows: &Rows<A>, picked: Picked, member: &Member) -> bool
-    ensures { result ≡ picks rows.now picked member.now }
-{
-    match picked {
-        Picked::With(key) => Going::of(rows, key).takes(&Row::Member(*member)),
-        Picked::Only(number) => member.member == number,
+impl Picked {
+    /// Those that go with the row of this key.
+    pub(crate) fn with(key: Key) -> Self
+        ensures { result ≡ picked_with key }
+    {
+        match key {
+            Key::Room(room) => Self::In(room),
+            Key::Member(member) => Self::Only(member),
+            _ => Self::Nobody,
+        }
+    }
+
+    fn picks(self, member: &Member) -> bool
+        ensures { result ≡ picks self member.now }
+    {
+        match self {
+            Self::In(room) => member.room == room,
+            Self::Only(number) => member.member == number,
+            Self::Nobody => false,
+        }
     }
 }
 
 /// Appends the member, if it is picked.
-fn pick<A: Allocator + Copy>(
-    rows: &Rows<A>,
+fn pick<A: Allocator>(
     picked: Picked,
     placed: &mut Vec<Placed, A>,
     place: usize,
     member: &Member,
 ) -> Result<(), AllocError>
-    ensures { OnOk result (placed.new.items ≡ placed.old.items ++ placed_from place (picks rows.now picked) (member.now ∷ [])) }
+    ensures { OnOk result (placed.new.items ≡ placed.old.items ++ placed_from place (picks picked) (member.now ∷ [])) }
 {
-    if picks(rows, picked, member) {
+    if picked.picks(member) {
         placed.push(Placed {
             place,
             row: *member,
@@ -46,19 +59,19 @@ fn pick<A: Allocator + Copy>(
 }
 
 /// The members that are picked, with their places.
-pub(crate) fn members_picked<A: Allocator + Copy>(
+pub(crate) fn members_picked<A: Allocator>(
     alloc: A,
-    rows: &Rows<A>,
+    members: &[Member],
     picked: Picked,
 ) -> Result<Vec<Placed, A>, AllocError>
-    ensures { IfOk result (λ v. v.items ≡ placed_from 0 (picks rows.now picked) rows.now.members) }
+    ensures { IfOk result (λ v. v.items ≡ placed_from 0 (picks picked) members.now) }
 {
     let mut placed = Vec::new(alloc);
-    let mut rest = rows.members();
+    let mut rest = members;
     let count = rest.len();
     while let Some((member, later)) = rest.split_first() {
         let place = count - rest.len();
-        pick(rows, picked, &mut placed, place, member)?;
+        pick(picked, &mut placed, place, member)?;
         rest = later;
     }
     Ok(placed)

@@ -1,0 +1,19 @@
+use Rattle.std.proofs.Common.{◌&&◌, not, ap, sym, ◌∙◌}
+use Rattle.desk_rows.specs.declared.row.Key.TheVariants as keys
+use Rattle.desk_edit.specs.Refusals.{has}
+use Rattle.desk_edit.proofs.GoneLemmas.{told_apart, own_listener, no_member_goes, name_goes_at}
+use Rattle.desk_edit.proofs.removing.Gone.listener_goes.Goals as goal
+
+pub returns-else-number-member : goal.returns-else-number-member
+returns-else-number-member g c =
+    let x = c.args.self.now in
+    let d = x.going.rows.now in
+    let n = c.in-Member.number in
+    let other = told_apart n c.args.member c.if-number-member.false in
+    other ∙ sym (ap (λ b. b && has d (keys.Member n)) other)
+    ∙ sym (ap (λ k. name_goes_at d k (keys.Member c.args.member)) c.in-Member.is ∙ own_listener d n c.args.member)
+
+pub returns-else-not-self : goal.returns-else-not-self
+returns-else-not-self g c =
+    let x = c.args.self.now in
+    ap not c.if-not-self.false ∙ sym (no_member_goes x.going.rows.now x.going.key x.good x.low (x.members c.if-not-self.false) c.args.member)
