@@ -11,7 +11,7 @@ use crate::items::{SEEN, UNSEEN, address_of, frame_of, nack_of};
 use crate::room::{RECEIVERS, core_with, last_owner};
 use crate::talking::{heard, silent, unheard};
 use crate::tally::Tally;
-use bridge_core::{Core, Egress, Item};
+use bridge_core::{Core, Egress, Item, PacketBytes};
 use forward_rewrite::{Owner, Stamp, Stream};
 use std::alloc::{AllocError, Global};
 use std::io;
@@ -54,6 +54,12 @@ fn drive(alloc: Global, core: &mut Core, item: &Item, times: u64) -> io::Result<
     Ok(tally)
 }
 
+/// How many octets a packet has.
+fn size(packet: &PacketBytes) -> usize {
+    let (header, payload) = packet.parts();
+    header.len().saturating_add(payload.len())
+}
+
 /// Gives an item to the lane, and counts what goes out.
 pub fn give(alloc: Global, core: &mut Core, item: &Item, tally: &mut Tally) -> io::Result<()>
     requires { is_sized (input_of item.now) ≡ true }
@@ -66,7 +72,7 @@ pub fn give(alloc: Global, core: &mut Core, item: &Item, tally: &mut Tally) -> i
     };
     for egress in &sent {
         match egress {
-            Egress::Media { bytes, .. } => tally.count(bytes.len()),
+            Egress::Media { bytes, .. } => tally.count(size(bytes)),
             Egress::Control { bytes, .. } => tally.count(bytes.len()),
             Egress::Note { .. } => {}
         }
@@ -118,7 +124,7 @@ fn full_stream(alloc: Global) -> io::Result<(Stream, Owner)> {
 fn find_all(stream: &Stream, owner: &Owner, numbers: &[u16], tally: &mut Tally) {
     for number in numbers {
         if let Some(entry) = stream.find(*number, owner) {
-            tally.count(entry.bytes.len());
+            tally.count(size(&entry.bytes));
         }
     }
 }

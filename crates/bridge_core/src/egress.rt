@@ -1,7 +1,7 @@
 //! What a lane gives.
 
-use bytes::Bytes;
 use reports::LossNote;
+use retransmit::PacketBytes;
 use rtp_codec::Address;
 use std::alloc::{Allocator, Global};
 
@@ -17,7 +17,7 @@ pub enum Egress<A: Allocator + Copy = Global> {
         to: Address,
         ssrc: u32,
         number: u16,
-        bytes: Bytes<A>,
+        bytes: PacketBytes<A>,
         /// The desk version by which it is sent again, if it was sent before.
         resent_by: Option<u64>,
     },

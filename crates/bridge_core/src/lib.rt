@@ -28,3 +28,4 @@ pub use forward_rewrite::MediaFrame;
 pub use frame_gate::{Frame, FrameFault, FramePacket};
 pub use intake::{Ingest, Intake, Item, Outcome, Settings};
 pub use reports::LossNote;
+pub use retransmit::PacketBytes;

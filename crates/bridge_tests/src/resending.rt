@@ -27,7 +27,8 @@ fn given(alloc: Global, core: &mut Core, lanes: u32, item: &Item) -> Result<Vec<
 fn is_again(sent: &[Egress], again: &[Egress]) -> bool {
     match (sent, again) {
         ([Egress::Media { bytes, .. }], [Egress::Media { bytes: same, .. }]) => {
-            bytes.as_slice() == same.as_slice()
+            let (parts, others) = (bytes.parts(), same.parts());
+            parts.0 == others.0 && parts.1 == others.1
         }
         _ => false,
     }

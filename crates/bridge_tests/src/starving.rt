@@ -1,6 +1,6 @@
 //! Runs and lines for which memory runs out.
 
-use bridge_core::Egress;
+use bridge_core::{Egress, PacketBytes};
 use bytes::Bytes;
 use linked_list_allocator::LocalHeap;
 use rtp_codec::Address;
@@ -81,7 +81,7 @@ fn packet<A: Allocator + Copy>(alloc: A) -> Result<Egress<A>, AllocError> {
         },
         ssrc: 501,
         number: 65_535,
-        bytes: Bytes::copy_from_slice(alloc, &[0x81, 0x64, 0x0f, 0xf0])?,
+        bytes: PacketBytes::whole(Bytes::copy_from_slice(alloc, &[0x81, 0x64, 0x0f, 0xf0])?),
         resent_by: None,
     })
 }

@@ -6,6 +6,7 @@ ghost use Rattle.forward_rewrite.specs.Mixes.{pt_of, encoded};
 
 use bytes::Bytes;
 use desk_rows::Codec;
+use retransmit::PacketBytes;
 use rtp_codec::{Header, write};
 use std::alloc::{AllocError, Allocator};
 
@@ -65,7 +66,7 @@ pub fn packet_of<A: Allocator + Copy>(
     csrcs: &[u32],
     codec: Codec,
     samples: &[i16],
-) -> Result<Bytes<A>, AllocError>
+) -> Result<PacketBytes<A>, AllocError>
     requires pt { header.now.pt ≤ most_pt }
     requires csrcs { length csrcs.now ≤ most_csrcs }
     ensures { IfOk result (λ bytes. bytes ≡ written header.now csrcs.now (encoded codec samples.now)) }
@@ -74,5 +75,5 @@ pub fn packet_of<A: Allocator + Copy>(
     let mut out = Vec::with_capacity(alloc, size)?;
     write(header, csrcs, &[], &mut out)?;
     append_encoded(codec, samples, &mut out)?;
-    Ok(Bytes::from_vec(out)?)
+    Ok(PacketBytes::whole(Bytes::from_vec(out)?))
 }

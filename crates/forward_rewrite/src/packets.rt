@@ -1,6 +1,6 @@
 //! The packets of a frame as a stream sends them.
 
-ghost use Rattle.std.specs.Prelude.{◌≡◌, ◌≤◌, ◌%◌, ◌^◌, ◌∷◌, [], length, map, sum_by, IfOk};
+ghost use Rattle.std.specs.Prelude.{◌≡◌, ℕ, ◌≤◌, ◌%◌, ◌^◌, List, ◌∷◌, [], ◌++◌, length, map, sum_by, IfOk};
 ghost use Rattle.std.specs.List.{All};
 ghost use Rattle.frame_gate.specs.Frame.{highest_pt};
 ghost use Rattle.rtp_codec.specs.Packet.{written};
@@ -10,9 +10,8 @@ ghost use Rattle.forward_rewrite.specs.inner.Sharing.{stamped_by};
 
 use crate::frame::MediaFrame;
 use crate::sending::{OutPacket, Stamp};
-use bytes::Bytes;
 use frame_gate::FramePacket;
-use retransmit::{Entry, Owner};
+use retransmit::{Entry, Owner, PacketBytes};
 use rtp_codec::{Header, seq_next, write};
 use std::alloc::{AllocError, Allocator};
 
@@ -27,28 +26,29 @@ pub struct Shared {
     pub owner: Owner,
 }
 
-/// The octets of a packet with one contributing source.
-fn octets_of<A: Allocator + Copy>(
-    alloc: A,
+/// The octets before the payload of a packet with one contributing source. The room is for them alone.
+fn header_octets<A: Allocator>(
     header: &Header,
     source: u32,
-    payload: &[u8],
-) -> Result<Bytes<A>, AllocError>
+    room: &mut Vec<u8, A>,
+) -> Result<[u8; 16], AllocError>
     requires { header.now.pt ≤ highest_pt }
-    ensures { IfOk result (λ bytes. bytes ≡ written header.now (source ∷ []) payload.now) }
+    ensures { IfOk result (λ octets. (payload : List ℕ) → octets ++ payload ≡ written header.now (source ∷ []) payload) }
 {
-    let mut out = Vec::with_capacity(alloc, 16 + payload.len())?;
-    write(header, &[source], payload, &mut out)?;
-    Ok(Bytes::from_vec(out)?)
+    room.clear();
+    write(header, &[source], &[], room)?;
+    let mut octets = [0; 16];
+    octets.copy_from_slice(room);
+    Ok(octets)
 }
 
 /// A packet of a frame as it is sent under this number.
 fn entry_of<A: Allocator + Copy>(
-    alloc: A,
     shared: &Shared,
     number: u16,
     frame: &MediaFrame<A>,
     packet: &FramePacket<A>,
+    room: &mut Vec<u8, A>,
 ) -> Result<Entry<A>, AllocError>
     requires { packet.now.pt ≤ highest_pt }
     ensures { IfOk result (λ entry. entry ≡ sent_packet shared.now.ssrc number (part_of (stamped_by shared.now frame.now) packet.now)) }
@@ -60,7 +60,7 @@ fn entry_of<A: Allocator + Copy>(
         ts: shared.ts,
         ssrc: shared.ssrc,
     };
-    let bytes = octets_of(alloc, &header, frame.source, packet.payload.as_slice())?;
+    let octets = header_octets(&header, frame.source, room)?;
     let stamp = shared.stamp;
     Ok(Entry {
         number,
@@ -71,7 +71,7 @@ fn entry_of<A: Allocator + Copy>(
         address: frame.address,
         epoch: frame.epoch,
         ext: packet.ext,
-        bytes,
+        bytes: PacketBytes::with_header(octets, packet.payload.clone()?),
     })
 }
 
@@ -87,9 +87,10 @@ pub fn entries_of<A: Allocator + Copy>(
     ensures { IfOk result (λ v. v.items ≡ numbered shared.now.ssrc first (map (part_of (stamped_by shared.now frame.now)) packets.now)) }
 {
     let mut entries = Vec::with_capacity(alloc, packets.len())?;
+    let mut room = Vec::with_capacity(alloc, 16)?;
     let mut number = first;
     for packet in packets {
-        let one = entry_of(alloc, shared, number, frame, packet)?;
+        let one = entry_of(shared, number, frame, packet, &mut room)?;
         entries.push(one)?;
         number = seq_next(number);
     }
@@ -111,7 +112,7 @@ pub fn payload_octets<A: Allocator + Copy>(packets: &[FramePacket<A>]) -> u32
 fn out_packet<A: Allocator + Copy>(entry: &Entry<A>) -> Result<OutPacket<A>, AllocError>
     ensures { IfOk result (λ p. p ≡ out_of entry.now) }
 {
-    let bytes = entry.bytes.clone()?;
+    let bytes = entry.bytes.try_clone()?;
     Ok(OutPacket {
         number: entry.number,
         bytes,

@@ -1,6 +1,6 @@
 //! What a frame is sent by, and what goes out of it.
 
-use bytes::Bytes;
+use retransmit::PacketBytes;
 use std::alloc::{Allocator, Global};
 use std::marker::Model;
 
@@ -19,7 +19,7 @@ pub struct OutPacket<A: Allocator + Copy = Global> {
     /// Its sequence number on the outgoing stream.
     pub number: u16,
     /// The octets of the whole RTP packet.
-    pub bytes: Bytes<A>,
+    pub bytes: PacketBytes<A>,
 }
 
 impl<A: Allocator + Copy> Model for OutPacket<A> {

@@ -1,2 +1,3 @@
 pub mod IsSound
+pub mod Joined
 pub mod ToOwner

@@ -3,7 +3,7 @@
 ghost use Rattle.std.specs.Prelude.{◌≡◌, IfOk};
 
 use crate::owner::Owner;
-use bytes::Bytes;
+use crate::packet_bytes::PacketBytes;
 use rtp_codec::Address;
 use std::alloc::{AllocError, Allocator, Global};
 use std::marker::Model;
@@ -25,7 +25,7 @@ pub struct Entry<A: Allocator + Copy = Global> {
     /// The extended sequence number of the source's packet.
     pub ext: i64,
     /// The octets that were sent, shared with what went out.
-    pub bytes: Bytes<A>,
+    pub bytes: PacketBytes<A>,
 }
 
 impl<A: Allocator + Copy> Model for Entry<A> {
@@ -50,7 +50,7 @@ impl<A: Allocator + Copy> Entry<A> {
             address: self.address,
             epoch: self.epoch,
             ext: self.ext,
-            bytes: self.bytes.clone()?,
+            bytes: self.bytes.try_clone()?,
         })
     }
 }

@@ -6,9 +6,11 @@
 mod entry;
 mod laws;
 mod owner;
+mod packet_bytes;
 mod window;
 
 pub use entry::Entry;
 pub use laws::{found_is_the_only_one, owners_are_told_apart, so_far};
 pub use owner::Owner;
+pub use packet_bytes::PacketBytes;
 pub use window::Window;

@@ -26,6 +26,8 @@ pub(crate) enum Word<'a> {
     Signed(i64),
     /// Octets in hexadecimal.
     Hex(&'a [u8]),
+    /// The same, of octets in two parts.
+    Parts(&'a [u8], &'a [u8]),
 }
 
 /// Appends a text.
@@ -133,6 +135,18 @@ fn append_hex<A: Allocator>(octets: &[u8], out: &mut Vec<u8, A>) -> Result<(), A
     Ok(())
 }
 
+/// Appends octets in two parts in hexadecimal.
+fn append_parts<A: Allocator>(
+    first: &[u8],
+    rest: &[u8],
+    out: &mut Vec<u8, A>,
+) -> Result<(), AllocError>
+    ensures { Grows (room_of out.old) (room_of out.new) (encode_lower (first.now ++ rest.now)) result }
+{
+    append_hex(first, out)?;
+    append_hex(rest, out)
+}
+
 /// Appends a word.
 fn append_word<A: Allocator>(word: Word<'_>, out: &mut Vec<u8, A>) -> Result<(), AllocError>
     ensures { Grows (room_of out.old) (room_of out.new) (word_text (said word.entry)) result }
@@ -142,6 +156,7 @@ fn append_word<A: Allocator>(word: Word<'_>, out: &mut Vec<u8, A>) -> Result<(),
         Word::Fixed(text) => append(text, out),
         Word::Signed(n) => append_signed(n, out),
         Word::Hex(octets) => append_hex(octets, out),
+        Word::Parts(first, rest) => append_parts(first, rest, out),
     }
 }
 

@@ -132,7 +132,8 @@ pub fn print_egress<A: Allocator + Copy>(
             let [version, item, to] = head_words(*version, *item, *to);
             let ssrc = Word::Value(Value::U32(*ssrc));
             let number = Word::Value(Value::U16(*number));
-            let octets = Word::Hex(bytes.as_slice());
+            let (header, payload) = bytes.parts();
+            let octets = Word::Parts(header, payload);
             print_media([version, item, to, ssrc, number, octets], *resent_by, out)
         }
         Egress::Control {

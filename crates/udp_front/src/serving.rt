@@ -47,6 +47,8 @@ pub struct Serving {
     has_callers: bool,
     /// What was read last.
     chunk: Vec<u8>,
+    /// What is sent, put together.
+    whole: Vec<u8>,
     /// What an operator is told.
     text: Vec<u8>,
 }
@@ -93,6 +95,7 @@ impl Serving {
             has_datagrams: true,
             has_callers: true,
             chunk: chunk(alloc)?,
+            whole: Vec::with_capacity(alloc, CHUNK)?,
             text: Vec::new(alloc),
         })
     }
@@ -155,7 +158,10 @@ impl Serving {
                     return Ok(());
                 };
                 let moment = self.moments.now(rt)?;
-                let mut wire = UdpWire(&self.udp);
+                let mut wire = UdpWire {
+                    socket: &self.udp,
+                    whole: &mut self.whole,
+                };
                 let octets = &self.chunk[..count];
                 take_in(self.alloc, &mut self.core, &from, moment, octets, &mut wire)
             }
@@ -226,7 +232,10 @@ impl Serving {
             let Some(moment) = self.ticks.due(now) else {
                 break;
             };
-            let mut wire = UdpWire(&self.udp);
+            let mut wire = UdpWire {
+                socket: &self.udp,
+                whole: &mut self.whole,
+            };
             give(
                 self.alloc,
                 &mut self.core,
@@ -243,7 +252,10 @@ impl Serving {
         if !self.reports.due(moment) {
             return Ok(());
         }
-        let mut wire = UdpWire(&self.udp);
+        let mut wire = UdpWire {
+            socket: &self.udp,
+            whole: &mut self.whole,
+        };
         for (to, octets) in &self.core.reports(self.alloc, moment)? {
             wire.send(*to, octets);
         }

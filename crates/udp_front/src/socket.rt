@@ -24,7 +24,11 @@ pub(crate) fn address_of(told: SocketAddr) -> Option<Address> {
 
 /// A socket as a wire. What it has sent is not known.
 #[derive(Drop)]
-pub(crate) struct UdpWire<'a>(pub(crate) &'a UdpSocket);
+pub(crate) struct UdpWire<'a> {
+    pub(crate) socket: &'a UdpSocket,
+    /// Room in which a datagram's parts are put together.
+    pub(crate) whole: &'a mut Vec<u8>,
+}
 
 impl<'a> Wire for UdpWire<'a> {
     ghost use Rattle.std.specs.Prelude.{None};
@@ -32,6 +36,20 @@ impl<'a> Wire for UdpWire<'a> {
     ghost attempts = { λ wire. None };
 
     fn send(&mut self, to: Address, octets: &[u8]) -> bool {
-        self.0.send_to(octets, socket_address(to)).is_ok()
+        self.socket.send_to(octets, socket_address(to)).is_ok()
+    }
+
+    fn send_parts(&mut self, to: Address, first: &[u8], rest: &[u8]) -> bool {
+        if first.is_empty() {
+            return self.send(to, rest);
+        }
+        self.whole.clear();
+        // Want of memory is loss on the wire.
+        if self.whole.extend_from_slice(first).is_err()
+            || self.whole.extend_from_slice(rest).is_err()
+        {
+            return false;
+        }
+        self.socket.send_to(self.whole, socket_address(to)).is_ok()
     }
 }

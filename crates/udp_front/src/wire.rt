@@ -3,7 +3,7 @@
 ghost use Rattle.std.specs.Prelude.{◌≡◌, ◌++◌, ◌∷◌, [], ◌≤◌, List, map, Option};
 ghost use Rattle.udp_front.specs.Attempts.{Attempt, Tried, with_tried, GrewBy};
 
-use bridge_core::Egress;
+use bridge_core::{Egress, PacketBytes};
 use rtp_codec::Address;
 use std::alloc::Allocator;
 
@@ -15,6 +15,10 @@ pub trait Wire {
     /// Tries once to send a datagram, and tells whether it was sent.
     fn send(&mut self, to: Address, octets: &[u8]) -> bool
         ensures { attempts self.new ≡ with_tried (record { to = to; octets = octets.now; sent = result } ∷ []) (attempts self.old) };
+
+    /// The same, of a datagram in two parts.
+    fn send_parts(&mut self, to: Address, first: &[u8], rest: &[u8]) -> bool
+        ensures { attempts self.new ≡ with_tried (record { to = to; octets = first.now ++ rest.now; sent = result } ∷ []) (attempts self.old) };
 }
 
 /// Tries to send each datagram once, in order, whatever failed before, and answers how many failed.
@@ -48,6 +52,23 @@ fn attempt<W: Wire>(to: Address, octets: &[u8], wire: &mut W) -> u64
     if wire.send(to, octets) { 0 } else { 1 }
 }
 
+/// Tries to send a packet, and counts the failure.
+fn attempt_packet<A: Allocator + Copy, W: Wire>(
+    to: Address,
+    packet: &PacketBytes<A>,
+    wire: &mut W,
+) -> u64
+    ensures tried { Tried to packet.now (W.attempts wire.old) (W.attempts wire.new) result }
+    ensures small { result ≤ 1 }
+{
+    let (first, rest) = packet.parts();
+    if wire.send_parts(to, first, rest) {
+        0
+    } else {
+        1
+    }
+}
+
 /// Tries to send what goes out of an egress, if anything does, and counts the failure.
 #[tactic(auto, using(crate::proofs::WireLemmas::grew_one, crate::proofs::WireLemmas::grew_none))]
 fn send_one<A: Allocator + Copy, W: Wire>(egress: &Egress<A>, wire: &mut W) -> u64
@@ -55,7 +76,7 @@ fn send_one<A: Allocator + Copy, W: Wire>(egress: &Egress<A>, wire: &mut W) -> u
     ensures small { result ≤ 1 }
 {
     match egress {
-        Egress::Media { to, bytes, .. } => attempt(*to, bytes.as_slice(), wire),
+        Egress::Media { to, bytes, .. } => attempt_packet(*to, bytes, wire),
         Egress::Control { to, bytes, .. } => attempt(*to, bytes, wire),
         Egress::Note { .. } => 0,
     }

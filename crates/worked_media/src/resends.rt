@@ -6,7 +6,7 @@ ghost use Rattle.worked_media.specs.Sent.{owner as owner_of, packet as packet_of
 
 use bytes::Bytes;
 use feedback::numbers_of;
-use retransmit::{Entry, Owner, Window, so_far};
+use retransmit::{Entry, Owner, PacketBytes, Window, so_far};
 use rtcp_codec::{Nack, NackWord, Pli, Rtcp};
 use rtp_codec::Address;
 use std::alloc::{AllocError, Global};
@@ -33,7 +33,7 @@ fn packet(number: u16) -> Entry
         address: owner(2, 8).address,
         epoch: 1,
         ext: 100,
-        bytes: Bytes::new(),
+        bytes: PacketBytes::whole(Bytes::new()),
     }
 }
 
