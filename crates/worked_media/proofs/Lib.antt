@@ -1,3 +1,5 @@
 pub mod PacketsSent
 pub mod FrameSent
 pub mod MixesSent
+pub mod Stood
+pub mod Behind
