@@ -6,6 +6,7 @@
 //! answers otherwise are they proved. Nothing here runs.
 #![tactic(auto)]
 
+pub mod choosing;
 pub mod comparing;
 pub mod exchanging;
 pub mod finding;
