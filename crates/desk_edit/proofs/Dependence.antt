@@ -25,7 +25,7 @@ key_some p (k ∷ ks) h =
       | inr e ↦ let w = key_some p ks e in (w.0, w.1, λ q here. or_right _ _ (w.2 q here))
     ]
 
-row_some : (p : Row → Bool) (rs : List Row) (t : Row) → is_in rs t ≡ true → p t ≡ true → list_any p rs ≡ true
+pub row_some : (p : Row → Bool) (rs : List Row) (t : Row) → is_in rs t ≡ true → p t ≡ true → list_any p rs ≡ true
 row_some p [] t h e = absurd (true_false (sym h))
 row_some p (r ∷ rs) t h e =
     elim (or_cases (same_row t r) (is_in rs t) h) [

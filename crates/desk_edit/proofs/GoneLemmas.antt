@@ -1,5 +1,5 @@
 -- What goes beside members is told by the sources and the slots that go, by the members and by the key.
-use Rattle.std.proofs.Common.{◌≡◌, ℕ, ◌≤◌, nat_eq, Bool, true, false, not, cond, ◌&&◌, ◌||◌, List, [], ◌∷◌, map, filter, length, refl, sym, ap, ◌∙◌, inl, inr, ◌⊎◌, arith}
+use Rattle.std.proofs.Common.{◌≡◌, ℕ, ◌≤◌, nat_eq, Bool, true, false, not, cond, ◌&&◌, ◌||◌, List, [], ◌∷◌, map, filter, length, refl, sym, ap, ◌∙◌, inl, inr, ◌⊎◌, arith, Some}
 use Rattle.std.specs.List.{list_any, list_all}
 use Rattle.std.proofs.lemmas.Bool.{and_parts, or_left, or_right, cases_Bool}
 use Rattle.std.proofs.lemmas.List.Folds.{list_any-append}
@@ -7,28 +7,30 @@ use borrow.Author.Tests.{eqb-true}
 use Rattle.desk_rows.specs.declared.row.Row.{Row}
 use Rattle.desk_rows.specs.declared.row.Row.TheVariants as rows
 use Rattle.desk_rows.specs.declared.row.Member.{Member}
+use Rattle.desk_rows.specs.declared.row.Gain.{Gain as GainRow}
+use Rattle.desk_rows.specs.declared.row.Media.TheVariants.{Audio}
 use Rattle.desk_rows.specs.declared.row.Key.{Key}
 use Rattle.desk_rows.specs.declared.row.Key.TheVariants as keys
 use Rattle.desk_rows.specs.declared.row.Kind.{Kind}
 use Rattle.desk_rows.specs.declared.row.Kind.TheVariants as kinds
-use Rattle.desk_rows.specs.Row.{rank, kind_of, key_of, has_key}
+use Rattle.desk_rows.specs.Row.{rank, kind_of, key_of, has_key, names, suits, is_in_range}
 use Rattle.desk_rows.specs.Kinds.{is_of}
 use Rattle.desk_rows.specs.Order.{in_order, is_in}
 use Rattle.desk_rows.specs.Naming.{is_gain_of, gains_naming}
-use Rattle.desk_rows.specs.Desk.{Desk, good, rows_of, row_at, is_named_there}
+use Rattle.desk_rows.specs.Desk.{Desk, good, rows_of, row_at, is_named_there, all_suit, are_together, has_few_audio, obeys}
 use Rattle.desk_rows.specs.inner.Found.{finds}
 use Rattle.desk_rows.specs.laws.Equal.{number_itself, its_key}
 use Rattle.desk_rows.specs.laws.OrderLaws.{at_each, from_each, is_in-filter, in_order-filter}
 use Rattle.desk_rows.specs.laws.Laws.{good_parts, good_order, is_in-append}
-use Rattle.desk_rows.proofs.Counts.{true_false, list_any-map}
-use Rattle.desk_rows.proofs.Finding.{order_once, keyed_good}
+use Rattle.desk_rows.proofs.Counts.{true_false, witness, list_any-map}
+use Rattle.desk_rows.proofs.Finding.{order_once, found_one, keyed_good}
 use Rattle.desk_rows.proofs.KeyedLemmas.{found_passes}
 use Rattle.desk_rows.proofs.KindLemmas.{skipped, plain_others}
 use Rattle.desk_rows.proofs.Unshaken.{neither}
 use Rattle.desk_edit.specs.Depends.{goes_within, goes_with}
-use Rattle.desk_edit.specs.inner.Levels.{level, can_go, found_list}
+use Rattle.desk_edit.specs.inner.Levels.{level, can_go, found_list, is_sound}
 use Rattle.desk_edit.specs.Refusals.{has}
-use Rattle.desk_edit.proofs.Dependence.{steady, goes_above}
+use Rattle.desk_edit.proofs.Dependence.{row_some, steady, goes_above}
 use Rattle.desk_edit.proofs.GoingLemmas.{name_goes, none_goes, same_goes, filter_alike, filter_found}
 use Rattle.desk_edit.proofs.ByKinds.{its_kind, none_pass}
 
@@ -157,9 +159,9 @@ module _ (d : Desk) (key : Key) (g : good d ≡ true) (low : level (kind_of key)
 
   -- ---- kinds of which none goes
 
-  none_of : (kind : Kind) → ((x : Row) → kind_of (key_of x) ≡ kind → goes x ≡ false) → going_of kind ≡ []
+  none_of : (kind : Kind) → ((x : Row) → is_in d.others x ≡ true → kind_of (key_of x) ≡ kind → goes x ≡ false) → going_of kind ≡ []
   none_of kind each = none_pass goes (filter (is_of kind) d.others) (from_each (λ x. not (goes x)) (filter (is_of kind) d.others) (λ x one.
-      ap not (each x (its_kind kind x (passed kind x one)))))
+      ap not (each x (and_parts (is_in d.others x) (is_of kind x) (sym (is_in-filter (is_of kind) x d.others) ∙ one)).0 (its_kind kind x (passed kind x one)))))
 
   -- the key is of another kind than a row that stands above it
   pub other_key : (x : Row) → level (kind_of (key_of x)) ≡ 3 → has_key key x ≡ false
@@ -193,7 +195,7 @@ module _ (d : Desk) (key : Key) (g : good d ≡ true) (low : level (kind_of key)
               ]
 
   pub no_streams : list_any (λ m. goes (rows.Member m)) d.members ≡ false → (kind : Kind) → level kind ≡ 2 → level (kind_of key) ≤ 1 → going_of kind ≡ []
-  no_streams nobody kind two lower = none_of kind (λ x is. each x (ap level is ∙ two)) where
+  no_streams nobody kind two lower = none_of kind (λ x one is. each x (ap level is ∙ two)) where
     other : (x : Row) → level (kind_of (key_of x)) ≡ 2 → has_key key x ≡ false
     other x high = elim (cases_Bool (has_key key x)) [
       | inl e ↦ let at : level (kind_of (key_of x)) ≡ level (kind_of key) = ap (λ k. level (kind_of k)) (its_key key x e) in absurd (omega (arith, at, high, lower))
@@ -219,7 +221,7 @@ module _ (d : Desk) (key : Key) (g : good d ≡ true) (low : level (kind_of key)
   no_slot none n = sym (stream_goes (keys.Slot n) refl) ∙ ap (list_any (has_key (keys.Slot n))) none
 
   pub no_subs : going_of kinds.Source ≡ [] → going_of kinds.Slot ≡ [] → going_of kinds.Sub ≡ []
-  no_subs none nor = none_of kinds.Sub (λ x is. each x (ap rank is)) where
+  no_subs none nor = none_of kinds.Sub (λ x one is. each x (ap rank is)) where
     each : (x : Row) → rank (kind_of (key_of x)) ≡ 4 → goes x ≡ false
     each (rows.Sub s) is = (λ i. other_key (rows.Sub s) refl i || (no_source none s.source i || (no_slot nor s.out_ssrc i || false)))
     each (rows.Room r) is = absurd (omega (arith, is))
@@ -232,7 +234,7 @@ module _ (d : Desk) (key : Key) (g : good d ≡ true) (low : level (kind_of key)
     each (rows.Floor r) is = absurd (omega (arith, is))
 
   pub no_mutes : going_of kinds.Source ≡ [] → going_of kinds.Mute ≡ []
-  no_mutes none = none_of kinds.Mute (λ x is. each x (ap rank is)) where
+  no_mutes none = none_of kinds.Mute (λ x one is. each x (ap rank is)) where
     each : (x : Row) → rank (kind_of (key_of x)) ≡ 5 → goes x ≡ false
     each (rows.Mute m) is = (λ i. other_key (rows.Mute m) refl i || (no_source none m.source i || false))
     each (rows.Room r) is = absurd (omega (arith, is))
@@ -244,18 +246,52 @@ module _ (d : Desk) (key : Key) (g : good d ≡ true) (low : level (kind_of key)
     each (rows.Pin r) is = absurd (omega (arith, is))
     each (rows.Floor r) is = absurd (omega (arith, is))
 
-  pub no_gains : going_of kinds.Source ≡ [] → list_any (λ m. goes (rows.Member m)) d.members ≡ false → going_of kinds.Gain ≡ []
-  no_gains none nobody = none_of kinds.Gain (λ x is. each x (ap rank is)) where
-    each : (x : Row) → rank (kind_of (key_of x)) ≡ 6 → goes x ≡ false
-    each (rows.Gain s) is = (λ i. other_key (rows.Gain s) refl i || (no_member_goes nobody s.member i || (no_source none s.source i || false)))
-    each (rows.Room r) is = absurd (omega (arith, is))
-    each (rows.Member r) is = absurd (omega (arith, is))
-    each (rows.Source r) is = absurd (omega (arith, is))
-    each (rows.Slot r) is = absurd (omega (arith, is))
-    each (rows.Sub r) is = absurd (omega (arith, is))
-    each (rows.Mute r) is = absurd (omega (arith, is))
-    each (rows.Pin r) is = absurd (omega (arith, is))
-    each (rows.Floor r) is = absurd (omega (arith, is))
+  -- a gain is of a source of audio, so where none of these goes no gain's source does
+  no_sound : list_any is_sound (going_of kinds.Source) ≡ false → (s : GainRow) → is_in d.others (rows.Gain s) ≡ true → name_gone (keys.Source s.source) ≡ false
+  no_sound none s one = elim (cases_Bool (name_gone (keys.Source s.source))) [
+    | inr e ↦ e
+    | inl e ↦
+        let name = keys.Source s.source in
+        let w = witness (has_key name) (going_of kinds.Source) (stream_goes name refl ∙ e) in
+        let there = (and_parts (is_in d.others w.0) (is_of kinds.Source w.0) (sym (is_in-filter (is_of kinds.Source) w.0 d.others)
+        ∙ (and_parts (is_in (filter (is_of kinds.Source) d.others) w.0) (goes w.0) (sym (is_in-filter goes w.0 (filter (is_of kinds.Source) d.others)) ∙ w.1)).0)).0 in
+        let found = found_one (has_key name) (rows_of d) w.0 ((keyed_good d g).once name) (held w.0 there) w.2 in
+        let suited = (and_parts _ _ (and_parts _ _ (all_suited (rows.Gain s) (held (rows.Gain s) one))).1).0 in
+        absurd (true_false (sym (row_some is_sound (going_of kinds.Source) w.0 w.1 (sound w.0 (its_key name w.0 w.2) (ap (suits (Some Audio)) (sym found) ∙ suited))) ∙ none))
+  ] where
+    held : (x : Row) → is_in d.others x ≡ true → is_in (rows_of d) x ≡ true
+    held x one = is_in-append (map rows.Member d.members) d.others x ∙ or_right _ _ one
+
+    all_suited : (x : Row) → is_in (rows_of d) x ≡ true → all_suit d x ≡ true
+    all_suited x one =
+        (and_parts (all_suit d x) (are_together d (names x)) (and_parts (is_in_range x && has_few_audio d x) (all_suit d x && are_together d (names x)) (at_each (obeys d) (rows_of d) x (good_parts d g).obey one)).1).0
+
+    other : (x : Row) → key_of x ≡ keys.Source s.source → nat_eq (rank (kind_of (key_of x))) 2 ≡ false → is_sound x ≡ true
+    other x is apart = absurd (true_false (sym (ap (λ k. nat_eq (rank (kind_of k)) 2) is) ∙ apart))
+
+    sound : (x : Row) → key_of x ≡ keys.Source s.source → suits (Some Audio) (Some x) ≡ true → is_sound x ≡ true
+    sound (rows.Source r) is h = h
+    sound (rows.Room r) is h = other (rows.Room r) is refl
+    sound (rows.Member r) is h = other (rows.Member r) is refl
+    sound (rows.Slot r) is h = other (rows.Slot r) is refl
+    sound (rows.Sub r) is h = other (rows.Sub r) is refl
+    sound (rows.Mute r) is h = other (rows.Mute r) is refl
+    sound (rows.Gain r) is h = other (rows.Gain r) is refl
+    sound (rows.Pin r) is h = other (rows.Pin r) is refl
+    sound (rows.Floor r) is h = other (rows.Floor r) is refl
+
+  pub no_gains : list_any is_sound (going_of kinds.Source) ≡ false → list_any (λ m. goes (rows.Member m)) d.members ≡ false → going_of kinds.Gain ≡ []
+  no_gains none nobody = none_of kinds.Gain (λ x one is. each x one (ap rank is)) where
+    each : (x : Row) → is_in d.others x ≡ true → rank (kind_of (key_of x)) ≡ 6 → goes x ≡ false
+    each (rows.Gain s) one is = (λ i. other_key (rows.Gain s) refl i || (no_member_goes nobody s.member i || (no_sound none s one i || false)))
+    each (rows.Room r) one is = absurd (omega (arith, is))
+    each (rows.Member r) one is = absurd (omega (arith, is))
+    each (rows.Source r) one is = absurd (omega (arith, is))
+    each (rows.Slot r) one is = absurd (omega (arith, is))
+    each (rows.Sub r) one is = absurd (omega (arith, is))
+    each (rows.Mute r) one is = absurd (omega (arith, is))
+    each (rows.Pin r) one is = absurd (omega (arith, is))
+    each (rows.Floor r) one is = absurd (omega (arith, is))
 
 pub told_apart : (m n : ℕ) → (m ≡ n → ⊥) → nat_eq m n ≡ false
 told_apart m n other = elim (cases_Bool (nat_eq m n)) [
@@ -275,17 +311,17 @@ own_listener d n member = elim (cases_Bool (nat_eq n member)) [
   turned_off : nat_eq n member ≡ false → nat_eq member n ≡ false
   turned_off e = grind (arith, e)
 
--- where a member is taken of whom no source goes, the gains that go are its own
-pub own_gains : (d : Desk) (n : ℕ) → good d ≡ true → filter (goes_with d (keys.Member n)) (filter (is_of kinds.Source) d.others) ≡ [] →
+-- where a member is taken of whom no source of audio goes, the gains that go are its own
+pub own_gains : (d : Desk) (n : ℕ) → good d ≡ true → list_any is_sound (filter (goes_with d (keys.Member n)) (filter (is_of kinds.Source) d.others)) ≡ false →
     gains_naming d n ≡ filter (goes_with d (keys.Member n)) (filter (is_of kinds.Gain) d.others)
 own_gains d n g none =
     sym (filter_alike (goes_with d (keys.Member n)) (is_gain_of n) (filter (is_of kinds.Gain) d.others) (λ x one.
     let both = and_parts (is_in d.others x) (is_of kinds.Gain x) (sym (is_in-filter (is_of kinds.Gain) x d.others) ∙ one) in
-    each x (ap rank (its_kind kinds.Gain x both.1)) (at_each (is_named_there d) (rows_of d) x (good_parts d g).named (is_in-append (map rows.Member d.members) d.others x ∙ or_right _ _ both.0)))
+    each x both.0 (ap rank (its_kind kinds.Gain x both.1)) (at_each (is_named_there d) (rows_of d) x (good_parts d g).named (is_in-append (map rows.Member d.members) d.others x ∙ or_right _ _ both.0)))
     ∙ filter_wider (is_gain_of n) (is_of kinds.Gain) d.others wider) where
-      each : (x : Row) → rank (kind_of (key_of x)) ≡ 6 → is_named_there d x ≡ true → goes_with d (keys.Member n) x ≡ is_gain_of n x
-      each (rows.Gain s) is there =
-          (λ i. own_listener d n s.member i || (no_source d (keys.Member n) g (omega arith) none s.source i || false))
+      each : (x : Row) → is_in d.others x ≡ true → rank (kind_of (key_of x)) ≡ 6 → is_named_there d x ≡ true → goes_with d (keys.Member n) x ≡ is_gain_of n x
+      each (rows.Gain s) one is there =
+          (λ i. own_listener d n s.member i || (no_sound d (keys.Member n) g (omega arith) none s one i || false))
           ∙ elim (cases_Bool (nat_eq n s.member)) [
             | inl e ↦ (λ i. (e i && (ap (λ k. has d (keys.Member k)) (eqb-true n s.member e) ∙ (and_parts _ _ there).0) i) || false) ∙ sym (turned e)
             | inr e ↦ ap (λ b. (b && has d (keys.Member n)) || false) e ∙ sym (turned_off e)
@@ -295,14 +331,14 @@ own_gains d n g none =
 
             turned_off : nat_eq n s.member ≡ false → nat_eq s.member n ≡ false
             turned_off e = grind (arith, e)
-      each (rows.Room r) is there = absurd (omega (arith, is))
-      each (rows.Member r) is there = absurd (omega (arith, is))
-      each (rows.Source r) is there = absurd (omega (arith, is))
-      each (rows.Slot r) is there = absurd (omega (arith, is))
-      each (rows.Sub r) is there = absurd (omega (arith, is))
-      each (rows.Mute r) is there = absurd (omega (arith, is))
-      each (rows.Pin r) is there = absurd (omega (arith, is))
-      each (rows.Floor r) is there = absurd (omega (arith, is))
+      each (rows.Room r) one is there = absurd (omega (arith, is))
+      each (rows.Member r) one is there = absurd (omega (arith, is))
+      each (rows.Source r) one is there = absurd (omega (arith, is))
+      each (rows.Slot r) one is there = absurd (omega (arith, is))
+      each (rows.Sub r) one is there = absurd (omega (arith, is))
+      each (rows.Mute r) one is there = absurd (omega (arith, is))
+      each (rows.Pin r) one is there = absurd (omega (arith, is))
+      each (rows.Floor r) one is there = absurd (omega (arith, is))
 
       wider : (x : Row) → is_gain_of n x ≡ true → is_of kinds.Gain x ≡ true
       wider (rows.Gain s) h = refl

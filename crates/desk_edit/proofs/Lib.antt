@@ -15,3 +15,4 @@ pub mod Claimed
 pub mod ByKinds
 pub mod MembersGoing
 pub mod GoneLemmas
+pub mod Parted

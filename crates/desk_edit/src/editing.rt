@@ -106,6 +106,22 @@ fn remove<A: Allocator + Copy>(alloc: A, rows: &Rows<A>, key: Key) -> Result<Edi
     })
 }
 
+/// The rows of these whose two sides are in different rooms.
+fn parted<A: Allocator + Copy>(
+    alloc: A,
+    moved: &Moved<'_, A>,
+    others: &[Row],
+) -> Result<Vec<Row, A>, AllocError>
+    ensures { IfOk result (λ v. v.items ≡ filter (λ r. not (are_together (with_member_in moved.now.rows.now moved.now.member moved.now.room) (names r))) others.now) }
+{
+    others
+        .iter()
+        .filter(|row| moved.parts(row))
+        .copied()
+        .collect(alloc)
+}
+
+/// The rows whose two sides are then in different rooms. They depend on the member.
 fn others_parted<A: Allocator + Copy>(
     alloc: A,
     rows: &Rows<A>,
@@ -114,12 +130,9 @@ fn others_parted<A: Allocator + Copy>(
 ) -> Result<Vec<Row, A>, AllocError>
     ensures { IfOk result (λ v. v.items ≡ filter (λ r. not (are_together (with_member_in rows.now member room) (names r))) rows.now.others) }
 {
-    let moved = Moved { rows, member, room };
-    rows.others()
-        .iter()
-        .copied()
-        .filter(|row| moved.parts(row))
-        .collect(alloc)
+    rows.known();
+    let dependent = others_going(alloc, rows, Key::Member(member), false)?;
+    parted(alloc, &Moved { rows, member, room }, &dependent)
 }
 
 /// Puts the member into the room, and takes the rows whose two sides are then in different rooms.

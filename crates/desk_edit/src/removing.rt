@@ -10,13 +10,13 @@ ghost use Rattle.desk_rows.specs.Kinds.{is_of};
 ghost use Rattle.desk_rows.specs.Order.{in_order};
 ghost use Rattle.desk_rows.specs.Desk.{Desk, good, rows_of};
 ghost use Rattle.desk_edit.specs.Depends.{goes_within, goes_with};
-ghost use Rattle.desk_edit.specs.inner.Levels.{level, can_go, found_list};
+ghost use Rattle.desk_edit.specs.inner.Levels.{level, can_go, found_list, is_sound};
 ghost use Rattle.desk_edit.specs.inner.Edits.{placed_from};
 
 use crate::editing::one_row;
 use crate::going::{Going, can_go, level};
 use crate::picking::{Picked, members_picked};
-use desk_rows::{Few, Key, Kind, Placed, Row, Rows, find_row};
+use desk_rows::{Few, Key, Kind, Media, Placed, Row, Rows, find_row};
 use std::alloc::{AllocError, Allocator};
 
 /// The members that go with the row of this key, with their places.
@@ -51,8 +51,8 @@ fn going_by_members<A: Allocator + Copy>(
 {
     others
         .iter()
-        .copied()
         .filter(|row| going.goes_by_member(row))
+        .copied()
         .collect(alloc)
 }
 
@@ -176,8 +176,8 @@ impl<'a, A: Allocator + Copy> Gone<'a, A> {
     {
         others
             .iter()
-            .copied()
             .filter(|row| self.takes(row))
+            .copied()
             .collect(alloc)
     }
 
@@ -209,16 +209,16 @@ impl<'a, A: Allocator + Copy> Gone<'a, A> {
             .rows
             .others_of(Kind::Gain)
             .iter()
-            .copied()
             .filter(|row| self.takes_gain(row))
+            .copied()
             .collect(alloc)
     }
 
-    /// The gains that go. Where no source does, they are the member's own.
+    /// The gains that go. Where no source that can be heard does, they are the member's own.
     fn gains(&self, alloc: A) -> Result<Vec<Row, A>, AllocError>
         ensures { IfOk result (λ v. v.items ≡ filter (goes_with self.now.going.rows.now self.now.going.key) (filter (is_of kinds.Gain) self.now.going.rows.now.others)) }
     {
-        if !self.sources.is_empty() {
+        if any_sound(&self.sources) {
             return self.gains_asked(alloc);
         }
         if self.nobody {
@@ -285,6 +285,22 @@ fn any_source(rows: &[Row], ssrc: u32) -> bool
     ensures { result ≡ list_any (has_key (Key.Source ssrc)) rows.now }
 {
     rows.iter().any(|row| is_source(row, ssrc))
+}
+
+/// Whether the row is a source of audio.
+fn is_sound(row: &Row) -> bool
+    ensures { result ≡ is_sound row.now }
+{
+    match row {
+        Row::Source(source) => source.media.is_same(Media::Audio),
+        _ => false,
+    }
+}
+
+fn any_sound(rows: &[Row]) -> bool
+    ensures { result ≡ list_any is_sound rows.now }
+{
+    rows.iter().any(|row| is_sound(row))
 }
 
 /// The other rows that go: of a kind that no row names, the row of the key alone.

@@ -1,10 +1,12 @@
 -- How deep rows stand over one another. No public clause cites this.
 use Rattle.std.specs.Prelude.{ℕ, Bool, true, false, nat_lt, List, [], ◌∷◌, Option, None, Some}
 use Rattle.desk_rows.specs.declared.row.Row.{Row}
+use Rattle.desk_rows.specs.declared.row.Row.TheVariants.{Source}
+use Rattle.desk_rows.specs.declared.row.Media.TheVariants.{Audio}
 use Rattle.desk_rows.specs.declared.row.Key.{Key}
 use Rattle.desk_rows.specs.declared.row.Kind.{Kind}
 use Rattle.desk_rows.specs.declared.row.Kind.TheVariants as kinds
-use Rattle.desk_rows.specs.Row.{kind_of}
+use Rattle.desk_rows.specs.Row.{kind_of, same_media}
 
 -- how many rows there can be below a row of a kind, each named by the one above it
 abbrev pub level : Kind → ℕ
@@ -38,3 +40,8 @@ can_go kind _ = true
 abbrev pub found_list : Option Row → List Row
 found_list None = []
 found_list (Some r) = r ∷ []
+
+-- a source of audio
+abbrev pub is_sound : Row → Bool
+is_sound (Source s) = same_media s.media Audio
+is_sound _ = false

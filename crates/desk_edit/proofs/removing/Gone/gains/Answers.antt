@@ -1,24 +1,26 @@
 use Rattle.std.proofs.Common.{◌≡◌, List, filter, ap, sym, subst, ◌∙◌}
 use Rattle.std.specs.Prelude.{IfOk}
+use Rattle.std.specs.List.{list_any}
 use Rattle.desk_rows.specs.declared.row.Row.{Row}
 use Rattle.desk_rows.specs.declared.row.Key.{Key}
 use Rattle.desk_rows.specs.declared.row.Kind.TheVariants as kinds
 use Rattle.desk_rows.specs.Kinds.{is_of}
 use Rattle.desk_edit.specs.Depends.{goes_with}
-use Rattle.desk_edit.proofs.GoneLemmas.{no_gains, own_gains, is_nothing}
+use Rattle.desk_edit.specs.inner.Levels.{is_sound}
+use Rattle.desk_edit.proofs.GoneLemmas.{no_gains, own_gains}
 use Rattle.desk_edit.proofs.removing.Gone.gains.Goals as goal
 
 pub returns-then-self : goal.returns-then-self
 returns-then-self g c =
     let x = c.args.self.now in
-    let none = sym x.sources_go ∙ is_nothing x.sources.items _ (sym x.sources.ok.0) (sym c.is_empty.ensures ∙ c.if-not-is_empty.false) in
+    let none = ap (list_any is_sound) (sym x.sources_go ∙ sym c.deref.ensures.value) ∙ sym c.any_sound.ensures ∙ c.if-any_sound.false in
     c.new.ensures.items ∙ sym (no_gains x.going.rows.now x.going.key x.good x.low none (x.members c.if-self.true))
 
 pub returns-in-Member : goal.returns-in-Member
 returns-in-Member g c =
     let x = c.args.self.now in
     let d = x.going.rows.now in
-    let none = sym x.sources_go ∙ is_nothing x.sources.items _ (sym x.sources.ok.0) (sym c.is_empty.ensures ∙ c.if-not-is_empty.false) in
-    let its = ap (λ (k : Key). filter (goes_with d k) (filter (is_of kinds.Source) d.others)) (sym c.in-Member.is) ∙ none in
+    let none = ap (list_any is_sound) (sym x.sources_go ∙ sym c.deref.ensures.value) ∙ sym c.any_sound.ensures ∙ c.if-any_sound.false in
+    let its = ap (λ (k : Key). list_any is_sound (filter (goes_with d k) (filter (is_of kinds.Source) d.others))) (sym c.in-Member.is) ∙ none in
     let same = c.gains_of.ensures ∙ own_gains d c.in-Member.member x.good its ∙ ap (λ (k : Key). filter (goes_with d k) (filter (is_of kinds.Gain) d.others)) (sym c.in-Member.is) in
     subst (λ (xs : List Row). IfOk c.from_slice.result (λ v. v.items ≡ xs)) same c.from_slice.ensures.items
