@@ -8,5 +8,8 @@ pub mod calling;
 pub mod framing;
 pub mod printing;
 pub mod running;
+pub mod sending;
 pub mod spelling;
 pub mod stepping;
+pub mod taking_back;
+pub mod whole_runs;
