@@ -12,7 +12,7 @@ use std::alloc::{Allocator, Global};
 use std::test::Fail;
 
 /// An audio packet of the source 102: 20 ms.
-fn sound<A: Allocator + Copy>(alloc: A) -> Result<Item<A>, Fail>
+pub fn sound<A: Allocator + Copy>(alloc: A) -> Result<Item<A>, Fail>
     ensures { IfOk result (λ item. is_sized (input_of item) ≡ true) }
 {
     let samples = vec![in alloc; 1_000; 160]?;
