@@ -56,12 +56,19 @@ sample_back z fits = ap (cast_signed w16) (whole (cast_unsigned w16 z)) ∙ to_z
     whole : (n : ℕ) → 256 * (n / 256) + n % 256 ≡ n
     whole n = omega arith
 
--- samples are what their octets decode to
-pub read_back : (samples : List ℤ) → All (FitsSigned w16) samples → samples_of (octets_of samples) ≡ samples
-read_back [] all = refl
-read_back (z ∷ zs) all =
-    ap (λ x. x ∷ samples_of (octets_of zs)) (sample_back z (all 0 (pos 0) (omega arith)))
-    ∙ ap (λ xs. z ∷ xs) (read_back zs (λ k d lt. all (suc k) d (omega (arith, lt))))
+octets_more : (samples : List ℤ) (octets : List ℕ) → samples_of (octets_of samples ++ octets) ≡ samples_of (octets_of samples) ++ samples_of octets
+octets_more [] octets = refl
+octets_more (z ∷ zs) octets = ap (λ xs. sample_of (cast_unsigned w16 z / 256) (cast_unsigned w16 z % 256) ∷ xs) (octets_more zs octets)
+
+-- one more sample is what its octets decode to
+pub back_more : (samples : List ℤ) (i : ℕ) → i < length samples → FitsSigned w16 (get_or samples i (pos 0))
+    → samples_of (octets_of (take i samples)) ≡ take i samples → samples_of (octets_of (take (i + 1) samples)) ≡ take (i + 1) samples
+back_more samples i room fits so_far =
+    let z = get_or samples i (pos 0) in
+    let more = take_more samples i (pos 0) room in
+    ap (λ xs. samples_of (octets_of xs)) more ∙ ap samples_of (sym (flat_map_more octets_in [] (take i samples) z))
+    ∙ octets_more (take i samples) (octets_in z) ∙ ap (λ xs. xs ++ sample_of (cast_unsigned w16 z / 256) (cast_unsigned w16 z % 256) ∷ []) so_far
+    ∙ ap (λ x. take i samples ++ x ∷ []) (sample_back z fits) ∙ sym more
 
 octets_back : (x y : ℕ) → x < 256 → y < 256 → octets_in (sample_of x y) ≡ x ∷ y ∷ []
 octets_back x y few less = ap (λ n. n / 256 ∷ n % 256 ∷ []) (of_z-to_z w16 (256 * x + y) (omega (arith, few, less))) ∙ both

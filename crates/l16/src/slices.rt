@@ -3,20 +3,22 @@
 ghost use Rattle.std.specs.Prelude.{◌≡◌, ◌*◌, length};
 ghost use Rattle.l16.specs.Samples.{samples_of, octets_of};
 
-/// Decodes each two octets into the place of their sample.
+/// Decodes each two octets into the place of their sample. Encoded again, the samples are these octets.
 pub fn decode(octets: &[u8], samples: &mut [i16])
     requires { length octets.now ≡ 2 * length samples.old }
-    ensures { samples.new ≡ samples_of octets.now }
+    ensures samples { samples.new ≡ samples_of octets.now }
+    ensures back { octets_of samples.new ≡ octets.now }
 {
     for i in 0..samples.len() {
         samples[i] = i16::from_be_bytes([octets[2 * i], octets[2 * i + 1]]);
     }
 }
 
-/// Encodes each sample into the places of its two octets.
+/// Encodes each sample into the places of its two octets. Decoded again, the octets are these samples.
 pub fn encode(samples: &[i16], octets: &mut [u8])
     requires { length octets.old ≡ 2 * length samples.now }
-    ensures { octets.new ≡ octets_of samples.now }
+    ensures octets { octets.new ≡ octets_of samples.now }
+    ensures back { samples_of octets.new ≡ samples.now }
 {
     for i in 0..samples.len() {
         let [high, low] = samples[i].to_be_bytes();

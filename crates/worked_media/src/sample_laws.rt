@@ -2,18 +2,16 @@
 
 ghost use Rattle.std.specs.Prelude.{◌≡◌, ◌*◌, length};
 
-use l16::{decode, encode, octets_read_back, samples_read_back};
+use l16::{decode, encode};
 
-/// Samples that are encoded and decoded again are the same, whatever they are.
-pub fn samples_come_back(first: i16, second: i16) -> (i16, i16)
-    ensures { result ≡ (first, second) }
+/// Samples that are encoded and decoded again are the same, wherever they come from.
+pub fn samples_come_back(samples: &[i16], octets: &mut [u8], back: &mut [i16])
+    requires octets { length octets.old ≡ 2 * length samples.now }
+    requires back { length back.old ≡ length samples.now }
+    ensures { back.new ≡ samples.now }
 {
-    samples_read_back();
-    let mut octets = [0; 4];
-    let mut samples = [0; 2];
-    encode(&[first, second], &mut octets);
-    decode(&octets, &mut samples);
-    (samples[0], samples[1])
+    encode(samples, octets);
+    decode(octets, back);
 }
 
 /// Octets that are decoded and encoded again are the same.
@@ -22,7 +20,6 @@ pub fn octets_come_back(octets: &[u8], samples: &mut [i16], back: &mut [u8])
     requires back { length back.old ≡ length octets.now }
     ensures { back.new ≡ octets.now }
 {
-    octets_read_back();
     decode(octets, samples);
     encode(samples, back);
 }

@@ -1,8 +1,10 @@
-use Rattle.std.proofs.Common.{rules, arith, ◌≡◌, ◌+◌, ◌*◌, ◌<◌, ℤ, slice_index_or, length, ap, ◌∙◌, to_z, of_z, FitsSigned}
+use Rattle.std.proofs.Common.{rules, arith, ◌≡◌, ◌+◌, ◌*◌, ◌<◌, ℤ, slice_index_or, length, ap, sym, subst, ◌∙◌, to_z, of_z, FitsSigned}
 use mir.Syntax.{w16}
 use Rattle.std.proofs.lemmas.Int.{to_z-of_z}
-use Rattle.l16.specs.Samples.{sample_of}
-use Rattle.l16.proofs.Pairs.{decoded_more}
+use Rattle.std.proofs.lemmas.List.{take_all}
+use Rattle.std.proofs.lemmas.Grind.{get_or_default_zero}
+use Rattle.l16.specs.Samples.{sample_of, samples_of, octets_of}
+use Rattle.l16.proofs.Pairs.{decoded_more, written_back}
 use Rattle.l16.proofs.slices.decode.Goals as goal
 
 pub loop-i-preserved : goal.loop-i-preserved
@@ -16,3 +18,11 @@ loop-i-preserved c =
     let there : 2 * i + 1 < length octets = omega (arith, c.loop-i-test.true, c.requires) in
     let room : i < length c.loop-i.samples = omega (arith, c.loop-i-test.true, c.loop-i.auto.samples) in
     (search rules, decoded_more octets c.loop-i.samples i z there room is c.loop-i.invariant.1)
+
+pub returns-clause-back : goal.returns-clause-back
+returns-clause-back c =
+    let octets = c.args.octets.now in
+    let held : c.loop-i.samples ≡ samples_of octets =
+    sym (take_all c.loop-i.i c.loop-i.samples (omega (arith, c.loop-i-test.false, c.loop-i.auto.samples))) ∙ c.loop-i.invariant.1
+    ∙ ap samples_of (take_all (2 * c.loop-i.i) octets (omega (arith, c.loop-i-test.false, c.requires))) in
+    ap octets_of held ∙ written_back octets (length c.args.samples.now) c.requires (λ k d within. subst (λ octet. octet < 256) (sym (get_or_default_zero octets k d within)) (c.type_inv.octets k).fits)
