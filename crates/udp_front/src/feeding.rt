@@ -10,7 +10,7 @@ use std::alloc::{AllocError, Allocator, Global};
 use std::marker::Model;
 
 /// How many octets a line has at most, a CR at its end counted and its LF not.
-pub(crate) const LINE_LIMIT: usize = 4_096;
+const LINE_LIMIT: usize = 4_096;
 
 /// What a piece of the stream brought.
 #[derive(Drop)]

@@ -2,12 +2,8 @@
 
 ghost use Rattle.std.specs.Prelude.{◌≡◌, ℕ, true, List, ◌∷◌, ◌++◌};
 ghost use Rattle.std.specs.List.{AllByRecursion};
-ghost use Rattle.udp_front.specs.Cut.{cut, lines_of, is_too_long, line_limit};
-ghost use Rattle.udp_front.specs.Outbound.{unread_limit, piece};
+ghost use Rattle.udp_front.specs.Cut.{cut, lines_of, is_too_long};
 ghost use Rattle.udp_front.specs.laws.Whole.{HasNoLf, joined};
-
-use crate::feeding::LINE_LIMIT;
-use crate::outgoing::{PIECE, UNREAD_LIMIT};
 
 /// A line that is too long ends a stream: whatever comes afterwards, no line is added.
 pub fn too_long_for_good()
@@ -20,11 +16,4 @@ pub fn cuts_are_whole()
     ensures whole { (stream : List ℕ) → joined (cut stream) ≡ stream }
     ensures ended { (stream : List ℕ) → AllByRecursion HasNoLf (cut stream).ended }
     ensures rest { (stream : List ℕ) → HasNoLf (cut stream).rest }
-{}
-
-/// The sizes that are kept are those of the definitions.
-pub fn sizes_are_kept()
-    ensures line { LINE_LIMIT ≡ line_limit }
-    ensures unread { UNREAD_LIMIT ≡ unread_limit }
-    ensures written { PIECE ≡ piece }
 {}

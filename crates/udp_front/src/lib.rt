@@ -30,7 +30,7 @@ pub use ending::{FrontFault, front_status};
 pub use fault::SettingsFault;
 pub use feeding::{Fed, Lines};
 pub use front::{Front, Listening};
-pub use laws::{cuts_are_whole, sizes_are_kept, too_long_for_good};
+pub use laws::{cuts_are_whole, too_long_for_good};
 pub use outgoing::Outgoing;
 pub use pacing::{ReportTimer, Ticks};
 pub use reading::settings;

@@ -7,10 +7,10 @@ use std::alloc::{AllocError, Allocator, Global};
 use std::marker::Model;
 
 /// How many octets an operator may leave unread. What a `show` of a full desk takes is under 2,700,000.
-pub(crate) const UNREAD_LIMIT: usize = 4_194_304;
+const UNREAD_LIMIT: usize = 4_194_304;
 
 /// How many octets are written at a time at most.
-pub(crate) const PIECE: usize = 65_536;
+const PIECE: usize = 65_536;
 
 /// The octets that wait to be written to an operator.
 /// Contracts see those, oldest first.
