@@ -134,7 +134,7 @@ impl<A: Allocator + Copy> Rows<A> {
     }
 
     /// All other rows, by kind and within a kind by key.
-    pub fn others(&self) -> &[Row]
+    pub(crate) fn others(&self) -> &[Row]
         ensures { result.now ≡ self.now.others }
     {
         &self.others

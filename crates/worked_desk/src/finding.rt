@@ -4,7 +4,7 @@ ghost use Rattle.std.specs.Prelude.{◌≡◌, true, false, None, Some, [], ◌�
 ghost use Rattle.desk_rows.specs.declared.row.Codec.TheVariants.{L16};
 ghost use Rattle.desk_rows.specs.Desk.{blank};
 ghost use Rattle.worked_desk.specs.Rows.{member, room, video, audio, slot, sub};
-ghost use Rattle.worked_desk.specs.TwoRooms.{two_rooms, ten, eleven, twelve, eight_rows};
+ghost use Rattle.worked_desk.specs.TwoRooms.{two_rooms, ten, eleven, twelve};
 ghost use Rattle.worked_desk.specs.FullDesks.{of_members};
 
 use desk_rows::{Key, Kind, Member, Row, Rows, Slot, Sub};
@@ -37,13 +37,6 @@ pub fn members(rows: &Rows) -> &[Member]
     ensures { result.now ≡ ten ∷ eleven ∷ twelve ∷ [] }
 {
     rows.members()
-}
-
-pub fn others(rows: &Rows) -> &[Row]
-    requires { rows.now ≡ two_rooms }
-    ensures { result.now ≡ eight_rows }
-{
-    rows.others()
 }
 
 /// A row is found by its kind and its number, whichever of them is first or last.
