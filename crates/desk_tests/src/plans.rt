@@ -52,6 +52,7 @@ fn small_desk<'a>(ample: &'a LocalHeap) -> Result<Rows<&'a LocalHeap>, Fail> {
     let mut rows = Rows::new(ample, 1)?;
     let commands = [
         Command::AddRoom(Room { room: 1 }),
+        Command::AddRoom(Room { room: 3 }),
         member(10, 5000),
         source(101),
         source(102),
@@ -86,6 +87,12 @@ fn a_plan_tells_want_of_memory_last(rt: HostRuntime) -> Result<(), Fail> {
         source(103),
         slot(502, 1),
         Command::RemoveSlot { out_ssrc: 501 },
+        Command::RemoveMember { member: 10 },
+        Command::RemoveRoom { room: 1 },
+        Command::MoveMember {
+            member: 10,
+            room: 3,
+        },
         subscribe(102),
     ];
     for command in cases {
