@@ -2,6 +2,7 @@
 #![tactic(auto)]
 
 pub mod cuts;
+pub mod dividing;
 mod fixtures;
 pub mod frames;
 pub mod numbers;
