@@ -3,7 +3,7 @@ use Rattle.std.proofs.Common.{◌≡◌, List, [], ◌∷◌, ap, sym, subst}
 use Rattle.std.specs.List.{AllByRecursion}
 use Rattle.bridge_core.specs.Sent.{Sent}
 
-abbrev first_or : {A : Type 0} → A → List A → A
+abbrev pub first_or : {A : Type 0} → A → List A → A
 first_or a [] = a
 first_or a (b ∷ bs) = b
 

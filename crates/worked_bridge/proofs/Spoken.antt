@@ -1,0 +1,36 @@
+-- What texts spell, and the one line of a script.
+use Rattle.std.proofs.Common.{rules, ◌≡◌, ◌==◌, ℕ, Bool, false, if◌then◌else◌, List, [], ◌∷◌, length, map, Ok, Err, sym, ap, subst, ◌∙◌, arith}
+use Rattle.std.specs.Prelude.{Result, OnOk}
+use Rattle.std.specs.List.{AllByRecursion}
+use Rattle.rtp_codec.specs.declared.address.Address.{Address}
+use Rattle.desk_edit.specs.declared.command.Call.{Call}
+use Rattle.script_text.specs.declared.fault.Fault.{Fault}
+use Rattle.script_text.specs.Words.{words_of}
+use Rattle.script_text.specs.Calls.{call_of, spoken_words}
+use Rattle.script_text.specs.Requests.{Rx, request_of}
+use Rattle.script_text.specs.Wire.{Wire, IsHeard, Hears}
+use Rattle.worked_bridge.proofs.Answered.{first_or}
+
+abbrev Fails : {A : Type 0} → Result A (ℕ × Fault) → Type 0
+Fails (Ok x) = ⊥
+Fails (Err e) = Unit {0}
+
+-- a text that spells a call has words
+pub spoken : (text : List ℕ) (call : Call) → call_of 0 (spoken_words text) ≡ Ok call → call_of 0 (words_of text) ≡ Ok call
+unfolding call_of
+spoken [] call is = absurd (subst Fails is tt)
+spoken (x ∷ xs) call is =
+    let some : (length (x ∷ xs) == 0) ≡ false = search rules in
+    ap (λ (b : Bool). call_of 0 (if b then [] else words_of (x ∷ xs))) (sym some) ∙ is
+
+-- the one line of a script is heard on the wire of its datagram
+pub one_is_heard : (lines : List (List ℕ)) (moment : ℕ) (from : Address) (octets : List ℕ) → map request_of lines ≡ Ok (Rx moment from octets) ∷ [] → (wire : Wire) → IsHeard wire octets
+    → AllByRecursion (λ line. (wire : Wire) × Hears wire (request_of line)) lines
+one_is_heard [] moment from octets is wire heard = absurd (omega (arith, ap length is))
+one_is_heard (line ∷ []) moment from octets is wire heard = ((wire, subst (Hears wire) (sym (ap (first_or (request_of line)) is)) heard), tt)
+one_is_heard (line ∷ next ∷ lines) moment from octets is wire heard = absurd (omega (arith, ap length is))
+
+-- what follows holds too where it went well
+pub on_ok : {A E : Type 0} {P Q : Type 0} (r : Result A E) → (P → Q) → OnOk r P → OnOk r Q
+on_ok (Ok x) follows p = follows p
+on_ok (Err e) follows p = p

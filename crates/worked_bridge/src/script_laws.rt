@@ -1,0 +1,160 @@
+//! What the laws of scripts tell a caller, whatever the words are.
+
+ghost use Rattle.std.specs.Prelude.{◌≡◌, ◌≢◌, pos, ◌≤◌, ◌<◌, ◌+◌, ◌%◌, ◌^◌, ◌++◌, ◌∷◌, ℕ, ℤ, true, List, [], codes, length, map, Some, Ok, IfSome, IfOk, OnOk};
+ghost use Rattle.rtp_codec.specs.declared.address.Address.{Address};
+ghost use Rattle.desk_rows.specs.Desk.{Desk, blank, good};
+ghost use Rattle.frame_gate.specs.Frame.{SourcePacket};
+ghost use Rattle.forward_rewrite.specs.Frame.{SourceFrame};
+ghost use Rattle.desk_edit.specs.declared.refusal.Refusal.{Refusal as RefusalOf};
+ghost use Rattle.desk_edit.specs.Refusals.{first_case};
+ghost use Rattle.bridge_core.specs.Sent.{Sent, sent_of};
+ghost use Rattle.bridge_core.specs.Named.{Name, firsts};
+ghost use Rattle.bridge_core.specs.Headline.{numbers};
+ghost use Rattle.bridge_core.specs.Steps.{Step, sends};
+ghost use Rattle.script_text.specs.Words.{words_of};
+ghost use Rattle.script_text.specs.Lines.{lines_of, parts_of};
+ghost use Rattle.script_text.specs.Numbers.{number_of, ext_of, IsExt};
+ghost use Rattle.script_text.specs.Packets.{IsReadable, packet_text};
+ghost use Rattle.script_text.specs.Requests.{Rx, IsFrame, IsDatagram, frame_line, report_line, request_of, rx_line, tick_line};
+ghost use Rattle.script_text.specs.Judged.{call_cases};
+ghost use Rattle.script_text.specs.Wire.{Wire, HearsAll, script_asker};
+ghost use Rattle.script_text.specs.Scripts.{answers_of, sent_in, steps_of};
+ghost use Rattle.script_text.specs.Output.{output_of};
+
+use bridge_core::{Core, Egress, Reply};
+use desk_edit::Call;
+use hex::{decode, encode};
+use rtp_codec::Address;
+use script_text::{
+    RunFault, address_words, call_lines, datagram_lines, datagrams_are_heard, ext_words,
+    frame_lines, hex_words, number_words, output, packet_words, parse_address, parse_desk,
+    pieces_join, print_egress, print_reply, refusal_words, report_lines, script_bridge,
+    script_sends, script_streams_have_no_gap, scripts_are_heard, tick_lines,
+};
+use std::alloc::{AllocError, Global};
+
+/// Two texts of the same words are one text, and so are two of the same lines.
+pub fn texts_of_the_same_words_are_one(first: &[u8], second: &[u8]) -> bool
+    ensures words { words_of first.now ≡ words_of second.now → result ≡ true }
+    ensures parts { parts_of first.now ≡ parts_of second.now → result ≡ true }
+{
+    pieces_join();
+    first == second
+}
+
+/// Texts that spell one call are one text.
+pub fn one_call_is_spelt_in_one_way(first: &[u8], second: &[u8]) -> Option<(Call, Call)>
+    ensures { IfSome result (λ both. both.0 ≡ both.1 → first.now ≡ second.now) }
+{
+    call_lines();
+    let Ok(one) = parse_desk(first) else {
+        return None;
+    };
+    let Ok(other) = parse_desk(second) else {
+        return None;
+    };
+    Some((one, other))
+}
+
+/// Texts that spell one address are one text.
+pub fn one_address_is_spelt_in_one_way(first: &[u8], second: &[u8]) -> Option<(Address, Address)>
+    ensures { IfSome result (λ both. both.0 ≡ both.1 → first.now ≡ second.now) }
+{
+    address_words();
+    let one = parse_address(first)?;
+    let other = parse_address(second)?;
+    Some((one, other))
+}
+
+/// The number of an accepted call reads back from its line.
+pub fn reads_back_the_number_of_a_call(no: u64, out: &mut Vec<u8>) -> Result<(), AllocError>
+    requires { out.old.items ≡ [] }
+    ensures { OnOk result ((word : List ℕ) × (out.new.items ≡ codes "ok " ++ word ++ 10 ∷ []) × (number_of 18446744073709551615 word ≡ Some no)) }
+{
+    number_words();
+    print_reply(&Reply::Accepted { no }, out)
+}
+
+/// The number of the source's packet reads back from the line of a receiver's losses.
+pub fn reads_back_the_number_of_a_noted_packet(
+    ext: i64,
+    egress: &Egress,
+    out: &mut Vec<u8>,
+) -> Result<(), AllocError>
+    requires note { sent_of egress.now ≡ Sent.note record { version = 6; item = 2; from = record { ip = 10 ∷ 0 ∷ 0 ∷ 2 ∷ []; port = 5000 }; note = record { out_ssrc = 501; fraction = 0; lost = pos 0; source = Some (101, ext) } } }
+    requires behind { out.old.items ≡ [] }
+    ensures { OnOk result ((word : List ℕ) × (out.new.items ≡ codes "note 6 2 10.0.0.2:5000 501 0 0 101 " ++ word ++ 10 ∷ []) × (IsExt ext → ext_of word ≡ Some ext)) }
+{
+    ext_words();
+    print_egress(egress, out)
+}
+
+/// Octets that are written in hexadecimal read back.
+pub fn reads_back_octets(alloc: Global, octets: &[u8]) -> Option<Vec<u8>>
+    ensures { IfSome result (λ back. back.items ≡ octets.now) }
+{
+    hex_words();
+    let Ok(text) = encode(alloc, octets) else {
+        return None;
+    };
+    let Ok(back) = decode(alloc, text.as_bytes()) else {
+        return None;
+    };
+    Some(back)
+}
+
+/// What is printed of packets, frames, datagrams, ticks and reports is another where they are others.
+pub fn others_are_printed_otherwise()
+    ensures packets { (p q : SourcePacket) → IsReadable p → IsReadable q → packet_text p ≡ packet_text q → p ≡ q }
+    ensures frames { (f g : SourceFrame) → IsFrame f → IsFrame g → frame_line f ≡ frame_line g → f ≡ g }
+    ensures datagrams { (m n : ℕ) (from to : Address) (octets bytes : List ℕ) → IsDatagram m from octets → IsDatagram n to bytes → rx_line m from octets ≡ rx_line n to bytes → octets ≡ bytes }
+    ensures ticks { (m n : ℕ) → m < 2 ^ 64 → n < 2 ^ 64 → tick_line m ≡ tick_line n → m ≡ n }
+    ensures reports { (m n : ℕ) → m < 2 ^ 64 → n < 2 ^ 64 → report_line m ≡ report_line n → m ≡ n }
+{
+    packet_words();
+    frame_lines();
+    datagram_lines();
+    tick_lines();
+    report_lines();
+}
+
+/// A call that is refused is told the first reason that holds.
+pub fn tells_the_first_reason(alloc: Global, core: &mut Core, call: Call) -> Reply
+    ensures { (at : ℕ) (why : RefusalOf) → result ≡ Reply.Refused at why → why ≢ RefusalOf.OutOfMemory → first_case (call_cases core.old.version core.old.desk (length core.old.done) (length core.old.undone) call) ≡ Some why }
+{
+    refusal_words();
+    core.desk(alloc, 0, call)
+}
+
+/// The output of a script of one datagram is that of a wire on which it is heard, whatever its octets are.
+pub fn a_datagram_has_an_output(
+    alloc: Global,
+    script: &[u8],
+    moment: u64,
+    from: &Address,
+    octets: &[u8],
+) -> Result<Vec<u8>, RunFault>
+    requires { map request_of (lines_of script.now) ≡ Ok (Rx moment from.now octets.now) ∷ [] }
+    ensures { IfOk result (λ out. (wire : Wire) × HearsAll wire (lines_of script.now) × (out.items ≡ (output_of wire script.now).text)) }
+{
+    datagrams_are_heard(alloc, octets);
+    scripts_are_heard();
+    output(alloc, script)
+}
+
+/// What a script sends is what the core sends over its steps, from the blank desk of SSRC 1 and under the name `bridge`.
+pub fn a_script_sends_as_the_core_does()
+    ensures { (wire : Wire) (input : List ℕ) → sent_in (answers_of wire input) ≡ sends (record { ssrc = 1; cname = codes "bridge" }) 1 (blank 1) (steps_of wire input) }
+{
+    script_bridge();
+    script_sends();
+}
+
+/// The second packet that a script sends for the first time on a stream is numbered one more than the first, and the first desk that it publishes is good.
+pub fn a_script_numbers_without_a_gap()
+    ensures second { (wire : Wire) (input : List ℕ) (name : Name) (m n : ℕ) (ns : List ℕ) → numbers (firsts script_asker 1 (blank 1) name (steps_of wire input)) ≡ m ∷ n ∷ ns → n ≡ (m + 1) % 2 ^ 16 }
+    ensures good { (wire : Wire) (input : List ℕ) (desk : Desk) (steps : List Step) → steps_of wire input ≡ Step.publish desk ∷ steps → good desk ≡ true }
+{
+    script_bridge();
+    script_streams_have_no_gap();
+}
