@@ -18,7 +18,7 @@ told() {
     esac
 }
 
-said=$(cd crates/script_cases && awk '/^\*\* /{fills = 0} /^\*\* (no desk|many datagrams)$/{fills = 1} !fills' stdin | rt try 2>&1)
+said=$(cd crates/script_cases && awk '/^\*\* /{fills = 0} /^\*\* (no desk|many datagrams|large requests and reports)$/{fills = 1} !fills' stdin | rt try 2>&1)
 told script_cases "$said"
 said=$(python3 tools/check_vectors.py crates/codec_cases/data 2>&1)
 told codec_cases "$said"
