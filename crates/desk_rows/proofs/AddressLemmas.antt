@@ -66,14 +66,14 @@ nowhere a xs i h = no_one (λ m. same_address m.address a) xs (λ k d l. by (nat
 
 -- ---- what a table finds
 
-is : Member → Member → Bool
+unfoldable pub is : Member → Member → Bool
 is m x = same_row (rows.Member x) (rows.Member m)
 
 member_in : Row → Member → Member
 member_in (rows.Member m) other = m
 member_in _ other = other
 
-its_member : (x m : Member) → is m x ≡ true → x ≡ m
+pub its_member : (x m : Member) → is m x ≡ true → x ≡ m
 unfolding is member_in
 its_member x m e = ap (λ r. member_in r m) (same_row_is (rows.Member x) (rows.Member m) e)
 

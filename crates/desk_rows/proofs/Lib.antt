@@ -16,4 +16,5 @@ pub mod SlidingLemmas
 pub mod GroupLemmas
 pub mod NamingLemmas
 pub mod AddressLemmas
+pub mod RoomLemmas
 pub mod GainLemmas

@@ -2,10 +2,16 @@
 use Rattle.std.specs.Prelude.{ℕ, Bool, false, List, filter, nat_eq, Option, None, Some}
 use Rattle.std.specs.List.{filter_map}
 use Rattle.desk_rows.specs.declared.row.Row.{Row}
-use Rattle.desk_rows.specs.declared.row.Row.TheVariants.{Slot, Sub, Gain}
+use Rattle.desk_rows.specs.declared.row.Member.{Member as MemberRow}
+use Rattle.desk_rows.specs.declared.row.Row.TheVariants.{Member, Slot, Sub, Gain}
 use Rattle.desk_rows.specs.declared.row.Slot.{Slot as SlotRow}
 use Rattle.desk_rows.specs.declared.row.Sub.{Sub as SubRow}
 use Rattle.desk_rows.specs.Desk.{Desk}
+
+-- the member in a row
+abbrev pub member_in : Row → Option MemberRow
+member_in (Member m) = Some m
+member_in _ = None
 
 -- the slot in a row
 abbrev pub slot_in : Row → Option SlotRow
@@ -16,6 +22,10 @@ slot_in _ = None
 abbrev pub sub_in : Row → Option SubRow
 sub_in (Sub s) = Some s
 sub_in _ = None
+
+-- the members of this room, by place
+abbrev pub members_in : Desk → ℕ → List MemberRow
+members_in d room = filter (λ m. nat_eq m.room room) d.members
 
 -- the subscriptions that name this source, by the SSRC of their slots
 abbrev pub subs_naming : Desk → ℕ → List SubRow

@@ -6,3 +6,4 @@ pub mod Found
 pub mod Parting
 pub mod Grouped
 pub mod Addressed
+pub mod Roomed

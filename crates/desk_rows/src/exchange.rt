@@ -13,6 +13,7 @@ ghost use Rattle.desk_rows.specs.Exchange.{is_apt, exchanged, fits};
 ghost use Rattle.desk_rows.specs.Desk.{good};
 ghost use Rattle.desk_rows.specs.inner.Index.{IsIndex};
 ghost use Rattle.desk_rows.specs.inner.Addressed.{IsByAddress};
+ghost use Rattle.desk_rows.specs.inner.Roomed.{IsByRoom};
 ghost use Rattle.desk_rows.specs.inner.Judged.{HasOrders, OnlyReplaces, takes, puts, coming, is_free, comes_once, keys_are_new};
 
 use crate::edit::{Edit, Placed};
@@ -208,22 +209,25 @@ pub(crate) fn exchange_members<A: Allocator + Copy>(
     members: &mut Vec<Member, A>,
     index: &mut Vec<Entry, A>,
     by_address: &mut Vec<Member, A>,
+    by_room: &mut Vec<Member, A>,
     edit: &Edit<A>,
 )
     requires index { IsIndex members.old.items index.old.items }
     requires addresses { IsByAddress members.old.items by_address.old.items }
+    requires rooms { IsByRoom members.old.items by_room.old.items }
     requires take { can_take edit.now.taken.members members.old.items ≡ true }
     requires put { can_put edit.now.put.members (take_at edit.now.taken.members members.old.items) ≡ true }
     requires numbers { (n : ℕ) → count_by (λ m. nat_eq m.member n) (put_at edit.now.put.members (take_at edit.now.taken.members members.old.items)) ≤ 1 }
     requires few { length (take_at edit.now.taken.members members.old.items) + length edit.now.put.members ≤ 1024 }
-    requires room { (1024 ≤ vec_capacity members.old) × (1024 ≤ vec_capacity index.old) × (1024 ≤ vec_capacity by_address.old) }
+    requires room { (1024 ≤ vec_capacity members.old) × (1024 ≤ vec_capacity index.old) × (1024 ≤ vec_capacity by_address.old) × (1024 ≤ vec_capacity by_room.old) }
     ensures items { members.new.items ≡ put_at edit.now.put.members (take_at edit.now.taken.members members.old.items) }
     ensures index { IsIndex members.new.items index.new.items }
     ensures addresses { IsByAddress members.new.items by_address.new.items }
-    ensures room { (1024 ≤ vec_capacity members.new) × (1024 ≤ vec_capacity index.new) × (1024 ≤ vec_capacity by_address.new) }
+    ensures rooms { IsByRoom members.new.items by_room.new.items }
+    ensures room { (1024 ≤ vec_capacity members.new) × (1024 ≤ vec_capacity index.new) × (1024 ≤ vec_capacity by_address.new) × (1024 ≤ vec_capacity by_room.new) }
 {
     let (taken, put) = (edit.taken_members(), edit.put_members());
-    move_members(members, index, by_address, taken, put);
+    move_members(members, index, by_address, by_room, taken, put);
 }
 
 /// Puts the rows of two lists in.

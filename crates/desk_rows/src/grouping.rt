@@ -5,14 +5,15 @@ ghost use Rattle.std.specs.List.{filter_map};
 ghost use Rattle.desk_rows.specs.declared.row.Kind.TheVariants as kinds;
 ghost use Rattle.desk_rows.specs.Kinds.{is_of};
 ghost use Rattle.desk_rows.specs.Order.{in_order};
-ghost use Rattle.desk_rows.specs.Naming.{slot_in, sub_in};
-ghost use Rattle.desk_rows.specs.laws.NamingLaws.{no_slot, no_sub};
+ghost use Rattle.desk_rows.specs.Naming.{member_in, slot_in, sub_in};
+ghost use Rattle.desk_rows.specs.laws.NamingLaws.{no_member, no_slot, no_sub};
 ghost use Rattle.desk_rows.specs.inner.Grouped.{stand_by, in_turn, passes_in, IsTableOf};
 ghost use Rattle.desk_rows.specs.inner.Judged.{HasOrders};
+ghost use Rattle.desk_rows.specs.inner.Roomed.{IsByRoom};
 
 use crate::edit::Edit;
 use crate::ordering::rows_of_kind;
-use crate::row::{Kind, Row, Slot, Sub};
+use crate::row::{Kind, Member, Row, Slot, Sub};
 use std::alloc::Allocator;
 
 /// A kind of row that is listed in groups.
@@ -131,6 +132,42 @@ impl Grouped for Slot {
     ghost of_kind = { no_slot };
 }
 
+/// By their rooms.
+impl Grouped for Member {
+    ghost kind = { kinds.Member };
+
+    ghost in_row = { member_in };
+
+    ghost group = { λ m. m.room };
+
+    ghost turn = { λ m. m.member };
+
+    fn kind() -> Kind {
+        Kind::Member
+    }
+
+    fn in_row(row: &Row) -> Option<Member> {
+        match row {
+            Row::Member(member) => Some(*member),
+            _ => None,
+        }
+    }
+
+    fn group(&self) -> u32 {
+        self.room
+    }
+
+    fn turn(&self) -> u32 {
+        self.member
+    }
+
+    fn is_same(&self, other: &Member) -> bool {
+        self == other
+    }
+
+    ghost of_kind = { no_member };
+}
+
 /// The group of this number.
 pub(crate) fn group_of<T: Grouped>(table: &[T], number: u32) -> &[T]
     requires { stand_by (in_turn T.group T.turn) table.now ≡ true }
@@ -167,6 +204,19 @@ fn regroup<T: Grouped, A: Allocator>(table: &mut Vec<T, A>, rows: &[Row])
 {
     list_anew(table, rows);
     table.sort_unstable_by_key(|one| (one.group(), one.turn()));
+}
+
+/// Lists the members by room, and in a room by number, in the room that there is.
+pub(crate) fn list_by_room<A: Allocator>(table: &mut Vec<Member, A>, members: &[Member])
+    requires { length members.now ≤ vec_capacity table.old }
+    ensures table { IsByRoom members.now table.new.items }
+    ensures capacity { vec_capacity table.old ≤ vec_capacity table.new }
+{
+    table.clear();
+    if table.extend_from_slice(members).is_err() {
+        return;
+    }
+    table.sort_unstable_by_key(|member| (member.room, member.member));
 }
 
 /// Whether there is none of the kind.

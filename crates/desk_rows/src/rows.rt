@@ -6,7 +6,7 @@ ghost use Rattle.std.specs.List.Sorted.{IsNonDecreasingBy};
 ghost use Rattle.desk_rows.specs.declared.row.Row.TheVariants.{Member as MemberRow};
 ghost use Rattle.desk_rows.specs.Row.{has_key};
 ghost use Rattle.desk_rows.specs.Kinds.{is_of};
-ghost use Rattle.desk_rows.specs.Naming.{subs_naming, slots_naming, gains_naming};
+ghost use Rattle.desk_rows.specs.Naming.{members_in, subs_naming, slots_naming, gains_naming};
 ghost use Rattle.desk_rows.specs.Order.{in_order, is_in};
 ghost use Rattle.desk_rows.specs.inner.Index.{IsIndex};
 ghost use Rattle.desk_rows.specs.Places.{place_in};
@@ -48,6 +48,8 @@ pub struct Rows<A: Allocator + Copy = Global> {
     slots: Vec<Slot, A>,
     /// The members once more, by their addresses.
     by_address: Vec<Member, A>,
+    /// The members once more, by their rooms.
+    by_room: Vec<Member, A>,
 }
 
 impl<A: Allocator + Copy> Model for Rows<A> {
@@ -59,6 +61,7 @@ impl<A: Allocator + Copy> Model for Rows<A> {
     ghost use Rattle.desk_rows.specs.inner.Index.{IsIndex};
     ghost use Rattle.desk_rows.specs.inner.Grouped.{IsTableOf};
     ghost use Rattle.desk_rows.specs.inner.Addressed.{IsByAddress};
+    ghost use Rattle.desk_rows.specs.inner.Roomed.{IsByRoom};
 
     ghost Value = { Desk };
 
@@ -76,7 +79,9 @@ impl<A: Allocator + Copy> Model for Rows<A> {
         × IsTableOf slot_in (λ s. s.member) (λ s. s.index) r.others.items r.slots.items
         × (MAX_SLOTS ≤ vec_capacity r.slots)
         × IsByAddress r.members.items r.by_address.items
-        × (MAX_MEMBERS ≤ vec_capacity r.by_address) };
+        × (MAX_MEMBERS ≤ vec_capacity r.by_address)
+        × IsByRoom r.members.items r.by_room.items
+        × (MAX_MEMBERS ≤ vec_capacity r.by_room) };
 }
 
 impl<A: Allocator + Copy> Rows<A> {
@@ -93,6 +98,7 @@ impl<A: Allocator + Copy> Rows<A> {
             subs: Vec::with_capacity(alloc, MAX_SLOTS)?,
             slots: Vec::with_capacity(alloc, MAX_SLOTS)?,
             by_address: Vec::with_capacity(alloc, MAX_MEMBERS)?,
+            by_room: Vec::with_capacity(alloc, MAX_MEMBERS)?,
         })
     }
 
@@ -109,6 +115,7 @@ impl<A: Allocator + Copy> Rows<A> {
             subs: copied(alloc, &self.subs, MAX_SLOTS)?,
             slots: copied(alloc, &self.slots, MAX_SLOTS)?,
             by_address: copied(alloc, &self.by_address, MAX_MEMBERS)?,
+            by_room: copied(alloc, &self.by_room, MAX_MEMBERS)?,
         })
     }
 
@@ -198,6 +205,13 @@ impl<A: Allocator + Copy> Rows<A> {
         ensures { result.now ≡ filter (is_of kind) self.now.others }
     {
         rows_of_kind(&self.others, kind)
+    }
+
+    /// The members of this room, each once.
+    pub fn members_of(&self, room: u32) -> &[Member]
+        ensures { (member : ℕ) → filter (λ m. nat_eq m.member member) result.now ≡ filter (λ m. nat_eq m.member member) (members_in self.now room) }
+    {
+        group_of(&self.by_room, room)
     }
 
     /// The subscriptions that name this source, by the SSRC of their slots.
@@ -354,6 +368,7 @@ impl<A: Allocator + Copy> Reversible for Rows<A> {
             &mut self.members,
             &mut self.index,
             &mut self.by_address,
+            &mut self.by_room,
             edit,
         );
         exchange_rows(&mut self.others, &mut self.spare, edit);

@@ -15,7 +15,7 @@ use Rattle.topology.specs.declared.receivers.Receiver.{Receiver}
 use Rattle.topology.specs.Looking.{member_at, is_muted, is_this, sender_of, has_address, comes_from}
 use Rattle.topology.specs.Choice.{wanted, is_barred, unless_barred}
 use Rattle.topology.specs.Receivers.{slots_of, chooses, by_index, by_place, receivers}
-use Rattle.topology.specs.inner.Takers.{if_at, sender_from, subscriber, viewer, members_if_shown, takers}
+use Rattle.topology.specs.inner.Takers.{if_at, sender_from, subscriber, viewer, AreShown, takers}
 use Rattle.topology.proofs.Rising.{Found, all_found}
 use Rattle.topology.proofs.KindRows.{slot_ssrc}
 use Rattle.topology.proofs.GoodRows.{slots_rise, index_few}
@@ -29,18 +29,18 @@ abbrev parted : Desk → ℕ → List SlotRow
 parted d source = filter (has_sub d) (filter (chooses d source) (slots_of d)) ++ filter (λ s. not (has_sub d s)) (filter (chooses d source) (slots_of d))
 
 -- those that take the source are the same, place by place
-taken_at : (d : Desk) (source : ℕ) (address : Address) (sender : MemberRow) → good d ≡ true → Heard d source address sender → (k index : ℕ) → at_place k index (takers d source sender) ≡ at_place k index (parted d source)
-taken_at d source address sender g h k index =
+taken_at : (d : Desk) (source : ℕ) (address : Address) (sender : MemberRow) (ms : List MemberRow) → good d ≡ true → Heard d source address sender → AreShown d source sender.room ms → (k index : ℕ) → at_place k index (takers d source sender ms) ≡ at_place k index (parted d source)
+taken_at d source address sender ms g h are k index =
     let subs = filter_map (subscriber d sender) (subs_naming d source) in
     let chosen = filter (chooses d source) (slots_of d) in
-    at_place-append k index subs (filter_map (viewer d sender) (members_if_shown d source sender.room))
-    ∙ (λ i. at_place k index (subscribers d source address sender g h i) ++ (at_shown d source sender k index g ∙ ap (at_place k index) (shown_slots d source address sender g h)) i)
+    at_place-append k index subs (filter_map (viewer d sender) ms)
+    ∙ (λ i. at_place k index (subscribers d source address sender g h i) ++ (at_shown d source sender ms k index g are ∙ ap (at_place k index) (shown_slots d source address sender g h)) i)
     ∙ sym (at_place-append k index (filter (has_sub d) chosen) (filter (λ s. not (has_sub d s)) chosen))
 
-takers_in_order : (d : Desk) (source : ℕ) (address : Address) (sender : MemberRow) → good d ≡ true → Heard d source address sender → by_place d.members (by_index (takers d source sender)) ≡ receivers d source address
+takers_in_order : (d : Desk) (source : ℕ) (address : Address) (sender : MemberRow) (ms : List MemberRow) → good d ≡ true → Heard d source address sender → AreShown d source sender.room ms → by_place d.members (by_index (takers d source sender ms)) ≡ receivers d source address
 unfolding receivers
-takers_in_order d source address sender g h =
-    by_place-same d.members (takers d source sender) (parted d source) (taken_at d source address sender g h)
+takers_in_order d source address sender ms g h are =
+    by_place-same d.members (takers d source sender ms) (parted d source) (taken_at d source address sender ms g h are)
     ∙ parted_in_order d (has_sub d) (chooses d source) g
     ∙ sym (ap (λ b. cond b (by_place d.members (by_index (filter (chooses d source) (slots_of d)))) []) h.comes)
 
@@ -54,24 +54,24 @@ pub slots_to_few : (d : Desk) (member : ℕ) → good d ≡ true → All (λ (s 
 slots_to_few d member g =
     All-filter (λ s. nat_eq s.member member) (λ (s : SlotRow). s.index < 16) (slots_of d) (few d g (slots_of d) (all_found slot_ssrc (slots_of d) (slots_rise d g)))
 
-takers_few : (d : Desk) (source : ℕ) (address : Address) (sender : MemberRow) → good d ≡ true → Heard d source address sender → All (λ (s : SlotRow). s.index < 16) (takers d source sender)
-takers_few d source address sender g h =
+takers_few : (d : Desk) (source : ℕ) (address : Address) (sender : MemberRow) (ms : List MemberRow) → good d ≡ true → Heard d source address sender → All (λ (s : SlotRow). s.index < 16) (takers d source sender ms)
+takers_few d source address sender ms g h =
     let chosen = filter (chooses d source) (slots_of d) in
     let all = All-filter (chooses d source) (λ (s : SlotRow). s.index < 16) (slots_of d) (few d g (slots_of d) (all_found slot_ssrc (slots_of d) (slots_rise d g))) in
-    All-append (λ (s : SlotRow). s.index < 16) (filter_map (subscriber d sender) (subs_naming d source)) (filter_map (viewer d sender) (members_if_shown d source sender.room))
+    All-append (λ (s : SlotRow). s.index < 16) (filter_map (subscriber d sender) (subs_naming d source)) (filter_map (viewer d sender) ms)
     (subst (All (λ (s : SlotRow). s.index < 16)) (sym (subscribers d source address sender g h)) (All-filter (has_sub d) (λ (s : SlotRow). s.index < 16) chosen all))
-    (viewers_few d sender (members_if_shown d source sender.room))
+    (viewers_few d sender ms)
 
 -- the slots that were taken, sorted by index, and then seated, are the receivers
-pub receivers_by_steps : (d : Desk) (source : ℕ) (address : Address) (sender : MemberRow) (made sorted read : List SlotRow) (found : List Receiver) → good d ≡ true → sender_from d source address ≡ Some sender
-    → made ≡ takers d source sender → IsNonDecreasingBy (λ s. s.index) sorted → IsPermutation made sorted
+pub receivers_by_steps : (d : Desk) (source : ℕ) (address : Address) (sender : MemberRow) (ms : List MemberRow) (made sorted read : List SlotRow) (found : List Receiver) → good d ≡ true → sender_from d source address ≡ Some sender
+    → AreShown d source sender.room ms → made ≡ takers d source sender ms → IsNonDecreasingBy (λ s. s.index) sorted → IsPermutation made sorted
     → ((x : SlotRow) → filter (λ s. nat_eq s.index x.index) sorted ≡ filter (λ s. nat_eq s.index x.index) made) → read ≡ sorted → found ≡ by_place d.members read
     → found ≡ receivers d source address
-receivers_by_steps d source address sender made sorted read found g hears taken up moved same reads is =
+receivers_by_steps d source address sender ms made sorted read found g hears are taken up moved same reads is =
     let h = who_is_heard d source address sender hears in
     is
-    ∙ ap (by_place d.members) (reads ∙ sorted_by_index made sorted (subst (All (λ (s : SlotRow). s.index < 16)) (sym taken) (takers_few d source address sender g h)) up moved same ∙ ap by_index taken)
-    ∙ takers_in_order d source address sender g h
+    ∙ ap (by_place d.members) (reads ∙ sorted_by_index made sorted (subst (All (λ (s : SlotRow). s.index < 16)) (sym taken) (takers_few d source address sender ms g h)) up moved same ∙ ap by_index taken)
+    ∙ takers_in_order d source address sender ms g h are
 
 -- ---- nobody
 

@@ -1,5 +1,5 @@
 -- The slots that are shown a source, found from the members.
-use Rattle.std.proofs.Common.{◌≡◌, ℕ, suc, ◌<◌, ◌≤◌, Bool, true, false, cond, not, ◌&&◌, nat_eq, List, [], ◌∷◌, length, get_or, Option, None, Some, refl, sym, ap, ◌∙◌, arith, eqb-true}
+use Rattle.std.proofs.Common.{◌≡◌, ℕ, suc, ◌<◌, ◌≤◌, Bool, true, false, cond, not, ◌&&◌, nat_eq, List, [], ◌∷◌, ◌++◌, length, get_or, Option, None, Some, refl, sym, ap, ◌∙◌, arith, eqb-true}
 use Rattle.std.specs.Prelude.{filter, option_map, option_and_then}
 use Rattle.std.specs.Option.{is_none}
 use Rattle.std.specs.List.{All, find, filter_map, cons_option, slice_get}
@@ -14,16 +14,16 @@ use Rattle.desk_rows.specs.declared.row.Media.TheVariants.{Video}
 use Rattle.desk_rows.specs.Row.{same_media}
 use Rattle.desk_rows.specs.laws.PlacesOnce.{of_member, of_index, at_place, one_at_place}
 use Rattle.desk_rows.specs.Desk.{Desk, good}
-use Rattle.desk_rows.specs.Naming.{slots_naming}
+use Rattle.desk_rows.specs.Naming.{members_in, slots_naming}
 use Rattle.topology.specs.Looking.{member_at, source_at, subscribed, is_this, sender_of, room_of_member}
 use Rattle.topology.specs.Choice.{is_video_of, first_video, shown}
 use Rattle.topology.specs.Receivers.{slots_of}
-use Rattle.topology.specs.inner.Takers.{first_slot, unless_subscribed, viewer, members_if_shown}
+use Rattle.topology.specs.inner.Takers.{first_slot, unless_subscribed, viewer, members_if_shown, AreShown}
 use Rattle.topology.proofs.Distinct.{at, Distinct}
 use Rattle.topology.proofs.KindRows.{number, member_row}
 use Rattle.topology.proofs.GoodRows.{members_distinct, no_members}
 use Rattle.topology.proofs.RoomsOf.{number_of_found}
-use Rattle.topology.proofs.Parted.{at_place-filter}
+use Rattle.topology.proofs.Parted.{at_place-append, at_place-filter}
 use Rattle.topology.proofs.FromItsSide.{is_viewer}
 use Rattle.topology.proofs.LeastVideo.{is_video}
 
@@ -222,13 +222,54 @@ none_pass : {X : Type 0} (p : X → Bool) (xs : List X) → filter (λ x. false 
 none_pass p [] = refl
 none_pass p (x ∷ xs) = none_pass p xs
 
--- and so where the room shows the source
-pub at_shown : (d : Desk) (source : ℕ) (sender : MemberRow) (k index : ℕ) → good d ≡ true
-    → at_place k index (filter_map (viewer d sender) (members_if_shown d source sender.room)) ≡ at_place k index (filter (λ x. is_this source (shown d sender.room) && is_viewer d sender x) (slots_of d))
-at_shown d source sender k index g = by (is_this source (shown d sender.room))
+-- of a member's slots only the member of that number matters
+at_number : (f : MemberRow → Option SlotRow) → ((m : MemberRow) (s : SlotRow) → f m ≡ Some s → s.member ≡ m.member) → (k index : ℕ) (ms : List MemberRow)
+    → at_place k index (filter_map f ms) ≡ at_place k index (filter_map f (filter (λ m. nat_eq m.member k) ms))
+at_number f its k index [] = refl
+at_number f its k index (m ∷ ms) = by (nat_eq m.member k) refl (f m) refl (at_number f its k index ms)
   where
-    by : (b : Bool) → at_place k index (filter_map (viewer d sender) (cond b d.members [])) ≡ at_place k index (filter (λ x. b && is_viewer d sender x) (slots_of d))
-    by true = at_viewers d sender k index g
+    all : List SlotRow
+    all = filter_map f ms
+
+    of_it : List SlotRow
+    of_it = filter_map f (filter (λ m. nat_eq m.member k) ms)
+
+    front : (o : Option SlotRow) → at_place k index all ≡ at_place k index of_it → at_place k index (cons_option o all) ≡ at_place k index (cons_option o of_it)
+    front None rest = rest
+    front (Some s) rest = at_place-append k index (s ∷ []) all ∙ ap (λ ys. at_place k index (s ∷ []) ++ ys) rest ∙ sym (at_place-append k index (s ∷ []) of_it)
+
+    by : (b : Bool) → nat_eq m.member k ≡ b → (o : Option SlotRow) → f m ≡ o → at_place k index all ≡ at_place k index of_it
+        → at_place k index (cons_option o all) ≡ at_place k index (filter_map f (cond b (m ∷ filter (λ m. nat_eq m.member k) ms) (filter (λ m. nat_eq m.member k) ms)))
+    by true e o h rest = front o rest ∙ sym (ap (λ o. at_place k index (cons_option o of_it)) h)
+    by false e None h rest = rest
+    by false e (Some s) h rest =
+        let none : at_place k index (s ∷ []) ≡ [] = ap (λ b. filter (of_index index) (cond b (s ∷ []) [])) (ap (λ n. nat_eq n k) (its m s h) ∙ e) in
+        at_place-append k index (s ∷ []) all ∙ ap (λ ys. ys ++ at_place k index all) none ∙ rest
+
+-- what gives nothing can be left out
+left_out : (f : MemberRow → Option SlotRow) (q : MemberRow → Bool) → ((m : MemberRow) → q m ≡ false → f m ≡ None) → (ms : List MemberRow) → filter_map f (filter q ms) ≡ filter_map f ms
+left_out f q none [] = refl
+left_out f q none (m ∷ ms) = by (q m) refl (left_out f q none ms)
+  where
+    by : (b : Bool) → q m ≡ b → filter_map f (filter q ms) ≡ filter_map f ms → filter_map f (cond b (m ∷ filter q ms) (filter q ms)) ≡ cons_option (f m) (filter_map f ms)
+    by true e rest = ap (cons_option (f m)) rest
+    by false e rest = rest ∙ sym (ap (λ o. cons_option o (filter_map f ms)) (none m e))
+
+-- and so where the room shows the source, whichever way its members stand
+pub at_shown : (d : Desk) (source : ℕ) (sender : MemberRow) (ms : List MemberRow) (k index : ℕ) → good d ≡ true → AreShown d source sender.room ms
+    → at_place k index (filter_map (viewer d sender) ms) ≡ at_place k index (filter (λ x. is_this source (shown d sender.room) && is_viewer d sender x) (slots_of d))
+at_shown d source sender ms k index g are =
+    at_number (viewer d sender) its k index ms ∙ ap (λ xs. at_place k index (filter_map (viewer d sender) xs)) (are k)
+    ∙ sym (at_number (viewer d sender) its k index (members_if_shown d source sender.room)) ∙ by (is_this source (shown d sender.room))
+  where
+    its : (m : MemberRow) (s : SlotRow) → viewer d sender m ≡ Some s → s.member ≡ m.member
+    its m s h = (who_views d sender m s h).1
+
+    elsewhere : (m : MemberRow) → nat_eq m.room sender.room ≡ false → viewer d sender m ≡ None
+    elsewhere m e = ap (λ b. cond (b && not (nat_eq m.member sender.member)) (option_and_then (unless_subscribed d) (first_slot d m.member)) None) e
+
+    by : (b : Bool) → at_place k index (filter_map (viewer d sender) (cond b (members_in d sender.room) [])) ≡ at_place k index (filter (λ x. b && is_viewer d sender x) (slots_of d))
+    by true = ap (at_place k index) (left_out (viewer d sender) (λ m. nat_eq m.room sender.room) elsewhere d.members) ∙ at_viewers d sender k index g
     by false = sym (ap (at_place k index) (none_pass (is_viewer d sender) (slots_of d)))
 
 pub viewers_few : (d : Desk) (sender : MemberRow) (ms : List MemberRow) → All (λ (s : SlotRow). s.index < 16) (filter_map (viewer d sender) ms)

@@ -1,11 +1,12 @@
 //! Who gets what a source sends.
 
-ghost use Rattle.std.specs.Prelude.{◌≡◌, IfOk, Some};
+ghost use Rattle.std.specs.Prelude.{◌≡◌, List, IfOk, Some};
 ghost use Rattle.std.specs.List.{filter_map};
 ghost use Rattle.topology.specs.Looking.{is_this, sender_of};
 ghost use Rattle.topology.specs.Choice.{shown};
 ghost use Rattle.topology.specs.Receivers.{by_place, receiver, receivers};
-ghost use Rattle.topology.specs.inner.Takers.{sender_from, subscriber, first_slot, viewer, members_if_shown, takers};
+ghost use Rattle.desk_rows.specs.declared.row.Member.{Member as MemberRow};
+ghost use Rattle.topology.specs.inner.Takers.{sender_from, subscriber, first_slot, viewer, AreShown, takers};
 ghost use Rattle.topology.specs.inner.Seating.{seat};
 
 use crate::choosing::first_video;
@@ -74,7 +75,7 @@ fn takers<A: Allocator + Copy>(
     sender: &Member,
 ) -> Result<Vec<Slot, A>, AllocError>
     requires { sender_of rows.now source ≡ Some sender.now.member }
-    ensures { IfOk result (λ v. v.items ≡ takers rows.now source sender.now) }
+    ensures { IfOk result (λ v. (shown : List MemberRow) × AreShown rows.now source sender.now.room shown × (v.items ≡ takers rows.now source sender.now shown)) }
 {
     rows.subs_of(source)
         .iter()
@@ -103,17 +104,17 @@ fn is_shown<A: Allocator + Copy>(rows: &Rows<A>, source: u32, sender: &Member) -
     }
 }
 
-/// The members, if the sender's room shows its source, and else none.
+/// The members of the sender's room, if it shows its source, and else none.
 fn members_if_shown<'a, A: Allocator + Copy>(
     rows: &'a Rows<A>,
     source: u32,
     sender: &Member,
 ) -> &'a [Member]
     requires { sender_of rows.now source ≡ Some sender.now.member }
-    ensures { result.now ≡ members_if_shown rows.now source sender.now.room }
+    ensures { AreShown rows.now source sender.now.room result.now }
 {
     if is_shown(rows, source, sender) {
-        rows.members()
+        rows.members_of(sender.room)
     } else {
         &[]
     }

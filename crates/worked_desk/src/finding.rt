@@ -180,6 +180,16 @@ pub fn slots_of(rows: &Rows, member: u32) -> &[Slot]
     rows.slots_of(member)
 }
 
+/// The members of a room are those who are in it, each once.
+pub fn members_of(rows: &Rows, room: u32) -> &[Member]
+    requires { rows.now ≡ two_rooms }
+    ensures one { room ≡ 1 → filter (λ m. nat_eq m.member 11) result.now ≡ eleven ∷ [] }
+    ensures elsewhere { room ≡ 1 → filter (λ m. nat_eq m.member 12) result.now ≡ [] }
+    ensures none { room ≡ 3 → filter (λ m. nat_eq m.member 10) result.now ≡ [] }
+{
+    rows.members_of(room)
+}
+
 /// A roster has the numbers of a room's members in joining order.
 pub fn roster(alloc: Global, rows: &Rows, room: u32) -> Result<Vec<u32>, AllocError>
     requires { rows.now ≡ two_rooms }

@@ -1,4 +1,4 @@
--- Rows that have a slot or a subscription in them.
+-- Rows that have a member, a slot or a subscription in them.
 use Rattle.std.specs.Prelude.{◌≡◌, false, Option, None, Some, refl}
 use Rattle.std.specs.Option.{is_some}
 use Rattle.std.proofs.Common.{sym, ap, ◌∙◌}
@@ -8,7 +8,18 @@ use Rattle.desk_rows.specs.declared.row.Slot.{Slot as SlotRow}
 use Rattle.desk_rows.specs.declared.row.Sub.{Sub as SubRow}
 use Rattle.desk_rows.specs.declared.row.Kind.TheVariants as kinds
 use Rattle.desk_rows.specs.Kinds.{is_of}
-use Rattle.desk_rows.specs.Naming.{slot_in, sub_in}
+use Rattle.desk_rows.specs.Naming.{member_in, slot_in, sub_in}
+
+is_member : (r : Row) → is_of kinds.Member r ≡ is_some (member_in r)
+is_member (Room r) = refl
+is_member (Member r) = refl
+is_member (Source r) = refl
+is_member (Slot r) = refl
+is_member (Sub r) = refl
+is_member (Mute r) = refl
+is_member (Gain r) = refl
+is_member (Pin r) = refl
+is_member (Floor r) = refl
 
 pub is_slot : (r : Row) → is_of kinds.Slot r ≡ is_some (slot_in r)
 is_slot (Room r) = refl
@@ -57,6 +68,9 @@ its_sub (Floor r) s e = absurd (cc)
 nothing : {X : Type 0} (o : Option X) → is_some o ≡ false → o ≡ None
 nothing None h = refl
 nothing (Some x) h = absurd (cc)
+
+pub no_member : (r : Row) → is_of kinds.Member r ≡ false → member_in r ≡ None
+no_member r h = nothing (member_in r) (sym (is_member r) ∙ h)
 
 pub no_slot : (r : Row) → is_of kinds.Slot r ≡ false → slot_in r ≡ None
 no_slot r h = nothing (slot_in r) (sym (is_slot r) ∙ h)

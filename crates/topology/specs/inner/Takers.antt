@@ -1,5 +1,5 @@
 -- How the slots that chose a source are found from its side. No public clause cites this.
-use Rattle.std.specs.Prelude.{ℕ, not, ◌&&◌, if◌then◌else◌, nat_eq, List, [], ◌++◌, Option, None, Some}
+use Rattle.std.specs.Prelude.{◌≡◌, ℕ, not, ◌&&◌, if◌then◌else◌, nat_eq, List, [], ◌++◌, filter, Option, None, Some}
 use Rattle.std.specs.Option.{is_none, option_and_then}
 use Rattle.std.specs.List.{find, filter_map}
 use Rattle.rtp_codec.specs.declared.address.Address.{Address}
@@ -8,7 +8,7 @@ use Rattle.desk_rows.specs.declared.row.Member.{Member as MemberRow}
 use Rattle.desk_rows.specs.declared.row.Slot.{Slot as SlotRow}
 use Rattle.desk_rows.specs.declared.row.Sub.{Sub as SubRow}
 use Rattle.desk_rows.specs.Desk.{Desk}
-use Rattle.desk_rows.specs.Naming.{subs_naming, slots_naming}
+use Rattle.desk_rows.specs.Naming.{members_in, subs_naming, slots_naming}
 use Rattle.topology.specs.Looking.{member_at, slot_at, subscribed, is_muted, is_this, sender_of}
 use Rattle.topology.specs.Choice.{shown}
 
@@ -41,12 +41,16 @@ abbrev pub viewer : Desk → MemberRow → MemberRow → Option SlotRow
 viewer d sender m =
     if nat_eq m.room sender.room && not (nat_eq m.member sender.member) then option_and_then (unless_subscribed d) (first_slot d m.member) else None
 
--- the members, if the room shows the source, and else none
+-- the members of the room, if it shows the source, and else none
 abbrev pub members_if_shown : Desk → ℕ → ℕ → List MemberRow
-members_if_shown d source room = if is_this source (shown d room) then d.members else []
+members_if_shown d source room = if is_this source (shown d room) then members_in d room else []
 
--- the slots that take the source: those that have subscribed to it before those that are shown it
-abbrev pub takers : Desk → ℕ → MemberRow → List SlotRow
-takers d source sender =
+-- These are they, in any order.
+abbrev pub AreShown : Desk → ℕ → ℕ → List MemberRow → Type 0
+AreShown d source room ms = (number : ℕ) → filter (λ m. nat_eq m.member number) ms ≡ filter (λ m. nat_eq m.member number) (members_if_shown d source room)
+
+-- the slots that take the source: those that have subscribed to it before those of these members that are shown it
+abbrev pub takers : Desk → ℕ → MemberRow → List MemberRow → List SlotRow
+takers d source sender ms =
     filter_map (subscriber d sender) (subs_naming d source)
-    ++ filter_map (viewer d sender) (members_if_shown d source sender.room)
+    ++ filter_map (viewer d sender) ms

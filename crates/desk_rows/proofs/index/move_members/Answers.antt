@@ -19,3 +19,9 @@ list_by_address-requires g c =
     let long = ap length (c.deref-2.ensures.value ∙ c.put_members.ensures.items ∙ ap (put_at c.args.put.now) c.take_members.ensures.items) in
     let after = length-put_at c.args.put.now _ c.requires.put in
     omega (arith, long, after, c.requires.room.2)
+
+pub list_by_room-requires : goal.list_by_room-requires
+list_by_room-requires g c =
+    let long = ap length (c.deref-3.ensures.value ∙ c.put_members.ensures.items ∙ ap (put_at c.args.put.now) c.take_members.ensures.items) in
+    let after = length-put_at c.args.put.now _ c.requires.put in
+    omega (arith, long, after, c.requires.room.3)

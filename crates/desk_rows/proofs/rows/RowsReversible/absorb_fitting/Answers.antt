@@ -91,7 +91,7 @@ pub invariant_of-self : goal.invariant_of-self
 unfolding exchanged
 invariant_of-self g c =
     let found = at _ _ c.args.edit.now c.self.view_is c.requires in
-    ((λ i. good (desk_of c.self.inside.bridge_ssrc (c.exchange_members.ensures.items i) (c.exchange_rows.ensures.items i))) ∙ found.good_after, c.exchange_members.ensures.index, c.exchange_members.ensures.room.0, c.exchange_members.ensures.room.1, c.exchange_rows.ensures.room.0, c.exchange_rows.ensures.room.1, subst (λ others. IsTableOf sub_in (λ s. s.source) (λ s. s.out_ssrc) others c.follow.new.table.items) c.deref.ensures.value c.follow.ensures.table, omega (arith, c.follow.ensures.capacity, c.self.invariant.7), subst (λ others. IsTableOf slot_in (λ s. s.member) (λ s. s.index) others c.follow-2.new.table.items) c.deref-2.ensures.value c.follow-2.ensures.table, omega (arith, c.follow-2.ensures.capacity, c.self.invariant.9), c.exchange_members.ensures.addresses, c.exchange_members.ensures.room.2)
+    ((λ i. good (desk_of c.self.inside.bridge_ssrc (c.exchange_members.ensures.items i) (c.exchange_rows.ensures.items i))) ∙ found.good_after, c.exchange_members.ensures.index, c.exchange_members.ensures.room.0, c.exchange_members.ensures.room.1, c.exchange_rows.ensures.room.0, c.exchange_rows.ensures.room.1, subst (λ others. IsTableOf sub_in (λ s. s.source) (λ s. s.out_ssrc) others c.follow.new.table.items) c.deref.ensures.value c.follow.ensures.table, omega (arith, c.follow.ensures.capacity, c.self.invariant.7), subst (λ others. IsTableOf slot_in (λ s. s.member) (λ s. s.index) others c.follow-2.new.table.items) c.deref-2.ensures.value c.follow-2.ensures.table, omega (arith, c.follow-2.ensures.capacity, c.self.invariant.9), c.exchange_members.ensures.addresses, c.exchange_members.ensures.room.2, c.exchange_members.ensures.rooms, c.exchange_members.ensures.room.3)
 
 pub returns : goal.returns
 unfolding exchanged
