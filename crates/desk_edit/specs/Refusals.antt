@@ -49,7 +49,11 @@ missing kinds.Room = refusals.NoRoom
 missing kinds.Member = refusals.NoMember
 missing kinds.Source = refusals.NoSource
 missing kinds.Slot = refusals.NoSlot
-missing _ = refusals.NotThere
+missing kinds.Sub = refusals.NotThere
+missing kinds.Mute = refusals.NotThere
+missing kinds.Gain = refusals.NotThere
+missing kinds.Pin = refusals.NotThere
+missing kinds.Floor = refusals.NotThere
 
 -- these have to be there
 abbrev pub lacking : Desk → List Key → List (Bool × Refusal)
@@ -59,17 +63,22 @@ lacking d ks = map (λ key. (not (has d key), missing (kind_of key))) ks
 
 -- a row that is put in place of the one of its key: no row names it
 abbrev pub is_replaced : Row → Bool
+is_replaced (rows.Room r) = false
+is_replaced (rows.Member m) = false
+is_replaced (rows.Source s) = false
+is_replaced (rows.Slot s) = false
 is_replaced (rows.Sub s) = true
 is_replaced (rows.Mute m) = true
 is_replaced (rows.Gain g) = true
 is_replaced (rows.Pin p) = true
 is_replaced (rows.Floor f) = true
-is_replaced _ = false
 
 -- an SSRC is claimed
 abbrev pub is_ssrc : Claim → Bool
+is_ssrc (claims.Key key) = false
+is_ssrc (claims.Address address) = false
 is_ssrc (claims.Ssrc s) = true
-is_ssrc _ = false
+is_ssrc (claims.Place member index) = false
 
 -- an address, or a slot's place among those of its member, that some row has
 abbrev pub is_other_claimed : Desk → Claim → Bool
@@ -97,13 +106,17 @@ rule_cases d r =
     ∷ (holds d r, refusals.Already)
     ∷ []
 
--- the table of a kind
+-- the table that bounds how many rows of a kind there are: a sub's is its slot's, a mute's its source's, a pin's and a floor's its room's
 abbrev pub table_of : Kind → Table
 table_of kinds.Room = tables.Rooms
 table_of kinds.Member = tables.Members
 table_of kinds.Source = tables.Sources
 table_of kinds.Slot = tables.Slots
-table_of _ = tables.Gains
+table_of kinds.Sub = tables.Slots
+table_of kinds.Mute = tables.Sources
+table_of kinds.Gain = tables.Gains
+table_of kinds.Pin = tables.Rooms
+table_of kinds.Floor = tables.Rooms
 
 -- a row of this kind that replaces none is one too many
 abbrev pub is_full : Desk → Row → Kind × ℕ → Bool

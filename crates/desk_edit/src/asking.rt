@@ -59,12 +59,8 @@ fn is_replaced(row: &Row) -> bool
     ensures { result ≡ is_replaced row.now }
 {
     match row {
-        Row::Sub(_) => true,
-        Row::Mute(_) => true,
-        Row::Gain(_) => true,
-        Row::Pin(_) => true,
-        Row::Floor(_) => true,
-        _ => false,
+        Row::Room(_) | Row::Member(_) | Row::Source(_) | Row::Slot(_) => false,
+        Row::Sub(_) | Row::Mute(_) | Row::Gain(_) | Row::Pin(_) | Row::Floor(_) => true,
     }
 }
 
@@ -73,7 +69,7 @@ fn is_ssrc(claim: &Claim) -> bool
 {
     match claim {
         Claim::Ssrc(_) => true,
-        _ => false,
+        Claim::Key(_) | Claim::Address(_) | Claim::Place { .. } => false,
     }
 }
 
@@ -105,7 +101,7 @@ fn is_bridges<A: Allocator + Copy>(rows: &Rows<A>, claim: &Claim) -> bool
 {
     match claim {
         Claim::Ssrc(ssrc) => *ssrc == rows.bridge_ssrc(),
-        _ => false,
+        Claim::Key(_) | Claim::Address(_) | Claim::Place { .. } => false,
     }
 }
 

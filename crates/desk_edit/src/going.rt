@@ -22,7 +22,7 @@ pub(crate) fn level(kind: Kind) -> u32
         Kind::Member => 1,
         Kind::Source => 2,
         Kind::Slot => 2,
-        _ => 3,
+        Kind::Sub | Kind::Mute | Kind::Gain | Kind::Pin | Kind::Floor => 3,
     }
 }
 
@@ -38,7 +38,7 @@ pub(crate) fn can_go(kind: Kind, top: Kind) -> bool
             Kind::Source | Kind::Sub | Kind::Mute | Kind::Gain | Kind::Pin
         ),
         Kind::Slot => matches!(kind, Kind::Slot | Kind::Sub),
-        _ => true,
+        Kind::Sub | Kind::Mute | Kind::Gain | Kind::Pin | Kind::Floor => true,
     }
 }
 

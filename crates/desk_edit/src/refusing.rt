@@ -25,7 +25,7 @@ fn missing(kind: Kind) -> Refusal
         Kind::Member => Refusal::NoMember,
         Kind::Source => Refusal::NoSource,
         Kind::Slot => Refusal::NoSlot,
-        _ => Refusal::NotThere,
+        Kind::Sub | Kind::Mute | Kind::Gain | Kind::Pin | Kind::Floor => Refusal::NotThere,
     }
 }
 

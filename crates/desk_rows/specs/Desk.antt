@@ -67,8 +67,10 @@ is_named_there d r = list_all (λ key. list_any (has_key key) (rows_of d)) (name
 
 -- the bridge has its SSRC to itself
 abbrev pub is_bridges : Desk → Claim → Bool
+is_bridges d (claims.Key key) = false
+is_bridges d (claims.Address address) = false
 is_bridges d (claims.Ssrc ssrc) = nat_eq ssrc d.bridge_ssrc
-is_bridges d _ = false
+is_bridges d (claims.Place member index) = false
 
 -- no other row makes this claim, nor does the bridge
 abbrev pub is_made_once : Desk → Claim → Bool
@@ -89,7 +91,11 @@ room_of d (rows.Room r) = Some r.room
 room_of d (rows.Member m) = Some m.room
 room_of d (rows.Source s) = room_of_member (row_at d (keys.Member s.member))
 room_of d (rows.Slot s) = room_of_member (row_at d (keys.Member s.member))
-room_of d _ = None
+room_of d (rows.Sub s) = None
+room_of d (rows.Mute m) = None
+room_of d (rows.Gain g) = None
+room_of d (rows.Pin p) = None
+room_of d (rows.Floor f) = None
 
 -- the room that a row that was found is in
 abbrev pub room_of_found : Desk → Option Row → Option ℕ
@@ -122,7 +128,14 @@ is_audio_in d room _ = false
 -- a room has no more audio sources than it may
 abbrev pub has_few_audio : Desk → Row → Bool
 has_few_audio d (rows.Room r) = nat_le (count_by (is_audio_in d r.room) d.others) room_audio_limit
-has_few_audio d _ = true
+has_few_audio d (rows.Member m) = true
+has_few_audio d (rows.Source s) = true
+has_few_audio d (rows.Slot s) = true
+has_few_audio d (rows.Sub s) = true
+has_few_audio d (rows.Mute m) = true
+has_few_audio d (rows.Gain g) = true
+has_few_audio d (rows.Pin p) = true
+has_few_audio d (rows.Floor f) = true
 
 -- the rule of rows: values are in their ranges, a room has few audio sources, and what a row names is of the kind that it wants and in one room
 abbrev pub obeys : Desk → Row → Bool

@@ -126,18 +126,27 @@ names (Floor f) = keys.Room f.room ∷ keys.Member f.member ∷ []
 
 -- the key whose number a key has: a sub's is its slot's, a mute's its source's, a pin's and a floor's its room's; any other is its own
 abbrev pub owner_of : Key → Key
+owner_of (keys.Room n) = keys.Room n
+owner_of (keys.Member n) = keys.Member n
+owner_of (keys.Source n) = keys.Source n
+owner_of (keys.Slot n) = keys.Slot n
 owner_of (keys.Sub n) = keys.Slot n
 owner_of (keys.Mute n) = keys.Source n
+owner_of (keys.Gain m n) = keys.Gain m n
 owner_of (keys.Pin n) = keys.Room n
 owner_of (keys.Floor n) = keys.Room n
-owner_of key = key
 
 -- what a source that a row names has to send
 abbrev pub wants : Row → Option Media
+wants (Room r) = None
+wants (Member m) = None
+wants (Source s) = None
+wants (Slot s) = None
 wants (Sub s) = Some medias.Video
+wants (Mute m) = None
 wants (Gain g) = Some medias.Audio
 wants (Pin p) = Some medias.Video
-wants _ = None
+wants (Floor f) = None
 
 -- whether what was found under a name is what is wanted
 abbrev pub suits : Option Media → Option Row → Bool
@@ -146,17 +155,27 @@ suits _ _ = true
 
 -- the values are in their ranges: a port is not 0, a slot has a place among few, a gain a greatest value
 abbrev pub is_in_range : Row → Bool
+is_in_range (Room r) = true
 is_in_range (Member m) = not (nat_eq m.address.port 0)
+is_in_range (Source s) = true
 is_in_range (Slot s) = nat_le s.index index_limit
+is_in_range (Sub s) = true
+is_in_range (Mute m) = true
 is_in_range (Gain g) = nat_le g.q8 q8_limit
-is_in_range _ = true
+is_in_range (Pin p) = true
+is_in_range (Floor f) = true
 
 -- what a row has to itself beside its key: a member its address and the SSRC of its mix; a source its SSRC; a slot its SSRC and its place among its member's
 abbrev pub other_claims : Row → List Claim
+other_claims (Room r) = []
 other_claims (Member m) = claims.Address m.address ∷ claims.Ssrc m.out_audio ∷ []
 other_claims (Source s) = claims.Ssrc s.ssrc ∷ []
 other_claims (Slot s) = claims.Ssrc s.out_ssrc ∷ claims.Place s.member s.index ∷ []
-other_claims _ = []
+other_claims (Sub s) = []
+other_claims (Mute m) = []
+other_claims (Gain g) = []
+other_claims (Pin p) = []
+other_claims (Floor f) = []
 
 -- what a row has to itself
 abbrev pub claims_of : Row → List Claim

@@ -39,7 +39,7 @@ pub fn room_of<D: Look>(rows: &D, row: &Row) -> Option<u32>
         Row::Member(member) => Some(member.room),
         Row::Source(source) => room_of_member(rows.look(Key::Member(source.member))),
         Row::Slot(slot) => room_of_member(rows.look(Key::Member(slot.member))),
-        _ => None,
+        Row::Sub(_) | Row::Mute(_) | Row::Gain(_) | Row::Pin(_) | Row::Floor(_) => None,
     }
 }
 

@@ -94,7 +94,7 @@ impl<A: Allocator + Copy> Overlay<'_, A> {
     {
         match claim {
             Claim::Ssrc(ssrc) => *ssrc == self.of.rows.bridge_ssrc(),
-            _ => false,
+            Claim::Key(_) | Claim::Address(_) | Claim::Place { .. } => false,
         }
     }
 
@@ -142,7 +142,8 @@ impl<A: Allocator + Copy> Overlay<'_, A> {
     {
         match row {
             Row::Room(room) => !self.is_room_full(room.room),
-            _ => true,
+            Row::Member(_) | Row::Source(_) | Row::Slot(_) | Row::Sub(_) => true,
+            Row::Mute(_) | Row::Gain(_) | Row::Pin(_) | Row::Floor(_) => true,
         }
     }
 

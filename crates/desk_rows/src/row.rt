@@ -284,10 +284,14 @@ impl Row {
         ensures { result ≡ wants self.now }
     {
         match self {
-            Row::Sub(_) => Some(Media::Video),
+            Row::Sub(_) | Row::Pin(_) => Some(Media::Video),
             Row::Gain(_) => Some(Media::Audio),
-            Row::Pin(_) => Some(Media::Video),
-            _ => None,
+            Row::Room(_)
+            | Row::Member(_)
+            | Row::Source(_)
+            | Row::Slot(_)
+            | Row::Mute(_)
+            | Row::Floor(_) => None,
         }
     }
 
@@ -310,7 +314,12 @@ impl Row {
             Row::Member(member) => member.address.port != 0,
             Row::Slot(slot) => slot.index <= MAX_INDEX,
             Row::Gain(gain) => gain.q8 <= MAX_GAIN,
-            _ => true,
+            Row::Room(_)
+            | Row::Source(_)
+            | Row::Sub(_)
+            | Row::Mute(_)
+            | Row::Pin(_)
+            | Row::Floor(_) => true,
         }
     }
 
@@ -333,7 +342,12 @@ impl Row {
                     index: slot.index,
                 },
             ),
-            _ => Few::Nothing,
+            Row::Room(_)
+            | Row::Sub(_)
+            | Row::Mute(_)
+            | Row::Gain(_)
+            | Row::Pin(_)
+            | Row::Floor(_) => Few::Nothing,
         }
     }
 
@@ -442,7 +456,8 @@ impl Key {
             Key::Mute(number) => Key::Source(number),
             Key::Pin(number) => Key::Room(number),
             Key::Floor(number) => Key::Room(number),
-            _ => self,
+            Key::Room(_) | Key::Member(_) | Key::Source(_) | Key::Slot(_) | Key::Gain { .. } =>
+                self,
         }
     }
 

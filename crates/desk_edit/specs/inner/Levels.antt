@@ -14,7 +14,11 @@ level kinds.Room = 0
 level kinds.Member = 1
 level kinds.Source = 2
 level kinds.Slot = 2
-level _ = 3
+level kinds.Sub = 3
+level kinds.Mute = 3
+level kinds.Gain = 3
+level kinds.Pin = 3
+level kinds.Floor = 3
 
 -- whether a row with this name may stand above that of a key
 abbrev pub is_above : Key → Key → Bool
@@ -34,7 +38,11 @@ can_go kind kinds.Source = false
 can_go kinds.Slot kinds.Slot = true
 can_go kinds.Sub kinds.Slot = true
 can_go kind kinds.Slot = false
-can_go kind _ = true
+can_go kind kinds.Sub = true
+can_go kind kinds.Mute = true
+can_go kind kinds.Gain = true
+can_go kind kinds.Pin = true
+can_go kind kinds.Floor = true
 
 -- the row that was found, if there is one
 abbrev pub found_list : Option Row → List Row
