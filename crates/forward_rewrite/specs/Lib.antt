@@ -2,6 +2,7 @@ pub mod Frame
 pub mod Sending
 pub mod Timestamps
 pub mod RoutedList
+pub mod Rates
 pub mod Streams
 pub mod Mixes
 pub mod OwnStreams

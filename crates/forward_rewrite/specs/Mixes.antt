@@ -9,6 +9,7 @@ use Rattle.g711.specs.MuLaw.{code_of}
 use Rattle.l16.specs.Samples.{octets_of}
 use Rattle.forward_rewrite.specs.declared.counts.Counts.{Counts}
 use Rattle.forward_rewrite.specs.Sending.{Numbered}
+use Rattle.forward_rewrite.specs.Rates.{audio_rate}
 
 -- what a mix sounds like in one tick: how it is encoded, the contributing sources, and the samples
 pub record Sound : Type 0 where
@@ -87,7 +88,7 @@ mix_counts ssrc first_seq first_ts ticks = option_map (λ (last : MixTick). reco
   octets = sum_by (λ sound. length (payload_of sound)) (sounds ticks) % 2 ^ 32;
   ts = (first_ts + tick_units * (length (begun ticks) - 1)) % 2 ^ 32;
   moment = last.moment;
-  rate = 8000;
+  rate = audio_rate;
 }) (last_or None (begun ticks))
 
 -- a mix stream: its SSRC, the number of its next packet, the timestamp of its next tick, whether the last tick sounded, how many packets and octets

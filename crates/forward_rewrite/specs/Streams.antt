@@ -8,6 +8,7 @@ use Rattle.forward_rewrite.specs.Frame.{SourceFrame}
 use Rattle.forward_rewrite.specs.Sending.{Sending, Numbered, out_of}
 use Rattle.forward_rewrite.specs.Timestamps.{Stamped, difference, last_of, stamped}
 use Rattle.forward_rewrite.specs.RoutedList.{Part, parts, packets_of}
+use Rattle.forward_rewrite.specs.Rates.{video_rate}
 
 -- a stream: its SSRC, the timestamp that it begins with, the number of its next packet, how many packets and octets of payload it has sent,
 -- what is kept of its last frame, and the packets that can be sent again
@@ -94,5 +95,5 @@ counts_of ssrc first_ts sendings = option_map (λ (last : Stamped). record {
   octets = payload_octets (parts (stamped first_ts sendings)) % 2 ^ 32;
   ts = last.ts;
   moment = last.sending.frame.moment;
-  rate = 90000;
+  rate = video_rate;
 }) (last_of (stamped first_ts sendings))

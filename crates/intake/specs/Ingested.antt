@@ -1,4 +1,4 @@
--- What a datagram comes to.
+-- What a datagram comes to (own).
 use Rattle.std.specs.Prelude.{ℕ, List, [], map}
 use Rattle.rtp_codec.specs.declared.address.Address.{Address}
 use Rattle.intake.specs.declared.outcome.Outcome.{Outcome}

@@ -1,4 +1,4 @@
--- What lanes are given, wherever its octets lie in memory.
+-- What lanes are given, wherever its octets lie in memory (own).
 use Rattle.std.specs.Prelude.{ℕ, ℤ, Bool, true, ◌&&◌, nat_le, List, length}
 use Rattle.rtp_codec.specs.declared.address.Address.{Address}
 use Rattle.rtcp_codec.specs.declared.report.ReportBlock.{ReportBlock}

@@ -1,4 +1,4 @@
--- What an intake answers.
+-- What an intake answers (own).
 use Rattle.std.specs.Prelude.{◌≡◌, ℕ, List}
 use Rattle.intake.specs.Readings.{Reading, IsReading}
 use Rattle.intake.specs.Sources.{Sources}

@@ -4,6 +4,7 @@ use Rattle.rtp_codec.specs.declared.address.Address.{Address}
 use Rattle.rtp_codec.specs.Packet.{Packet}
 use Rattle.source_valid.specs.declared.verdict.Verdict.{Verdict}
 use Rattle.source_valid.specs.declared.verdict.Verdict.TheVariants.{Probation, Accepted, Jump, Restarted}
+use Rattle.desk_rows.specs.declared.row.Codec.TheVariants.{Pcmu, L16}
 use Rattle.frame_gate.specs.declared.packet.Place.{Place}
 use Rattle.frame_gate.specs.declared.packet.Place.TheVariants.{Taken, Late, Duplicate}
 use Rattle.frame_gate.specs.Packets.{GatePacket, NumberedPacket, numbered}
@@ -11,6 +12,7 @@ use Rattle.frame_gate.specs.Frame.{WholeFrame}
 use Rattle.g711.specs.MuLaw.{decoded}
 use Rattle.l16.specs.Samples.{samples_of}
 use Rattle.frame_gate.specs.Epochs.{Epoch, epoch_of, after, frames_of, place_of, nacks_of, gives_up}
+use Rattle.forward_rewrite.specs.Mixes.{pt_of}
 use Rattle.intake.specs.declared.outcome.Outcome.{Outcome}
 use Rattle.intake.specs.declared.outcome.Outcome.TheVariants as outcomes
 use Rattle.intake.specs.Inputs.{Input, most_samples}
@@ -31,19 +33,11 @@ origin_of c = record { address = c.from; ssrc = c.packet.header.ssrc }
 abbrev pub mark_of : ℕ → Coming → Mark
 mark_of rate c = record { seq = c.packet.header.seq; ts = c.packet.header.ts; units = units_of rate c.moment }
 
--- the clock rate of audio in Hz
-abbrev pub audio_rate : ℕ
-audio_rate = 8000
-
--- the clock rate of video in Hz
-abbrev pub video_rate : ℕ
-video_rate = 90000
-
 -- a payload that is audio: PCMU is type 0 and has an octet for a sample, L16 is type 97 and has two
 abbrev pub is_audio : ℕ → ℕ → Bool
 is_audio pt octets =
-    if nat_eq pt 0 then nat_le octets most_samples
-    else nat_eq pt 97 && (nat_eq (octets % 2) 0 && nat_le octets (2 * most_samples))
+    if nat_eq pt (pt_of Pcmu) then nat_le octets most_samples
+    else nat_eq pt (pt_of L16) && (nat_eq (octets % 2) 0 && nat_le octets (2 * most_samples))
 
 -- what a packet comes to for its source: the outcome and the source's story, the items that it makes, the numbers that are newly missing, and whether a picture is lost
 pub record Course : Type 0 where
@@ -109,7 +103,7 @@ video_course c (Restarted ext) story = gated_with c (numbered ext (gate_packet c
 
 -- the samples of a payload that is audio: PCMU by its octets, L16 by two octets each
 abbrev pub samples_of_packet : ℕ → List ℕ → List ℤ
-samples_of_packet pt payload = if nat_eq pt 0 then map decoded payload else samples_of payload
+samples_of_packet pt payload = if nat_eq pt (pt_of Pcmu) then map decoded payload else samples_of payload
 
 -- an audio packet as an item; an empty payload makes none
 abbrev pub sound_of : Coming → List Input

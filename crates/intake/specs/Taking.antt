@@ -19,7 +19,8 @@ use Rattle.intake.specs.Readings.{Reading, too_long, neither, no_packet, packet,
 use Rattle.intake.specs.Stories.{Story, untold, judged, begins, judged_on}
 use Rattle.intake.specs.Sources.{Origin, Sources, story_at, used}
 use Rattle.intake.specs.Ingested.{Ingested, only}
-use Rattle.intake.specs.Media.{Coming, Course, origin_of, mark_of, audio_rate, video_rate, is_audio, audio_course, video_course}
+use Rattle.forward_rewrite.specs.Rates.{audio_rate, video_rate}
+use Rattle.intake.specs.Media.{Coming, Course, origin_of, mark_of, is_audio, audio_course, video_course}
 use Rattle.intake.specs.Control.{asks, noted_all}
 
 -- how the bridge speaks to senders: who it is, and the words by which it names lost packets

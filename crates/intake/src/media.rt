@@ -7,7 +7,8 @@ ghost use Rattle.rtp_codec.specs.declared.class.Class.TheVariants as classes;
 ghost use Rattle.topology.specs.Looking.{source_from};
 ghost use Rattle.intake.specs.Readings.{IsOf};
 ghost use Rattle.intake.specs.Ingested.{ingested_of};
-ghost use Rattle.intake.specs.Media.{is_audio, audio_rate, video_rate, audio_course, video_course, mark_of};
+ghost use Rattle.forward_rewrite.specs.Rates.{audio_rate, video_rate};
+ghost use Rattle.intake.specs.Media.{is_audio, audio_course, video_course, mark_of};
 ghost use Rattle.intake.specs.Taking.{sourced, of_row};
 ghost use Rattle.intake.specs.Intakes.{Moves, TakesIn};
 

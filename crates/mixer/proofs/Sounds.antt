@@ -2,6 +2,7 @@
 use Rattle.std.proofs.Common.{◌≡◌, ℕ, ℤ, ◌<◌, false, is_some, List, [], ◌∷◌, length, map, take, Some, ap, sym, subst, ◌∙◌, arith, refl}
 use Rattle.std.proofs.lemmas.List.{length-take-le}
 use Rattle.std.specs.List.{range_with_len}
+use Rattle.rtp_codec.specs.Packet.{most_csrcs}
 use Rattle.desk_rows.specs.declared.row.Codec.{Codec}
 use Rattle.desk_rows.specs.declared.row.Member.{Member as MemberRow}
 use Rattle.desk_rows.specs.Desk.{Desk}
@@ -12,11 +13,11 @@ use Rattle.mixer.specs.Hearing.{sound_by, sound_for, contributors, heard_at, tic
 use Rattle.mixer.specs.inner.Rooms.{IsHeard}
 use Rattle.mixer.specs.inner.Ready.{hears_any}
 
-no_sound : (codec : Codec) (named : List ℕ) (samples : List ℤ) → take 15 named ≡ [] → is_some (sound_by codec named samples) ≡ false
+no_sound : (codec : Codec) (named : List ℕ) (samples : List ℤ) → take most_csrcs named ≡ [] → is_some (sound_by codec named samples) ≡ false
 no_sound codec [] samples none = refl
 no_sound codec (s ∷ ss) samples none = absurd (omega (arith, ap length none))
 
-a_sound : (codec : Codec) (named csrcs : List ℕ) (samples : List ℤ) → csrcs ≡ take 15 named → 0 < length csrcs → sound_by codec named samples ≡ Some (sound_of codec csrcs samples)
+a_sound : (codec : Codec) (named csrcs : List ℕ) (samples : List ℤ) → csrcs ≡ take most_csrcs named → 0 < length csrcs → sound_by codec named samples ≡ Some (sound_of codec csrcs samples)
 a_sound codec [] csrcs samples are some = absurd (omega (arith, ap length are, some))
 a_sound codec (s ∷ ss) csrcs samples are some = ap (λ cs. Some (sound_of codec cs samples)) (sym are)
 

@@ -2,6 +2,7 @@
 use Rattle.std.specs.Prelude.{ℕ, ℤ, pos, ◌+ℤ◌, ◌+◌, Bool, not, ◌&&◌, nat_eq, nat_lt, List, [], ◌∷◌, filter, map, take, Option, None, Some, unwrap_or, slice_index_or}
 use Rattle.std.specs.List.{range_with_len}
 use Rattle.rtp_codec.specs.declared.address.Address.{Address}
+use Rattle.rtp_codec.specs.Packet.{most_csrcs}
 use Rattle.desk_rows.specs.declared.row.Member.{Member as MemberRow}
 use Rattle.desk_rows.specs.declared.row.Codec.{Codec}
 use Rattle.desk_rows.specs.Desk.{Desk}
@@ -11,6 +12,7 @@ use Rattle.playout.specs.Playout.{Play, sample_at, present}
 use Rattle.playout.specs.Playouts.{AudioEvent, PutOf, TakeAll, play_on}
 use Rattle.mix_minus.specs.Mix.{scaled, clamped}
 use Rattle.forward_rewrite.specs.Mixes.{Sound}
+use Rattle.forward_rewrite.specs.Rates.{audio_rate}
 use Rattle.mixer.specs.declared.voices.Voice.{Voice}
 
 -- ---- what came in
@@ -19,10 +21,6 @@ use Rattle.mixer.specs.declared.voices.Voice.{Voice}
 pub data Given : Type 0 where
   put : (source : ℕ) (address : Address) (ts : ℕ) (samples : List ℤ) → Given
   tick : (desk : Desk) (moment : ℕ) → Given
-
--- the clock rate of audio in Hz (RFC 3551 section 4.5.14; that L16 has it too is own)
-abbrev pub audio_rate : ℕ
-audio_rate = 8000
 
 -- how many samples 20 ms are
 abbrev pub tick_length : ℕ
@@ -92,10 +90,10 @@ contributes d m v = nat_lt 0 (gain_of d m.member v.source.ssrc) && nat_lt 0 v.fi
 abbrev pub contributors : List Voice → Desk → MemberRow → List ℕ
 contributors voices d m = map (λ v. v.source.ssrc) (filter (contributes d m) (others m voices))
 
--- the sound of these samples by these contributors, if there is one; the first 15 are named
+-- the sound of these samples by these contributors, if there is one; the first 15 are named, as a header has room for
 abbrev pub sound_by : Codec → List ℕ → List ℤ → Option Sound
 sound_by codec [] samples = None
-sound_by codec (s ∷ ss) samples = Some (record { codec = codec; csrcs = take 15 (s ∷ ss); samples = samples })
+sound_by codec (s ∷ ss) samples = Some (record { codec = codec; csrcs = take most_csrcs (s ∷ ss); samples = samples })
 
 -- what a member hears of these voices in a tick: nothing where nobody contributes
 abbrev pub sound_for : List Voice → Desk → MemberRow → Option Sound

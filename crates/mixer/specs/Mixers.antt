@@ -1,4 +1,4 @@
--- What a mixer keeps, and what it answers by all that it was given.
+-- What a mixer keeps, and what it answers by all that it was given (own).
 use Rattle.std.specs.Prelude.{◌≡◌, ℕ, true, nat_eq, List, [], ◌∷◌, ◌++◌, map, Option}
 use Rattle.std.specs.Map.{lookup}
 use Rattle.desk_rows.specs.Desk.{Desk}

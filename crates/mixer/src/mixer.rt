@@ -33,7 +33,7 @@ pub struct Mixer<A: Allocator + Copy = Global> {
 impl<A: Allocator + Copy> Model for Mixer<A> {
     ghost use Rattle.std.specs.Prelude.{◌≡◌};
     ghost use Rattle.mixer.specs.Mixers.{MixerOf};
-    ghost use Rattle.mixer.specs.Hearing.{audio_rate};
+    ghost use Rattle.forward_rewrite.specs.Rates.{audio_rate};
 
     ghost Value = { MixerOf };
 

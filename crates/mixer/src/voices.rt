@@ -2,7 +2,8 @@
 
 ghost use Rattle.std.specs.Prelude.{◌≡◌, IfOk, List, map};
 ghost use Rattle.playout.specs.Playouts.{Has};
-ghost use Rattle.mixer.specs.Hearing.{Given, audio_rate, to_playouts, voice_of};
+ghost use Rattle.forward_rewrite.specs.Rates.{audio_rate};
+ghost use Rattle.mixer.specs.Hearing.{Given, to_playouts, voice_of};
 
 use playout::Playouts;
 use std::alloc::{AllocError, Allocator};

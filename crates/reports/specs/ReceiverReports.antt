@@ -2,7 +2,7 @@
 use Rattle.std.specs.Prelude.{ℕ, ◌+◌, ◌-◌, ◌*◌, ◌/◌, List, [], ◌∷◌, ◌++◌, length, take, drop, map}
 use Rattle.std.specs.List.{range_with_len}
 use Rattle.rtcp_codec.specs.declared.report.ReportBlock.{ReportBlock}
-use Rattle.rtcp_codec.specs.Packet.{Packet, Receiver, most_count}
+use Rattle.rtcp_codec.specs.Packet.{Packet, Sender, Receiver, Sdes, Bye, App, Nack, Pli, Other, most_count}
 use Rattle.rtcp_codec.specs.CanonicalName.{named}
 
 -- the blocks of the report at this place, from 0: the next 31, or as many as are left
@@ -18,10 +18,16 @@ abbrev pub receiver_reports : (ssrc : ℕ) → List ReportBlock → List Packet
 receiver_reports ssrc blocks =
     map (λ place. Receiver ssrc (blocks_at blocks place)) (range_with_len 0 (count_of_reports (length blocks)))
 
--- the blocks that a receiver report has; no other packet here has any
+-- the blocks that a packet has: reports alone have any
 abbrev pub blocks_in : Packet → List ReportBlock
 blocks_in (Receiver ssrc blocks) = blocks
-blocks_in _ = []
+blocks_in (Sender ssrc ntp ts packets octets blocks) = blocks
+blocks_in (Sdes chunks) = []
+blocks_in (Bye ssrcs reason) = []
+blocks_in (App subtype ssrc name content) = []
+blocks_in (Nack sender media words) = []
+blocks_in (Pli sender media) = []
+blocks_in (Other pt count body) = []
 
 -- the receiver reports, then the canonical name of who reports
 abbrev pub receiver_packets : (ssrc : ℕ) → List ReportBlock → (cname : List ℕ) → List Packet

@@ -11,8 +11,8 @@ abbrev pub microsecond : ℕ
 microsecond = 10 ^ 3
 
 -- the microseconds of a second
-abbrev pub microseconds : ℕ
-microseconds = 10 ^ 6
+abbrev pub second_in_microseconds : ℕ
+second_in_microseconds = 10 ^ 6
 
 -- the seconds from 1900, from which NTP counts, to 1970, from which moments count (RFC 5905 section 6)
 abbrev pub from_1900_to_1970 : ℕ
@@ -28,4 +28,4 @@ elapsed from to = (to - from) / microsecond
 
 -- the RTP timestamp of a moment: that of the stream's last frame or tick, advanced by the time that has gone by since, at the stream's rate
 abbrev pub ts_at : Counts → ℕ → ℕ
-ts_at c moment = (c.ts + elapsed c.moment moment * c.rate / microseconds) % 2 ^ 32
+ts_at c moment = (c.ts + elapsed c.moment moment * c.rate / second_in_microseconds) % 2 ^ 32

@@ -1,6 +1,7 @@
 -- The voices of a room as inputs of its mixes.
 use Rattle.std.specs.Prelude.{◌≡◌, ℕ, ℤ, ◌≤◌, Bool, List, length, map, filter, take}
 use Rattle.std.specs.List.{range_with_len}
+use Rattle.rtp_codec.specs.Packet.{most_csrcs}
 use Rattle.desk_rows.specs.declared.row.Member.{Member as MemberRow}
 use Rattle.desk_rows.specs.Desk.{Desk}
 use Rattle.mixer.specs.declared.hearing.Heard.{Heard}
@@ -54,6 +55,6 @@ pub record IsRoom (voices : List Voice) (r : RoomOf) : Type 0 where
 -- This is what the member hears of these voices.
 pub record IsHeard (d : Desk) (voices : List Voice) (m : MemberRow) (h : Heard) : Type 0 where
   pub samples : h.samples ≡ map (heard_at voices d m) (range_with_len 0 tick_length)
-  pub count : h.named.count ≤ 15
+  pub count : h.named.count ≤ most_csrcs
   pub room : h.named.count ≤ length h.named.ssrcs
-  pub named : take h.named.count h.named.ssrcs ≡ take 15 (contributors voices d m)
+  pub named : take h.named.count h.named.ssrcs ≡ take most_csrcs (contributors voices d m)

@@ -1,4 +1,5 @@
 use Rattle.std.proofs.Common.{rules, ◌≡◌, ℕ, List, ◌≤◌, length, map, take, ap, sym, subst, ◌∙◌, arith, All, filter}
+use Rattle.rtp_codec.specs.Packet.{most_csrcs}
 use Rattle.mix_minus.specs.declared.input.Input.{Input}
 use Rattle.mix_minus.specs.Mix.{clamped, heard_sum, contributing}
 use Rattle.topology.specs.declared.hearing.AudioSource.{AudioSource}
@@ -46,8 +47,8 @@ returns g c voices is =
       count = c.mix_by_total-named.ensures.count;
       room = search rules;
       named = c.mix_by_total-named.ensures.ssrcs
-          ∙ ap (λ (xs : List Input). take 15 (contributing m.member xs c.write_gains.new.gains)) inputs
-          ∙ ap (λ (gs : List ℕ). take 15 (contributing m.member c.args.room.now.inputs gs)) gains
-          ∙ ap (take 15) (named_of d m c.args.room.now.inputs ws is.inputs)
-          ∙ ap (λ vs. take 15 (map (λ v. v.source.ssrc) (filter (contributes d m) vs))) others_are;
+          ∙ ap (λ (xs : List Input). take most_csrcs (contributing m.member xs c.write_gains.new.gains)) inputs
+          ∙ ap (λ (gs : List ℕ). take most_csrcs (contributing m.member c.args.room.now.inputs gs)) gains
+          ∙ ap (take most_csrcs) (named_of d m c.args.room.now.inputs ws is.inputs)
+          ∙ ap (λ vs. take most_csrcs (map (λ v. v.source.ssrc) (filter (contributes d m) vs))) others_are;
     }

@@ -1,13 +1,13 @@
 use Rattle.std.proofs.Common.{◌≡◌, ℕ, ◌+◌, ◌*◌, ◌/◌, ◌%◌, ◌^◌, ap, ◌∙◌, mul_assoc, arith}
 use Rattle.std.proofs.Math.Nat.{mul-div_cancel_left}
-use Rattle.reports.specs.Times.{second, microseconds, elapsed}
+use Rattle.reports.specs.Times.{second, second_in_microseconds, elapsed}
 use Rattle.reports.proofs.laws.times_of_reports.Goals as goal
 
-whole_seconds : (from n : ℕ) → elapsed from (from + n * second) ≡ microseconds * n
+whole_seconds : (from n : ℕ) → elapsed from (from + n * second) ≡ second_in_microseconds * n
 whole_seconds from n = omega arith
 
-units : (from n rate : ℕ) → elapsed from (from + n * second) * rate / microseconds ≡ n * rate
-units from n rate = ap (λ k. k * rate / microseconds) (whole_seconds from n) ∙ ap (λ k. k / microseconds) (mul_assoc microseconds n rate) ∙ mul-div_cancel_left (n * rate) (omega arith)
+units : (from n rate : ℕ) → elapsed from (from + n * second) * rate / second_in_microseconds ≡ n * rate
+units from n rate = ap (λ k. k * rate / second_in_microseconds) (whole_seconds from n) ∙ ap (λ k. k / second_in_microseconds) (mul_assoc second_in_microseconds n rate) ∙ mul-div_cancel_left (n * rate) (omega arith)
 
 pub returns-clause-ahead : goal.returns-clause-ahead
 returns-clause-ahead c = λ counts n. ap (λ k. (counts.ts + k) % 2 ^ 32) (units counts.moment n counts.rate)

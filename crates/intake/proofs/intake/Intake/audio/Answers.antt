@@ -2,7 +2,8 @@ use Rattle.std.proofs.Common.{◌∙◌, ap, sym, subst, None}
 use Rattle.rtp_codec.specs.View.{packet_of}
 use Rattle.intake.specs.declared.known.Key.{Key}
 use Rattle.intake.specs.Ingested.{Ingested}
-use Rattle.intake.specs.Media.{Coming, audio_rate, audio_course, sounds, telling}
+use Rattle.forward_rewrite.specs.Rates.{audio_rate}
+use Rattle.intake.specs.Media.{Coming, audio_course, sounds, telling}
 use Rattle.intake.specs.Taking.{sourced}
 use Rattle.intake.specs.inner.Kept.{JudgedOf}
 use Rattle.intake.specs.inner.Moves.{Advances}

@@ -3,7 +3,8 @@ use Rattle.rtp_codec.specs.View.{packet_of}
 use Rattle.intake.specs.declared.outcome.Outcome.TheVariants.{BadPayload}
 use Rattle.intake.specs.Ingested.{Ingested, ingested_of, only}
 use Rattle.intake.specs.Sources.{Sources}
-use Rattle.intake.specs.Media.{Coming, audio_rate, audio_course}
+use Rattle.forward_rewrite.specs.Rates.{audio_rate}
+use Rattle.intake.specs.Media.{Coming, audio_course}
 use Rattle.intake.specs.Taking.{sourced, of_row, of_media}
 use Rattle.intake.specs.Intakes.{Knows}
 use Rattle.intake.proofs.Results.{from_fact}

@@ -7,7 +7,8 @@ use Rattle.frame_gate.specs.Packets.{numbered}
 use Rattle.intake.specs.declared.outcome.Outcome.TheVariants as outcomes
 use Rattle.intake.specs.declared.known.Key.{Key}
 use Rattle.intake.specs.Ingested.{Ingested}
-use Rattle.intake.specs.Media.{Coming, video_rate, video_course, plain, placed, gate_packet}
+use Rattle.forward_rewrite.specs.Rates.{video_rate}
+use Rattle.intake.specs.Media.{Coming, video_course, plain, placed, gate_packet}
 use Rattle.intake.specs.Taking.{sourced}
 use Rattle.intake.specs.inner.Kept.{JudgedOf}
 use Rattle.intake.specs.inner.Moves.{Advances}
