@@ -11,31 +11,30 @@ use Rattle.desk_rows.specs.Exchange.{fits, after}
 use Rattle.desk_rows.specs.laws.Laws.{undoes}
 use Rattle.desk_edit.specs.declared.command.Command.{Command}
 use Rattle.desk_edit.specs.declared.command.Call.TheVariants.{Undo, Redo}
-use Rattle.desk_edit.specs.Calls.{refusal_at}
+use Rattle.desk_edit.specs.Calls.{call_limit, refusal_at}
 use Rattle.bridge_core.specs.declared.reply.Reply.{Reply}
 use Rattle.bridge_core.specs.declared.reply.Reply.TheVariants.{Accepted, Refused}
 use Rattle.bridge_core.specs.Steps.{CoreOf}
-use Rattle.bridge_core.specs.Sound.{most_calls}
 use Rattle.bridge_core.specs.Calls.{Answers, UndoesEdit, RedoesEdit}
 use Rattle.bridge_core.specs.UndoRuns.{AnswersAll, AcceptsAll, UndoesInARow, RedoesInARow, IsAsWas, undos, redos, all_accepted}
 use Rattle.bridge_core.proofs.FollowLaws.{rewound_one_more}
 
 -- ---- one call
 
-free_undo : (version done undone : ℕ) (d : Desk) → 0 < done → version < most_calls → refusal_at version d done undone (Undo version) ≡ None
+free_undo : (version done undone : ℕ) (d : Desk) → 0 < done → version < call_limit → refusal_at version d done undone (Undo version) ≡ None
 free_undo version done undone d some room = grind arith
 
-free_redo : (version done undone : ℕ) (d : Desk) → 0 < undone → version < most_calls → refusal_at version d done undone (Redo version) ≡ None
+free_redo : (version done undone : ℕ) (d : Desk) → 0 < undone → version < call_limit → refusal_at version d done undone (Redo version) ≡ None
 free_redo version done undone d some room = grind arith
 
-undo_accepted : (old new : CoreOf) (reply : Reply) → Answers old new (Undo old.version) reply → 0 < length old.done → old.version < most_calls
+undo_accepted : (old new : CoreOf) (reply : Reply) → Answers old new (Undo old.version) reply → 0 < length old.done → old.version < call_limit
     → (reply ≡ Accepted (old.version + 1)) × (new.version ≡ old.version + 1) × UndoesEdit old new
 undo_accepted old new (Accepted number) by some room = (ap Accepted by.0, by.1 ∙ by.0, by.4)
 undo_accepted old new (Refused at why) by some room =
     let no : None ≡ Some why = sym (free_undo old.version (length old.done) (length old.undone) old.desk some room) ∙ by.2 in
     absurd cc
 
-redo_accepted : (old new : CoreOf) (reply : Reply) → Answers old new (Redo old.version) reply → 0 < length old.undone → old.version < most_calls
+redo_accepted : (old new : CoreOf) (reply : Reply) → Answers old new (Redo old.version) reply → 0 < length old.undone → old.version < call_limit
     → (reply ≡ Accepted (old.version + 1)) × (new.version ≡ old.version + 1) × RedoesEdit old new
 redo_accepted old new (Accepted number) by some room = (ap Accepted by.0, by.1 ∙ by.0, by.4)
 redo_accepted old new (Refused at why) by some room =
@@ -142,7 +141,7 @@ commands_done first last (c ∷ cs) accepts =
     let rest = commands_done next last cs accepts.2 in
     (does.0 ∷ rest.0, one_more_done first next last (length cs) rest.0 does.0 does.1 does.2 does.3 rest.1)
 
-commands_undone : (n : ℕ) (first last : CoreOf) (replies : List Reply) → n ≤ length first.done → first.version + n ≤ most_calls → AnswersAll first (undos first.version n) replies last
+commands_undone : (n : ℕ) (first last : CoreOf) (replies : List Reply) → n ≤ length first.done → first.version + n ≤ call_limit → AnswersAll first (undos first.version n) replies last
     → (replies ≡ all_accepted first.version n) × (es : List EditOf) × HasUndone first last n es
 commands_undone zero first last replies some room answers = (
   answers.0,
@@ -167,7 +166,7 @@ commands_undone (suc n) first last replies some room answers =
       one_more_undone first next last n rest.1 here.2 rest.2,
     )
 
-commands_redone : (n : ℕ) (first last : CoreOf) (replies : List Reply) → n ≤ length first.undone → first.version + n ≤ most_calls → AnswersAll first (redos first.version n) replies last
+commands_redone : (n : ℕ) (first last : CoreOf) (replies : List Reply) → n ≤ length first.undone → first.version + n ≤ call_limit → AnswersAll first (redos first.version n) replies last
     → (replies ≡ all_accepted first.version n) × (es : List EditOf) × HasRedone first last n es
 commands_redone zero first last replies some room answers = (
   answers.0,

@@ -1,6 +1,5 @@
 -- What a lane's streams count, for reports.
-use Rattle.std.proofs.Common.{◌≡◌, ℕ, List, [], ◌∷◌, ◌++◌, Option, Some, None, refl, sym, ap, subst, ◌∙◌, append_assoc, append-nil, take}
-use Rattle.std.specs.List.{flat_map}
+use Rattle.std.proofs.Common.{◌≡◌, ℕ, List, [], ◌∷◌, Option, Some, refl, subst}
 use Rattle.forward_rewrite.specs.declared.counts.Counts.{Counts}
 use Rattle.forward_rewrite.specs.Sending.{Sending}
 use Rattle.forward_rewrite.specs.Streams.{StreamOf, HasSent, state_of, counts_of}
@@ -13,8 +12,3 @@ counted ssrc [] s c e h = absurd (cc)
 counted ssrc (r ∷ rs) s c e h =
     let is : s ≡ state_of ssrc r.slot.first_seq r.slot.first_ts (sendings (r ∷ rs)) = (cc) in
     subst (λ (x : StreamOf). (first_seq first_ts : ℕ) (sent : List Sending) → HasSent x first_seq first_ts sent → c ≡ counts_of x.ssrc first_ts sent) is h r.slot.first_seq r.slot.first_ts (sendings (r ∷ rs)) refl
-
--- a stream that hasn't begun counts nothing
-pub uncounted : (ssrc : ℕ) (rs : List Routed) → stream_of ssrc rs ≡ None → None ≡ video_counts ssrc rs
-uncounted ssrc [] e = refl
-uncounted ssrc (r ∷ rs) e = absurd (cc)

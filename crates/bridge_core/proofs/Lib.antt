@@ -11,6 +11,7 @@ pub mod AskedAgain
 pub mod RoutedLists
 pub mod Chosen
 pub mod LedBack
+pub mod Octets
 pub mod Telling
 pub mod MixesSent
 pub mod MixesHeard

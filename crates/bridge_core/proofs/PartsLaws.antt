@@ -15,11 +15,11 @@ use Rattle.forward_rewrite.specs.Streams.{StreamOf}
 use Rattle.feedback.specs.PassedUp.{pli_up}
 use Rattle.intake.specs.Inputs.{Input, Sound, Told, Loss}
 use Rattle.bridge_core.specs.Sent.{Sent}
-use Rattle.bridge_core.specs.Lanes.{Visit, routed, routed_at, stream_of, given_at, given_of, mix_goes, notes, passed_up, lanes_reports, is_lanes, sends_at}
+use Rattle.bridge_core.specs.Lanes.{Visit, routed, routed_at, stream_of, given_at, given_of, mix_goes, notes, passed_up, is_lanes, sends_at}
 use Rattle.bridge_core.specs.LaneState.{LaneOf, StreamList, stream_at, visit_of, AreLeft}
 use Rattle.bridge_core.specs.inner.VideoStreams.{Answers}
 use Rattle.bridge_core.specs.inner.Parts.{TicksAs, PartsAnswer}
-use Rattle.bridge_core.specs.inner.Control.{LeftBy}
+use Rattle.bridge_core.specs.inner.Control.{LeftBy, lanes_reports}
 use Rattle.bridge_core.proofs.Shares.{share_of_note, share_of_loss, share_of_reports}
 use Rattle.bridge_core.proofs.Handled.{not_routed}
 

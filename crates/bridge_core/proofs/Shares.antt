@@ -17,9 +17,10 @@ use Rattle.feedback.specs.Upstream.{Asker}
 use Rattle.feedback.specs.PassedUp.{pli_up}
 use Rattle.intake.specs.Inputs.{Input, Told, Loss}
 use Rattle.bridge_core.specs.Sent.{Sent, about}
-use Rattle.bridge_core.specs.Lanes.{Visit, given_of, routed, stream_of, video_counts, notes, passed_up, tells, own_tells, reports_to, lanes_reports, is_lanes}
+use Rattle.bridge_core.specs.Lanes.{Visit, given_of, routed, stream_of, video_counts, notes, passed_up, tells, reports_to, is_lanes}
 use Rattle.bridge_core.specs.Steps.{Step, visits, visit_after}
 use Rattle.bridge_core.specs.WholeRuns.{sent_after}
+use Rattle.bridge_core.specs.inner.Control.{own_tells, lanes_reports}
 
 -- what is all about one stream is a lane's all together or not at all
 pub share_all : (lane lanes k : ℕ) (es : List Sent) → AllByRecursion (λ e. about e ≡ k) es → filter (is_lanes lane lanes) es ≡ cond (is_mine lane lanes k) es []
@@ -94,9 +95,3 @@ pub loss_share : (who : Asker) (lanes lane : ℕ) (start : Desk) (before : List 
 loss_share who lanes lane start before loss =
     let visit = visit_after start before lane (Input.pli loss) in
     share_of_loss lane lanes who visit loss (pli_up visit.desk loss.from loss.out_ssrc)
-
-pub report_share : (who : Asker) (lanes lane : ℕ) (start : Desk) (before : List Step) (moment : ℕ)
-    → sent_after who lanes start before lane (Input.report moment) ≡ flat_map (lanes_reports who lane lanes (visits lane start before) (visit_after start before lane (Input.report moment)) moment) (visit_after start before lane (Input.report moment)).desk.members
-report_share who lanes lane start before moment =
-    let visit = visit_after start before lane (Input.report moment) in
-    share_of_reports lane lanes who (visits lane start before) visit moment visit.desk.members

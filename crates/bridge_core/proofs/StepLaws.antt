@@ -7,7 +7,7 @@ use Rattle.std.proofs.lemmas.List.{length_push}
 use Rattle.desk_rows.specs.Edit.{EditOf}
 use Rattle.desk_rows.specs.Desk.{Desk}
 use Rattle.desk_edit.specs.declared.command.Call.TheVariants.{Undo, Redo}
-use Rattle.desk_edit.specs.Calls.{refusal_at}
+use Rattle.desk_edit.specs.Calls.{call_limit, refusal_at}
 use Rattle.mixer.specs.Mixers.{WasGiven}
 use Rattle.intake.specs.Inputs.{Input}
 use Rattle.feedback.specs.Upstream.{Asker}
@@ -15,7 +15,7 @@ use Rattle.bridge_core.specs.Sent.{Sent}
 use Rattle.bridge_core.specs.Lanes.{Visit, given_of, sends_at}
 use Rattle.bridge_core.specs.LaneState.{LaneOf, visit_of, AreLeft, HasHandled, Handles}
 use Rattle.bridge_core.specs.inner.Parts.{PartsAnswer}
-use Rattle.bridge_core.specs.Sound.{IsSound, AreFresh, most_calls}
+use Rattle.bridge_core.specs.Sound.{IsSound, AreFresh}
 use Rattle.bridge_core.specs.Calls.{core_fault, most_lanes}
 use Rattle.intake.specs.Names.{is_name}
 use Rattle.bridge_core.specs.Steps.{Step, version_of, desk_of, count_of, along, visit_at, visits, visit_after, CoreOf, Takes}
@@ -183,13 +183,13 @@ no_fault lanes cname some few named =
     rw first (rw second (rw named refl))
 
 -- nothing stands against a call that names the last one, where something is left and the log has room
-pub undo_free : (last version done undone : ℕ) (d : Desk) → last ≡ version → done ≢ 0 → nat_eq version most_calls ≡ false → refusal_at version d done undone (Undo last) ≡ None
+pub undo_free : (last version done undone : ℕ) (d : Desk) → last ≡ version → done ≢ 0 → nat_eq version call_limit ≡ false → refusal_at version d done undone (Undo last) ≡ None
 undo_free last version done undone d same some room =
     let first : nat_eq last version ≡ true = grind (arith, nat_tests) in
     let second : nat_eq done 0 ≡ false = grind (arith, nat_tests) in
     rw first (rw second (rw room refl))
 
-pub redo_free : (last version done undone : ℕ) (d : Desk) → last ≡ version → undone ≢ 0 → nat_eq version most_calls ≡ false → refusal_at version d done undone (Redo last) ≡ None
+pub redo_free : (last version done undone : ℕ) (d : Desk) → last ≡ version → undone ≢ 0 → nat_eq version call_limit ≡ false → refusal_at version d done undone (Redo last) ≡ None
 redo_free last version done undone d same some room =
     let first : nat_eq last version ≡ true = grind (arith, nat_tests) in
     let second : nat_eq undone 0 ≡ false = grind (arith, nat_tests) in

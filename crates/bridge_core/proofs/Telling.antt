@@ -16,7 +16,7 @@ use Rattle.topology.specs.Looking.{member_at, member_from, is_this, sender_of, s
 use Rattle.topology.specs.Choice.{choice}
 use Rattle.topology.specs.Receivers.{slots_to}
 use Rattle.forward_rewrite.specs.declared.counts.Counts.{Counts}
-use Rattle.forward_rewrite.specs.Sending.{Sending}
+use Rattle.forward_rewrite.specs.Sending.{Sending, Numbered}
 use Rattle.forward_rewrite.specs.Timestamps.{stamped, last_of}
 use Rattle.forward_rewrite.specs.RoutedList.{Part, parts, numbered, packets_of}
 use Rattle.forward_rewrite.specs.Mixes.{mix_list, mix_counts}
@@ -28,12 +28,14 @@ use Rattle.feedback.specs.Upstream.{Asker, upstream_packets}
 use Rattle.feedback.specs.PassedUp.{is_of_member_at, with_address, pli_up}
 use Rattle.intake.specs.Inputs.{Input, Told, Loss}
 use Rattle.bridge_core.specs.Sent.{Sent}
-use Rattle.bridge_core.specs.Lanes.{Visit, Routed, given_of, routed, sendings, packets_sent, packets, stream_of, goes, notes, passed_up, video_counts, tells, own_tells, lanes_reports, sends_at}
+use Rattle.bridge_core.specs.Lanes.{Visit, Routed, given_of, routed, sendings, packets_sent, packets, stream_of, goes, notes, passed_up, video_counts, tells, sends_at}
 use Rattle.bridge_core.specs.Steps.{Step, visits, visit_after}
 use Rattle.bridge_core.specs.Named.{Kind, firsts}
 use Rattle.bridge_core.specs.Headline.{numbered_of}
 use Rattle.bridge_core.specs.Telling.{IsOwnStream, IsSenderReportOf, IsReached, IsNoteOf, IsPassedUpOf}
+use Rattle.bridge_core.specs.inner.Control.{own_tells, lanes_reports}
 use Rattle.bridge_core.proofs.Chosen.{all-append}
+use Rattle.bridge_core.proofs.Octets.{sizes, HaveFew, video_octets, mix_octets, few_turns}
 use Rattle.bridge_core.proofs.LedBack.{Contains-map, Contains-drop}
 use Rattle.bridge_core.proofs.Shares.{share_of_note, share_of_loss, share_of_reports}
 
@@ -47,31 +49,39 @@ length-numbered : (k n : ℕ) (ps : List Part) → length (numbered k n ps) ≡ 
 length-numbered k n [] = refl
 length-numbered k n (p ∷ ps) = ap suc (length-numbered k (n + 1) ps)
 
--- these counts are of a stream of this SSRC that has sent so many packets
-record Counted (counts : Counts) (k sent : ℕ) : Type 0 where
+-- these counts are of a stream of this SSRC that has sent these packets
+record Counted (counts : Counts) (k : ℕ) (sent : List Numbered) : Type 0 where
   pub ssrc : counts.ssrc ≡ k
-  pub packets : counts.packets ≡ sent % 2 ^ 32
+  pub packets : counts.packets ≡ length sent % 2 ^ 32
+  pub octets : counts.octets ≡ sizes sent % 2 ^ 32
 
-video_counted : (k : ℕ) (rs : List Routed) (counts : Counts) → video_counts k rs ≡ Some counts → Counted counts k (length (packets_sent k rs))
+video_counted : (k : ℕ) (rs : List Routed) (counts : Counts) → video_counts k rs ≡ Some counts → Counted counts k (map numbered_of (map (goes k None) (packets_sent k rs)))
 video_counted k [] counts e = absurd (cc)
 video_counted k (r ∷ rs) counts e =
-    let all = sendings (r ∷ rs) in
-    let there = mapped _ (last_of (stamped r.slot.first_ts all)) counts e in
+    let all = parts (stamped r.slot.first_ts (sendings (r ∷ rs))) in
+    let sent = map (goes k None) (numbered k r.slot.first_seq all) in
+    let there = mapped _ (last_of (stamped r.slot.first_ts (sendings (r ∷ rs)))) counts e in
     record {
       ssrc = sym (ap (λ (c : Counts). c.ssrc) there.1);
-      packets = sym (ap (λ (c : Counts). c.packets) there.1) ∙ ap (λ n. n % 2 ^ 32) (sym (length-numbered k r.slot.first_seq (parts (stamped r.slot.first_ts all))));
+      packets = sym (ap (λ (c : Counts). c.packets) there.1)
+          ∙ ap (λ n. n % 2 ^ 32) (sym (length-map sent numbered_of ∙ length-map (numbered k r.slot.first_seq all) (goes k None) ∙ length-numbered k r.slot.first_seq all));
+      octets = sym (ap (λ (c : Counts). c.octets) there.1) ∙ ap (λ n. n % 2 ^ 32) (sym (video_octets k r.slot.first_seq all));
     }
 
-mix_counted : (k : ℕ) (ts : List Turn) (counts : Counts) → mix_counts_of k ts ≡ Some counts → Counted counts k (length (mixes_of k ts))
-mix_counted k [] counts e = absurd (cc)
-mix_counted k (t ∷ ts) counts e = by (mix_counted k ts counts) t.heard e
+mix_counted : (k : ℕ) (ts : List Turn) (counts : Counts) → HaveFew (map tick_of ts) → mix_counts_of k ts ≡ Some counts → Counted counts k (mixes_of k ts)
+mix_counted k [] counts few e = absurd (cc)
+mix_counted k (t ∷ ts) counts few e = by (mix_counted k ts counts few.1) t.heard e
   where
-    by : (mix_counts_of k ts ≡ Some counts → Counted counts k (length (mixes_of k ts))) → (o : Option Hears) → unwrap_or (option_map (λ h. mix_counts k h.member.first_seq h.member.first_ts (map tick_of (t ∷ ts))) o) (mix_counts_of k ts) ≡ Some counts
-        → Counted counts k (length (unwrap_or (option_map (λ h. mix_list k h.member.first_seq h.member.first_ts (map tick_of (t ∷ ts))) o) (mixes_of k ts)))
+    by : (mix_counts_of k ts ≡ Some counts → Counted counts k (mixes_of k ts)) → (o : Option Hears) → unwrap_or (option_map (λ h. mix_counts k h.member.first_seq h.member.first_ts (map tick_of (t ∷ ts))) o) (mix_counts_of k ts) ≡ Some counts
+        → Counted counts k (unwrap_or (option_map (λ h. mix_list k h.member.first_seq h.member.first_ts (map tick_of (t ∷ ts))) o) (mixes_of k ts))
     by rest None e = rest e
     by rest (Some h) e =
         let there = mapped _ _ counts e in
-        record { ssrc = sym (ap (λ (c : Counts). c.ssrc) there.1); packets = sym (ap (λ (c : Counts). c.packets) there.1) }
+        record {
+          ssrc = sym (ap (λ (c : Counts). c.ssrc) there.1);
+          packets = sym (ap (λ (c : Counts). c.packets) there.1);
+          octets = sym (ap (λ (c : Counts). c.octets) there.1) ∙ ap (λ n. n % 2 ^ 32) (sym (mix_octets k h.member.first_seq h.member.first_ts (map tick_of (t ∷ ts)) few));
+        }
 
 -- ---- sender reports
 
@@ -89,7 +99,7 @@ module _ (who : Asker) (lanes lane : ℕ) (start : Desk) (before : List Step) wh
 
     -- the counts are of all that was sent first on the lane's stream
     abbrev CountsFirsts : Kind → ℕ → Option Counts → Type 0
-    CountsFirsts kind k o = is_mine lane lanes k ≡ true → (counts : Counts) → o ≡ Some counts → Counted counts k (length (firsts who lanes start (record { kind = kind; ssrc = k }) before))
+    CountsFirsts kind k o = is_mine lane lanes k ≡ true → (counts : Counts) → o ≡ Some counts → Counted counts k (map numbered_of (firsts who lanes start (record { kind = kind; ssrc = k }) before))
 
     one_stream : (m : MemberRow) → Contains at.desk.members m → (kind : Kind) (k : ℕ) → IsOwnStream at.desk m kind k → (o : Option Counts) → CountsFirsts kind k o → AllByRecursion Is (own_tells who lane lanes at moment m k o)
     one_stream m there kind k own o counted = by (is_mine lane lanes k) refl
@@ -97,8 +107,23 @@ module _ (who : Asker) (lanes lane : ℕ) (start : Desk) (before : List Step) wh
         told : is_mine lane lanes k ≡ true → (p : Option Counts) → o ≡ p → AllByRecursion Is (tells who at moment m k p)
         told mine None e = tt
         told mine (Some counts) e =
-            let c = counted mine counts e in
-            (record { version = refl; item = refl; member = m; of_desk = there; to = refl; kind = kind; own = own; counts = counts; bytes = refl; ssrc = c.ssrc; packets = c.packets }, tt)
+            let c = counted mine counts e in (
+              record {
+                version = refl;
+                item = refl;
+                member = m;
+                of_desk = there;
+                to = refl;
+                kind = kind;
+                own = own;
+                counts = counts;
+                bytes = refl;
+                ssrc = c.ssrc;
+                packets = c.packets ∙ ap (λ n. n % 2 ^ 32) (length-map (firsts who lanes start (record { kind = kind; ssrc = k }) before) numbered_of);
+                octets = c.octets;
+              },
+              tt,
+            )
 
         by : (b : Bool) → is_mine lane lanes k ≡ b → AllByRecursion Is (cond b (tells who at moment m k o) [])
         by false e = tt
@@ -108,18 +133,14 @@ module _ (who : Asker) (lanes lane : ℕ) (start : Desk) (before : List Step) wh
         (audios : (k : ℕ) → map numbered_of (firsts who lanes start (record { kind = Kind.mix; ssrc = k }) before) ≡ mixes k (given_of (visits (k % lanes) start before))) where
       video_firsts : (k : ℕ) → CountsFirsts Kind.video k (video_counts k (routed k (visits lane start before)))
       video_firsts k mine counts e =
-          let c = video_counted k (routed k (visits lane start before)) counts e in
-          let sent : length (firsts who lanes start (record { kind = Kind.video; ssrc = k }) before) ≡ length (packets k (visits lane start before)) =
-          ap (λ (es : List Sent). length es) (videos k ∙ ap (λ j. map (goes k None) (packets k (visits j start before))) (eqb-true (k % lanes) lane mine)) ∙ length-map (packets k (visits lane start before)) (goes k None) in
-          record { ssrc = c.ssrc; packets = c.packets ∙ ap (λ n. n % 2 ^ 32) (sym sent) }
+          let all = videos k ∙ ap (λ j. map (goes k None) (packets k (visits j start before))) (eqb-true (k % lanes) lane mine) in
+          subst (λ (es : List Sent). Counted counts k (map numbered_of es)) (sym all) (video_counted k (routed k (visits lane start before)) counts e)
 
       mix_firsts : (k : ℕ) → CountsFirsts Kind.mix k (mix_counts_of k (turns k (given_of (visits lane start before))))
       mix_firsts k mine counts e =
-          let c = mix_counted k (turns k (given_of (visits lane start before))) counts e in
-          let es = firsts who lanes start (record { kind = Kind.mix; ssrc = k }) before in
-          let sent : length es ≡ length (mixes k (given_of (visits lane start before))) =
-          sym (length-map es numbered_of) ∙ ap (λ ps. length ps) (audios k ∙ ap (λ j. mixes k (given_of (visits j start before))) (eqb-true (k % lanes) lane mine)) in
-          record { ssrc = c.ssrc; packets = c.packets ∙ ap (λ n. n % 2 ^ 32) (sym sent) }
+          let past = given_of (visits lane start before) in
+          let all = audios k ∙ ap (λ j. mixes k (given_of (visits j start before))) (eqb-true (k % lanes) lane mine) in
+          subst (Counted counts k) (sym all) (mix_counted k (turns k past) counts (few_turns k past) e)
 
       one_member : (m : MemberRow) → Contains at.desk.members m → AllByRecursion Is (lanes_reports who lane lanes (visits lane start before) at moment m)
       one_member m there =

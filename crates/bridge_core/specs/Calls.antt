@@ -1,4 +1,4 @@
--- How the core answers calls of the desk.
+-- How the core answers calls of the desk (own).
 use Rattle.std.specs.Prelude.{◌≡◌, ◌≢◌, ℕ, ◌+◌, true, not, ◌||◌, nat_lt, if◌then◌else◌, nat_eq, List, [], ◌∷◌, ◌++◌, length, Option, None, Some}
 use Rattle.desk_rows.specs.Edit.{EditOf, inverse}
 use Rattle.desk_rows.specs.Exchange.{fits, after}
@@ -7,13 +7,12 @@ use Rattle.desk_edit.specs.declared.command.Call.TheVariants.{Apply, Undo, Redo}
 use Rattle.desk_edit.specs.declared.refusal.Refusal.{Refusal}
 use Rattle.desk_edit.specs.declared.refusal.Refusal.TheVariants.{LogFull, OutOfMemory}
 use Rattle.desk_edit.specs.Commands.{desk_after}
-use Rattle.desk_edit.specs.Calls.{refusal_at}
+use Rattle.desk_edit.specs.Calls.{call_limit, refusal_at}
 use Rattle.intake.specs.Names.{is_name}
 use Rattle.bridge_core.specs.declared.fault.CoreFault.{CoreFault}
 use Rattle.bridge_core.specs.declared.fault.CoreFault.TheVariants.{BadLanes, BadSettings}
 use Rattle.bridge_core.specs.declared.reply.Reply.{Reply}
 use Rattle.bridge_core.specs.declared.reply.Reply.TheVariants.{Accepted, Refused}
-use Rattle.bridge_core.specs.Sound.{most_calls}
 use Rattle.bridge_core.specs.Steps.{CoreOf}
 
 -- the most lanes that a core may have (own)
@@ -69,5 +68,5 @@ OnAccepted (Refused at why) P = Unit {0}
 
 -- what a refusal by `plan` is told as: want of memory comes after the log
 abbrev pub before_memory : Refusal → ℕ → Refusal
-before_memory OutOfMemory version = if nat_eq version most_calls then LogFull else OutOfMemory
+before_memory OutOfMemory version = if nat_eq version call_limit then LogFull else OutOfMemory
 before_memory why version = why

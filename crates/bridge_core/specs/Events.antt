@@ -1,4 +1,4 @@
--- What happens to a bridge: accepted calls of the desk and items of the lanes, in any order.
+-- What happens to a bridge: accepted calls of the desk and items of the lanes, in any order (own).
 use Rattle.std.specs.Prelude.{◌≡◌, ℕ, true, List, [], ◌∷◌, length}
 use Rattle.desk_rows.specs.Desk.{good}
 use Rattle.desk_edit.specs.declared.command.Call.{Call}

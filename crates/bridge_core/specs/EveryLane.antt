@@ -1,4 +1,4 @@
--- Items that are given to every lane.
+-- Items that are given to every lane (own).
 use Rattle.std.specs.Prelude.{ℕ, List, [], ◌∷◌, map}
 use Rattle.std.specs.List.{flat_map, range_with_len}
 use Rattle.bridge_core.specs.Steps.{Step}

@@ -1,4 +1,4 @@
--- How a core stands to the history of its calls.
+-- How a core stands to the history of its calls (own).
 use Rattle.std.specs.Prelude.{◌≡◌, ◌≢◌, ◌+◌, true, List, [], ◌∷◌, reverse, None, Some}
 use Rattle.desk_rows.specs.Desk.{Desk}
 use Rattle.desk_rows.specs.Edit.{EditOf}

@@ -1,4 +1,4 @@
--- Each stream numbers without a gap, each packet is its version's choice, each frame goes whole to all who chose it, and what is sent again was sent before.
+-- Each stream numbers without a gap, each packet is its version's choice, each frame goes whole to all who chose it, and what is sent again was sent before (RFC 3550 section 5.1 for the numbers; all else is own).
 use Rattle.std.specs.Prelude.{◌≡◌, ℕ, ◌+◌, ◌%◌, ◌^◌, true, Bool, List, [], ◌∷◌, map, Some, None, option_map}
 use Rattle.std.specs.List.{AllByRecursion, Contains}
 use Rattle.desk_rows.specs.declared.row.Member.{Member as MemberRow}

@@ -1,5 +1,5 @@
--- What a lane sends, as a function of all its items, in their order, and of who the bridge is.
-use Rattle.std.specs.Prelude.{ℕ, Bool, true, if◌then◌else◌, List, [], ◌∷◌, ◌++◌, length, map, filter, drop, Option, None, Some, option_map}
+-- What a lane sends, as a function of all its items, in their order, and of who the bridge is (RFC 7667 sections 3.6.1 and 3.6.2; the order of what is sent is own).
+use Rattle.std.specs.Prelude.{ℕ, Bool, true, List, [], ◌∷◌, ◌++◌, length, map, filter, drop, Option, None, Some, option_map}
 use Rattle.std.specs.List.{flat_map, filter_map}
 use Rattle.desk_rows.specs.declared.row.Slot.{Slot as SlotRow}
 use Rattle.desk_rows.specs.Desk.{Desk}
@@ -173,28 +173,25 @@ reports_to who before visit moment m =
     tells who visit moment m m.out_audio (mix_counts_of m.out_audio (turns m.out_audio (given_of before)))
     ++ flat_map (λ s. tells who visit moment m s.out_ssrc (video_counts s.out_ssrc (routed s.out_ssrc before))) (slots_to visit.desk m.member)
 
--- of these, those of the lane's own streams
-abbrev pub own_tells : Asker → (lane lanes : ℕ) → Visit → (moment : ℕ) → MemberRow → (ssrc : ℕ) → Option Counts → List Sent
-own_tells who lane lanes visit moment m ssrc counts = if is_mine lane lanes ssrc then tells who visit moment m ssrc counts else []
-
--- a lane's share of the sender reports to a member: of its mix and then of its slots' streams, those that are the lane's
-abbrev pub lanes_reports : Asker → (lane lanes : ℕ) → List Visit → Visit → (moment : ℕ) → MemberRow → List Sent
-lanes_reports who lane lanes before visit moment m =
-    own_tells who lane lanes visit moment m m.out_audio (mix_counts_of m.out_audio (turns m.out_audio (given_of before)))
-    ++ flat_map (λ s. own_tells who lane lanes visit moment m s.out_ssrc (video_counts s.out_ssrc (routed s.out_ssrc before))) (slots_to visit.desk m.member)
-
 -- ---- all that is sent
 
--- what is sent of an input, after the items before it: a frame to each of its receivers, by place and index; nothing for sound; at a tick to each member what it hears, by place; to who asks again, what it was sent of the stream's last 512 packets; what a member tells of a stream, which goes to nobody; to the source's member, that a picture is lost; and to each member the reports of its streams, by place
+-- what is sent of an input, after the items before it
 abbrev pub sent_of_input : Asker → List Visit → Visit → Input → List Sent
+-- a frame: to each of its receivers its packets, by place and index
 sent_of_input who before visit (frame f) =
     flat_map (λ r. map (goes r.slot.out_ssrc None) (packets_at r.slot.out_ssrc before visit)) (receivers visit.desk f.source f.address)
+-- sound: nothing, before the next tick
 sent_of_input who before visit (audio sound) = []
+-- a tick: to each member what it hears, by place
 sent_of_input who before visit (tick moment) = map (mix_goes visit) (sent_by (given_of before) visit.desk moment)
+-- numbers that are asked for again: to who asks, what it was sent of the stream's last 512 packets
 sent_of_input who before visit (nack request) =
     map (goes request.out_ssrc (Some visit.version)) (resends visit.desk request.from request.numbers (latest room (packets request.out_ssrc before)))
+-- a report block: what its member tells of the stream, which goes to nobody
 sent_of_input who before visit (block told) = notes visit told (member_from visit.desk told.from) (stream_of told.block.ssrc (routed told.block.ssrc before))
+-- a lost picture: to the member of the source that the slot chose, that it is lost
 sent_of_input who before visit (pli loss) = passed_up who visit loss (pli_up visit.desk loss.from loss.out_ssrc)
+-- a report: to each member the sender reports of its streams, by place
 sent_of_input who before visit (report moment) = flat_map (reports_to who before visit moment) visit.desk.members
 
 -- it is about one of the lane's streams

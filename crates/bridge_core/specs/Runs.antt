@@ -1,4 +1,4 @@
--- Cores in a row, from one step to the next.
+-- Cores in a row, from one step to the next (own).
 use Rattle.std.specs.Prelude.{◌≡◌, List, [], ◌∷◌, ◌++◌, length}
 use Rattle.bridge_core.specs.Sent.{Sent}
 use Rattle.bridge_core.specs.Steps.{Step, CoreOf, Takes}

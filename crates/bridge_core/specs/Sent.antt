@@ -1,4 +1,4 @@
--- What lanes send, wherever its octets lie in memory.
+-- What lanes send, wherever its octets lie in memory (own).
 use Rattle.std.specs.Prelude.{ℕ, List, Option}
 use Rattle.rtp_codec.specs.declared.address.Address.{Address}
 use Rattle.reports.specs.declared.noting.LossNote.{LossNote}

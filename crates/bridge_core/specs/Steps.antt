@@ -1,4 +1,4 @@
--- Calls of the desk and items of the lanes, in any order.
+-- Calls of the desk and items of the lanes, in any order (own).
 use Rattle.std.specs.Prelude.{◌≡◌, ℕ, ◌+◌, ◌-◌, ◌^◌, nat_eq, if◌then◌else◌, List, [], ◌∷◌, ◌++◌, length, Some, slice_get}
 use Rattle.desk_rows.specs.Edit.{EditOf}
 use Rattle.desk_rows.specs.Desk.{Desk}

@@ -1,5 +1,5 @@
--- What is told of outgoing streams: reports count what was sent first, notes lead back to it, and a lost picture is asked for where it comes from.
-use Rattle.std.specs.Prelude.{◌≡◌, ℕ, ◌%◌, ◌^◌, true, List, [], length, Some, None, IfSome, option_and_then}
+-- What is told of outgoing streams: reports count what was sent first, notes lead back to it, and a lost picture is asked for where it comes from (RFC 3550 section 6.4, RFC 4585 section 6.3.1; that notes name the packet is own).
+use Rattle.std.specs.Prelude.{◌≡◌, ℕ, ◌+◌, ◌-◌, ◌*◌, ◌%◌, ◌^◌, true, List, [], ◌∷◌, length, map, sum_by, Some, None, IfSome, option_and_then}
 use Rattle.std.specs.List.{Contains}
 use Rattle.rtcp_codec.specs.Compound.{written}
 use Rattle.rtcp_codec.specs.declared.report.ReportBlock.{ReportBlock}
@@ -21,13 +21,19 @@ use Rattle.bridge_core.specs.Sent.Sent.{media, control, note}
 use Rattle.bridge_core.specs.Lanes.{Visit, packets, goes}
 use Rattle.bridge_core.specs.Steps.{Step, visits}
 use Rattle.bridge_core.specs.Named.{Kind, firsts}
+use Rattle.bridge_core.specs.Headline.{numbered_of}
 
 -- This is an outgoing stream of the member: the video of one of its slots, or its mix.
 abbrev pub IsOwnStream : Desk → MemberRow → Kind → ℕ → Type 0
 IsOwnStream d m Kind.video ssrc = (slot : SlotRow) × Contains (slots_to d m.member) slot × (slot.out_ssrc ≡ ssrc)
 IsOwnStream d m Kind.mix ssrc = m.out_audio ≡ ssrc
 
--- At this visit a member is sent the sender report of one of its streams. It counts the packets that were sent on the stream for the first time, and no others.
+-- how many octets of payload a packet without padding and extension has: what is behind the twelve that each begins with and the contributing sources that its first octet counts (RFC 3550 section 5.1)
+abbrev pub payload_size : List ℕ → ℕ
+payload_size [] = 0
+payload_size (first ∷ more) = length (first ∷ more) - (12 + 4 * (first % 16))
+
+-- At this visit a member is sent the sender report of one of its streams. It counts the packets that were sent on the stream for the first time and their octets of payload, and no others.
 pub record IsSenderReport (who : Asker) (lanes : ℕ) (start : Desk) (before : List Step) (visit : Visit) (moment : ℕ) (c : ControlPacket) : Type 0 where
   pub version : c.version ≡ visit.version
   pub item : c.item ≡ visit.item
@@ -40,6 +46,7 @@ pub record IsSenderReport (who : Asker) (lanes : ℕ) (start : Desk) (before : L
   pub bytes : c.bytes ≡ written (sender_packets counts moment who.cname)
   pub ssrc : counts.ssrc ≡ c.ssrc
   pub packets : counts.packets ≡ length (firsts who lanes start (record { kind = kind; ssrc = c.ssrc }) before) % 2 ^ 32
+  pub octets : counts.octets ≡ sum_by (λ p. payload_size p.bytes) (map numbered_of (firsts who lanes start (record { kind = kind; ssrc = c.ssrc }) before)) % 2 ^ 32
 
 -- What is sent at a report is a sender report.
 abbrev pub IsSenderReportOf : Asker → ℕ → Desk → List Step → Visit → (moment : ℕ) → Sent → Type 0

@@ -1,11 +1,11 @@
--- Calls in a row: commands, as many undos, and as many redos.
+-- Calls in a row: commands, as many undos, and as many redos (own).
 use Rattle.std.specs.Prelude.{◌≡◌, ℕ, zero, suc, ◌+◌, ◌≤◌, List, [], ◌∷◌}
 use Rattle.desk_edit.specs.declared.command.Command.{Command}
 use Rattle.desk_edit.specs.declared.command.Call.{Call}
 use Rattle.desk_edit.specs.declared.command.Call.TheVariants.{Apply, Undo, Redo}
 use Rattle.bridge_core.specs.declared.reply.Reply.{Reply}
 use Rattle.bridge_core.specs.declared.reply.Reply.TheVariants.{Accepted}
-use Rattle.bridge_core.specs.Sound.{most_calls}
+use Rattle.desk_edit.specs.Calls.{call_limit}
 use Rattle.bridge_core.specs.Steps.{CoreOf}
 use Rattle.bridge_core.specs.Calls.{Answers}
 
@@ -39,11 +39,11 @@ all_accepted version (suc n) = Accepted (version + 1) ∷ all_accepted (version 
 
 -- this is how a core answers so many undos in a row, for which its log has room
 abbrev pub UndoesInARow : CoreOf → ℕ → List Reply → CoreOf → Type 0
-UndoesInARow first n replies last = (first.version + n ≤ most_calls) × AnswersAll first (undos first.version n) replies last
+UndoesInARow first n replies last = (first.version + n ≤ call_limit) × AnswersAll first (undos first.version n) replies last
 
 -- this is how a core answers so many redos in a row, for which its log has room
 abbrev pub RedoesInARow : CoreOf → ℕ → List Reply → CoreOf → Type 0
-RedoesInARow first n replies last = (first.version + n ≤ most_calls) × AnswersAll first (redos first.version n) replies last
+RedoesInARow first n replies last = (first.version + n ≤ call_limit) × AnswersAll first (redos first.version n) replies last
 
 -- the desk, what is done and what is undone are the same
 abbrev pub IsAsWas : CoreOf → CoreOf → Type 0

@@ -1,4 +1,4 @@
--- What is promised of whole runs.
+-- What is promised of whole runs (own).
 use Rattle.std.specs.Prelude.{◌≡◌, ℕ, ◌%◌, true, if◌then◌else◌, List, ◌∷◌, [], ◌++◌, map, filter, None, Some}
 use Rattle.std.specs.List.{AllByRecursion, flat_map}
 use Rattle.desk_rows.specs.declared.row.Member.{Member as MemberRow}
@@ -17,7 +17,7 @@ use Rattle.bridge_core.specs.Sent.{Sent}
 use Rattle.intake.specs.Inputs.Input.{frame, audio, tick, nack, block, pli, report}
 use Rattle.topology.specs.Looking.{member_from}
 use Rattle.feedback.specs.PassedUp.{pli_up}
-use Rattle.bridge_core.specs.Lanes.{packets, goes, routed, routed_to, stream_of, given_of, passed_up, notes, lanes_reports, sends_at}
+use Rattle.bridge_core.specs.Lanes.{packets, goes, routed, routed_to, stream_of, given_of, passed_up, notes, reports_to, is_lanes, sends_at}
 use Rattle.bridge_core.specs.Steps.{Step, visits, visit_after, sends}
 use Rattle.bridge_core.specs.Named.{Name, Kind, is_on, firsts}
 use Rattle.bridge_core.specs.Telling.{IsSenderReportOf, IsNoteOf, IsPassedUpOf}
@@ -52,10 +52,10 @@ pub record IsAskedFor (who : Asker) (lanes : ℕ) (start : Desk) (before : List 
       ≡ (if is_mine lane lanes loss.out_ssrc then passed_up who (visit_after start before lane (pli loss)) loss (pli_up (visit_after start before lane (pli loss)).desk loss.from loss.out_ssrc) else [])
   pub each : AllByRecursion (IsPassedUpOf who (visit_after start before lane (pli loss)) loss) (sent_after who lanes start before lane (pli loss))
 
--- Each member gets the reports of its streams that are the lane's, and each counts what was sent first.
+-- What is sent is all reports to members about streams that are the lane's, and each counts what was sent first.
 pub record IsReported (who : Asker) (lanes : ℕ) (start : Desk) (before : List Step) (lane moment : ℕ) : Type 0 where
   pub given : sent_after who lanes start before lane (report moment)
-      ≡ flat_map (lanes_reports who lane lanes (visits lane start before) (visit_after start before lane (report moment)) moment) (visit_after start before lane (report moment)).desk.members
+      ≡ filter (is_lanes lane lanes) (flat_map (reports_to who (visits lane start before) (visit_after start before lane (report moment)) moment) (visit_after start before lane (report moment)).desk.members)
   pub each : AllByRecursion (IsSenderReportOf who lanes start before (visit_after start before lane (report moment)) moment) (sent_after who lanes start before lane (report moment))
 
 -- An input is answered by what was promised of its kind: a frame goes to all who chose it, sound sends nothing, at a tick all hear their mixes, and what is sent again leads back; so do notes, lost pictures go to the chosen, and reports count what was sent first.

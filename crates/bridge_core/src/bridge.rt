@@ -4,14 +4,14 @@ ghost use Rattle.std.specs.Prelude.{◌≡◌, ◌+◌, ◌<◌, ◌≤◌, ◌�
 ghost use Rattle.desk_rows.specs.Desk.{blank, good};
 ghost use Rattle.desk_rows.specs.Exchange.{fits, after};
 ghost use Rattle.desk_edit.specs.Commands.{desk_after};
-ghost use Rattle.desk_edit.specs.Calls.{CallHistory, no_calls};
+ghost use Rattle.desk_edit.specs.Calls.{call_limit, CallHistory, no_calls};
 ghost use Rattle.intake.specs.Inputs.{input_of, is_sized};
 ghost use Rattle.intake.specs.Sources.{no_sources};
 ghost use Rattle.intake.specs.Ingested.{ingested_of, datagram_of};
 ghost use Rattle.intake.specs.Names.{is_name};
 ghost use Rattle.intake.specs.Intakes.{Knows, TakesIn, Tells};
 ghost use Rattle.bridge_core.specs.Sent.{sent_of};
-ghost use Rattle.bridge_core.specs.Sound.{AreFresh, most_calls};
+ghost use Rattle.bridge_core.specs.Sound.{AreFresh};
 ghost use Rattle.bridge_core.specs.Steps.{CoreOf, HasTaken, Takes, Step, IsSpent};
 ghost use Rattle.bridge_core.specs.Following.{HasCalled, IsAnswered};
 ghost use Rattle.bridge_core.specs.Calls.{core_fault, most_lanes, Answers, Does, IsReason, OnAccepted, UndoesEdit, RedoesEdit, call_refused, before_memory};
@@ -177,7 +177,7 @@ impl<A: Allocator + Copy> Core<A> {
         ensures fits { IfOk result (λ edit. fits self.now.desk edit ≡ true) }
         ensures does { IfOk result (λ edit. after self.now.desk edit ≡ desk_after self.now.desk command.now) }
         ensures free { OnOk result (call_refused self.now (Call.Apply command.now) ≡ None) }
-        ensures room { OnOk result (self.now.version < most_calls) }
+        ensures room { OnOk result (self.now.version < call_limit) }
         ensures few { length self.now.done ≤ self.now.version }
         ensures why { IfErr result (λ why. IsReason self.now (Call.Apply command.now) why) }
     {
@@ -304,7 +304,7 @@ impl<A: Allocator + Copy> Core<A> {
 
 /// Whether as many calls were accepted as the log can hold.
 fn log_is_full(version: u64) -> bool
-    ensures { result ≡ nat_eq version most_calls }
+    ensures { result ≡ nat_eq version call_limit }
 {
     version == LIMIT as u64
 }

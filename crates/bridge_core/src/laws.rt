@@ -131,7 +131,7 @@ pub fn resends_lead_back()
 }
 
 /// What is sent at a report is sender reports, to members of its version's desk at their addresses, of their own streams. Each counts
-/// all packets that were sent on its stream for the first time, modulo 2^32, and none that was sent again.
+/// all packets that were sent on its stream for the first time and their octets of payload, modulo 2^32, and none that was sent again.
 pub fn reports_count_first_sendings()
     ensures { (who : Asker) (lanes lane : ℕ) (start : Desk) (before : List Step) (moment : ℕ) → good start ≡ true → AreGood before → AllByRecursion (AllByRecursion (IsSenderReportOf who lanes start before (visit_after start before lane (Input.report moment)) moment)) (sent_at who lanes start before (Step.item lane (Input.report moment))) }
 {

@@ -6,9 +6,9 @@ ghost use Rattle.desk_rows.specs.Desk.{Desk};
 ghost use Rattle.forward_rewrite.specs.OwnStreams.{is_mine};
 ghost use Rattle.intake.specs.Inputs.Input.{report as report_input};
 ghost use Rattle.bridge_core.specs.Sent.{sent_of};
-ghost use Rattle.bridge_core.specs.Lanes.{Visit, routed, video_counts, tells, lanes_reports};
+ghost use Rattle.bridge_core.specs.Lanes.{Visit, routed, video_counts, tells};
 ghost use Rattle.bridge_core.specs.LaneState.{visit_of};
-ghost use Rattle.bridge_core.specs.inner.Control.{LeftBy, report_visit, mix_report, slot_report, slot_reports, member_reports};
+ghost use Rattle.bridge_core.specs.inner.Control.{LeftBy, lanes_reports, report_visit, mix_report, slot_report, slot_reports, member_reports};
 
 use crate::egress::Egress;
 use crate::lane::LaneState;

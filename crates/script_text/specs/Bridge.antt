@@ -1,5 +1,5 @@
 -- The bridge of a script: the history of its calls and the steps so far, what is written for a request, and what the
--- bridge is afterwards.
+-- bridge is afterwards (own).
 use Rattle.std.specs.Prelude.{ℕ, ◌+◌, List, [], ◌∷◌, ◌++◌, fold, Option, Some, None}
 use Rattle.std.specs.List.{flat_map}
 use Rattle.desk_rows.specs.Desk.{Desk, blank}

@@ -1,4 +1,4 @@
--- In which order the reasons against a call are asked, want of memory apart: that of the refusals' numbers.
+-- In which order the reasons against a call are asked, want of memory apart: that of the refusals' numbers (own).
 use Rattle.std.specs.Prelude.{ℕ, ◌≤◌, Bool, not, nat_eq, List, [], ◌∷◌, ◌++◌, map}
 use Rattle.undo_log.specs.declared.history.TheConstants.{LIMIT}
 use Rattle.desk_rows.specs.Desk.{Desk}

@@ -1,4 +1,4 @@
--- What a script asks for, and what it is answered, request by request.
+-- What a script asks for, and what it is answered, request by request (own).
 use Rattle.std.specs.Prelude.{ℕ, List, [], ◌∷◌, ◌++◌, Result, Ok, Err}
 use Rattle.bridge_core.specs.Sent.{Sent}
 use Rattle.bridge_core.specs.Steps.{Step}

@@ -1,4 +1,4 @@
--- How a script's bridge reads what comes off the wire, and speaks to senders.
+-- How a script's bridge reads what comes off the wire, and speaks to senders (own).
 use Rattle.std.specs.Prelude.{ℕ, List, [], ◌∷◌, codes, Result, Ok, Err}
 use Rattle.rtcp_codec.specs.declared.nack.NackWord.{NackWord}
 use Rattle.feedback.specs.Upstream.{Asker}

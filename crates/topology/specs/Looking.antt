@@ -1,4 +1,4 @@
--- What a desk has under a number.
+-- What a desk has under a number (own).
 use Rattle.std.specs.Prelude.{ℕ, Bool, false, if◌then◌else◌, nat_eq, Option, None, Some}
 use Rattle.std.specs.Option.{is_some, option_map, option_and_then}
 use Rattle.std.specs.List.{find}

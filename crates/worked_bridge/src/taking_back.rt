@@ -4,9 +4,8 @@ ghost use Rattle.std.specs.Prelude.{◌≡◌, ◌+◌, ◌≤◌, true, fold, l
 ghost use Rattle.undo_log.specs.Timeline.{rewound};
 ghost use Rattle.desk_rows.specs.Edit.{inverse};
 ghost use Rattle.desk_rows.specs.Exchange.{after};
-ghost use Rattle.desk_edit.specs.Calls.{CallHistory};
+ghost use Rattle.desk_edit.specs.Calls.{call_limit, CallHistory};
 ghost use Rattle.bridge_core.specs.Following.{HasCalled};
-ghost use Rattle.bridge_core.specs.Sound.{most_calls};
 
 use bridge_core::{
     Core, Reply, commands_come_back, edits_lead_back, undos_and_redos_are_accepted,
@@ -17,7 +16,7 @@ use std::alloc::Global;
 
 /// How an undo behind an accepted command is answered: where the log has room it is accepted, and the desk is the one before.
 pub fn a_command_comes_back(alloc: Global, core: &mut Core, command: Command) -> Option<Reply>
-    ensures { IfSome result (λ reply. core.old.version + 2 ≤ most_calls → (reply ≡ Reply.Accepted (core.old.version + 2)) × (core.new.desk ≡ core.old.desk) × (core.new.done ≡ core.old.done)) }
+    ensures { IfSome result (λ reply. core.old.version + 2 ≤ call_limit → (reply ≡ Reply.Accepted (core.old.version + 2)) × (core.new.desk ≡ core.old.desk) × (core.new.done ≡ core.old.done)) }
 {
     commands_come_back();
     match core.desk(alloc, 0, Call::Apply(command)) {
@@ -28,7 +27,7 @@ pub fn a_command_comes_back(alloc: Global, core: &mut Core, command: Command) ->
 
 /// An undo that names the last call, where something is done and the log has room.
 pub fn an_undo_is_accepted(alloc: Global, core: &mut Core) -> Reply
-    ensures { 1 ≤ length core.old.done → core.old.version + 1 ≤ most_calls → result ≡ Reply.Accepted (core.old.version + 1) }
+    ensures { 1 ≤ length core.old.done → core.old.version + 1 ≤ call_limit → result ≡ Reply.Accepted (core.old.version + 1) }
 {
     undos_and_redos_are_accepted();
     let last = core.version();
@@ -37,7 +36,7 @@ pub fn an_undo_is_accepted(alloc: Global, core: &mut Core) -> Reply
 
 /// A redo behind it: all is as it was.
 pub fn an_undo_is_redone(alloc: Global, core: &mut Core) -> Reply
-    ensures { 1 ≤ length core.old.done → core.old.version + 2 ≤ most_calls → (result ≡ Reply.Accepted (core.old.version + 2)) × (core.new.desk ≡ core.old.desk) × (core.new.done ≡ core.old.done) × (core.new.undone ≡ core.old.undone) }
+    ensures { 1 ≤ length core.old.done → core.old.version + 2 ≤ call_limit → (result ≡ Reply.Accepted (core.old.version + 2)) × (core.new.desk ≡ core.old.desk) × (core.new.done ≡ core.old.done) × (core.new.undone ≡ core.old.undone) }
 {
     undos_and_redos_are_accepted();
     undos_are_redone();

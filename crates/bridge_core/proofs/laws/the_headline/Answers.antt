@@ -5,7 +5,7 @@ use Rattle.bridge_core.specs.Steps.{Step}
 use Rattle.bridge_core.specs.Headline.{AreGood}
 use Rattle.bridge_core.specs.Events.{steps_of}
 use Rattle.bridge_core.specs.WholeRuns.{IsKept}
-use Rattle.bridge_core.proofs.Shares.{note_share, loss_share, report_share}
+use Rattle.bridge_core.proofs.Shares.{note_share, loss_share}
 use Rattle.bridge_core.proofs.WholeRunLaws.{played, good_before, good_desk}
 use Rattle.bridge_core.proofs.laws.the_headline.Goals as goal
 
@@ -39,7 +39,7 @@ returns-clause-holds c start events sent first last h taken called plays =
             | Input.nack request ↦ (c.resends_lead_back.ensures who lanes lane start before request h all).0
             | Input.block told ↦ record { given = note_share who lanes lane start before told; each = (c.notes_lead_back.ensures who lanes lane start before told h all).0 }
             | Input.pli loss ↦ record { given = loss_share who lanes lane start before loss; each = (c.picture_losses_go_to_the_chosen.ensures who lanes lane start before loss).0 }
-            | Input.report moment ↦ record { given = report_share who lanes lane start before moment; each = (c.reports_count_first_sendings.ensures who lanes lane start before moment h all).0 }
+            | Input.report moment ↦ record { given = refl; each = (c.reports_count_first_sendings.ensures who lanes lane start before moment h all).0 }
           ];
     }
 

@@ -2,7 +2,7 @@ use Rattle.std.proofs.Common.{◌≡◌, ◌+◌, ◌≤◌, ℕ, [], ◌∷◌,
 use Rattle.desk_edit.specs.declared.command.Call.TheVariants.{Apply, Undo}
 use Rattle.bridge_core.specs.declared.reply.Reply.TheVariants.{Accepted}
 use Rattle.bridge_core.specs.Calls.{Answers}
-use Rattle.bridge_core.specs.Sound.{most_calls}
+use Rattle.desk_edit.specs.Calls.{call_limit}
 use Rattle.bridge_core.specs.UndoRuns.{AcceptsAll, UndoesInARow}
 use Rattle.worked_bridge.proofs.Answered.{only}
 use Rattle.worked_bridge.proofs.taking_back.a_command_comes_back.Goals as goal
@@ -10,7 +10,7 @@ use Rattle.worked_bridge.proofs.taking_back.a_command_comes_back.Goals as goal
 two_on : (a b v : ℕ) → a ≡ v + 1 → b ≡ a → b + 1 ≡ v + 2
 two_on a b v first second = omega (arith, first, second)
 
-fits : (a b v : ℕ) → a ≡ v + 1 → b ≡ a → v + 2 ≤ most_calls → b + 1 ≤ most_calls
+fits : (a b v : ℕ) → a ≡ v + 1 → b ≡ a → v + 2 ≤ call_limit → b + 1 ≤ call_limit
 fits a b v first second few = omega (arith, first, second, few)
 
 pub returns-in-Accepted : goal.returns-in-Accepted

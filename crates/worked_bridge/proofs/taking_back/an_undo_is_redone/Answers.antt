@@ -3,15 +3,15 @@ use Rattle.desk_edit.specs.declared.command.Call.TheVariants.{Redo, Undo}
 use Rattle.bridge_core.specs.declared.reply.Reply.{Reply}
 use Rattle.bridge_core.specs.declared.reply.Reply.TheVariants.{Accepted}
 use Rattle.bridge_core.specs.Calls.{Answers}
-use Rattle.bridge_core.specs.Sound.{most_calls}
+use Rattle.desk_edit.specs.Calls.{call_limit}
 use Rattle.bridge_core.specs.UndoRuns.{RedoesInARow, UndoesInARow}
 use Rattle.worked_bridge.proofs.Answered.{only}
 use Rattle.worked_bridge.proofs.taking_back.an_undo_is_redone.Goals as goal
 
-before : (v : ℕ) → v + 2 ≤ most_calls → v + 1 ≤ most_calls
+before : (v : ℕ) → v + 2 ≤ call_limit → v + 1 ≤ call_limit
 before v few = omega (arith, few)
 
-behind : (a v : ℕ) → a ≡ v + 1 → v + 2 ≤ most_calls → a + 1 ≤ most_calls
+behind : (a v : ℕ) → a ≡ v + 1 → v + 2 ≤ call_limit → a + 1 ≤ call_limit
 behind a v is few = omega (arith, is, few)
 
 two_on : (a v : ℕ) → a ≡ v + 1 → a + 1 ≡ v + 2

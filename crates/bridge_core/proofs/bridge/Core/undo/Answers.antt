@@ -1,7 +1,7 @@
 use Rattle.std.proofs.Common.{◌≡◌, ◌≢◌, ◌+◌, false, nat_eq, length, None, sym, subst, ◌∙◌}
 use Rattle.desk_edit.specs.declared.command.Call.TheVariants.{Undo}
 use Rattle.bridge_core.specs.Calls.{call_refused, UndoesEdit}
-use Rattle.bridge_core.specs.Sound.{most_calls}
+use Rattle.desk_edit.specs.Calls.{call_limit}
 use Rattle.bridge_core.specs.Steps.{CoreOf}
 use Rattle.bridge_core.proofs.StepLaws.{undo_free, of_ok}
 use Rattle.bridge_core.proofs.bridge.Core.undo.Goals as goal
@@ -12,7 +12,7 @@ returns-clause-does g c =
     let old : CoreOf = record { version = was.version; desk = was.history.state; done = was.history.done; undone = was.history.undone; lanes = was.lanes.items; intake = was.intake } in
     let new : CoreOf = record { version = was.version + 1; desk = c.undo.new.self.state; done = c.undo.new.self.done; undone = c.undo.new.self.undone; lanes = was.lanes.items; intake = was.intake } in
     let some : length was.history.done ≢ 0 = λ none. c.if-done_len-eq0.false (c.done_len.ensures ∙ none) in
-    let room : nat_eq was.version most_calls ≡ false = sym c.log_is_full.ensures ∙ c.if-log_is_full.false in
+    let room : nat_eq was.version call_limit ≡ false = sym c.log_is_full.ensures ∙ c.if-log_is_full.false in
     let does = of_ok _ c.undo.result c.if-is_err.ensures.value c.undo.ensures.ok in
     subst (λ (core : CoreOf). (call_refused core (Undo c.args.last) ≡ None) × UndoesEdit core new) c.self.view_is
     (undo_free c.args.last was.version (length was.history.done) (length was.history.undone) was.history.state c.if-last-version.false some room, (does.0, does.1, does.2, does.4, does.3))
