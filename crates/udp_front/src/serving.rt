@@ -43,7 +43,7 @@ pub struct Serving {
     seats: Vec<Option<Connection>>,
     /// Datagrams may wait.
     has_datagrams: bool,
-    /// Connections may wait.
+    /// Connections may wait: the next round takes them, and waits for no less because of them.
     has_callers: bool,
     /// What was read last.
     chunk: Vec<u8>,
@@ -117,7 +117,7 @@ impl Serving {
 
     /// Whether there is something to do before the system tells of more.
     fn is_ready(&self) -> bool {
-        self.has_datagrams || self.has_callers || self.seats.iter().flatten().any(|c| c.is_ready())
+        self.has_datagrams || self.seats.iter().flatten().any(|c| c.is_ready())
     }
 
     /// Waits until something has come, and notes what.
@@ -179,10 +179,13 @@ impl Serving {
     /// Takes the connections that wait.
     fn accept(&mut self) {
         for _ in 0..CONNECTIONS {
+            if !self.has_callers {
+                break;
+            }
             match self.tcp.accept() {
                 Ok((stream, _)) => self.seat(stream),
-                Err(_) => {
-                    self.has_callers = false;
+                Err(error) => {
+                    self.has_callers = error.kind() != ErrorKind::WouldBlock;
                     return;
                 }
             }
