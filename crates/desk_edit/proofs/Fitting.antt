@@ -1,22 +1,18 @@
 -- An edit fits where the rows that come are sound and those that stay remain so.
-use Rattle.std.proofs.Common.{◌≡◌, ◌+◌, ◌≤◌, nat_lt, Bool, true, false, not, List, [], ◌∷◌, refl, sym, ap, ◌∙◌, arith}
+use Rattle.std.proofs.Common.{◌≡◌, ◌+◌, ◌≤◌, Bool, true, false, not, [], ap, arith}
 use Rattle.std.specs.Prelude.{count_by}
-use Rattle.std.specs.List.{list_any, list_all}
+use Rattle.std.specs.List.{list_all}
 use Rattle.std.proofs.lemmas.Bool.{and_from, or_left, or_right}
 use Rattle.desk_rows.specs.declared.row.Row.{Row}
 use Rattle.desk_rows.specs.declared.row.Row.TheVariants.{Member}
-use Rattle.desk_rows.specs.declared.row.Member.{Member as MemberRow}
 use Rattle.desk_rows.specs.declared.row.Kind.TheVariants as kinds
 use Rattle.desk_rows.specs.Kinds.{is_of}
-use Rattle.desk_rows.specs.Order.{is_in, without_rows}
-use Rattle.desk_rows.specs.laws.OrderLaws.{from_each}
-use Rattle.desk_rows.specs.Places.{take_at}
-use Rattle.desk_rows.specs.Edit.{EditOf, outs, ins}
+use Rattle.desk_rows.specs.Edit.{EditOf, ins}
 use Rattle.desk_rows.specs.Desk.{Desk, good, rows_of, is_within_limits, is_named_there, is_alone, obeys}
 use Rattle.desk_rows.specs.Exchange.{exchanged, fits}
 use Rattle.desk_rows.specs.inner.Judged.{keeps_names, moves, is_shaken, all_come, all_stay, is_sound, stays_sound, go_count, come_count}
 use Rattle.desk_rows.specs.laws.Laws.{Apt, good_order, fits_from}
-use Rattle.desk_rows.proofs.Counts.{before_count, after_count, any_count, some_count, count_some, two_alls}
+use Rattle.desk_rows.proofs.Counts.{before_count, after_count}
 use Rattle.desk_rows.proofs.Judging.{sound_good}
 
 -- what is to be shown of an edit
@@ -46,15 +42,6 @@ count_stays p d e g a none =
     let later = after_count p d e a in
     omega (arith, before, later, none)
 
-pub any_stays : (p : Row → Bool) (d : Desk) (e : EditOf) → good d ≡ true → Apt d e → go_count p e ≡ 0 → list_any p (rows_of d) ≡ true → list_any p (rows_of (exchanged d e)) ≡ true
-any_stays p d e g a none h =
-    let n = count_stays p d e g a none in
-    let some = some_count p (rows_of d) h in
-    count_some p (rows_of (exchanged d e)) (omega (arith, n, some))
-
-pub none_counts : (p : Row → Bool) (rs : List Row) → list_any p rs ≡ false → count_by p rs ≡ 0
-none_counts p rs h = let e : nat_lt 0 (count_by p rs) ≡ false = sym (any_count p rs) ∙ h in grind (arith, e)
-
 -- ---- soundness
 
 pub sound : (d : Desk) (r : Row) → is_named_there d r ≡ true → is_alone d r ≡ true → obeys d r ≡ true → is_sound d r ≡ true
@@ -70,10 +57,3 @@ stays_calm moved d e r a b = and_from _ _ a (or_left _ _ (ap not b))
 pub stays_asked : (moved : Bool) (d : Desk) (e : EditOf) (r : Row) → keeps_names e r ≡ true → obeys (exchanged d e) r ≡ true → stays_sound moved d e r ≡ true
 unfolding stays_sound
 stays_asked moved d e r a b = and_from _ _ a (or_right _ _ b)
-
--- what holds of every member that stays and of every other row holds of all that stay
-pub all_remain : (q : Row → Bool) (d : Desk) (e : EditOf) → ((m : MemberRow) → q (Member m) ≡ true) → ((r : Row) → is_in (without_rows (outs e) d.others) r ≡ true → q r ≡ true) → all_stay q d e ≡ true
-all_remain q d e members others = two_alls Member q (take_at e.taken.members d.members) (without_rows (outs e) d.others) ∙ and_from _ _ (each (take_at e.taken.members d.members)) (from_each q (without_rows (outs e) d.others) others) where
-  each : (ms : List MemberRow) → list_all (λ m. q (Member m)) ms ≡ true
-  each [] = refl
-  each (m ∷ ms) = and_from _ _ (members m) (each ms)

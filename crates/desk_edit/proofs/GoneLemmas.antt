@@ -56,10 +56,6 @@ filter_wider p q (x ∷ xs) each = by (q x) refl (p x) refl (filter_wider p q xs
   by false e true f rest = absurd (true_false (sym (each x f) ∙ e))
   by false e false f rest = rest
 
-none_any : {X : Type 0} (p : X → Bool) (xs : List X) → ((x : X) → p x ≡ false) → list_any p xs ≡ false
-none_any p [] each = refl
-none_any p (x ∷ xs) each = (λ i. each x i || none_any p xs each i)
-
 pub is_nothing : (xs : List Row) (n : ℕ) → length xs ≡ n → nat_eq n 0 ≡ true → xs ≡ []
 is_nothing [] n is h = refl
 is_nothing (x ∷ xs) n is h = let none = eqb-true n 0 h in absurd (omega (arith, is, none))

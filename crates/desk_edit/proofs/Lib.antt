@@ -1,7 +1,6 @@
 pub mod Dependence
 pub mod Cases
 pub mod GoingLemmas
-pub mod PickingLemmas
 pub mod Moves
 pub mod Fitting
 pub mod Putting

@@ -16,13 +16,6 @@ use Rattle.desk_rows.specs.laws.PlaceLaws.{count_next}
 use Rattle.desk_edit.specs.Commands.{into_room, with_member_in}
 use Rattle.desk_edit.specs.inner.Moving.{row_into_room}
 
--- a member keeps its number, whatever room it is in
-same_number : (member room : ℕ) (m : Member) → (into_room member room m).member ≡ m.member
-same_number member room m = by (nat_eq m.member member) where
-  by : (b : Bool) → (cond b (record m { room = room }) m).member ≡ m.member
-  by true = refl
-  by false = refl
-
 pub same_key_in : (member room : ℕ) (m : Member) (key : Key) → has_key key (rows.Member (into_room member room m)) ≡ has_key key (rows.Member m)
 same_key_in member room m key = by (nat_eq m.member member) where
   by : (b : Bool) → has_key key (rows.Member (cond b (record m { room = room }) m)) ≡ has_key key (rows.Member m)

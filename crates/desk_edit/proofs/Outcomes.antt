@@ -39,9 +39,6 @@ is_memory : Refusal → Bool
 is_memory refusals.OutOfMemory = true
 is_memory _ = false
 
-tells_else : List (Bool × Refusal) → Bool
-tells_else cs = list_all (λ c. not (is_memory c.1)) cs
-
 first_else : (cs : List (Bool × Refusal)) → list_all (λ c. not (is_memory c.1)) cs ≡ true → first_case cs ≡ Some refusals.OutOfMemory → ⊥
 unfolding is_memory
 first_else [] all h = cc

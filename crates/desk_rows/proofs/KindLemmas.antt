@@ -2,7 +2,7 @@
 use Rattle.std.proofs.Common.{◌≡◌, ℕ, ◌≤◌, nat_le, Bool, true, false, cond, not, append-nil, List, [], ◌∷◌, ◌++◌, map, filter, length, refl, sym, ap, ◌∙◌, arith, Some, None}
 use Rattle.std.specs.Prelude.{count_by}
 use Rattle.std.specs.List.{find, list_all}
-use Rattle.std.proofs.lemmas.Bool.{and_parts, and_from}
+use Rattle.std.proofs.lemmas.Bool.{and_parts}
 use Rattle.desk_rows.specs.declared.row.Row.{Row}
 use Rattle.desk_rows.specs.declared.row.Row.TheVariants as rows
 use Rattle.desk_rows.specs.declared.row.Member.{Member}
@@ -16,7 +16,7 @@ use Rattle.desk_rows.specs.Order.{in_order}
 use Rattle.desk_rows.specs.Limits.{room_limit, member_limit, source_limit, slot_limit, gain_limit}
 use Rattle.desk_rows.specs.laws.OrderLaws.{not_true}
 use Rattle.desk_rows.specs.laws.PlaceLaws.{count_next}
-use Rattle.desk_rows.specs.Desk.{Desk, good, count_of, is_within_limits}
+use Rattle.desk_rows.specs.Desk.{Desk, good, count_of}
 use Rattle.desk_rows.specs.laws.Laws.{good_parts}
 
 members_first : (ms : List Member) (os : List Row) → filter (is_of kinds.Member) (map rows.Member ms ++ os) ≡ map rows.Member ms ++ filter (is_of kinds.Member) os
@@ -126,8 +126,3 @@ within_parts d g =
     record { rooms = at_most _ _ rooms.0; members = at_most _ _ members.0; sources = at_most _ _ sources.0; slots = at_most _ _ slots.0; gains = at_most _ _ gains.0 } where
       at_most : (m n : ℕ) → nat_le m n ≡ true → m ≤ n
       at_most m n h = grind (arith, h)
-
-pub within_from : (d : Desk) → Within d → is_within_limits d ≡ true
-within_from d w = and_from _ _ (most _ _ w.rooms) (and_from _ _ (most _ _ w.members) (and_from _ _ (most _ _ w.sources) (and_from _ _ (most _ _ w.slots) (and_from _ _ (most _ _ w.gains) refl)))) where
-  most : (m n : ℕ) → m ≤ n → nat_le m n ≡ true
-  most m n h = grind (arith, h)

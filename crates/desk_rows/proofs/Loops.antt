@@ -1,12 +1,12 @@
 -- Steps of loops over rows.
-use Rattle.std.proofs.Common.{◌≡◌, ℕ, zero, suc, ◌<◌, ◌≤◌, ◌⊎◌, inl, inr, Bool, true, false, ◌&&◌, List, [], ◌∷◌, ◌++◌, length, get_or, nat_eq, refl, sym, ap, ◌∙◌, arith}
+use Rattle.std.proofs.Common.{◌≡◌, ℕ, zero, suc, ◌<◌, ◌≤◌, ◌⊎◌, inl, inr, Bool, true, false, ◌&&◌, List, [], ◌∷◌, ◌++◌, length, get_or, refl, sym, ap, ◌∙◌, arith}
 use Rattle.std.specs.List.{list_all, remove}
 use Rattle.std.proofs.lemmas.Bool.{and_parts, and_from, cases_Bool}
 use Rattle.desk_rows.specs.Row.{same_row}
 use Rattle.desk_rows.specs.declared.row.Row.TheVariants as rows
 use Rattle.desk_rows.specs.Places.{take_at, can_take, is_at}
 use Rattle.desk_rows.specs.laws.PlaceLaws.{at_within}
-use Rattle.desk_rows.specs.Order.{precedes, precedes_head, in_order, have_same_keys}
+use Rattle.desk_rows.specs.Order.{precedes, precedes_head, in_order}
 use Rattle.desk_rows.specs.laws.OrderLaws.{at_each, from_each, precedes_on}
 use Rattle.desk_rows.specs.declared.row.Member.{Member}
 use Rattle.desk_rows.specs.declared.row.Row.{Row}
@@ -54,7 +54,3 @@ in_order_next r (x ∷ xs) h = by (cases_Bool (in_order (x ∷ xs))) where
   by (inr e) = and_false (list_all (precedes r) (x ∷ xs)) (in_order (x ∷ xs)) e ∙ sym e
 
 -- ---- pairs
-
-pub none_left : (ys : List Row) → nat_eq (length ys) 0 ≡ have_same_keys [] ys
-none_left [] = refl
-none_left (y ∷ ys) = grind arith

@@ -1,5 +1,5 @@
 -- The members of a room, in the table of members by room.
-use Rattle.std.proofs.Common.{◌≡◌, ℕ, ◌+◌, ◌≤◌, Bool, true, false, cond, ◌&&◌, List, [], ◌∷◌, length, filter, nat_eq, refl, sym, ap, ◌∙◌, arith}
+use Rattle.std.proofs.Common.{◌≡◌, ℕ, ◌≤◌, Bool, true, false, cond, ◌&&◌, List, [], ◌∷◌, length, filter, nat_eq, refl, sym, ap, arith}
 use Rattle.std.specs.Prelude.{count_by}
 use Rattle.desk_rows.specs.declared.row.Member.{Member}
 use Rattle.desk_rows.specs.Desk.{Desk, good}

@@ -105,10 +105,6 @@ not_among t ts (x ∷ xs) h =
         | inr f ↦ f
       ]
 
--- the first of those that go is the first row
-pub first_goes : (t x : Row) (ts xs : List Row) → in_order (x ∷ xs) ≡ true → same_row x t ≡ true → without_rows (t ∷ ts) (x ∷ xs) ≡ without_rows (t ∷ ts) xs
-first_goes t x ts xs h e = ap (λ b. cond (not (b || is_in ts x)) (x ∷ without_rows (t ∷ ts) xs) (without_rows (t ∷ ts) xs)) e
-
 -- a row that stands not behind the first of those that go stays, unless it is that one
 pub first_stays : (t x : Row) (ts xs : List Row) → in_order (t ∷ ts) ≡ true → precedes t x ≡ false → same_row x t ≡ false → without_rows (t ∷ ts) (x ∷ xs) ≡ x ∷ without_rows (t ∷ ts) xs
 first_stays t x ts xs h late other =

@@ -71,11 +71,6 @@ pub opened_none : (k : Kept) (taken : List NumberedPacket) (cut : ℕ) (earlier 
 opened_none k [] cut earlier p h none = opened_first k.cells cut earlier p (λ n. ap (λ o. of_number o n) ((h.empty none).1 (n % 256)))
 opened_none k (q ∷ qs) cut earlier p h none = absurd (let e : None ≡ Some (greatest (q ∷ qs)) = sym none ∙ h.greatest in cc)
 
-pub opened_some : (k : Kept) (taken : List NumberedPacket) (cut : ℕ) (earlier : List WholeFrame) (p : NumberedPacket)
-    → IsAt k (of taken cut earlier) → is_some k.greatest ≡ true → Tied (held k.cells None) (frames_of (of taken cut earlier)) (opened (of taken cut earlier) p) k.walk []
-opened_some k [] cut earlier p h some = absurd (let e : false ≡ true = sym (ap is_some h.greatest) ∙ some in cc)
-opened_some k (q ∷ qs) cut earlier p h some = h.tied
-
 pub place_late : (e : Epoch) (p : NumberedPacket) → p.number < next_of (opened e p) → place_of e p ≡ Late
 place_late e p h =
     let b : nat_lt p.number (next_of (opened e p)) ≡ true = grind (arith, nat_tests) in

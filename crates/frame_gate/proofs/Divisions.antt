@@ -33,11 +33,6 @@ is_nil-push (x ∷ xs) un = refl
 pub differs-nil : (p : NumberedPacket) → differs [] p ≡ false
 differs-nil p = elim (is_empty p) as (λ b. (not b && false) ≡ false) [ true ↦ refl | false ↦ refl ]
 
--- the frames of a division more
-frames-first : (closed : List (List NumberedPacket)) (un : List NumberedPacket) → is_nil closed ≡ true → frames_in (of (closed ++ un ∷ []) []) ≡ frames_in (of closed un)
-frames-first [] un h = refl
-frames-first (x ∷ xs) un h = cc
-
 frames-later : (closed : List (List NumberedPacket)) (un : List NumberedPacket) → is_nil closed ≡ false → frames_in (of (closed ++ un ∷ []) []) ≡ frames_in (of closed un) ++ frame_of un ∷ []
 frames-later [] un h = cc
 frames-later (x ∷ xs) un h = map-append frame_of xs (un ∷ [])
@@ -55,13 +50,6 @@ closes_with at cut given earlier d w out more h frames =
       piece = λ _. tt;
       frames = frames;
     }
-
-pub closes_first : (at : ℕ → Option NumberedPacket) (cut : ℕ) (given earlier : List WholeFrame) (d : Divided) (w : Walk) (out : List WholeFrame)
-    → Stands at cut given earlier d w out → w.first ≡ true
-    → Stands at cut given earlier (closes d) (closed_at w) out
-closes_first at cut given earlier d w out h first =
-    closes_with at cut given earlier d w out out h
-    (h.frames ∙ ap (λ fs. earlier ++ fs) (sym (frames-first d.closed d.unclosed (sym h.first ∙ first))))
 
 pub closes_later : (at : ℕ → Option NumberedPacket) (cut : ℕ) (given earlier : List WholeFrame) (d : Divided) (w : Walk) (out : List WholeFrame)
     → Stands at cut given earlier d w out → w.first ≡ false
@@ -150,20 +138,11 @@ joins_stands at cut given earlier d w out p h found same = record {
 parted_yes : (d : Divided) (p : NumberedPacket) → differs d.unclosed p ≡ true → closes d ≡ parted d p
 parted_yes d p e = sym (ap (λ b. cond b (closes d) d) e)
 
-pub parted_no : (d : Divided) (p : NumberedPacket) → differs d.unclosed p ≡ false → d ≡ parted d p
-parted_no d p e = sym (ap (λ b. cond b (closes d) d) e)
-
 pub parts_yes : (at : ℕ → Option NumberedPacket) (cut : ℕ) (given earlier : List WholeFrame) (d : Divided) (v w : Walk) (before out : List WholeFrame) (p : NumberedPacket)
     → Stands at cut given earlier d v before → tells_apart_at v.stamp p ≡ true
     → Stands at cut given earlier (closes d) w out → Stands at cut given earlier (parted d p) w out
 parts_yes at cut given earlier d v w before out p h apart closed =
     subst (λ e. Stands at cut given earlier e w out) (parted_yes d p (h.stamp p ∙ apart)) closed
-
-pub parts_no : (at : ℕ → Option NumberedPacket) (cut : ℕ) (given earlier : List WholeFrame) (d : Divided) (w : Walk) (out : List WholeFrame) (p : NumberedPacket)
-    → Stands at cut given earlier d w out → tells_apart_at w.stamp p ≡ false
-    → Stands at cut given earlier (parted d p) w out
-parts_no at cut given earlier d w out p h apart =
-    subst (λ e. Stands at cut given earlier e w out) (parted_no d p (h.stamp p ∙ apart)) h
 
 -- after a division before it the packet fits the unclosed piece
 pub fits_after : (d : Divided) (p : NumberedPacket) → differs (parted d p).unclosed p ≡ false

@@ -12,10 +12,6 @@ use Rattle.intake.specs.inner.Kept.{KeptOf, Keeps}
 use Rattle.intake.specs.inner.Holding.{Holds, same_key, key_of, kept_at, put_first}
 use Rattle.intake.proofs.Courses.{KeepsAny}
 
--- under the keys of two origins
-same_is : (o p : Origin) → same_key (key_of o) (key_of p) ≡ same_origin o p
-same_is o p = refl
-
 pub kept_story : (o : Origin) (es : List (Key × KeptOf)) (ks : List Known) → Holds es ks → KeepsAny (kept_at (key_of o) es) (story_at o ks)
 kept_story o [] [] h = tt
 kept_story o [] (k ∷ ks) h = absurd h

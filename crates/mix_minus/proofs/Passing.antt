@@ -4,29 +4,13 @@ use Rattle.std.proofs.Common.{get_or, add-one, zero-add, drop-cons}
 use Rattle.std.proofs.lemmas.List.{drop_all}
 use Rattle.std.proofs.lemmas.Int.{ints}
 use Rattle.mix_minus.specs.declared.input.Input.{Input}
-use Rattle.mix_minus.specs.Mix.{scaled, heard, heard_sum, sample_at, sample_sum}
-use Rattle.mix_minus.specs.inner.Passes.{at, Moves, Passes, IsWithin, AreSmall, Raised}
-
-pub scaled_same : (z : ℤ) → scaled z 256 ≡ z
-scaled_same z = grind (arith, ints)
-
--- sums that stay move by 0
-pub unmoved : (x : ℕ → ℤ) (sums : List ℤ) → ((i : ℕ) → x i ≡ pos 0) → Passes x sums sums
-unmoved x sums none = record { moves = λ i lt. by i (none i) }
-  where
-    by : (i : ℕ) → x i ≡ pos 0 → Moves (x i) (at sums i) (at sums i)
-    by i h = record { sum = omega (arith, ints); up = omega (arith, ints); down = omega (arith, ints) }
+use Rattle.mix_minus.specs.Mix.{heard, heard_sum, sample_at, sample_sum}
+use Rattle.mix_minus.specs.inner.Passes.{at, Moves, Passes, IsWithin, AreSmall}
 
 -- After k passes: what the others will add is left.
 pub record Underway (base : ℕ) (rest : ℕ → ℕ → ℤ) (old now : List ℤ) (k : ℕ) : Type 0 where
   pub left : (i : ℕ) → i < length old → at now i +ℤ rest k i ≡ at old i +ℤ rest 0 i
   pub small : (i : ℕ) → i < length old → IsWithin (base + 262144 * k) (at now i)
-
-pub underway_none : (base : ℕ) (rest : ℕ → ℕ → ℤ) (old : List ℤ) → AreSmall base old → Underway base rest old old 0
-underway_none base rest old small = record { left = λ i lt. refl; small = λ i lt. by i (small.small i lt) }
-  where
-    by : (i : ℕ) → IsWithin base (at old i) → IsWithin (base + 262144 * 0) (at old i)
-    by i h = record { low = omega (arith, ints); high = omega (arith, ints) }
 
 pub underway_more : (base : ℕ) (rest : ℕ → ℕ → ℤ) (x : ℕ → ℤ) (old now new : List ℤ) (k : ℕ)
     → length now ≡ length old → ((i : ℕ) → rest k i ≡ x i +ℤ rest (k + 1) i)
@@ -42,19 +26,6 @@ underway_more base rest x old now new k long next pass u = record {
 
     small : (i : ℕ) → Moves (x i) (at now i) (at new i) → IsWithin (base + 262144 * k) (at now i) → IsWithin (base + 262144 * (k + 1)) (at new i)
     small i m h = record { low = omega (arith, ints); high = omega (arith, ints) }
-
--- so many passes leave room for one more
-pub underway_small : (base : ℕ) (rest : ℕ → ℕ → ℤ) (old now : List ℤ) (k : ℕ) → base ≤ 16777216 → length now ≡ length old → k ≤ 64 → Underway base rest old now k → AreSmall 1073741824 now
-underway_small base rest old now k below long few u = record { small = λ i lt. by i (u.small i (subst (λ (n : ℕ). i < n) long lt)) }
-  where
-    by : (i : ℕ) → IsWithin (base + 262144 * k) (at now i) → IsWithin 1073741824 (at now i)
-    by i h = record { low = omega (arith, ints); high = omega (arith, ints) }
-
-pub underway_done : (base : ℕ) (rest : ℕ → ℕ → ℤ) (old now : List ℤ) (k : ℕ) → ((i : ℕ) → rest k i ≡ pos 0) → Underway base rest old now k → Raised (rest 0) old now
-underway_done base rest old now k none u = record { raised = λ i lt. by i (none i) (u.left i lt) }
-  where
-    by : (i : ℕ) → rest k i ≡ pos 0 → at now i +ℤ rest k i ≡ at old i +ℤ rest 0 i → at now i ≡ at old i +ℤ rest 0 i
-    by i n h = omega (arith, ints)
 
 -- the sum of the changes by turn
 abbrev pub turn_sum : ℕ → ℕ → List Input → List ℕ → ℤ

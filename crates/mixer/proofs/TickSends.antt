@@ -95,10 +95,6 @@ none_own lane lanes m (p ∷ ps) other =
 one_own : (lane lanes : ℕ) (m : MemberRow) (p : Numbered) → is_mine lane lanes m.out_audio ≡ true → lanes_own lane lanes (to_member m p ∷ []) ≡ to_member m p ∷ []
 one_own lane lanes m p mine = ap (λ b. cond b (to_member m p ∷ []) []) mine
 
-abbrev first_or : ReadyOf → List ReadyOf → ReadyOf
-first_or d [] = d
-first_or d (r ∷ rs) = r
-
 abbrev member_or : MemberRow → List MemberRow → MemberRow
 member_or d [] = d
 member_or d (m ∷ ms) = m

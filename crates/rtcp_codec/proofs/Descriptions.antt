@@ -112,10 +112,6 @@ items_stand ssrc octets rest e (c, more, fits, h) =
 pub chunk_long : (octets : List ℕ) → HasChunk octets → 4 ≤ length octets
 chunk_long octets (c, rest, fits, h) = omega (arith, ap length (h ∙ chunk_front c rest))
 
--- where there are no items, there is no chunk
-pub no_chunk_without_items : (ssrc : ℕ) (octets rest : List ℕ) → octets ≡ to_be_bytes w32 ssrc ++ rest → (HasItems rest → ⊥) → HasChunk octets → ⊥
-no_chunk_without_items ssrc octets rest e none h = none (items_stand ssrc octets rest e h)
-
 pub same_fill : (size : ℕ) (fill other : List ℕ) → IsFill size fill → IsFill size other → length fill ≡ length other
 same_fill size fill other h k = omega (arith, h.short, h.whole, k.short, k.whole)
 

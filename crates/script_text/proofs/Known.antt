@@ -27,11 +27,6 @@ Appends-same a b x y e h = subst (λ (t : List ℕ). Appends a b t) e h
 pub Appends-then_keeps : (a b c : Option (List ℕ)) (x : List ℕ) → Appends a b x → Keeps b c → Appends a c x
 Appends-then_keeps a b c x h k = Appends-same a c (x ++ []) x (append-nil x) (Appends-then a b c x [] h (Appends-keeps b c k))
 
-pub Keeps-appends : (a b : Option (List ℕ)) → Appends a b [] → Keeps a b
-Keeps-appends None b h = tt
-Keeps-appends (Some xs) None h = h
-Keeps-appends (Some xs) (Some ys) h = h ∙ append-nil xs
-
 -- the value of `&xs[i..]`
 pub tail_is : (i : ℕ) (xs : List ℕ) → take (length xs - i) (drop i xs) ≡ drop i xs
 tail_is i xs = grind (arith, common_steps)

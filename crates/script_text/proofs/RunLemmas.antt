@@ -1,7 +1,7 @@
 -- A run, read by read.
 use Rattle.std.proofs.Common.{◌≡◌, ℕ, List, [], ◌∷◌, ◌++◌, Option, Some, None, Result, Ok, Err, refl, sym, ap, ◌∙◌, subst, append_assoc}
 use Rattle.std.specs.Prelude.{IfSome}
-use Rattle.std.specs.Io.KnownBytes.{Appends, Consumes, Keeps, IsAtEnd}
+use Rattle.std.specs.Io.KnownBytes.{Appends, Consumes, IsAtEnd}
 use Rattle.std.proofs.lemmas.List.{append-nil}
 use Rattle.script_text.specs.declared.fault.RunFault.{RunFault}
 use Rattle.script_text.specs.declared.fault.RunFault.TheVariants as errors
@@ -17,11 +17,6 @@ use Rattle.script_text.proofs.StepLemmas.{goes_then, fails_then, goes_none, none
 pub if_some : {A : Type 0} (o : Option A) (P : A → Type 0) → ((x : A) → o ≡ Some x → P x) → IfSome o P
 if_some None P h = tt
 if_some (Some x) P h = h x refl
-
-pub Consumes-keeps : (a b : Option (List ℕ)) → Keeps a b → Consumes a b []
-Consumes-keeps None b h = tt
-Consumes-keeps (Some xs) None h = h
-Consumes-keeps (Some xs) (Some ys) h = sym h
 
 pub Consumes-then : (a b c : Option (List ℕ)) (x y : List ℕ) → Consumes a b x → Consumes b c y → Consumes a c (x ++ y)
 Consumes-then None b c x y h k = tt

@@ -47,9 +47,6 @@ lines_none last pending nolf = rw (append-nil pending, slice_split_none (λ b. e
 
 -- ---- one octet
 
-pub told_none : (o : Outcome) → told [] o ≡ o
-told_none o = refl
-
 pub told_told : (s t : List ℕ) (o : Outcome) → told s (told t o) ≡ told (s ++ t) o
 told_told s t o = ap (λ (u : List ℕ). record { text = u; fault = o.fault }) (sym (append_assoc s t o.text))
 

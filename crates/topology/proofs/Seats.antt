@@ -215,9 +215,6 @@ stands_at (m ∷ ms) n q h = by (nat_eq m.member n) refl (place_in ms n) h (λ r
 pub seat_there : (d : Desk) (n q : ℕ) (o : Option MemberRow) → good d ≡ true → place_in d.members n ≡ Some q → o ≡ slice_get d.members q → seat_of d n ≡ seat_at (Some q) o
 seat_there d n q o g stands is = (λ i. seat_at (stands i) (member_at d n)) ∙ ap (seat_at (Some q)) (member_row d n (no_members d g) ∙ stands_at d.members n q stands ∙ sym is)
 
-pub seat_nowhere : (d : Desk) (n : ℕ) → place_in d.members n ≡ None → seat_of d n ≡ None
-seat_nowhere d n h = ap (λ o. seat_at o (member_at d n)) h
-
 -- ---- seats
 
 seat_place : (place : Option ℕ) (m : Option MemberRow) (t : Seated MemberRow) → seat_at place m ≡ Some t → place ≡ Some t.place

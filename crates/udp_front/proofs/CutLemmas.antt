@@ -1,10 +1,10 @@
 -- A cut, octet by octet.
 use Rattle.std.proofs.lemmas.Bool.Decides.{nat_tests}
-use Rattle.std.proofs.Common.{◌≡◌, ◌⊎◌, inl, inr, ℕ, ◌+◌, ◌<◌, ◌≤◌, Bool, true, false, cond, not, ◌&&◌, if◌then◌else◌, nat_eq, List, [], ◌∷◌, ◌++◌, length, map, take, refl, sym, ap, ◌∙◌, subst, arith, append_assoc, length-append}
+use Rattle.std.proofs.Common.{◌≡◌, ◌⊎◌, inl, inr, ℕ, ◌+◌, Bool, true, false, cond, not, ◌&&◌, if◌then◌else◌, nat_eq, List, [], ◌∷◌, ◌++◌, length, map, take, refl, sym, ap, ◌∙◌, subst, arith, append_assoc, length-append}
 use Rattle.std.specs.Prelude.{fold, Result, Ok, is_ok}
 use Rattle.std.specs.List.{take_while, list_all}
 use Rattle.std.specs.Str.Lines.{strip_carriage_return}
-use Rattle.std.proofs.lemmas.Bool.{and_parts, and_cases, and_left, and_right, and_from}
+use Rattle.std.proofs.lemmas.Bool.{and_parts, and_cases, and_left, and_right}
 use Rattle.std.proofs.lemmas.List.Folds.{list_all-append}
 use Rattle.std.proofs.lemmas.List.Sums.{take_while-cons, fold-append}
 use Rattle.std.proofs.lemmas.List.{map-append, append-nil}
@@ -118,35 +118,6 @@ lf_step before c k now given given_now x short e empty same more h =
           ∙ (ap (λ (z : List (List ℕ)). z ++ strip_carriage_return c.rest ∷ []) h.lines
           ∙ (append_assoc before given (strip_carriage_return c.rest ∷ [])
           ∙ (ap (λ (z : List ℕ). before ++ (given ++ strip_carriage_return z ∷ [])) (sym (h.stands.pending short)) ∙ ap (λ (z : List (List ℕ)). before ++ z) (sym more)))));
-    })
-
-pub octet_step : (before : List (List ℕ)) (c : Cut) (k : Kept) (given : List (List ℕ)) (x : ℕ) → k.too_long ≡ false → nat_eq x 10 ≡ false → length k.pending < 4096 → Holds before c k given
-    → Holds before (with_octet c x) (record { pending = k.pending ++ x ∷ []; too_long = k.too_long }) given
-octet_step before c k given x short e few h =
-    let s = parts_short c (sym h.stands.long ∙ short) in
-    let is = h.stands.pending short in
-    let fits : is_short (c.rest ++ x ∷ []) ≡ true = (let n : length (c.rest ++ x ∷ []) ≡ length c.rest + 1 = length-append c.rest (x ∷ []) in let m : length k.pending ≡ length c.rest = ap (λ (z : List ℕ). length z) is in rw n (grind (arith, nat_tests))) in
-    rw (with_other c x e)
-    (record {
-      stands = record {
-        long = short ∙ sym (ap not (list_all-append is_short c.ended ((c.rest ++ x ∷ []) ∷ []) ∙ and_from _ _ s.0 (and_from _ _ fits refl)));
-        pending = λ u. ap (λ (z : List ℕ). z ++ x ∷ []) is;
-      };
-      lines = h.lines;
-    })
-
-pub overflow_step : (before : List (List ℕ)) (c : Cut) (k : Kept) (given : List (List ℕ)) (x : ℕ) → k.too_long ≡ false → nat_eq x 10 ≡ false → 4096 ≤ length k.pending → Holds before c k given
-    → Holds before (with_octet c x) (record { pending = k.pending; too_long = true }) given
-overflow_step before c k given x short e many h =
-    let is = h.stands.pending short in
-    let over : is_short (c.rest ++ x ∷ []) ≡ false = (let n : length (c.rest ++ x ∷ []) ≡ length c.rest + 1 = length-append c.rest (x ∷ []) in let m : length k.pending ≡ length c.rest = ap (λ (z : List ℕ). length z) is in rw n (grind (arith, nat_tests))) in
-    rw (with_other c x e)
-    (record {
-      stands = record {
-        long = sym (ap not (list_all-append is_short c.ended ((c.rest ++ x ∷ []) ∷ []) ∙ and_right _ _ (and_left _ _ over)));
-        pending = λ u. absurd (let e : true ≡ false = u in cc);
-      };
-      lines = h.lines;
     })
 
 -- after a stream, these octets

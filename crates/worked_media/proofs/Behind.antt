@@ -1,5 +1,5 @@
 -- What stands at the end of a list that is known in two ways.
-use Rattle.std.proofs.Common.{◌≡◌, ℕ, List, [], ◌∷◌, ◌++◌, length, map, Option, None, Some, IfSome, refl, ap, sym, arith, ◌∙◌}
+use Rattle.std.proofs.Common.{◌≡◌, ℕ, List, [], ◌∷◌, ◌++◌, length, map, Option, None, Some, IfSome, ap, sym, arith, ◌∙◌}
 use Rattle.std.proofs.lemmas.List.{append_assoc, append-nil, append_cancel_left}
 use Rattle.std.specs.List.{slice_get}
 use Rattle.std.specs.Option.{option_map}
@@ -9,17 +9,9 @@ use Rattle.forward_rewrite.specs.Sending.{Sending, Numbered}
 use Rattle.forward_rewrite.specs.Timestamps.{Stamped, last_of}
 use Rattle.forward_rewrite.specs.laws.Laws.{KeepsTime, ts_behind}
 
-pub place-behind : {A : Type 0} (xs : List A) (x : A) → slice_get (xs ++ x ∷ []) (length xs) ≡ Some x
-place-behind [] x = refl
-place-behind (y ∷ xs) x = place-behind xs x
-
 abbrev head_or : {A : Type 0} → A → List A → A
 head_or x [] = x
 head_or x (y ∷ ys) = y
-
--- one behind the same list, known in two ways
-pub one-behind : {A : Type 0} (xs : List A) (x y : A) → xs ++ x ∷ [] ≡ xs ++ y ∷ [] → x ≡ y
-one-behind xs x y e = ap (head_or x) (append_cancel_left xs (x ∷ []) (y ∷ []) e)
 
 abbrev second_or : {A : Type 0} → A → List A → A
 second_or x [] = x
