@@ -51,10 +51,14 @@ least (p ∷ ps) from n = if nat_le from p.number then min p.number (least ps fr
 abbrev pub placed : Epoch → ℕ → Epoch
 placed e n = record { taken = e.taken; cut = least e.taken (next_of e) n; earlier = frames_of e }
 
--- with cuts, at most so many, until n is less than 256 above next
+-- a gate has room for so many numbers in a row, from next on (own)
+abbrev pub gate_room : ℕ
+gate_room = 256
+
+-- with cuts, at most so many, until n lies in the gate's room
 abbrev pub resynced : ℕ → Epoch → ℕ → Epoch
 resynced zero e n = e
-resynced (suc most) e n = if nat_le (next_of e + 256) n then resynced most (placed e n) n else e
+resynced (suc most) e n = if nat_le (next_of e + gate_room) n then resynced most (placed e n) n else e
 
 -- The first packet places the first cut.
 abbrev pub opened : Epoch → NumberedPacket → Epoch
@@ -87,7 +91,7 @@ epoch_of packets = fold after blank packets
 
 -- The packet is taken, and a cut after the first is placed.
 abbrev pub gives_up : Epoch → NumberedPacket → Bool
-gives_up e p = if_taken (place_of e p) (nat_le (next_of (opened e p) + 256) p.number) false
+gives_up e p = if_taken (place_of e p) (nat_le (next_of (opened e p) + gate_room) p.number) false
 
 -- the greatest taken number, if there is one
 abbrev pub top : List NumberedPacket → Option ℕ
@@ -103,6 +107,6 @@ missing_above (Some g) next n = filter (λ k. nat_le next k) (range_with_len (g 
 abbrev pub nacks_of : Epoch → NumberedPacket → List ℤ
 nacks_of e p = if_taken (place_of e p) (map ext_of (missing_above (top e.taken) (next_of (after e p)) p.number)) []
 
--- the most numbers that one packet newly leaves missing: it lies less than 256 above next afterwards
+-- the most numbers that one packet newly leaves missing: it lies in the gate's room afterwards
 abbrev pub most_missing : ℕ
-most_missing = 255
+most_missing = gate_room - 1

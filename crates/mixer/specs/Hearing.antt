@@ -11,7 +11,7 @@ use Rattle.topology.specs.Mixes.{audio_sources, in_room, gain_of}
 use Rattle.playout.specs.Playout.{Play, sample_at, present}
 use Rattle.playout.specs.Playouts.{AudioEvent, PutOf, TakeAll, play_on}
 use Rattle.mix_minus.specs.Mix.{scaled, clamped}
-use Rattle.forward_rewrite.specs.Mixes.{Sound}
+use Rattle.forward_rewrite.specs.Mixes.{Sound, tick_units}
 use Rattle.forward_rewrite.specs.Rates.{audio_rate}
 use Rattle.mixer.specs.declared.voices.Voice.{Voice}
 
@@ -22,9 +22,9 @@ pub data Given : Type 0 where
   put : (source : ℕ) (address : Address) (ts : ℕ) (samples : List ℤ) → Given
   tick : (desk : Desk) (moment : ℕ) → Given
 
--- how many samples 20 ms are
+-- how many samples 20 ms are: one for each unit of the timestamp
 abbrev pub tick_length : ℕ
-tick_length = 160
+tick_length = tick_units
 
 -- what the playouts have of it: the samples, and a take from each of them at every tick, whatever the desk says
 abbrev pub to_playouts : Given → AudioEvent

@@ -1,5 +1,5 @@
 -- What a line asks for (own).
-use Rattle.std.specs.Prelude.{◌≡◌, ◌≢◌, ℕ, ◌&&◌, ◌||◌, ◌==◌, not, List, [], ◌∷◌, ◌++◌, map, length, nat_lt, nat_le, slice_index, codes, Option, Some, None, Result, Ok, Err, if◌then◌else◌}
+use Rattle.std.specs.Prelude.{◌≡◌, ◌≢◌, ℕ, Bool, ◌&&◌, ◌||◌, ◌==◌, not, List, [], ◌∷◌, ◌++◌, map, length, nat_lt, nat_le, slice_index, codes, Option, Some, None, Result, Ok, Err, if◌then◌else◌}
 use Rattle.std.specs.List.{list_all, find, join_with_byte}
 use Rattle.std.specs.Str.{bytes_eq}
 use Rattle.desk_edit.specs.declared.command.Call.{Call}
@@ -132,11 +132,15 @@ words_request words = do
   read ← values_of 2 (front_of kind) word.1
   request_with kind read.0 read.1
 
+-- an octet that a line may hold: 32 to 126, what ASCII prints
+abbrev pub is_printable : ℕ → Bool
+is_printable octet = nat_le 32 octet && nat_le octet 126
+
 -- what a line asks for, or its first fault and the place of its word; place 0 is the whole line, and 35 is `#`
 unfoldable pub request_of : List ℕ → Result Request (ℕ × Fault)
 request_of line =
     if nat_lt LINE_LIMIT (length line) then Err (0, LineTooLong)
-    else if not (list_all (λ b. nat_le 32 b && nat_le b 126) line) then Err (0, BadByte)
+    else if not (list_all is_printable line) then Err (0, BadByte)
     else if length line == 0 || slice_index line 0 == 35 then Ok Nothing
     else words_request (words_of line)
 

@@ -37,12 +37,16 @@ value_text (values.Address address) = address_text address
 value_text (values.Codec codec) = codec_text codec
 value_text (values.Media media) = media_text media
 
+-- operators have the numbers from 0 to 15 (own)
+abbrev pub last_operator : ℕ
+last_operator = 15
+
 -- the numbers of a value are in range
 abbrev pub Fits : Value → Type 0
 Fits (values.U16 n) = n ≤ 65535
 Fits (values.U32 n) = n ≤ 4294967295
 Fits (values.U64 n) = n ≤ 18446744073709551615
-Fits (values.Operator n) = n ≤ 15
+Fits (values.Operator n) = n ≤ last_operator
 Fits (values.Address address) = IsAddress address
 Fits (values.Codec codec) = Unit {0}
 Fits (values.Media media) = Unit {0}
@@ -57,7 +61,7 @@ abbrev pub value_of : Field → List ℕ → Option Value
 value_of fields.U16 word = option_map values.U16 (number_of 65535 word)
 value_of fields.U32 word = option_map values.U32 (number_of 4294967295 word)
 value_of fields.U64 word = option_map values.U64 (number_of 18446744073709551615 word)
-value_of fields.Operator word = option_map values.Operator (number_of 15 word)
+value_of fields.Operator word = option_map values.Operator (number_of last_operator word)
 value_of fields.Address word = option_map values.Address (address_of word)
 value_of fields.Codec word = option_map values.Codec (codec_of word)
 value_of fields.Media word = option_map values.Media (media_of word)

@@ -16,6 +16,7 @@ ghost use Rattle.bridge_core.specs.Steps.{sends};
 ghost use Rattle.desk_edit.specs.Refusals.{first_case};
 ghost use Rattle.desk_edit.specs.Calls.{refusal_at};
 ghost use Rattle.script_text.specs.Judged.{call_cases, case_numbers, Rises};
+ghost use Rattle.script_text.specs.Values.{last_operator};
 ghost use Rattle.script_text.specs.Words.{words_of, Lacks};
 ghost use Rattle.script_text.specs.Numbers.{number_of, ext_of, IsExt};
 ghost use Rattle.script_text.specs.Addresses.{address_of, address_text, IsAddress};
@@ -72,10 +73,10 @@ pub fn address_words()
 pub fn call_lines()
     ensures read { (c : Call) → IsCall c → call_of 0 (words_of (call_line c)) ≡ Ok c }
     ensures spelled { (line : List ℕ) (c : Call) → call_of 0 (words_of line) ≡ Ok c → (line ≡ call_line c) × IsCall c }
-    ensures desk_read { (op : ℕ) (c : Call) → op ≤ 15 → IsCall c
+    ensures desk_read { (op : ℕ) (c : Call) → op ≤ last_operator → IsCall c
         → words_request (words_of (desk_line op c)) ≡ Ok (Desk op c) }
     ensures desk_spelled { (line : List ℕ) (op : ℕ) (c : Call) → words_request (words_of line) ≡ Ok (Desk op c)
-        → (line ≡ desk_line op c) × (op ≤ 15) × IsCall c }
+        → (line ≡ desk_line op c) × (op ≤ last_operator) × IsCall c }
 {}
 
 /// What is printed of octets in hexadecimal reads back as these octets, and a word that is read

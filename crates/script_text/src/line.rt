@@ -1,12 +1,12 @@
 //! What lines ask for.
 
-ghost use Rattle.std.specs.Prelude.{◌≡◌, ◌≤◌, ◌+◌, ◌&&◌, nat_le, map};
+ghost use Rattle.std.specs.Prelude.{◌≡◌, ◌≤◌, ◌+◌, map};
 ghost use Rattle.std.specs.List.{list_all};
 ghost use Rattle.frame_gate.specs.Frame.{fault_of};
 ghost use Rattle.script_text.specs.Words.{Gives};
 ghost use Rattle.script_text.specs.inner.Cursor.{words_in, size_of, view, sighting};
 ghost use Rattle.script_text.specs.Values.{field_of};
-ghost use Rattle.script_text.specs.Requests.{some_packets, framed, frame_of, desk_of, some_octets, rx_of, tick_of, report_of, show_of, front_of, request_with, words_request, request_of};
+ghost use Rattle.script_text.specs.Requests.{is_printable, some_packets, framed, frame_of, desk_of, some_octets, rx_of, tick_of, report_of, show_of, front_of, request_with, words_request, request_of};
 
 use crate::building::call;
 use crate::fault::{Fault, ParseFault};
@@ -221,7 +221,7 @@ fn words_line<A: Allocator + Copy>(alloc: A, words: Option<&[u8]>) -> Result<Lin
 
 /// Whether each octet is one that a line may hold.
 fn is_printable(line: &[u8]) -> bool
-    ensures { result ≡ list_all (λ b. nat_le 32 b && nat_le b 126) line.now }
+    ensures { result ≡ list_all is_printable line.now }
 {
     line.iter().all(|b| 32 <= *b && *b <= 126)
 }

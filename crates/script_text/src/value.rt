@@ -9,6 +9,9 @@ use crate::spelling::{parse_address, parse_codec, parse_media};
 use desk_rows::{Codec, Media};
 use rtp_codec::Address;
 
+/// The greatest number of an operator.
+const LAST_OPERATOR: u64 = 15;
+
 /// What a word has to spell.
 #[derive(Clone, Copy)]
 pub(crate) enum Field {
@@ -58,7 +61,7 @@ pub(crate) fn parse_value(field: Field, word: &[u8]) -> Option<Value>
             None => None,
             Some(n) => Some(Value::U64(n)),
         },
-        Field::Operator => match number(word, 15) {
+        Field::Operator => match number(word, LAST_OPERATOR) {
             None => None,
             Some(n) => Some(Value::Operator(n as u8)),
         },

@@ -5,6 +5,7 @@ use Rattle.std.specs.Int.{int_max, int_min}
 use Rattle.std.proofs.lemmas.Bool.Decides.{nat_tests}
 use Rattle.std.proofs.Math.Nat.{div-mul-le_self, lt-div-mul-add, mul-div_left, mul-le-mul_right, div-le_of_le-mul, le_trans}
 use Rattle.std.proofs.Math.IntN.{+ℤ_idl, +ℤ_assoc, +ℤ_invr, neg_ℤ-+ℤ, +ℤ-neg_ℤ_cancel}
+use Rattle.rtcp_codec.specs.Report.{least_lost, most_lost}
 use Rattle.source_valid.specs.Reports.{fraction_of}
 use Rattle.source_valid.specs.laws.Losses.{Losses}
 
@@ -64,7 +65,7 @@ difference_down e n =
     ∙ +ℤ_idl (negsuc n)
 
 told : ℤ → ℤ
-told d = int_max (negsuc 8388607) (int_min d (pos 8388607))
+told d = int_max least_lost (int_min d most_lost)
 
 few_lost : (n : ℕ) → n < 2 ^ 23 → told (pos n) ≡ pos n
 unfolding told

@@ -1,9 +1,10 @@
 -- The numbers of a report block (RFC 3550 A.3 and section 6.4.1).
-use Rattle.std.specs.Prelude.{ℕ, ◌-◌, ◌*◌, ◌/◌, ◌^◌, ◌%◌, if◌then◌else◌, nat_eq, min, Option, None, Some, ℤ, pos, negsuc, ◌-ℤ◌}
+use Rattle.std.specs.Prelude.{ℕ, ◌-◌, ◌*◌, ◌/◌, ◌^◌, ◌%◌, if◌then◌else◌, nat_eq, min, Option, None, Some, ℤ, pos, ◌-ℤ◌}
 use Rattle.std.specs.Int.{int_max, int_min}
 use Rattle.source_valid.specs.declared.heard.Heard.{Heard}
 use Rattle.source_valid.specs.declared.timing.Timing.{Timing}
 use Rattle.rtcp_codec.specs.declared.report.ReportBlock.{ReportBlock}
+use Rattle.rtcp_codec.specs.Report.{least_lost, most_lost}
 use Rattle.source_valid.specs.Stretches.{Stretch, greatest_of, expected_of, received_of}
 
 -- the lost part of the expected packets, in 256ths, at most 255; 0 where none was expected, or none lost
@@ -12,7 +13,7 @@ fraction_of expected received = if nat_eq expected 0 then 0 else min (256 * (exp
 
 -- the packets lost, within 24 bits; duplicates make it negative
 abbrev pub lost_of : ℕ → ℕ → ℤ
-lost_of expected received = int_max (negsuc 8388607) (int_min (pos expected -ℤ pos received) (pos 8388607))
+lost_of expected received = int_max least_lost (int_min (pos expected -ℤ pos received) most_lost)
 
 -- the middle 32 bits of the last report's NTP time
 abbrev pub lsr_of : Option Heard → ℕ

@@ -1,5 +1,5 @@
 -- What operators' lines ask for, and what they are answered (own).
-use Rattle.std.specs.Prelude.{◌≡◌, ℕ, Bool, ◌&&◌, not, if◌then◌else◌, nat_le, List, [], ◌∷◌, ◌++◌, codes, decimal, Option, Some, None, Result, Ok, Err}
+use Rattle.std.specs.Prelude.{◌≡◌, ℕ, Bool, not, if◌then◌else◌, List, [], ◌∷◌, ◌++◌, codes, decimal, Option, Some, None, Result, Ok, Err}
 use Rattle.std.specs.List.{list_all}
 use Rattle.std.specs.Str.{bytes_eq}
 use Rattle.desk_edit.specs.declared.command.Call.{Call}
@@ -10,6 +10,7 @@ use Rattle.script_text.specs.declared.fault.Fault.{Fault}
 use Rattle.script_text.specs.declared.fault.Fault.TheVariants.{BadByte, ExtraWord}
 use Rattle.script_text.specs.Words.{cut_of}
 use Rattle.script_text.specs.Calls.{call_of, spoken_words}
+use Rattle.script_text.specs.Requests.{is_printable}
 use Rattle.script_text.specs.RowLines.{show_text}
 use Rattle.script_text.specs.Text.{fault_text, reply_text}
 use Rattle.udp_front.specs.declared.asking.Ask.{Ask}
@@ -45,9 +46,9 @@ abbrev pub asked_in : List ℕ → Option (List ℕ × List ℕ) → Result Ask 
 asked_in line None call = alone_or (alone_of line) call
 asked_in line (Some parts) call = extra_or (alone_of parts.0) call
 
--- each octet is one that a line may hold: 32 to 126
+-- each octet is one that a line may hold
 abbrev pub is_printed : List ℕ → Bool
-is_printed line = list_all (λ octet. nat_le 32 octet && nat_le octet 126) line
+is_printed line = list_all is_printable line
 
 -- what a line asks for, or its first fault and the place of its word; place 0 is the whole line
 unfoldable pub asked_of : List ℕ → Result Ask (ℕ × Fault)

@@ -6,6 +6,7 @@ use Rattle.toml.specs.Data.{Data, integer, as_str}
 use Rattle.rtp_codec.specs.declared.address.Address.{Address}
 use Rattle.intake.specs.Names.{is_name}
 use Rattle.script_text.specs.Addresses.{address_of}
+use Rattle.script_text.specs.Requests.{is_printable}
 
 -- the address that a text spells
 abbrev pub address_in : Data → Option Address
@@ -23,10 +24,6 @@ loopback_in value = option_and_then (λ address. if is_loopback address then Som
 abbrev pub number_in : ℕ → ℕ → Data → Option ℕ
 number_in low high (integer (pos n)) = if nat_le low n && nat_le n high then Some n else None
 number_in low high _ = None
-
--- an octet that is printed: 32 to 126
-abbrev pub is_printable : ℕ → Bool
-is_printable octet = nat_le 32 octet && nat_le octet 126
 
 -- a text that can be a canonical name, all of it printed
 abbrev pub is_cname : List ℕ → Bool

@@ -5,7 +5,8 @@ ghost use Rattle.std.specs.List.{list_all};
 ghost use Rattle.std.specs.Option.{option_map};
 ghost use Rattle.toml.specs.Data.{get_member};
 ghost use Rattle.toml.specs.View.{view, table_view};
-ghost use Rattle.udp_front.specs.SettingValues.{address_in, loopback_in, number_in, is_printable, is_cname, cname_in};
+ghost use Rattle.script_text.specs.Requests.{is_printable};
+ghost use Rattle.udp_front.specs.SettingValues.{address_in, loopback_in, number_in, is_cname, cname_in};
 ghost use Rattle.udp_front.specs.Settings.{key_text, needed, given, is_known, unknown_in};
 ghost use Rattle.udp_front.specs.SettingsTold.{Gives};
 
