@@ -1,29 +1,8 @@
 -- What is known of a row against which nothing stands.
-use Rattle.std.proofs.Common.{◌≡◌, ℕ, ◌<◌, nat_le, Bool, true, false, not, ◌&&◌, List, [], ◌∷◌, ◌++◌, refl, sym, ap, ◌∙◌, arith, Option, Some, None}
-use Rattle.std.specs.Prelude.{count_by}
-use Rattle.std.specs.List.{list_any, list_all}
-use Rattle.std.proofs.lemmas.Bool.{and_parts, and_from}
-use borrow.Author.Tests.{eqb-true}
-use Rattle.desk_rows.specs.declared.row.Row.{Row}
+use Rattle.desk_edit.proofs.Words.{◌≡◌, ℕ, ◌<◌, nat_le, true, false, not, ◌&&◌, List, [], ◌∷◌, ◌++◌, count_by, Option, Some, None, refl, sym, ap, ◌∙◌, eqb-true, leb-false, list_any, list_all, and_parts, and_from, or_parts, not-false, Row, Audio, Key, Claim, room_audio_limit, key_of, same_media, names, is_in_range, other_claims, Desk, room_of, same_room, are_together, all_suit, is_audio_in, is_bridges, true_false, has, is_claimed, first_case, lacking, is_replaced, is_other_claimed, is_ssrc_taken, rule_cases, full_cases, room_is_full, audio_cases, put_cases}
 use Rattle.desk_rows.specs.declared.row.Row.TheVariants as rows
-use Rattle.desk_rows.specs.declared.row.Media.TheVariants.{Audio}
-use Rattle.desk_rows.specs.declared.row.Key.{Key}
-use Rattle.desk_rows.specs.declared.claim.Claim.{Claim}
 use Rattle.desk_rows.specs.declared.claim.Claim.TheVariants as claims
-use Rattle.desk_rows.specs.Limits.{room_audio_limit}
-use Rattle.desk_rows.specs.Row.{key_of, same_media, names, other_claims, is_in_range}
-use Rattle.desk_rows.specs.Desk.{Desk, room_of, same_room, are_together, all_suit, is_audio_in, is_bridges}
-use Rattle.desk_rows.proofs.Counts.{true_false}
-use Rattle.desk_rows.proofs.Unshaken.{neither}
-use Rattle.desk_edit.specs.Refusals.{has, is_claimed, first_case, is_replaced, is_other_claimed, is_ssrc_taken, lacking, rule_cases, full_cases, room_is_full, audio_cases, put_cases}
 use Rattle.desk_edit.proofs.Cases.{NoneHolds, none_holds, none_of_both}
-
-pub not_false : (b : Bool) → not b ≡ false → b ≡ true
-not_false true e = refl
-not_false false e = sym e
-
-pub below : (m n : ℕ) → nat_le m n ≡ false → n < m
-below m n h = grind (arith, h)
 
 pub record Free (d : Desk) (r : Row) : Type 0 where
   pub there : (not (is_replaced r) && has d (key_of r)) ≡ false
@@ -37,19 +16,17 @@ pub record Free (d : Desk) (r : Row) : Type 0 where
 
 all_named : (d : Desk) (ks : List Key) → NoneHolds (lacking d ks) → list_all (has d) ks ≡ true
 all_named d [] h = refl
-all_named d (k ∷ ks) h = and_from _ _ (not_false (has d k) h.0) (all_named d ks h.1)
+all_named d (k ∷ ks) h = and_from _ _ (not-false (has d k) h.0) (all_named d ks h.1)
 
 free_claim : (d : Desk) (c : Claim) → is_other_claimed d c ≡ false → is_ssrc_taken d c ≡ false → (not (is_claimed d c) && not (is_bridges d c)) ≡ true
-free_claim d (claims.Key k) e f = and_from _ _ (ap not e) refl
-free_claim d (claims.Address a) e f = and_from _ _ (ap not e) refl
-free_claim d (claims.Place m i) e f = and_from _ _ (ap not e) refl
-free_claim d (claims.Ssrc s) e f = let both = neither (is_bridges d (claims.Ssrc s)) (is_claimed d (claims.Ssrc s)) f in and_from _ _ (ap not both.1) (ap not both.0)
+free_claim d (claims.Ssrc s) e f = let both = or_parts (is_bridges d (claims.Ssrc s)) (is_claimed d (claims.Ssrc s)) f in and_from _ _ (ap not both.1) (ap not both.0)
+free_claim d c e f = and_from _ _ (ap not e) refl
 
 free_claims : (d : Desk) (cs : List Claim) → list_any (is_other_claimed d) cs ≡ false → list_any (is_ssrc_taken d) cs ≡ false → list_all (λ c. not (is_claimed d c) && not (is_bridges d c)) cs ≡ true
 free_claims d [] e f = refl
 free_claims d (c ∷ cs) e f =
-    let x = neither (is_other_claimed d c) (list_any (is_other_claimed d) cs) e in
-    let y = neither (is_ssrc_taken d c) (list_any (is_ssrc_taken d) cs) f in
+    let x = or_parts (is_other_claimed d c) (list_any (is_other_claimed d) cs) e in
+    let y = or_parts (is_ssrc_taken d c) (list_any (is_ssrc_taken d) cs) f in
     and_from _ _ (free_claim d c x.0 y.0) (free_claims d cs x.1 y.1)
 
 less_audio : (d : Desk) (r : Row) → NoneHolds (audio_cases d r) → (room : ℕ) → is_audio_in d room r ≡ true → count_by (is_audio_in d room) d.others < room_audio_limit
@@ -58,20 +35,13 @@ less_audio d (rows.Source s) h room own =
     by (room_of d (rows.Source s)) both.1 (sym (ap (λ b. b && room_is_full d (room_of d (rows.Source s))) both.0) ∙ h.0) where
       by : (o : Option ℕ) → same_room o (Some room) ≡ true → room_is_full d o ≡ false → count_by (is_audio_in d room) d.others < room_audio_limit
       by None e f = absurd (true_false (sym e))
-      by (Some n) e f = below room_audio_limit (count_by (is_audio_in d room) d.others) (ap (λ k. nat_le room_audio_limit (count_by (is_audio_in d k) d.others)) (sym (eqb-true n room e)) ∙ f)
-less_audio d (rows.Room r) h room own = absurd (true_false (sym own))
-less_audio d (rows.Member r) h room own = absurd (true_false (sym own))
-less_audio d (rows.Slot r) h room own = absurd (true_false (sym own))
-less_audio d (rows.Sub r) h room own = absurd (true_false (sym own))
-less_audio d (rows.Mute r) h room own = absurd (true_false (sym own))
-less_audio d (rows.Gain r) h room own = absurd (true_false (sym own))
-less_audio d (rows.Pin r) h room own = absurd (true_false (sym own))
-less_audio d (rows.Floor r) h room own = absurd (true_false (sym own))
+      by (Some n) e f = leb-false room_audio_limit (count_by (is_audio_in d room) d.others) (ap (λ k. nat_le room_audio_limit (count_by (is_audio_in d k) d.others)) (sym (eqb-true n room e)) ∙ f)
+less_audio d r h room own = cc
 
 pub free_row : (d : Desk) (r : Row) → first_case (put_cases d r) ≡ None → Free d r
 free_row d r h =
     let all = none_holds (put_cases d r) h in
-    let there = neither (not (is_replaced r) && has d (key_of r)) (list_any (is_other_claimed d) (other_claims r)) all.0 in
+    let there = or_parts (not (is_replaced r) && has d (key_of r)) (list_any (is_other_claimed d) (other_claims r)) all.0 in
     let names_and = none_of_both (lacking d (names r)) (rule_cases d r ++ (full_cases d r ++ audio_cases d r)) all.1 in
     let rules_and = none_of_both (rule_cases d r) (full_cases d r ++ audio_cases d r) names_and.1 in
     let rules = rules_and.0 in
@@ -79,9 +49,9 @@ free_row d r h =
     record {
       there = there.0;
       named = all_named d (names r) names_and.0;
-      suits = not_false (all_suit d r) rules.0;
-      together = not_false (are_together d (names r)) rules.1.0;
-      range = not_false (is_in_range r) rules.1.1.1.0;
+      suits = not-false (all_suit d r) rules.0;
+      together = not-false (are_together d (names r)) rules.1.0;
+      range = not-false (is_in_range r) rules.1.1.1.0;
       claims = free_claims d (other_claims r) there.1 rules.1.1.0;
       full = last.0;
       audio = less_audio d r last.1;

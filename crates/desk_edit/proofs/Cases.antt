@@ -1,7 +1,5 @@
 -- Lists of cases, and the first refusal of one.
-use Rattle.std.proofs.Common.{◌≡◌, Bool, true, false, cond, List, [], ◌∷◌, ◌++◌, refl, Some, None}
-use Rattle.desk_edit.specs.declared.refusal.Refusal.{Refusal}
-use Rattle.desk_edit.specs.Refusals.{first_case, or_next}
+use Rattle.desk_edit.proofs.Words.{◌≡◌, Bool, true, false, cond, List, [], ◌∷◌, ◌++◌, Some, None, refl, first_case, or_next, Refusal}
 
 pub first_case-append : (xs ys : List (Bool × Refusal)) → first_case (xs ++ ys) ≡ or_next (first_case xs) (first_case ys)
 first_case-append [] ys = refl

@@ -1,36 +1,16 @@
 -- What goes with a row is what depends on it.
-use Rattle.std.proofs.Common.{◌≡◌, ℕ, ◌<◌, ◌≤◌, nat_lt, zero, suc, Bool, true, ◌&&◌, List, [], ◌∷◌, refl, sym, ap, ◌∙◌, subst, ◌⊎◌, inl, inr, arith}
-use Rattle.std.specs.List.{list_any, list_all}
-use Rattle.std.proofs.lemmas.Bool.{and_parts, and_from, or_left, or_right, or_cases}
-use Rattle.desk_rows.specs.declared.row.Row.{Row}
+use Rattle.desk_edit.proofs.Words.{◌≡◌, ℕ, zero, suc, ◌<◌, ◌≤◌, nat_lt, Bool, true, ◌&&◌, List, [], ◌∷◌, ◌⊎◌, inl, inr, refl, sym, ap, ◌∙◌, subst, arith, list_any, list_all, and_parts, and_from, or_left, or_right, or_cases, Row, Key, Kind, kind_of, key_of, has_key, names, Desk, rows_of, holds, its_key, both_ways, true_false, witness, Names, Depends, IsDependent, goes_within, goes_with, level}
 use Rattle.desk_rows.specs.declared.row.Row.TheVariants as rows
-use Rattle.desk_rows.specs.declared.row.Key.{Key}
-use Rattle.desk_rows.specs.declared.row.Kind.{Kind}
 use Rattle.desk_rows.specs.declared.row.Kind.TheVariants as kinds
-use Rattle.desk_rows.specs.Row.{kind_of, key_of, has_key, names, same_row}
-use Rattle.desk_rows.specs.laws.Equal.{its_key, same_row_is}
-use Rattle.desk_rows.specs.laws.OrderLaws.{both_ways}
-use Rattle.desk_rows.specs.Order.{is_in}
-use Rattle.desk_rows.specs.Desk.{Desk, rows_of, holds}
-use Rattle.desk_rows.proofs.Counts.{true_false, witness}
-use Rattle.desk_edit.specs.inner.Levels.{level}
-use Rattle.desk_edit.specs.Depends.{Names, Depends, IsDependent, goes_within, goes_with}
+use Rattle.desk_edit.proofs.Lists.{row_some}
 
 -- a key that passes, where some do
-key_some : (p : Key → Bool) (ks : List Key) → list_any p ks ≡ true → (k : Key) × (p k ≡ true) × ((q : Key → Bool) → q k ≡ true → list_any q ks ≡ true)
+pub key_some : (p : Key → Bool) (ks : List Key) → list_any p ks ≡ true → (k : Key) × (p k ≡ true) × ((q : Key → Bool) → q k ≡ true → list_any q ks ≡ true) × ((q : Key → Bool) → list_all q ks ≡ true → q k ≡ true)
 key_some p [] h = absurd (true_false (sym h))
 key_some p (k ∷ ks) h =
     elim (or_cases (p k) (list_any p ks) h) [
-      | inl e ↦ (k, e, λ q here. or_left _ _ here)
-      | inr e ↦ let w = key_some p ks e in (w.0, w.1, λ q here. or_right _ _ (w.2 q here))
-    ]
-
-pub row_some : (p : Row → Bool) (rs : List Row) (t : Row) → is_in rs t ≡ true → p t ≡ true → list_any p rs ≡ true
-row_some p [] t h e = absurd (true_false (sym h))
-row_some p (r ∷ rs) t h e =
-    elim (or_cases (same_row t r) (is_in rs t) h) [
-      | inl s ↦ or_left _ _ (subst (λ (x : Row). p x ≡ true) (same_row_is t r s) e)
-      | inr s ↦ or_right _ _ (row_some p rs t s e)
+      | inl e ↦ (k, e, λ q here. or_left _ _ here, λ q all. (and_parts (q k) (list_all q ks) all).0)
+      | inr e ↦ let w = key_some p ks e in (w.0, w.1, λ q here. or_right _ _ (w.2 q here), λ q all. w.3 q (and_parts (q k) (list_all q ks) all).1)
     ]
 
 pub only_dependent : (n : ℕ) (d : Desk) (key : Key) (r : Row) → goes_within n d key r ≡ true → (has_key key r ≡ true) ⊎ IsDependent d key r
@@ -59,39 +39,20 @@ pub own_goes : (n : ℕ) (d : Desk) (key : Key) (s : Row) → has_key key s ≡ 
 own_goes zero d key s h = h
 own_goes (suc n) d key s h = or_left _ _ h
 
-three_at_most : (kind : Kind) → level kind ≤ 3
+pub three_at_most : (kind : Kind) → level kind ≤ 3
 three_at_most kinds.Room = omega arith
-three_at_most kinds.Member = omega arith
-three_at_most kinds.Source = omega arith
-three_at_most kinds.Slot = omega arith
-three_at_most kinds.Sub = omega arith
-three_at_most kinds.Mute = omega arith
-three_at_most kinds.Gain = omega arith
-three_at_most kinds.Pin = omega arith
-three_at_most kinds.Floor = omega arith
+three_at_most _ = omega arith
 
-names_lower : (r : Row) → list_all (λ k. nat_lt (level (kind_of k)) (level (kind_of (key_of r)))) (names r) ≡ true
-names_lower (rows.Room r) = refl
-names_lower (rows.Member m) = refl
-names_lower (rows.Source s) = refl
-names_lower (rows.Slot s) = refl
-names_lower (rows.Sub s) = refl
-names_lower (rows.Mute s) = refl
-names_lower (rows.Gain s) = refl
-names_lower (rows.Pin s) = refl
-names_lower (rows.Floor s) = refl
-
-lower_key : (n : ℕ) (t : Row) (ks : List Key) → list_all (λ k. nat_lt (level (kind_of k)) n) ks ≡ true → list_any (λ k. has_key k t) ks ≡ true → level (kind_of (key_of t)) < n
-lower_key n t [] all h = absurd (true_false (sym h))
-lower_key n t (k ∷ ks) all h =
-    let both = and_parts (nat_lt (level (kind_of k)) n) (list_all (λ k. nat_lt (level (kind_of k)) n) ks) all in
-    elim (or_cases (has_key k t) (list_any (λ k. has_key k t) ks) h) [
-      | inl e ↦ let less : nat_lt (level (kind_of (key_of t))) n ≡ true = ap (λ q. nat_lt (level (kind_of q)) n) (its_key k t e) ∙ both.0 in grind (arith, less)
-      | inr e ↦ lower_key n t ks both.1 e
-    ]
-
+-- what a row names stands below it
 lower : (r t : Row) → Names r t → level (kind_of (key_of t)) < level (kind_of (key_of r))
-lower r t named = lower_key (level (kind_of (key_of r))) t (names r) (names_lower r) named
+lower r t named =
+    let k = key_some (λ j. has_key j t) (names r) named in
+    let less : nat_lt (level (kind_of (key_of t))) (level (kind_of (key_of r))) ≡ true =
+    ap (λ q. nat_lt (level (kind_of q)) (level (kind_of (key_of r)))) (its_key k.0 t k.1) ∙ k.3 (λ j. nat_lt (level (kind_of j)) (level (kind_of (key_of r)))) (all_lower r) in
+    grind (arith, less) where
+      all_lower : (r : Row) → list_all (λ k. nat_lt (level (kind_of k)) (level (kind_of (key_of r)))) (names r) ≡ true
+      all_lower (rows.Room r) = refl
+      all_lower _ = refl
 
 pub within : (n : ℕ) (d : Desk) (key : Key) (r s : Row) → level (kind_of (key_of r)) ≤ n → holds d s ≡ true → has_key key s ≡ true → Depends d r s → goes_within n d key r ≡ true
 within zero d key r s few held own (Depends.direct _ _ named) = absurd (let less = lower r s named in omega (arith, less, few))
@@ -120,9 +81,11 @@ above : (d : Desk) (r s : Row) → Depends d r s → level (kind_of (key_of s)) 
 above d r s (Depends.direct _ _ named) = lower r s named
 above d r s (Depends.through _ t _ named there rest) = let less = lower r t named in let more = above d t s rest in omega (arith, less, more)
 
--- so what goes with a key has it, or stands above it
-pub goes_above : (n : ℕ) (d : Desk) (key : Key) (r : Row) → goes_within n d key r ≡ true → (has_key key r ≡ true) ⊎ (level (kind_of key) < level (kind_of (key_of r)))
-goes_above n d key r h = elim (only_dependent n d key r h) [
-  | inl own ↦ inl own
-  | inr more ↦ inr (subst (λ (k : Key). level (kind_of k) < level (kind_of (key_of r))) (its_key key more.0 more.2) (above d r more.0 more.3))
-]
+-- so what stands no higher than a key goes with it only where it has it
+pub own_only : (n : ℕ) (d : Desk) (key : Key) (r : Row) → level (kind_of (key_of r)) ≤ level (kind_of key) → goes_within n d key r ≡ has_key key r
+own_only n d key r low = both_ways (goes_within n d key r) (has_key key r)
+    (λ h. elim (only_dependent n d key r h) [
+      | inl own ↦ own
+      | inr more ↦ absurd (let over = subst (λ (k : Key). level (kind_of k) < level (kind_of (key_of r))) (its_key key more.0 more.2) (above d r more.0 more.3) in omega (arith, low, over))
+    ])
+    (own_goes n d key r)

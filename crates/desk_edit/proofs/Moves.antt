@@ -1,63 +1,62 @@
--- The desk with a member in another room is known by what keys find.
-use Rattle.std.proofs.Common.{◌≡◌, ℕ, Bool, true, false, not, cond, List, [], ◌∷◌, ◌++◌, map, nat_eq, refl, ap, sym, ◌∙◌, arith, Some}
-use Rattle.std.specs.Prelude.{count_by}
-use Rattle.std.specs.List.{find, list_all}
-use Rattle.std.proofs.lemmas.Bool.{and_parts}
-use Rattle.desk_rows.specs.declared.row.Row.{Row}
+-- The desk with a member in another room has the same rows, but for that one.
+use Rattle.desk_edit.proofs.Words.{◌≡◌, ℕ, ◌+◌, nat_eq, Bool, true, false, not, cond, List, [], ◌∷◌, ◌++◌, map, count_by, find, Option, Some, refl, ap, ◌∙◌, arith, list_all, fold-map, Row, MemberRow, Key, has_key, same_row, is_of, is_in, Desk, rows_of, row_at, IsKeyed, row_itself, any_counts, count_some, into_room, with_member_in, row_into_room}
 use Rattle.desk_rows.specs.declared.row.Row.TheVariants as rows
-use Rattle.desk_rows.specs.declared.row.Member.{Member}
-use Rattle.desk_rows.specs.declared.row.Key.{Key}
 use Rattle.desk_rows.specs.declared.row.Kind.TheVariants as kinds
-use Rattle.desk_rows.specs.Row.{has_key}
-use Rattle.desk_rows.specs.Kinds.{is_of}
-use Rattle.desk_rows.specs.Desk.{Desk, row_at}
-use Rattle.desk_rows.specs.Keyed.{IsKeyed}
-use Rattle.desk_rows.specs.laws.PlaceLaws.{count_next}
-use Rattle.desk_edit.specs.Commands.{into_room, with_member_in}
-use Rattle.desk_edit.specs.inner.Moving.{row_into_room}
+use Rattle.std.specs.Option.{option_map}
 
-pub same_key_in : (member room : ℕ) (m : Member) (key : Key) → has_key key (rows.Member (into_room member room m)) ≡ has_key key (rows.Member m)
-same_key_in member room m key = by (nat_eq m.member member) where
-  by : (b : Bool) → has_key key (rows.Member (cond b (record m { room = room }) m)) ≡ has_key key (rows.Member m)
-  by true = refl
-  by false = refl
+-- a row, the member of this number in this room
+abbrev pub moved_row : ℕ → ℕ → Row → Row
+moved_row n room (rows.Member m) = rows.Member (into_room n room m)
+moved_row n room r = r
 
-module _ (member room : ℕ) (key : Key) where
-  found_in : (ms : List Member) (os : List Row) → list_all (λ r. not (is_of kinds.Member r)) os ≡ true →
-      find (has_key key) (map rows.Member (map (into_room member room) ms) ++ os) ≡ row_into_room member room (find (has_key key) (map rows.Member ms ++ os))
-  found_in [] os plain = others os plain where
-    as_it_is : (r : Row) → not (is_of kinds.Member r) ≡ true → row_into_room member room (Some r) ≡ Some r
-    as_it_is (rows.Member r) e = cc
-    as_it_is (rows.Room r) e = refl
-    as_it_is (rows.Source r) e = refl
-    as_it_is (rows.Slot r) e = refl
-    as_it_is (rows.Sub r) e = refl
-    as_it_is (rows.Mute r) e = refl
-    as_it_is (rows.Gain r) e = refl
-    as_it_is (rows.Pin r) e = refl
-    as_it_is (rows.Floor r) e = refl
+found_map : (p : Row → Bool) (f : Row → Row) → ((r : Row) → p (f r) ≡ p r) → (rs : List Row) → find p (map f rs) ≡ option_map f (find p rs)
+found_map p f same [] = refl
+found_map p f same (r ∷ rs) = ap (λ b. cond b (Some (f r)) (find p (map f rs))) (same r) ∙ by (p r) (found_map p f same rs) where
+  by : (b : Bool) → find p (map f rs) ≡ option_map f (find p rs) → cond b (Some (f r)) (find p (map f rs)) ≡ option_map f (cond b (Some r) (find p rs))
+  by true rest = refl
+  by false rest = rest
 
-    others : (os : List Row) → list_all (λ r. not (is_of kinds.Member r)) os ≡ true → find (has_key key) os ≡ row_into_room member room (find (has_key key) os)
-    others [] plain = refl
-    others (r ∷ os) plain = by (has_key key r) (and_parts (not (is_of kinds.Member r)) (list_all (λ r. not (is_of kinds.Member r)) os) plain).0 (others os (and_parts (not (is_of kinds.Member r)) (list_all (λ r. not (is_of kinds.Member r)) os) plain).1) where
-      by : (b : Bool) → not (is_of kinds.Member r) ≡ true → find (has_key key) os ≡ row_into_room member room (find (has_key key) os) → cond b (Some r) (find (has_key key) os) ≡ row_into_room member room (cond b (Some r) (find (has_key key) os))
-      by true e rest = sym (as_it_is r e)
-      by false e rest = rest
-  found_in (m ∷ ms) os plain = ap (λ b. cond b (Some (rows.Member (into_room member room m))) (find (has_key key) (map rows.Member (map (into_room member room) ms) ++ os))) (same_key_in member room m key) ∙ by (has_key key (rows.Member m)) (found_in ms os plain) where
-    by : (b : Bool) → find (has_key key) (map rows.Member (map (into_room member room) ms) ++ os) ≡ row_into_room member room (find (has_key key) (map rows.Member ms ++ os)) →
-        cond b (Some (rows.Member (into_room member room m))) (find (has_key key) (map rows.Member (map (into_room member room) ms) ++ os)) ≡ row_into_room member room (cond b (Some (rows.Member m)) (find (has_key key) (map rows.Member ms ++ os)))
-    by true rest = refl
-    by false rest = rest
+module _ (n room : ℕ) where
+  -- what does not look at a member's room says the same
+  pub into_keeps : {X : Type 0} (f : MemberRow → X) → ((m : MemberRow) → f (record m { room = room }) ≡ f m) → (m : MemberRow) → f (into_room n room m) ≡ f m
+  into_keeps f same m = by (nat_eq m.member n) where
+    by : (b : Bool) → f (cond b (record m { room = room }) m) ≡ f m
+    by true = same m
+    by false = refl
 
-  counts_in : (ms : List Member) (os : List Row) → count_by (has_key key) (map rows.Member (map (into_room member room) ms) ++ os) ≡ count_by (has_key key) (map rows.Member ms ++ os)
-  counts_in [] os = refl
-  counts_in (m ∷ ms) os =
-      let rest = counts_in ms os in
-      let same : ◌≡◌ {A = ℕ} (cond (has_key key (rows.Member (into_room member room m))) 1 0) (cond (has_key key (rows.Member m)) 1 0) = ap (λ b. cond b 1 0) (same_key_in member room m key) in
-      omega (arith, rest, same, count_next (has_key key) (rows.Member (into_room member room m)) (map rows.Member (map (into_room member room) ms) ++ os), count_next (has_key key) (rows.Member m) (map rows.Member ms ++ os))
+  pub moved_keeps : (p : Row → Bool) → ((m : MemberRow) → p (rows.Member (record m { room = room })) ≡ p (rows.Member m)) → (r : Row) → p (moved_row n room r) ≡ p r
+  moved_keeps p same (rows.Member m) = into_keeps (λ x. p (rows.Member x)) same m
+  moved_keeps p same r = refl
 
-pub found_moved : (d : Desk) → IsKeyed d → (member room : ℕ) (key : Key) → row_at (with_member_in d member room) key ≡ row_into_room member room (row_at d key)
-found_moved d keyed member room key = found_in member room key d.members d.others keyed.plain
+  pub moved_in : (rs : List Row) (r : Row) → is_in rs r ≡ true → is_in (map (moved_row n room) rs) (moved_row n room r) ≡ true
+  moved_in rs r one =
+      let same : Row → Bool = same_row (moved_row n room r) in
+      let some = any_counts (λ x. same (moved_row n room x)) rs r one (row_itself (moved_row n room r)) in
+      count_some same (map (moved_row n room) rs) (omega (arith, some, fold-map (λ a x. a + cond (same x) 1 0) (moved_row n room) 0 rs))
 
-pub keyed_moved : (d : Desk) → IsKeyed d → (member room : ℕ) → IsKeyed (with_member_in d member room)
-keyed_moved d keyed member room = record { once = λ key. (let n = counts_in member room key d.members d.others in let few = keyed.once key in omega (arith, n, few)); plain = keyed.plain }
+  pub rows_moved : (d : Desk) → list_all (λ r. not (is_of kinds.Member r)) d.others ≡ true → rows_of (with_member_in d n room) ≡ map (moved_row n room) (rows_of d)
+  rows_moved d plain = of_lists d.members where
+    others : (os : List Row) → list_all (λ r. not (is_of kinds.Member r)) os ≡ true → os ≡ map (moved_row n room) os
+    others [] h = refl
+    others (rows.Member r ∷ os) h = cc
+    others (r ∷ os) h = ap (λ rs. r ∷ rs) (others os h)
+
+    of_lists : (ms : List MemberRow) → map rows.Member (map (into_room n room) ms) ++ d.others ≡ map (moved_row n room) (map rows.Member ms ++ d.others)
+    of_lists [] = others d.others plain
+    of_lists (m ∷ ms) = ap (λ rs. rows.Member (into_room n room m) ∷ rs) (of_lists ms)
+
+  pub found_moved : (d : Desk) → IsKeyed d → (key : Key) → row_at (with_member_in d n room) key ≡ row_into_room n room (row_at d key)
+  found_moved d keyed key =
+      ap (find (has_key key)) (rows_moved d keyed.plain) ∙ found_map (has_key key) (moved_row n room) (moved_keeps (has_key key) (λ m. refl)) (rows_of d) ∙ into_is (row_at d key) where
+        into_is : (o : Option Row) → option_map (moved_row n room) o ≡ row_into_room n room o
+        into_is (Some (rows.Member m)) = refl
+        into_is o = refl
+
+  pub count_moved : (d : Desk) → list_all (λ r. not (is_of kinds.Member r)) d.others ≡ true → (p : Row → Bool) → ((r : Row) → p (moved_row n room r) ≡ p r) → count_by p (rows_of (with_member_in d n room)) ≡ count_by p (rows_of d)
+  count_moved d plain p same = ap (count_by p) (rows_moved d plain) ∙ fold-map (λ a r. a + cond (p r) 1 0) (moved_row n room) 0 (rows_of d) ∙ (λ i. count_by (λ r. same r i) (rows_of d))
+
+  pub keyed_moved : (d : Desk) → IsKeyed d → IsKeyed (with_member_in d n room)
+  keyed_moved d keyed = record {
+    once = λ key. (let few = keyed.once key in let same = count_moved d keyed.plain (has_key key) (moved_keeps (has_key key) (λ m. refl)) in omega (arith, few, same));
+    plain = keyed.plain;
+  }

@@ -1,25 +1,16 @@
 -- What commands that are not refused lead to.
-use Rattle.std.proofs.Common.{◌≡◌, Bool, true, false, not, cond, List, [], ◌∷◌, ◌++◌, refl, sym, ap, ◌∙◌, Some, None}
-use Rattle.std.specs.List.{list_all}
-use Rattle.std.proofs.lemmas.Bool.{and_parts, and_from}
-use Rattle.desk_rows.specs.declared.row.Row.{Row}
+use Rattle.desk_edit.proofs.Words.{◌≡◌, Bool, true, false, cond, List, [], ◌∷◌, ◌++◌, Some, None, refl, sym, ap, ◌∙◌, list_all, and_parts, and_from, list_all-append, Row, Key, Kind, kind_of, names, Desk, good, true_false, form_of, desk_led, first_case, missing, lacking, rule_cases, full_cases, audio_cases, cases_of, Refusal}
 use Rattle.desk_rows.specs.declared.row.Row.TheVariants as rows
-use Rattle.desk_rows.specs.declared.row.Key.{Key}
-use Rattle.desk_rows.specs.declared.row.Kind.{Kind}
 use Rattle.desk_rows.specs.declared.row.Kind.TheVariants as kinds
-use Rattle.desk_rows.specs.Row.{kind_of, names}
-use Rattle.desk_rows.specs.Desk.{Desk, good}
-use Rattle.desk_rows.proofs.Counts.{true_false}
+use Rattle.desk_edit.specs.declared.refusal.Refusal.TheVariants as refusals
 use Rattle.desk_edit.specs.declared.command.Command.{Command}
 use Rattle.desk_edit.specs.declared.command.Form.{Form}
 use Rattle.desk_edit.specs.declared.command.Form.TheVariants.{Put, Remove, Move}
-use Rattle.desk_edit.specs.declared.refusal.Refusal.{Refusal}
-use Rattle.desk_edit.specs.declared.refusal.Refusal.TheVariants as refusals
-use Rattle.desk_edit.specs.Commands.{desk_after, desk_led}
+use Rattle.desk_edit.specs.Commands.{desk_after}
 use Rattle.desk_edit.specs.inner.Edits.{edit_for}
-use Rattle.desk_edit.specs.Forms.{form_of}
-use Rattle.desk_edit.specs.Refusals.{refused, first_case, missing, lacking, rule_cases, full_cases, audio_cases, cases_of}
-use Rattle.desk_edit.proofs.Placing.{Leads, put_leads}
+use Rattle.desk_edit.specs.Refusals.{refused}
+use Rattle.desk_edit.proofs.Fitting.{Leads}
+use Rattle.desk_edit.proofs.Placing.{put_leads}
 use Rattle.desk_edit.proofs.Taking.{take_leads}
 use Rattle.desk_edit.proofs.Relocating.{move_leads}
 
@@ -35,61 +26,35 @@ planned d c g h = led d (form_of c) g h
 
 -- ---- want of memory is no case
 
-is_memory : Refusal → Bool
-is_memory refusals.OutOfMemory = true
-is_memory _ = false
+abbrev is_other : Bool × Refusal → Bool
+is_other c = elim c.1 as (λ w. Bool) [ refusals.OutOfMemory ↦ false | _ ↦ true ]
 
-first_else : (cs : List (Bool × Refusal)) → list_all (λ c. not (is_memory c.1)) cs ≡ true → first_case cs ≡ Some refusals.OutOfMemory → ⊥
-unfolding is_memory
-first_else [] all h = cc
-first_else (c ∷ cs) all h =
-    let both = and_parts (not (is_memory c.1)) (list_all (λ c. not (is_memory c.1)) cs) all in
-    by c.0 h (first_else cs both.1) both.0 where
-      same : Some c.1 ≡ Some refusals.OutOfMemory → c.1 ≡ refusals.OutOfMemory
-      same e = cc
+first_other : (cs : List (Bool × Refusal)) → list_all is_other cs ≡ true → first_case cs ≡ Some refusals.OutOfMemory → ⊥
+first_other [] all h = cc
+first_other (c ∷ cs) all h = let both = and_parts (is_other c) (list_all is_other cs) all in by c.0 h (first_other cs both.1) both.0 where
+  same : Some c.1 ≡ Some refusals.OutOfMemory → c.1 ≡ refusals.OutOfMemory
+  same e = cc
 
-      by : (b : Bool) → cond b (Some c.1) (first_case cs) ≡ Some refusals.OutOfMemory → (first_case cs ≡ Some refusals.OutOfMemory → ⊥) → not (is_memory c.1) ≡ true → ⊥
-      by true e rest own = true_false (sym own ∙ ap (λ w. not (is_memory w)) (same e))
-      by false e rest own = rest e
+  by : (b : Bool) → cond b (Some c.1) (first_case cs) ≡ Some refusals.OutOfMemory → (first_case cs ≡ Some refusals.OutOfMemory → ⊥) → is_other c ≡ true → ⊥
+  by true e rest own = true_false (sym own ∙ ap (λ w. is_other (true, w)) (same e))
+  by false e rest own = rest e
 
-missing_else : (kind : Kind) → not (is_memory (missing kind)) ≡ true
-unfolding is_memory
-missing_else kinds.Room = refl
-missing_else kinds.Member = refl
-missing_else kinds.Source = refl
-missing_else kinds.Slot = refl
-missing_else kinds.Sub = refl
-missing_else kinds.Mute = refl
-missing_else kinds.Gain = refl
-missing_else kinds.Pin = refl
-missing_else kinds.Floor = refl
+missing_other : (kind : Kind) → is_other (true, missing kind) ≡ true
+missing_other kinds.Room = refl
+missing_other kind = refl
 
-lacking_else : (d : Desk) (ks : List Key) → list_all (λ c. not (is_memory c.1)) (lacking d ks) ≡ true
-lacking_else d [] = refl
-lacking_else d (k ∷ ks) = and_from _ _ (missing_else (kind_of k)) (lacking_else d ks)
+lacking_other : (d : Desk) (ks : List Key) → list_all is_other (lacking d ks) ≡ true
+lacking_other d [] = refl
+lacking_other d (k ∷ ks) = and_from _ _ (missing_other (kind_of k)) (lacking_other d ks)
 
-both_else : (xs ys : List (Bool × Refusal)) → list_all (λ c. not (is_memory c.1)) xs ≡ true → list_all (λ c. not (is_memory c.1)) ys ≡ true → list_all (λ c. not (is_memory c.1)) (xs ++ ys) ≡ true
-both_else [] ys a b = b
-both_else (x ∷ xs) ys a b = let two = and_parts (not (is_memory x.1)) (list_all (λ c. not (is_memory c.1)) xs) a in and_from _ _ two.0 (both_else xs ys two.1 b)
-
-audio_else : (d : Desk) (r : Row) → list_all (λ c. not (is_memory c.1)) (audio_cases d r) ≡ true
-unfolding is_memory
-audio_else d (rows.Source r) = refl
-audio_else d (rows.Room r) = refl
-audio_else d (rows.Member r) = refl
-audio_else d (rows.Slot r) = refl
-audio_else d (rows.Sub r) = refl
-audio_else d (rows.Mute r) = refl
-audio_else d (rows.Gain r) = refl
-audio_else d (rows.Pin r) = refl
-audio_else d (rows.Floor r) = refl
-
-cases_else : (d : Desk) (f : Form) → list_all (λ c. not (is_memory c.1)) (cases_of d f) ≡ true
-unfolding is_memory
-cases_else d (Put r) = both_else (lacking d (names r)) (rule_cases d r ++ (full_cases d r ++ audio_cases d r)) (lacking_else d (names r)) (audio_else d r)
-cases_else d (Remove key) = and_from _ _ (missing_else _) refl
-cases_else d (Move member room) = refl
+cases_other : (d : Desk) (f : Form) → list_all is_other (cases_of d f) ≡ true
+cases_other d (Put r) = list_all-append is_other (lacking d (names r)) (rule_cases d r ++ (full_cases d r ++ audio_cases d r)) ∙ and_from _ _ (lacking_other d (names r)) (audio r) where
+  audio : (r : Row) → list_all is_other (audio_cases d r) ≡ true
+  audio (rows.Source r) = refl
+  audio r = refl
+cases_other d (Remove key) = and_from _ _ (missing_other _) refl
+cases_other d (Move member room) = refl
 
 pub never_memory : (d : Desk) (c : Command) → refused d c ≡ Some refusals.OutOfMemory → ⊥
 unfolding refused
-never_memory d c h = first_else (cases_of d (form_of c)) (cases_else d (form_of c)) h
+never_memory d c h = first_other (cases_of d (form_of c)) (cases_other d (form_of c)) h

@@ -1,8 +1,4 @@
-use Rattle.std.proofs.Common.{ap, sym, ◌∙◌}
-use Rattle.std.specs.Prelude.{is_some}
-use Rattle.desk_rows.specs.Row.{has_key}
-use Rattle.desk_rows.specs.Desk.{rows_of}
-use Rattle.desk_rows.proofs.Finding.{is_found}
+use Rattle.desk_edit.proofs.Words.{sym, ap, ◌∙◌, is_some, has_key, rows_of, is_found}
 use Rattle.desk_edit.proofs.asking.has.Goals as goal
 
 pub returns : goal.returns

@@ -1,11 +1,6 @@
-use Rattle.std.proofs.Common.{◌≡◌, List, not, filter, ap, subst, ◌∙◌}
-use Rattle.std.specs.Prelude.{IfOk}
-use Rattle.desk_rows.specs.declared.row.Row.{Row}
-use Rattle.desk_rows.specs.Row.{names}
-use Rattle.desk_rows.specs.Desk.{are_together}
-use Rattle.desk_edit.specs.Commands.{with_member_in}
-use Rattle.desk_edit.proofs.Parted.{parted_among}
+use Rattle.desk_edit.proofs.Words.{◌≡◌, not, List, filter, IfOk, ap, ◌∙◌, subst, Row, names, are_together, with_member_in}
 use Rattle.desk_edit.proofs.editing.others_parted.Goals as goal
+use Rattle.desk_edit.proofs.Parted.{parted_among}
 
 pub returns : goal.returns
 returns g c =

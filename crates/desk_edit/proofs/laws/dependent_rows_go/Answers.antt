@@ -1,5 +1,5 @@
-use Rattle.desk_edit.proofs.Dependence.{dependent_goes, only_dependent}
 use Rattle.desk_edit.proofs.laws.dependent_rows_go.Goals as goal
+use Rattle.desk_edit.proofs.Dependence.{only_dependent, dependent_goes}
 
 pub returns-clause-all : goal.returns-clause-all
 returns-clause-all c d key r h = dependent_goes d key r h

@@ -1,8 +1,7 @@
-use Rattle.std.proofs.Common.{ap, ◌∙◌}
+use Rattle.desk_edit.proofs.Words.{ap, ◌∙◌, edit_for}
 use Rattle.desk_rows.specs.Exchange.{fits, after}
-use Rattle.desk_edit.specs.inner.Edits.{edit_for}
-use Rattle.desk_edit.proofs.Outcomes.{planned, never_memory}
 use Rattle.desk_edit.proofs.planning.plan.Goals as goal
+use Rattle.desk_edit.proofs.Outcomes.{planned, never_memory}
 
 pub returns-in-Some-clause-memory : goal.returns-in-Some-clause-memory
 returns-in-Some-clause-memory g c h = absurd (never_memory c.args.rows.now c.args.command.now cc)

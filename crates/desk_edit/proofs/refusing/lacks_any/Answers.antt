@@ -1,9 +1,6 @@
-use Rattle.std.proofs.Common.{sym, ◌∷◌, [], ◌∙◌}
-use Rattle.std.proofs.Common.{ap}
-use Rattle.desk_rows.specs.Few.{listed}
-use Rattle.desk_edit.specs.Refusals.{lacking, or_next, first_case}
-use Rattle.desk_edit.proofs.Cases.{first_case-append}
+use Rattle.desk_edit.proofs.Words.{[], ◌∷◌, sym, ap, ◌∙◌, listed, first_case, or_next, lacking}
 use Rattle.desk_edit.proofs.refusing.lacks_any.Goals as goal
+use Rattle.desk_edit.proofs.Cases.{first_case-append}
 
 pub returns-in-Two : goal.returns-in-Two
 returns-in-Two g c =

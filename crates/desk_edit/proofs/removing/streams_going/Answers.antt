@@ -1,12 +1,7 @@
-use Rattle.std.proofs.Common.{◌≡◌, ◌≤◌, List, filter, ap, sym, subst, ◌∙◌, arith}
-use Rattle.std.specs.Prelude.{IfOk}
-use Rattle.desk_rows.specs.declared.row.Row.{Row}
-use Rattle.desk_rows.specs.Row.{kind_of}
-use Rattle.desk_edit.specs.Depends.{goes_within}
-use Rattle.desk_edit.specs.inner.Levels.{level, can_go, found_list}
+use Rattle.desk_edit.proofs.Words.{◌≡◌, ◌≤◌, List, filter, IfOk, sym, ap, ◌∙◌, subst, arith, Row, kind_of, goes_within, level, can_go, found_list}
+use Rattle.desk_edit.proofs.removing.streams_going.Goals as goal
 use Rattle.desk_edit.proofs.ByKinds.{kind_none}
 use Rattle.desk_edit.proofs.GoneLemmas.{stream_alone, by_members, no_streams}
-use Rattle.desk_edit.proofs.removing.streams_going.Goals as goal
 
 pub returns-then-not-can_go : goal.returns-then-not-can_go
 returns-then-not-can_go g c =

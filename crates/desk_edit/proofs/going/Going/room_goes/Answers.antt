@@ -1,8 +1,6 @@
-use Rattle.std.proofs.Common.{ap, sym, ◌∙◌}
-use Rattle.desk_rows.specs.inner.Found.{finds}
-use Rattle.desk_edit.specs.Depends.{goes_within}
-use Rattle.desk_edit.proofs.GoingLemmas.{name_goes, none_goes, same_goes}
+use Rattle.desk_edit.proofs.Words.{sym, ap, ◌∙◌, finds, goes_within}
 use Rattle.desk_edit.proofs.going.Going.room_goes.Goals as goal
+use Rattle.desk_edit.proofs.GoingLemmas.{name_goes, none_goes, same_goes}
 
 pub returns-then-is_same : goal.returns-then-is_same
 returns-then-is_same g c =

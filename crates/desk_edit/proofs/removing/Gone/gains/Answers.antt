@@ -1,14 +1,7 @@
-use Rattle.std.proofs.Common.{◌≡◌, List, filter, ap, sym, subst, ◌∙◌}
-use Rattle.std.specs.Prelude.{IfOk}
-use Rattle.std.specs.List.{list_any}
-use Rattle.desk_rows.specs.declared.row.Row.{Row}
-use Rattle.desk_rows.specs.declared.row.Key.{Key}
+use Rattle.desk_edit.proofs.Words.{◌≡◌, List, filter, IfOk, sym, ap, ◌∙◌, subst, list_any, Row, Key, is_of, goes_with, is_sound}
 use Rattle.desk_rows.specs.declared.row.Kind.TheVariants as kinds
-use Rattle.desk_rows.specs.Kinds.{is_of}
-use Rattle.desk_edit.specs.Depends.{goes_with}
-use Rattle.desk_edit.specs.inner.Levels.{is_sound}
-use Rattle.desk_edit.proofs.GoneLemmas.{no_gains, own_gains}
 use Rattle.desk_edit.proofs.removing.Gone.gains.Goals as goal
+use Rattle.desk_edit.proofs.GoneLemmas.{no_gains, own_gains}
 
 pub returns-then-self : goal.returns-then-self
 returns-then-self g c =

@@ -1,15 +1,13 @@
-use Rattle.std.proofs.Common.{◌&&◌, not, ap, sym, ◌∙◌}
+use Rattle.desk_edit.proofs.Words.{not, ◌&&◌, sym, ap, ◌∙◌, ne_eqb, has}
 use Rattle.desk_rows.specs.declared.row.Key.TheVariants as keys
-use Rattle.desk_edit.specs.Refusals.{has}
-use Rattle.desk_edit.proofs.GoneLemmas.{told_apart, own_listener, no_member_goes, name_goes_at}
 use Rattle.desk_edit.proofs.removing.Gone.listener_goes.Goals as goal
+use Rattle.desk_edit.proofs.GoneLemmas.{name_goes_at, no_member_goes, own_listener}
 
 pub returns-else-number-member : goal.returns-else-number-member
 returns-else-number-member g c =
-    let x = c.args.self.now in
-    let d = x.going.rows.now in
+    let d = c.args.self.now.going.rows.now in
     let n = c.in-Member.number in
-    let other = told_apart n c.args.member c.if-number-member.false in
+    let other = ne_eqb n c.args.member c.if-number-member.false in
     other ∙ sym (ap (λ b. b && has d (keys.Member n)) other)
     ∙ sym (ap (λ k. name_goes_at d k (keys.Member c.args.member)) c.in-Member.is ∙ own_listener d n c.args.member)
 
