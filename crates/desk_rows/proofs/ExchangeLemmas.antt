@@ -1,5 +1,5 @@
 -- The tests of an exchange, and what absorbing an edit that fits finds and leaves.
-use Rattle.std.proofs.Common.{◌≡◌, ℕ, zero, suc, ◌+◌, ◌-◌, ◌≤◌, nat_eq, Bool, true, false, not, cond, ◌&&◌, List, [], ◌∷◌, map, length, filter, refl, sym, ap, ◌∙◌, inl, inr, arith}
+use Rattle.std.proofs.Common.{◌≡◌, ℕ, ◌+◌, ◌-◌, ◌≤◌, nat_eq, Bool, true, false, not, cond, ◌&&◌, ◌||◌, if◌then◌else◌, List, [], ◌∷◌, map, length, filter, refl, sym, ap, ◌∙◌, inl, inr, arith}
 use Rattle.std.specs.Prelude.{count_by}
 use Rattle.std.specs.List.{list_any, list_all}
 use Rattle.std.proofs.lemmas.Bool.{and_parts, and_from, or_right, or_cases, cases_Bool}
@@ -136,11 +136,10 @@ of_eight_kinds (x ∷ xs) h =
 
 -- the place of an owner's kind, by that of the kind
 owner_rank : ℕ → ℕ
-owner_rank (suc (suc (suc (suc zero)))) = 3
-owner_rank (suc (suc (suc (suc (suc zero))))) = 2
-owner_rank (suc (suc (suc (suc (suc (suc (suc zero))))))) = 0
-owner_rank (suc (suc (suc (suc (suc (suc (suc (suc zero)))))))) = 0
-owner_rank n = n
+owner_rank n =
+    if nat_eq n (rank kinds.Sub) then rank kinds.Slot else
+    if nat_eq n (rank kinds.Mute) then rank kinds.Source else
+    if nat_eq n (rank kinds.Pin) || nat_eq n (rank kinds.Floor) then rank kinds.Room else n
 
 owner_ranks : (k : Key) → rank (kind_of (owner_of k)) ≡ owner_rank (rank (kind_of k))
 unfolding owner_rank
@@ -181,7 +180,7 @@ owner_named d (rows.Pin p) one h = (and_parts (list_any (has_key (keys.Room p.ro
 owner_named d (rows.Floor f) one h = (and_parts (list_any (has_key (keys.Room f.room)) (rows_of d)) _ h).0
 
 -- a good desk has no more rows of a kind than of the kind of their owners
-module _ (d : Desk) (g : good d ≡ true) (kind owner : Kind) (owns : owner_rank (rank kind) ≡ rank owner) (other : nat_eq (rank owner) 1 ≡ false) where
+module _ (d : Desk) (g : good d ≡ true) (kind owner : Kind) (owns : owner_rank (rank kind) ≡ rank owner) (other : nat_eq (rank owner) (rank kinds.Member) ≡ false) where
   owner_there : (x : Row) → is_in d.others x ≡ true → is_of kind x ≡ true → list_any (has_key (owner_key x)) (filter (is_of owner) d.others) ≡ true
   owner_there x one of =
       let k = owner_key x in
@@ -189,7 +188,7 @@ module _ (d : Desk) (g : good d ≡ true) (kind owner : Kind) (owns : owner_rank
       let w = witness (has_key k) (rows_of d) (owner_named d x there (at_each (is_named_there d) (rows_of d) x (good_parts d g).named there)) in
       let ranks : rank (kind_of (key_of w.0)) ≡ rank owner = ap (λ q. rank (kind_of q)) (its_key k w.0 w.2) ∙ owner_ranks (key_of x) ∙ ap owner_rank (eqb-true _ _ of) ∙ owns in
       let is_owner : is_of owner w.0 ≡ true = eq-eqb _ _ ranks in
-      let here : is_in d.others w.0 ≡ true = among_others d w.0 (ap (λ n. nat_eq n 1) ranks ∙ other) w.1 in
+      let here : is_in d.others w.0 ≡ true = among_others d w.0 (ap (λ n. nat_eq n (rank kinds.Member)) ranks ∙ other) w.1 in
       let stays : is_in (filter (is_of owner) d.others) w.0 ≡ true = is_in-filter (is_of owner) w.0 d.others ∙ and_from _ _ here is_owner in
       count_some (has_key k) (filter (is_of owner) d.others) (any_counts (has_key k) (filter (is_of owner) d.others) w.0 stays w.2)
 

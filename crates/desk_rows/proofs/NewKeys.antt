@@ -32,7 +32,7 @@ no_key key r rs e kind plain = no_count (has_key key) rs (by (cases_Bool (list_a
   by : (list_any (has_key key) rs ≡ true) ⊎ (list_any (has_key key) rs ≡ false) → list_any (has_key key) rs ≡ false
   by (inl some) =
       let w = witness (has_key key) rs some in
-      let member : is_of kinds.Member w.0 ≡ true = ap (λ k. nat_eq (rank (kind_of k)) 1) (its_key key w.0 w.2 ∙ sym (its_key key r e)) ∙ kind in
+      let member : is_of kinds.Member w.0 ≡ true = ap (λ k. nat_eq (rank (kind_of k)) (rank kinds.Member)) (its_key key w.0 w.2 ∙ sym (its_key key r e)) ∙ kind in
       absurd (true_false (sym member ∙ not_true _ (at_each (λ x. not (is_of kinds.Member x)) rs w.0 plain w.1)))
   by (inr none) = none
 
@@ -106,7 +106,7 @@ module _ (d : Desk) (e : EditOf) (g : good d ≡ true) (a : Apt d e) where
             there : (list_any (has_key key) joining ≡ true) ⊎ (list_any (has_key key) joining ≡ false) → list_any (has_key key) joining ≡ false
             there (inl some) =
                 let w = witness (has_key key) joining some in
-                let member : is_of kinds.Member r ≡ true = ap (λ k. nat_eq (rank (kind_of k)) 1) (its_key key r e' ∙ sym (its_key key w.0 w.2)) ∙ at_each (is_of kinds.Member) joining w.0 (all_members e.put.members) w.1 in
+                let member : is_of kinds.Member r ≡ true = ap (λ k. nat_eq (rank (kind_of k)) (rank kinds.Member)) (its_key key r e' ∙ sym (its_key key w.0 w.2)) ∙ at_each (is_of kinds.Member) joining w.0 (all_members e.put.members) w.1 in
                 absurd (true_false (sym member ∙ kind))
             there (inr none) = none
 

@@ -18,15 +18,15 @@ use Rattle.desk_rows.specs.Limits.{index_limit, q8_limit}
 
 -- ---- keys
 
--- the place of a kind among the kinds
+-- the place of a kind among the kinds: gains, which may be many, stand first, so that only a gain that comes or goes moves them
 abbrev pub rank : Kind → ℕ
-rank kinds.Room = 0
-rank kinds.Member = 1
-rank kinds.Source = 2
-rank kinds.Slot = 3
-rank kinds.Sub = 4
-rank kinds.Mute = 5
-rank kinds.Gain = 6
+rank kinds.Gain = 0
+rank kinds.Room = 1
+rank kinds.Member = 2
+rank kinds.Source = 3
+rank kinds.Slot = 4
+rank kinds.Sub = 5
+rank kinds.Mute = 6
 rank kinds.Pin = 7
 rank kinds.Floor = 8
 
@@ -96,13 +96,13 @@ same_media a b = nat_eq (media_number a) (media_number b)
 
 -- the numbers that tell a row from all others: its kind's, and those of its fields before as many 0 as make twelve
 abbrev pub row_numbers : Row → List ℕ
-row_numbers (Room r) = 0 ∷ r.room ∷ 0 ∷ 0 ∷ 0 ∷ 0 ∷ 0 ∷ 0 ∷ 0 ∷ 0 ∷ 0 ∷ 0 ∷ []
-row_numbers (Member m) = 1 ∷ m.member ∷ m.room ∷ codec_number m.codec ∷ m.out_audio ∷ m.first_seq ∷ m.first_ts ∷ m.address.port ∷ m.address.ip
-row_numbers (Source s) = 2 ∷ s.ssrc ∷ s.member ∷ media_number s.media ∷ 0 ∷ 0 ∷ 0 ∷ 0 ∷ 0 ∷ 0 ∷ 0 ∷ 0 ∷ []
-row_numbers (Slot s) = 3 ∷ s.out_ssrc ∷ s.member ∷ s.index ∷ s.first_seq ∷ s.first_ts ∷ 0 ∷ 0 ∷ 0 ∷ 0 ∷ 0 ∷ 0 ∷ []
-row_numbers (Sub s) = 4 ∷ s.out_ssrc ∷ s.source ∷ 0 ∷ 0 ∷ 0 ∷ 0 ∷ 0 ∷ 0 ∷ 0 ∷ 0 ∷ 0 ∷ []
-row_numbers (Mute m) = 5 ∷ m.source ∷ 0 ∷ 0 ∷ 0 ∷ 0 ∷ 0 ∷ 0 ∷ 0 ∷ 0 ∷ 0 ∷ 0 ∷ []
-row_numbers (Gain g) = 6 ∷ g.member ∷ g.source ∷ g.q8 ∷ 0 ∷ 0 ∷ 0 ∷ 0 ∷ 0 ∷ 0 ∷ 0 ∷ 0 ∷ []
+row_numbers (Room r) = 1 ∷ r.room ∷ 0 ∷ 0 ∷ 0 ∷ 0 ∷ 0 ∷ 0 ∷ 0 ∷ 0 ∷ 0 ∷ 0 ∷ []
+row_numbers (Member m) = 2 ∷ m.member ∷ m.room ∷ codec_number m.codec ∷ m.out_audio ∷ m.first_seq ∷ m.first_ts ∷ m.address.port ∷ m.address.ip
+row_numbers (Source s) = 3 ∷ s.ssrc ∷ s.member ∷ media_number s.media ∷ 0 ∷ 0 ∷ 0 ∷ 0 ∷ 0 ∷ 0 ∷ 0 ∷ 0 ∷ []
+row_numbers (Slot s) = 4 ∷ s.out_ssrc ∷ s.member ∷ s.index ∷ s.first_seq ∷ s.first_ts ∷ 0 ∷ 0 ∷ 0 ∷ 0 ∷ 0 ∷ 0 ∷ []
+row_numbers (Sub s) = 5 ∷ s.out_ssrc ∷ s.source ∷ 0 ∷ 0 ∷ 0 ∷ 0 ∷ 0 ∷ 0 ∷ 0 ∷ 0 ∷ 0 ∷ []
+row_numbers (Mute m) = 6 ∷ m.source ∷ 0 ∷ 0 ∷ 0 ∷ 0 ∷ 0 ∷ 0 ∷ 0 ∷ 0 ∷ 0 ∷ 0 ∷ []
+row_numbers (Gain g) = 0 ∷ g.member ∷ g.source ∷ g.q8 ∷ 0 ∷ 0 ∷ 0 ∷ 0 ∷ 0 ∷ 0 ∷ 0 ∷ 0 ∷ []
 row_numbers (Pin p) = 7 ∷ p.room ∷ p.source ∷ 0 ∷ 0 ∷ 0 ∷ 0 ∷ 0 ∷ 0 ∷ 0 ∷ 0 ∷ 0 ∷ []
 row_numbers (Floor f) = 8 ∷ f.room ∷ f.member ∷ 0 ∷ 0 ∷ 0 ∷ 0 ∷ 0 ∷ 0 ∷ 0 ∷ 0 ∷ 0 ∷ []
 

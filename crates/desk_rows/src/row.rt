@@ -184,7 +184,7 @@ impl Member {
     {
         let [a, b, c, d] = self.address.ip;
         [
-            1,
+            2,
             self.member,
             self.room,
             self.codec.number(),
@@ -205,7 +205,7 @@ impl Slot {
         ensures { result ≡ row_numbers (Row.Slot self.now) }
     {
         [
-            3,
+            4,
             self.out_ssrc,
             self.member,
             self.index,
@@ -247,16 +247,16 @@ impl Row {
         ensures { result ≡ row_numbers self.now }
     {
         match self {
-            Row::Room(room) => [0, room.room, 0, 0, 0, 0, 0, 0, 0, 0, 0, 0],
+            Row::Room(room) => [1, room.room, 0, 0, 0, 0, 0, 0, 0, 0, 0, 0],
             Row::Member(member) => member.numbers(),
             Row::Source(source) => {
                 let media = source.media.number();
-                [2, source.ssrc, source.member, media, 0, 0, 0, 0, 0, 0, 0, 0]
+                [3, source.ssrc, source.member, media, 0, 0, 0, 0, 0, 0, 0, 0]
             }
             Row::Slot(slot) => slot.numbers(),
-            Row::Sub(sub) => [4, sub.out_ssrc, sub.source, 0, 0, 0, 0, 0, 0, 0, 0, 0],
-            Row::Mute(mute) => [5, mute.source, 0, 0, 0, 0, 0, 0, 0, 0, 0, 0],
-            Row::Gain(gain) => [6, gain.member, gain.source, gain.q8, 0, 0, 0, 0, 0, 0, 0, 0],
+            Row::Sub(sub) => [5, sub.out_ssrc, sub.source, 0, 0, 0, 0, 0, 0, 0, 0, 0],
+            Row::Mute(mute) => [6, mute.source, 0, 0, 0, 0, 0, 0, 0, 0, 0, 0],
+            Row::Gain(gain) => [0, gain.member, gain.source, gain.q8, 0, 0, 0, 0, 0, 0, 0, 0],
             Row::Pin(pin) => [7, pin.room, pin.source, 0, 0, 0, 0, 0, 0, 0, 0, 0],
             Row::Floor(floor) => [8, floor.room, floor.member, 0, 0, 0, 0, 0, 0, 0, 0, 0],
         }
@@ -391,18 +391,19 @@ impl Row {
 }
 
 impl Kind {
-    /// The place of the kind among the kinds.
+    /// The place of the kind among the kinds: gains, which may be many, stand first, so that only a
+    /// gain that comes or goes moves them.
     pub(crate) fn rank(self) -> u32
         ensures { result ≡ rank self }
     {
         match self {
-            Kind::Room => 0,
-            Kind::Member => 1,
-            Kind::Source => 2,
-            Kind::Slot => 3,
-            Kind::Sub => 4,
-            Kind::Mute => 5,
-            Kind::Gain => 6,
+            Kind::Gain => 0,
+            Kind::Room => 1,
+            Kind::Member => 2,
+            Kind::Source => 3,
+            Kind::Slot => 4,
+            Kind::Sub => 5,
+            Kind::Mute => 6,
             Kind::Pin => 7,
             Kind::Floor => 8,
         }

@@ -1,5 +1,5 @@
 -- Members listed once more by their rooms. No public clause cites it.
-use Rattle.std.specs.Prelude.{◌≡◌, ℕ, Bool, true, List, count_by}
+use Rattle.std.specs.Prelude.{◌≡◌, Bool, true, List, count_by}
 use Rattle.desk_rows.specs.declared.row.Member.{Member}
 use Rattle.desk_rows.specs.inner.Grouped.{stand_by, in_turn}
 

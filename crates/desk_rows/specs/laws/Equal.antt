@@ -1,5 +1,5 @@
 -- The tests of equality say what they mean.
-use Rattle.std.specs.Prelude.{◌≡◌, ℕ, zero, suc, Bool, true, false, ◌||◌, List, [], ◌∷◌, ◌++◌, length, nat_eq, refl}
+use Rattle.std.specs.Prelude.{◌≡◌, ℕ, zero, suc, Bool, true, false, ◌||◌, List, [], ◌∷◌, ◌++◌, length, nat_eq, if◌then◌else◌, refl}
 use Rattle.std.proofs.Common.{sym, ap, ◌∙◌}
 use borrow.Author.Tests.{eq-eqb}
 use Rattle.desk_rows.specs.declared.row.Codec.{Codec}
@@ -8,6 +8,7 @@ use Rattle.desk_rows.specs.declared.row.Media.{Media}
 use Rattle.desk_rows.specs.declared.row.Media.TheVariants as medias
 use Rattle.desk_rows.specs.declared.row.Row.{Row}
 use Rattle.desk_rows.specs.declared.row.Row.TheVariants.{Room, Member, Source, Slot, Sub, Mute, Gain, Pin, Floor}
+use Rattle.desk_rows.specs.declared.row.Kind.TheVariants as kinds
 use Rattle.desk_rows.specs.declared.row.Key.{Key}
 use Rattle.desk_rows.specs.declared.row.Key.TheVariants as keys
 use Rattle.desk_rows.specs.declared.claim.Claim.{Claim}
@@ -22,15 +23,15 @@ number_itself n = eq-eqb n n refl
 -- ---- keys
 
 key_by : ℕ → ℕ → ℕ → Key
-key_by zero m n = keys.Room n
-key_by (suc zero) m n = keys.Member n
-key_by (suc (suc zero)) m n = keys.Source n
-key_by (suc (suc (suc zero))) m n = keys.Slot n
-key_by (suc (suc (suc (suc zero)))) m n = keys.Sub n
-key_by (suc (suc (suc (suc (suc zero))))) m n = keys.Mute n
-key_by (suc (suc (suc (suc (suc (suc zero)))))) m n = keys.Gain m n
-key_by (suc (suc (suc (suc (suc (suc (suc zero))))))) m n = keys.Pin n
-key_by _ m n = keys.Floor n
+key_by r m n =
+    if nat_eq r (rank kinds.Room) then keys.Room n else
+    if nat_eq r (rank kinds.Member) then keys.Member n else
+    if nat_eq r (rank kinds.Source) then keys.Source n else
+    if nat_eq r (rank kinds.Slot) then keys.Slot n else
+    if nat_eq r (rank kinds.Sub) then keys.Sub n else
+    if nat_eq r (rank kinds.Mute) then keys.Mute n else
+    if nat_eq r (rank kinds.Gain) then keys.Gain m n else
+    if nat_eq r (rank kinds.Pin) then keys.Pin n else keys.Floor n
 
 key_from : List ℕ → Key
 key_from (kind ∷ first ∷ second ∷ xs) = key_by kind first second
@@ -96,15 +97,15 @@ media_from zero = medias.Audio
 media_from _ = medias.Video
 
 row_by : ℕ → ℕ → ℕ → ℕ → ℕ → ℕ → ℕ → ℕ → List ℕ → Row
-row_by zero a b c d e f g h = Room record { room = a }
-row_by (suc zero) a b c d e f g h = Member record { member = a; room = b; codec = codec_from c; out_audio = d; first_seq = e; first_ts = f; address = record { ip = h; port = g } }
-row_by (suc (suc zero)) a b c d e f g h = Source record { ssrc = a; member = b; media = media_from c }
-row_by (suc (suc (suc zero))) a b c d e f g h = Slot record { out_ssrc = a; member = b; index = c; first_seq = d; first_ts = e }
-row_by (suc (suc (suc (suc zero)))) a b c d e f g h = Sub record { out_ssrc = a; source = b }
-row_by (suc (suc (suc (suc (suc zero))))) a b c d e f g h = Mute record { source = a }
-row_by (suc (suc (suc (suc (suc (suc zero)))))) a b c d e f g h = Gain record { member = a; source = b; q8 = c }
-row_by (suc (suc (suc (suc (suc (suc (suc zero))))))) a b c d e f g h = Pin record { room = a; source = b }
-row_by _ a b c d e f g h = Floor record { room = a; member = b }
+row_by r a b c d e f g h =
+    if nat_eq r (rank kinds.Room) then Room record { room = a } else
+    if nat_eq r (rank kinds.Member) then Member record { member = a; room = b; codec = codec_from c; out_audio = d; first_seq = e; first_ts = f; address = record { ip = h; port = g } } else
+    if nat_eq r (rank kinds.Source) then Source record { ssrc = a; member = b; media = media_from c } else
+    if nat_eq r (rank kinds.Slot) then Slot record { out_ssrc = a; member = b; index = c; first_seq = d; first_ts = e } else
+    if nat_eq r (rank kinds.Sub) then Sub record { out_ssrc = a; source = b } else
+    if nat_eq r (rank kinds.Mute) then Mute record { source = a } else
+    if nat_eq r (rank kinds.Gain) then Gain record { member = a; source = b; q8 = c } else
+    if nat_eq r (rank kinds.Pin) then Pin record { room = a; source = b } else Floor record { room = a; member = b }
 
 row_from : List ℕ → Row
 row_from (kind ∷ a ∷ b ∷ c ∷ d ∷ e ∷ f ∷ g ∷ h) = row_by kind a b c d e f g h
