@@ -257,12 +257,12 @@ impl<'a, A: Allocator + Copy> Gone<'a, A> {
         ensures { IfOk result (λ v. v.items ≡ filter (goes_with self.now.going.rows.now self.now.going.key) self.now.going.rows.now.others) }
     {
         let mut out = Vec::new(alloc);
+        self.append(alloc, Kind::Gain, &mut out)?;
         self.append(alloc, Kind::Room, &mut out)?;
         self.append(alloc, Kind::Source, &mut out)?;
         self.append(alloc, Kind::Slot, &mut out)?;
         self.append(alloc, Kind::Sub, &mut out)?;
         self.append(alloc, Kind::Mute, &mut out)?;
-        self.append(alloc, Kind::Gain, &mut out)?;
         self.append(alloc, Kind::Pin, &mut out)?;
         self.append(alloc, Kind::Floor, &mut out)?;
         Ok(out)
