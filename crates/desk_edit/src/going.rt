@@ -1,6 +1,6 @@
 //! What goes with a row: all that names it, directly or through others.
 
-ghost use Rattle.std.specs.Prelude.{◌≡◌, ◌&&◌};
+ghost use Rattle.std.specs.Prelude.{◌≡◌, ◌&&◌, ℕ, IfSome};
 ghost use Rattle.std.specs.List.{list_any};
 ghost use Rattle.desk_rows.specs.Row.{has_key};
 ghost use Rattle.desk_rows.specs.Desk.{rows_of};
@@ -72,6 +72,20 @@ impl<'a, A: Allocator + Copy> Going<'a, A> {
         level(self.key.kind()) < level(name.kind())
     }
 
+    /// Whether a row of this name goes, as far as the key alone tells it: the row of the key does, if it
+    /// is there, and none that stands no higher.
+    fn told(&self, name: Key) -> Option<bool>
+        ensures { (n : ℕ) → IfSome result (λ told. told ≡ list_any (λ s. has_key name s && goes_within n self.now.rows.now self.now.key s) (rows_of self.now.rows.now)) }
+    {
+        if name.is_same(self.key) {
+            return Some(self.is_there);
+        }
+        if !self.is_above(name) {
+            return Some(false);
+        }
+        None
+    }
+
     /// Whether a row is found that goes.
     fn finds_room(&self, found: Option<Row>) -> bool
         ensures { result ≡ finds (goes_within 0 self.now.rows.now self.now.key) found }
@@ -86,13 +100,10 @@ impl<'a, A: Allocator + Copy> Going<'a, A> {
     fn room_goes(&self, name: Key) -> bool
         ensures { result ≡ list_any (λ s. has_key name s && goes_within 0 self.now.rows.now self.now.key s) (rows_of self.now.rows.now) }
     {
-        if name.is_same(self.key) {
-            return self.is_there;
+        match self.told(name) {
+            Some(goes) => goes,
+            None => self.finds_room(self.rows.look(name)),
         }
-        if !self.is_above(name) {
-            return false;
-        }
-        self.finds_room(self.rows.look(name))
     }
 
     /// Whether a row goes that names rooms at most.
@@ -121,13 +132,10 @@ impl<'a, A: Allocator + Copy> Going<'a, A> {
     fn member_goes(&self, name: Key) -> bool
         ensures { result ≡ list_any (λ s. has_key name s && goes_within 1 self.now.rows.now self.now.key s) (rows_of self.now.rows.now) }
     {
-        if name.is_same(self.key) {
-            return self.is_there;
+        match self.told(name) {
+            Some(goes) => goes,
+            None => self.finds_member(self.rows.look(name)),
         }
-        if !self.is_above(name) {
-            return false;
-        }
-        self.finds_member(self.rows.look(name))
     }
 
     /// Whether a row goes that names members at most.
@@ -156,12 +164,9 @@ impl<'a, A: Allocator + Copy> Going<'a, A> {
     pub(crate) fn stream_goes(&self, name: Key) -> bool
         ensures { result ≡ list_any (λ s. has_key name s && goes_within 2 self.now.rows.now self.now.key s) (rows_of self.now.rows.now) }
     {
-        if name.is_same(self.key) {
-            return self.is_there;
+        match self.told(name) {
+            Some(goes) => goes,
+            None => self.finds_stream(self.rows.look(name)),
         }
-        if !self.is_above(name) {
-            return false;
-        }
-        self.finds_stream(self.rows.look(name))
     }
 }

@@ -1,18 +1,8 @@
 use Rattle.desk_edit.proofs.Words.{sym, ap, ◌∙◌, finds, goes_within}
 use Rattle.desk_edit.proofs.going.Going.member_goes.Goals as goal
-use Rattle.desk_edit.proofs.GoingLemmas.{name_goes, none_goes, same_goes}
+use Rattle.desk_edit.proofs.GoingLemmas.{name_goes}
 
-pub returns-then-is_same : goal.returns-then-is_same
-returns-then-is_same g c =
-    let x = c.args.self.now in
-    x.there ∙ sym (same_goes x.rows.now 1 x.key c.args.name (sym c.is_same.ensures ∙ c.if-is_same.true))
-
-pub returns-then-not-is_above : goal.returns-then-not-is_above
-returns-then-not-is_above g c =
-    let x = c.args.self.now in
-    sym (none_goes x.rows.now 1 x.key c.args.name (sym c.is_above.ensures ∙ c.if-not-is_above.true) (sym c.is_same.ensures ∙ c.if-is_same.false))
-
-pub returns : goal.returns
-returns g c =
+pub returns-in-None : goal.returns-in-None
+returns-in-None g c =
     let x = c.args.self.now in
     c.finds_member.ensures ∙ ap (finds (goes_within 1 x.rows.now x.key)) c.look.ensures.found ∙ sym (name_goes x.rows.now c.look.ensures.keyed 1 x.key c.args.name)
