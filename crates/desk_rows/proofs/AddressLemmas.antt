@@ -1,21 +1,6 @@
 -- A table of members by address, made and asked.
-use Rattle.std.proofs.Common.{◌≡◌, ℕ, zero, suc, ◌<◌, ◌≤◌, Bool, true, false, cond, ◌||◌, List, [], ◌∷◌, length, get_or, nat_lt, Option, None, Some, refl, sym, ap, ◌∙◌, arith}
-use Rattle.std.specs.Prelude.{count_by, Contains, IfSome, IfNone}
-use Rattle.std.specs.List.{HoldsAt, find, list_any}
-use Rattle.std.specs.List.Sorted.{IsPartitionPoint}
-use Rattle.std.proofs.lemmas.Bool.Decides.{nat_tests}
-use Rattle.std.specs.declared.cmp.Ordering.TheVariants.{Less, Equal, Greater}
-use Rattle.std.specs.Ordering.{nat_cmp, is_eq}
-use Rattle.std.specs.Cmp.{IsTotalOrder, on_total, then_total, nat_cmp_total, both_tied, unsigned_ties}
-use Rattle.std.specs.Cmp.Lexicographic.{slice_cmp, nat_list_cmp_total, lists_ties}
-use Rattle.rtp_codec.specs.declared.address.Address.{Address}
-use Rattle.rtp_codec.specs.Address.{same_address}
-use Rattle.desk_rows.specs.declared.row.Member.{Member}
-use Rattle.desk_rows.specs.declared.row.Row.{Row}
+use Rattle.desk_rows.specs.laws.Words.{◌≡◌, ℕ, zero, suc, ◌<◌, ◌≤◌, Bool, true, false, cond, ◌||◌, List, [], ◌∷◌, length, get_or, nat_lt, Option, None, Some, refl, sym, ap, ◌∙◌, arith, count_by, Contains, IfSome, IfNone, HoldsAt, find, list_any, IsPartitionPoint, nat_tests, Less, Equal, Greater, nat_cmp, is_eq, IsTotalOrder, on_total, then_total, nat_cmp_total, both_tied, unsigned_ties, slice_cmp, nat_list_cmp_total, lists_ties, Address, same_address, MemberRow as Member, Row, same_row, Desk, good, member_at_address, ip_and_port, address_cmp, IsByAddress}
 use Rattle.desk_rows.specs.declared.row.Row.TheVariants as rows
-use Rattle.desk_rows.specs.Row.{same_row}
-use Rattle.desk_rows.specs.Desk.{Desk, good, member_at_address}
-use Rattle.desk_rows.specs.inner.Addressed.{ip_and_port, address_cmp, IsByAddress}
 use Rattle.desk_rows.specs.laws.Equal.{row_itself, same_row_is}
 use Rattle.desk_rows.specs.laws.PlaceLaws.{count_next}
 use Rattle.desk_rows.specs.laws.AddressesOnce.{one_at_address}

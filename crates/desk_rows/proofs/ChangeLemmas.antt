@@ -1,17 +1,6 @@
 -- What an edit takes and puts, found by keys.
-use Rattle.std.proofs.Common.{◌≡◌, ℕ, Bool, true, false, cond, ◌||◌, List, [], ◌∷◌, ◌++◌, map, refl, sym, ap, ◌∙◌, Some, None}
-use Rattle.std.specs.Option.{is_some}
-use Rattle.std.specs.List.{find, list_any}
-use Rattle.std.proofs.lemmas.List.Folds.{list_any-append}
-use Rattle.desk_rows.specs.declared.row.Row.{Row}
-use Rattle.desk_rows.specs.declared.row.Row.TheVariants.{Member}
-use Rattle.desk_rows.specs.declared.row.Key.{Key}
+use Rattle.desk_rows.specs.laws.Words.{◌≡◌, ℕ, Bool, true, false, cond, ◌||◌, List, [], ◌∷◌, ◌++◌, map, refl, sym, ap, ◌∙◌, Some, None, is_some, find, list_any, list_any-append, Row, Member, Key, Placed, has_key, same_row, is_in, with_rows, EditOf, listed_rows, change_rows, come_rows, takes, puts}
 use Rattle.desk_rows.specs.declared.row.Key.TheVariants as keys
-use Rattle.desk_rows.specs.declared.edit.Placed.{Placed}
-use Rattle.desk_rows.specs.Row.{has_key, same_row}
-use Rattle.desk_rows.specs.Order.{is_in, with_rows}
-use Rattle.desk_rows.specs.Edit.{EditOf}
-use Rattle.desk_rows.specs.inner.Judged.{listed_rows, change_rows, come_rows, takes, puts}
 use Rattle.desk_rows.specs.laws.OrderLaws.{list_any-with_rows}
 use Rattle.desk_rows.proofs.Finding.{is_found, found_there}
 use Rattle.desk_rows.proofs.KindLemmas.{not_its}

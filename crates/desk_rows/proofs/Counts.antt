@@ -1,20 +1,8 @@
 -- Counts of rows, before and after an edit.
-use Rattle.std.proofs.Common.{◌≡◌, ℕ, ◌+◌, ◌-◌, ◌≤◌, nat_lt, nat_eq, Bool, true, false, not, cond, ◌&&◌, ◌||◌, List, [], ◌∷◌, ◌++◌, map, refl, sym, ap, ◌∙◌, inl, inr, arith}
-use Rattle.std.specs.Prelude.{count_by}
-use Rattle.std.specs.List.{list_any, list_all}
-use Rattle.std.proofs.lemmas.Bool.{or_left, or_right, or_cases}
-use Rattle.desk_rows.specs.declared.row.Row.{Row}
-use Rattle.desk_rows.specs.declared.row.Row.TheVariants.{Member}
-use Rattle.desk_rows.specs.declared.edit.Placed.{Placed}
+use Rattle.desk_rows.specs.laws.Words.{◌≡◌, ℕ, ◌+◌, ◌-◌, ◌≤◌, nat_lt, nat_eq, Bool, true, false, not, cond, ◌&&◌, ◌||◌, List, [], ◌∷◌, ◌++◌, map, refl, sym, ap, ◌∙◌, inl, inr, arith, count_by, list_any, list_all, or_left, or_right, or_cases, Row, Member, Placed, in_order, is_in, with_rows, without_rows, take_at, EditOf, outs, ins, Desk, rows_of, exchanged, stay_rows, come_rows, stay_count, go_count, come_count, all_come, all_stay}
 use Rattle.desk_rows.specs.laws.Equal.{row_itself}
-use Rattle.desk_rows.specs.Order.{in_order, is_in, with_rows, without_rows}
 use Rattle.desk_rows.specs.laws.OrderLaws.{count_by-with_rows, count_by-without_rows, list_all-with_rows, list_any-with_rows}
-use Rattle.desk_rows.specs.Places.{take_at}
 use Rattle.desk_rows.specs.laws.PlaceLaws.{count_next, count_by-take_at, count_by-put_at}
-use Rattle.desk_rows.specs.Edit.{EditOf, outs, ins}
-use Rattle.desk_rows.specs.Desk.{Desk, rows_of}
-use Rattle.desk_rows.specs.Exchange.{exchanged}
-use Rattle.desk_rows.specs.inner.Judged.{stay_rows, come_rows, stay_count, go_count, come_count, all_come, all_stay}
 use Rattle.desk_rows.specs.laws.Laws.{Apt, outs_order, count_by-append}
 
 pub true_false : true ≡ false → ⊥

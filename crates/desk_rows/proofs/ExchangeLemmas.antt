@@ -1,28 +1,12 @@
 -- The tests of an exchange, and what absorbing an edit that fits finds and leaves.
-use Rattle.std.proofs.Common.{◌≡◌, ℕ, ◌+◌, ◌-◌, ◌≤◌, nat_eq, Bool, true, false, not, cond, ◌&&◌, ◌||◌, if◌then◌else◌, List, [], ◌∷◌, map, length, filter, refl, sym, ap, ◌∙◌, inl, inr, arith}
-use Rattle.std.specs.Prelude.{count_by}
-use Rattle.std.specs.List.{list_any, list_all}
-use Rattle.std.proofs.lemmas.Bool.{and_parts, and_from, or_right, or_cases, cases_Bool}
-use borrow.Author.Tests.{eqb-true, eq-eqb}
-use Rattle.desk_rows.specs.declared.row.Row.{Row}
+use Rattle.desk_rows.specs.laws.Words.{◌≡◌, ℕ, ◌+◌, ◌-◌, ◌≤◌, nat_eq, Bool, true, false, not, cond, ◌&&◌, ◌||◌, if◌then◌else◌, List, [], ◌∷◌, map, length, filter, refl, sym, ap, ◌∙◌, inl, inr, arith, count_by, list_any, list_all, and_parts, and_from, or_right, or_cases, cases_Bool, eqb-true, eq-eqb, Row, MemberRow as Member, Key, Kind, Placed, rank, kind_of, own_numbers, key_numbers, key_of, owner_of, has_key, same_key, numbers_precede, is_of, precedes, in_order, is_in, with_row, with_rows, take_at, can_take, can_put, places_rise, put_within, member_limit, slot_limit, other_limit, Desk, blank, good, rows_of, is_named_there}
 use Rattle.desk_rows.specs.declared.row.Row.TheVariants as rows
-use Rattle.desk_rows.specs.declared.row.Member.{Member}
-use Rattle.desk_rows.specs.declared.row.Key.{Key}
 use Rattle.desk_rows.specs.declared.row.Key.TheVariants as keys
-use Rattle.desk_rows.specs.declared.row.Kind.{Kind}
 use Rattle.desk_rows.specs.declared.row.Kind.TheVariants as kinds
-use Rattle.desk_rows.specs.declared.edit.Placed.{Placed}
-use Rattle.desk_rows.specs.Row.{rank, kind_of, own_numbers, key_numbers, key_of, owner_of, has_key, same_key}
-use Rattle.desk_rows.specs.Numbers.{numbers_precede}
 use Rattle.desk_rows.specs.laws.NumberLaws.{numbers_not_before}
 use Rattle.desk_rows.specs.laws.Equal.{key_itself, same_key_is, its_key}
-use Rattle.desk_rows.specs.Kinds.{is_of}
-use Rattle.desk_rows.specs.Order.{precedes, in_order, is_in, with_row, with_rows}
 use Rattle.desk_rows.specs.laws.OrderLaws.{at_each, from_each, is_in-filter, in_order-filter}
-use Rattle.desk_rows.specs.Places.{take_at, can_take, can_put, places_rise, put_within}
 use Rattle.desk_rows.specs.laws.PlaceLaws.{count_next, length-take_at, can_put_within}
-use Rattle.desk_rows.specs.Limits.{member_limit, slot_limit, other_limit}
-use Rattle.desk_rows.specs.Desk.{Desk, blank, good, rows_of, is_named_there}
 use Rattle.desk_rows.specs.laws.Laws.{good_parts, good_order, any_counts, is_in-append, count_by-append}
 use Rattle.desk_rows.proofs.KindLemmas.{filter_length, map_length, within_parts}
 use Rattle.desk_rows.proofs.Counts.{true_false, rows_count, witness, some_count, count_some}
@@ -54,14 +38,7 @@ owner_key r = owner_of (key_of r)
 
 own_kept : (k : Key) → own_numbers (owner_of k) ≡ own_numbers k
 own_kept (keys.Room n) = refl
-own_kept (keys.Member n) = refl
-own_kept (keys.Source n) = refl
-own_kept (keys.Slot n) = refl
-own_kept (keys.Sub n) = refl
-own_kept (keys.Mute n) = refl
-own_kept (keys.Gain m n) = refl
-own_kept (keys.Pin n) = refl
-own_kept (keys.Floor n) = refl
+own_kept _ = refl
 
 -- rows of one kind in order have the numbers of differing rows
 owners_differ : (kind : Kind) (x z : Row) → is_of kind x ≡ true → is_of kind z ≡ true → precedes x z ≡ true → same_key (owner_key x) (owner_key z) ≡ false
@@ -124,15 +101,8 @@ of_eight_kinds (x ∷ xs) h =
       one_kind : (x : Row) → not (is_of kinds.Member x) ≡ true →
           ◌≡◌ {A = ℕ} 1 (((cond (is_of kinds.Room x) 1 0 + cond (is_of kinds.Source x) 1 0) + (cond (is_of kinds.Slot x) 1 0 + cond (is_of kinds.Sub x) 1 0))
           + ((cond (is_of kinds.Mute x) 1 0 + cond (is_of kinds.Gain x) 1 0) + (cond (is_of kinds.Pin x) 1 0 + cond (is_of kinds.Floor x) 1 0)))
-      one_kind (rows.Room r) h = refl
       one_kind (rows.Member r) h = cc
-      one_kind (rows.Source r) h = refl
-      one_kind (rows.Slot r) h = refl
-      one_kind (rows.Sub r) h = refl
-      one_kind (rows.Mute r) h = refl
-      one_kind (rows.Gain r) h = refl
-      one_kind (rows.Pin r) h = refl
-      one_kind (rows.Floor r) h = refl
+      one_kind _ h = refl
 
 -- the place of an owner's kind, by that of the kind
 owner_rank : ℕ → ℕ
@@ -144,14 +114,7 @@ owner_rank n =
 owner_ranks : (k : Key) → rank (kind_of (owner_of k)) ≡ owner_rank (rank (kind_of k))
 unfolding owner_rank
 owner_ranks (keys.Room n) = refl
-owner_ranks (keys.Member n) = refl
-owner_ranks (keys.Source n) = refl
-owner_ranks (keys.Slot n) = refl
-owner_ranks (keys.Sub n) = refl
-owner_ranks (keys.Mute n) = refl
-owner_ranks (keys.Gain m n) = refl
-owner_ranks (keys.Pin n) = refl
-owner_ranks (keys.Floor n) = refl
+owner_ranks _ = refl
 
 members_are : (ms : List Member) → list_all (is_of kinds.Member) (map rows.Member ms) ≡ true
 members_are [] = refl
@@ -169,15 +132,11 @@ itself d x one = count_some (has_key (key_of x)) (rows_of d) (any_counts (has_ke
 
 -- a row's owner is there: it is named, or the row itself
 owner_named : (d : Desk) (x : Row) → is_in (rows_of d) x ≡ true → is_named_there d x ≡ true → list_any (has_key (owner_key x)) (rows_of d) ≡ true
-owner_named d (rows.Room r) one h = itself d (rows.Room r) one
-owner_named d (rows.Member r) one h = itself d (rows.Member r) one
-owner_named d (rows.Source r) one h = itself d (rows.Source r) one
-owner_named d (rows.Slot r) one h = itself d (rows.Slot r) one
 owner_named d (rows.Sub s) one h = (and_parts _ true (and_parts (list_any (has_key (keys.Source s.source)) (rows_of d)) _ h).1).0
 owner_named d (rows.Mute m) one h = (and_parts _ true h).0
-owner_named d (rows.Gain r) one h = itself d (rows.Gain r) one
 owner_named d (rows.Pin p) one h = (and_parts (list_any (has_key (keys.Room p.room)) (rows_of d)) _ h).0
 owner_named d (rows.Floor f) one h = (and_parts (list_any (has_key (keys.Room f.room)) (rows_of d)) _ h).0
+owner_named d x one h = itself d x one
 
 -- a good desk has no more rows of a kind than of the kind of their owners
 module _ (d : Desk) (g : good d ≡ true) (kind owner : Kind) (owns : owner_rank (rank kind) ≡ rank owner) (other : nat_eq (rank owner) (rank kinds.Member) ≡ false) where

@@ -1,21 +1,6 @@
 -- What a key finds in a desk, and in one that an edit leads to.
-use Rattle.std.proofs.Common.{◌≡◌, ℕ, ◌+◌, ◌≤◌, nat_lt, Bool, true, false, cond, not, ◌||◌, List, [], ◌∷◌, refl, sym, ap, ◌∙◌, inl, inr, ◌⊎◌, arith, Option, Some, None}
-use Rattle.std.specs.Prelude.{count_by}
-use Rattle.std.specs.Option.{is_some}
-use Rattle.std.specs.List.{find, list_any, list_all}
-use Rattle.std.proofs.lemmas.Bool.{and_parts, or_left, or_right, cases_Bool}
-use borrow.Author.Tests.{eqb-true}
-use Rattle.desk_rows.specs.declared.row.Row.{Row}
-use Rattle.desk_rows.specs.declared.row.Key.{Key}
+use Rattle.desk_rows.specs.laws.Words.{◌≡◌, ℕ, ◌+◌, ◌≤◌, nat_lt, Bool, true, false, cond, not, ◌||◌, List, [], ◌∷◌, refl, sym, ap, ◌∙◌, inl, inr, ◌⊎◌, arith, Option, Some, None, count_by, is_some, find, list_any, list_all, and_parts, or_left, or_right, cases_Bool, eqb-true, Row, Key, key_of, has_key, same_row, is_of, key_precedes, precedes, in_order, is_in, EditOf, Desk, good, rows_of, row_at, is_alone, exchanged, IsKeyed, stay_rows, go_rows, come_rows, takes, puts}
 use Rattle.desk_rows.specs.declared.row.Kind.TheVariants as kinds
-use Rattle.desk_rows.specs.Row.{key_of, has_key, same_row}
-use Rattle.desk_rows.specs.Kinds.{is_of}
-use Rattle.desk_rows.specs.Order.{key_precedes, precedes, in_order, is_in}
-use Rattle.desk_rows.specs.Edit.{EditOf}
-use Rattle.desk_rows.specs.Desk.{Desk, good, rows_of, row_at, is_alone}
-use Rattle.desk_rows.specs.Exchange.{exchanged}
-use Rattle.desk_rows.specs.Keyed.{IsKeyed}
-use Rattle.desk_rows.specs.inner.Judged.{stay_rows, go_rows, come_rows, takes, puts}
 use Rattle.desk_rows.specs.laws.Equal.{its_key, not_before_itself, same_row_is, row_itself}
 use Rattle.desk_rows.specs.laws.PlaceLaws.{count_next}
 use Rattle.desk_rows.specs.laws.OrderLaws.{at_each}

@@ -1,15 +1,6 @@
 -- The gains of a member stand together among rows in order.
-use Rattle.std.proofs.Common.{◌≡◌, ℕ, zero, suc, ◌<◌, ◌≤◌, Bool, true, false, cond, not, ◌&&◌, ◌||◌, List, [], ◌∷◌, length, get_or, take, drop, filter, nat_eq, nat_lt, refl, sym, ap, ◌∙◌, arith}
-use Rattle.std.specs.List.{list_all}
-use Rattle.std.proofs.lemmas.Bool.{and_parts}
-use Rattle.std.proofs.lemmas.Bool.Decides.{nat_tests}
-use Rattle.desk_rows.specs.declared.row.Row.{Row}
-use Rattle.desk_rows.specs.declared.row.Row.TheVariants.{Room, Member, Source, Slot, Sub, Mute, Gain, Pin, Floor}
+use Rattle.desk_rows.specs.laws.Words.{◌≡◌, ℕ, zero, suc, ◌<◌, ◌≤◌, Bool, true, false, cond, not, ◌&&◌, ◌||◌, List, [], ◌∷◌, length, get_or, take, drop, filter, nat_eq, nat_lt, refl, sym, ap, ◌∙◌, arith, list_all, and_parts, nat_tests, Row, Room, Member, Source, Slot, Sub, Mute, Gain, Pin, Floor, Parts, key_of, key_precedes, precedes, in_order, is_gain_of}
 use Rattle.desk_rows.specs.declared.row.Key.TheVariants as keys
-use Rattle.desk_rows.specs.inner.Parting.{Parts}
-use Rattle.desk_rows.specs.Row.{key_of}
-use Rattle.desk_rows.specs.Order.{key_precedes, precedes, in_order}
-use Rattle.desk_rows.specs.Naming.{is_gain_of}
 use Rattle.desk_rows.proofs.Halving.{later_parts, each_at, order_of_rest, rest_fails}
 
 -- ---- two tests that part a list
@@ -57,37 +48,19 @@ before_is_other member (Gain g) e = other g.member g.source e
   where
     other : (n s : ℕ) → nat_lt n member || (nat_eq n member && nat_lt s 0) ≡ true → nat_eq n member ≡ false
     other n s e = grind (arith, nat_tests, e)
-before_is_other member (Room r) e = refl
-before_is_other member (Member r) e = refl
-before_is_other member (Source r) e = refl
-before_is_other member (Slot r) e = refl
-before_is_other member (Sub r) e = refl
-before_is_other member (Mute r) e = refl
-before_is_other member (Pin r) e = refl
-before_is_other member (Floor r) e = refl
+before_is_other member _ e = refl
 
 -- what stands between the first gain of a member and another one is one
 is_between : (member : ℕ) (a b : Row) → is_before member a ≡ false → precedes a b ≡ true → is_gain_of member b ≡ true → is_gain_of member a ≡ true
-is_between member (Gain g) (Gain h) n e is = between g.member g.source h.member h.source n e is
+is_between member a b n e is = by b a n e is
   where
     between : (x s y t : ℕ) → nat_lt x member || (nat_eq x member && nat_lt s 0) ≡ false → nat_lt x y || (nat_eq x y && nat_lt s t) ≡ true → nat_eq y member ≡ true → nat_eq x member ≡ true
     between x s y t n e is = grind (arith, nat_tests, n, e, is)
-is_between member (Room r) (Gain h) n e is = absurd (cc)
-is_between member (Member r) (Gain h) n e is = absurd (cc)
-is_between member (Source r) (Gain h) n e is = absurd (cc)
-is_between member (Slot r) (Gain h) n e is = absurd (cc)
-is_between member (Sub r) (Gain h) n e is = absurd (cc)
-is_between member (Mute r) (Gain h) n e is = absurd (cc)
-is_between member (Pin r) (Gain h) n e is = absurd (cc)
-is_between member (Floor r) (Gain h) n e is = absurd (cc)
-is_between member a (Room r) n e is = absurd (cc)
-is_between member a (Member r) n e is = absurd (cc)
-is_between member a (Source r) n e is = absurd (cc)
-is_between member a (Slot r) n e is = absurd (cc)
-is_between member a (Sub r) n e is = absurd (cc)
-is_between member a (Mute r) n e is = absurd (cc)
-is_between member a (Pin r) n e is = absurd (cc)
-is_between member a (Floor r) n e is = absurd (cc)
+
+    by : (b a : Row) → is_before member a ≡ false → precedes a b ≡ true → is_gain_of member b ≡ true → is_gain_of member a ≡ true
+    by (Gain h) (Gain g) n e is = between g.member g.source h.member h.source n e is
+    by (Gain h) _ n e is = absurd (cc)
+    by _ a n e is = absurd (cc)
 
 pub gains_parted : (member : ℕ) (xs : List Row) (i : ℕ) → in_order xs ≡ true → Parts (is_before member) xs i
     → (k j : ℕ) (d : Row) → k ≤ j → j < length (drop i xs) → is_gain_of member (get_or (drop i xs) j d) ≡ true → is_gain_of member (get_or (drop i xs) k d) ≡ true

@@ -1,18 +1,6 @@
 -- Tables of what is in rows: made, counted, and parted by groups.
-use Rattle.std.proofs.Common.{◌≡◌, ℕ, zero, suc, ◌+◌, ◌<◌, ◌≤◌, Bool, true, false, cond, ◌&&◌, ◌||◌, List, [], ◌∷◌, length, insert, remove, get_or, filter, nat_eq, nat_lt, nat_le, refl, sym, ap, ◌∙◌, arith, eqb-true, Option, Some, None}
-use Rattle.std.specs.Prelude.{count_by}
-use Rattle.std.specs.List.{list_all, filter_map, cons_option}
-use Rattle.std.specs.List.Sorted.{IsNonDecreasingBy, IsPermutation, IsSortedByKey}
-use Rattle.std.specs.Ordering.{nat_cmp, is_lt, ordering_then}
-use Rattle.std.proofs.lemmas.Bool.{and_parts, and_from}
-use Rattle.std.proofs.lemmas.Bool.Decides.{nat_tests}
-use Rattle.std.proofs.lemmas.List.Sorted.{sum_by-IsPermutation}
-use Rattle.desk_rows.specs.declared.row.Row.{Row}
-use Rattle.desk_rows.specs.declared.row.Kind.{Kind}
-use Rattle.desk_rows.specs.Kinds.{is_of}
+use Rattle.desk_rows.specs.laws.Words.{◌≡◌, ℕ, zero, suc, ◌+◌, ◌<◌, ◌≤◌, Bool, true, false, cond, ◌&&◌, ◌||◌, List, [], ◌∷◌, length, insert, remove, get_or, filter, nat_eq, nat_lt, nat_le, refl, sym, ap, ◌∙◌, arith, eqb-true, Option, Some, None, count_by, list_all, filter_map, cons_option, IsNonDecreasingBy, IsPermutation, IsSortedByKey, nat_cmp, is_lt, ordering_then, and_parts, and_from, nat_tests, sum_by-IsPermutation, Row, Kind, is_of, stand_by, in_turn, passes_if, passes_in, Parts}
 use Rattle.desk_rows.specs.laws.PlaceLaws.{count_next}
-use Rattle.desk_rows.specs.inner.Grouped.{stand_by, in_turn, passes_if, passes_in}
-use Rattle.desk_rows.specs.inner.Parting.{Parts}
 use Rattle.desk_rows.proofs.Halving.{later_parts}
 
 -- ---- counts

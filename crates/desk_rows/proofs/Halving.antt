@@ -1,17 +1,7 @@
 -- What halving finds among elements whose numbers do not fall.
-use Rattle.std.proofs.Common.{◌≡◌, ℕ, zero, suc, ◌<◌, ◌≤◌, ◌⊎◌, inl, inr, Bool, true, false, cond, not, ◌||◌, List, [], ◌∷◌, length, get_or, take, drop, filter, nat_eq, nat_lt, nat_le, refl, sym, ap, ◌∙◌, arith, Some, None}
-use Rattle.std.specs.List.{find, list_all}
-use Rattle.std.proofs.lemmas.Bool.{and_parts, and_from, cases_Bool}
-use Rattle.desk_rows.specs.declared.row.Row.{Row}
-use Rattle.desk_rows.specs.declared.row.Key.{Key}
-use Rattle.desk_rows.specs.declared.row.Kind.{Kind}
-use Rattle.desk_rows.specs.inner.Parting.{Parts}
-use Rattle.desk_rows.specs.Numbers.{same_numbers, numbers_precede}
-use Rattle.desk_rows.specs.Row.{rank, kind_of, key_of, key_numbers, own_numbers, has_key, same_key, same_row}
-use Rattle.desk_rows.specs.Kinds.{is_of}
+use Rattle.desk_rows.specs.laws.Words.{◌≡◌, ℕ, zero, suc, ◌<◌, ◌≤◌, ◌⊎◌, inl, inr, Bool, true, false, cond, not, ◌||◌, List, [], ◌∷◌, length, get_or, take, drop, filter, nat_eq, nat_lt, nat_le, refl, sym, ap, ◌∙◌, arith, Some, None, find, list_all, and_parts, and_from, cases_Bool, Row, Key, Kind, Parts, same_numbers, numbers_precede, rank, kind_of, key_of, key_numbers, own_numbers, has_key, same_key, same_row, is_of, key_precedes, precedes, in_order, is_in}
 use Rattle.desk_rows.specs.laws.NumberLaws.{same_numbers_is, numbers_not_before, one_list_precedes, first_rises}
 use Rattle.desk_rows.specs.laws.Equal.{same_row_is, key_itself, keys_precede_on, not_before_itself, same_key_is, three_numbers}
-use Rattle.desk_rows.specs.Order.{key_precedes, precedes, in_order, is_in}
 use Rattle.desk_rows.specs.laws.OrderLaws.{at_each, one_way}
 use Rattle.desk_rows.proofs.Counts.{true_false}
 

@@ -1,23 +1,9 @@
 -- An index of members, made and asked.
-use Rattle.std.proofs.Common.{◌≡◌, ℕ, suc, ◌+◌, ◌≤◌, inl, inr, Bool, true, false, cond, ◌||◌, List, [], ◌∷◌, ◌++◌, map, length, nat_eq, Option, None, Some, refl, sym, ap, subst, ◌∙◌, arith, append_assoc, eqb-true}
-use Rattle.std.specs.Prelude.{count_by}
-use Rattle.std.specs.Option.{option_map, option_and_then}
-use Rattle.std.specs.List.{All, find, list_any, slice_get}
-use Rattle.std.specs.List.Sorted.{IsNonDecreasingBy, IsPermutation}
-use Rattle.std.proofs.lemmas.Bool.{cases_Bool, or_left}
-use Rattle.std.proofs.lemmas.Bool.Decides.{nat_tests}
-use Rattle.std.proofs.lemmas.List.Elements.{All-nil, All-cons, All-head, All-tail, All-weaker}
-use Rattle.std.proofs.lemmas.List.Sorted.{All-permutation, list_any-IsPermutation}
+use Rattle.desk_rows.specs.laws.Words.{◌≡◌, ℕ, suc, ◌+◌, ◌≤◌, inl, inr, Bool, true, false, cond, ◌||◌, List, [], ◌∷◌, ◌++◌, map, length, nat_eq, Option, None, Some, refl, sym, ap, subst, ◌∙◌, arith, append_assoc, eqb-true, count_by, option_map, option_and_then, All, find, list_any, slice_get, IsNonDecreasingBy, IsPermutation, cases_Bool, or_left, nat_tests, All-nil, All-cons, All-head, All-tail, All-weaker, All-permutation, list_any-IsPermutation, MemberRow as Member, Entry, has_key, key_of, place_in, entries_from, entry_in, IsIndex, Desk, good, rows_of}
 use Rattle.desk_rows.specs.laws.Equal.{number_itself, its_key}
-use Rattle.desk_rows.specs.declared.row.Member.{Member}
 use Rattle.desk_rows.specs.declared.row.Row.TheVariants as rows
 use Rattle.desk_rows.specs.declared.row.Key.TheVariants as keys
-use Rattle.desk_rows.specs.declared.index.Entry.{Entry}
-use Rattle.desk_rows.specs.Row.{has_key, key_of}
-use Rattle.desk_rows.specs.Places.{place_in}
 use Rattle.desk_rows.specs.laws.PlaceLaws.{count_next}
-use Rattle.desk_rows.specs.inner.Index.{entries_from, entry_in, IsIndex}
-use Rattle.desk_rows.specs.Desk.{Desk, good, rows_of}
 use Rattle.desk_rows.specs.laws.Laws.{one_key, is_in-append}
 use Rattle.desk_rows.proofs.Halving.{Rises}
 use Rattle.desk_rows.proofs.Counts.{true_false, witness, no_count, rows_count, count_by-map}

@@ -1,28 +1,11 @@
 -- A desk after an edit is good exactly where it is judged so.
-use Rattle.std.proofs.Common.{◌≡◌, ℕ, ◌+◌, nat_lt, nat_eq, Bool, true, false, not, ◌&&◌, ◌||◌, List, [], ◌∷◌, map, refl, sym, ap, ◌∙◌, inl, inr, ◌⊎◌, arith}
-use Rattle.std.specs.Prelude.{count_by}
-use Rattle.std.specs.List.{list_any, list_all}
-use Rattle.std.proofs.lemmas.Bool.{and_parts, and_from, or_left, or_right, or_cases, cases_Bool}
-use borrow.Author.Tests.{eqb-true, eq-eqb}
-use Rattle.desk_rows.specs.declared.row.Row.{Row}
-use Rattle.desk_rows.specs.declared.row.Row.TheVariants.{Room, Member, Source, Slot, Sub, Mute, Gain, Pin, Floor}
-use Rattle.desk_rows.specs.declared.row.Key.{Key}
+use Rattle.desk_rows.specs.laws.Words.{◌≡◌, ℕ, ◌+◌, nat_lt, nat_eq, Bool, true, false, not, ◌&&◌, ◌||◌, List, [], ◌∷◌, map, refl, sym, ap, ◌∙◌, inl, inr, ◌⊎◌, arith, count_by, list_any, list_all, and_parts, and_from, or_left, or_right, or_cases, cases_Bool, eqb-true, eq-eqb, Row, Room, Member, Source, Slot, Sub, Mute, Gain, Pin, Floor, Key, Claim, key_of, has_key, makes, same_claim, other_claims, claims_of, names, precedes, in_order, key_is_new, is_in, without_rows, take_at, EditOf, outs, ins, Desk, good, rows_of, is_within_limits, is_named_there, is_made_once, is_bridges, is_alone, obeys, is_of, exchanged, stay_rows, go_rows, come_rows, takes, puts, keeps_names, all_come, all_stay, moves, is_shaken, is_sound, stays_sound, IsKeyed}
 use Rattle.desk_rows.specs.declared.row.Kind.TheVariants as kinds
-use Rattle.desk_rows.specs.declared.claim.Claim.{Claim}
 use Rattle.desk_rows.specs.declared.claim.Claim.TheVariants as claims
-use Rattle.desk_rows.specs.Row.{key_of, has_key, makes, same_claim, other_claims, claims_of, names}
 use Rattle.desk_rows.specs.laws.Equal.{key_itself, its_key, one_precedes, same_claim_is, claim_itself}
-use Rattle.desk_rows.specs.Order.{precedes, in_order, key_is_new, is_in, without_rows}
 use Rattle.desk_rows.specs.laws.OrderLaws.{at_each, from_each, list_all-with_rows, list_all-filter, in_order-filter, with_rows_in_order}
-use Rattle.desk_rows.specs.Places.{take_at}
-use Rattle.desk_rows.specs.Edit.{EditOf, outs, ins}
-use Rattle.desk_rows.specs.Desk.{Desk, good, rows_of, is_within_limits, is_named_there, is_made_once, is_bridges, is_alone, obeys}
-use Rattle.desk_rows.specs.Kinds.{is_of}
-use Rattle.desk_rows.specs.Exchange.{exchanged}
 use Rattle.desk_rows.specs.laws.Laws.{Apt, ins_order, good_parts, good_from, good_order, one_key, any_counts, claims_key, is_in-append}
-use Rattle.desk_rows.specs.inner.Judged.{stay_rows, go_rows, come_rows, takes, puts, keeps_names, all_come, all_stay, moves, is_shaken, is_sound, stays_sound}
 use Rattle.desk_rows.proofs.Counts.{true_false, any_count, witness, all_after, two_counts, no_count}
-use Rattle.desk_rows.specs.Keyed.{IsKeyed}
 use Rattle.desk_rows.proofs.Finding.{before, later, was_there, keyed_alone}
 use Rattle.desk_rows.proofs.Unshaken.{unshaken}
 
@@ -44,9 +27,7 @@ among f c (b ∷ cs) all e =
 pub bridge_same : (d : Desk) (e : EditOf) (c : Claim) → is_bridges (exchanged d e) c ≡ is_bridges d c
 unfolding exchanged
 bridge_same d e (claims.Key k) = refl
-bridge_same d e (claims.Address x) = refl
-bridge_same d e (claims.Ssrc s) = refl
-bridge_same d e (claims.Place m i) = refl
+bridge_same d e _ = refl
 
 pub own_claims : (r : Row) → list_all (λ c. makes c r) (claims_of r) ≡ true
 own_claims r = and_from _ _ (key_itself (key_of r)) (others r) where
@@ -57,15 +38,10 @@ own_claims r = and_from _ _ (key_itself (key_of r)) (others r) where
   second c b = or_right (same_claim c b) _ (first c [])
 
   others : (r : Row) → list_all (λ c. makes c r) (other_claims r) ≡ true
-  others (Room r) = refl
   others (Member m) = and_from _ _ (first (claims.Address m.address) (claims.Ssrc m.out_audio ∷ [])) (and_from _ _ (second (claims.Ssrc m.out_audio) (claims.Address m.address)) refl)
   others (Source s) = and_from _ _ (first (claims.Ssrc s.ssrc) []) refl
   others (Slot s) = and_from _ _ (first (claims.Ssrc s.out_ssrc) (claims.Place s.member s.index ∷ [])) (and_from _ _ (second (claims.Place s.member s.index) (claims.Ssrc s.out_ssrc)) refl)
-  others (Sub s) = refl
-  others (Mute m) = refl
-  others (Gain n) = refl
-  others (Pin p) = refl
-  others (Floor f) = refl
+  others _ = refl
 
 -- what holds of each claim of a row holds of any claim that it makes
 claimed : (f : Claim → Bool) (c : Claim) (r : Row) → list_all f (claims_of r) ≡ true → makes c r ≡ true → f c ≡ true
@@ -216,15 +192,11 @@ module _ (d : Desk) (e : EditOf) (g : good d ≡ true) (a : Apt d e) where
     by (inr calm) (inr still) = unshaken d e g a keyed plain still keep r one (sym (ap (λ b. is_shaken b d e r) still) ∙ calm) before'
     by (inr calm) (inl moved) = anyway r (sym (ap (λ b. is_shaken b d e r) moved) ∙ calm) before' where
       anyway : (r : Row) → is_shaken true d e r ≡ false → obeys d r ≡ true → obeys (exchanged d e) r ≡ true
-      anyway (Room r) calm h = absurd (true_false calm)
       anyway (Member m) calm h = h
       anyway (Source s) calm h = h
       anyway (Slot s) calm h = h
       anyway (Mute s) calm h = h
-      anyway (Sub s) calm h = absurd (true_false calm)
-      anyway (Gain s) calm h = absurd (true_false calm)
-      anyway (Pin s) calm h = absurd (true_false calm)
-      anyway (Floor s) calm h = absurd (true_false calm)
+      anyway _ calm h = absurd (true_false calm)
 
   -- what is judged of single rows makes the new desk good
   pub sound_good : list_all (λ r. not (is_of kinds.Member r)) (ins e) ≡ true → is_within_limits (exchanged d e) ≡ true →

@@ -1,11 +1,6 @@
 -- The rows of a desk in which a key finds one row at most are known by what keys find.
-use Rattle.std.proofs.Common.{◌≡◌, ℕ, ◌≤◌, Bool, true, false, cond, ◌&&◌, ◌||◌, List, [], ◌∷◌, refl, sym, ap, ◌∙◌, inl, inr, arith, Some}
-use Rattle.std.specs.Prelude.{count_by}
-use Rattle.std.specs.List.{find, list_any}
-use Rattle.std.proofs.lemmas.Bool.{cases_Bool}
-use Rattle.desk_rows.specs.declared.row.Row.{Row}
+use Rattle.desk_rows.specs.laws.Words.{◌≡◌, ℕ, ◌≤◌, Bool, true, false, cond, ◌&&◌, ◌||◌, List, [], ◌∷◌, refl, sym, ap, ◌∙◌, inl, inr, arith, Some, count_by, find, list_any, cases_Bool, Row, finds}
 use Rattle.desk_rows.specs.laws.PlaceLaws.{count_next}
-use Rattle.desk_rows.specs.inner.Found.{finds}
 
 -- where no row has a key, none has it and passes
 none_passes : (p q : Row → Bool) (rs : List Row) → count_by p rs ≤ 0 → list_any (λ r. p r && q r) rs ≡ false

@@ -1,22 +1,10 @@
 -- The rows of one kind, and the row of a key.
-use Rattle.std.proofs.Common.{◌≡◌, ℕ, ◌≤◌, nat_le, Bool, true, false, cond, not, append-nil, List, [], ◌∷◌, ◌++◌, map, filter, length, refl, sym, ap, ◌∙◌, arith, Some, None}
-use Rattle.std.specs.Prelude.{count_by}
-use Rattle.std.specs.List.{find, list_all}
-use Rattle.std.proofs.lemmas.Bool.{and_parts}
-use Rattle.desk_rows.specs.declared.row.Row.{Row}
+use Rattle.desk_rows.specs.laws.Words.{◌≡◌, ℕ, ◌≤◌, nat_le, Bool, true, false, cond, not, append-nil, List, [], ◌∷◌, ◌++◌, map, filter, length, refl, sym, ap, ◌∙◌, arith, Some, None, count_by, find, list_all, and_parts, Row, MemberRow as Member, Kind, Key, has_key, is_of, in_order, room_limit, member_limit, source_limit, slot_limit, gain_limit, Desk, good, count_of}
 use Rattle.desk_rows.specs.declared.row.Row.TheVariants as rows
-use Rattle.desk_rows.specs.declared.row.Member.{Member}
-use Rattle.desk_rows.specs.declared.row.Kind.{Kind}
 use Rattle.desk_rows.specs.declared.row.Kind.TheVariants as kinds
-use Rattle.desk_rows.specs.declared.row.Key.{Key}
 use Rattle.desk_rows.specs.declared.row.Key.TheVariants as keys
-use Rattle.desk_rows.specs.Row.{has_key}
-use Rattle.desk_rows.specs.Kinds.{is_of}
-use Rattle.desk_rows.specs.Order.{in_order}
-use Rattle.desk_rows.specs.Limits.{room_limit, member_limit, source_limit, slot_limit, gain_limit}
 use Rattle.desk_rows.specs.laws.OrderLaws.{not_true}
 use Rattle.desk_rows.specs.laws.PlaceLaws.{count_next}
-use Rattle.desk_rows.specs.Desk.{Desk, good, count_of}
 use Rattle.desk_rows.specs.laws.Laws.{good_parts}
 
 members_first : (ms : List Member) (os : List Row) → filter (is_of kinds.Member) (map rows.Member ms ++ os) ≡ map rows.Member ms ++ filter (is_of kinds.Member) os
@@ -39,14 +27,7 @@ members_skipped p none (m ∷ ms) os = ap (λ b. cond b (rows.Member m ∷ filte
 
 not_of : (kind : Kind) → (kind ≡ kinds.Member → ⊥) → (m : Member) → is_of kind (rows.Member m) ≡ false
 not_of kinds.Member not m = absurd (not refl)
-not_of kinds.Room not m = refl
-not_of kinds.Source not m = refl
-not_of kinds.Slot not m = refl
-not_of kinds.Sub not m = refl
-not_of kinds.Mute not m = refl
-not_of kinds.Gain not m = refl
-not_of kinds.Pin not m = refl
-not_of kinds.Floor not m = refl
+not_of _ not m = refl
 
 pub others_only : (kind : Kind) → (kind ≡ kinds.Member → ⊥) → (ms : List Member) (os : List Row) → filter (is_of kind) (map rows.Member ms ++ os) ≡ filter (is_of kind) os
 others_only kind not ms os = members_skipped (is_of kind) (not_of kind not) ms os
@@ -94,14 +75,7 @@ found_later p (x ∷ xs) ys h = by (p x) h (found_later p xs ys) where
 -- only the key of a member is a member's
 pub not_its : (key : Key) → ((n : ℕ) → key ≡ keys.Member n → ⊥) → (m : Member) → has_key key (rows.Member m) ≡ false
 not_its (keys.Member n) not m = absurd (not n refl)
-not_its (keys.Room n) not r = refl
-not_its (keys.Source n) not r = refl
-not_its (keys.Slot n) not r = refl
-not_its (keys.Sub n) not r = refl
-not_its (keys.Mute n) not r = refl
-not_its (keys.Gain m n) not r = refl
-not_its (keys.Pin n) not r = refl
-not_its (keys.Floor n) not r = refl
+not_its _ not r = refl
 
 pub skipped : (key : Key) → ((n : ℕ) → key ≡ keys.Member n → ⊥) → (ms : List Member) (os : List Row) → find (has_key key) (map rows.Member ms ++ os) ≡ find (has_key key) os
 skipped key not [] os = refl

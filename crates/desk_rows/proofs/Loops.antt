@@ -1,16 +1,8 @@
 -- Steps of loops over rows.
-use Rattle.std.proofs.Common.{◌≡◌, ℕ, zero, suc, ◌<◌, ◌≤◌, ◌⊎◌, inl, inr, Bool, true, false, ◌&&◌, List, [], ◌∷◌, ◌++◌, length, get_or, refl, sym, ap, ◌∙◌, arith}
-use Rattle.std.specs.List.{list_all, remove}
-use Rattle.std.proofs.lemmas.Bool.{and_parts, and_from, cases_Bool}
-use Rattle.desk_rows.specs.Row.{same_row}
+use Rattle.desk_rows.specs.laws.Words.{◌≡◌, ℕ, zero, suc, ◌<◌, ◌≤◌, ◌⊎◌, inl, inr, Bool, true, false, ◌&&◌, List, [], ◌∷◌, ◌++◌, length, get_or, refl, sym, ap, ◌∙◌, arith, list_all, remove, and_parts, and_from, cases_Bool, same_row, take_at, can_take, is_at, precedes, precedes_head, in_order, MemberRow as Member, Row, Placed}
 use Rattle.desk_rows.specs.declared.row.Row.TheVariants as rows
-use Rattle.desk_rows.specs.Places.{take_at, can_take, is_at}
 use Rattle.desk_rows.specs.laws.PlaceLaws.{at_within}
-use Rattle.desk_rows.specs.Order.{precedes, precedes_head, in_order}
 use Rattle.desk_rows.specs.laws.OrderLaws.{at_each, from_each, precedes_on}
-use Rattle.desk_rows.specs.declared.row.Member.{Member}
-use Rattle.desk_rows.specs.declared.row.Row.{Row}
-use Rattle.desk_rows.specs.declared.edit.Placed.{Placed}
 
 -- ---- places
 

@@ -1,9 +1,5 @@
 -- Rows put in one by one make what merging makes.
-use Rattle.std.proofs.Common.{◌≡◌, ◌⊎◌, inl, inr, Bool, true, false, cond, not, ◌&&◌, ◌||◌, List, [], ◌∷◌, ◌++◌, append_assoc, refl, sym, ap, ◌∙◌}
-use Rattle.std.specs.List.{list_all}
-use Rattle.std.proofs.lemmas.Bool.{and_parts, and_from, or_cases, cases_Bool}
-use Rattle.desk_rows.specs.declared.row.Row.{Row}
-use Rattle.desk_rows.specs.Order.{precedes, in_order, key_is_new, are_apart, with_row, with_rows}
+use Rattle.desk_rows.specs.laws.Words.{◌≡◌, ◌⊎◌, inl, inr, Bool, true, false, cond, not, ◌&&◌, ◌||◌, List, [], ◌∷◌, ◌++◌, append_assoc, refl, sym, ap, ◌∙◌, list_all, and_parts, and_from, or_cases, cases_Bool, Row, precedes, in_order, key_is_new, are_apart, with_row, with_rows}
 use Rattle.desk_rows.specs.laws.OrderLaws.{at_each, from_each, one_way, precedes_on, list_all-with_row}
 use Rattle.desk_rows.proofs.Counts.{true_false}
 

@@ -1,18 +1,5 @@
 -- What a table has in a group: the subscriptions of a source, and the slots of a member.
-use Rattle.std.proofs.Common.{◌≡◌, ℕ, ◌≤◌, Bool, true, false, cond, List, [], ◌∷◌, length, filter, nat_eq, nat_le, refl, sym, ap, ◌∙◌, arith, eqb-true, Option, Some, None}
-use Rattle.std.specs.List.{list_all, filter_map, cons_option}
-use Rattle.std.specs.List.Sorted.{IsNonDecreasingBy}
-use Rattle.std.proofs.lemmas.Bool.{and_parts, and_from}
-use Rattle.std.proofs.lemmas.Bool.Decides.{nat_tests}
-use Rattle.desk_rows.specs.declared.row.Row.{Row}
-use Rattle.desk_rows.specs.declared.row.Row.TheVariants.{Slot, Sub}
-use Rattle.desk_rows.specs.declared.row.Slot.{Slot as SlotRow}
-use Rattle.desk_rows.specs.declared.row.Sub.{Sub as SubRow}
-use Rattle.desk_rows.specs.Row.{same_row}
-use Rattle.desk_rows.specs.Order.{precedes, in_order}
-use Rattle.desk_rows.specs.Desk.{Desk, good}
-use Rattle.desk_rows.specs.Naming.{slot_in, sub_in, subs_naming, slots_naming}
-use Rattle.desk_rows.specs.inner.Grouped.{stand_by, IsTableOf}
+use Rattle.desk_rows.specs.laws.Words.{◌≡◌, ℕ, ◌≤◌, Bool, true, false, cond, List, [], ◌∷◌, length, filter, nat_eq, nat_le, refl, sym, ap, ◌∙◌, arith, eqb-true, Option, Some, None, list_all, filter_map, cons_option, IsNonDecreasingBy, and_parts, and_from, nat_tests, Row, Slot, Sub, SlotRow, SubRow, same_row, precedes, in_order, Desk, good, slot_in, sub_in, subs_naming, slots_naming, stand_by, IsTableOf}
 use Rattle.desk_rows.specs.laws.Equal.{same_row_is, row_itself}
 use Rattle.desk_rows.specs.laws.Laws.{good_order}
 use Rattle.desk_rows.specs.laws.PlaceLaws.{count_next}

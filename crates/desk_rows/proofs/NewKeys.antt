@@ -1,24 +1,7 @@
 -- No row comes under the key of another, and what is judged is right.
-use Rattle.std.proofs.Common.{◌≡◌, ℕ, ◌+◌, ◌≤◌, nat_lt, nat_eq, Bool, true, false, not, ◌&&◌, List, [], ◌∷◌, map, refl, sym, ap, ◌∙◌, inl, inr, ◌⊎◌, arith}
-use Rattle.std.specs.Prelude.{count_by}
-use Rattle.std.specs.Option.{is_some}
-use Rattle.std.specs.List.{list_any, list_all}
-use Rattle.std.proofs.lemmas.Bool.{and_parts, and_from, or_left, or_right, or_cases, cases_Bool}
-use borrow.Author.Tests.{eqb-true, eq-eqb}
-use Rattle.desk_rows.specs.declared.row.Row.{Row}
-use Rattle.desk_rows.specs.declared.row.Row.TheVariants.{Member}
-use Rattle.desk_rows.specs.declared.row.Key.{Key}
+use Rattle.desk_rows.specs.laws.Words.{◌≡◌, ℕ, ◌+◌, ◌≤◌, nat_lt, nat_eq, Bool, true, false, not, ◌&&◌, List, [], ◌∷◌, map, refl, sym, ap, ◌∙◌, inl, inr, ◌⊎◌, arith, count_by, is_some, list_any, list_all, and_parts, and_from, or_left, or_right, or_cases, cases_Bool, eqb-true, eq-eqb, Row, Member, Key, Placed, rank, kind_of, key_of, has_key, other_claims, is_of, is_in, EditOf, ins, Desk, good, rows_of, row_at, is_within_limits, is_named_there, is_made_once, obeys, exchanged, IsKeyed, stay_rows, go_rows, come_rows, takes, is_free, comes_once, keys_are_new, is_sound, is_sound_beside, all_come, all_stay, moves, stays_sound, judged}
 use Rattle.desk_rows.specs.declared.row.Kind.TheVariants as kinds
-use Rattle.desk_rows.specs.declared.edit.Placed.{Placed}
 use Rattle.desk_rows.specs.declared.claim.Claim.TheVariants as claims
-use Rattle.desk_rows.specs.Row.{rank, kind_of, key_of, has_key, other_claims}
-use Rattle.desk_rows.specs.Kinds.{is_of}
-use Rattle.desk_rows.specs.Order.{is_in}
-use Rattle.desk_rows.specs.Edit.{EditOf, ins}
-use Rattle.desk_rows.specs.Desk.{Desk, good, rows_of, row_at, is_within_limits, is_named_there, is_made_once, obeys}
-use Rattle.desk_rows.specs.Exchange.{exchanged}
-use Rattle.desk_rows.specs.Keyed.{IsKeyed}
-use Rattle.desk_rows.specs.inner.Judged.{stay_rows, go_rows, come_rows, takes, is_free, comes_once, keys_are_new, is_sound, is_sound_beside, all_come, all_stay, moves, stays_sound, judged}
 use Rattle.desk_rows.specs.laws.Equal.{key_itself, its_key}
 use Rattle.desk_rows.specs.laws.OrderLaws.{not_true, both_ways, at_each, from_each}
 use Rattle.desk_rows.specs.laws.Laws.{Apt, ins_order, good_parts, one_key, any_counts, count_by-append, is_in-append}

@@ -1,21 +1,6 @@
 -- What is asked of rows and an edit to judge the desk that it leads to.
-use Rattle.std.proofs.Common.{◌≡◌, ℕ, ◌+◌, ◌≤◌, nat_lt, nat_eq, nat_le, Bool, true, false, not, ◌&&◌, ◌||◌, length, filter, refl, sym, ap, ◌∙◌, arith}
-use Rattle.std.specs.Prelude.{count_by}
-use Rattle.std.specs.Option.{is_some}
-use Rattle.std.specs.List.{list_all}
-use Rattle.std.proofs.lemmas.Bool.{and_parts}
-use Rattle.desk_rows.specs.declared.row.Row.{Row}
-use Rattle.desk_rows.specs.declared.row.Row.TheVariants.{Member}
-use Rattle.desk_rows.specs.declared.row.Key.{Key}
+use Rattle.desk_rows.specs.laws.Words.{◌≡◌, ℕ, ◌+◌, ◌≤◌, nat_lt, nat_eq, nat_le, Bool, true, false, not, ◌&&◌, ◌||◌, length, filter, refl, sym, ap, ◌∙◌, arith, count_by, is_some, list_all, and_parts, Row, Member, Key, is_of, member_limit, slot_limit, other_limit, in_order, key_is_new, is_in, are_apart, have_same_keys, with_rows, without_rows, take_at, put_at, can_take, can_put, EditOf, outs, ins, Desk, good, rows_of, row_at, is_within_limits, is_apt, exchanged, fits, after, HasOrders, stay_rows, takes, is_free, stay_count, go_count, come_count, keys_are_new, moves, is_sound_beside, stays_sound, all_come, all_stay, judged}
 use Rattle.desk_rows.specs.declared.row.Kind.TheVariants as kinds
-use Rattle.desk_rows.specs.Kinds.{is_of}
-use Rattle.desk_rows.specs.Limits.{member_limit, slot_limit, other_limit}
-use Rattle.desk_rows.specs.Order.{in_order, key_is_new, is_in, are_apart, have_same_keys, with_rows, without_rows}
-use Rattle.desk_rows.specs.Places.{take_at, put_at, can_take, can_put}
-use Rattle.desk_rows.specs.Edit.{EditOf, outs, ins}
-use Rattle.desk_rows.specs.Desk.{Desk, good, rows_of, row_at, is_within_limits}
-use Rattle.desk_rows.specs.Exchange.{is_apt, exchanged, fits, after}
-use Rattle.desk_rows.specs.inner.Judged.{HasOrders, stay_rows, takes, is_free, stay_count, go_count, come_count, keys_are_new, moves, is_sound_beside, stays_sound, all_come, all_stay, judged}
 use Rattle.desk_rows.specs.laws.OrderLaws.{count_by-with_rows, count_by-without_rows}
 use Rattle.desk_rows.specs.laws.PlaceLaws.{count_by-take_at, length-put_at}
 use Rattle.desk_rows.specs.laws.Laws.{apt_parts, apt_from, outs_order, good_order, fits_parts, after_fits}

@@ -1,10 +1,5 @@
 -- The members of a room, in the table of members by room.
-use Rattle.std.proofs.Common.{◌≡◌, ℕ, ◌≤◌, Bool, true, false, cond, ◌&&◌, List, [], ◌∷◌, length, filter, nat_eq, refl, sym, ap, arith}
-use Rattle.std.specs.Prelude.{count_by}
-use Rattle.desk_rows.specs.declared.row.Member.{Member}
-use Rattle.desk_rows.specs.Desk.{Desk, good}
-use Rattle.desk_rows.specs.Naming.{members_in}
-use Rattle.desk_rows.specs.inner.Roomed.{IsByRoom}
+use Rattle.desk_rows.specs.laws.Words.{◌≡◌, ℕ, ◌≤◌, Bool, true, false, cond, ◌&&◌, List, [], ◌∷◌, length, filter, nat_eq, refl, sym, ap, arith, count_by, MemberRow as Member, Desk, good, members_in, IsByRoom}
 use Rattle.desk_rows.specs.laws.PlaceLaws.{count_next}
 use Rattle.desk_rows.specs.laws.Equal.{row_itself}
 use Rattle.desk_rows.specs.declared.row.Row.TheVariants as rows

@@ -1,12 +1,5 @@
 -- A row put in, or taken out, at the place that parts the rows before it from those behind.
-use Rattle.std.specs.Prelude.{slice_get}
-use Rattle.std.proofs.Common.{◌≡◌, ℕ, zero, suc, ◌<◌, ◌≤◌, Bool, true, false, not, cond, ◌||◌, List, [], ◌∷◌, length, insert, remove, set, refl, sym, ap, ◌∙◌, inl, inr, arith}
-use Rattle.std.specs.List.{list_all}
-use Rattle.std.proofs.lemmas.Bool.{and_parts, and_from, or_cases, cases_Bool}
-use Rattle.desk_rows.specs.declared.row.Row.{Row}
-use Rattle.desk_rows.specs.Row.{key_of, same_row}
-use Rattle.desk_rows.specs.Order.{key_precedes, precedes, in_order, is_in, with_row, without_rows}
-use Rattle.desk_rows.specs.inner.Parting.{Parts, is_found_as}
+use Rattle.desk_rows.specs.laws.Words.{slice_get, ◌≡◌, ℕ, zero, suc, ◌<◌, ◌≤◌, Bool, true, false, not, cond, ◌||◌, List, [], ◌∷◌, length, insert, remove, set, refl, sym, ap, ◌∙◌, inl, inr, arith, list_all, and_parts, and_from, or_cases, cases_Bool, Row, key_of, same_row, key_precedes, precedes, in_order, is_in, with_row, without_rows, Parts, is_found_as}
 use Rattle.desk_rows.specs.laws.Equal.{same_row_is, row_itself, keys_precede_on, not_before_itself}
 use Rattle.desk_rows.specs.laws.OrderLaws.{at_each, from_each, filter_all, in_order-filter}
 use Rattle.desk_rows.proofs.Counts.{true_false}

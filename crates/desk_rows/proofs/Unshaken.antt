@@ -1,30 +1,7 @@
 -- The rule of a row that stays holds on where the edit does not touch what it looks at.
-use Rattle.std.proofs.Common.{◌≡◌, ℕ, ◌≤◌, nat_le, nat_eq, Bool, true, false, not, cond, ◌&&◌, ◌||◌, List, [], ◌∷◌, map, refl, sym, ap, ◌∙◌, inl, inr, arith, Option, Some, None}
-use Rattle.std.specs.Prelude.{count_by}
-use Rattle.std.specs.Option.{is_some}
-use Rattle.std.specs.List.{list_any, list_all}
-use Rattle.std.proofs.lemmas.Bool.{and_parts, and_from, or_left, or_right, or_cases, cases_Bool}
-use borrow.Author.Tests.{eqb-true}
-use Rattle.desk_rows.specs.declared.row.Row.{Row}
-use Rattle.desk_rows.specs.declared.row.Row.TheVariants.{Room, Member, Source, Slot, Sub, Mute, Gain, Pin, Floor}
-use Rattle.desk_rows.specs.declared.row.Member.{Member as MemberRow}
-use Rattle.desk_rows.specs.declared.row.Media.{Media}
-use Rattle.desk_rows.specs.declared.row.Media.TheVariants.{Audio, Video}
-use Rattle.desk_rows.specs.declared.row.Key.{Key}
+use Rattle.desk_rows.specs.laws.Words.{◌≡◌, ℕ, ◌≤◌, nat_le, nat_eq, Bool, true, false, not, cond, ◌&&◌, ◌||◌, List, [], ◌∷◌, map, refl, sym, ap, ◌∙◌, inl, inr, arith, Option, Some, None, count_by, is_some, list_any, list_all, and_parts, and_from, or_left, or_right, or_cases, cases_Bool, eqb-true, Row, Room, Member, Source, Slot, Sub, Mute, Gain, Pin, Floor, MemberRow, Media, Audio, Video, Key, Placed, has_key, same_media, names, suits, is_in_range, is_in, with_rows, without_rows, room_audio_limit, take_at, EditOf, outs, ins, Desk, good, rows_of, row_at, room_of_member, room_of, room_of_found, room_at, same_room, is_audio_in, all_suit, are_together, is_named_there, obeys, is_of, exchanged, IsKeyed, finds, is_elsewhere, stay_rows, come_rows, takes, puts, keeps_names, moves, is_shaken}
 use Rattle.desk_rows.specs.declared.row.Key.TheVariants as keys
 use Rattle.desk_rows.specs.declared.row.Kind.TheVariants as kinds
-use Rattle.desk_rows.specs.declared.edit.Placed.{Placed}
-use Rattle.desk_rows.specs.Row.{has_key, same_media, names, suits, is_in_range}
-use Rattle.desk_rows.specs.Order.{is_in, with_rows, without_rows}
-use Rattle.desk_rows.specs.Limits.{room_audio_limit}
-use Rattle.desk_rows.specs.Places.{take_at}
-use Rattle.desk_rows.specs.Edit.{EditOf, outs, ins}
-use Rattle.desk_rows.specs.Desk.{Desk, good, rows_of, row_at, room_of_member, room_of, room_of_found, room_at, same_room, is_audio_in, all_suit, are_together, is_named_there, obeys}
-use Rattle.desk_rows.specs.Kinds.{is_of}
-use Rattle.desk_rows.specs.Exchange.{exchanged}
-use Rattle.desk_rows.specs.Keyed.{IsKeyed}
-use Rattle.desk_rows.specs.inner.Found.{finds, is_elsewhere}
-use Rattle.desk_rows.specs.inner.Judged.{stay_rows, come_rows, takes, puts, keeps_names, moves, is_shaken}
 use Rattle.desk_rows.specs.laws.Equal.{row_itself}
 use Rattle.desk_rows.specs.laws.OrderLaws.{not_true, at_each, count_by-with_rows, count_by-without_rows}
 use Rattle.desk_rows.specs.laws.PlaceLaws.{count_next}
@@ -47,14 +24,7 @@ no_more p q (r ∷ rs) each =
 -- the row of a member's key is a member's
 member_of : (n : ℕ) (r : Row) → has_key (keys.Member n) r ≡ true → (m : MemberRow) × (r ≡ Member m)
 member_of n (Member m) e = (m, refl)
-member_of n (Room r) e = cc
-member_of n (Source r) e = cc
-member_of n (Slot r) e = cc
-member_of n (Sub r) e = cc
-member_of n (Mute r) e = cc
-member_of n (Gain r) e = cc
-member_of n (Pin r) e = cc
-member_of n (Floor r) e = cc
+member_of n _ e = cc
 
 some_row : (o : Option Row) → is_some o ≡ true → (r : Row) × (o ≡ Some r)
 some_row None h = absurd (true_false (sym h))
@@ -130,13 +100,7 @@ module _ (d : Desk) (e : EditOf) (g : good d ≡ true) (a : Apt d e) (keyed : Is
     room_kept : (r : Row) → is_in (stay_rows d e) r ≡ true → room_of (exchanged d e) r ≡ room_of d r
     room_kept (Source s) one = let both = named (Source s) one in stays_in s.member (and_parts (list_any (has_key (keys.Member s.member)) (rows_of d)) true both.0).0 (and_parts _ true both.1).0
     room_kept (Slot s) one = let both = named (Slot s) one in stays_in s.member (and_parts (list_any (has_key (keys.Member s.member)) (rows_of d)) true both.0).0 (and_parts _ true both.1).0
-    room_kept (Room r) one = refl
-    room_kept (Member r) one = refl
-    room_kept (Sub r) one = refl
-    room_kept (Mute r) one = refl
-    room_kept (Gain r) one = refl
-    room_kept (Pin r) one = refl
-    room_kept (Floor r) one = refl
+    room_kept _ one = refl
 
     beside_members : (r : Row) → is_in (without_rows (outs e) d.others) r ≡ true → is_in (stay_rows d e) r ≡ true
     beside_members r one = is_in-append (map Member (take_at e.taken.members d.members)) (without_rows (outs e) d.others) r ∙ or_right _ _ one
@@ -157,14 +121,7 @@ module _ (d : Desk) (e : EditOf) (g : good d ≡ true) (a : Apt d e) (keyed : Is
 
           was_audio : (r : Row) → is_in (without_rows (outs e) d.others) r ≡ true → is_audio_in (exchanged d e) room r ≡ true → is_audio_in d room r ≡ true
           was_audio (Source s) one h = ap (λ o. same_media s.media Audio && same_room o (Some room)) (sym (room_kept (Source s) (beside_members (Source s) one))) ∙ h
-          was_audio (Room s) one h = h
-          was_audio (Member s) one h = h
-          was_audio (Slot s) one h = h
-          was_audio (Sub s) one h = h
-          was_audio (Mute s) one h = h
-          was_audio (Gain s) one h = h
-          was_audio (Pin s) one h = h
-          was_audio (Floor s) one h = h
+          was_audio _ one h = h
 
     -- a row that is there and is not taken is found as before
     record FoundAs (key : Key) : Type 0 where
@@ -196,13 +153,10 @@ module _ (d : Desk) (e : EditOf) (g : good d ≡ true) (a : Apt d e) (keyed : Is
     unshaken (Room r) one calm h =
         let none = neither (list_any (is_audio_in (exchanged d e) r.room) (ins e)) false calm in
         and_from _ _ (few_audio r.room none.0 (and_parts _ true h).0) refl
-    unshaken (Member r) one calm h = h
-    unshaken (Source r) one calm h = h
-    unshaken (Slot r) one calm h = h
-    unshaken (Mute r) one calm h = h
     unshaken (Sub s) one calm h = pair_kept (Some Video) (keys.Source s.source) (keys.Slot s.out_ssrc) calm (named (Sub s) one).0 h
     unshaken (Gain s) one calm h =
         let both = and_parts (is_in_range (Gain s) && true) (all_suit d (Gain s) && are_together d (names (Gain s))) h in
         and_from _ _ both.0 (pair_kept (Some Audio) (keys.Member s.member) (keys.Source s.source) calm (named (Gain s) one).0 both.1)
     unshaken (Pin s) one calm h = pair_kept (Some Video) (keys.Room s.room) (keys.Source s.source) calm (named (Pin s) one).0 h
     unshaken (Floor s) one calm h = pair_kept None (keys.Room s.room) (keys.Member s.member) calm (named (Floor s) one).0 h
+    unshaken _ one calm h = h

@@ -6,3 +6,4 @@ pub mod Laws
 pub mod NamingLaws
 pub mod PlacesOnce
 pub mod AddressesOnce
+pub mod Words

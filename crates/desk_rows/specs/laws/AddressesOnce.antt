@@ -1,20 +1,6 @@
 -- On a good desk no two members have one address.
-use Rattle.std.proofs.Common.{◌≡◌, ℕ, ◌+◌, ◌≤◌, Bool, true, false, cond, ◌||◌, nat_eq, List, [], ◌∷◌, map, refl, sym, ap, ◌∙◌, arith, eqb-true, ◌⊎◌, inl, inr}
-use Rattle.std.specs.Prelude.{count_by}
-use Rattle.std.specs.Str.{bytes_eq}
-use Rattle.std.specs.List.{list_all}
-use Rattle.std.proofs.lemmas.Bool.{and_parts, or_left}
-use Rattle.std.proofs.lemmas.Slice.Eq.{bytes_eq-Decides}
-use Rattle.rtp_codec.specs.declared.address.Address.{Address}
-use Rattle.rtp_codec.specs.Address.{same_address}
-use Rattle.desk_rows.specs.declared.row.Member.{Member as MemberRow}
-use Rattle.desk_rows.specs.declared.row.Row.{Row}
-use Rattle.desk_rows.specs.declared.row.Row.TheVariants.{Room, Member, Source, Slot, Sub, Mute, Gain, Pin, Floor}
-use Rattle.desk_rows.specs.declared.claim.Claim.{Claim}
+use Rattle.desk_rows.specs.laws.Words.{◌≡◌, ℕ, ◌+◌, ◌≤◌, Bool, true, false, cond, ◌||◌, nat_eq, List, [], ◌∷◌, map, refl, sym, ap, ◌∙◌, arith, eqb-true, ◌⊎◌, inl, inr, count_by, bytes_eq, list_all, and_parts, or_left, bytes_eq-Decides, Address, same_address, MemberRow, Row, Room, Member, Source, Slot, Sub, Mute, Gain, Pin, Floor, Claim, key_of, makes, same_claim, is_in, Desk, good, is_alone, is_made_once, rows_of}
 use Rattle.desk_rows.specs.declared.claim.Claim.TheVariants as claims
-use Rattle.desk_rows.specs.Row.{key_of, makes, same_claim}
-use Rattle.desk_rows.specs.Order.{is_in}
-use Rattle.desk_rows.specs.Desk.{Desk, good, is_alone, is_made_once, rows_of}
 use Rattle.desk_rows.specs.laws.Equal.{same_claim_is, claim_itself}
 use Rattle.desk_rows.specs.laws.PlaceLaws.{count_next}
 use Rattle.desk_rows.specs.laws.OrderLaws.{at_each}
@@ -35,14 +21,7 @@ claims_address a (Member m) h = (m, refl, sym (ap address_in (same_claim_is (cla
     of_either : (b : Bool) → b || false ≡ true → b ≡ true
     of_either true h = refl
     of_either false h = absurd (cc)
-claims_address a (Room r) h = absurd (cc)
-claims_address a (Source r) h = absurd (cc)
-claims_address a (Slot r) h = absurd (cc)
-claims_address a (Sub r) h = absurd (cc)
-claims_address a (Mute r) h = absurd (cc)
-claims_address a (Gain r) h = absurd (cc)
-claims_address a (Pin r) h = absurd (cc)
-claims_address a (Floor r) h = absurd (cc)
+claims_address a _ h = absurd (cc)
 
 member_alone : (d : Desk) (m : MemberRow) → is_alone d (Member m) ≡ true → count_by (makes (claims.Address m.address)) (rows_of d) ≡ 1
 member_alone d m h =

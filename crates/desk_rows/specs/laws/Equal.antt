@@ -1,20 +1,10 @@
 -- The tests of equality say what they mean.
-use Rattle.std.specs.Prelude.{◌≡◌, ℕ, zero, suc, Bool, true, false, ◌||◌, List, [], ◌∷◌, ◌++◌, length, nat_eq, if◌then◌else◌, refl}
-use Rattle.std.proofs.Common.{sym, ap, ◌∙◌}
-use borrow.Author.Tests.{eq-eqb}
-use Rattle.desk_rows.specs.declared.row.Codec.{Codec}
+use Rattle.desk_rows.specs.laws.Words.{◌≡◌, ℕ, zero, suc, Bool, true, false, ◌||◌, List, [], ◌∷◌, ◌++◌, length, nat_eq, if◌then◌else◌, refl, sym, ap, ◌∙◌, eq-eqb, Codec, Media, Row, Room, Member, Source, Slot, Sub, Mute, Gain, Pin, Floor, Key, Claim, rank, kind_of, own_numbers, key_numbers, same_key, has_key, key_of, codec_number, media_number, row_numbers, same_row, claim_numbers, same_claim, key_precedes, precedes}
 use Rattle.desk_rows.specs.declared.row.Codec.TheVariants as codecs
-use Rattle.desk_rows.specs.declared.row.Media.{Media}
 use Rattle.desk_rows.specs.declared.row.Media.TheVariants as medias
-use Rattle.desk_rows.specs.declared.row.Row.{Row}
-use Rattle.desk_rows.specs.declared.row.Row.TheVariants.{Room, Member, Source, Slot, Sub, Mute, Gain, Pin, Floor}
 use Rattle.desk_rows.specs.declared.row.Kind.TheVariants as kinds
-use Rattle.desk_rows.specs.declared.row.Key.{Key}
 use Rattle.desk_rows.specs.declared.row.Key.TheVariants as keys
-use Rattle.desk_rows.specs.declared.claim.Claim.{Claim}
 use Rattle.desk_rows.specs.declared.claim.Claim.TheVariants as claims
-use Rattle.desk_rows.specs.Row.{rank, kind_of, own_numbers, key_numbers, same_key, has_key, key_of, codec_number, media_number, row_numbers, same_row, claim_numbers, same_claim}
-use Rattle.desk_rows.specs.Order.{key_precedes, precedes}
 use Rattle.desk_rows.specs.laws.NumberLaws.{same_numbers_is, numbers_themselves, numbers_not_before, numbers_precede_on, one_list_precedes}
 
 pub number_itself : (n : ℕ) → nat_eq n n ≡ true
@@ -41,14 +31,7 @@ key_from _ = keys.Room 0
 key_back : (k : Key) → key_from (key_numbers k) ≡ k
 unfolding key_from key_by
 key_back (keys.Room n) = refl
-key_back (keys.Member n) = refl
-key_back (keys.Source n) = refl
-key_back (keys.Slot n) = refl
-key_back (keys.Sub n) = refl
-key_back (keys.Mute n) = refl
-key_back (keys.Gain m n) = refl
-key_back (keys.Pin n) = refl
-key_back (keys.Floor n) = refl
+key_back _ = refl
 
 pub same_key_is : (a b : Key) → same_key a b ≡ true → a ≡ b
 same_key_is a b e = sym (key_back a) ∙ ap key_from (same_numbers_is (key_numbers a) (key_numbers b) e) ∙ key_back b
@@ -69,14 +52,7 @@ not_before_itself r = numbers_not_before (key_numbers (key_of r))
 
 pub three_numbers : (k : Key) → ◌≡◌ {A = ℕ} (length (key_numbers k)) 3
 three_numbers (keys.Room n) = refl
-three_numbers (keys.Member n) = refl
-three_numbers (keys.Source n) = refl
-three_numbers (keys.Slot n) = refl
-three_numbers (keys.Sub n) = refl
-three_numbers (keys.Mute n) = refl
-three_numbers (keys.Gain m n) = refl
-three_numbers (keys.Pin n) = refl
-three_numbers (keys.Floor n) = refl
+three_numbers _ = refl
 
 -- of two keys that differ one stands before the other
 pub one_precedes : (a b : Row) → has_key (key_of a) b ≡ false → (precedes a b || precedes b a) ≡ true
@@ -123,12 +99,7 @@ row_back (Source s) = ap (λ media. Source record s { media = media }) (media_ba
   media_back : (m : Media) → media_from (media_number m) ≡ m
   media_back medias.Audio = refl
   media_back medias.Video = refl
-row_back (Slot s) = refl
-row_back (Sub s) = refl
-row_back (Mute m) = refl
-row_back (Gain g) = refl
-row_back (Pin p) = refl
-row_back (Floor f) = refl
+row_back _ = refl
 
 pub same_row_is : (a b : Row) → same_row a b ≡ true → a ≡ b
 same_row_is a b e = sym (row_back a) ∙ ap row_from (same_numbers_is (row_numbers a) (row_numbers b) e) ∙ row_back b
@@ -155,17 +126,8 @@ unfolding claim_from claim_by key_from key_by
 claim_back (claims.Key k) = ap claims.Key (padded k) where
   padded : (k : Key) → key_from (rank (kind_of k) ∷ own_numbers k ++ (0 ∷ 0 ∷ [])) ≡ k
   padded (keys.Room n) = refl
-  padded (keys.Member n) = refl
-  padded (keys.Source n) = refl
-  padded (keys.Slot n) = refl
-  padded (keys.Sub n) = refl
-  padded (keys.Mute n) = refl
-  padded (keys.Gain m n) = refl
-  padded (keys.Pin n) = refl
-  padded (keys.Floor n) = refl
-claim_back (claims.Address a) = refl
-claim_back (claims.Ssrc s) = refl
-claim_back (claims.Place m i) = refl
+  padded _ = refl
+claim_back _ = refl
 
 pub same_claim_is : (a b : Claim) → same_claim a b ≡ true → a ≡ b
 same_claim_is a b e = sym (claim_back a) ∙ ap claim_from (same_numbers_is (claim_numbers a) (claim_numbers b) e) ∙ claim_back b

@@ -1,20 +1,8 @@
 -- An edit that fits can be taken back.
-use Rattle.std.specs.Prelude.{◌≡◌, ℕ, ◌+◌, ◌≤◌, Bool, true, false, cond, not, ◌&&◌, ◌||◌, List, [], ◌∷◌, ◌++◌, map, count_by, nat_eq, refl}
-use Rattle.std.specs.List.{list_all}
-use Rattle.std.proofs.Common.{sym, ap, ◌∙◌, inl, inr, arith}
-use Rattle.std.proofs.lemmas.Bool.{and_parts, and_from, or_left, or_right, cases_Bool, cond-true, cond-false}
-use borrow.Author.Tests.{eqb-true}
-use Rattle.desk_rows.specs.declared.row.Row.{Row}
-use Rattle.desk_rows.specs.declared.row.Row.TheVariants.{Member}
-use Rattle.desk_rows.specs.Row.{has_key, key_of, same_row}
+use Rattle.desk_rows.specs.laws.Words.{◌≡◌, ℕ, ◌+◌, ◌≤◌, Bool, true, false, cond, not, ◌&&◌, ◌||◌, List, [], ◌∷◌, ◌++◌, map, count_by, nat_eq, refl, list_all, sym, ap, ◌∙◌, inl, inr, arith, and_parts, and_from, or_left, or_right, cases_Bool, cond-true, cond-false, eqb-true, Row, Member, has_key, key_of, same_row, in_order, are_apart, have_same_keys, is_in, with_rows, without_rows, take_at, put_at, can_take, can_put, places_rise, EditOf, inverse, outs, ins, Desk, good, rows_of, is_listed, is_within_limits, is_named_there, is_alone, obeys, is_apt, exchanged, fits, after}
 use Rattle.desk_rows.specs.laws.Equal.{same_row_is, key_itself}
-use Rattle.desk_rows.specs.Order.{in_order, are_apart, have_same_keys, is_in, with_rows, without_rows}
 use Rattle.desk_rows.specs.laws.OrderLaws.{at_each, from_each, is_in-with_rows, count_by-with_rows, without_rows-with_rows, with_rows-without_rows, apart_in_order, same_keys_turned}
-use Rattle.desk_rows.specs.Places.{take_at, put_at, can_take, can_put, places_rise}
 use Rattle.desk_rows.specs.laws.PlaceLaws.{take_at-put_at, put_at-take_at, can_take-put_at, can_put-take_at, count_next}
-use Rattle.desk_rows.specs.Edit.{EditOf, inverse, outs, ins}
-use Rattle.desk_rows.specs.Desk.{Desk, good, rows_of, is_listed, is_within_limits, is_named_there, is_alone, obeys}
-use Rattle.desk_rows.specs.Exchange.{is_apt, exchanged, fits, after}
 
 -- ---- the parts of the tests
 

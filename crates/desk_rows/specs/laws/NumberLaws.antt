@@ -1,11 +1,5 @@
 -- Lists of numbers are told apart and ordered as they should be.
-use Rattle.std.specs.Prelude.{◌≡◌, ℕ, ◌<◌, ◌≤◌, Bool, true, false, ◌&&◌, ◌||◌, List, [], ◌∷◌, length, nat_eq, nat_lt, refl, ◌⊎◌}
-use Rattle.std.specs.Str.{bytes_eq}
-use Rattle.std.proofs.Common.{sym, ap, ◌∙◌, inl, inr, arith}
-use Rattle.std.proofs.lemmas.Bool.{and_parts, and_from, or_left, or_right, or_cases}
-use Rattle.std.proofs.lemmas.Slice.Eq.{bytes_eq-Decides}
-use borrow.Author.Tests.{eqb-true, eq-eqb}
-use Rattle.desk_rows.specs.Numbers.{same_numbers, numbers_precede}
+use Rattle.desk_rows.specs.laws.Words.{◌≡◌, ℕ, ◌<◌, ◌≤◌, Bool, true, false, ◌&&◌, ◌||◌, List, [], ◌∷◌, length, nat_eq, nat_lt, refl, ◌⊎◌, bytes_eq, sym, ap, ◌∙◌, inl, inr, arith, and_parts, and_from, or_left, or_right, or_cases, bytes_eq-Decides, eqb-true, eq-eqb, same_numbers, numbers_precede}
 
 true_false : true ≡ false → ⊥
 true_false e = cc

@@ -1,14 +1,7 @@
 -- Rows taken out of rows in order and put back make the same rows.
-use Rattle.std.specs.Prelude.{◌≡◌, ◌+◌, Bool, true, false, cond, not, ◌&&◌, ◌||◌, List, [], ◌∷◌, filter, count_by, refl, ◌⊎◌}
-use Rattle.std.specs.List.{list_any, list_all}
-use Rattle.std.proofs.Common.{sym, ap, ◌∙◌, inl, inr, arith}
-use Rattle.std.proofs.lemmas.Bool.{and_parts, and_from, or_left, or_right, or_cases, cases_Bool}
-use Rattle.desk_rows.specs.Row.{key_of, same_key, same_row}
-use Rattle.desk_rows.specs.Order.{precedes, in_order, key_is_new, are_apart, have_same_keys, is_in, with_row, with_rows, without_rows}
+use Rattle.desk_rows.specs.laws.Words.{◌≡◌, ◌+◌, Bool, true, false, cond, not, ◌&&◌, ◌||◌, List, [], ◌∷◌, filter, count_by, refl, ◌⊎◌, list_any, list_all, sym, ap, ◌∙◌, inl, inr, arith, and_parts, and_from, or_left, or_right, or_cases, cases_Bool, key_of, same_key, same_row, precedes, in_order, key_is_new, are_apart, have_same_keys, is_in, with_row, with_rows, without_rows, Row, Key}
 use Rattle.desk_rows.specs.laws.Equal.{same_key_is, key_itself, keys_precede_on, not_before_itself, same_row_is, row_itself}
 use Rattle.desk_rows.specs.laws.PlaceLaws.{count_next}
-use Rattle.desk_rows.specs.declared.row.Row.{Row}
-use Rattle.desk_rows.specs.declared.row.Key.{Key}
 
 -- ---- tests
 

@@ -1,14 +1,7 @@
 -- Rows taken from their places and put back stand where they stood.
-use Rattle.std.specs.Prelude.{◌≡◌, ℕ, zero, suc, ◌+◌, ◌<◌, ◌≤◌, Bool, true, false, ◌&&◌, List, [], ◌∷◌, length, nat_le, nat_lt, insert, remove, count_by, cond, refl}
-use Rattle.std.specs.List.{list_all}
-use Rattle.std.proofs.Common.{sym, ap, ◌∙◌, arith, zero-add}
-use Rattle.std.proofs.lemmas.List.Sums.{sum_by-append}
-use Rattle.std.proofs.lemmas.Bool.{and_parts, and_from}
+use Rattle.desk_rows.specs.laws.Words.{◌≡◌, ℕ, zero, suc, ◌+◌, ◌<◌, ◌≤◌, Bool, true, false, ◌&&◌, List, [], ◌∷◌, length, nat_le, nat_lt, insert, remove, count_by, cond, refl, list_all, sym, ap, ◌∙◌, arith, zero-add, sum_by-append, and_parts, and_from, take_at, put_at, is_at, can_take, can_put, places_rise, put_within, MemberRow as Member, Placed}
 use Rattle.desk_rows.specs.laws.Equal.{same_row_is, row_itself}
-use Rattle.desk_rows.specs.Places.{take_at, put_at, is_at, can_take, can_put, places_rise, put_within}
 use Rattle.desk_rows.specs.declared.row.Row.TheVariants as rows
-use Rattle.desk_rows.specs.declared.row.Member.{Member}
-use Rattle.desk_rows.specs.declared.edit.Placed.{Placed}
 
 inner : (a b : Member) → rows.Member a ≡ rows.Member b → a ≡ b
 inner a b e = cc

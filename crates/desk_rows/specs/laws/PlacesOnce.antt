@@ -1,19 +1,8 @@
 -- On a good desk a member has one slot of an index at most.
-use Rattle.std.proofs.Common.{◌≡◌, ℕ, ◌+◌, ◌≤◌, Bool, true, false, cond, ◌&&◌, ◌||◌, nat_eq, List, [], ◌∷◌, map, length, Option, None, Some, refl, sym, ap, ◌∙◌, arith, eqb-true, ◌⊎◌, inl, inr}
-use Rattle.std.specs.Prelude.{filter, count_by}
-use Rattle.std.specs.List.{filter_map, cons_option, list_all}
-use Rattle.std.proofs.lemmas.Bool.{and_parts, or_left, or_right}
-use Rattle.std.proofs.lemmas.Bool.Decides.{nat_tests}
-use Rattle.desk_rows.specs.declared.row.Row.{Row}
-use Rattle.desk_rows.specs.declared.row.Row.TheVariants.{Room, Member, Source, Slot, Sub, Mute, Gain, Pin, Floor}
-use Rattle.desk_rows.specs.declared.row.Slot.{Slot as SlotRow}
+use Rattle.desk_rows.specs.laws.Words.{◌≡◌, ℕ, ◌+◌, ◌≤◌, Bool, true, false, cond, ◌&&◌, ◌||◌, nat_eq, List, [], ◌∷◌, map, length, Option, None, Some, refl, sym, ap, ◌∙◌, arith, eqb-true, ◌⊎◌, inl, inr, filter, count_by, filter_map, cons_option, list_all, and_parts, or_left, or_right, nat_tests, Row, Room, Member, Source, Slot, Sub, Mute, Gain, Pin, Floor, SlotRow, key_of, makes, Desk, good, is_alone, is_made_once, rows_of, is_in, slot_in}
 use Rattle.desk_rows.specs.declared.claim.Claim.TheVariants as claims
-use Rattle.desk_rows.specs.Row.{key_of, makes}
 use Rattle.desk_rows.specs.laws.PlaceLaws.{count_next}
 use Rattle.desk_rows.specs.laws.Laws.{count_by-append, good_parts}
-use Rattle.desk_rows.specs.Desk.{Desk, good, is_alone, is_made_once, rows_of}
-use Rattle.desk_rows.specs.Order.{is_in}
-use Rattle.desk_rows.specs.Naming.{slot_in}
 use Rattle.desk_rows.specs.laws.Equal.{row_itself}
 use Rattle.desk_rows.specs.laws.OrderLaws.{at_each}
 use Rattle.desk_rows.specs.laws.NamingLaws.{its_slot}
@@ -48,14 +37,7 @@ claims_place member index (Slot s) h =
     of_either : (b : Bool) → b || false ≡ true → b ≡ true
     of_either true h = refl
     of_either false h = absurd (cc)
-claims_place member index (Room r) h = absurd (cc)
-claims_place member index (Member r) h = absurd (cc)
-claims_place member index (Source r) h = absurd (cc)
-claims_place member index (Sub r) h = absurd (cc)
-claims_place member index (Mute r) h = absurd (cc)
-claims_place member index (Gain r) h = absurd (cc)
-claims_place member index (Pin r) h = absurd (cc)
-claims_place member index (Floor r) h = absurd (cc)
+claims_place member index _ h = absurd (cc)
 
 slot_alone : (d : Desk) (s : SlotRow) → is_alone d (Slot s) ≡ true → count_by (makes (claims.Place s.member s.index)) (rows_of d) ≡ 1
 slot_alone d s h =

@@ -1,6 +1,4 @@
-use Rattle.std.proofs.Common.{rules}
-use Rattle.std.proofs.lemmas.List.Sorted.{answers_always, searchable_from_sorted}
-use Rattle.desk_rows.specs.inner.Addressed.{ip_and_port}
+use Rattle.desk_rows.specs.laws.Words.{rules, answers_always, searchable_from_sorted, ip_and_port}
 use Rattle.desk_rows.proofs.AddressLemmas.{address_cmp_total, here, nowhere}
 use Rattle.desk_rows.proofs.addressing.find_at.Goals as goal
 

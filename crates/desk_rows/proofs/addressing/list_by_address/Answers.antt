@@ -1,7 +1,4 @@
-use Rattle.std.proofs.Common.{◌≡◌, ap, ◌∙◌, arith, rules}
-use Rattle.std.specs.Prelude.{count_by}
-use Rattle.std.proofs.lemmas.List.Sorted.{answers_always}
-use Rattle.desk_rows.specs.inner.Addressed.{ip_and_port}
+use Rattle.desk_rows.specs.laws.Words.{◌≡◌, ap, ◌∙◌, arith, rules, count_by, answers_always, ip_and_port}
 use Rattle.desk_rows.proofs.GroupLemmas.{count_moved}
 use Rattle.desk_rows.proofs.addressing.list_by_address.Goals as goal
 

@@ -1,7 +1,4 @@
-use Rattle.std.proofs.Common.{sym, ◌∙◌, ◌++◌, map}
-use Rattle.desk_rows.specs.declared.row.Row.TheVariants.{Member}
-use Rattle.desk_rows.specs.declared.edit.Placed.{Placed}
-use Rattle.desk_rows.specs.Row.{has_key}
+use Rattle.desk_rows.specs.laws.Words.{sym, ◌∙◌, ◌++◌, map, Member, Placed, has_key}
 use Rattle.desk_rows.proofs.KindLemmas.{found_first, found_later}
 use Rattle.desk_rows.proofs.changes.find_change.Goals as goal
 

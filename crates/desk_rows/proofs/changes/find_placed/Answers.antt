@@ -1,4 +1,4 @@
-use Rattle.std.proofs.Common.{sym}
+use Rattle.desk_rows.specs.laws.Words.{sym}
 use Rattle.desk_rows.proofs.ChangeLemmas.{no_placed}
 use Rattle.desk_rows.proofs.changes.find_placed.Goals as goal
 

@@ -1,5 +1,4 @@
-use Rattle.std.proofs.Common.{◌&&◌, ap, sym, ◌∙◌}
-use Rattle.desk_rows.specs.Places.{places_rise, can_put, take_at}
+use Rattle.desk_rows.specs.laws.Words.{◌&&◌, ap, sym, ◌∙◌, places_rise, can_put, take_at}
 use Rattle.desk_rows.proofs.ExchangeLemmas.{taken_few, put_places}
 use Rattle.desk_rows.proofs.exchange.can_move.Goals as goal
 

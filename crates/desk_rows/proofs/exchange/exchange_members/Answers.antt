@@ -1,5 +1,4 @@
-use Rattle.std.proofs.Common.{sym, subst}
-use Rattle.desk_rows.specs.Places.{take_at, put_at}
+use Rattle.desk_rows.specs.laws.Words.{sym, subst, take_at, put_at}
 use Rattle.desk_rows.proofs.Indexed.{Once}
 use Rattle.desk_rows.proofs.exchange.exchange_members.Goals as goal
 

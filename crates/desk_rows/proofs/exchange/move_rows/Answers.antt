@@ -1,7 +1,4 @@
-use Rattle.std.proofs.Common.{length, ap, sym, ◌∙◌, arith}
-use Rattle.desk_rows.specs.Limits.{other_limit}
-use Rattle.desk_rows.specs.Order.{in_order, with_rows, without_rows}
-use Rattle.desk_rows.specs.Edit.{outs, ins}
+use Rattle.desk_rows.specs.laws.Words.{length, ap, sym, ◌∙◌, arith, other_limit, in_order, with_rows, without_rows, outs, ins}
 use Rattle.desk_rows.proofs.ExchangeLemmas.{length-with_rows}
 use Rattle.desk_rows.proofs.Merging.{put_in_turn}
 use Rattle.desk_rows.proofs.SlidingLemmas.{rest_in_order}

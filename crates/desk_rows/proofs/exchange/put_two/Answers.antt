@@ -1,4 +1,4 @@
-use Rattle.std.proofs.Common.{◌+◌, length, ap, arith}
+use Rattle.desk_rows.specs.laws.Words.{◌+◌, length, ap, arith}
 use Rattle.desk_rows.proofs.ExchangeLemmas.{length-with_rows}
 use Rattle.desk_rows.proofs.exchange.put_two.Goals as goal
 

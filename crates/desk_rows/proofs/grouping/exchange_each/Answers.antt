@@ -1,4 +1,4 @@
-use Rattle.std.proofs.Common.{true, arith}
+use Rattle.desk_rows.specs.laws.Words.{true, arith}
 use Rattle.desk_rows.proofs.GroupLemmas.{count_all}
 use Rattle.desk_rows.proofs.grouping.exchange_each.Goals as goal
 

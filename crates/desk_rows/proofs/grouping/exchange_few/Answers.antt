@@ -1,6 +1,4 @@
-use Rattle.std.proofs.Common.{◌≡◌, true, false, ap, sym, ◌∙◌, arith}
-use Rattle.desk_rows.specs.declared.row.Row.{Row}
-use Rattle.desk_rows.specs.Kinds.{is_of}
+use Rattle.desk_rows.specs.laws.Words.{◌≡◌, true, false, ap, sym, ◌∙◌, arith, Row, is_of}
 use Rattle.desk_rows.proofs.GroupLemmas.{count_among}
 use Rattle.desk_rows.proofs.grouping.exchange_few.Goals as goal
 

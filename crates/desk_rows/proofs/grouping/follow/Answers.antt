@@ -1,8 +1,4 @@
-use Rattle.std.proofs.Common.{true, filter, ap, sym, ◌∙◌, arith}
-use Rattle.std.proofs.lemmas.List.Sums.{count_by-le-length}
-use Rattle.desk_rows.specs.Kinds.{is_of}
-use Rattle.std.specs.Prelude.{count_by}
-use Rattle.desk_rows.specs.inner.Grouped.{passes_in}
+use Rattle.desk_rows.specs.laws.Words.{true, filter, ap, sym, ◌∙◌, arith, count_by-le-length, is_of, count_by, passes_in}
 use Rattle.desk_rows.proofs.GroupLemmas.{count_of_kind, unchanged}
 use Rattle.desk_rows.proofs.grouping.follow.Goals as goal
 

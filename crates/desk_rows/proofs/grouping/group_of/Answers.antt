@@ -1,7 +1,4 @@
-use Rattle.std.proofs.Common.{take, nat_lt, nat_le, ap, subst, ◌∙◌, sym, rules}
-use Rattle.std.specs.List.Sorted.{IsNonDecreasingBy}
-use Rattle.std.proofs.lemmas.List.Sorted.{IsPartitionPoint-from_clause, IsPartitionedBy-ltb, IsPartitionedBy-leb, IsNonDecreasingBy-drop}
-use Rattle.desk_rows.specs.inner.Parting.{Parts}
+use Rattle.desk_rows.specs.laws.Words.{take, nat_lt, nat_le, ap, subst, ◌∙◌, sym, rules, IsNonDecreasingBy, IsPartitionPoint-from_clause, IsPartitionedBy-ltb, IsPartitionedBy-leb, IsNonDecreasingBy-drop, Parts}
 use Rattle.desk_rows.proofs.GroupLemmas.{groups_rise}
 use Rattle.desk_rows.proofs.Halving.{of_number}
 use Rattle.desk_rows.proofs.grouping.group_of.Goals as goal

@@ -1,7 +1,4 @@
-use Rattle.std.proofs.Common.{◌≡◌, ap, ◌∙◌, arith, rules}
-use Rattle.std.specs.Prelude.{count_by}
-use Rattle.std.proofs.lemmas.Fn.{always_returns_same}
-use Rattle.desk_rows.specs.declared.row.Member.{Member}
+use Rattle.desk_rows.specs.laws.Words.{◌≡◌, ap, ◌∙◌, arith, rules, count_by, always_returns_same, MemberRow as Member}
 use Rattle.desk_rows.proofs.GroupLemmas.{count_moved, sorted_stands}
 use Rattle.desk_rows.proofs.grouping.list_by_room.Goals as goal
 

@@ -1,7 +1,5 @@
 -- The table is in order, what was put with what is left to put makes the whole, and there is room for that.
-use Rattle.std.proofs.Common.{◌≡◌, ◌+◌, ◌≤◌, Bool, true, length, vec_len, vec_capacity}
-use Rattle.std.specs.Prelude.{count_by}
-use Rattle.desk_rows.specs.inner.Grouped.{stand_by, in_turn, passes_in}
+use Rattle.desk_rows.specs.laws.Words.{◌≡◌, ◌+◌, ◌≤◌, Bool, true, length, vec_len, vec_capacity, count_by, stand_by, in_turn, passes_in}
 use Rattle.desk_rows.proofs.grouping.put_each.Given as goal
 
 abbrev pub invariant-loop-row : goal.invariant-loop-row

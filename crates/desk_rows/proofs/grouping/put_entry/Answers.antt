@@ -1,7 +1,4 @@
-use Rattle.std.proofs.Common.{◌≡◌, cond, not, true, false, Bool, insert, length, ap, subst, ◌∙◌, arith, rules}
-use Rattle.std.proofs.lemmas.List.Sorted.{IsPartitionPoint-from_clause}
-use Rattle.desk_rows.specs.inner.Grouped.{stand_by, in_turn}
-use Rattle.desk_rows.specs.inner.Parting.{Parts}
+use Rattle.desk_rows.specs.laws.Words.{◌≡◌, cond, not, true, false, Bool, insert, length, ap, subst, ◌∙◌, arith, rules, IsPartitionPoint-from_clause, stand_by, in_turn, Parts}
 use Rattle.desk_rows.proofs.GroupLemmas.{stand_by-insert, parted_by, in_turn_on, in_turn_either}
 use Rattle.desk_rows.proofs.grouping.put_entry.Goals as goal
 

@@ -1,6 +1,4 @@
-use Rattle.std.proofs.Common.{◌≡◌, subst, ◌∙◌, rules}
-use Rattle.std.specs.List.Sorted.{IsPermutation}
-use Rattle.std.proofs.lemmas.Fn.{always_returns_same}
+use Rattle.desk_rows.specs.laws.Words.{◌≡◌, subst, ◌∙◌, rules, IsPermutation, always_returns_same}
 use Rattle.desk_rows.proofs.GroupLemmas.{count_in, count_moved, sorted_stands}
 use Rattle.desk_rows.proofs.grouping.regroup.Goals as goal
 

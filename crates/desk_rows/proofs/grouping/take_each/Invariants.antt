@@ -1,7 +1,5 @@
 -- The table is in order, and what was taken with what is left to take makes the whole.
-use Rattle.std.proofs.Common.{◌≡◌, ◌+◌, ◌≤◌, Bool, true, length, vec_capacity}
-use Rattle.std.specs.Prelude.{count_by}
-use Rattle.desk_rows.specs.inner.Grouped.{stand_by, in_turn, passes_in}
+use Rattle.desk_rows.specs.laws.Words.{◌≡◌, ◌+◌, ◌≤◌, Bool, true, length, vec_capacity, count_by, stand_by, in_turn, passes_in}
 use Rattle.desk_rows.proofs.grouping.take_each.Given as goal
 
 abbrev pub invariant-loop-row : goal.invariant-loop-row

@@ -1,5 +1,4 @@
-use Rattle.std.proofs.Common.{ap, ◌∙◌}
-use Rattle.desk_rows.specs.inner.Grouped.{stand_by, in_turn}
+use Rattle.desk_rows.specs.laws.Words.{ap, ◌∙◌, stand_by, in_turn}
 use Rattle.desk_rows.proofs.GroupLemmas.{stand_by-remove}
 use Rattle.desk_rows.proofs.grouping.take_entry.Goals as goal
 

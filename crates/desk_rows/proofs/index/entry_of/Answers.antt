@@ -1,6 +1,4 @@
-use Rattle.std.proofs.Common.{[], ◌∷◌, nat_lt, refl, sym, arith, rules}
-use Rattle.std.proofs.lemmas.List.Sorted.{IsPartitionPoint-from_clause, IsPartitionedBy-ltb}
-use Rattle.desk_rows.specs.declared.index.Entry.{Entry}
+use Rattle.desk_rows.specs.laws.Words.{[], ◌∷◌, nat_lt, refl, sym, arith, rules, IsPartitionPoint-from_clause, IsPartitionedBy-ltb, Entry}
 use Rattle.desk_rows.proofs.Halving.{found_here, found_none}
 use Rattle.desk_rows.proofs.Indexed.{entries_rise}
 use Rattle.desk_rows.proofs.index.entry_of.Goals as goal

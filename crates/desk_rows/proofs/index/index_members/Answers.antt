@@ -1,7 +1,4 @@
-use Rattle.std.proofs.Common.{subst, rules}
-use Rattle.std.specs.List.Sorted.{IsPermutation}
-use Rattle.std.proofs.lemmas.List.Sorted.{IsNonDecreasingBy-from_sort_by_key}
-use Rattle.desk_rows.specs.declared.index.Entry.{Entry}
+use Rattle.desk_rows.specs.laws.Words.{subst, rules, IsPermutation, IsNonDecreasingBy-from_sort_by_key, Entry}
 use Rattle.desk_rows.proofs.Indexed.{gives_places}
 use Rattle.desk_rows.proofs.index.index_members.Goals as goal
 

@@ -1,6 +1,5 @@
 -- What is there and the members that are left make the whole, in the room that there was.
-use Rattle.std.proofs.Common.{◌≡◌, ◌+◌, ◌≤◌, ◌++◌, length, vec_len, vec_capacity}
-use Rattle.desk_rows.specs.inner.Index.{entries_from}
+use Rattle.desk_rows.specs.laws.Words.{◌≡◌, ◌+◌, ◌≤◌, ◌++◌, length, vec_len, vec_capacity, entries_from}
 use Rattle.desk_rows.proofs.index.list_places.Given as goal
 
 abbrev pub invariant-loop-member : goal.invariant-loop-member

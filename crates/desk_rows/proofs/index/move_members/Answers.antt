@@ -1,5 +1,4 @@
-use Rattle.std.proofs.Common.{sym, ap, subst, ◌∙◌, length, arith}
-use Rattle.desk_rows.specs.Places.{put_at}
+use Rattle.desk_rows.specs.laws.Words.{sym, ap, subst, ◌∙◌, length, arith, put_at}
 use Rattle.desk_rows.specs.laws.PlaceLaws.{length-put_at}
 use Rattle.desk_rows.proofs.Indexed.{Once}
 use Rattle.desk_rows.proofs.index.move_members.Goals as goal

@@ -1,5 +1,4 @@
-use Rattle.std.proofs.Common.{ap, sym, ◌∙◌}
-use Rattle.desk_rows.specs.Order.{in_order}
+use Rattle.desk_rows.specs.laws.Words.{ap, sym, ◌∙◌, in_order}
 use Rattle.desk_rows.proofs.Loops.{in_order_next}
 use Rattle.desk_rows.proofs.ordering.are_in_order.Goals as goal
 

@@ -1,5 +1,4 @@
-use Rattle.std.proofs.Common.{◌≡◌, length}
-use Rattle.desk_rows.specs.Order.{in_order}
+use Rattle.desk_rows.specs.laws.Words.{◌≡◌, length, in_order}
 use Rattle.desk_rows.proofs.ordering.are_in_order.Given as goal
 
 abbrev pub invariant-loop-row : goal.invariant-loop-row

@@ -1,8 +1,4 @@
-use Rattle.std.proofs.Common.{sym, ◌∙◌, arith, rules}
-use Rattle.std.proofs.lemmas.List.Sorted.{IsPartitionPoint-from_clause}
-use Rattle.desk_rows.specs.declared.row.Row.TheVariants.{Room}
-use Rattle.desk_rows.specs.Row.{key_of}
-use Rattle.desk_rows.specs.Order.{key_precedes}
+use Rattle.desk_rows.specs.laws.Words.{sym, ◌∙◌, arith, rules, IsPartitionPoint-from_clause, Room, key_of, key_precedes}
 use Rattle.desk_rows.proofs.Halving.{parted, key_falls, row_here, row_none}
 use Rattle.desk_rows.proofs.ordering.find_row.Goals as goal
 

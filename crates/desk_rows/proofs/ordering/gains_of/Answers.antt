@@ -1,9 +1,5 @@
-use Rattle.std.proofs.Common.{take, sym, ap, subst, ◌∙◌, rules}
-use Rattle.std.specs.List.Sorted.{IsPartitionedBy}
-use Rattle.std.proofs.lemmas.List.Sorted.{IsPartitionPoint-from_clause}
-use Rattle.desk_rows.specs.Naming.{is_gain_of}
+use Rattle.desk_rows.specs.laws.Words.{take, sym, ap, subst, ◌∙◌, rules, IsPartitionedBy, IsPartitionPoint-from_clause, is_gain_of, Parts}
 use Rattle.desk_rows.specs.declared.row.Key.TheVariants as keys
-use Rattle.desk_rows.specs.inner.Parting.{Parts}
 use Rattle.desk_rows.proofs.Halving.{parted, key_falls}
 use Rattle.desk_rows.proofs.GainLemmas.{is_before, gains_parted, gains_together}
 use Rattle.desk_rows.proofs.ordering.gains_of.Goals as goal

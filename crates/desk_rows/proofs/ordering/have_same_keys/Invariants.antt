@@ -1,5 +1,4 @@
-use Rattle.std.proofs.Common.{◌≡◌, length}
-use Rattle.desk_rows.specs.Order.{have_same_keys}
+use Rattle.desk_rows.specs.laws.Words.{◌≡◌, length, have_same_keys}
 use Rattle.desk_rows.proofs.ordering.have_same_keys.Given as goal
 
 abbrev pub invariant-loop-row : goal.invariant-loop-row

@@ -1,8 +1,4 @@
-use Rattle.std.proofs.Common.{◌≡◌, List, refl, ◌++◌, ◌∷◌, [], length, sym, ap, ◌∙◌, arith}
-use Rattle.std.specs.List.{list_all}
-use Rattle.std.proofs.lemmas.Bool.{and_parts}
-use Rattle.desk_rows.specs.declared.row.Row.{Row}
-use Rattle.desk_rows.specs.Order.{precedes, in_order, without_rows}
+use Rattle.desk_rows.specs.laws.Words.{◌≡◌, List, refl, ◌++◌, ◌∷◌, [], length, sym, ap, ◌∙◌, arith, list_all, and_parts, Row, precedes, in_order, without_rows}
 use Rattle.desk_rows.proofs.Merging.{appended}
 use Rattle.desk_rows.proofs.SlidingLemmas.{none_go, before_all, not_among, first_stays}
 use Rattle.desk_rows.proofs.ordering.leave_out.Goals as goal

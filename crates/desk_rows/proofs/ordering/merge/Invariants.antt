@@ -1,5 +1,4 @@
-use Rattle.std.proofs.Common.{◌≡◌, true, ◌+◌, ◌≤◌, ◌++◌, length, vec_len, vec_capacity}
-use Rattle.desk_rows.specs.Order.{in_order, with_rows}
+use Rattle.desk_rows.specs.laws.Words.{◌≡◌, true, ◌+◌, ◌≤◌, ◌++◌, length, vec_len, vec_capacity, in_order, with_rows}
 use Rattle.desk_rows.proofs.ordering.merge.Given as goal
 
 abbrev pub invariant-loop-first : goal.invariant-loop-first

@@ -1,5 +1,4 @@
-use Rattle.std.proofs.Common.{rules}
-use Rattle.std.proofs.lemmas.Fn.{filter_same}
+use Rattle.desk_rows.specs.laws.Words.{rules, filter_same}
 use Rattle.desk_rows.proofs.ordering.pick_out.Goals as goal
 
 pub returns-clause-items : goal.returns-clause-items

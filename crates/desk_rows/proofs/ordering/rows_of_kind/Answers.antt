@@ -1,9 +1,5 @@
-use Rattle.std.proofs.Common.{take, nat_lt, nat_le, ap, subst, ◌∙◌, rules}
-use Rattle.std.proofs.lemmas.List.Sorted.{IsPartitionPoint-from_clause}
-use Rattle.desk_rows.specs.Row.{rank, kind_of, key_of}
-use Rattle.desk_rows.specs.Order.{in_order}
+use Rattle.desk_rows.specs.laws.Words.{take, nat_lt, nat_le, ap, subst, ◌∙◌, rules, IsPartitionPoint-from_clause, rank, kind_of, key_of, in_order, Parts}
 use Rattle.desk_rows.proofs.Halving.{parted, below_falls, within_falls, order_of_rest, of_kind}
-use Rattle.desk_rows.specs.inner.Parting.{Parts}
 use Rattle.desk_rows.proofs.ordering.rows_of_kind.Goals as goal
 
 pub returns : goal.returns

@@ -1,6 +1,4 @@
-use Rattle.std.proofs.Common.{◌≡◌, ◌+◌, List, [], ◌∷◌, length, refl, sym, ap, ◌∙◌, arith}
-use Rattle.desk_rows.specs.declared.row.Row.{Row}
-use Rattle.desk_rows.specs.Order.{with_rows, without_rows}
+use Rattle.desk_rows.specs.laws.Words.{◌≡◌, ◌+◌, List, [], ◌∷◌, length, refl, sym, ap, ◌∙◌, arith, Row, with_rows, without_rows}
 use Rattle.desk_rows.proofs.SlidingLemmas.{none_go}
 use Rattle.desk_rows.proofs.ordering.take_rows.Goals as goal
 

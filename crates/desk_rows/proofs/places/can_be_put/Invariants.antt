@@ -1,5 +1,4 @@
-use Rattle.std.proofs.Common.{◌≡◌, ◌+◌, ◌<◌, ◌^◌, length}
-use Rattle.desk_rows.specs.Places.{put_within}
+use Rattle.desk_rows.specs.laws.Words.{◌≡◌, ◌+◌, ◌<◌, ◌^◌, length, put_within}
 use Rattle.desk_rows.proofs.places.can_be_put.Given as goal
 
 abbrev pub invariant-loop-first : goal.invariant-loop-first

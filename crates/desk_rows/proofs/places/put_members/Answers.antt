@@ -1,5 +1,4 @@
-use Rattle.std.proofs.Common.{arith}
-use Rattle.std.proofs.lemmas.Grind.{common_steps}
+use Rattle.desk_rows.specs.laws.Words.{arith, common_steps}
 use Rattle.desk_rows.proofs.places.put_members.Goals as goal
 
 pub loop-first-preserved : goal.loop-first-preserved

@@ -1,5 +1,4 @@
-use Rattle.std.proofs.Common.{◌≡◌, length}
-use Rattle.desk_rows.specs.Places.{places_rise}
+use Rattle.desk_rows.specs.laws.Words.{◌≡◌, length, places_rise}
 use Rattle.desk_rows.proofs.places.rise.Given as goal
 
 abbrev pub invariant-loop-first : goal.invariant-loop-first

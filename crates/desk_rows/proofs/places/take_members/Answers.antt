@@ -1,5 +1,4 @@
-use Rattle.std.proofs.Common.{ap, sym, ◌∙◌, arith}
-use Rattle.desk_rows.specs.Places.{take_at, can_take}
+use Rattle.desk_rows.specs.laws.Words.{ap, sym, ◌∙◌, arith, take_at, can_take}
 use Rattle.desk_rows.proofs.Loops.{take_last, can_take_last}
 use Rattle.desk_rows.proofs.places.take_members.Goals as goal
 

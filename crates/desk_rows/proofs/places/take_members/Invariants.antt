@@ -1,5 +1,4 @@
-use Rattle.std.proofs.Common.{◌≡◌, ◌≤◌, true, length, vec_capacity}
-use Rattle.desk_rows.specs.Places.{take_at, can_take}
+use Rattle.desk_rows.specs.laws.Words.{◌≡◌, ◌≤◌, true, length, vec_capacity, take_at, can_take}
 use Rattle.desk_rows.proofs.places.take_members.Given as goal
 
 abbrev pub invariant-loop-last : goal.invariant-loop-last

@@ -1,4 +1,4 @@
-use Rattle.std.proofs.Common.{None, Some, sym, ◌∙◌}
+use Rattle.desk_rows.specs.laws.Words.{None, Some, sym, ◌∙◌}
 use Rattle.desk_rows.proofs.Indexed.{row_found}
 use Rattle.desk_rows.proofs.rows.member_with.Goals as goal
 

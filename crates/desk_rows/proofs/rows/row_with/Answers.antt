@@ -1,8 +1,5 @@
-use Rattle.std.proofs.Common.{◌++◌, map, sym, ap, ◌∙◌}
-use Rattle.std.specs.List.{find}
-use Rattle.desk_rows.specs.declared.row.Row.TheVariants.{Member}
+use Rattle.desk_rows.specs.laws.Words.{◌++◌, map, sym, ap, ◌∙◌, find, Member, has_key}
 use Rattle.desk_rows.specs.declared.row.Key.TheVariants.{Member as Member_key}
-use Rattle.desk_rows.specs.Row.{has_key}
 use Rattle.desk_rows.proofs.KindLemmas.{found_first, found_later, skipped}
 use Rattle.desk_rows.proofs.rows.row_with.Goals as goal
 

@@ -1,6 +1,4 @@
-use Rattle.std.proofs.Common.{not, rules}
-use Rattle.std.proofs.lemmas.List.Sorted.{IsPartitionPoint-from_clause}
-use Rattle.desk_rows.specs.Order.{precedes}
+use Rattle.desk_rows.specs.laws.Words.{not, rules, IsPartitionPoint-from_clause, precedes}
 use Rattle.desk_rows.proofs.Halving.{parted}
 use Rattle.desk_rows.proofs.SlidingLemmas.{before_falls}
 use Rattle.desk_rows.proofs.sliding.place_before.Goals as goal

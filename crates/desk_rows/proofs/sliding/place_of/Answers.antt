@@ -1,7 +1,4 @@
-use Rattle.std.proofs.Common.{rules}
-use Rattle.std.proofs.lemmas.List.Sorted.{IsPartitionPoint-from_clause}
-use Rattle.desk_rows.specs.Row.{key_of}
-use Rattle.desk_rows.specs.Order.{precedes}
+use Rattle.desk_rows.specs.laws.Words.{rules, IsPartitionPoint-from_clause, key_of, precedes}
 use Rattle.desk_rows.proofs.Halving.{parted, key_falls}
 use Rattle.desk_rows.proofs.sliding.place_of.Goals as goal
 

@@ -1,8 +1,4 @@
-use Rattle.std.proofs.Common.{List, ◌≤◌, length, not, sym, subst, arith}
-use Rattle.std.proofs.lemmas.Grind.{common_steps}
-use Rattle.desk_rows.specs.declared.row.Row.{Row}
-use Rattle.desk_rows.specs.Order.{precedes}
-use Rattle.desk_rows.specs.inner.Parting.{Parts}
+use Rattle.desk_rows.specs.laws.Words.{List, ◌≤◌, length, not, sym, subst, arith, common_steps, Row, precedes, Parts}
 use Rattle.desk_rows.proofs.SlidingLemmas.{put_in}
 use Rattle.desk_rows.proofs.sliding.put_one.Goals as goal
 

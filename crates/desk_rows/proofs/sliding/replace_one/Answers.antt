@@ -1,8 +1,4 @@
-use Rattle.std.proofs.Common.{List, length, ap, sym, subst, arith}
-use Rattle.desk_rows.specs.declared.row.Row.{Row}
-use Rattle.desk_rows.specs.Row.{key_of}
-use Rattle.desk_rows.specs.Order.{precedes}
-use Rattle.desk_rows.specs.inner.Parting.{Parts}
+use Rattle.desk_rows.specs.laws.Words.{List, length, ap, sym, subst, arith, Row, key_of, precedes, Parts}
 use Rattle.desk_rows.specs.laws.Equal.{same_key_is}
 use Rattle.desk_rows.proofs.SlidingLemmas.{replaced_at}
 use Rattle.desk_rows.proofs.sliding.replace_one.Goals as goal

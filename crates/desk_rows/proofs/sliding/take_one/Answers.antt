@@ -1,8 +1,4 @@
-use Rattle.std.proofs.Common.{List, ap, sym, subst, ◌∙◌}
-use Rattle.std.specs.Prelude.{slice_get}
-use Rattle.desk_rows.specs.declared.row.Row.{Row}
-use Rattle.desk_rows.specs.Order.{precedes}
-use Rattle.desk_rows.specs.inner.Parting.{Parts, is_found_as}
+use Rattle.desk_rows.specs.laws.Words.{List, ap, sym, subst, ◌∙◌, slice_get, Row, precedes, Parts, is_found_as}
 use Rattle.desk_rows.proofs.SlidingLemmas.{take_out, none_out}
 use Rattle.desk_rows.proofs.sliding.take_one.Goals as goal
 

@@ -1,4 +1,4 @@
-use Rattle.std.proofs.Common.{sym, ◌∙◌}
+use Rattle.desk_rows.specs.laws.Words.{sym, ◌∙◌}
 use Rattle.desk_rows.specs.laws.Laws.{apt_parts}
 use Rattle.desk_rows.proofs.NewKeys.{keyed_later}
 use Rattle.desk_rows.proofs.exchange.Exchange.is_good.Goals as goal

@@ -1,10 +1,4 @@
-use Rattle.std.proofs.Common.{◌+◌, nat_eq, ap, sym, ◌∙◌}
-use Rattle.std.specs.Prelude.{count_by}
-use Rattle.desk_rows.specs.declared.row.Row.TheVariants.{Member}
-use Rattle.desk_rows.specs.declared.row.Member.{Member as MemberRow}
-use Rattle.desk_rows.specs.declared.counting.Test.TheVariants.{Makes}
-use Rattle.desk_rows.specs.inner.Tests.{passes}
-use Rattle.desk_rows.specs.inner.Judged.{go_count, come_count}
+use Rattle.desk_rows.specs.laws.Words.{◌+◌, nat_eq, ap, sym, ◌∙◌, count_by, Member, MemberRow, Makes, passes, go_count, come_count}
 use Rattle.desk_rows.proofs.Counts.{rows_count}
 use Rattle.desk_rows.proofs.OverlayLemmas.{one_is}
 use Rattle.desk_rows.proofs.overlay.Overlay.has_one.Goals as goal

@@ -1,5 +1,4 @@
-use Rattle.std.proofs.Common.{ap, sym, ◌∙◌}
-use Rattle.std.specs.Option.{is_some}
+use Rattle.desk_rows.specs.laws.Words.{ap, sym, ◌∙◌, is_some}
 use Rattle.desk_rows.specs.laws.Laws.{apt_parts}
 use Rattle.desk_rows.proofs.ChangeLemmas.{coming_is, puts_is}
 use Rattle.desk_rows.proofs.Finding.{found_coming, found_gone, found_still}

@@ -1,9 +1,5 @@
-use Rattle.std.proofs.Common.{map, filter, sym, ap, ◌∙◌}
-use Rattle.std.specs.List.{slice_get}
+use Rattle.desk_rows.specs.laws.Words.{map, filter, sym, ap, ◌∙◌, slice_get, is_of, rows_of_kind, desk_of}
 use Rattle.desk_rows.specs.declared.row.Row.TheVariants as rows
-use Rattle.desk_rows.specs.Kinds.{is_of}
-use Rattle.desk_rows.specs.Desk.{rows_of_kind}
-use Rattle.desk_rows.specs.inner.Listed.{desk_of}
 use Rattle.desk_rows.proofs.KindLemmas.{members_only, others_only, plain_others}
 use Rattle.desk_rows.proofs.rows.Rows.at.Goals as goal
 

@@ -1,5 +1,4 @@
-use Rattle.std.proofs.Common.{length, sym, ap, ◌∙◌}
-use Rattle.desk_rows.specs.Desk.{count_of}
+use Rattle.desk_rows.specs.laws.Words.{length, sym, ap, ◌∙◌, count_of}
 use Rattle.desk_rows.proofs.KindLemmas.{members_counted, others_counted, plain_others}
 use Rattle.desk_rows.proofs.rows.Rows.count.Goals as goal
 

@@ -1,6 +1,4 @@
-use Rattle.std.proofs.Common.{sym, ap, subst, ◌∙◌}
-use Rattle.desk_rows.specs.Order.{in_order}
-use Rattle.desk_rows.specs.inner.Index.{IsIndex}
+use Rattle.desk_rows.specs.laws.Words.{sym, ap, subst, ◌∙◌, in_order, IsIndex}
 use Rattle.desk_rows.specs.laws.Laws.{good_order}
 use Rattle.desk_rows.proofs.rows.Rows.find.Goals as goal
 

@@ -1,5 +1,4 @@
-use Rattle.std.proofs.Common.{ap, ◌∙◌}
-use Rattle.desk_rows.specs.Order.{in_order}
+use Rattle.desk_rows.specs.laws.Words.{ap, ◌∙◌, in_order}
 use Rattle.desk_rows.specs.laws.Laws.{good_order}
 use Rattle.desk_rows.proofs.rows.Rows.holds.Goals as goal
 

@@ -1,5 +1,4 @@
-use Rattle.std.proofs.Common.{ap, ◌∙◌}
-use Rattle.desk_rows.specs.Desk.{member_at_address}
+use Rattle.desk_rows.specs.laws.Words.{ap, ◌∙◌, member_at_address}
 use Rattle.desk_rows.proofs.AddressLemmas.{asked}
 use Rattle.desk_rows.proofs.rows.Rows.member_at_address.Goals as goal
 

@@ -1,6 +1,4 @@
-use Rattle.std.proofs.Common.{filter, nat_eq, ap, ◌∙◌}
-use Rattle.desk_rows.specs.declared.row.Member.{Member}
-use Rattle.desk_rows.specs.Naming.{members_in}
+use Rattle.desk_rows.specs.laws.Words.{filter, nat_eq, ap, ◌∙◌, MemberRow as Member, members_in}
 use Rattle.desk_rows.proofs.RoomLemmas.{members_in_table}
 use Rattle.desk_rows.proofs.rows.Rows.members_of.Goals as goal
 

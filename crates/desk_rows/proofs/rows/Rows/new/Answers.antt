@@ -1,10 +1,4 @@
-use Rattle.std.proofs.Common.{ℕ, [], Option, refl, arith}
-use Rattle.desk_rows.specs.declared.row.Row.{Row}
-use Rattle.desk_rows.specs.Naming.{slot_in, sub_in}
-use Rattle.desk_rows.specs.inner.Grouped.{IsTableOf}
-use Rattle.desk_rows.specs.inner.Index.{IsIndex}
-use Rattle.desk_rows.specs.inner.Addressed.{IsByAddress}
-use Rattle.desk_rows.specs.inner.Roomed.{IsByRoom}
+use Rattle.desk_rows.specs.laws.Words.{ℕ, [], Option, refl, arith, Row, slot_in, sub_in, IsTableOf, IsIndex, IsByAddress, IsByRoom}
 use Rattle.desk_rows.proofs.ExchangeLemmas.{good_blank}
 use Rattle.desk_rows.proofs.rows.Rows.new.Goals as goal
 

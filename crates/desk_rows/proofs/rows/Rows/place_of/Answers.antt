@@ -1,9 +1,4 @@
-use Rattle.std.proofs.Common.{sym, ap, subst, ◌∙◌}
-use Rattle.std.specs.List.Sorted.{IsNonDecreasingBy}
-use Rattle.std.specs.Option.{option_map}
-use Rattle.desk_rows.specs.declared.index.Entry.{Entry}
-use Rattle.desk_rows.specs.Places.{place_in}
-use Rattle.desk_rows.specs.inner.Index.{entry_in}
+use Rattle.desk_rows.specs.laws.Words.{sym, ap, subst, ◌∙◌, IsNonDecreasingBy, option_map, Entry, place_in, entry_in}
 use Rattle.desk_rows.proofs.rows.Rows.place_of.Goals as goal
 
 pub entry_of-requires : goal.entry_of-requires

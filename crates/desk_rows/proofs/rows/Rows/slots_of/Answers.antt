@@ -1,7 +1,4 @@
-use Rattle.std.proofs.Common.{filter, nat_eq, ap, sym, subst, ◌∙◌}
-use Rattle.std.specs.List.Sorted.{IsNonDecreasingBy}
-use Rattle.desk_rows.specs.declared.row.Slot.{Slot}
-use Rattle.desk_rows.specs.Naming.{slots_naming}
+use Rattle.desk_rows.specs.laws.Words.{filter, nat_eq, ap, sym, subst, ◌∙◌, IsNonDecreasingBy, SlotRow as Slot, slots_naming}
 use Rattle.desk_rows.proofs.NamingLemmas.{indexes_rise, slots_in_table}
 use Rattle.desk_rows.proofs.rows.Rows.slots_of.Goals as goal
 

@@ -1,5 +1,4 @@
-use Rattle.std.proofs.Common.{filter, nat_eq, ap, ◌∙◌}
-use Rattle.desk_rows.specs.Naming.{subs_naming}
+use Rattle.desk_rows.specs.laws.Words.{filter, nat_eq, ap, ◌∙◌, subs_naming}
 use Rattle.desk_rows.proofs.NamingLemmas.{subs_in_table}
 use Rattle.desk_rows.proofs.rows.Rows.subs_of.Goals as goal
 

@@ -1,4 +1,4 @@
-use Rattle.std.proofs.Common.{sym, ◌∙◌}
+use Rattle.desk_rows.specs.laws.Words.{sym, ◌∙◌}
 use Rattle.desk_rows.specs.laws.Laws.{stays}
 use Rattle.desk_rows.proofs.rows.RowsReversible.absorb.Goals as goal
 

@@ -1,14 +1,5 @@
-use Rattle.std.proofs.Common.{◌≡◌, true, length, filter, ap, subst, ◌∙◌, arith}
-use Rattle.std.specs.Prelude.{count_by}
+use Rattle.desk_rows.specs.laws.Words.{◌≡◌, true, length, filter, ap, subst, ◌∙◌, arith, count_by, is_of, in_order, slot_in, sub_in, passes_in, IsTableOf, Desk, good, EditOf, exchanged, fits, after, desk_of}
 use Rattle.desk_rows.specs.declared.row.Kind.TheVariants as kinds
-use Rattle.desk_rows.specs.Kinds.{is_of}
-use Rattle.desk_rows.specs.Order.{in_order}
-use Rattle.desk_rows.specs.Naming.{slot_in, sub_in}
-use Rattle.desk_rows.specs.inner.Grouped.{passes_in, IsTableOf}
-use Rattle.desk_rows.specs.Desk.{Desk, good}
-use Rattle.desk_rows.specs.Edit.{EditOf}
-use Rattle.desk_rows.specs.Exchange.{exchanged, fits, after}
-use Rattle.desk_rows.specs.inner.Listed.{desk_of}
 use Rattle.desk_rows.specs.laws.Laws.{good_order}
 use Rattle.desk_rows.proofs.ExchangeLemmas.{few_rows}
 use Rattle.desk_rows.proofs.OverlayLemmas.{Absorbs, absorbs}
