@@ -1,8 +1,9 @@
 -- What an edit takes and puts, found by keys.
-use Rattle.desk_rows.specs.laws.Words.{◌≡◌, ℕ, Bool, true, false, cond, ◌||◌, List, [], ◌∷◌, ◌++◌, map, refl, sym, ap, ◌∙◌, Some, None, is_some, find, list_any, list_any-append, Row, Member, Key, Placed, has_key, same_row, is_in, with_rows, EditOf, listed_rows, change_rows, come_rows, takes, puts}
+use Rattle.desk_rows.specs.laws.Words.{◌≡◌, ℕ, Bool, true, cond, ◌||◌, List, [], ◌∷◌, None, Some, refl, sym, ap, ◌∙◌, ◌++◌, map, not, list_any-append, find, list_any, is_some, Placed, Key, Row, Member, EditOf, is_in, with_rows, same_row, has_key, listed_rows, change_rows, come_rows, takes, puts}
 use Rattle.desk_rows.specs.declared.row.Key.TheVariants as keys
+use Rattle.desk_rows.specs.laws.ListLaws.{or_turned, is_found}
 use Rattle.desk_rows.specs.laws.OrderLaws.{list_any-with_rows}
-use Rattle.desk_rows.proofs.Finding.{is_found, found_there}
+use Rattle.desk_rows.proofs.Finding.{found_there}
 use Rattle.desk_rows.proofs.KindLemmas.{not_its}
 
 -- only the key of a member is a member's
@@ -15,13 +16,8 @@ any_change : (q : Row → Bool) (ps : List Placed) (rs more : List Row) → list
 any_change q ps rs more =
     let members = map (λ (p : Placed). Member p.row) ps in
     list_any-append q members (rs ++ more)
-    ∙ ap (λ b. list_any q members || b) (list_any-append q rs more ∙ turned (list_any q rs) (list_any q more) ∙ sym (list_any-with_rows q more rs))
-    ∙ sym (list_any-append q members (with_rows more rs)) where
-      turned : (a b : Bool) → (a || b) ≡ (b || a)
-      turned true true = refl
-      turned true false = refl
-      turned false true = refl
-      turned false false = refl
+    ∙ ap (λ b. list_any q members || b) (list_any-append q rs more ∙ or_turned (list_any q rs) (list_any q more) ∙ sym (list_any-with_rows q more rs))
+    ∙ sym (list_any-append q members (with_rows more rs))
 
 pub takes_is : (e : EditOf) (key : Key) → is_some (find (has_key key) (listed_rows e.taken.members e.taken.others e.replaced.old)) ≡ takes e key
 takes_is e key = sym (is_found (has_key key) _) ∙ any_change (has_key key) e.taken.members e.taken.others e.replaced.old

@@ -1,15 +1,18 @@
 -- The tests of an exchange, and what absorbing an edit that fits finds and leaves.
-use Rattle.desk_rows.specs.laws.Words.{◌≡◌, ℕ, ◌+◌, ◌-◌, ◌≤◌, nat_eq, Bool, true, false, not, cond, ◌&&◌, ◌||◌, if◌then◌else◌, List, [], ◌∷◌, map, length, filter, refl, sym, ap, ◌∙◌, inl, inr, arith, count_by, list_any, list_all, and_parts, and_from, or_right, or_cases, cases_Bool, eqb-true, eq-eqb, Row, MemberRow as Member, Key, Kind, Placed, rank, kind_of, own_numbers, key_numbers, key_of, owner_of, has_key, same_key, numbers_precede, is_of, precedes, in_order, is_in, with_row, with_rows, take_at, can_take, can_put, places_rise, put_within, member_limit, slot_limit, other_limit, Desk, blank, good, rows_of, is_named_there}
+pub use Rattle.desk_rows.specs.laws.OrderLaws.{length-with_rows}
+use Rattle.desk_rows.specs.laws.Words.{◌≡◌, ℕ, ◌≤◌, Bool, true, false, cond, ◌||◌, List, [], ◌∷◌, length, refl, sym, ap, ◌∙◌, arith, map, ◌+◌, ◌-◌, nat_eq, not, ◌&&◌, inl, inr, if◌then◌else◌, filter, eqb-true, or_right, or_cases, and_parts, and_from, false_from_ne_true, length-filter_both, length-map, length-filter, list_any, list_all, count_by, eq-eqb, Placed, Key, Kind, MemberRow as Member, Row, Desk, rows_of, blank, is_named_there, good, is_of, member_limit, slot_limit, other_limit, numbers_precede, is_in, in_order, precedes, take_at, can_take, can_put, places_rise, put_within, has_key, rank, kind_of, own_numbers, key_numbers, key_of, owner_of, same_key}
 use Rattle.desk_rows.specs.declared.row.Row.TheVariants as rows
 use Rattle.desk_rows.specs.declared.row.Key.TheVariants as keys
 use Rattle.desk_rows.specs.declared.row.Kind.TheVariants as kinds
+use Rattle.desk_rows.specs.laws.ClaimLaws.{witness}
+use Rattle.desk_rows.specs.laws.Equal.{same_key_is, key_itself, its_key}
+use Rattle.desk_rows.specs.laws.Laws.{good_parts, good_order, any_counts, is_in-append}
+use Rattle.desk_rows.specs.laws.ListLaws.{true_false, count_next, count_by-append, some_count, count_some, all_pass}
 use Rattle.desk_rows.specs.laws.NumberLaws.{numbers_not_before}
-use Rattle.desk_rows.specs.laws.Equal.{key_itself, same_key_is, its_key}
-use Rattle.desk_rows.specs.laws.OrderLaws.{at_each, from_each, is_in-filter, in_order-filter}
-use Rattle.desk_rows.specs.laws.PlaceLaws.{count_next, length-take_at, can_put_within}
-use Rattle.desk_rows.specs.laws.Laws.{good_parts, good_order, any_counts, is_in-append, count_by-append}
-use Rattle.desk_rows.proofs.KindLemmas.{filter_length, map_length, within_parts}
-use Rattle.desk_rows.proofs.Counts.{true_false, rows_count, witness, some_count, count_some}
+use Rattle.desk_rows.specs.laws.OrderLaws.{at_each, from_each, in_order-filter, same_key_turned, is_in-filter}
+use Rattle.desk_rows.specs.laws.PlaceLaws.{length-take_at, can_put_within}
+use Rattle.desk_rows.proofs.Counts.{rows_count}
+use Rattle.desk_rows.proofs.KindLemmas.{within_parts}
 
 -- ---- places
 
@@ -25,12 +28,7 @@ put_places tm ms pm h =
 -- ---- how many rows there may be
 
 filter_count : (p : Row → Bool) (xs : List Row) → count_by p xs + length (filter (λ x. not (p x)) xs) ≡ length xs
-filter_count p [] = omega arith
-filter_count p (x ∷ xs) = by (p x) refl (filter_count p xs) where
-  by : (b : Bool) → p x ≡ b → count_by p xs + length (filter (λ x. not (p x)) xs) ≡ length xs →
-      count_by p (x ∷ xs) + length (cond (not b) (x ∷ filter (λ x. not (p x)) xs) (filter (λ x. not (p x)) xs)) ≡ length (x ∷ xs)
-  by true e rest = let here : ◌≡◌ {A = ℕ} (cond (p x) 1 0) 1 = ap (λ b. cond b 1 0) e in omega (arith, rest, count_next p x xs, here)
-  by false e rest = let here : ◌≡◌ {A = ℕ} (cond (p x) 1 0) 0 = ap (λ b. cond b 1 0) e in omega (arith, rest, count_next p x xs, here)
+filter_count p xs = omega (arith, length-filter p xs, length-filter_both p (λ x. not (p x)) (λ x. refl) xs)
 
 -- the key of the row whose number a row has
 abbrev owner_key : Row → Key
@@ -42,13 +40,10 @@ own_kept _ = refl
 
 -- rows of one kind in order have the numbers of differing rows
 owners_differ : (kind : Kind) (x z : Row) → is_of kind x ≡ true → is_of kind z ≡ true → precedes x z ≡ true → same_key (owner_key x) (owner_key z) ≡ false
-owners_differ kind x z f g h = elim (cases_Bool (same_key (owner_key x) (owner_key z))) [
-  | inl e ↦
-      let own : own_numbers (key_of x) ≡ own_numbers (key_of z) = sym (own_kept (key_of x)) ∙ ap own_numbers (same_key_is (owner_key x) (owner_key z) e) ∙ own_kept (key_of z) in
-      let ranks : rank (kind_of (key_of x)) ≡ rank (kind_of (key_of z)) = eqb-true _ _ f ∙ sym (eqb-true _ _ g) in
-      absurd (true_false (sym h ∙ (λ i. numbers_precede (ranks i ∷ own i) (key_numbers (key_of z))) ∙ numbers_not_before (key_numbers (key_of z))))
-  | inr e ↦ e
-]
+owners_differ kind x z f g h = false_from_ne_true _ (λ e.
+    let own : own_numbers (key_of x) ≡ own_numbers (key_of z) = sym (own_kept (key_of x)) ∙ ap own_numbers (same_key_is (owner_key x) (owner_key z) e) ∙ own_kept (key_of z) in
+    let ranks : rank (kind_of (key_of x)) ≡ rank (kind_of (key_of z)) = eqb-true _ _ f ∙ sym (eqb-true _ _ g) in
+    true_false (sym h ∙ (λ i. numbers_precede (ranks i ∷ own i) (key_numbers (key_of z))) ∙ numbers_not_before (key_numbers (key_of z))))
 
 -- rows of differing keys that each have a row among others are no more than these
 each_has_its_own : (kind : Kind) (xs ys : List Row) → in_order xs ≡ true → list_all (is_of kind) xs ≡ true → list_all (λ x. list_any (has_key (owner_key x)) ys) xs ≡ true → length xs ≤ length ys
@@ -63,18 +58,10 @@ each_has_its_own kind (x ∷ xs) ys h k each =
     let rest = each_has_its_own kind xs left order.1 subs.1 (from_each (λ z. list_any (has_key (owner_key z)) left) xs (λ z one.
     let w = witness (has_key (owner_key z)) ys (at_each (λ z. list_any (has_key (owner_key z)) ys) xs z haves.1 one) in
     let differ = owners_differ kind x z subs.0 (at_each (is_of kind) xs z subs.1 one) (at_each (precedes x) xs z order.0 one) in
-    let other : has_key (owner_key x) w.0 ≡ false = ap (λ q. same_key q (owner_key x)) (its_key (owner_key z) w.0 w.2) ∙ turned (owner_key z) (owner_key x) differ in
+    let other : has_key (owner_key x) w.0 ≡ false = ap (λ q. same_key q (owner_key x)) (its_key (owner_key z) w.0 w.2) ∙ false_from_ne_true _ (λ e. true_false (sym (same_key_turned (owner_key z) (owner_key x) e) ∙ differ)) in
     let stays : is_in left w.0 ≡ true = is_in-filter (λ y. not (has_key (owner_key x) y)) w.0 ys ∙ and_from _ _ w.1 (ap not other) in
     count_some (has_key (owner_key z)) left (any_counts (has_key (owner_key z)) left w.0 stays w.2))) in
-    omega (arith, rest, all, some) where
-      turned : (a b : Key) → same_key b a ≡ false → same_key a b ≡ false
-      turned a b h = elim (cases_Bool (same_key a b)) [
-        | inl e ↦ absurd (true_false (sym (key_itself b) ∙ sym (ap (λ q. same_key b q) (same_key_is a b e)) ∙ h))
-        | inr e ↦ e
-      ]
-
-all_filter : (p : Row → Bool) (xs : List Row) → list_all p (filter p xs) ≡ true
-all_filter p xs = from_each p (filter p xs) (λ q one. (and_parts (is_in xs q) (p q) (sym (is_in-filter p q xs) ∙ one)).1)
+    omega (arith, rest, all, some)
 
 -- rows that are no members' are of the eight other kinds
 of_eight_kinds : (xs : List Row) → list_all (λ r. not (is_of kinds.Member r)) xs ≡ true →
@@ -154,11 +141,11 @@ module _ (d : Desk) (g : good d ≡ true) (kind owner : Kind) (owns : owner_rank
   owned_few : count_by (is_of kind) d.others ≤ count_by (is_of owner) d.others
   owned_few =
       let these = filter (is_of kind) d.others in
-      let l = each_has_its_own kind these (filter (is_of owner) d.others) (in_order-filter (is_of kind) d.others (good_order d g)) (all_filter (is_of kind) d.others)
+      let l = each_has_its_own kind these (filter (is_of owner) d.others) (in_order-filter (is_of kind) d.others (good_order d g)) (all_pass (is_of kind) d.others)
       (from_each (λ x. list_any (has_key (owner_key x)) (filter (is_of owner) d.others)) these (λ x one.
       let both = and_parts (is_in d.others x) (is_of kind x) (sym (is_in-filter (is_of kind) x d.others) ∙ one) in
       owner_there x both.0 both.1)) in
-      omega (arith, l, filter_length (is_of kind) d.others, filter_length (is_of owner) d.others)
+      omega (arith, l, length-filter (is_of kind) d.others, length-filter (is_of owner) d.others)
 
 all_members : (ms : List Member) → count_by (λ m. is_of kinds.Member (rows.Member m)) ms ≡ length ms
 all_members [] = refl
@@ -200,8 +187,8 @@ few_slots d g =
     let w = within_parts d g in
     let subs = owned_few d g kinds.Sub kinds.Slot refl refl in
     let slots = rows_count (is_of kinds.Slot) d in (
-      omega (arith, w.slots, slots, subs, filter_length (is_of kinds.Sub) d.others),
-      omega (arith, w.slots, slots, filter_length (is_of kinds.Slot) d.others),
+      omega (arith, w.slots, slots, subs, length-filter (is_of kinds.Sub) d.others),
+      omega (arith, w.slots, slots, length-filter (is_of kinds.Slot) d.others),
     )
 
 -- and so has each number of them
@@ -210,20 +197,7 @@ rows_few p d g =
     let few = few_rows d g in
     let members = filter_count p (map rows.Member d.members) in
     let others = filter_count p d.others in
-    omega (arith, few.0, few.1, members, others, count_by-append p (map rows.Member d.members) d.others, map_length d.members)
-
--- ---- absorbing
-
-length-with_row : (r : Row) (xs : List Row) → length (with_row r xs) ≡ length xs + 1
-length-with_row r [] = refl
-length-with_row r (x ∷ xs) = by (precedes r x) (length-with_row r xs) where
-  by : (b : Bool) → length (with_row r xs) ≡ length xs + 1 → length (cond b (r ∷ x ∷ xs) (x ∷ with_row r xs)) ≡ length (x ∷ xs) + 1
-  by true rest = omega arith
-  by false rest = omega (arith, rest)
-
-pub length-with_rows : (rs xs : List Row) → length (with_rows rs xs) ≡ length xs + length rs
-length-with_rows [] xs = omega arith
-length-with_rows (r ∷ rs) xs = let rest = length-with_rows rs (with_row r xs) in omega (arith, rest, length-with_row r xs)
+    omega (arith, few.0, few.1, members, others, count_by-append p (map rows.Member d.members) d.others, length-map d.members rows.Member)
 
 -- a desk without rows is good
 pub good_blank : (bridge : ℕ) → good (blank bridge) ≡ true

@@ -1,6 +1,6 @@
 -- Tables of what is in rows: made, counted, and parted by groups.
-use Rattle.desk_rows.specs.laws.Words.{◌≡◌, ℕ, zero, suc, ◌+◌, ◌<◌, ◌≤◌, Bool, true, false, cond, ◌&&◌, ◌||◌, List, [], ◌∷◌, length, insert, remove, get_or, filter, nat_eq, nat_lt, nat_le, refl, sym, ap, ◌∙◌, arith, eqb-true, Option, Some, None, count_by, list_all, filter_map, cons_option, IsNonDecreasingBy, IsPermutation, IsSortedByKey, nat_cmp, is_lt, ordering_then, and_parts, and_from, nat_tests, sum_by-IsPermutation, Row, Kind, is_of, stand_by, in_turn, passes_if, passes_in, Parts}
-use Rattle.desk_rows.specs.laws.PlaceLaws.{count_next}
+use Rattle.desk_rows.specs.laws.Words.{◌≡◌, ℕ, zero, suc, ◌<◌, ◌≤◌, Bool, true, false, cond, ◌||◌, List, [], ◌∷◌, length, get_or, nat_lt, Option, None, Some, refl, sym, ap, ◌∙◌, arith, ◌+◌, nat_eq, ◌&&◌, inl, inr, filter, eqb-true, insert, remove, nat_le, le_of_eq, and_parts, and_from, cases_Bool, leb-true, leb-false, le-leb, nat_tests, sum_by-IsPermutation, count_by-le-length, list_all, filter_map, cons_option, IsNonDecreasingBy, IsPermutation, IsSortedByKey, nat_cmp, is_lt, ordering_then, count_by, Kind, Row, after, is_of, stand_by, in_turn, passes_if, passes_in, Parts}
+use Rattle.desk_rows.specs.laws.ListLaws.{SameCounts, count_next, count_yes, same_length, all_pass, stand_by-filter, ahead_may, falling}
 use Rattle.desk_rows.proofs.Halving.{later_parts}
 
 -- ---- counts
@@ -20,48 +20,35 @@ count_in in_row p (r ∷ rows) =
 pub count_of_kind : {X : Type 0} (kind : Kind) (in_row : Row → Option X) → ((r : Row) → is_of kind r ≡ false → in_row r ≡ None) → (p : X → Bool) (rows : List Row)
     → count_by (passes_in in_row p) (filter (is_of kind) rows) ≡ count_by (passes_in in_row p) rows
 count_of_kind kind in_row other p [] = refl
-count_of_kind kind in_row other p (r ∷ rows) = by (is_of kind r) refl (count_of_kind kind in_row other p rows)
-  where
-    by : (b : Bool) → is_of kind r ≡ b → count_by (passes_in in_row p) (filter (is_of kind) rows) ≡ count_by (passes_in in_row p) rows
-        → count_by (passes_in in_row p) (cond b (r ∷ filter (is_of kind) rows) (filter (is_of kind) rows)) ≡ count_by (passes_in in_row p) (r ∷ rows)
-    by true e rest = omega (arith, rest, count_next (passes_in in_row p) r rows, count_next (passes_in in_row p) r (filter (is_of kind) rows))
-    by false e rest =
-        let here : ◌≡◌ {A = ℕ} (cond (passes_if p (in_row r)) 1 0) 0 = ap (λ o. cond (passes_if p o) 1 0) (other r e) in
-        omega (arith, rest, here, count_next (passes_in in_row p) r rows)
+count_of_kind kind in_row other p (r ∷ rows) = grind (arith, other r, count_of_kind kind in_row other p rows, count_next (passes_in in_row p) r rows, count_next (passes_in in_row p) r (filter (is_of kind) rows))
 
 -- where no row is of the kind, there is none
 pub none_of_kind : {X : Type 0} (kind : Kind) (in_row : Row → Option X) → ((r : Row) → is_of kind r ≡ false → in_row r ≡ None) → (p : X → Bool) (rows : List Row)
     → length (filter (is_of kind) rows) ≡ 0 → count_by (passes_in in_row p) rows ≡ 0
-none_of_kind kind in_row other p rows h = sym (count_of_kind kind in_row other p rows) ∙ ap (count_by (passes_in in_row p)) (empty (filter (is_of kind) rows) h)
-  where
-    empty : (xs : List Row) → length xs ≡ 0 → xs ≡ []
-    empty [] h = refl
-    empty (x ∷ xs) h = absurd (omega (arith, h))
+none_of_kind kind in_row other p rows h = omega (arith, h, count_of_kind kind in_row other p rows, count_by-le-length (passes_in in_row p) (filter (is_of kind) rows))
 
 pub count_moved : {X : Type 0} (p : X → Bool) (xs ys : List X) → IsPermutation xs ys → count_by p ys ≡ count_by p xs
 count_moved p xs ys moved = sum_by-IsPermutation (λ x. cond (p x) 1 0) xs ys moved
 
 -- ---- order
 
+-- what stands behind an element that another may stand before, that may stand before too
+all_behind : {X : Type 0} (may : X → X → Bool) → ((a b c : X) → may a b ≡ true → may b c ≡ true → may a c ≡ true) → (x y : X) (zs : List X) → may x y ≡ true → list_all (may y) zs ≡ true → list_all (may x) zs ≡ true
+all_behind may on x y [] e h = refl
+all_behind may on x y (z ∷ zs) e h = grind (arith, e, h, on x y z, all_behind may on x y zs)
+
 -- where neighbours may stand as they do, all may
 from_neighbours : {X : Type 0} (may : X → X → Bool) → ((a b c : X) → may a b ≡ true → may b c ≡ true → may a c ≡ true) → (xs : List X)
     → ((k : ℕ) (d : X) → suc k < length xs → may (get_or xs k d) (get_or xs (suc k) d) ≡ true) → stand_by may xs ≡ true
 from_neighbours may on [] h = refl
 from_neighbours may on (x ∷ []) h = refl
-from_neighbours {X} may on (x ∷ y ∷ xs) h =
+from_neighbours may on (x ∷ y ∷ xs) h =
     let rest : stand_by may (y ∷ xs) ≡ true = from_neighbours may on (y ∷ xs) (λ k d lt. h (suc k) d (omega arith)) in
     let first : may x y ≡ true = h 0 x (omega arith) in
-    and_from _ _ (and_from _ _ first (behind xs first (and_parts (list_all (may y) xs) (stand_by may xs) rest).0)) rest
-  where
-    behind : (zs : List X) → may x y ≡ true → list_all (may y) zs ≡ true → list_all (may x) zs ≡ true
-    behind [] e h = refl
-    behind (z ∷ zs) e h = let both = and_parts (may y z) (list_all (may y) zs) h in and_from _ _ (on x y z e both.0) (behind zs e both.1)
+    and_from _ _ (and_from _ _ first (all_behind may on x y xs first (and_parts (list_all (may y) xs) (stand_by may xs) rest).0)) rest
 
 pub in_turn_on : {X : Type 0} (group turn : X → ℕ) (a b c : X) → in_turn group turn a b ≡ true → in_turn group turn b c ≡ true → in_turn group turn a c ≡ true
-in_turn_on group turn a b c h k = on (group a) (turn a) (group b) (turn b) (group c) (turn c) h k
-  where
-    on : (a a' b b' c c' : ℕ) → (nat_lt a b || (nat_eq a b && nat_le a' b')) ≡ true → (nat_lt b c || (nat_eq b c && nat_le b' c')) ≡ true → (nat_lt a c || (nat_eq a c && nat_le a' c')) ≡ true
-    on a a' b b' c c' h k = grind (arith, nat_tests, h, k)
+in_turn_on group turn a b c h k = grind (arith, nat_tests, h, k)
 
 -- what a sort by group and turn gives
 pub sorted_stands : {X : Type 0} (group turn : X → ℕ) (xs : List X) → IsSortedByKey {K = ℕ × ℕ} (λ x. (group x, turn x)) (λ a b. ordering_then (nat_cmp a.0 b.0) (nat_cmp a.1 b.1)) xs → stand_by (in_turn group turn) xs ≡ true
@@ -74,18 +61,12 @@ sorted_stands group turn xs up =
     turned : (a a' b b' : ℕ) → is_lt (ordering_then (nat_cmp a b) (nat_cmp a' b')) ≡ false → (nat_lt b a || (nat_eq b a && nat_le b' a')) ≡ true
     turned a a' b b' h = grind (arith, nat_tests, h)
 
-each_at : {X : Type 0} (p : X → Bool) (xs : List X) (i : ℕ) (d : X) → list_all p xs ≡ true → i < length xs → p (get_or xs i d) ≡ true
-each_at p [] i d h l = absurd (omega arith)
-each_at p (x ∷ xs) zero d h l = (and_parts (p x) (list_all p xs) h).0
-each_at p (x ∷ xs) (suc i) d h l = each_at p xs i d (and_parts (p x) (list_all p xs) h).1 (omega arith)
-
 -- a number that rises wherever elements may stand as they do
 pub rising : {X : Type 0} (may : X → X → Bool) (n : X → ℕ) → ((a b : X) → may a b ≡ true → n a ≤ n b) → (xs : List X) → stand_by may xs ≡ true → IsNonDecreasingBy n xs
-rising may n up [] h i j d le lt = absurd (omega arith)
-rising may n up (x ∷ xs) h zero zero d le lt = omega arith
-rising may n up (x ∷ xs) h zero (suc j) d le lt = up x (get_or xs j d) (each_at (may x) xs j d (and_parts (list_all (may x) xs) (stand_by may xs) h).0 (omega arith))
-rising may n up (x ∷ xs) h (suc i) zero d le lt = absurd (omega arith)
-rising may n up (x ∷ xs) h (suc i) (suc j) d le lt = rising may n up xs (and_parts (list_all (may x) xs) (stand_by may xs) h).1 i j d (omega arith) (omega arith)
+rising may n up xs h i j d le lt = elim (ahead_may may xs h i j d le lt) [
+  | inl e ↦ le_of_eq (ap (λ k. n (get_or xs k d)) e)
+  | inr e ↦ up (get_or xs i d) (get_or xs j d) e
+]
 
 pub groups_rise : {X : Type 0} (group turn : X → ℕ) (xs : List X) → stand_by (in_turn group turn) xs ≡ true → IsNonDecreasingBy group xs
 groups_rise group turn xs h = rising (in_turn group turn) group (λ a b e. less (group a) (turn a) (group b) (turn b) e) xs h
@@ -110,61 +91,10 @@ unchanged kind in_row other p taken old put new before after none balance =
 
 -- ---- lists that are told apart by counts
 
-pub stand_by-filter : {X : Type 0} (may : X → X → Bool) (q : X → Bool) (xs : List X) → stand_by may xs ≡ true → stand_by may (filter q xs) ≡ true
-stand_by-filter may q [] h = refl
-stand_by-filter {X} may q (x ∷ xs) h =
-    let both = and_parts (list_all (may x) xs) (stand_by may xs) h in
-    kept (q x) (all_kept xs both.0) (stand_by-filter may q xs both.1)
-  where
-    all_kept : (zs : List X) → list_all (may x) zs ≡ true → list_all (may x) (filter q zs) ≡ true
-    all_kept [] h = refl
-    all_kept (z ∷ zs) h = let both = and_parts (may x z) (list_all (may x) zs) h in one (q z) both.0 (all_kept zs both.1)
-      where
-        one : (b : Bool) → may x z ≡ true → list_all (may x) (filter q zs) ≡ true → list_all (may x) (cond b (z ∷ filter q zs) (filter q zs)) ≡ true
-        one true e rest = and_from _ _ e rest
-        one false e rest = rest
-
-    kept : (b : Bool) → list_all (may x) (filter q xs) ≡ true → stand_by may (filter q xs) ≡ true → stand_by may (cond b (x ∷ filter q xs) (filter q xs)) ≡ true
-    kept true all rest = and_from _ _ all rest
-    kept false all rest = rest
-
-pub all_pass : {X : Type 0} (q : X → Bool) (xs : List X) → list_all q (filter q xs) ≡ true
-all_pass q [] = refl
-all_pass q (x ∷ xs) = by (q x) refl (all_pass q xs)
-  where
-    by : (b : Bool) → q x ≡ b → list_all q (filter q xs) ≡ true → list_all q (cond b (x ∷ filter q xs) (filter q xs)) ≡ true
-    by true e rest = and_from _ _ e rest
-    by false e rest = rest
-
-pub count_by-filter : {X : Type 0} (p q : X → Bool) (xs : List X) → count_by p (filter q xs) ≡ count_by (λ x. q x && p x) xs
-count_by-filter p q [] = refl
-count_by-filter p q (x ∷ xs) = by (q x) refl (count_by-filter p q xs)
-  where
-    by : (b : Bool) → q x ≡ b → count_by p (filter q xs) ≡ count_by (λ x. q x && p x) xs → count_by p (cond b (x ∷ filter q xs) (filter q xs)) ≡ count_by (λ x. q x && p x) (x ∷ xs)
-    by true e rest = (let here : ◌≡◌ {A = ℕ} (cond (q x && p x) 1 0) (cond (p x) 1 0) = ap (λ b. cond (b && p x) 1 0) e in omega (arith, rest, here, count_next p x (filter q xs), count_next (λ x. q x && p x) x xs))
-    by false e rest = (let here : ◌≡◌ {A = ℕ} (cond (q x && p x) 1 0) 0 = ap (λ b. cond (b && p x) 1 0) e in omega (arith, rest, here, count_next (λ x. q x && p x) x xs))
-
--- as many pass any test
-abbrev pub SameCounts : {X : Type 0} → List X → List X → Type 0
-SameCounts {X} xs ys = (p : X → Bool) → count_by p xs ≡ count_by p ys
-
-pub same_filtered : {X : Type 0} (q : X → Bool) (xs ys : List X) → SameCounts xs ys → SameCounts (filter q xs) (filter q ys)
-same_filtered q xs ys same p = count_by-filter p q xs ∙ same (λ x. q x && p x) ∙ sym (count_by-filter p q ys)
-
-one_left : {X : Type 0} (y : X) (ys : List X) → SameCounts [] (y ∷ ys) → ⊥
-one_left y ys same = (let all = same (λ x. true) in let next = count_next (λ x. true) y ys in absurd (omega (arith, all, next)))
-
 -- what is above a number is not counted up to it
 none_up_to : {X : Type 0} (n : X → ℕ) (t m : ℕ) (xs : List X) → t < m → list_all (λ x. nat_le m (n x)) xs ≡ true → count_by (λ x. nat_le (n x) t) xs ≡ 0
 none_up_to n t m [] lt h = refl
-none_up_to n t m (x ∷ xs) lt h =
-    let both = and_parts (nat_le m (n x)) (list_all (λ x. nat_le m (n x)) xs) h in
-    let rest = none_up_to n t m xs lt both.1 in
-    let here : ◌≡◌ {A = ℕ} (cond (nat_le (n x) t) 1 0) 0 = ap (λ b. cond b 1 0) (above (n x) both.0) in
-    omega (arith, rest, here, count_next (λ x. nat_le (n x) t) x xs)
-  where
-    above : (a : ℕ) → nat_le m a ≡ true → nat_le a t ≡ false
-    above a h = grind (arith, nat_tests, h)
+none_up_to n t m (x ∷ xs) lt h = grind (arith, nat_tests, lt, h, none_up_to n t m xs lt, count_next (λ x. nat_le (n x) t) x xs)
 
 -- the order of a number
 abbrev pub by : {X : Type 0} → (X → ℕ) → X → X → Bool
@@ -172,32 +102,20 @@ by n a b = nat_le (n a) (n b)
 
 -- what comes first is no more than what comes first elsewhere
 first_least : {X : Type 0} (n : X → ℕ) (x : X) (xs : List X) (y : X) (ys : List X) → stand_by (by n) (x ∷ xs) ≡ true → SameCounts (x ∷ xs) (y ∷ ys) → n x ≤ n y
-first_least n x xs y ys h same = least (nat_le (n x) (n y)) refl
-  where
-    more : nat_le (n x) (n y) ≡ false → n y < n x
-    more e = grind (arith, nat_tests, e)
-
-    itself : nat_le (n y) (n y) ≡ true
-    itself = grind (arith, nat_tests)
-
-    own : nat_le (n x) (n x) ≡ true
-    own = grind (arith, nat_tests)
-
-    least : (b : Bool) → nat_le (n x) (n y) ≡ b → n x ≤ n y
-    least true e = grind (arith, nat_tests, e)
-    least false e =
-        let none = none_up_to n (n y) (n x) (x ∷ xs) (more e) (and_from _ _ own (and_parts (list_all (by n x) xs) (stand_by (by n) xs) h).0) in
-        let one = count_next (λ z. nat_le (n z) (n y)) y ys in
-        let here : ◌≡◌ {A = ℕ} (cond (nat_le (n y) (n y)) 1 0) 1 = ap (λ b. cond b 1 0) itself in
-        let all = same (λ z. nat_le (n z) (n y)) in
-        absurd (omega (arith, none, one, here, all))
+first_least n x xs y ys h same = elim (cases_Bool (nat_le (n x) (n y))) [
+  | inl e ↦ leb-true (n x) (n y) e
+  | inr e ↦
+      let behind = (and_parts (list_all (by n x) xs) (stand_by (by n) xs) h).0 in
+      let none = none_up_to n (n y) (n x) (x ∷ xs) (leb-false (n x) (n y) e) (and_from _ _ (le-leb (n x) (n x) (omega arith)) behind) in
+      absurd (omega (arith, none, count_yes (λ z. nat_le (n z) (n y)) y ys (le-leb (n y) (n y) (omega arith)), same (λ z. nat_le (n z) (n y))))
+]
 
 -- two lists by a number, which tells their elements apart, are one where any test counts as many
 pub same_list : {X : Type 0} (n : X → ℕ) (q : X → Bool) → ((a b : X) → q a ≡ true → q b ≡ true → n a ≡ n b → a ≡ b) → (xs ys : List X)
     → stand_by (by n) xs ≡ true → stand_by (by n) ys ≡ true → list_all q xs ≡ true → list_all q ys ≡ true → SameCounts xs ys → xs ≡ ys
 same_list n q tells [] [] up up' all all' same = refl
-same_list n q tells [] (y ∷ ys) up up' all all' same = absurd (one_left y ys same)
-same_list n q tells (x ∷ xs) [] up up' all all' same = absurd (one_left x xs (λ p. sym (same p)))
+same_list n q tells [] (y ∷ ys) up up' all all' same = absurd (omega (arith, same_length [] (y ∷ ys) same))
+same_list n q tells (x ∷ xs) [] up up' all all' same = absurd (omega (arith, same_length (x ∷ xs) [] same))
 same_list n q tells (x ∷ xs) (y ∷ ys) up up' all all' same =
     let a = first_least n x xs y ys up same in
     let b = first_least n y ys x xs up' (λ p. sym (same p)) in
@@ -216,44 +134,30 @@ same_list n q tells (x ∷ xs) (y ∷ ys) up up' all all' same =
 pub turns_rise : {X : Type 0} (group turn : X → ℕ) (t : ℕ) (xs : List X) → stand_by (in_turn group turn) xs ≡ true → stand_by (by turn) (filter (λ x. nat_eq (group x) t) xs) ≡ true
 turns_rise {X} group turn t xs h = looser (filter (λ x. nat_eq (group x) t) xs) (stand_by-filter (in_turn group turn) (λ x. nat_eq (group x) t) xs h) (all_pass (λ x. nat_eq (group x) t) xs)
   where
-    turns : (a a' b b' : ℕ) → nat_eq a t ≡ true → nat_eq b t ≡ true → (nat_lt a b || (nat_eq a b && nat_le a' b')) ≡ true → nat_le a' b' ≡ true
-    turns a a' b b' h k l = grind (arith, nat_tests, h, k, l)
-
     each : (y : X) (zs : List X) → nat_eq (group y) t ≡ true → list_all (in_turn group turn y) zs ≡ true → list_all (λ x. nat_eq (group x) t) zs ≡ true → list_all (by turn y) zs ≡ true
     each y [] e h k = refl
-    each y (z ∷ zs) e h k =
-        let a = and_parts (in_turn group turn y z) (list_all (in_turn group turn y) zs) h in
-        let b = and_parts (nat_eq (group z) t) (list_all (λ x. nat_eq (group x) t) zs) k in
-        and_from _ _ (turns (group y) (turn y) (group z) (turn z) e b.0 a.0) (each y zs e a.1 b.1)
+    each y (z ∷ zs) e h k = grind (arith, nat_tests, e, h, k, each y zs)
 
     looser : (zs : List X) → stand_by (in_turn group turn) zs ≡ true → list_all (λ x. nat_eq (group x) t) zs ≡ true → stand_by (by turn) zs ≡ true
     looser [] h k = refl
-    looser (z ∷ zs) h k =
-        let a = and_parts (list_all (in_turn group turn z) zs) (stand_by (in_turn group turn) zs) h in
-        let b = and_parts (nat_eq (group z) t) (list_all (λ x. nat_eq (group x) t) zs) k in
-        and_from _ _ (each z zs b.0 a.0 b.1) (looser zs a.1 b.1)
+    looser (z ∷ zs) h k = grind (arith, h, k, each z zs, looser zs)
 
 pub rises_by : {X : Type 0} (n : X → ℕ) (xs : List X) → stand_by (by n) xs ≡ true → IsNonDecreasingBy n xs
-rises_by n xs h = rising (by n) n (λ a b e. less (n a) (n b) e) xs h
-  where
-    less : (a b : ℕ) → nat_le a b ≡ true → a ≤ b
-    less a b h = grind (arith, nat_tests, h)
+rises_by n xs h = rising (by n) n (λ a b e. leb-true (n a) (n b) e) xs h
 
 -- ---- one entry more or less
+
+list_all-remove : {X : Type 0} (p : X → Bool) (xs : List X) (i : ℕ) → list_all p xs ≡ true → list_all p (remove xs i) ≡ true
+list_all-remove p [] zero h = refl
+list_all-remove p [] (suc i) h = refl
+list_all-remove p (x ∷ xs) zero h = (and_parts (p x) (list_all p xs) h).1
+list_all-remove p (x ∷ xs) (suc i) h = grind (arith, h, list_all-remove p xs i)
 
 pub stand_by-remove : {X : Type 0} (may : X → X → Bool) (xs : List X) (i : ℕ) → stand_by may xs ≡ true → stand_by may (remove xs i) ≡ true
 stand_by-remove may [] zero h = refl
 stand_by-remove may [] (suc i) h = refl
 stand_by-remove may (x ∷ xs) zero h = (and_parts (list_all (may x) xs) (stand_by may xs) h).1
-stand_by-remove may (x ∷ xs) (suc i) h =
-    let both = and_parts (list_all (may x) xs) (stand_by may xs) h in
-    and_from _ _ (list_all-remove (may x) xs i both.0) (stand_by-remove may xs i both.1)
-  where
-    list_all-remove : {X : Type 0} (p : X → Bool) (xs : List X) (i : ℕ) → list_all p xs ≡ true → list_all p (remove xs i) ≡ true
-    list_all-remove p [] zero h = refl
-    list_all-remove p [] (suc i) h = refl
-    list_all-remove p (x ∷ xs) zero h = (and_parts (p x) (list_all p xs) h).1
-    list_all-remove p (x ∷ xs) (suc i) h = let both = and_parts (p x) (list_all p xs) h in and_from _ _ both.0 (list_all-remove p xs i both.1)
+stand_by-remove may (x ∷ xs) (suc i) h = grind (arith, h, list_all-remove (may x) xs i, stand_by-remove may xs i)
 
 list_all-insert : {X : Type 0} (p : X → Bool) (xs : List X) (i : ℕ) (y : X) → list_all p xs ≡ true → p y ≡ true → list_all p (insert xs i y) ≡ true
 list_all-insert p [] zero y h e = and_from _ _ e refl
@@ -266,13 +170,9 @@ pub stand_by-insert : {X : Type 0} (may : X → X → Bool) → ((a b c : X) →
     → (y : X) (xs : List X) (i : ℕ) → stand_by may xs ≡ true → Parts (λ x. may x y) xs i → i ≤ length xs → stand_by may (insert xs i y) ≡ true
 stand_by-insert may on other y [] zero h parts le = refl
 stand_by-insert may on other y [] (suc i) h parts le = absurd (omega (arith, le))
-stand_by-insert {X} may on other y (x ∷ xs) zero h parts le =
+stand_by-insert may on other y (x ∷ xs) zero h parts le =
     let first : may y x ≡ true = other x y (parts.1 zero x (omega arith) (omega arith)) in
-    and_from _ _ (and_from _ _ first (behind xs first (and_parts (list_all (may x) xs) (stand_by may xs) h).0)) h
-  where
-    behind : (zs : List X) → may y x ≡ true → list_all (may x) zs ≡ true → list_all (may y) zs ≡ true
-    behind [] e h = refl
-    behind (z ∷ zs) e h = let both = and_parts (may x z) (list_all (may x) zs) h in and_from _ _ (on y x z e both.0) (behind zs e both.1)
+    and_from _ _ (and_from _ _ first (all_behind may on y x xs first (and_parts (list_all (may x) xs) (stand_by may xs) h).0)) h
 stand_by-insert may on other y (x ∷ xs) (suc i) h parts le =
     let both = and_parts (list_all (may x) xs) (stand_by may xs) h in
     and_from _ _ (list_all-insert (may x) xs i y both.0 (parts.0 zero x (omega arith) (omega arith)))
@@ -281,21 +181,10 @@ stand_by-insert may on other y (x ∷ xs) (suc i) h parts le =
 -- those that may stand before an entry come first
 pub parted_by : {X : Type 0} (may : X → X → Bool) → ((a b c : X) → may a b ≡ true → may b c ≡ true → may a c ≡ true) → (y : X) (xs : List X) → stand_by may xs ≡ true
     → (i j : ℕ) (d : X) → i ≤ j → j < length xs → may (get_or xs j d) y ≡ true → may (get_or xs i d) y ≡ true
-parted_by may on y [] h i j d le lt e = absurd (omega arith)
-parted_by may on y (x ∷ xs) h zero zero d le lt e = e
-parted_by may on y (x ∷ xs) h zero (suc j) d le lt e = on x (get_or xs j d) y (each_at (may x) xs j d (and_parts (list_all (may x) xs) (stand_by may xs) h).0 (omega arith)) e
-parted_by may on y (x ∷ xs) h (suc i) zero d le lt e = absurd (omega arith)
-parted_by may on y (x ∷ xs) h (suc i) (suc j) d le lt e = parted_by may on y xs (and_parts (list_all (may x) xs) (stand_by may xs) h).1 i j d (omega arith) (omega arith) e
+parted_by may on y xs h = falling may (λ x. may x y) (λ a b ahead e. on a b y ahead e) xs h
 
 pub in_turn_either : {X : Type 0} (group turn : X → ℕ) (a b : X) → in_turn group turn a b ≡ false → in_turn group turn b a ≡ true
-in_turn_either group turn a b h = either (group a) (turn a) (group b) (turn b) h
-  where
-    either : (a a' b b' : ℕ) → (nat_lt a b || (nat_eq a b && nat_le a' b')) ≡ false → (nat_lt b a || (nat_eq b a && nat_le b' a')) ≡ true
-    either a a' b b' h = grind (arith, nat_tests, h)
-
-pub count_all : {X : Type 0} (xs : List X) → count_by (λ x. true) xs ≡ length xs
-count_all [] = refl
-count_all (x ∷ xs) = let rest = count_all xs in omega (arith, rest, count_next (λ x. true) x xs)
+in_turn_either group turn a b h = grind (arith, nat_tests, h)
 
 -- as many of the rows of the kind as of all
 pub count_among : {X : Type 0} (kind : Kind) (in_row : Row → Option X) → ((r : Row) → is_of kind r ≡ false → in_row r ≡ None) → (p : X → Bool) (these given rows : List Row)

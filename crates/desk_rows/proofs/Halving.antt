@@ -1,9 +1,11 @@
 -- What halving finds among elements whose numbers do not fall.
-use Rattle.desk_rows.specs.laws.Words.{◌≡◌, ℕ, zero, suc, ◌<◌, ◌≤◌, ◌⊎◌, inl, inr, Bool, true, false, cond, not, ◌||◌, List, [], ◌∷◌, length, get_or, take, drop, filter, nat_eq, nat_lt, nat_le, refl, sym, ap, ◌∙◌, arith, Some, None, find, list_all, and_parts, and_from, cases_Bool, Row, Key, Kind, Parts, same_numbers, numbers_precede, rank, kind_of, key_of, key_numbers, own_numbers, has_key, same_key, same_row, is_of, key_precedes, precedes, in_order, is_in}
+use Rattle.desk_rows.specs.laws.Words.{◌≡◌, ℕ, zero, suc, ◌<◌, ◌≤◌, Bool, true, false, cond, ◌||◌, List, [], ◌∷◌, length, get_or, nat_lt, None, Some, refl, sym, ap, ◌∙◌, arith, nat_eq, not, inl, inr, filter, take, drop, nat_le, and_parts, and_from, false_from_ne_true, cases_lt, nat_tests, find, list_all, is_some, Key, Kind, Row, is_of, numbers_precede, same_numbers, is_in, in_order, precedes, key_precedes, same_row, has_key, rank, kind_of, own_numbers, key_numbers, key_of, Parts}
+use Rattle.desk_rows.specs.laws.Equal.{key_itself, keys_precede_on, not_before_itself, three_numbers, same_row_is, row_itself}
+use Rattle.desk_rows.specs.laws.Laws.{any_counts}
+use Rattle.desk_rows.specs.laws.ListLaws.{true_false, both_ways, count_some, is_found, found_nothing, found_at, none_there, each_at, ahead_may, falling}
 use Rattle.desk_rows.specs.laws.NumberLaws.{same_numbers_is, numbers_not_before, one_list_precedes, first_rises}
-use Rattle.desk_rows.specs.laws.Equal.{same_row_is, key_itself, keys_precede_on, not_before_itself, same_key_is, three_numbers}
-use Rattle.desk_rows.specs.laws.OrderLaws.{at_each, one_way}
-use Rattle.desk_rows.proofs.Counts.{true_false}
+use Rattle.desk_rows.specs.laws.OrderLaws.{one_way, order_stands}
+use Rattle.desk_rows.proofs.Finding.{found_one, found_there, order_once}
 
 -- ---- elements told apart by their numbers
 
@@ -15,69 +17,39 @@ abbrev pub Rises : {A : Type 0} (f : A → List ℕ) (xs : List A) → Type 0
 Rises {A} f xs = (i j : ℕ) (d : A) → i ≤ j → j < length xs → numbers_precede (f (get_or xs j d)) (f (get_or xs i d)) ≡ false
 
 before_is_other : (xs ys : List ℕ) → numbers_precede xs ys ≡ true → same_numbers xs ys ≡ false
-before_is_other xs ys e =
-    elim (cases_Bool (same_numbers xs ys)) [
-      | inl f ↦ absurd (true_false (sym (ap (λ zs. numbers_precede zs ys) (sym (same_numbers_is xs ys f)) ∙ e) ∙ numbers_not_before ys))
-      | inr f ↦ f
-    ]
+before_is_other xs ys e = false_from_ne_true _ (λ f. true_false (sym (ap (λ zs. numbers_precede zs ys) (sym (same_numbers_is xs ys f)) ∙ e) ∙ numbers_not_before ys))
 
 -- the element at the place, where it has these numbers
 pub found_here : {A : Type 0} (f : A → List ℕ) (k : List ℕ) (xs : List A) (i : ℕ) (d : A) → Parts (λ x. numbers_precede (f x) k) xs i → i < length xs → same_numbers (f (get_or xs i d)) k ≡ true →
     find (λ x. same_numbers (f x) k) xs ≡ Some (get_or xs i d)
-found_here f k [] i d parts l e = absurd (omega arith)
-found_here f k (x ∷ xs) zero d parts l e = ap (λ b. cond b (Some x) (find (λ x. same_numbers (f x) k) xs)) e
-found_here f k (x ∷ xs) (suc i) d parts l e =
-    ap (λ b. cond b (Some x) (find (λ x. same_numbers (f x) k) xs)) (before_is_other (f x) k (parts.0 zero d (omega arith) (omega arith)))
-    ∙ found_here f k xs i d (later_parts (λ y. numbers_precede (f y) k) x xs i parts) (omega arith) e
-
-none_there : {A : Type 0} (f : A → List ℕ) (k : List ℕ) (xs : List A) → ((j : ℕ) (d : A) → j < length xs → same_numbers (f (get_or xs j d)) k ≡ false) → find (λ x. same_numbers (f x) k) xs ≡ None
-none_there f k [] h = refl
-none_there f k (x ∷ xs) h = ap (λ b. cond b (Some x) (find (λ x. same_numbers (f x) k) xs)) (h zero x (omega arith)) ∙ none_there f k xs (λ j d l. h (suc j) d (omega arith))
+found_here f k xs i d parts l e = found_at (λ x. same_numbers (f x) k) xs i d (λ m lt. before_is_other (f (get_or xs m d)) k (parts.0 m d (omega arith) lt)) l e
 
 -- and else none
 pub found_none : {A : Type 0} (f : A → List ℕ) (k : List ℕ) (xs : List A) (i : ℕ) (d : A) → Rises f xs → ((x : A) → length (f x) ≡ length k) → Parts (λ x. numbers_precede (f x) k) xs i →
     (i < length xs → same_numbers (f (get_or xs i d)) k ≡ false) → find (λ x. same_numbers (f x) k) xs ≡ None
-found_none f k [] i d rises long parts e = refl
-found_none {A} f k (x ∷ xs) zero d rises long parts e = none_there f k (x ∷ xs) each where
-  before : numbers_precede k (f x) ≡ true
-  before = ap (λ b. b || numbers_precede k (f x)) (sym (parts.1 zero x (omega arith) (omega arith))) ∙ one_list_precedes (f x) k (long x) (e (omega arith))
-
-  each : (j : ℕ) (d : A) → j < length (x ∷ xs) → same_numbers (f (get_or (x ∷ xs) j d)) k ≡ false
-  each j d l = elim (cases_Bool (same_numbers (f (get_or (x ∷ xs) j d)) k)) [
-    | inl g ↦ absurd (true_false (sym (ap (λ ys. numbers_precede ys (f x)) (same_numbers_is (f (get_or (x ∷ xs) j d)) k g) ∙ before) ∙ rises zero j d (omega arith) l))
-    | inr g ↦ g
-  ]
-found_none f k (x ∷ xs) (suc i) d rises long parts e =
-    ap (λ b. cond b (Some x) (find (λ x. same_numbers (f x) k) xs)) (before_is_other (f x) k (parts.0 zero x (omega arith) (omega arith)))
-    ∙ found_none f k xs i d (λ a b c l m. rises (suc a) (suc b) c (omega arith) (omega arith)) long (later_parts (λ y. numbers_precede (f y) k) x xs i parts) (λ l. e (omega arith))
+found_none f k xs i d rises long parts e = found_nothing (λ x. same_numbers (f x) k) xs (none_there (λ x. same_numbers (f x) k) xs d (λ m lt. false_from_ne_true _ (λ s. elim (cases_lt m i) [
+  | inl h ↦ true_false (sym s ∙ before_is_other (f (get_or xs m d)) k (parts.0 m d (omega arith) h))
+  | inr h ↦
+      let inside : i < length xs = omega arith in
+      let ahead = ap (λ b. b || numbers_precede k (f (get_or xs i d))) (sym (parts.1 i d (omega arith) inside)) ∙ one_list_precedes (f (get_or xs i d)) k (long (get_or xs i d)) (e inside) in
+      true_false (sym (ap (λ ys. numbers_precede ys (f (get_or xs i d))) (same_numbers_is (f (get_or xs m d)) k s) ∙ ahead) ∙ rises i m d h lt)
+])))
 
 -- ---- rows in order, by key
-
-pub each_at : (p : Row → Bool) (xs : List Row) (i : ℕ) (d : Row) → list_all p xs ≡ true → i < length xs → p (get_or xs i d) ≡ true
-each_at p [] i d h l = absurd (omega arith)
-each_at p (x ∷ xs) zero d h l = (and_parts (p x) (list_all p xs) h).0
-each_at p (x ∷ xs) (suc i) d h l = each_at p xs i d (and_parts (p x) (list_all p xs) h).1 (omega arith)
 
 -- a test that holds of a row where it holds of one behind it
 pub parted : (p : Row → Bool) → ((a b : Row) → precedes a b ≡ true → p b ≡ true → p a ≡ true) → (xs : List Row) → in_order xs ≡ true →
     (i j : ℕ) (d : Row) → i ≤ j → j < length xs → p (get_or xs j d) ≡ true → p (get_or xs i d) ≡ true
-parted p falls [] h i j d le lt e = absurd (omega arith)
-parted p falls (x ∷ xs) h zero zero d le lt e = e
-parted p falls (x ∷ xs) h zero (suc j) d le lt e =
-    let order = and_parts (list_all (precedes x) xs) (in_order xs) h in
-    falls x (get_or xs j d) (each_at (precedes x) xs j d order.0 (omega arith)) e
-parted p falls (x ∷ xs) h (suc i) zero d le lt e = absurd (omega arith)
-parted p falls (x ∷ xs) h (suc i) (suc j) d le lt e = parted p falls xs (and_parts (list_all (precedes x) xs) (in_order xs) h).1 i j d (omega arith) (omega arith) e
+parted p falls xs h = falling precedes p falls xs (sym (order_stands xs) ∙ h)
 
 pub key_falls : (key : Key) (a b : Row) → precedes a b ≡ true → key_precedes (key_of b) key ≡ true → key_precedes (key_of a) key ≡ true
 key_falls key a b e f = keys_precede_on (key_of a) (key_of b) key e f
 
 rows_rise : (xs : List Row) → in_order xs ≡ true → Rises (λ x. key_numbers (key_of x)) xs
-rows_rise [] h i j d le lt = absurd (omega arith)
-rows_rise (x ∷ xs) h zero zero d le lt = not_before_itself x
-rows_rise (x ∷ xs) h zero (suc j) d le lt = one_way x (get_or xs j d) (each_at (precedes x) xs j d (and_parts (list_all (precedes x) xs) (in_order xs) h).0 (omega arith))
-rows_rise (x ∷ xs) h (suc i) zero d le lt = absurd (omega arith)
-rows_rise (x ∷ xs) h (suc i) (suc j) d le lt = rows_rise xs (and_parts (list_all (precedes x) xs) (in_order xs) h).1 i j d (omega arith) (omega arith)
+rows_rise xs h i j d le lt = elim (ahead_may precedes xs (sym (order_stands xs) ∙ h) i j d le lt) [
+  | inl e ↦ ap (λ k. precedes (get_or xs j d) (get_or xs k d)) e ∙ not_before_itself (get_or xs j d)
+  | inr e ↦ one_way (get_or xs i d) (get_or xs j d) e
+]
 
 pub row_here : (key : Key) (xs : List Row) (i : ℕ) (d : Row) → Parts (λ x. key_precedes (key_of x) key) xs i → i < length xs → has_key key (get_or xs i d) ≡ true → find (has_key key) xs ≡ Some (get_or xs i d)
 row_here key xs i d parts l e = found_here (λ x. key_numbers (key_of x)) (key_numbers key) xs i d parts l e
@@ -87,64 +59,22 @@ row_none key xs i d h parts e = found_none (λ x. key_numbers (key_of x)) (key_n
 
 -- a row is among others in order where the row of its key is the same
 pub among_none : (xs : List Row) (q : Row) → find (has_key (key_of q)) xs ≡ None → is_in xs q ≡ false
-among_none [] q h = refl
-among_none (x ∷ xs) q h =
-    elim (cases_Bool (has_key (key_of q) x)) [
-      | inl e ↦ cc
-      | inr e ↦
-          let rest = among_none xs q (sym (ap (λ b. cond b (Some x) (find (has_key (key_of q)) xs)) e) ∙ h) in
-          ap (λ b. b || is_in xs q) (differs q x e) ∙ rest
-    ] where
-      differs : (q x : Row) → has_key (key_of q) x ≡ false → same_row q x ≡ false
-      differs q x e = elim (cases_Bool (same_row q x)) [
-        | inl f ↦ absurd (true_false (sym (key_itself (key_of x)) ∙ ap (λ r. same_key (key_of x) (key_of r)) (sym (same_row_is q x f)) ∙ e))
-        | inr f ↦ f
-      ]
+among_none xs q h = false_from_ne_true _ (λ one.
+    true_false (sym (count_some (has_key (key_of q)) xs (any_counts (has_key (key_of q)) xs q one (key_itself (key_of q)))) ∙ is_found (has_key (key_of q)) xs ∙ ap is_some h))
 
 pub among_found : (xs : List Row) (q r : Row) → in_order xs ≡ true → find (has_key (key_of q)) xs ≡ Some r → same_row q r ≡ is_in xs q
-among_found [] q r h e = cc
-among_found (x ∷ xs) q r h e = by (cases_Bool (has_key (key_of q) x)) (among_found xs q r (and_parts (list_all (precedes x) xs) (in_order xs) h).1) where
-  ahead : list_all (precedes x) xs ≡ true
-  ahead = (and_parts (list_all (precedes x) xs) (in_order xs) h).0
-
-  differs : same_row q x ≡ true → has_key (key_of q) x ≡ true
-  differs f = ap (λ z. same_key (key_of x) (key_of z)) (same_row_is q x f) ∙ key_itself (key_of x)
-
-  not_behind : has_key (key_of q) x ≡ true → is_in xs q ≡ false
-  not_behind f = elim (cases_Bool (is_in xs q)) [
-    | inl g ↦ absurd (true_false (sym (at_each (precedes x) xs q ahead g) ∙ ap (λ k. key_precedes k (key_of q)) (same_key_is (key_of x) (key_of q) f) ∙ not_before_itself q))
-    | inr g ↦ g
-  ]
-
-  or_false : (a b : Bool) → b ≡ false → a ≡ (a || b)
-  or_false true b e = refl
-  or_false false b e = sym e
-
-  the_same : (a b : Row) → Some a ≡ Some b → a ≡ b
-  the_same a b h = cc
-
-  by : (has_key (key_of q) x ≡ true) ⊎ (has_key (key_of q) x ≡ false) → (find (has_key (key_of q)) xs ≡ Some r → same_row q r ≡ is_in xs q) → same_row q r ≡ (same_row q x || is_in xs q)
-  by (inl f) rest =
-      let same : Some x ≡ Some r = sym (ap (λ b. cond b (Some x) (find (has_key (key_of q)) xs)) f) ∙ e in
-      ap (same_row q) (sym (the_same x r same)) ∙ or_false (same_row q x) (is_in xs q) (not_behind f)
-  by (inr f) rest =
-      let found = rest (sym (ap (λ b. cond b (Some x) (find (has_key (key_of q)) xs)) f) ∙ e) in
-      elim (cases_Bool (same_row q x)) [
-        | inl g ↦ absurd (true_false (sym (differs g) ∙ f))
-        | inr g ↦ found ∙ ap (λ b. b || is_in xs q) (sym g)
-      ]
+among_found xs q r h e = both_ways _ _ (λ s. ap (is_in xs) (same_row_is q r s) ∙ (found_there (has_key (key_of q)) xs r e).0) (λ one.
+    let found : Some q ≡ Some r = sym (found_one (has_key (key_of q)) xs q (order_once (key_of q) xs h) one (key_itself (key_of q))) ∙ e in
+    let same : q ≡ r = cc in
+    ap (same_row q) (sym same) ∙ row_itself q)
 
 -- ---- by kind
 
 pub below_falls : (n : ℕ) (a b : Row) → precedes a b ≡ true → nat_lt (rank (kind_of (key_of b))) n ≡ true → nat_lt (rank (kind_of (key_of a))) n ≡ true
-below_falls n a b e f = below (rank (kind_of (key_of a))) (rank (kind_of (key_of b))) n (first_rises (rank (kind_of (key_of a))) (rank (kind_of (key_of b))) (own_numbers (key_of a)) (own_numbers (key_of b)) e) f where
-  below : (x y n : ℕ) → x ≤ y → nat_lt y n ≡ true → nat_lt x n ≡ true
-  below x y n l f = grind (arith, l, f)
+below_falls n a b e f = let up = first_rises (rank (kind_of (key_of a))) (rank (kind_of (key_of b))) (own_numbers (key_of a)) (own_numbers (key_of b)) e in grind (arith, nat_tests, up, f)
 
 pub within_falls : (n : ℕ) (a b : Row) → precedes a b ≡ true → nat_le (rank (kind_of (key_of b))) n ≡ true → nat_le (rank (kind_of (key_of a))) n ≡ true
-within_falls n a b e f = within (rank (kind_of (key_of a))) (rank (kind_of (key_of b))) n (first_rises (rank (kind_of (key_of a))) (rank (kind_of (key_of b))) (own_numbers (key_of a)) (own_numbers (key_of b)) e) f where
-  within : (x y n : ℕ) → x ≤ y → nat_le y n ≡ true → nat_le x n ≡ true
-  within x y n l f = grind (arith, l, f)
+within_falls n a b e f = let up = first_rises (rank (kind_of (key_of a))) (rank (kind_of (key_of b))) (own_numbers (key_of a)) (own_numbers (key_of b)) e in grind (arith, nat_tests, up, f)
 
 pub order_of_rest : (i : ℕ) (xs : List Row) → in_order xs ≡ true → in_order (drop i xs) ≡ true
 order_of_rest zero xs h = h
@@ -157,34 +87,40 @@ rest_fails p [] (suc i) h = refl
 rest_fails p (x ∷ xs) zero h = and_from _ _ (ap not (h.1 zero x (omega arith) (omega arith))) (rest_fails p xs zero (λ k d a b. absurd (omega arith), λ k d a b. h.1 (suc k) d (omega arith) (omega arith)))
 rest_fails p (x ∷ xs) (suc i) h = rest_fails p xs i (later_parts p x xs i h)
 
-none_in_front : {X : Type 0} (n : X → ℕ) (t : ℕ) (xs : List X) (i : ℕ) → Parts (λ x. nat_lt (n x) t) xs i → filter (λ x. nat_eq (n x) t) xs ≡ filter (λ x. nat_eq (n x) t) (drop i xs)
-none_in_front n t xs zero h = refl
-none_in_front n t [] (suc i) h = refl
-none_in_front n t (x ∷ xs) (suc i) h =
-    ap (λ b. cond b (x ∷ filter (λ x. nat_eq (n x) t) xs) (filter (λ x. nat_eq (n x) t) xs)) (less (n x) t (h.0 zero x (omega arith) (omega arith)))
-    ∙ none_in_front n t xs i (later_parts (λ y. nat_lt (n y) t) x xs i h) where
-      less : (a b : ℕ) → nat_lt a b ≡ true → nat_eq a b ≡ false
-      less a b h = grind (arith, h)
+-- what passes neither test in front
+pub none_in_front : {X : Type 0} (p q : X → Bool) → ((x : X) → p x ≡ true → q x ≡ false) → (xs : List X) (i : ℕ) → Parts p xs i → filter q xs ≡ filter q (drop i xs)
+none_in_front p q apart xs zero h = refl
+none_in_front p q apart [] (suc i) h = refl
+none_in_front p q apart (x ∷ xs) (suc i) h =
+    ap (λ b. cond b (x ∷ filter q xs) (filter q xs)) (apart x (h.0 zero x (omega arith) (omega arith))) ∙ none_in_front p q apart xs i (later_parts p x xs i h)
 
-all_in_front : {X : Type 0} (n : X → ℕ) (t : ℕ) (ys : List X) (j : ℕ) → list_all (λ x. not (nat_lt (n x) t)) ys ≡ true → Parts (λ x. nat_le (n x) t) ys j → filter (λ x. nat_eq (n x) t) ys ≡ take j ys
-all_in_front n t [] zero all h = refl
-all_in_front n t [] (suc j) all h = refl
-all_in_front n t (y ∷ ys) zero all h =
-    let both = and_parts (not (nat_lt (n y) t)) (list_all (λ x. not (nat_lt (n x) t)) ys) all in
-    ap (λ b. cond b (y ∷ filter (λ x. nat_eq (n x) t) ys) (filter (λ x. nat_eq (n x) t) ys)) (more (n y) t (h.1 zero y (omega arith) (omega arith)))
-    ∙ all_in_front n t ys zero both.1 (λ k d a b. absurd (omega arith), λ k d a b. h.1 (suc k) d (omega arith) (omega arith)) where
-      more : (a b : ℕ) → nat_le a b ≡ false → nat_eq a b ≡ false
-      more a b h = grind (arith, h)
-all_in_front n t (y ∷ ys) (suc j) all h =
-    let both = and_parts (not (nat_lt (n y) t)) (list_all (λ x. not (nat_lt (n x) t)) ys) all in
-    ap (λ b. cond b (y ∷ filter (λ x. nat_eq (n x) t) ys) (filter (λ x. nat_eq (n x) t) ys)) (equal (n y) t both.0 (h.0 zero y (omega arith) (omega arith)))
-    ∙ ap (λ zs. y ∷ zs) (all_in_front n t ys j both.1 (later_parts (λ x. nat_le (n x) t) y ys j h)) where
-      equal : (a b : ℕ) → not (nat_lt a b) ≡ true → nat_le a b ≡ true → nat_eq a b ≡ true
-      equal a b h k = grind (arith, h, k)
+-- what passes stands in front
+pub all_in_front : {X : Type 0} (q : X → Bool) (ys : List X) (j : ℕ) → ((k : ℕ) (d : X) → k < j → k < length ys → q (get_or ys k d) ≡ true) → ((k : ℕ) (d : X) → j ≤ k → k < length ys → q (get_or ys k d) ≡ false)
+    → filter q ys ≡ take j ys
+all_in_front q [] zero a b = refl
+all_in_front q [] (suc j) a b = refl
+all_in_front q (y ∷ ys) zero a b =
+    ap (λ c. cond c (y ∷ filter q ys) (filter q ys)) (b zero y (omega arith) (omega arith)) ∙ all_in_front q ys zero (λ k d m l. absurd (omega arith)) (λ k d m l. b (suc k) d (omega arith) (omega arith))
+all_in_front q (y ∷ ys) (suc j) a b =
+    ap (λ c. cond c (y ∷ filter q ys) (filter q ys)) (a zero y (omega arith) (omega arith))
+    ∙ ap (λ zs. y ∷ zs) (all_in_front q ys j (λ k d m l. a (suc k) d (omega arith) (omega arith)) (λ k d m l. b (suc k) d (omega arith) (omega arith)))
 
 -- the elements of a number stand together
 pub of_number : {X : Type 0} (n : X → ℕ) (t : ℕ) (xs : List X) (i j : ℕ) → Parts (λ x. nat_lt (n x) t) xs i → Parts (λ x. nat_le (n x) t) (drop i xs) j → take j (drop i xs) ≡ filter (λ x. nat_eq (n x) t) xs
-of_number n t xs i j h k = sym (none_in_front n t xs i h ∙ all_in_front n t (drop i xs) j (rest_fails (λ x. nat_lt (n x) t) xs i h) k)
+of_number n t xs i j h k =
+    sym (none_in_front (λ x. nat_lt (n x) t) (λ x. nat_eq (n x) t) (λ x e. less (n x) e) xs i h
+    ∙ all_in_front (λ x. nat_eq (n x) t) (drop i xs) j
+    (λ m d a b. equal (n (get_or (drop i xs) m d)) (each_at (λ x. not (nat_lt (n x) t)) (drop i xs) m d (rest_fails (λ x. nat_lt (n x) t) xs i h) b) (k.0 m d (omega arith) a))
+    (λ m d a b. more (n (get_or (drop i xs) m d)) (k.1 m d a b)))
+  where
+    less : (a : ℕ) → nat_lt a t ≡ true → nat_eq a t ≡ false
+    less a h = grind (arith, h)
+
+    more : (a : ℕ) → nat_le a t ≡ false → nat_eq a t ≡ false
+    more a h = grind (arith, h)
+
+    equal : (a : ℕ) → not (nat_lt a t) ≡ true → nat_le a t ≡ true → nat_eq a t ≡ true
+    equal a h k = grind (arith, h, k)
 
 -- and so do the rows of a kind
 pub of_kind : (kind : Kind) (xs : List Row) (i j : ℕ) → Parts (λ x. nat_lt (rank (kind_of (key_of x))) (rank kind)) xs i → Parts (λ x. nat_le (rank (kind_of (key_of x))) (rank kind)) (drop i xs) j →

@@ -1,12 +1,14 @@
 -- A desk after an edit is good exactly where it is judged so.
-use Rattle.desk_rows.specs.laws.Words.{◌≡◌, ℕ, ◌+◌, nat_lt, nat_eq, Bool, true, false, not, ◌&&◌, ◌||◌, List, [], ◌∷◌, map, refl, sym, ap, ◌∙◌, inl, inr, ◌⊎◌, arith, count_by, list_any, list_all, and_parts, and_from, or_left, or_right, or_cases, cases_Bool, eqb-true, eq-eqb, Row, Room, Member, Source, Slot, Sub, Mute, Gain, Pin, Floor, Key, Claim, key_of, has_key, makes, same_claim, other_claims, claims_of, names, precedes, in_order, key_is_new, is_in, without_rows, take_at, EditOf, outs, ins, Desk, good, rows_of, is_within_limits, is_named_there, is_made_once, is_bridges, is_alone, obeys, is_of, exchanged, stay_rows, go_rows, come_rows, takes, puts, keeps_names, all_come, all_stay, moves, is_shaken, is_sound, stays_sound, IsKeyed}
+use Rattle.desk_rows.specs.laws.Words.{◌≡◌, ℕ, Bool, true, false, ◌||◌, List, [], ◌∷◌, nat_lt, refl, sym, ap, ◌∙◌, arith, map, ◌+◌, nat_eq, not, ◌&&◌, inl, inr, eqb-true, ◌⊎◌, or_left, or_right, and_parts, and_from, cases_Bool, list_any, list_all, count_by, eq-eqb, Claim, Key, Row, Member, Source, Slot, Mute, Desk, rows_of, is_named_there, is_alone, is_within_limits, is_made_once, is_bridges, obeys, good, EditOf, outs, ins, exchanged, IsKeyed, is_of, is_in, in_order, without_rows, precedes, key_is_new, take_at, has_key, key_of, makes, same_claim, other_claims, claims_of, names, come_rows, takes, puts, stay_rows, all_come, all_stay, go_rows, keeps_names, moves, is_shaken, is_sound, stays_sound}
 use Rattle.desk_rows.specs.declared.row.Kind.TheVariants as kinds
 use Rattle.desk_rows.specs.declared.claim.Claim.TheVariants as claims
-use Rattle.desk_rows.specs.laws.Equal.{key_itself, its_key, one_precedes, same_claim_is, claim_itself}
-use Rattle.desk_rows.specs.laws.OrderLaws.{at_each, from_each, list_all-with_rows, list_all-filter, in_order-filter, with_rows_in_order}
-use Rattle.desk_rows.specs.laws.Laws.{Apt, ins_order, good_parts, good_from, good_order, one_key, any_counts, claims_key, is_in-append}
-use Rattle.desk_rows.proofs.Counts.{true_false, any_count, witness, all_after, two_counts, no_count}
-use Rattle.desk_rows.proofs.Finding.{before, later, was_there, keyed_alone}
+use Rattle.desk_rows.specs.laws.ClaimLaws.{claimed, witness}
+use Rattle.desk_rows.specs.laws.Equal.{key_itself, its_key, one_precedes, claim_itself}
+use Rattle.desk_rows.specs.laws.Laws.{Apt, ins_order, good_parts, good_from, good_order, any_counts, is_in-append, claims_key, one_key}
+use Rattle.desk_rows.specs.laws.ListLaws.{true_false, and_turned, any_count, no_count, list_all-filter}
+use Rattle.desk_rows.specs.laws.OrderLaws.{at_each, from_each, in_order-filter, with_rows_in_order, list_all-with_rows}
+use Rattle.desk_rows.proofs.Counts.{two_counts, all_after}
+use Rattle.desk_rows.proofs.Finding.{keyed_alone, before, later, was_there}
 use Rattle.desk_rows.proofs.Unshaken.{unshaken}
 
 -- what follows for each row follows for all
@@ -14,15 +16,6 @@ pub each_row : (p q : Row → Bool) (rs : List Row) → ((r : Row) → is_in rs 
 each_row p q rs each h = from_each q rs (λ r one. each r one (at_each p rs r h one))
 
 -- ---- claims, order and soundness by themselves
-
-among : (f : Claim → Bool) (c : Claim) (cs : List Claim) → list_all f cs ≡ true → list_any (same_claim c) cs ≡ true → f c ≡ true
-among f c [] all e = absurd (true_false (sym e))
-among f c (b ∷ cs) all e =
-    let both = and_parts (f b) (list_all f cs) all in
-    elim (or_cases (same_claim c b) (list_any (same_claim c) cs) e) [
-      | inl same ↦ ap f (same_claim_is c b same) ∙ both.0
-      | inr rest ↦ among f c cs both.1 rest
-    ]
 
 pub bridge_same : (d : Desk) (e : EditOf) (c : Claim) → is_bridges (exchanged d e) c ≡ is_bridges d c
 unfolding exchanged
@@ -43,19 +36,9 @@ own_claims r = and_from _ _ (key_itself (key_of r)) (others r) where
   others (Slot s) = and_from _ _ (first (claims.Ssrc s.out_ssrc) (claims.Place s.member s.index ∷ [])) (and_from _ _ (second (claims.Place s.member s.index) (claims.Ssrc s.out_ssrc)) refl)
   others _ = refl
 
--- what holds of each claim of a row holds of any claim that it makes
-claimed : (f : Claim → Bool) (c : Claim) (r : Row) → list_all f (claims_of r) ≡ true → makes c r ≡ true → f c ≡ true
-claimed f (claims.Key k) r all e = ap (λ q. f (claims.Key q)) (sym (its_key k r e)) ∙ (and_parts _ _ all).0
-claimed f (claims.Address a) r all e = among f (claims.Address a) (other_claims r) (and_parts _ _ all).1 e
-claimed f (claims.Ssrc s) r all e = among f (claims.Ssrc s) (other_claims r) (and_parts _ _ all).1 e
-claimed f (claims.Place m i) r all e = among f (claims.Place m i) (other_claims r) (and_parts _ _ all).1 e
-
 pub each_claim : (t p q : Claim → Bool) (cs : List Claim) → ((c : Claim) → t c ≡ true → p c ≡ true → q c ≡ true) → list_all t cs ≡ true → list_all p cs ≡ true → list_all q cs ≡ true
 each_claim t p q [] each h k = refl
-each_claim t p q (c ∷ cs) each h k =
-    let one = and_parts (t c) (list_all t cs) h in
-    let two = and_parts (p c) (list_all p cs) k in
-    and_from _ _ (each c one.0 two.0) (each_claim t p q cs each one.1 two.1)
+each_claim t p q (c ∷ cs) each h k = grind (arith, h, k, each c, each_claim t p q cs each)
 
 comes_in : (e : EditOf) (r : Row) → is_in (ins e) r ≡ true → is_in (come_rows e) r ≡ true
 comes_in e r one = is_in-append (map (λ p. Member p.row) e.put.members) (ins e) r ∙ or_right _ _ one
@@ -71,10 +54,7 @@ plain_rows d e h =
     let p : Row → Bool = λ r. not (is_of kinds.Member r) in
     list_all-with_rows p (ins e) (without_rows (outs e) d.others)
     ∙ ap (λ b. list_all p (ins e) && b) (list_all-filter p (λ x. not (is_in (outs e) x)) d.others h)
-    ∙ and_true (list_all p (ins e)) where
-      and_true : (b : Bool) → (b && true) ≡ b
-      and_true true = refl
-      and_true false = refl
+    ∙ and_turned (list_all p (ins e)) true
 
 pub sound_parts : (d : Desk) (r : Row) → is_sound d r ≡ true → (is_named_there d r ≡ true) × (is_alone d r ≡ true) × (obeys d r ≡ true)
 unfolding is_sound
@@ -184,8 +164,7 @@ module _ (d : Desk) (e : EditOf) (g : good d ≡ true) (a : Apt d e) where
     before' = at_each (obeys d) (rows_of d) r (good_parts d g).obey (was_there d e g a r one)
 
     asked : (a b : Bool) → (not a || b) ≡ true → a ≡ true → b ≡ true
-    asked true b h e = h
-    asked false b h e = absurd (true_false (sym e))
+    asked a b h e = grind (arith, h, e)
 
     by : (is_shaken (moves d e) d e r ≡ true) ⊎ (is_shaken (moves d e) d e r ≡ false) → (moves d e ≡ true) ⊎ (moves d e ≡ false) → obeys (exchanged d e) r ≡ true
     by (inl shaken) m = asked (is_shaken (moves d e) d e r) (obeys (exchanged d e) r) h shaken

@@ -1,8 +1,9 @@
 -- Steps of loops over rows.
-use Rattle.desk_rows.specs.laws.Words.{◌≡◌, ℕ, zero, suc, ◌<◌, ◌≤◌, ◌⊎◌, inl, inr, Bool, true, false, ◌&&◌, List, [], ◌∷◌, ◌++◌, length, get_or, refl, sym, ap, ◌∙◌, arith, list_all, remove, and_parts, and_from, cases_Bool, same_row, take_at, can_take, is_at, precedes, precedes_head, in_order, MemberRow as Member, Row, Placed}
+use Rattle.desk_rows.specs.laws.Words.{◌≡◌, ℕ, zero, suc, ◌<◌, ◌≤◌, true, false, List, [], ◌∷◌, length, get_or, refl, sym, ap, ◌∙◌, arith, ◌++◌, remove, and_parts, and_from, list_all, Placed, MemberRow as Member, Row, in_order, precedes, precedes_head, take_at, can_take, is_at, same_row}
 use Rattle.desk_rows.specs.declared.row.Row.TheVariants as rows
+use Rattle.desk_rows.specs.laws.ListLaws.{both_ways}
+use Rattle.desk_rows.specs.laws.OrderLaws.{precedes_on, at_each, from_each}
 use Rattle.desk_rows.specs.laws.PlaceLaws.{at_within}
-use Rattle.desk_rows.specs.laws.OrderLaws.{at_each, from_each, precedes_on}
 
 -- ---- places
 
@@ -30,19 +31,9 @@ can_take_last (q ∷ ps) p xs h =
 
 -- ---- order
 
-and_false : (a b : Bool) → b ≡ false → (a && b) ≡ false
-and_false true b e = e
-and_false false b e = refl
-
 -- a row that stands before the first stands before all
 pub in_order_next : (r : Row) (rs : List Row) → precedes_head r rs ≡ true → in_order (r ∷ rs) ≡ in_order rs
 in_order_next r [] h = refl
-in_order_next r (x ∷ xs) h = by (cases_Bool (in_order (x ∷ xs))) where
-  by : (in_order (x ∷ xs) ≡ true) ⊎ (in_order (x ∷ xs) ≡ false) → in_order (r ∷ x ∷ xs) ≡ in_order (x ∷ xs)
-  by (inl e) =
-      let both = and_parts (list_all (precedes x) xs) (in_order xs) e in
-      let before : list_all (precedes r) (x ∷ xs) ≡ true = and_from _ _ h (from_each (precedes r) xs (λ q one. precedes_on r x q h (at_each (precedes x) xs q both.0 one))) in
-      and_from _ _ before e ∙ sym e
-  by (inr e) = and_false (list_all (precedes r) (x ∷ xs)) (in_order (x ∷ xs)) e ∙ sym e
-
--- ---- pairs
+in_order_next r (x ∷ xs) h = both_ways _ _ (λ e. (and_parts (list_all (precedes r) (x ∷ xs)) _ e).1) (λ e.
+    let ahead = and_parts (list_all (precedes x) xs) (in_order xs) e in
+    and_from _ _ (and_from _ _ h (from_each (precedes r) xs (λ q one. precedes_on r x q h (at_each (precedes x) xs q ahead.0 one)))) e)

@@ -1,7 +1,7 @@
 -- Rows put in one by one make what merging makes.
-use Rattle.desk_rows.specs.laws.Words.{◌≡◌, ◌⊎◌, inl, inr, Bool, true, false, cond, not, ◌&&◌, ◌||◌, List, [], ◌∷◌, ◌++◌, append_assoc, refl, sym, ap, ◌∙◌, list_all, and_parts, and_from, or_cases, cases_Bool, Row, precedes, in_order, key_is_new, are_apart, with_row, with_rows}
-use Rattle.desk_rows.specs.laws.OrderLaws.{at_each, from_each, one_way, precedes_on, list_all-with_row}
-use Rattle.desk_rows.proofs.Counts.{true_false}
+use Rattle.desk_rows.specs.laws.Words.{◌≡◌, true, false, cond, ◌||◌, List, [], ◌∷◌, refl, sym, ap, ◌∙◌, ◌++◌, not, ◌&&◌, inl, inr, ◌⊎◌, append_assoc, or_right, or_cases, and_parts, and_from, cases_Bool, false_from_ne_true, not-true, list_all, Row, with_rows, in_order, precedes, with_row, key_is_new, are_apart}
+use Rattle.desk_rows.specs.laws.ListLaws.{true_false}
+use Rattle.desk_rows.specs.laws.OrderLaws.{precedes_on, one_way, at_each, from_each, list_all-with_row}
 
 -- ---- one step of a merge
 
@@ -16,10 +16,7 @@ first_stays : (ps : List Row) (x : Row) (xs : List Row) → list_all (λ p. not 
 first_stays [] x xs h = refl
 first_stays (p ∷ ps) x xs h =
     let both = and_parts (not (precedes p x)) (list_all (λ p. not (precedes p x)) ps) h in
-    ap (with_rows ps) (goes_behind p x xs (not_true (precedes p x) both.0)) ∙ first_stays ps x (with_row p xs) both.1 where
-      not_true : (b : Bool) → not b ≡ true → b ≡ false
-      not_true true e = sym e
-      not_true false e = refl
+    ap (with_rows ps) (goes_behind p x xs (not-true (precedes p x) both.0)) ∙ first_stays ps x (with_row p xs) both.1
 
 -- the least row that is put comes first where it stands before the rows
 pub put_first : (p : Row) (ps : List Row) (x : Row) (xs : List Row) → in_order (p ∷ ps) ≡ true → precedes p x ≡ true → with_rows (p ∷ ps) (x ∷ xs) ≡ p ∷ with_rows ps (x ∷ xs)
@@ -33,10 +30,7 @@ pub row_first : (p : Row) (ps : List Row) (x : Row) (xs : List Row) → in_order
 row_first p ps x xs h e =
     let order = and_parts (list_all (precedes p) ps) (in_order ps) h in
     first_stays (p ∷ ps) x xs (and_from _ _ (ap not e) (from_each (λ q. not (precedes q x)) ps (λ q one.
-    elim (cases_Bool (precedes q x)) [
-      | inl f ↦ absurd (true_false (sym (precedes_on p q x (at_each (precedes p) ps q order.0 one) f) ∙ e))
-      | inr f ↦ ap not f
-    ])))
+    ap not (false_from_ne_true (precedes q x) (λ f. true_false (sym (precedes_on p q x (at_each (precedes p) ps q order.0 one) f) ∙ e))))))
 
 pub put_alone : (ps : List Row) → in_order ps ≡ true → with_rows ps [] ≡ ps
 put_alone [] h = refl
@@ -106,8 +100,5 @@ put_in_turn ps ns xs h =
           let news = and_parts (key_is_new n ps) (list_all (λ n. key_is_new n ps) ns) new in
           turns (with_row n ps) ns first.1 (from_each (λ q. key_is_new q (with_row n ps)) ns (λ q one.
           list_all-with_row (λ x. precedes q x || precedes x q) n ps
-          ∙ and_from _ _ (or_last (precedes q n) (precedes n q) (at_each (precedes n) ns q first.0 one)) (at_each (λ q. key_is_new q ps) ns q news.1 one)))
-          ∙ ap (with_rows ns) (among n ps xs news.0) where
-            or_last : (a b : Bool) → b ≡ true → (a || b) ≡ true
-            or_last true b e = refl
-            or_last false b e = e
+          ∙ and_from _ _ (or_right (precedes q n) _ (at_each (precedes n) ns q first.0 one)) (at_each (λ q. key_is_new q ps) ns q news.1 one)))
+          ∙ ap (with_rows ns) (among n ps xs news.0)

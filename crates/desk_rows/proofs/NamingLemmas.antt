@@ -1,11 +1,11 @@
 -- What a table has in a group: the subscriptions of a source, and the slots of a member.
-use Rattle.desk_rows.specs.laws.Words.{◌≡◌, ℕ, ◌≤◌, Bool, true, false, cond, List, [], ◌∷◌, length, filter, nat_eq, nat_le, refl, sym, ap, ◌∙◌, arith, eqb-true, Option, Some, None, list_all, filter_map, cons_option, IsNonDecreasingBy, and_parts, and_from, nat_tests, Row, Slot, Sub, SlotRow, SubRow, same_row, precedes, in_order, Desk, good, slot_in, sub_in, subs_naming, slots_naming, stand_by, IsTableOf}
+use Rattle.desk_rows.specs.laws.Words.{◌≡◌, ℕ, Bool, true, List, [], ◌∷◌, Option, None, Some, refl, sym, ap, ◌∙◌, arith, nat_eq, filter, eqb-true, nat_le, and_parts, and_from, nat_tests, list_all, filter_map, cons_option, IsNonDecreasingBy, Row, Slot, Sub, SlotRow, SubRow, Desk, good, slot_in, sub_in, subs_naming, slots_naming, in_order, precedes, same_row, stand_by, IsTableOf}
 use Rattle.desk_rows.specs.laws.Equal.{same_row_is, row_itself}
 use Rattle.desk_rows.specs.laws.Laws.{good_order}
-use Rattle.desk_rows.specs.laws.PlaceLaws.{count_next}
+use Rattle.desk_rows.specs.laws.ListLaws.{SameCounts, same_filtered, same_short, all_pass, stand_by-filter}
 use Rattle.desk_rows.specs.laws.NamingLaws.{its_sub}
-use Rattle.desk_rows.specs.laws.PlacesOnce.{one_at_place}
-use Rattle.desk_rows.proofs.GroupLemmas.{count_in, stand_by-filter, all_pass, SameCounts, same_filtered, by, same_list, turns_rise, rises_by}
+use Rattle.desk_rows.specs.laws.PlacesOnce.{of_member, of_index, one_at_place}
+use Rattle.desk_rows.proofs.GroupLemmas.{count_in, by, same_list, turns_rise, rises_by}
 
 -- a table has what is in the rows
 same_in : {X : Type 0} (in_row : Row → Option X) (group turn : X → ℕ) (rows : List Row) (table : List X) → IsTableOf in_row group turn rows table → SameCounts table (filter_map in_row rows)
@@ -68,33 +68,15 @@ index_of s = s.index
 pub indexes_rise : (others : List Row) (member : ℕ) (table : List SlotRow) → IsTableOf slot_in member_of index_of others table → IsNonDecreasingBy index_of (filter (λ s. nat_eq s.member member) table)
 indexes_rise others member table h = rises_by index_of (filter (λ s. nat_eq s.member member) table) (turns_rise member_of index_of member table h.order)
 
--- lists of one slot at most, of which any test counts as many, are one
-same_short : (xs ys : List SlotRow) → length ys ≤ 1 → SameCounts xs ys → xs ≡ ys
-same_short xs (y ∷ z ∷ ys) short same = absurd (omega (arith, short))
-same_short [] [] short same = refl
-same_short (x ∷ xs) [] short same = (let all = same (λ s. true) in let next = count_next (λ (s : SlotRow). true) x xs in absurd (omega (arith, all, next)))
-same_short [] (y ∷ []) short same = (let all = same (λ s. true) in let next = count_next (λ (s : SlotRow). true) y [] in absurd (omega (arith, all, next)))
-same_short (x ∷ x' ∷ xs) (y ∷ []) short same =
-    (let all = same (λ s. true) in let a = count_next (λ (s : SlotRow). true) x (x' ∷ xs) in let b = count_next (λ (s : SlotRow). true) x' xs in let c = count_next (λ (s : SlotRow). true) y [] in absurd (omega (arith, all, a, b, c)))
-same_short (x ∷ []) (y ∷ []) short same = the_same (same_row (Slot x) (Slot y)) refl
-  where
-    slot_is : (a b : Row) → a ≡ b → Some x ≡ slot_in a → slot_in b ≡ Some y → x ≡ y
-    slot_is a b e f g = (let s : Some x ≡ Some y = f ∙ ap slot_in e ∙ g in cc)
-
-    the_same : (b : Bool) → same_row (Slot x) (Slot y) ≡ b → x ∷ [] ≡ y ∷ []
-    the_same true e = ap (λ s. s ∷ []) (slot_is (Slot x) (Slot y) (same_row_is (Slot x) (Slot y) e) refl refl)
-    the_same false e =
-        let test : SlotRow → Bool = λ s. same_row (Slot s) (Slot y) in
-        let a = count_next test x [] in
-        let b = count_next test y [] in
-        let at_x : ◌≡◌ {A = ℕ} (cond (test x) 1 0) 0 = ap (λ b. cond b 1 0) e in
-        let at_y : ◌≡◌ {A = ℕ} (cond (test y) 1 0) 1 = ap (λ b. cond b 1 0) (row_itself (Slot y)) in
-        absurd (omega (arith, same test, a, b, at_x, at_y))
+same_slot : (x y : SlotRow) → same_row (Slot x) (Slot y) ≡ true → x ≡ y
+same_slot x y e = inside x y (same_row_is (Slot x) (Slot y) e) where
+  inside : (a b : SlotRow) → Slot a ≡ Slot b → a ≡ b
+  inside a b e = cc
 
 pub slots_in_table : (d : Desk) (member : ℕ) (table : List SlotRow) → good d ≡ true → IsTableOf slot_in member_of index_of d.others table → (index : ℕ)
     → filter (λ s. nat_eq s.index index) (filter (λ s. nat_eq s.member member) table) ≡ filter (λ s. nat_eq s.index index) (slots_naming d member)
 slots_in_table d member table g h index =
     let of_member : SlotRow → Bool = λ s. nat_eq s.member member in
     let of_index : SlotRow → Bool = λ s. nat_eq s.index index in
-    same_short (filter of_index (filter of_member table)) (filter of_index (slots_naming d member)) (one_at_place d member index g)
+    same_short (λ x y. same_row (Slot x) (Slot y)) (λ x. row_itself (Slot x)) same_slot (filter of_index (filter of_member table)) (filter of_index (slots_naming d member)) (one_at_place d member index g)
     (same_filtered of_index (filter of_member table) (slots_naming d member) (same_filtered of_member table (filter_map slot_in d.others) (same_in slot_in member_of index_of d.others table h)))

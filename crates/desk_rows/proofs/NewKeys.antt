@@ -1,23 +1,21 @@
 -- No row comes under the key of another, and what is judged is right.
-use Rattle.desk_rows.specs.laws.Words.{◌≡◌, ℕ, ◌+◌, ◌≤◌, nat_lt, nat_eq, Bool, true, false, not, ◌&&◌, List, [], ◌∷◌, map, refl, sym, ap, ◌∙◌, inl, inr, ◌⊎◌, arith, count_by, is_some, list_any, list_all, and_parts, and_from, or_left, or_right, or_cases, cases_Bool, eqb-true, eq-eqb, Row, Member, Key, Placed, rank, kind_of, key_of, has_key, other_claims, is_of, is_in, EditOf, ins, Desk, good, rows_of, row_at, is_within_limits, is_named_there, is_made_once, obeys, exchanged, IsKeyed, stay_rows, go_rows, come_rows, takes, is_free, comes_once, keys_are_new, is_sound, is_sound_beside, all_come, all_stay, moves, stays_sound, judged}
+use Rattle.desk_rows.specs.laws.Words.{◌≡◌, ℕ, ◌≤◌, Bool, true, false, List, [], ◌∷◌, nat_lt, refl, sym, ap, ◌∙◌, arith, map, ◌+◌, nat_eq, not, ◌&&◌, inl, inr, eqb-true, ◌⊎◌, or_left, or_right, or_cases, and_parts, and_from, cases_Bool, false_from_ne_true, not-true, list_all-map, list_any, list_all, is_some, count_by, eq-eqb, Placed, Key, Row, Member, Desk, rows_of, is_named_there, row_at, is_within_limits, is_made_once, obeys, good, EditOf, ins, exchanged, IsKeyed, is_of, is_in, has_key, rank, kind_of, key_of, other_claims, come_rows, takes, stay_rows, all_come, all_stay, go_rows, moves, is_free, comes_once, is_sound, stays_sound, keys_are_new, is_sound_beside, judged}
 use Rattle.desk_rows.specs.declared.row.Kind.TheVariants as kinds
 use Rattle.desk_rows.specs.declared.claim.Claim.TheVariants as claims
+use Rattle.desk_rows.specs.laws.ClaimLaws.{witness}
 use Rattle.desk_rows.specs.laws.Equal.{key_itself, its_key}
-use Rattle.desk_rows.specs.laws.OrderLaws.{not_true, both_ways, at_each, from_each}
-use Rattle.desk_rows.specs.laws.Laws.{Apt, ins_order, good_parts, one_key, any_counts, count_by-append, is_in-append}
-use Rattle.desk_rows.proofs.Counts.{true_false, any_count, witness, no_count, count_by-map, list_all-map}
-use Rattle.desk_rows.proofs.Finding.{is_found, keyed_good, order_once, before, later, came}
-use Rattle.desk_rows.proofs.Judging.{each_row, plain_later, sound_parts, sound_from, sound_good, good_sound}
+use Rattle.desk_rows.specs.laws.Laws.{Apt, ins_order, good_parts, any_counts, is_in-append, one_key}
+use Rattle.desk_rows.specs.laws.ListLaws.{true_false, both_ways, count_by-append, count_by-map, any_count, no_count, is_found}
+use Rattle.desk_rows.specs.laws.OrderLaws.{at_each, from_each}
+use Rattle.desk_rows.proofs.Finding.{order_once, keyed_good, before, later, came}
+use Rattle.desk_rows.proofs.Judging.{each_row, sound_parts, sound_from, plain_later, sound_good, good_sound}
 
 -- rows of one key are of one kind
 no_key : (key : Key) (r : Row) (rs : List Row) → has_key key r ≡ true → is_of kinds.Member r ≡ true → list_all (λ x. not (is_of kinds.Member x)) rs ≡ true → count_by (has_key key) rs ≡ 0
-no_key key r rs e kind plain = no_count (has_key key) rs (by (cases_Bool (list_any (has_key key) rs))) where
-  by : (list_any (has_key key) rs ≡ true) ⊎ (list_any (has_key key) rs ≡ false) → list_any (has_key key) rs ≡ false
-  by (inl some) =
-      let w = witness (has_key key) rs some in
-      let member : is_of kinds.Member w.0 ≡ true = ap (λ k. nat_eq (rank (kind_of k)) (rank kinds.Member)) (its_key key w.0 w.2 ∙ sym (its_key key r e)) ∙ kind in
-      absurd (true_false (sym member ∙ not_true _ (at_each (λ x. not (is_of kinds.Member x)) rs w.0 plain w.1)))
-  by (inr none) = none
+no_key key r rs e kind plain = no_count (has_key key) rs (false_from_ne_true _ (λ some.
+    let w = witness (has_key key) rs some in
+    let member : is_of kinds.Member w.0 ≡ true = ap (λ k. nat_eq (rank (kind_of k)) (rank kinds.Member)) (its_key key w.0 w.2 ∙ sym (its_key key r e)) ∙ kind in
+    true_false (sym member ∙ not-true _ (at_each (λ x. not (is_of kinds.Member x)) rs w.0 plain w.1))))
 
 all_members : (ps : List Placed) → list_all (is_of kinds.Member) (map (λ p. Member p.row) ps) ≡ true
 all_members [] = refl
@@ -48,7 +46,7 @@ module _ (d : Desk) (e : EditOf) (g : good d ≡ true) (a : Apt d e) where
 
   members_new : list_all member_is_new joining ≡ list_all (λ p. is_free d e (key_of (Member p.row)) && comes_once e (key_of (Member p.row))) e.put.members
   unfolding joining member_is_new
-  members_new = list_all-map (λ (p : Placed). Member p.row) member_is_new e.put.members ∙ same e.put.members where
+  members_new = list_all-map member_is_new (λ (p : Placed). Member p.row) e.put.members ∙ same e.put.members where
     same : (ps : List Placed) → list_all (λ p. member_is_new (Member p.row)) ps ≡ list_all (λ p. is_free d e (key_of (Member p.row)) && comes_once e (key_of (Member p.row))) ps
     same [] = refl
     same (p ∷ ps) = λ i. (is_free d e (key_of (Member p.row)) && nat_eq (count_by-map (λ (q : Placed). Member q.row) (has_key (key_of (Member p.row))) e.put.members i) 1) && same ps i
@@ -60,7 +58,7 @@ module _ (d : Desk) (e : EditOf) (g : good d ≡ true) (a : Apt d e) where
       (members_new ∙ both.0, both.1)
 
   none_stays : (key : Key) (r : Row) → has_key key r ≡ true → is_free d e (key_of r) ≡ true → count_by (has_key key) (stay_rows d e) ≡ 0
-  none_stays key r e' free = no_count (has_key key) (stay_rows d e) (ap (λ k. list_any (has_key k) (stay_rows d e)) (sym (its_key key r e')) ∙ not_true _ free)
+  none_stays key r e' free = no_count (has_key key) (stay_rows d e) (ap (λ k. list_any (has_key k) (stay_rows d e)) (sym (its_key key r e')) ∙ not-true _ free)
 
   -- where no row comes under the key of another, each key is there once at most
   pub keyed_later : list_all (λ r. not (is_of kinds.Member r)) (ins e) ≡ true → keys_are_new d e ≡ true → IsKeyed (exchanged d e)
@@ -81,17 +79,14 @@ module _ (d : Desk) (e : EditOf) (g : good d ≡ true) (a : Apt d e) where
               omega (arith, later d e g a (has_key key), none_stays key w.0 w.2 both.0, come_parts (has_key key), once, others)
           | inr other ↦
               let free = at_each (λ r. is_free d e (key_of r)) (ins e) w.0 (new_parts new).1 other in
-              let members = no_member key w.0 w.2 (not_true _ (at_each (λ r. not (is_of kinds.Member r)) (ins e) w.0 plain other)) in
+              let members = no_member key w.0 w.2 (not-true _ (at_each (λ r. not (is_of kinds.Member r)) (ins e) w.0 plain other)) in
               omega (arith, later d e g a (has_key key), none_stays key w.0 w.2 free, come_parts (has_key key), members, order_once key (ins e) (ins_order a))
         ] where
           no_member : (key : Key) (r : Row) → has_key key r ≡ true → is_of kinds.Member r ≡ false → count_by (has_key key) joining ≡ 0
-          no_member key r e' kind = no_count (has_key key) joining (there (cases_Bool (list_any (has_key key) joining))) where
-            there : (list_any (has_key key) joining ≡ true) ⊎ (list_any (has_key key) joining ≡ false) → list_any (has_key key) joining ≡ false
-            there (inl some) =
-                let w = witness (has_key key) joining some in
-                let member : is_of kinds.Member r ≡ true = ap (λ k. nat_eq (rank (kind_of k)) (rank kinds.Member)) (its_key key r e' ∙ sym (its_key key w.0 w.2)) ∙ at_each (is_of kinds.Member) joining w.0 (all_members e.put.members) w.1 in
-                absurd (true_false (sym member ∙ kind))
-            there (inr none) = none
+          no_member key r e' kind = no_count (has_key key) joining (false_from_ne_true _ (λ some.
+              let w = witness (has_key key) joining some in
+              let member : is_of kinds.Member r ≡ true = ap (λ k. nat_eq (rank (kind_of k)) (rank kinds.Member)) (its_key key r e' ∙ sym (its_key key w.0 w.2)) ∙ at_each (is_of kinds.Member) joining w.0 (all_members e.put.members) w.1 in
+              true_false (sym member ∙ kind)))
 
   -- ---- the whole
 

@@ -1,12 +1,13 @@
 -- What is asked of rows and an edit to judge the desk that it leads to.
-use Rattle.desk_rows.specs.laws.Words.{◌≡◌, ℕ, ◌+◌, ◌≤◌, nat_lt, nat_eq, nat_le, Bool, true, false, not, ◌&&◌, ◌||◌, length, filter, refl, sym, ap, ◌∙◌, arith, count_by, is_some, list_all, and_parts, Row, Member, Key, is_of, member_limit, slot_limit, other_limit, in_order, key_is_new, is_in, are_apart, have_same_keys, with_rows, without_rows, take_at, put_at, can_take, can_put, EditOf, outs, ins, Desk, good, rows_of, row_at, is_within_limits, is_apt, exchanged, fits, after, HasOrders, stay_rows, takes, is_free, stay_count, go_count, come_count, keys_are_new, moves, is_sound_beside, stays_sound, all_come, all_stay, judged}
+use Rattle.desk_rows.specs.laws.Words.{◌≡◌, ℕ, ◌≤◌, Bool, true, ◌||◌, length, nat_lt, sym, ap, ◌∙◌, arith, ◌+◌, nat_eq, not, ◌&&◌, filter, nat_le, and_parts, list_all, is_some, count_by, Key, Row, Member, Desk, rows_of, row_at, is_within_limits, good, EditOf, outs, ins, exchanged, is_apt, fits, after, is_of, member_limit, slot_limit, other_limit, is_in, with_rows, in_order, without_rows, key_is_new, are_apart, have_same_keys, take_at, can_take, can_put, put_at, takes, stay_rows, stay_count, go_count, come_count, all_come, all_stay, moves, is_free, HasOrders, stays_sound, keys_are_new, is_sound_beside, judged}
 use Rattle.desk_rows.specs.declared.row.Kind.TheVariants as kinds
+use Rattle.desk_rows.specs.laws.Laws.{outs_order, apt_parts, apt_from, good_order, fits_parts, after_fits}
+use Rattle.desk_rows.specs.laws.ListLaws.{all_count}
 use Rattle.desk_rows.specs.laws.OrderLaws.{count_by-with_rows, count_by-without_rows}
 use Rattle.desk_rows.specs.laws.PlaceLaws.{count_by-take_at, length-put_at}
-use Rattle.desk_rows.specs.laws.Laws.{apt_parts, apt_from, outs_order, good_order, fits_parts, after_fits}
+use Rattle.desk_rows.proofs.Counts.{two_counts, before_count, after_count, others_after}
 use Rattle.desk_rows.proofs.ExchangeLemmas.{few_rows, few_slots}
 use Rattle.desk_rows.proofs.Indexed.{once_each}
-use Rattle.desk_rows.proofs.Counts.{before_count, after_count, others_after, all_count, two_counts}
 use Rattle.desk_rows.proofs.NewKeys.{stays_found, judged_right}
 
 -- the lists of an apt edit are in order
@@ -22,9 +23,7 @@ orders_of d e h =
 pub free_is : (d : Desk) (e : EditOf) (key : Key) → good d ≡ true → is_apt d e ≡ true → is_free d e key ≡ (not (is_some (row_at d key)) || takes e key)
 free_is d e key g h = ap not (stays_found d e g (apt_parts d e h) key) ∙ turned (is_some (row_at d key)) (takes e key) where
   turned : (a b : Bool) → not (a && not b) ≡ (not a || b)
-  turned true true = refl
-  turned true false = refl
-  turned false b = refl
+  turned a b = grind arith
 
 -- ---- counts
 

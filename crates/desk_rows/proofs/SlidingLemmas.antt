@@ -1,53 +1,32 @@
 -- A row put in, or taken out, at the place that parts the rows before it from those behind.
-use Rattle.desk_rows.specs.laws.Words.{slice_get, ◌≡◌, ℕ, zero, suc, ◌<◌, ◌≤◌, Bool, true, false, not, cond, ◌||◌, List, [], ◌∷◌, length, insert, remove, set, refl, sym, ap, ◌∙◌, inl, inr, arith, list_all, and_parts, and_from, or_cases, cases_Bool, Row, key_of, same_row, key_precedes, precedes, in_order, is_in, with_row, without_rows, Parts, is_found_as}
-use Rattle.desk_rows.specs.laws.Equal.{same_row_is, row_itself, keys_precede_on, not_before_itself}
-use Rattle.desk_rows.specs.laws.OrderLaws.{at_each, from_each, filter_all, in_order-filter}
-use Rattle.desk_rows.proofs.Counts.{true_false}
+use Rattle.desk_rows.specs.laws.Words.{◌≡◌, ℕ, zero, suc, ◌<◌, ◌≤◌, true, false, cond, ◌||◌, List, [], ◌∷◌, length, refl, sym, ap, ◌∙◌, arith, not, insert, remove, set, and_parts, and_from, false_from_ne_true, not-true, not-false, list_all, slice_get, Row, is_in, in_order, without_rows, precedes, with_row, key_precedes, same_row, key_of, Parts, is_found_as}
+use Rattle.desk_rows.specs.laws.Equal.{keys_precede_on, same_row_is, row_itself}
+use Rattle.desk_rows.specs.laws.ListLaws.{true_false, or_turned, filter_all}
+use Rattle.desk_rows.specs.laws.OrderLaws.{same_row_turned, one_way, before_other, at_each, from_each, in_order-filter}
 use Rattle.desk_rows.proofs.Halving.{later_parts}
 
 -- what a row stands before, those behind are too
 pub before_falls : (r a b : Row) → precedes a b ≡ true → not (precedes r b) ≡ true → not (precedes r a) ≡ true
-before_falls r a b e f = elim (cases_Bool (precedes r a)) [
-  | inl first ↦ absurd (true_false (sym f ∙ ap not (keys_precede_on (key_of r) (key_of a) (key_of b) first e)))
-  | inr first ↦ ap not first
-]
+before_falls r a b e f = ap not (false_from_ne_true (precedes r a) (λ first. true_false (sym f ∙ ap not (keys_precede_on (key_of r) (key_of a) (key_of b) first e))))
 
 pub put_in : (r : Row) (xs : List Row) (i : ℕ) → Parts (λ x. not (precedes r x)) xs i → i ≤ length xs → with_row r xs ≡ insert xs i r
 put_in r [] zero h l = refl
 put_in r [] (suc i) h l = absurd (omega (arith, l))
-put_in r (x ∷ xs) zero h l = ap (λ b. cond b (r ∷ x ∷ xs) (x ∷ with_row r xs)) (not_false (precedes r x) (h.1 zero x (omega arith) (omega arith))) where
-  not_false : (b : Bool) → not b ≡ false → b ≡ true
-  not_false true e = refl
-  not_false false e = sym e
+put_in r (x ∷ xs) zero h l = ap (λ b. cond b (r ∷ x ∷ xs) (x ∷ with_row r xs)) (not-false (precedes r x) (h.1 zero x (omega arith) (omega arith)))
 put_in r (x ∷ xs) (suc i) h l =
     let rest : with_row r xs ≡ insert xs i r = put_in r xs i (later_parts (λ y. not (precedes r y)) x xs i h) (omega (arith, l)) in
-    ap (λ b. cond b (r ∷ x ∷ xs) (x ∷ with_row r xs)) (not_true (precedes r x) (h.0 zero x (omega arith) (omega arith))) ∙ ap (λ ys. x ∷ ys) rest where
-      not_true : (b : Bool) → not b ≡ true → b ≡ false
-      not_true true e = sym e
-      not_true false e = refl
+    ap (λ b. cond b (r ∷ x ∷ xs) (x ∷ with_row r xs)) (not-true (precedes r x) (h.0 zero x (omega arith) (omega arith))) ∙ ap (λ ys. x ∷ ys) rest
 
 -- ---- taken out
 
 -- rows that are not this one stay
 others_stay : (r : Row) (xs : List Row) → list_all (λ x. not (same_row x r)) xs ≡ true → without_rows (r ∷ []) xs ≡ xs
-others_stay r xs h = filter_all (λ x. not (is_in (r ∷ []) x)) xs (from_each (λ x. not (is_in (r ∷ []) x)) xs (λ x one. ap not (or_false (same_row x r)) ∙ at_each (λ x. not (same_row x r)) xs x h one)) where
-  or_false : (b : Bool) → (b || false) ≡ b
-  or_false true = refl
-  or_false false = refl
+others_stay r xs h = filter_all (λ x. not (is_in (r ∷ []) x)) xs (from_each (λ x. not (is_in (r ∷ []) x)) xs (λ x one. ap not (or_turned (same_row x r) false) ∙ at_each (λ x. not (same_row x r)) xs x h one))
 
 -- behind a row of its key, or of a later one, it is not
 none_behind : (r x : Row) (xs : List Row) → list_all (precedes x) xs ≡ true → precedes x r ≡ false → list_all (λ y. not (same_row y r)) xs ≡ true
-none_behind r x xs ahead late = from_each (λ y. not (same_row y r)) xs (λ y one. elim (cases_Bool (same_row y r)) [
-  | inl e ↦ absurd (true_false (sym (at_each (precedes x) xs y ahead one) ∙ ap (λ q. precedes x q) (same_row_is y r e) ∙ late))
-  | inr e ↦ ap not e
-])
-
--- a row that stands before another is another
-differs : (r x : Row) → precedes x r ≡ true → same_row x r ≡ false
-differs r x h = elim (cases_Bool (same_row x r)) [
-  | inl f ↦ absurd (true_false (sym h ∙ ap (λ q. precedes q r) (same_row_is x r f) ∙ not_before_itself r))
-  | inr f ↦ f
-]
+none_behind r x xs ahead late = from_each (λ y. not (same_row y r)) xs (λ y one. ap not (false_from_ne_true (same_row y r) (λ e.
+    true_false (sym (at_each (precedes x) xs y ahead one) ∙ ap (λ q. precedes x q) (same_row_is y r e) ∙ late))))
 
 pub take_out : (r : Row) (xs : List Row) (i : ℕ) → in_order xs ≡ true → Parts (λ x. precedes x r) xs i → is_found_as r (slice_get xs i) ≡ true → without_rows (r ∷ []) xs ≡ remove xs i
 take_out r [] i h p e = cc
@@ -58,7 +37,7 @@ take_out r (x ∷ xs) zero h p e =
 take_out r (x ∷ xs) (suc i) h p e =
     let order = and_parts (list_all (precedes x) xs) (in_order xs) h in
     let rest : without_rows (r ∷ []) xs ≡ remove xs i = take_out r xs i order.1 (later_parts (λ y. precedes y r) x xs i p) e in
-    ap (λ b. cond (not (b || false)) (x ∷ without_rows (r ∷ []) xs) (without_rows (r ∷ []) xs)) (differs r x (p.0 zero x (omega arith) (omega arith))) ∙ ap (λ ys. x ∷ ys) rest
+    ap (λ b. cond (not (b || false)) (x ∷ without_rows (r ∷ []) xs) (without_rows (r ∷ []) xs)) (before_other x r (p.0 zero x (omega arith) (omega arith))) ∙ ap (λ ys. x ∷ ys) rest
 
 pub none_out : (r : Row) (xs : List Row) (i : ℕ) → in_order xs ≡ true → Parts (λ x. precedes x r) xs i → is_found_as r (slice_get xs i) ≡ false → without_rows (r ∷ []) xs ≡ xs
 none_out r [] i h p e = refl
@@ -69,7 +48,7 @@ none_out r (x ∷ xs) zero h p e =
 none_out r (x ∷ xs) (suc i) h p e =
     let order = and_parts (list_all (precedes x) xs) (in_order xs) h in
     let rest = none_out r xs i order.1 (later_parts (λ y. precedes y r) x xs i p) e in
-    ap (λ b. cond (not (b || false)) (x ∷ without_rows (r ∷ []) xs) (without_rows (r ∷ []) xs)) (differs r x (p.0 zero x (omega arith) (omega arith))) ∙ ap (λ ys. x ∷ ys) rest
+    ap (λ b. cond (not (b || false)) (x ∷ without_rows (r ∷ []) xs) (without_rows (r ∷ []) xs)) (before_other x r (p.0 zero x (omega arith) (omega arith))) ∙ ap (λ ys. x ∷ ys) rest
 
 pub none_go : (xs : List Row) → without_rows [] xs ≡ xs
 none_go xs = filter_all (λ x. true) xs (from_each (λ x. true) xs (λ q one. refl))
@@ -90,22 +69,14 @@ not_among t ts [] h = refl
 not_among t ts (x ∷ xs) h =
     let both = and_parts (precedes t x) (list_all (precedes t) xs) h in
     let rest = not_among t ts xs both.1 in
-    let other : same_row x t ≡ false = turned_apart t x both.0 in
-    (λ i. cond (not (other i || is_in ts x)) (x ∷ rest i) (rest i)) where
-      turned_apart : (t x : Row) → precedes t x ≡ true → same_row x t ≡ false
-      turned_apart t x e = elim (cases_Bool (same_row x t)) [
-        | inl f ↦ absurd (true_false (sym e ∙ ap (precedes t) (same_row_is x t f) ∙ not_before_itself t))
-        | inr f ↦ f
-      ]
+    let other : same_row x t ≡ false = same_row_turned x t ∙ before_other t x both.0 in
+    (λ i. cond (not (other i || is_in ts x)) (x ∷ rest i) (rest i))
 
 -- a row that stands not behind the first of those that go stays, unless it is that one
 pub first_stays : (t x : Row) (ts xs : List Row) → in_order (t ∷ ts) ≡ true → precedes t x ≡ false → same_row x t ≡ false → without_rows (t ∷ ts) (x ∷ xs) ≡ x ∷ without_rows (t ∷ ts) xs
 first_stays t x ts xs h late other =
     let order = and_parts (list_all (precedes t) ts) (in_order ts) h in
-    let none : is_in ts x ≡ false = elim (cases_Bool (is_in ts x)) [
-      | inl one ↦ absurd (true_false (sym (at_each (precedes t) ts x order.0 one) ∙ late))
-      | inr one ↦ one
-    ] in
+    let none : is_in ts x ≡ false = false_from_ne_true _ (λ one. true_false (sym (at_each (precedes t) ts x order.0 one) ∙ late)) in
     (λ i. cond (not (other i || none i)) (x ∷ without_rows (t ∷ ts) xs) (without_rows (t ∷ ts) xs))
 
 -- ---- one in place of another
@@ -121,10 +92,8 @@ replaced_at o n [] i h p there same = absurd (true_false (sym there))
 replaced_at o n (x ∷ xs) zero h p there same =
     let order = and_parts (list_all (precedes x) xs) (in_order xs) h in
     let late = p.1 zero x (omega arith) (omega arith) in
-    let is : x ≡ o = elim (or_cases (same_row o x) (is_in xs o) there) [
-      | inl e ↦ sym (same_row_is o x e)
-      | inr e ↦ absurd (true_false (sym (at_each (precedes x) xs o order.0 e) ∙ late))
-    ] in
+    let not_behind : is_in xs o ≡ false = false_from_ne_true _ (λ e. true_false (sym (at_each (precedes x) xs o order.0 e) ∙ late)) in
+    let is : x ≡ o = sym (same_row_is o x (sym (or_turned (same_row o x) false) ∙ ap (λ b. same_row o x || b) (sym not_behind) ∙ there)) in
     let gone : without_rows (o ∷ []) (x ∷ xs) ≡ xs =
     ap (λ y. cond (not (same_row y o || false)) (x ∷ without_rows (o ∷ []) xs) (without_rows (o ∷ []) xs)) is
     ∙ ap (λ b. cond (not (b || false)) (x ∷ without_rows (o ∷ []) xs) (without_rows (o ∷ []) xs)) (row_itself o)
@@ -133,17 +102,11 @@ replaced_at o n (x ∷ xs) zero h p there same =
 replaced_at o n (x ∷ xs) (suc i) h p there same =
     let order = and_parts (list_all (precedes x) xs) (in_order xs) h in
     let first = p.0 zero x (omega arith) (omega arith) in
-    let later : is_in xs o ≡ true = elim (or_cases (same_row o x) (is_in xs o) there) [
-      | inl e ↦ absurd (true_false (sym first ∙ ap (precedes x) (same_row_is o x e) ∙ not_before_itself x))
-      | inr e ↦ e
-    ] in
+    let later : is_in xs o ≡ true = sym (ap (λ b. b || is_in xs o) (same_row_turned o x ∙ before_other x o first)) ∙ there in
     let rest = replaced_at o n xs i order.1 (later_parts (λ y. precedes y o) x xs i p) later same in
-    let behind : precedes n x ≡ false = elim (cases_Bool (precedes n x)) [
-      | inl e ↦ absurd (true_false (sym (keys_precede_on (key_of x) (key_of o) (key_of x) first (ap (λ k. key_precedes k (key_of x)) same ∙ e)) ∙ not_before_itself x))
-      | inr e ↦ e
-    ] in (
+    let behind : precedes n x ≡ false = sym (ap (λ k. key_precedes k (key_of x)) same) ∙ one_way x o first in (
       omega (arith, rest.0),
-      ap (λ b. with_row n (cond (not (b || false)) (x ∷ without_rows (o ∷ []) xs) (without_rows (o ∷ []) xs))) (differs o x first)
+      ap (λ b. with_row n (cond (not (b || false)) (x ∷ without_rows (o ∷ []) xs) (without_rows (o ∷ []) xs))) (before_other x o first)
           ∙ ap (λ b. cond b (n ∷ x ∷ without_rows (o ∷ []) xs) (x ∷ with_row n (without_rows (o ∷ []) xs))) behind
           ∙ ap (λ ys. x ∷ ys) rest.1,
     )

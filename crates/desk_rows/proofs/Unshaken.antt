@@ -1,25 +1,21 @@
 -- The rule of a row that stays holds on where the edit does not touch what it looks at.
-use Rattle.desk_rows.specs.laws.Words.{◌≡◌, ℕ, ◌≤◌, nat_le, nat_eq, Bool, true, false, not, cond, ◌&&◌, ◌||◌, List, [], ◌∷◌, map, refl, sym, ap, ◌∙◌, inl, inr, arith, Option, Some, None, count_by, is_some, list_any, list_all, and_parts, and_from, or_left, or_right, or_cases, cases_Bool, eqb-true, Row, Room, Member, Source, Slot, Sub, Mute, Gain, Pin, Floor, MemberRow, Media, Audio, Video, Key, Placed, has_key, same_media, names, suits, is_in_range, is_in, with_rows, without_rows, room_audio_limit, take_at, EditOf, outs, ins, Desk, good, rows_of, row_at, room_of_member, room_of, room_of_found, room_at, same_room, is_audio_in, all_suit, are_together, is_named_there, obeys, is_of, exchanged, IsKeyed, finds, is_elsewhere, stay_rows, come_rows, takes, puts, keeps_names, moves, is_shaken}
+use Rattle.desk_rows.specs.laws.Words.{◌≡◌, ℕ, zero, ◌≤◌, Bool, true, false, ◌||◌, List, [], ◌∷◌, Option, None, Some, refl, sym, ap, ◌∙◌, arith, map, nat_eq, not, ◌&&◌, inl, inr, eqb-true, nat_le, or_left, or_right, or_cases, and_parts, and_from, cases_Bool, false_from_ne_true, not-true, not-false, or_parts, leb-true, le-leb, list_any, list_all, is_some, count_by, Placed, Key, Media, Audio, Video, MemberRow, Row, Member, Room, Source, Slot, Sub, Gain, Pin, Floor, Desk, rows_of, is_named_there, row_at, obeys, room_of_member, room_of, room_of_found, room_at, same_room, is_audio_in, all_suit, are_together, good, EditOf, outs, ins, exchanged, IsKeyed, is_of, room_audio_limit, is_in, with_rows, without_rows, take_at, has_key, names, same_media, suits, is_in_range, finds, is_elsewhere, come_rows, takes, puts, stay_rows, keeps_names, moves, is_shaken}
 use Rattle.desk_rows.specs.declared.row.Key.TheVariants as keys
 use Rattle.desk_rows.specs.declared.row.Kind.TheVariants as kinds
+use Rattle.desk_rows.specs.laws.ClaimLaws.{witness}
 use Rattle.desk_rows.specs.laws.Equal.{row_itself}
-use Rattle.desk_rows.specs.laws.OrderLaws.{not_true, at_each, count_by-with_rows, count_by-without_rows}
-use Rattle.desk_rows.specs.laws.PlaceLaws.{count_next}
 use Rattle.desk_rows.specs.laws.Laws.{Apt, outs_order, good_parts, good_order, any_counts, is_in-append}
-use Rattle.desk_rows.proofs.Counts.{true_false, witness, count_some, no_count, list_any-map}
-use Rattle.desk_rows.proofs.Finding.{is_found, found_there, was_there, untaken, found_coming, found_kept}
+use Rattle.desk_rows.specs.laws.ListLaws.{true_false, count_next, count_some, no_count, is_found}
+use Rattle.desk_rows.specs.laws.OrderLaws.{at_each, count_by-with_rows, count_by-without_rows}
+use Rattle.desk_rows.proofs.Counts.{list_any-map}
+use Rattle.desk_rows.proofs.Finding.{found_there, was_there, untaken, found_coming, found_kept}
 
 no_more : (p q : Row → Bool) (rs : List Row) → ((r : Row) → is_in rs r ≡ true → p r ≡ true → q r ≡ true) → count_by p rs ≤ count_by q rs
 no_more p q [] each = omega arith
 no_more p q (r ∷ rs) each =
     let rest = no_more p q rs (λ x one. each x (or_right _ _ one)) in
-    let here = one (p r) (q r) (each r (or_left _ _ (row_itself r))) in
-    omega (arith, rest, here, count_next p r rs, count_next q r rs) where
-      one : (a b : Bool) → (a ≡ true → b ≡ true) → cond a 1 0 ≤ cond b 1 0
-      one true true f = omega arith
-      one true false f = absurd (true_false (sym (f refl)))
-      one false true f = omega arith
-      one false false f = omega arith
+    let here = each r (or_left _ _ (row_itself r)) in
+    grind (arith, rest, here, count_next p r rs, count_next q r rs)
 
 -- the row of a member's key is a member's
 member_of : (n : ℕ) (r : Row) → has_key (keys.Member n) r ≡ true → (m : MemberRow) × (r ≡ Member m)
@@ -36,22 +32,17 @@ was_elsewhere d (Member p) = finds (is_elsewhere p.room) (row_at d (keys.Member 
 was_elsewhere d _ = false
 
 pub neither : (b c : Bool) → (b || c) ≡ false → (b ≡ false) × (c ≡ false)
-neither true c e = absurd (true_false e)
-neither false c e = (refl, e)
+neither b c e = or_parts b c e
 
 -- ---- given a good desk and an apt edit by which no row comes under the key of another and no member moves
 
 module _ (d : Desk) (e : EditOf) (g : good d ≡ true) (a : Apt d e) (keyed : IsKeyed (exchanged d e)) (plain : list_all (λ r. not (is_of kinds.Member r)) (ins e) ≡ true) (still : moves d e ≡ false) where
   not_elsewhere : (r : Row) → is_in (map (λ (p : Placed). Member p.row) e.put.members) r ≡ true → was_elsewhere d r ≡ false
   unfolding was_elsewhere
-  not_elsewhere r one =
-      elim (cases_Bool (was_elsewhere d r)) [
-        | inl moved ↦
-            let joining = map (λ (p : Placed). Member p.row) e.put.members in
-            let some = any_counts (was_elsewhere d) joining r one moved in
-            absurd (true_false (sym (count_some (was_elsewhere d) joining some) ∙ list_any-map (λ (p : Placed). Member p.row) (was_elsewhere d) e.put.members ∙ still))
-        | inr stays ↦ stays
-      ]
+  not_elsewhere r one = false_from_ne_true _ (λ moved.
+      let joining = map (λ (p : Placed). Member p.row) e.put.members in
+      let some = any_counts (was_elsewhere d) joining r one moved in
+      true_false (sym (count_some (was_elsewhere d) joining some) ∙ list_any-map (λ (p : Placed). Member p.row) (was_elsewhere d) e.put.members ∙ still))
 
   -- a member that does not go for good stays in its room
   stays_in : (n : ℕ) → list_any (has_key (keys.Member n)) (rows_of d) ≡ true → not (takes e (keys.Member n) && not (puts e (keys.Member n))) ≡ true →
@@ -73,22 +64,16 @@ module _ (d : Desk) (e : EditOf) (g : good d ≡ true) (a : Apt d e) (keyed : Is
             sym (ap (λ k. finds (is_elsewhere p.0.room) (row_at d (keys.Member k))) (eqb-true p.0.member n own) ∙ ap (finds (is_elsewhere p.0.room)) was)
             ∙ not_elsewhere (Member p.0) joins in
             let is : row_at (exchanged d e) key ≡ Some (Member p.0) = found_coming d e g a keyed key (Member p.0) (ap (is_in (come_rows e)) (sym p.1) ∙ w.1) own in
-            ap room_of_member is ∙ ap Some (sym (eqb-true m.0.room p.0.room (not_false _ none))) ∙ sym (ap room_of_member was)
+            ap room_of_member is ∙ ap Some (sym (eqb-true m.0.room p.0.room (not-false _ none))) ∙ sym (ap room_of_member was)
       ] where
         must : (s t : Bool) → not (s && not t) ≡ true → s ≡ true → t ≡ true
-        must true true h k = refl
-        must true false h k = h
-        must false t h k = absurd (true_false (sym k))
-
-        not_false : (b : Bool) → not b ≡ false → b ≡ true
-        not_false true h = refl
-        not_false false h = sym h
+        must s t h k = grind (arith, h, k)
 
         joined : (r : Row) → is_of kinds.Member r ≡ true → is_in (come_rows e) r ≡ true → is_in (map (λ (p : Placed). Member p.row) e.put.members) r ≡ true
         joined r kind one =
             elim (or_cases (is_in (map (λ (p : Placed). Member p.row) e.put.members) r) (is_in (ins e) r) (sym (is_in-append (map (λ (p : Placed). Member p.row) e.put.members) (ins e) r) ∙ one)) [
               | inl here ↦ here
-              | inr beside ↦ absurd (true_false (sym kind ∙ not_true _ (at_each (λ x. not (is_of kinds.Member x)) (ins e) r plain beside)))
+              | inr beside ↦ absurd (true_false (sym kind ∙ not-true _ (at_each (λ x. not (is_of kinds.Member x)) (ins e) r plain beside)))
             ]
 
   module _ (keep : list_all (keeps_names e) (stay_rows d e) ≡ true) where
@@ -115,10 +100,7 @@ module _ (d : Desk) (e : EditOf) (g : good d ≡ true) (a : Apt d e) (keyed : Is
         let zero = no_count now (ins e) none in
         let stay = no_more now (is_audio_in d room) left was_audio in
         let less = count_by-without_rows (is_audio_in d room) (outs e) d.others (good_order d g) (outs_order a) a.outs_there in
-        at_most (count_by (is_audio_in d room) d.others) (count_by now (with_rows (ins e) left)) room_audio_limit few (omega (arith, parts, zero, stay, less)) where
-          at_most : (m n l : ℕ) → nat_le m l ≡ true → n ≤ m → nat_le n l ≡ true
-          at_most m n l h k = grind (arith, h, k)
-
+        le-leb (count_by now (with_rows (ins e) left)) room_audio_limit (omega (arith, leb-true _ _ few, parts, zero, stay, less)) where
           was_audio : (r : Row) → is_in (without_rows (outs e) d.others) r ≡ true → is_audio_in (exchanged d e) room r ≡ true → is_audio_in d room r ≡ true
           was_audio (Source s) one h = ap (λ o. same_media s.media Audio && same_room o (Some room)) (sym (room_kept (Source s) (beside_members (Source s) one))) ∙ h
           was_audio _ one h = h

@@ -7,3 +7,5 @@ pub mod NamingLaws
 pub mod PlacesOnce
 pub mod AddressesOnce
 pub mod Words
+pub mod ListLaws
+pub mod ClaimLaws

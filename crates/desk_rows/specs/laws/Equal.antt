@@ -1,10 +1,11 @@
 -- The tests of equality say what they mean.
-use Rattle.desk_rows.specs.laws.Words.{◌≡◌, ℕ, zero, suc, Bool, true, false, ◌||◌, List, [], ◌∷◌, ◌++◌, length, nat_eq, if◌then◌else◌, refl, sym, ap, ◌∙◌, eq-eqb, Codec, Media, Row, Room, Member, Source, Slot, Sub, Mute, Gain, Pin, Floor, Key, Claim, rank, kind_of, own_numbers, key_numbers, same_key, has_key, key_of, codec_number, media_number, row_numbers, same_row, claim_numbers, same_claim, key_precedes, precedes}
+use Rattle.desk_rows.specs.laws.Words.{◌≡◌, ℕ, zero, suc, true, false, ◌||◌, List, [], ◌∷◌, length, refl, sym, ap, ◌∙◌, ◌++◌, nat_eq, if◌then◌else◌, eq-eqb, Claim, Codec, Key, Media, Row, Member, Room, Source, Slot, Sub, Mute, Gain, Pin, Floor, precedes, key_precedes, same_row, has_key, rank, kind_of, own_numbers, key_numbers, key_of, same_key, same_claim, codec_number, media_number, row_numbers, claim_numbers}
 use Rattle.desk_rows.specs.declared.row.Codec.TheVariants as codecs
 use Rattle.desk_rows.specs.declared.row.Media.TheVariants as medias
 use Rattle.desk_rows.specs.declared.row.Kind.TheVariants as kinds
 use Rattle.desk_rows.specs.declared.row.Key.TheVariants as keys
 use Rattle.desk_rows.specs.declared.claim.Claim.TheVariants as claims
+use Rattle.desk_rows.specs.laws.ListLaws.{or_turned}
 use Rattle.desk_rows.specs.laws.NumberLaws.{same_numbers_is, numbers_themselves, numbers_not_before, numbers_precede_on, one_list_precedes}
 
 pub number_itself : (n : ℕ) → nat_eq n n ≡ true
@@ -56,11 +57,7 @@ three_numbers _ = refl
 
 -- of two keys that differ one stands before the other
 pub one_precedes : (a b : Row) → has_key (key_of a) b ≡ false → (precedes a b || precedes b a) ≡ true
-one_precedes a b e = or_turned (precedes b a) (precedes a b) (one_list_precedes (key_numbers (key_of b)) (key_numbers (key_of a)) (three_numbers (key_of b) ∙ sym (three_numbers (key_of a))) e) where
-  or_turned : (s t : Bool) → (s || t) ≡ true → (t || s) ≡ true
-  or_turned true true e = refl
-  or_turned true false e = refl
-  or_turned false t e = ap (λ b. b || false) e
+one_precedes a b e = or_turned (precedes a b) (precedes b a) ∙ one_list_precedes (key_numbers (key_of b)) (key_numbers (key_of a)) (three_numbers (key_of b) ∙ sym (three_numbers (key_of a))) e
 
 -- ---- rows
 

@@ -1,8 +1,10 @@
 -- An edit that fits can be taken back.
-use Rattle.desk_rows.specs.laws.Words.{◌≡◌, ℕ, ◌+◌, ◌≤◌, Bool, true, false, cond, not, ◌&&◌, ◌||◌, List, [], ◌∷◌, ◌++◌, map, count_by, nat_eq, refl, list_all, sym, ap, ◌∙◌, inl, inr, arith, and_parts, and_from, or_left, or_right, cases_Bool, cond-true, cond-false, eqb-true, Row, Member, has_key, key_of, same_row, in_order, are_apart, have_same_keys, is_in, with_rows, without_rows, take_at, put_at, can_take, can_put, places_rise, EditOf, inverse, outs, ins, Desk, good, rows_of, is_listed, is_within_limits, is_named_there, is_alone, obeys, is_apt, exchanged, fits, after}
-use Rattle.desk_rows.specs.laws.Equal.{same_row_is, key_itself}
-use Rattle.desk_rows.specs.laws.OrderLaws.{at_each, from_each, is_in-with_rows, count_by-with_rows, without_rows-with_rows, with_rows-without_rows, apart_in_order, same_keys_turned}
-use Rattle.desk_rows.specs.laws.PlaceLaws.{take_at-put_at, put_at-take_at, can_take-put_at, can_put-take_at, count_next}
+pub use Rattle.desk_rows.specs.laws.ListLaws.{count_by-append}
+use Rattle.desk_rows.specs.laws.Words.{◌≡◌, ◌≤◌, Bool, true, false, ◌||◌, List, sym, ap, ◌∙◌, arith, ◌++◌, map, nat_eq, not, ◌&&◌, inl, inr, eqb-true, or_left, or_right, and_parts, and_from, cases_Bool, cond-true, cond-false, true_from_ne_false, not-true, list_any-append, list_all, count_by, Row, Member, Desk, rows_of, is_named_there, is_alone, is_within_limits, obeys, is_listed, good, EditOf, outs, ins, inverse, exchanged, is_apt, fits, after, is_in, with_rows, in_order, without_rows, are_apart, have_same_keys, take_at, can_take, can_put, places_rise, put_at, same_row, has_key, key_of, takes, puts}
+use Rattle.desk_rows.specs.laws.Equal.{key_itself}
+use Rattle.desk_rows.specs.laws.ListLaws.{true_false, some_count, none_pass}
+use Rattle.desk_rows.specs.laws.OrderLaws.{at_each, from_each, apart_in_order, same_keys_turned, count_by-with_rows, is_in-with_rows, without_rows-with_rows, with_rows-without_rows}
+use Rattle.desk_rows.specs.laws.PlaceLaws.{put_at-take_at, take_at-put_at, can_take-put_at, can_put-take_at}
 
 -- ---- the parts of the tests
 
@@ -85,26 +87,11 @@ fits_from d e f = and_from _ _ f.before (and_from _ _ (apt_from d e f.apt) f.lat
 
 -- ---- no row comes twice
 
-true_false : true ≡ false → ⊥
-true_false e = cc
-
 pub any_counts : (p : Row → Bool) (rs : List Row) (q : Row) → is_in rs q ≡ true → p q ≡ true → 1 ≤ count_by p rs
-any_counts p [] q one h = absurd (true_false (sym one))
-any_counts p (r ∷ rs) q one h =
-    elim (cases_Bool (same_row q r)) [
-      | inl e ↦ let here : ◌≡◌ {A = ℕ} (cond (p r) 1 0) 1 = ap (λ b. cond b 1 0) (ap p (sym (same_row_is q r e)) ∙ h) in omega (arith, count_next p r rs, here)
-      | inr e ↦ let rest = any_counts p rs q (other (same_row q r) (is_in rs q) one e) h in omega (arith, count_next p r rs, rest)
-    ] where
-      other : (a b : Bool) → (a || b) ≡ true → a ≡ false → b ≡ true
-      other true b e f = absurd (true_false f)
-      other false b e f = e
+any_counts p rs q one h = some_count p rs (true_from_ne_false _ (λ e. true_false (sym h ∙ not-true (p q) (at_each (λ r. not (p r)) rs q (none_pass p rs e) one))))
 
 pub is_in-append : (rs ts : List Row) (q : Row) → is_in (rs ++ ts) q ≡ (is_in rs q || is_in ts q)
-is_in-append [] ts q = refl
-is_in-append (r ∷ rs) ts q = ap (λ b. same_row q r || b) (is_in-append rs ts q) ∙ along (same_row q r) _ _ where
-  along : (a b c : Bool) → (a || (b || c)) ≡ ((a || b) || c)
-  along true b c = refl
-  along false b c = refl
+is_in-append rs ts q = list_any-append (same_row q) rs ts
 
 -- each row claims its key
 pub claims_key : (d : Desk) (r : Row) → is_alone d r ≡ true → nat_eq (count_by (has_key (key_of r)) (rows_of d)) 1 ≡ true
@@ -112,10 +99,6 @@ claims_key d r h = (and_parts _ _ (and_parts _ _ h).0).0
 
 pub one_key : (d : Desk) (r : Row) → good d ≡ true → is_in (rows_of d) r ≡ true → count_by (has_key (key_of r)) (rows_of d) ≡ 1
 one_key d r h one = eqb-true _ _ (claims_key d r (at_each (is_alone d) (rows_of d) r (good_parts d h).alone one))
-
-pub count_by-append : {X : Type 0} (p : X → Bool) (xs ys : List X) → count_by p (xs ++ ys) ≡ count_by p xs + count_by p ys
-count_by-append p [] ys = omega arith
-count_by-append p (x ∷ xs) ys = let rest = count_by-append p xs ys in omega (arith, rest, count_next p x xs, count_next p x (xs ++ ys))
 
 -- in a good desk no row that came was there before
 pub none_was_there : (d : Desk) (e : EditOf) → good (exchanged d e) ≡ true → list_all (λ x. not (is_in (ins e) x)) (without_rows (outs e) d.others) ≡ true

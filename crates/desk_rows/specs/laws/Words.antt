@@ -1,22 +1,26 @@
 -- The words that laws and proofs speak in, passed on from one place. Declares nothing.
-pub use Rattle.std.proofs.Common.{◌≡◌, ℕ, zero, suc, ◌<◌, ◌≤◌, Bool, true, false, cond, ◌||◌, List, [], ◌∷◌, length, get_or, nat_lt, Option, None, Some, refl, sym, ap, ◌∙◌, arith, ◌++◌, map, ◌+◌, ◌-◌, nat_eq, not, ◌&&◌, inl, inr, if◌then◌else◌, filter, eqb-true, ◌⊎◌, take, drop, insert, remove, nat_le, subst, append_assoc, append-nil, set, rules, vec_len, vec_capacity, ◌^◌, zero-add}
+pub use Rattle.std.proofs.Common.{◌≡◌, ℕ, zero, suc, ◌<◌, ◌≤◌, Bool, true, false, cond, ◌||◌, List, [], ◌∷◌, length, get_or, nat_lt, Option, None, Some, refl, sym, ap, ◌∙◌, arith, ◌++◌, map, ◌+◌, ◌-◌, nat_eq, not, ◌&&◌, inl, inr, if◌then◌else◌, filter, eqb-true, ◌⊎◌, take, drop, insert, remove, nat_le, subst, append_assoc, append-nil, set, rules, vec_len, vec_capacity, ◌^◌, zero-add, length-append, le_of_eq}
 pub use Rattle.rtp_codec.specs.declared.address.Address.{Address}
 pub use Rattle.std.specs.declared.cmp.Ordering.TheVariants.{Less, Equal, Greater}
 pub use Rattle.rtp_codec.specs.Address.{same_address}
-pub use Rattle.std.proofs.lemmas.Bool.{or_left, or_right, or_cases, and_parts, and_from, cases_Bool, cond-true, cond-false}
+pub use Rattle.std.proofs.lemmas.Bool.{or_left, or_right, or_cases, and_parts, and_from, cases_Bool, cond-true, cond-false, true_from_ne_false, false_from_ne_true, not-true, not-false, or_parts, and_left, and_right, leb-true, leb-false, le-leb, cases_lt}
+pub use Rattle.std.proofs.lemmas.List.Edits.{length-insert, length-remove}
+pub use Rattle.std.proofs.lemmas.List.Filters.{length-filter_both}
+pub use Rattle.std.proofs.lemmas.Option.{slice_get-get_or}
 pub use Rattle.std.proofs.lemmas.Bool.Decides.{nat_tests}
 pub use Rattle.std.proofs.lemmas.Fn.{always_returns_same, filter_same}
 pub use Rattle.std.proofs.lemmas.Grind.{common_steps}
-pub use Rattle.std.proofs.lemmas.List.Elements.{All-nil, All-cons, All-head, All-tail, All-weaker}
-pub use Rattle.std.proofs.lemmas.List.Folds.{list_any-append}
-pub use Rattle.std.proofs.lemmas.List.Sorted.{sum_by-IsPermutation, All-permutation, list_any-IsPermutation, answers_always, searchable_from_sorted, IsPartitionPoint-from_clause, IsPartitionedBy-ltb, IsPartitionedBy-leb, IsNonDecreasingBy-drop, IsNonDecreasingBy-from_sort_by_key}
-pub use Rattle.std.proofs.lemmas.List.Sums.{count_by-le-length, sum_by-append}
+pub use Rattle.std.proofs.lemmas.List.Elements.{All-nil, All-cons, All-head, All-tail, All-weaker, filter-append}
+pub use Rattle.std.proofs.lemmas.List.Folds.{list_any-append, fold-map, find_at, find-append, list_all-append, list_all-map}
+pub use Rattle.std.proofs.lemmas.List.Sorted.{sum_by-IsPermutation, All-permutation, list_any-IsPermutation, answers_always, searchable_from_sorted, IsPartitionPoint-from_clause, IsPartitionedBy-ltb, IsPartitionedBy-leb, IsNonDecreasingBy-drop, IsNonDecreasingBy-from_sort_by_key, IsPermutation-insert, IsPermutation-remove}
+pub use Rattle.std.proofs.lemmas.List.{length-map}
+pub use Rattle.std.proofs.lemmas.List.Sums.{count_by-le-length, sum_by-append, sum_by-cons, prefix_len_is, length-filter}
 pub use Rattle.std.proofs.lemmas.Slice.Eq.{bytes_eq-Decides}
 pub use Rattle.std.specs.Cmp.{IsTotalOrder, on_total, then_total, nat_cmp_total, both_tied, unsigned_ties}
 pub use Rattle.std.specs.Cmp.Lexicographic.{slice_cmp, nat_list_cmp_total, lists_ties}
 pub use Rattle.std.specs.List.{HoldsAt, find, list_any, list_all, filter_map, cons_option, All, slice_get}
 pub use Rattle.std.specs.List.Sorted.{IsPartitionPoint, IsNonDecreasingBy, IsPermutation, IsSortedByKey, IsPartitionedBy}
-pub use Rattle.std.specs.Option.{is_some, option_map, option_and_then}
+pub use Rattle.std.specs.Option.{is_some, option_map, option_and_then, option_or}
 pub use Rattle.std.specs.Ordering.{nat_cmp, is_eq, is_lt, ordering_then}
 pub use Rattle.std.specs.Prelude.{count_by, Contains, IfSome, IfNone}
 pub use Rattle.std.specs.Str.{bytes_eq}

@@ -1,7 +1,7 @@
 use Rattle.desk_rows.specs.laws.Words.{length, ap, sym, ◌∙◌, arith, other_limit, in_order, with_rows, without_rows, outs, ins}
-use Rattle.desk_rows.proofs.ExchangeLemmas.{length-with_rows}
 use Rattle.desk_rows.proofs.Merging.{put_in_turn}
 use Rattle.desk_rows.proofs.SlidingLemmas.{rest_in_order}
+use Rattle.desk_rows.specs.laws.OrderLaws.{length-with_rows}
 use Rattle.desk_rows.proofs.exchange.move_rows.Goals as goal
 
 pub put_rows-requires-clause-rows : goal.put_rows-requires-clause-rows

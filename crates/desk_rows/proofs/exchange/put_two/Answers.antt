@@ -1,5 +1,5 @@
 use Rattle.desk_rows.specs.laws.Words.{◌+◌, length, ap, arith}
-use Rattle.desk_rows.proofs.ExchangeLemmas.{length-with_rows}
+use Rattle.desk_rows.specs.laws.OrderLaws.{length-with_rows}
 use Rattle.desk_rows.proofs.exchange.put_two.Goals as goal
 
 pub sweep_in-requires-else-is_empty-clause-room : goal.sweep_in-requires-else-is_empty-clause-room

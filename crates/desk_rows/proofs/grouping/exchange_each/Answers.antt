@@ -1,5 +1,5 @@
 use Rattle.desk_rows.specs.laws.Words.{true, arith}
-use Rattle.desk_rows.proofs.GroupLemmas.{count_all}
+use Rattle.desk_rows.specs.laws.ListLaws.{count_all}
 use Rattle.desk_rows.proofs.grouping.exchange_each.Goals as goal
 
 pub put_each-requires-clause-room : goal.put_each-requires-clause-room
