@@ -1,7 +1,7 @@
 //! What a desk has under a number.
 
 ghost use Rattle.std.specs.Prelude.{◌≡◌};
-ghost use Rattle.topology.specs.Looking.{member_at, slot_at, source_at, subscribed, pinned, holder, is_muted, is_this, sender_of, room_of_member, comes_from, source_from, member_from};
+ghost use Rattle.topology.specs.Looking.{member_at, slot_at, source_at, subscribed, pinned, holder, is_muted, is_this, sender_of, room_of_member, has_address, source_from, member_from};
 ghost use Rattle.topology.specs.Receivers.{slots_to};
 
 use desk_rows::{Key, Member, Row, Rows, Slot, Source};
@@ -113,14 +113,11 @@ pub(crate) fn room_of_member<A: Allocator + Copy>(rows: &Rows<A>, member: u32) -
     }
 }
 
-/// Whether the source's member has this address.
-fn comes_from<A: Allocator + Copy>(rows: &Rows<A>, source: u32, address: &Address) -> bool
-    ensures { result ≡ comes_from rows.now source address.now }
+/// Whether there is a member, and this is its address.
+fn has_address(address: &Address, found: Option<Member>) -> bool
+    ensures { result ≡ has_address address.now found }
 {
-    let Some(sender) = sender_of(rows, source) else {
-        return false;
-    };
-    match member_at(rows, sender) {
+    match found {
         None => false,
         Some(member) => member.address == *address,
     }
@@ -134,8 +131,9 @@ pub fn source_from<A: Allocator + Copy>(
 ) -> Option<Source>
     ensures { result ≡ source_from rows.now source address.now }
 {
-    if comes_from(rows, source, address) {
-        source_at(rows, source)
+    let source = source_at(rows, source)?;
+    if has_address(address, member_at(rows, source.member)) {
+        Some(source)
     } else {
         None
     }
