@@ -1,5 +1,6 @@
 -- What is known of a row against which nothing stands.
-use Rattle.desk_edit.proofs.Words.{◌≡◌, ℕ, ◌<◌, nat_le, true, false, not, ◌&&◌, List, [], ◌∷◌, ◌++◌, count_by, Option, Some, None, refl, sym, ap, ◌∙◌, eqb-true, leb-false, list_any, list_all, and_parts, and_from, or_parts, not-false, Row, Audio, Key, Claim, room_audio_limit, key_of, same_media, names, is_in_range, other_claims, Desk, room_of, same_room, are_together, all_suit, is_audio_in, is_bridges, true_false, has, is_claimed, first_case, lacking, is_replaced, is_other_claimed, is_ssrc_taken, rule_cases, full_cases, room_is_full, audio_cases, put_cases}
+use Rattle.std.specs.Prelude.{◌≡◌, ◌<◌, ◌&&◌, ◌∷◌, ◌++◌}
+use Rattle.desk_edit.proofs.Words.{ℕ, nat_le, true, false, not, List, [], count_by, Option, Some, None, refl, sym, ap, ◌∙◌, eqb-true, leb-false, list_any, list_all, and_parts, and_from, or_parts, not-false, Row, Audio, Key, Claim, room_audio_limit, key_of, same_media, names, is_in_range, other_claims, Desk, room_of, same_room, are_together, all_suit, is_audio_in, is_bridges, true_false, has, is_claimed, first_case, lacking, is_replaced, is_other_claimed, is_ssrc_taken, rule_cases, full_cases, room_is_full, audio_cases, put_cases}
 use Rattle.desk_rows.specs.declared.row.Row.TheVariants as rows
 use Rattle.desk_rows.specs.declared.claim.Claim.TheVariants as claims
 use Rattle.desk_edit.proofs.Cases.{NoneHolds, none_holds, none_of_both}

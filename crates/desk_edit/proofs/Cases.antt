@@ -1,5 +1,6 @@
 -- Lists of cases, and the first refusal of one.
-use Rattle.desk_edit.proofs.Words.{◌≡◌, Bool, true, false, cond, List, [], ◌∷◌, ◌++◌, Some, None, refl, first_case, or_next, Refusal}
+use Rattle.std.specs.Prelude.{◌≡◌, ◌∷◌, ◌++◌}
+use Rattle.desk_edit.proofs.Words.{Bool, true, false, cond, List, [], Some, None, refl, first_case, or_next, Refusal}
 
 pub first_case-append : (xs ys : List (Bool × Refusal)) → first_case (xs ++ ys) ≡ or_next (first_case xs) (first_case ys)
 first_case-append [] ys = refl

@@ -1,5 +1,6 @@
 -- Which kinds of row make a claim, and have audio.
-use Rattle.desk_edit.proofs.Words.{◌≡◌, ℕ, nat_eq, Bool, true, false, not, ◌&&◌, ◌||◌, List, [], ◌∷◌, map, filter, count_by, refl, sym, ap, ◌∙◌, list_any, and-true, or-false, or_comm, list_any-append, Address, Row, has_key, makes, is_of, Desk, good, is_audio_in, at_each, true_false, list_any-map, plain_others, has, is_claimed, is_audio_of}
+use Rattle.std.specs.Prelude.{◌≡◌, ◌&&◌, ◌||◌, ◌∷◌}
+use Rattle.desk_edit.proofs.Words.{ℕ, nat_eq, Bool, true, false, not, List, [], map, filter, count_by, refl, sym, ap, ◌∙◌, list_any, and-true, or-false, or_comm, list_any-append, Address, Row, has_key, makes, is_of, Desk, good, is_audio_in, at_each, true_false, list_any-map, plain_others, has, is_claimed, is_audio_of}
 use Rattle.desk_rows.specs.declared.row.Row.TheVariants as rows
 use Rattle.desk_rows.specs.declared.row.Key.TheVariants as keys
 use Rattle.desk_rows.specs.declared.row.Kind.TheVariants as kinds

@@ -1,5 +1,6 @@
 -- An edit fits where the rows that come are sound and those that stay remain so.
-use Rattle.desk_edit.proofs.Words.{◌≡◌, ℕ, ◌≤◌, nat_le, nat_lt, Bool, true, false, not, ◌&&◌, ◌||◌, List, [], ◌∷◌, count_by, Option, Some, None, refl, sym, ap, ◌∙◌, is_some, list_all, and_parts, and_from, or_left, or_right, not-true, Row, RoomRow, Audio, Key, room_audio_limit, kind_of, has_key, same_media, names, is_of, is_in, EditOf, ins, Desk, good, rows_of, row_at, room_of_member, room_of, room_of_found, room_at, same_room, are_together, is_audio_in, is_within_limits, obeys, takes, puts, keeps_names, moves, gains_audio, takes_either, all_come, all_stay, at_each, Apt, good_parts, fits_from, after_fits, is_found, sound_good, has, level}
+use Rattle.std.specs.Prelude.{◌≡◌, ◌≤◌, ◌&&◌, ◌||◌, ◌∷◌}
+use Rattle.desk_edit.proofs.Words.{ℕ, nat_le, nat_lt, Bool, true, false, not, List, [], count_by, Option, Some, None, refl, sym, ap, ◌∙◌, is_some, list_all, and_parts, and_from, or_left, or_right, not-true, Row, RoomRow, Audio, Key, room_audio_limit, kind_of, has_key, same_media, names, is_of, is_in, EditOf, ins, Desk, good, rows_of, row_at, room_of_member, room_of, room_of_found, room_at, same_room, are_together, is_audio_in, is_within_limits, obeys, takes, puts, keeps_names, moves, gains_audio, takes_either, all_come, all_stay, at_each, Apt, good_parts, fits_from, after_fits, is_found, sound_good, has, level}
 use Rattle.desk_rows.specs.declared.row.Row.TheVariants as rows
 use Rattle.desk_rows.specs.declared.row.Key.TheVariants as keys
 use Rattle.desk_rows.specs.declared.row.Kind.TheVariants as kinds

@@ -1,5 +1,6 @@
 -- What goes beside members is told by the sources and the slots that go, by the members and by the key.
-use Rattle.desk_edit.proofs.Words.{◌≡◌, ℕ, ◌<◌, ◌≤◌, nat_eq, Bool, true, false, not, ◌&&◌, ◌||◌, List, [], map, filter, Some, inl, inr, refl, sym, ap, ◌∙◌, arith, eqb-true, list_any, and-true, and-false, or-false, and_parts, or_right, or_cases, cases_Bool, false_from_ne_true, Row, GainRow, Audio, Key, Kind, rank, kind_of, key_of, has_key, names, suits, is_in_range, is_of, in_order, is_in, is_gain_of, gains_naming, Desk, good, rows_of, row_at, are_together, all_suit, is_named_there, obeys, number_itself, its_key, at_each, in_order-filter, good_parts, good_order, is_in-append, true_false, witness, list_any-map, found_one, order_once, keyed_good, plain_others, not_its, skipped, goes_within, goes_with, has, level, can_go, found_list, is_sound}
+use Rattle.std.specs.Prelude.{◌≡◌, ◌<◌, ◌≤◌, ◌&&◌, ◌||◌}
+use Rattle.desk_edit.proofs.Words.{ℕ, nat_eq, Bool, true, false, not, List, [], map, filter, Some, inl, inr, refl, sym, ap, ◌∙◌, arith, eqb-true, list_any, and-true, and-false, or-false, and_parts, or_right, or_cases, cases_Bool, false_from_ne_true, Row, GainRow, Audio, Key, Kind, rank, kind_of, key_of, has_key, names, suits, is_in_range, is_of, in_order, is_in, is_gain_of, gains_naming, Desk, good, rows_of, row_at, are_together, all_suit, is_named_there, obeys, number_itself, its_key, at_each, in_order-filter, good_parts, good_order, is_in-append, true_false, witness, list_any-map, found_one, order_once, keyed_good, plain_others, not_its, skipped, goes_within, goes_with, has, level, can_go, found_list, is_sound}
 use Rattle.desk_rows.specs.declared.row.Row.TheVariants as rows
 use Rattle.desk_rows.specs.declared.row.Key.TheVariants as keys
 use Rattle.desk_rows.specs.declared.row.Kind.TheVariants as kinds

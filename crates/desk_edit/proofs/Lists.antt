@@ -1,5 +1,6 @@
 -- Lists of rows under tests, and tests joined.
-use Rattle.desk_edit.proofs.Words.{◌≡◌, ℕ, ◌+◌, ◌≤◌, nat_le, nat_lt, nat_eq, Bool, true, false, not, cond, ◌&&◌, ◌||◌, List, [], ◌∷◌, map, filter, length, count_by, find, Some, ◌⊎◌, inl, inr, refl, sym, ap, ◌∙◌, arith, eqb-true, list_any, list_all, and-true, and-false, and_parts, and_from, or_parts, or_left, or_right, not-true, false_from_ne_true, nil_from_length, length-filter_both, list_any-append, count_by-le-length, length-filter, Row, MemberRow, is_in, Desk, rows_of, row_itself, is_in-filter, count_next, any_counts, true_false, witness, any_count, no_count, count_some, list_any-map, rows_count, all_pass, count_by-filter, found_list}
+use Rattle.std.specs.Prelude.{◌≡◌, ◌+◌, ◌≤◌, ◌&&◌, ◌||◌, ◌∷◌, ◌⊎◌}
+use Rattle.desk_edit.proofs.Words.{ℕ, nat_le, nat_lt, nat_eq, Bool, true, false, not, cond, List, [], map, filter, length, count_by, find, Some, inl, inr, refl, sym, ap, ◌∙◌, arith, eqb-true, list_any, list_all, and-true, and-false, and_parts, and_from, or_parts, or_left, or_right, not-true, false_from_ne_true, nil_from_length, length-filter_both, list_any-append, count_by-le-length, length-filter, Row, MemberRow, is_in, Desk, rows_of, row_itself, is_in-filter, count_next, any_counts, true_false, witness, any_count, no_count, count_some, list_any-map, rows_count, all_pass, count_by-filter, found_list}
 use Rattle.desk_rows.specs.declared.row.Row.TheVariants as rows
 
 -- ---- tests

@@ -1,5 +1,6 @@
 -- What commands that are not refused lead to.
-use Rattle.desk_edit.proofs.Words.{◌≡◌, Bool, true, false, cond, List, [], ◌∷◌, ◌++◌, Some, None, refl, sym, ap, ◌∙◌, list_all, and_parts, and_from, list_all-append, Row, Key, Kind, kind_of, names, Desk, good, true_false, form_of, desk_led, first_case, missing, lacking, rule_cases, full_cases, audio_cases, cases_of, Refusal}
+use Rattle.std.specs.Prelude.{◌≡◌, ◌∷◌, ◌++◌}
+use Rattle.desk_edit.proofs.Words.{Bool, true, false, cond, List, [], Some, None, refl, sym, ap, ◌∙◌, list_all, and_parts, and_from, list_all-append, Row, Key, Kind, kind_of, names, Desk, good, true_false, form_of, desk_led, first_case, missing, lacking, rule_cases, full_cases, audio_cases, cases_of, Refusal}
 use Rattle.desk_rows.specs.declared.row.Row.TheVariants as rows
 use Rattle.desk_rows.specs.declared.row.Kind.TheVariants as kinds
 use Rattle.desk_edit.specs.declared.refusal.Refusal.TheVariants as refusals

@@ -1,5 +1,6 @@
 -- Where a member moves, only rows that depend on it can have their two sides in different rooms.
-use Rattle.desk_edit.proofs.Words.{◌≡◌, ℕ, nat_eq, true, false, not, cond, ◌&&◌, List, [], ◌∷◌, filter, Option, Some, inl, inr, refl, sym, ap, ◌∙◌, list_any, and_parts, or_parts, or_right, cases_Bool, Row, MemberRow, Key, has_key, names, is_in_range, is_in, Desk, good, rows_of, row_at, room_of_member, room_of_found, room_at, same_room, are_together, all_suit, has_few_audio, obeys, finds, at_each, good_parts, is_in-append, true_false, keyed_good, goes_within, goes_with, into_room, with_member_in, row_into_room}
+use Rattle.std.specs.Prelude.{◌≡◌, ◌&&◌, ◌∷◌}
+use Rattle.desk_edit.proofs.Words.{ℕ, nat_eq, true, false, not, cond, List, [], filter, Option, Some, inl, inr, refl, sym, ap, ◌∙◌, list_any, and_parts, or_parts, or_right, cases_Bool, Row, MemberRow, Key, has_key, names, is_in_range, is_in, Desk, good, rows_of, row_at, room_of_member, room_of_found, room_at, same_room, are_together, all_suit, has_few_audio, obeys, finds, at_each, good_parts, is_in-append, true_false, keyed_good, goes_within, goes_with, into_room, with_member_in, row_into_room}
 use Rattle.desk_rows.specs.declared.row.Row.TheVariants as rows
 use Rattle.desk_rows.specs.declared.row.Key.TheVariants as keys
 use Rattle.desk_edit.proofs.Lists.{filter_wider}

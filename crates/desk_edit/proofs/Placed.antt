@@ -1,5 +1,6 @@
 -- Members picked with their places are taken, and put back changed, by one sweep.
-use Rattle.desk_edit.proofs.Words.{◌≡◌, ℕ, suc, ◌+◌, ◌<◌, nat_le, nat_lt, Bool, true, false, not, cond, ◌&&◌, List, [], ◌∷◌, map, filter, length, insert, remove, refl, sym, ap, ◌∙◌, arith, lt-ltb, list_all, and_from, or_left, or_right, MemberRow, Placed, is_in, is_at, places_rise, take_at, put_at, can_take, can_put, row_itself, placed_from}
+use Rattle.std.specs.Prelude.{◌≡◌, ◌+◌, ◌<◌, ◌&&◌, ◌∷◌}
+use Rattle.desk_edit.proofs.Words.{ℕ, suc, nat_le, nat_lt, Bool, true, false, not, cond, List, [], map, filter, length, insert, remove, refl, sym, ap, ◌∙◌, arith, lt-ltb, list_all, and_from, or_left, or_right, MemberRow, Placed, is_in, is_at, places_rise, take_at, put_at, can_take, can_put, row_itself, placed_from}
 use Rattle.desk_rows.specs.declared.row.Row.TheVariants as rows
 use Rattle.desk_rows.specs.laws.PlaceLaws.{can_put_within, can_put-take_at, can_take_places}
 use Rattle.std.proofs.lemmas.List.Folds.{list_all-map}

@@ -1,5 +1,6 @@
 -- The edits that put a row lead to the desk with the row.
-use Rattle.desk_edit.proofs.Words.{◌≡◌, nat_eq, true, false, not, ◌||◌, [], ◌∷◌, map, filter, length, Option, Some, None, refl, sym, ap, ◌∙◌, arith, or-false, and_from, or_left, or_right, insert_end, Row, MemberRow, Key, rank, kind_of, key_of, has_key, same_row, is_of, is_in, with_row, without_rows, Desk, good, rows_of, row_at, finds, is_elsewhere, its_key, same_row_is, row_itself, both_ways, from_each, filter_all, is_in-append, true_false, found_nothing, found_one, found_there, keyed_good, among_others, with_put, first_case, put_cases, found_list, puts_other, puts_member, replaces, puts_in_place}
+use Rattle.std.specs.Prelude.{◌≡◌, ◌||◌, ◌∷◌}
+use Rattle.desk_edit.proofs.Words.{nat_eq, true, false, not, [], map, filter, length, Option, Some, None, refl, sym, ap, ◌∙◌, arith, or-false, and_from, or_left, or_right, insert_end, Row, MemberRow, Key, rank, kind_of, key_of, has_key, same_row, is_of, is_in, with_row, without_rows, Desk, good, rows_of, row_at, finds, is_elsewhere, its_key, same_row_is, row_itself, both_ways, from_each, filter_all, is_in-append, true_false, found_nothing, found_one, found_there, keyed_good, among_others, with_put, first_case, put_cases, found_list, puts_other, puts_member, replaces, puts_in_place}
 use Rattle.desk_rows.specs.declared.row.Row.TheVariants as rows
 use Rattle.desk_rows.specs.declared.row.Key.TheVariants as keys
 use Rattle.desk_rows.specs.declared.row.Kind.TheVariants as kinds

@@ -1,5 +1,6 @@
 -- A row is put, in place of the one of its key if there is one: the desk stays good, where nothing stands against the row.
-use Rattle.desk_edit.proofs.Words.{◌≡◌, ℕ, ◌+◌, ◌≤◌, nat_le, nat_eq, Bool, true, false, not, cond, ◌&&◌, ◌||◌, List, [], ◌∷◌, map, count_by, Option, Some, None, inl, inr, refl, sym, ap, ◌∙◌, arith, eqb-true, eq-eqb, leb-false, list_any, list_all, not-not, and_parts, and_from, cases_Bool, not-true, false_from_ne_true, Row, RoomRow, Audio, Key, Kind, Claim, room_audio_limit, rank, kind_of, key_of, has_key, same_key, same_media, names, wants, suits, makes, other_claims, is_of, limits, is_in, EditOf, ins, Desk, good, rows_of, row_at, count_of, room_of_member, room_of, same_room, is_audio_in, has_few_audio, is_named_there, is_bridges, is_made_once, is_alone, IsKeyed, stay_rows, go_rows, come_rows, go_count, come_count, takes, moves, key_itself, its_key, at_each, from_each, count_next, Apt, good_parts, good_order, true_false, no_count, some_count, before_count, after_count, found_there, keyed_good, was_there, found_still, bridge_same, own_claims, sound_from, plain_later, has, is_claimed, is_replaced, table_of, is_full, found_list}
+use Rattle.std.specs.Prelude.{◌≡◌, ◌+◌, ◌≤◌, ◌&&◌, ◌||◌, ◌∷◌}
+use Rattle.desk_edit.proofs.Words.{ℕ, nat_le, nat_eq, Bool, true, false, not, cond, List, [], map, count_by, Option, Some, None, inl, inr, refl, sym, ap, ◌∙◌, arith, eqb-true, eq-eqb, leb-false, list_any, list_all, not-not, and_parts, and_from, cases_Bool, not-true, false_from_ne_true, Row, RoomRow, Audio, Key, Kind, Claim, room_audio_limit, rank, kind_of, key_of, has_key, same_key, same_media, names, wants, suits, makes, other_claims, is_of, limits, is_in, EditOf, ins, Desk, good, rows_of, row_at, count_of, room_of_member, room_of, same_room, is_audio_in, has_few_audio, is_named_there, is_bridges, is_made_once, is_alone, IsKeyed, stay_rows, go_rows, come_rows, go_count, come_count, takes, moves, key_itself, its_key, at_each, from_each, count_next, Apt, good_parts, good_order, true_false, no_count, some_count, before_count, after_count, found_there, keyed_good, was_there, found_still, bridge_same, own_claims, sound_from, plain_later, has, is_claimed, is_replaced, table_of, is_full, found_list}
 use Rattle.desk_rows.specs.declared.row.Row.TheVariants as rows
 use Rattle.desk_rows.specs.declared.row.Key.TheVariants as keys
 use Rattle.desk_rows.specs.declared.row.Kind.TheVariants as kinds

@@ -1,5 +1,6 @@
 -- A member is put into another room, and what would cross rooms is taken: the desk stays good.
-use Rattle.desk_edit.proofs.Words.{◌≡◌, ℕ, ◌+◌, ◌≤◌, nat_eq, Bool, true, false, not, cond, ◌&&◌, ◌||◌, List, [], ◌∷◌, ◌++◌, map, filter, count_by, find, Option, Some, None, ◌⊎◌, inl, inr, refl, sym, ap, ◌∙◌, arith, eqb-true, eq-eqb, ltb-false, is_some, list_any, list_all, not-not, and_parts, and_from, or_left, cases_Bool, not-false, false_from_ne_true, filter-append, list_any-append, Row, RoomRow, MemberRow, Media, Audio, Key, Claim, Placed, room_audio_limit, key_of, has_key, same_media, names, wants, suits, is_in_range, makes, claims_of, is_of, is_in, EditOf, Desk, good, rows_of, row_at, room_of_member, room_of, same_room, are_together, all_suit, is_audio_in, has_few_audio, is_bridges, is_made_once, is_alone, is_within_limits, obeys, stay_rows, come_rows, takes, puts, keeps_names, moves, its_key, at_each, from_each, filter_all, is_in-filter, Apt, good_parts, any_counts, is_in-append, true_false, two_alls, is_found, found_there, keyed_good, was_there, plain_others, own_claims, sound_from, into_room, with_member_in, with_moved, has, first_case, is_audio_of, move_cases, placed_from, placed_in, moves_member, row_into_room}
+use Rattle.std.specs.Prelude.{◌≡◌, ◌+◌, ◌≤◌, ◌&&◌, ◌||◌, ◌∷◌, ◌++◌, ◌⊎◌}
+use Rattle.desk_edit.proofs.Words.{ℕ, nat_eq, Bool, true, false, not, cond, List, [], map, filter, count_by, find, Option, Some, None, inl, inr, refl, sym, ap, ◌∙◌, arith, eqb-true, eq-eqb, ltb-false, is_some, list_any, list_all, not-not, and_parts, and_from, or_left, cases_Bool, not-false, false_from_ne_true, filter-append, list_any-append, Row, RoomRow, MemberRow, Media, Audio, Key, Claim, Placed, room_audio_limit, key_of, has_key, same_media, names, wants, suits, is_in_range, makes, claims_of, is_of, is_in, EditOf, Desk, good, rows_of, row_at, room_of_member, room_of, same_room, are_together, all_suit, is_audio_in, has_few_audio, is_bridges, is_made_once, is_alone, is_within_limits, obeys, stay_rows, come_rows, takes, puts, keeps_names, moves, its_key, at_each, from_each, filter_all, is_in-filter, Apt, good_parts, any_counts, is_in-append, true_false, two_alls, is_found, found_there, keyed_good, was_there, plain_others, own_claims, sound_from, into_room, with_member_in, with_moved, has, first_case, is_audio_of, move_cases, placed_from, placed_in, moves_member, row_into_room}
 use Rattle.desk_rows.specs.declared.row.Row.TheVariants as rows
 use Rattle.desk_rows.specs.declared.row.Key.TheVariants as keys
 use Rattle.desk_rows.specs.declared.claim.Claim.TheVariants as claims

@@ -1,5 +1,6 @@
 -- A row is taken with all that depends on it: the desk stays good.
-use Rattle.desk_edit.proofs.Words.{◌≡◌, ◌≤◌, nat_le, Bool, true, false, not, ◌&&◌, List, [], filter, inl, inr, refl, sym, ap, ◌∙◌, arith, list_any, list_all, and_from, not-true, false_from_ne_true, Row, MemberRow, Key, Kind, Placed, has_key, same_row, names, is_of, limits, is_in, without_rows, places_rise, take_at, put_at, can_put, EditOf, Desk, good, rows_of, holds, count_of, is_within_limits, stay_rows, go_rows, takes, gains_audio, at_each, from_each, in_order-filter, is_in-filter, Apt, good_parts, good_order, true_false, witness, some_count, count_some, two_alls, before_count, after_count, all_pass, Names, Depends, goes_with, without, placed_from, takes_all}
+use Rattle.std.specs.Prelude.{◌≡◌, ◌≤◌, ◌&&◌}
+use Rattle.desk_edit.proofs.Words.{nat_le, Bool, true, false, not, List, [], filter, inl, inr, refl, sym, ap, ◌∙◌, arith, list_any, list_all, and_from, not-true, false_from_ne_true, Row, MemberRow, Key, Kind, Placed, has_key, same_row, names, is_of, limits, is_in, without_rows, places_rise, take_at, put_at, can_put, EditOf, Desk, good, rows_of, holds, count_of, is_within_limits, stay_rows, go_rows, takes, gains_audio, at_each, from_each, in_order-filter, is_in-filter, Apt, good_parts, good_order, true_false, witness, some_count, count_some, two_alls, before_count, after_count, all_pass, Names, Depends, goes_with, without, placed_from, takes_all}
 use Rattle.desk_rows.specs.declared.row.Row.TheVariants as rows
 use Rattle.desk_rows.specs.Exchange.{exchanged}
 use Rattle.desk_rows.specs.inner.Judged.{stays_sound}

@@ -1,5 +1,6 @@
 -- A table of members by address, made and asked.
-use Rattle.desk_rows.specs.laws.Words.{◌≡◌, ℕ, zero, suc, ◌<◌, ◌≤◌, Bool, true, false, List, [], ◌∷◌, length, get_or, Option, None, Some, refl, sym, ap, ◌∙◌, arith, inl, inr, Address, Less, Equal, Greater, same_address, cases_lt, IsTotalOrder, on_total, then_total, nat_cmp_total, both_tied, unsigned_ties, slice_cmp, nat_list_cmp_total, lists_ties, HoldsAt, list_any, IsPartitionPoint, nat_cmp, is_eq, count_by, Contains, IfSome, IfNone, MemberRow as Member, Desk, member_at_address, good, same_row, ip_and_port, address_cmp, IsByAddress}
+use Rattle.std.specs.Prelude.{◌≡◌, ◌<◌, ◌≤◌, ◌∷◌}
+use Rattle.desk_rows.specs.laws.Words.{ℕ, zero, suc, Bool, true, false, List, [], length, get_or, Option, None, Some, refl, sym, ap, ◌∙◌, arith, inl, inr, Address, Less, Equal, Greater, same_address, cases_lt, IsTotalOrder, on_total, then_total, nat_cmp_total, both_tied, unsigned_ties, slice_cmp, nat_list_cmp_total, lists_ties, HoldsAt, list_any, IsPartitionPoint, nat_cmp, is_eq, count_by, Contains, IfSome, IfNone, MemberRow as Member, Desk, member_at_address, good, same_row, ip_and_port, address_cmp, IsByAddress}
 use Rattle.desk_rows.specs.declared.row.Row.TheVariants as rows
 use Rattle.desk_rows.specs.laws.AddressesOnce.{one_at_address}
 use Rattle.desk_rows.specs.laws.Equal.{same_row_is, row_itself}

@@ -1,7 +1,8 @@
 -- Counts of rows, before and after an edit.
 pub use Rattle.desk_rows.specs.laws.ListLaws.{true_false, count_by-map, any_count, all_count, some_count, count_some, no_count}
 pub use Rattle.desk_rows.specs.laws.ClaimLaws.{witness}
-use Rattle.desk_rows.specs.laws.Words.{◌≡◌, ℕ, ◌≤◌, Bool, true, ◌||◌, List, [], ◌∷◌, refl, sym, ap, ◌∙◌, arith, ◌++◌, map, ◌+◌, ◌-◌, nat_eq, not, ◌&&◌, list_all-append, list_all-map, list_any, list_all, count_by, Placed, Row, Member, Desk, rows_of, EditOf, outs, ins, exchanged, with_rows, in_order, without_rows, take_at, come_rows, stay_rows, stay_count, go_count, come_count, all_come, all_stay}
+use Rattle.std.specs.Prelude.{◌≡◌, ◌≤◌, ◌||◌, ◌∷◌, ◌++◌, ◌+◌, ◌-◌, ◌&&◌}
+use Rattle.desk_rows.specs.laws.Words.{ℕ, Bool, true, List, [], refl, sym, ap, ◌∙◌, arith, map, nat_eq, not, list_all-append, list_all-map, list_any, list_all, count_by, Placed, Row, Member, Desk, rows_of, EditOf, outs, ins, exchanged, with_rows, in_order, without_rows, take_at, come_rows, stay_rows, stay_count, go_count, come_count, all_come, all_stay}
 use Rattle.desk_rows.specs.laws.Laws.{Apt, outs_order}
 use Rattle.desk_rows.specs.laws.ListLaws.{count_by-append}
 use Rattle.desk_rows.specs.laws.OrderLaws.{count_by-with_rows, list_all-with_rows, list_any-with_rows, count_by-without_rows}

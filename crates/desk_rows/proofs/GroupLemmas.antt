@@ -1,5 +1,6 @@
 -- Tables of what is in rows: made, counted, and parted by groups.
-use Rattle.desk_rows.specs.laws.Words.{◌≡◌, ℕ, zero, suc, ◌<◌, ◌≤◌, Bool, true, false, cond, ◌||◌, List, [], ◌∷◌, length, get_or, nat_lt, Option, None, Some, refl, sym, ap, ◌∙◌, arith, ◌+◌, nat_eq, ◌&&◌, inl, inr, filter, eqb-true, insert, remove, nat_le, le_of_eq, and_parts, and_from, cases_Bool, leb-true, leb-false, le-leb, nat_tests, sum_by-IsPermutation, count_by-le-length, list_all, filter_map, cons_option, IsNonDecreasingBy, IsPermutation, IsSortedByKey, nat_cmp, is_lt, ordering_then, count_by, Kind, Row, after, is_of, stand_by, in_turn, passes_if, passes_in, Parts}
+use Rattle.std.specs.Prelude.{◌≡◌, ◌<◌, ◌≤◌, ◌||◌, ◌∷◌, ◌+◌, ◌&&◌}
+use Rattle.desk_rows.specs.laws.Words.{ℕ, zero, suc, Bool, true, false, cond, List, [], length, get_or, nat_lt, Option, None, Some, refl, sym, ap, ◌∙◌, arith, nat_eq, inl, inr, filter, eqb-true, insert, remove, nat_le, le_of_eq, and_parts, and_from, cases_Bool, leb-true, leb-false, le-leb, nat_tests, sum_by-IsPermutation, count_by-le-length, list_all, filter_map, cons_option, IsNonDecreasingBy, IsPermutation, IsSortedByKey, nat_cmp, is_lt, ordering_then, count_by, Kind, Row, after, is_of, stand_by, in_turn, passes_if, passes_in, Parts}
 use Rattle.desk_rows.specs.laws.ListLaws.{SameCounts, count_next, count_yes, same_length, all_pass, stand_by-filter, ahead_may, falling}
 use Rattle.desk_rows.proofs.Halving.{later_parts}
 

@@ -1,5 +1,6 @@
 -- What halving finds among elements whose numbers do not fall.
-use Rattle.desk_rows.specs.laws.Words.{◌≡◌, ℕ, zero, suc, ◌<◌, ◌≤◌, Bool, true, false, cond, ◌||◌, List, [], ◌∷◌, length, get_or, nat_lt, None, Some, refl, sym, ap, ◌∙◌, arith, nat_eq, not, inl, inr, filter, take, drop, nat_le, and_parts, and_from, false_from_ne_true, cases_lt, nat_tests, find, list_all, is_some, Key, Kind, Row, is_of, numbers_precede, same_numbers, is_in, in_order, precedes, key_precedes, same_row, has_key, rank, kind_of, own_numbers, key_numbers, key_of, Parts}
+use Rattle.std.specs.Prelude.{◌≡◌, ◌<◌, ◌≤◌, ◌||◌, ◌∷◌}
+use Rattle.desk_rows.specs.laws.Words.{ℕ, zero, suc, Bool, true, false, cond, List, [], length, get_or, nat_lt, None, Some, refl, sym, ap, ◌∙◌, arith, nat_eq, not, inl, inr, filter, take, drop, nat_le, and_parts, and_from, false_from_ne_true, cases_lt, nat_tests, find, list_all, is_some, Key, Kind, Row, is_of, numbers_precede, same_numbers, is_in, in_order, precedes, key_precedes, same_row, has_key, rank, kind_of, own_numbers, key_numbers, key_of, Parts}
 use Rattle.desk_rows.specs.laws.Equal.{key_itself, keys_precede_on, not_before_itself, three_numbers, same_row_is, row_itself}
 use Rattle.desk_rows.specs.laws.Laws.{any_counts}
 use Rattle.desk_rows.specs.laws.ListLaws.{true_false, both_ways, count_some, is_found, found_nothing, found_at, none_there, each_at, ahead_may, falling}

@@ -1,5 +1,6 @@
 -- An index of members, made and asked.
-use Rattle.desk_rows.specs.laws.Words.{◌≡◌, ℕ, suc, ◌≤◌, Bool, true, false, cond, List, [], ◌∷◌, length, Option, None, Some, refl, sym, ap, ◌∙◌, arith, ◌++◌, map, ◌+◌, nat_eq, append_assoc, nat_tests, sum_by-IsPermutation, find, slice_get, IsNonDecreasingBy, IsPermutation, option_map, option_and_then, count_by, Entry, MemberRow as Member, Desk, good, place_in, has_key, entries_from, entry_in, IsIndex}
+use Rattle.std.specs.Prelude.{◌≡◌, ◌≤◌, ◌∷◌, ◌++◌, ◌+◌}
+use Rattle.desk_rows.specs.laws.Words.{ℕ, suc, Bool, true, false, cond, List, [], length, Option, None, Some, refl, sym, ap, ◌∙◌, arith, map, nat_eq, append_assoc, nat_tests, sum_by-IsPermutation, find, slice_get, IsNonDecreasingBy, IsPermutation, option_map, option_and_then, count_by, Entry, MemberRow as Member, Desk, good, place_in, has_key, entries_from, entry_in, IsIndex}
 use Rattle.desk_rows.specs.declared.row.Row.TheVariants as rows
 use Rattle.desk_rows.specs.declared.row.Key.TheVariants as keys
 use Rattle.desk_rows.specs.declared.claim.Claim.TheVariants as claims

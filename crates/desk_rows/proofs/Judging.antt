@@ -1,5 +1,6 @@
 -- A desk after an edit is good exactly where it is judged so.
-use Rattle.desk_rows.specs.laws.Words.{◌≡◌, ℕ, Bool, true, false, ◌||◌, List, [], ◌∷◌, nat_lt, refl, sym, ap, ◌∙◌, arith, map, ◌+◌, nat_eq, not, ◌&&◌, inl, inr, eqb-true, ◌⊎◌, or_left, or_right, and_parts, and_from, cases_Bool, list_any, list_all, count_by, eq-eqb, Claim, Key, Row, Member, Source, Slot, Mute, Desk, rows_of, is_named_there, is_alone, is_within_limits, is_made_once, is_bridges, obeys, good, EditOf, outs, ins, exchanged, IsKeyed, is_of, is_in, in_order, without_rows, precedes, key_is_new, take_at, has_key, key_of, makes, same_claim, other_claims, claims_of, names, come_rows, takes, puts, stay_rows, all_come, all_stay, go_rows, keeps_names, moves, is_shaken, is_sound, stays_sound}
+use Rattle.std.specs.Prelude.{◌≡◌, ◌||◌, ◌∷◌, ◌+◌, ◌&&◌, ◌⊎◌}
+use Rattle.desk_rows.specs.laws.Words.{ℕ, Bool, true, false, List, [], nat_lt, refl, sym, ap, ◌∙◌, arith, map, nat_eq, not, inl, inr, eqb-true, or_left, or_right, and_parts, and_from, cases_Bool, list_any, list_all, count_by, eq-eqb, Claim, Key, Row, Member, Source, Slot, Mute, Desk, rows_of, is_named_there, is_alone, is_within_limits, is_made_once, is_bridges, obeys, good, EditOf, outs, ins, exchanged, IsKeyed, is_of, is_in, in_order, without_rows, precedes, key_is_new, take_at, has_key, key_of, makes, same_claim, other_claims, claims_of, names, come_rows, takes, puts, stay_rows, all_come, all_stay, go_rows, keeps_names, moves, is_shaken, is_sound, stays_sound}
 use Rattle.desk_rows.specs.declared.row.Kind.TheVariants as kinds
 use Rattle.desk_rows.specs.declared.claim.Claim.TheVariants as claims
 use Rattle.desk_rows.specs.laws.ClaimLaws.{claimed, witness}

@@ -1,5 +1,6 @@
 -- The rows of a desk in which a key finds one row at most are known by what keys find.
-use Rattle.desk_rows.specs.laws.Words.{◌≡◌, ◌≤◌, Bool, false, cond, ◌||◌, List, [], ◌∷◌, Some, refl, sym, ap, ◌∙◌, arith, ◌&&◌, inl, inr, and_parts, cases_Bool, find, list_any, count_by, Row, finds}
+use Rattle.std.specs.Prelude.{◌≡◌, ◌≤◌, ◌||◌, ◌∷◌, ◌&&◌}
+use Rattle.desk_rows.specs.laws.Words.{Bool, false, cond, List, [], Some, refl, sym, ap, ◌∙◌, arith, inl, inr, and_parts, cases_Bool, find, list_any, count_by, Row, finds}
 use Rattle.desk_rows.specs.laws.ListLaws.{or_turned, count_yes, count_no, more_pass, none_any}
 
 -- of the rows of a key, of which there is one at most, one passes where the one that is found does

@@ -1,5 +1,6 @@
 -- Steps of loops over rows.
-use Rattle.desk_rows.specs.laws.Words.{◌≡◌, ℕ, zero, suc, ◌<◌, ◌≤◌, true, false, List, [], ◌∷◌, length, get_or, refl, sym, ap, ◌∙◌, arith, ◌++◌, remove, and_parts, and_from, list_all, Placed, MemberRow as Member, Row, in_order, precedes, precedes_head, take_at, can_take, is_at, same_row}
+use Rattle.std.specs.Prelude.{◌≡◌, ◌<◌, ◌≤◌, ◌∷◌, ◌++◌}
+use Rattle.desk_rows.specs.laws.Words.{ℕ, zero, suc, true, false, List, [], length, get_or, refl, sym, ap, ◌∙◌, arith, remove, and_parts, and_from, list_all, Placed, MemberRow as Member, Row, in_order, precedes, precedes_head, take_at, can_take, is_at, same_row}
 use Rattle.desk_rows.specs.declared.row.Row.TheVariants as rows
 use Rattle.desk_rows.specs.laws.ListLaws.{both_ways}
 use Rattle.desk_rows.specs.laws.OrderLaws.{precedes_on, at_each, from_each}

@@ -1,5 +1,6 @@
 -- Rows put in one by one make what merging makes.
-use Rattle.desk_rows.specs.laws.Words.{◌≡◌, true, false, cond, ◌||◌, List, [], ◌∷◌, refl, sym, ap, ◌∙◌, ◌++◌, not, ◌&&◌, inl, inr, ◌⊎◌, append_assoc, or_right, or_cases, and_parts, and_from, cases_Bool, false_from_ne_true, not-true, list_all, Row, with_rows, in_order, precedes, with_row, key_is_new, are_apart}
+use Rattle.std.specs.Prelude.{◌≡◌, ◌||◌, ◌∷◌, ◌++◌, ◌&&◌, ◌⊎◌}
+use Rattle.desk_rows.specs.laws.Words.{true, false, cond, List, [], refl, sym, ap, ◌∙◌, not, inl, inr, append_assoc, or_right, or_cases, and_parts, and_from, cases_Bool, false_from_ne_true, not-true, list_all, Row, with_rows, in_order, precedes, with_row, key_is_new, are_apart}
 use Rattle.desk_rows.specs.laws.ListLaws.{true_false}
 use Rattle.desk_rows.specs.laws.OrderLaws.{precedes_on, one_way, at_each, from_each, list_all-with_row}
 

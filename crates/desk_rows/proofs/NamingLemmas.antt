@@ -1,5 +1,6 @@
 -- What a table has in a group: the subscriptions of a source, and the slots of a member.
-use Rattle.desk_rows.specs.laws.Words.{◌≡◌, ℕ, Bool, true, List, [], ◌∷◌, Option, None, Some, refl, sym, ap, ◌∙◌, arith, nat_eq, filter, eqb-true, nat_le, and_parts, and_from, nat_tests, list_all, filter_map, cons_option, IsNonDecreasingBy, Row, Slot, Sub, SlotRow, SubRow, Desk, good, slot_in, sub_in, subs_naming, slots_naming, in_order, precedes, same_row, stand_by, IsTableOf}
+use Rattle.std.specs.Prelude.{◌≡◌, ◌∷◌}
+use Rattle.desk_rows.specs.laws.Words.{ℕ, Bool, true, List, [], Option, None, Some, refl, sym, ap, ◌∙◌, arith, nat_eq, filter, eqb-true, nat_le, and_parts, and_from, nat_tests, list_all, filter_map, cons_option, IsNonDecreasingBy, Row, Slot, Sub, SlotRow, SubRow, Desk, good, slot_in, sub_in, subs_naming, slots_naming, in_order, precedes, same_row, stand_by, IsTableOf}
 use Rattle.desk_rows.specs.laws.Equal.{same_row_is, row_itself}
 use Rattle.desk_rows.specs.laws.Laws.{good_order}
 use Rattle.desk_rows.specs.laws.ListLaws.{SameCounts, same_filtered, same_short, all_pass, stand_by-filter}

@@ -1,5 +1,6 @@
 -- The members of a room, in the table of members by room.
-use Rattle.desk_rows.specs.laws.Words.{◌≡◌, ℕ, Bool, true, List, sym, arith, nat_eq, ◌&&◌, filter, and_parts, MemberRow as Member, Desk, good, members_in, IsByRoom}
+use Rattle.std.specs.Prelude.{◌≡◌, ◌&&◌}
+use Rattle.desk_rows.specs.laws.Words.{ℕ, Bool, true, List, sym, arith, nat_eq, filter, and_parts, MemberRow as Member, Desk, good, members_in, IsByRoom}
 use Rattle.desk_rows.specs.declared.row.Row.TheVariants as rows
 use Rattle.desk_rows.specs.laws.Equal.{row_itself}
 use Rattle.desk_rows.specs.laws.ListLaws.{count_by-filter, more_pass, count_all, same_filtered, same_short}

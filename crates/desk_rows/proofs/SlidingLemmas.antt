@@ -1,5 +1,6 @@
 -- A row put in, or taken out, at the place that parts the rows before it from those behind.
-use Rattle.desk_rows.specs.laws.Words.{◌≡◌, ℕ, zero, suc, ◌<◌, ◌≤◌, true, false, cond, ◌||◌, List, [], ◌∷◌, length, refl, sym, ap, ◌∙◌, arith, not, insert, remove, set, and_parts, and_from, false_from_ne_true, not-true, not-false, list_all, slice_get, Row, is_in, in_order, without_rows, precedes, with_row, key_precedes, same_row, key_of, Parts, is_found_as}
+use Rattle.std.specs.Prelude.{◌≡◌, ◌<◌, ◌≤◌, ◌||◌, ◌∷◌}
+use Rattle.desk_rows.specs.laws.Words.{ℕ, zero, suc, true, false, cond, List, [], length, refl, sym, ap, ◌∙◌, arith, not, insert, remove, set, and_parts, and_from, false_from_ne_true, not-true, not-false, list_all, slice_get, Row, is_in, in_order, without_rows, precedes, with_row, key_precedes, same_row, key_of, Parts, is_found_as}
 use Rattle.desk_rows.specs.laws.Equal.{keys_precede_on, same_row_is, row_itself}
 use Rattle.desk_rows.specs.laws.ListLaws.{true_false, or_turned, filter_all}
 use Rattle.desk_rows.specs.laws.OrderLaws.{same_row_turned, one_way, before_other, at_each, from_each, in_order-filter}

@@ -1,5 +1,6 @@
 -- On a good desk no two members have one address.
-use Rattle.desk_rows.specs.laws.Words.{◌≡◌, ◌≤◌, true, List, [], ◌∷◌, ap, ◌∙◌, arith, map, ◌+◌, nat_eq, eqb-true, Address, same_address, or_left, and_parts, bytes_eq-Decides, count_by, bytes_eq, MemberRow, Member, Desk, rows_of, good, makes, same_claim}
+use Rattle.std.specs.Prelude.{◌≡◌, ◌≤◌, ◌∷◌, ◌+◌}
+use Rattle.desk_rows.specs.laws.Words.{true, List, [], ap, ◌∙◌, arith, map, nat_eq, eqb-true, Address, same_address, or_left, and_parts, bytes_eq-Decides, count_by, bytes_eq, MemberRow, Member, Desk, rows_of, good, makes, same_claim}
 use Rattle.desk_rows.specs.declared.claim.Claim.TheVariants as claims
 use Rattle.desk_rows.specs.laws.ClaimLaws.{claimed_once}
 use Rattle.desk_rows.specs.laws.Equal.{claim_itself}

@@ -1,5 +1,6 @@
 -- What a row claims it has alone.
-use Rattle.desk_rows.specs.laws.Words.{◌≡◌, ◌≤◌, Bool, true, List, [], ◌∷◌, sym, ap, ◌∙◌, arith, nat_eq, inl, inr, eqb-true, or_left, or_right, or_cases, and_parts, cases_Bool, list_any, list_all, count_by, Claim, Row, Desk, rows_of, is_alone, is_made_once, is_in, makes, same_claim, other_claims, claims_of}
+use Rattle.std.specs.Prelude.{◌≡◌, ◌≤◌, ◌∷◌}
+use Rattle.desk_rows.specs.laws.Words.{Bool, true, List, [], sym, ap, ◌∙◌, arith, nat_eq, inl, inr, eqb-true, or_left, or_right, or_cases, and_parts, cases_Bool, list_any, list_all, count_by, Claim, Row, Desk, rows_of, is_alone, is_made_once, is_in, makes, same_claim, other_claims, claims_of}
 use Rattle.desk_rows.specs.declared.claim.Claim.TheVariants as claims
 use Rattle.desk_rows.specs.laws.Equal.{its_key, row_itself, same_claim_is}
 use Rattle.desk_rows.specs.laws.ListLaws.{true_false, no_count}

@@ -1,5 +1,6 @@
 -- The tests of equality say what they mean.
-use Rattle.desk_rows.specs.laws.Words.{◌≡◌, ℕ, zero, suc, true, false, ◌||◌, List, [], ◌∷◌, length, refl, sym, ap, ◌∙◌, ◌++◌, nat_eq, if◌then◌else◌, eq-eqb, Claim, Codec, Key, Media, Row, Member, Room, Source, Slot, Sub, Mute, Gain, Pin, Floor, precedes, key_precedes, same_row, has_key, rank, kind_of, own_numbers, key_numbers, key_of, same_key, same_claim, codec_number, media_number, row_numbers, claim_numbers}
+use Rattle.std.specs.Prelude.{◌≡◌, ◌||◌, ◌∷◌, ◌++◌, if◌then◌else◌}
+use Rattle.desk_rows.specs.laws.Words.{ℕ, zero, suc, true, false, List, [], length, refl, sym, ap, ◌∙◌, nat_eq, eq-eqb, Claim, Codec, Key, Media, Row, Member, Room, Source, Slot, Sub, Mute, Gain, Pin, Floor, precedes, key_precedes, same_row, has_key, rank, kind_of, own_numbers, key_numbers, key_of, same_key, same_claim, codec_number, media_number, row_numbers, claim_numbers}
 use Rattle.desk_rows.specs.declared.row.Codec.TheVariants as codecs
 use Rattle.desk_rows.specs.declared.row.Media.TheVariants as medias
 use Rattle.desk_rows.specs.declared.row.Kind.TheVariants as kinds

@@ -1,5 +1,6 @@
 -- Tests, counts and searches on lists of anything.
-use Rattle.desk_rows.specs.laws.Words.{◌≡◌, ℕ, zero, suc, ◌<◌, ◌≤◌, Bool, true, false, cond, ◌||◌, List, [], ◌∷◌, length, get_or, nat_lt, Option, None, Some, refl, sym, ap, ◌∙◌, arith, ◌++◌, map, ◌+◌, nat_eq, not, ◌&&◌, inl, inr, filter, eqb-true, ◌⊎◌, zero-add, and_parts, cases_Bool, true_from_ne_false, false_from_ne_true, slice_get-get_or, nat_tests, fold-map, find_at, sum_by-append, sum_by-cons, prefix_len_is, find, list_any, list_all, slice_get, is_some, option_map, count_by, eq-eqb, stand_by}
+use Rattle.std.specs.Prelude.{◌≡◌, ◌<◌, ◌≤◌, ◌||◌, ◌∷◌, ◌++◌, ◌+◌, ◌&&◌, ◌⊎◌}
+use Rattle.desk_rows.specs.laws.Words.{ℕ, zero, suc, Bool, true, false, cond, List, [], length, get_or, nat_lt, Option, None, Some, refl, sym, ap, ◌∙◌, arith, map, nat_eq, not, inl, inr, filter, eqb-true, zero-add, and_parts, cases_Bool, true_from_ne_false, false_from_ne_true, slice_get-get_or, nat_tests, fold-map, find_at, sum_by-append, sum_by-cons, prefix_len_is, find, list_any, list_all, slice_get, is_some, option_map, count_by, eq-eqb, stand_by}
 
 pub true_false : true ≡ false → ⊥
 true_false e = cc

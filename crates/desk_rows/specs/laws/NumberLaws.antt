@@ -1,5 +1,6 @@
 -- Lists of numbers are told apart and ordered as they should be.
-use Rattle.desk_rows.specs.laws.Words.{◌≡◌, ℕ, ◌≤◌, true, false, ◌||◌, List, [], ◌∷◌, length, nat_lt, refl, sym, ap, ◌∙◌, arith, nat_eq, ◌&&◌, and_right, nat_tests, bytes_eq-Decides, bytes_eq, numbers_precede, same_numbers}
+use Rattle.std.specs.Prelude.{◌≡◌, ◌≤◌, ◌||◌, ◌∷◌, ◌&&◌}
+use Rattle.desk_rows.specs.laws.Words.{ℕ, true, false, List, [], length, nat_lt, refl, sym, ap, ◌∙◌, arith, nat_eq, and_right, nat_tests, bytes_eq-Decides, bytes_eq, numbers_precede, same_numbers}
 use Rattle.desk_rows.specs.laws.ListLaws.{true_false}
 
 -- ---- the same numbers

@@ -1,5 +1,6 @@
 -- Rows taken out of rows in order and put back make the same rows.
-use Rattle.desk_rows.specs.laws.Words.{◌≡◌, Bool, true, false, cond, ◌||◌, List, [], ◌∷◌, length, refl, sym, ap, ◌∙◌, arith, ◌++◌, ◌+◌, not, ◌&&◌, inl, inr, filter, length-append, or_left, or_right, and_parts, and_from, cases_Bool, false_from_ne_true, list_any-append, list_all-append, list_any, list_all, count_by, Key, Row, is_in, with_rows, in_order, without_rows, precedes, with_row, key_is_new, are_apart, have_same_keys, same_row, key_of, same_key, stand_by}
+use Rattle.std.specs.Prelude.{◌≡◌, ◌||◌, ◌∷◌, ◌++◌, ◌+◌, ◌&&◌}
+use Rattle.desk_rows.specs.laws.Words.{Bool, true, false, cond, List, [], length, refl, sym, ap, ◌∙◌, arith, not, inl, inr, filter, length-append, or_left, or_right, and_parts, and_from, cases_Bool, false_from_ne_true, list_any-append, list_all-append, list_any, list_all, count_by, Key, Row, is_in, with_rows, in_order, without_rows, precedes, with_row, key_is_new, are_apart, have_same_keys, same_row, key_of, same_key, stand_by}
 use Rattle.desk_rows.specs.laws.Equal.{same_key_is, key_itself, keys_precede_on, not_before_itself, same_row_is, row_itself}
 use Rattle.desk_rows.specs.laws.ListLaws.{true_false, SameCounts, count_next, count_by-append, same_any, same_all, same_length, stand_by-filter}
 pub use Rattle.desk_rows.specs.laws.ListLaws.{both_ways, filter_all}

@@ -1,6 +1,7 @@
 -- Rows taken from their places and put back stand where they stood.
 pub use Rattle.desk_rows.specs.laws.ListLaws.{count_next}
-use Rattle.desk_rows.specs.laws.Words.{◌≡◌, ℕ, zero, suc, ◌<◌, ◌≤◌, Bool, true, cond, List, [], ◌∷◌, length, nat_lt, refl, sym, ap, ◌∙◌, arith, ◌+◌, insert, remove, nat_le, and_parts, length-insert, length-remove, nat_tests, sum_by-IsPermutation, IsPermutation-insert, list_all, count_by, Placed, MemberRow as Member, take_at, can_take, can_put, places_rise, put_within, is_at, put_at}
+use Rattle.std.specs.Prelude.{◌≡◌, ◌<◌, ◌≤◌, ◌∷◌, ◌+◌}
+use Rattle.desk_rows.specs.laws.Words.{ℕ, zero, suc, Bool, true, cond, List, [], length, nat_lt, refl, sym, ap, ◌∙◌, arith, insert, remove, nat_le, and_parts, length-insert, length-remove, nat_tests, sum_by-IsPermutation, IsPermutation-insert, list_all, count_by, Placed, MemberRow as Member, take_at, can_take, can_put, places_rise, put_within, is_at, put_at}
 use Rattle.desk_rows.specs.declared.row.Row.TheVariants as rows
 use Rattle.desk_rows.specs.laws.Equal.{same_row_is, row_itself}
 

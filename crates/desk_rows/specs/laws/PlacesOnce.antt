@@ -1,5 +1,6 @@
 -- On a good desk a member has one slot of an index at most.
-use Rattle.desk_rows.specs.laws.Words.{◌≡◌, ℕ, ◌≤◌, Bool, true, List, [], ◌∷◌, length, Option, None, Some, refl, ap, arith, map, ◌+◌, nat_eq, filter, nat_tests, filter_map, cons_option, count_by, Row, Member, Slot, SlotRow, Desk, rows_of, good, slot_in, makes}
+use Rattle.std.specs.Prelude.{◌≡◌, ◌≤◌, ◌∷◌, ◌+◌}
+use Rattle.desk_rows.specs.laws.Words.{ℕ, Bool, true, List, [], length, Option, None, Some, refl, ap, arith, map, nat_eq, filter, nat_tests, filter_map, cons_option, count_by, Row, Member, Slot, SlotRow, Desk, rows_of, good, slot_in, makes}
 use Rattle.desk_rows.specs.declared.claim.Claim.TheVariants as claims
 use Rattle.desk_rows.specs.laws.ClaimLaws.{claimed_once}
 use Rattle.desk_rows.specs.laws.Laws.{good_parts}

@@ -1,4 +1,5 @@
-use Rattle.desk_edit.proofs.Words.{◌||◌, sym, ap, ◌∙◌, list_any, makes, is_claimed}
+use Rattle.std.specs.Prelude.{◌||◌}
+use Rattle.desk_edit.proofs.Words.{sym, ap, ◌∙◌, list_any, makes, is_claimed}
 use Rattle.desk_rows.specs.declared.row.Row.TheVariants as rows
 use Rattle.desk_rows.specs.declared.claim.Claim.TheVariants as claims
 use Rattle.desk_edit.proofs.asking.is_claimed.Goals as goal

@@ -1,4 +1,5 @@
-use Rattle.desk_edit.proofs.Words.{◌≡◌, not, List, filter, IfOk, ap, ◌∙◌, subst, Row, names, are_together, with_member_in}
+use Rattle.std.specs.Prelude.{◌≡◌}
+use Rattle.desk_edit.proofs.Words.{not, List, filter, IfOk, ap, ◌∙◌, subst, Row, names, are_together, with_member_in}
 use Rattle.desk_edit.proofs.editing.others_parted.Goals as goal
 use Rattle.desk_edit.proofs.Parted.{parted_among}
 

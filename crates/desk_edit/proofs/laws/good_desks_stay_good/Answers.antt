@@ -1,4 +1,5 @@
-use Rattle.desk_edit.proofs.Words.{◌≡◌, true, sym, ◌∙◌, subst, Desk, good, fits_parts, after_fits, form_of, edit_for}
+use Rattle.std.specs.Prelude.{◌≡◌}
+use Rattle.desk_edit.proofs.Words.{true, sym, ◌∙◌, subst, Desk, good, fits_parts, after_fits, form_of, edit_for}
 use Rattle.desk_edit.proofs.laws.good_desks_stay_good.Goals as goal
 use Rattle.desk_edit.proofs.Outcomes.{planned}
 

@@ -1,5 +1,6 @@
 -- What is picked of the members so far, and what would be of those that are left, make the whole.
-use Rattle.desk_edit.proofs.Words.{◌≡◌, ◌-◌, ◌≤◌, ◌++◌, length, placed_from, picks}
+use Rattle.std.specs.Prelude.{◌≡◌, ◌-◌, ◌≤◌, ◌++◌}
+use Rattle.desk_edit.proofs.Words.{length, placed_from, picks}
 use Rattle.desk_edit.proofs.picking.members_picked.Given as goal
 
 abbrev pub invariant-loop-member : goal.invariant-loop-member

@@ -1,4 +1,5 @@
-use Rattle.desk_edit.proofs.Words.{cond, ◌++◌, Some, sym, ap, ◌∙◌, names, first_case, or_next, lacking, rule_cases, full_cases, audio_cases}
+use Rattle.std.specs.Prelude.{◌++◌}
+use Rattle.desk_edit.proofs.Words.{cond, Some, sym, ap, ◌∙◌, names, first_case, or_next, lacking, rule_cases, full_cases, audio_cases}
 use Rattle.desk_edit.specs.declared.refusal.Refusal.TheVariants as refusals
 use Rattle.desk_edit.proofs.refusing.against_put.Goals as goal
 use Rattle.desk_edit.proofs.Cases.{first_case-append}

@@ -1,4 +1,5 @@
-use Rattle.desk_edit.proofs.Words.{[], ◌∷◌, sym, ap, ◌∙◌, listed, first_case, or_next, lacking}
+use Rattle.std.specs.Prelude.{◌∷◌}
+use Rattle.desk_edit.proofs.Words.{[], sym, ap, ◌∙◌, listed, first_case, or_next, lacking}
 use Rattle.desk_edit.proofs.refusing.lacks_any.Goals as goal
 use Rattle.desk_edit.proofs.Cases.{first_case-append}
 

@@ -1,4 +1,5 @@
-use Rattle.desk_edit.proofs.Words.{◌≡◌, List, IfOk, ◌∙◌, subst, Placed, placed_from, picks}
+use Rattle.std.specs.Prelude.{◌≡◌}
+use Rattle.desk_edit.proofs.Words.{List, IfOk, ◌∙◌, subst, Placed, placed_from, picks}
 use Rattle.desk_edit.proofs.removing.members_going.Goals as goal
 use Rattle.desk_edit.proofs.MembersGoing.{members_going}
 

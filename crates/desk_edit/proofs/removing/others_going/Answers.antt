@@ -1,4 +1,5 @@
-use Rattle.desk_edit.proofs.Words.{◌≡◌, List, IfOk, sym, ap, ◌∙◌, subst, list_any, Row, goes_with, level, found_list}
+use Rattle.std.specs.Prelude.{◌≡◌}
+use Rattle.desk_edit.proofs.Words.{List, IfOk, sym, ap, ◌∙◌, subst, list_any, Row, goes_with, level, found_list}
 use Rattle.desk_rows.specs.declared.row.Row.TheVariants as rows
 use Rattle.desk_edit.proofs.removing.others_going.Goals as goal
 use Rattle.desk_edit.proofs.GoingLemmas.{goes_alone}

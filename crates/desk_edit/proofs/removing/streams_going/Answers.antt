@@ -1,4 +1,5 @@
-use Rattle.desk_edit.proofs.Words.{◌≡◌, ◌≤◌, List, filter, IfOk, sym, ap, ◌∙◌, subst, arith, Row, kind_of, goes_within, level, can_go, found_list}
+use Rattle.std.specs.Prelude.{◌≡◌, ◌≤◌}
+use Rattle.desk_edit.proofs.Words.{List, filter, IfOk, sym, ap, ◌∙◌, subst, arith, Row, kind_of, goes_within, level, can_go, found_list}
 use Rattle.desk_edit.proofs.removing.streams_going.Goals as goal
 use Rattle.desk_edit.proofs.ByKinds.{kind_none}
 use Rattle.desk_edit.proofs.GoneLemmas.{stream_alone, by_members, no_streams}

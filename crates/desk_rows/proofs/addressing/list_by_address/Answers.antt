@@ -1,4 +1,5 @@
-use Rattle.desk_rows.specs.laws.Words.{◌≡◌, ap, ◌∙◌, arith, rules, count_by, answers_always, ip_and_port}
+use Rattle.std.specs.Prelude.{◌≡◌}
+use Rattle.desk_rows.specs.laws.Words.{ap, ◌∙◌, arith, rules, count_by, answers_always, ip_and_port}
 use Rattle.desk_rows.proofs.GroupLemmas.{count_moved}
 use Rattle.desk_rows.proofs.addressing.list_by_address.Goals as goal
 

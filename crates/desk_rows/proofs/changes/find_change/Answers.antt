@@ -1,4 +1,5 @@
-use Rattle.desk_rows.specs.laws.Words.{sym, ◌∙◌, ◌++◌, map, Member, Placed, has_key}
+use Rattle.std.specs.Prelude.{◌++◌}
+use Rattle.desk_rows.specs.laws.Words.{sym, ◌∙◌, map, Member, Placed, has_key}
 use Rattle.desk_rows.proofs.KindLemmas.{found_first, found_later}
 use Rattle.desk_rows.proofs.changes.find_change.Goals as goal
 

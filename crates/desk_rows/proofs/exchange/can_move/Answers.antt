@@ -1,4 +1,5 @@
-use Rattle.desk_rows.specs.laws.Words.{◌&&◌, ap, sym, ◌∙◌, places_rise, can_put, take_at}
+use Rattle.std.specs.Prelude.{◌&&◌}
+use Rattle.desk_rows.specs.laws.Words.{ap, sym, ◌∙◌, places_rise, can_put, take_at}
 use Rattle.desk_rows.proofs.ExchangeLemmas.{taken_few, put_places}
 use Rattle.desk_rows.proofs.exchange.can_move.Goals as goal
 

@@ -1,4 +1,5 @@
-use Rattle.desk_rows.specs.laws.Words.{◌+◌, length, ap, arith}
+use Rattle.std.specs.Prelude.{◌+◌}
+use Rattle.desk_rows.specs.laws.Words.{length, ap, arith}
 use Rattle.desk_rows.specs.laws.OrderLaws.{length-with_rows}
 use Rattle.desk_rows.proofs.exchange.put_two.Goals as goal
 

@@ -1,4 +1,5 @@
-use Rattle.desk_rows.specs.laws.Words.{◌≡◌, true, false, ap, sym, ◌∙◌, arith, Row, is_of}
+use Rattle.std.specs.Prelude.{◌≡◌}
+use Rattle.desk_rows.specs.laws.Words.{true, false, ap, sym, ◌∙◌, arith, Row, is_of}
 use Rattle.desk_rows.proofs.GroupLemmas.{count_among}
 use Rattle.desk_rows.proofs.grouping.exchange_few.Goals as goal
 

@@ -1,5 +1,6 @@
 -- What is listed and what is in the rows that are left make the whole, in the room that there was.
-use Rattle.desk_rows.specs.laws.Words.{◌≡◌, ◌+◌, ◌≤◌, ◌++◌, length, vec_len, vec_capacity, filter_map}
+use Rattle.std.specs.Prelude.{◌≡◌, ◌+◌, ◌≤◌, ◌++◌}
+use Rattle.desk_rows.specs.laws.Words.{length, vec_len, vec_capacity, filter_map}
 use Rattle.desk_rows.proofs.grouping.list_anew.Given as goal
 
 abbrev pub invariant-loop-row : goal.invariant-loop-row

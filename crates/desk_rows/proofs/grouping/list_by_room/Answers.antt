@@ -1,4 +1,5 @@
-use Rattle.desk_rows.specs.laws.Words.{◌≡◌, ap, ◌∙◌, arith, rules, count_by, always_returns_same, MemberRow as Member}
+use Rattle.std.specs.Prelude.{◌≡◌}
+use Rattle.desk_rows.specs.laws.Words.{ap, ◌∙◌, arith, rules, count_by, always_returns_same, MemberRow as Member}
 use Rattle.desk_rows.proofs.GroupLemmas.{count_moved, sorted_stands}
 use Rattle.desk_rows.proofs.grouping.list_by_room.Goals as goal
 

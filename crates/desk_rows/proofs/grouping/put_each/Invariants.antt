@@ -1,5 +1,6 @@
 -- The table is in order, what was put with what is left to put makes the whole, and there is room for that.
-use Rattle.desk_rows.specs.laws.Words.{◌≡◌, ◌+◌, ◌≤◌, Bool, true, length, vec_len, vec_capacity, count_by, stand_by, in_turn, passes_in}
+use Rattle.std.specs.Prelude.{◌≡◌, ◌+◌, ◌≤◌}
+use Rattle.desk_rows.specs.laws.Words.{Bool, true, length, vec_len, vec_capacity, count_by, stand_by, in_turn, passes_in}
 use Rattle.desk_rows.proofs.grouping.put_each.Given as goal
 
 abbrev pub invariant-loop-row : goal.invariant-loop-row

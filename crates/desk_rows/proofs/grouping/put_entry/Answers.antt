@@ -1,4 +1,5 @@
-use Rattle.desk_rows.specs.laws.Words.{◌≡◌, cond, not, true, false, Bool, insert, length, ap, subst, ◌∙◌, arith, rules, IsPartitionPoint-from_clause, stand_by, in_turn, Parts}
+use Rattle.std.specs.Prelude.{◌≡◌}
+use Rattle.desk_rows.specs.laws.Words.{cond, not, true, false, Bool, insert, length, ap, subst, ◌∙◌, arith, rules, IsPartitionPoint-from_clause, stand_by, in_turn, Parts}
 use Rattle.desk_rows.proofs.GroupLemmas.{stand_by-insert, parted_by, in_turn_on, in_turn_either}
 use Rattle.desk_rows.proofs.grouping.put_entry.Goals as goal
 

@@ -1,4 +1,5 @@
-use Rattle.desk_rows.specs.laws.Words.{◌≡◌, subst, ◌∙◌, rules, IsPermutation, always_returns_same}
+use Rattle.std.specs.Prelude.{◌≡◌}
+use Rattle.desk_rows.specs.laws.Words.{subst, ◌∙◌, rules, IsPermutation, always_returns_same}
 use Rattle.desk_rows.proofs.GroupLemmas.{count_in, count_moved, sorted_stands}
 use Rattle.desk_rows.proofs.grouping.regroup.Goals as goal
 

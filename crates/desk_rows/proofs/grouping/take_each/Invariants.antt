@@ -1,5 +1,6 @@
 -- The table is in order, and what was taken with what is left to take makes the whole.
-use Rattle.desk_rows.specs.laws.Words.{◌≡◌, ◌+◌, ◌≤◌, Bool, true, length, vec_capacity, count_by, stand_by, in_turn, passes_in}
+use Rattle.std.specs.Prelude.{◌≡◌, ◌+◌, ◌≤◌}
+use Rattle.desk_rows.specs.laws.Words.{Bool, true, length, vec_capacity, count_by, stand_by, in_turn, passes_in}
 use Rattle.desk_rows.proofs.grouping.take_each.Given as goal
 
 abbrev pub invariant-loop-row : goal.invariant-loop-row

@@ -1,4 +1,5 @@
-use Rattle.desk_rows.specs.laws.Words.{[], ◌∷◌, nat_lt, refl, sym, arith, rules, IsPartitionPoint-from_clause, IsPartitionedBy-ltb, Entry}
+use Rattle.std.specs.Prelude.{◌∷◌}
+use Rattle.desk_rows.specs.laws.Words.{[], nat_lt, refl, sym, arith, rules, IsPartitionPoint-from_clause, IsPartitionedBy-ltb, Entry}
 use Rattle.desk_rows.proofs.Halving.{found_here, found_none}
 use Rattle.desk_rows.proofs.Indexed.{entries_rise}
 use Rattle.desk_rows.proofs.index.entry_of.Goals as goal

@@ -1,5 +1,6 @@
 -- What is there and the members that are left make the whole, in the room that there was.
-use Rattle.desk_rows.specs.laws.Words.{◌≡◌, ◌+◌, ◌≤◌, ◌++◌, length, vec_len, vec_capacity, entries_from}
+use Rattle.std.specs.Prelude.{◌≡◌, ◌+◌, ◌≤◌, ◌++◌}
+use Rattle.desk_rows.specs.laws.Words.{length, vec_len, vec_capacity, entries_from}
 use Rattle.desk_rows.proofs.index.list_places.Given as goal
 
 abbrev pub invariant-loop-member : goal.invariant-loop-member

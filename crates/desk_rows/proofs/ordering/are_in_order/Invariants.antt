@@ -1,4 +1,5 @@
-use Rattle.desk_rows.specs.laws.Words.{◌≡◌, length, in_order}
+use Rattle.std.specs.Prelude.{◌≡◌}
+use Rattle.desk_rows.specs.laws.Words.{length, in_order}
 use Rattle.desk_rows.proofs.ordering.are_in_order.Given as goal
 
 abbrev pub invariant-loop-row : goal.invariant-loop-row

@@ -1,4 +1,5 @@
-use Rattle.desk_rows.specs.laws.Words.{◌≡◌, length, have_same_keys}
+use Rattle.std.specs.Prelude.{◌≡◌}
+use Rattle.desk_rows.specs.laws.Words.{length, have_same_keys}
 use Rattle.desk_rows.proofs.ordering.have_same_keys.Given as goal
 
 abbrev pub invariant-loop-row : goal.invariant-loop-row

@@ -1,4 +1,5 @@
-use Rattle.desk_rows.specs.laws.Words.{◌≡◌, List, refl, ◌++◌, ◌∷◌, [], length, sym, ap, ◌∙◌, arith, list_all, and_parts, Row, precedes, in_order, without_rows}
+use Rattle.std.specs.Prelude.{◌≡◌, ◌++◌, ◌∷◌}
+use Rattle.desk_rows.specs.laws.Words.{List, refl, [], length, sym, ap, ◌∙◌, arith, list_all, and_parts, Row, precedes, in_order, without_rows}
 use Rattle.desk_rows.proofs.Merging.{appended}
 use Rattle.desk_rows.proofs.SlidingLemmas.{none_go, before_all, not_among, first_stays}
 use Rattle.desk_rows.proofs.ordering.leave_out.Goals as goal

@@ -1,5 +1,6 @@
 -- What is there and what is left of the rows that stay make the whole, in the room that there was.
-use Rattle.desk_rows.specs.laws.Words.{◌≡◌, ◌+◌, ◌≤◌, ◌++◌, true, length, vec_len, vec_capacity, in_order, without_rows}
+use Rattle.std.specs.Prelude.{◌≡◌, ◌+◌, ◌≤◌, ◌++◌}
+use Rattle.desk_rows.specs.laws.Words.{true, length, vec_len, vec_capacity, in_order, without_rows}
 use Rattle.desk_rows.proofs.ordering.leave_out.Given as goal
 
 abbrev pub invariant-loop-first : goal.invariant-loop-first

@@ -1,4 +1,5 @@
-use Rattle.desk_rows.specs.laws.Words.{◌≡◌, List, refl, ◌++◌, ◌∷◌, [], length, sym, ap, ◌∙◌, arith, list_all, and_parts, Row, precedes, in_order, with_rows}
+use Rattle.std.specs.Prelude.{◌≡◌, ◌++◌, ◌∷◌}
+use Rattle.desk_rows.specs.laws.Words.{List, refl, [], length, sym, ap, ◌∙◌, arith, list_all, and_parts, Row, precedes, in_order, with_rows}
 use Rattle.desk_rows.proofs.Merging.{put_first, row_first, rows_end, appended}
 use Rattle.desk_rows.proofs.ordering.merge.Goals as goal
 

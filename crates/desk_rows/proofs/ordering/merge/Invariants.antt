@@ -1,4 +1,5 @@
-use Rattle.desk_rows.specs.laws.Words.{◌≡◌, true, ◌+◌, ◌≤◌, ◌++◌, length, vec_len, vec_capacity, in_order, with_rows}
+use Rattle.std.specs.Prelude.{◌≡◌, ◌+◌, ◌≤◌, ◌++◌}
+use Rattle.desk_rows.specs.laws.Words.{true, length, vec_len, vec_capacity, in_order, with_rows}
 use Rattle.desk_rows.proofs.ordering.merge.Given as goal
 
 abbrev pub invariant-loop-first : goal.invariant-loop-first

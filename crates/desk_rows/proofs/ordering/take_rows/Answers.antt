@@ -1,4 +1,5 @@
-use Rattle.desk_rows.specs.laws.Words.{◌≡◌, ◌+◌, List, [], ◌∷◌, length, refl, sym, ap, ◌∙◌, arith, Row, with_rows, without_rows}
+use Rattle.std.specs.Prelude.{◌≡◌, ◌+◌, ◌∷◌}
+use Rattle.desk_rows.specs.laws.Words.{List, [], length, refl, sym, ap, ◌∙◌, arith, Row, with_rows, without_rows}
 use Rattle.desk_rows.proofs.SlidingLemmas.{none_go}
 use Rattle.desk_rows.proofs.ordering.take_rows.Goals as goal
 

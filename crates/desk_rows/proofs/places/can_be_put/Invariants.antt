@@ -1,4 +1,5 @@
-use Rattle.desk_rows.specs.laws.Words.{◌≡◌, ◌+◌, ◌<◌, ◌^◌, length, put_within}
+use Rattle.std.specs.Prelude.{◌≡◌, ◌+◌, ◌<◌, ◌^◌}
+use Rattle.desk_rows.specs.laws.Words.{length, put_within}
 use Rattle.desk_rows.proofs.places.can_be_put.Given as goal
 
 abbrev pub invariant-loop-first : goal.invariant-loop-first

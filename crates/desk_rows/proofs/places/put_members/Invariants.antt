@@ -1,4 +1,5 @@
-use Rattle.desk_rows.specs.laws.Words.{◌≡◌, ◌+◌, ◌≤◌, true, length, vec_len, vec_capacity, put_at, can_put}
+use Rattle.std.specs.Prelude.{◌≡◌, ◌+◌, ◌≤◌}
+use Rattle.desk_rows.specs.laws.Words.{true, length, vec_len, vec_capacity, put_at, can_put}
 use Rattle.desk_rows.proofs.places.put_members.Given as goal
 
 abbrev pub invariant-loop-first : goal.invariant-loop-first

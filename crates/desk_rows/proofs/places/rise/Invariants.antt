@@ -1,4 +1,5 @@
-use Rattle.desk_rows.specs.laws.Words.{◌≡◌, length, places_rise}
+use Rattle.std.specs.Prelude.{◌≡◌}
+use Rattle.desk_rows.specs.laws.Words.{length, places_rise}
 use Rattle.desk_rows.proofs.places.rise.Given as goal
 
 abbrev pub invariant-loop-first : goal.invariant-loop-first

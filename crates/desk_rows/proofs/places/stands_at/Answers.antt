@@ -1,4 +1,5 @@
-use Rattle.desk_rows.specs.laws.Words.{◌<◌, length, ◌∙◌, arith}
+use Rattle.std.specs.Prelude.{◌<◌}
+use Rattle.desk_rows.specs.laws.Words.{length, ◌∙◌, arith}
 use Rattle.desk_rows.proofs.Loops.{is_at_read, is_at_past}
 use Rattle.desk_rows.proofs.places.stands_at.Goals as goal
 

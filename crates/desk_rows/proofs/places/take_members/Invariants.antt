@@ -1,4 +1,5 @@
-use Rattle.desk_rows.specs.laws.Words.{◌≡◌, ◌≤◌, true, length, vec_capacity, take_at, can_take}
+use Rattle.std.specs.Prelude.{◌≡◌, ◌≤◌}
+use Rattle.desk_rows.specs.laws.Words.{true, length, vec_capacity, take_at, can_take}
 use Rattle.desk_rows.proofs.places.take_members.Given as goal
 
 abbrev pub invariant-loop-last : goal.invariant-loop-last

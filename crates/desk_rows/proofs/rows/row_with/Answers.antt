@@ -1,4 +1,5 @@
-use Rattle.desk_rows.specs.laws.Words.{◌++◌, map, sym, ap, ◌∙◌, find, Member, has_key}
+use Rattle.std.specs.Prelude.{◌++◌}
+use Rattle.desk_rows.specs.laws.Words.{map, sym, ap, ◌∙◌, find, Member, has_key}
 use Rattle.desk_rows.specs.declared.row.Key.TheVariants.{Member as Member_key}
 use Rattle.desk_rows.proofs.KindLemmas.{found_first, found_later, skipped}
 use Rattle.desk_rows.proofs.rows.row_with.Goals as goal

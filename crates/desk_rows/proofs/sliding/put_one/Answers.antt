@@ -1,4 +1,5 @@
-use Rattle.desk_rows.specs.laws.Words.{List, ◌≤◌, length, not, sym, subst, arith, common_steps, Row, precedes, Parts}
+use Rattle.std.specs.Prelude.{◌≤◌}
+use Rattle.desk_rows.specs.laws.Words.{List, length, not, sym, subst, arith, common_steps, Row, precedes, Parts}
 use Rattle.desk_rows.proofs.SlidingLemmas.{put_in}
 use Rattle.desk_rows.proofs.sliding.put_one.Goals as goal
 
