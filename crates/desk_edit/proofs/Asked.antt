@@ -1,6 +1,6 @@
 -- What is known of a row against which nothing stands.
 use Rattle.std.specs.Prelude.{◌≡◌, ◌<◌, ◌&&◌, ◌∷◌, ◌++◌}
-use Rattle.desk_edit.proofs.Words.{ℕ, nat_le, true, false, not, List, [], count_by, Option, Some, None, refl, sym, ap, ◌∙◌, eqb-true, leb-false, list_any, list_all, and_parts, and_from, or_parts, not-false, Row, Audio, Key, Claim, room_audio_limit, key_of, same_media, names, is_in_range, other_claims, Desk, room_of, same_room, are_together, all_suit, is_audio_in, is_bridges, true_false, has, is_claimed, first_case, lacking, is_replaced, is_other_claimed, is_ssrc_taken, rule_cases, full_cases, room_is_full, audio_cases, put_cases}
+use Rattle.desk_edit.proofs.Words.{ℕ, nat_le, true, false, not, List, [], count_by, Option, Some, None, refl, sym, ap, ◌∙◌, arith, eqb-true, leb-false, list_any, list_all, and_parts, and_from, or_parts, not-false, Row, Audio, Key, Claim, room_audio_limit, key_of, same_media, names, is_in_range, other_claims, Desk, room_of, same_room, are_together, all_suit, is_audio_in, is_bridges, true_false, has, is_claimed, first_case, lacking, is_replaced, is_other_claimed, is_ssrc_taken, rule_cases, full_cases, room_is_full, audio_cases, put_cases}
 use Rattle.desk_rows.specs.declared.row.Row.TheVariants as rows
 use Rattle.desk_rows.specs.declared.claim.Claim.TheVariants as claims
 use Rattle.desk_edit.proofs.Cases.{NoneHolds, none_holds, none_of_both}
@@ -25,10 +25,7 @@ free_claim d c e f = and_from _ _ (ap not e) refl
 
 free_claims : (d : Desk) (cs : List Claim) → list_any (is_other_claimed d) cs ≡ false → list_any (is_ssrc_taken d) cs ≡ false → list_all (λ c. not (is_claimed d c) && not (is_bridges d c)) cs ≡ true
 free_claims d [] e f = refl
-free_claims d (c ∷ cs) e f =
-    let x = or_parts (is_other_claimed d c) (list_any (is_other_claimed d) cs) e in
-    let y = or_parts (is_ssrc_taken d c) (list_any (is_ssrc_taken d) cs) f in
-    and_from _ _ (free_claim d c x.0 y.0) (free_claims d cs x.1 y.1)
+free_claims d (c ∷ cs) e f = let rest = free_claims d cs in let here = free_claim d c in grind (arith, rest, here, e, f)
 
 less_audio : (d : Desk) (r : Row) → NoneHolds (audio_cases d r) → (room : ℕ) → is_audio_in d room r ≡ true → count_by (is_audio_in d room) d.others < room_audio_limit
 less_audio d (rows.Source s) h room own =

@@ -1,6 +1,6 @@
 -- What goes is found kind by kind.
-use Rattle.std.specs.Prelude.{◌≡◌, ◌+◌, ◌&&◌, ◌||◌, ◌∷◌, ◌++◌}
-use Rattle.desk_edit.proofs.Words.{ℕ, nat_lt, nat_eq, Bool, true, false, not, cond, List, [], filter, inl, inr, refl, sym, ap, ◌∙◌, arith, append-nil, eqb-true, list_any, list_all, and_parts, and_from, cases_Bool, not-true, filter-append, Row, Key, Kind, rank, kind_of, key_of, has_key, same_key, names, is_of, precedes, in_order, is_in, Desk, good, rows_of, at_each, filter_all, good_order, true_false, below_falls, plain_others, goes_within, goes_with, is_above, can_go}
+use Rattle.std.specs.Prelude.{◌≡◌, ◌+◌, ◌&&◌, ◌||◌, ◌∷◌, ◌++◌, ◌⊎◌}
+use Rattle.desk_edit.proofs.Words.{ℕ, nat_lt, nat_eq, Bool, true, false, not, cond, List, [], filter, inl, inr, refl, sym, ap, ◌∙◌, arith, append-nil, eqb-true, list_any, list_all, and_parts, cases_Bool, not-true, false_from_ne_true, filter-append, Row, Key, Kind, rank, kind_of, key_of, has_key, same_key, names, is_of, precedes, in_order, is_in, Desk, good, rows_of, at_each, from_each, filter_all, good_order, true_false, below_falls, plain_others, goes_within, goes_with, is_above, can_go}
 use Rattle.desk_rows.specs.declared.row.Row.TheVariants as rows
 use Rattle.desk_rows.specs.declared.row.Key.TheVariants as keys
 use Rattle.desk_rows.specs.declared.row.Kind.TheVariants as kinds
@@ -21,10 +21,7 @@ goes_or_apart key x = refl
 no_name : (d : Desk) (key : Key) (ks : List Key) → list_all (λ k. not (is_above k key) && not (same_key k key)) ks ≡ true →
     list_any (λ k. list_any (λ s. has_key k s && goes_within 2 d key s) (rows_of d)) ks ≡ false
 no_name d key [] h = refl
-no_name d key (k ∷ ks) h =
-    let both = and_parts (not (is_above k key) && not (same_key k key)) (list_all (λ k. not (is_above k key) && not (same_key k key)) ks) h in
-    let here = and_parts (not (is_above k key)) (not (same_key k key)) both.0 in
-    (λ i. none_goes d 2 key k (not-true (is_above k key) here.0) (not-true (same_key k key) here.1) i || no_name d key ks both.1 i)
+no_name d key (k ∷ ks) h = let rest = no_name d key ks in let here = none_goes d 2 key k in grind (arith, rest, here, h)
 
 pub kind_stays : (d : Desk) (key : Key) (x : Row) → can_go (kind_of (key_of x)) (kind_of key) ≡ false → goes_with d key x ≡ false
 kind_stays d key x h =
@@ -63,30 +60,20 @@ next_kind : (n : ℕ) (xs : List Row) → in_order xs ≡ true → filter (below
 next_kind n [] h = refl
 next_kind n (x ∷ xs) h =
     let order = and_parts (list_all (precedes x) xs) (in_order xs) h in
-    by (below n x) refl (next_kind n xs order.1) where
-      later : below n x ≡ false → (y : Row) → is_in xs y ≡ true → below n y ≡ false
-      later e y one = elim (cases_Bool (below n y)) [
-        | inl f ↦ absurd (true_false (sym (below_falls n x y (at_each (precedes x) xs y (and_parts (list_all (precedes x) xs) (in_order xs) h).0 one) f) ∙ e))
-        | inr f ↦ f
-      ]
-
+    let rest = next_kind n xs order.1 in
+    by (cases_Bool (below n x)) rest where
       same : (a : ℕ) → nat_lt a n ≡ false → nat_eq a n ≡ nat_lt a (n + 1)
       same a e = grind (arith, e)
 
-      over : (a : ℕ) → nat_lt a n ≡ true → (nat_eq a n ≡ false) × (nat_lt a (n + 1) ≡ true)
-      over a e = (grind (arith, e), grind (arith, e))
-
-      by : (b : Bool) → below n x ≡ b → filter (below n) xs ++ filter (λ x. nat_eq (rank (kind_of (key_of x))) n) xs ≡ filter (below (n + 1)) xs →
-          cond b (x ∷ filter (below n) xs) (filter (below n) xs) ++ filter (λ x. nat_eq (rank (kind_of (key_of x))) n) (x ∷ xs) ≡ filter (below (n + 1)) (x ∷ xs)
-      by true e rest =
-          let two = over (rank (kind_of (key_of x))) e in
-          ap (λ b. x ∷ (filter (below n) xs ++ cond b (x ∷ filter (λ x. nat_eq (rank (kind_of (key_of x))) n) xs) (filter (λ x. nat_eq (rank (kind_of (key_of x))) n) xs))) two.0
-          ∙ ap (λ ys. x ∷ ys) rest ∙ sym (ap (λ b. cond b (x ∷ filter (below (n + 1)) xs) (filter (below (n + 1)) xs)) two.1)
-      by false e rest =
-          ap (λ ys. ys ++ filter (λ x. nat_eq (rank (kind_of (key_of x))) n) (x ∷ xs)) (filter_none (below n) xs (any_none (below n) xs (later e)))
-          ∙ (λ i. cond (same (rank (kind_of (key_of x))) e i) (x ∷ rest' i) (rest' i)) where
-            rest' : filter (λ x. nat_eq (rank (kind_of (key_of x))) n) xs ≡ filter (below (n + 1)) xs
-            rest' = filter_alike (λ x. nat_eq (rank (kind_of (key_of x))) n) (below (n + 1)) xs (λ y one. same (rank (kind_of (key_of y))) (later e y one))
+      by : (below n x ≡ true) ⊎ (below n x ≡ false) → filter (below n) xs ++ filter (λ x. nat_eq (rank (kind_of (key_of x))) n) xs ≡ filter (below (n + 1)) xs →
+          filter (below n) (x ∷ xs) ++ filter (λ x. nat_eq (rank (kind_of (key_of x))) n) (x ∷ xs) ≡ filter (below (n + 1)) (x ∷ xs)
+      by (inl e) rest = grind (arith, rest, e)
+      by (inr e) rest =
+          let later : (y : Row) → is_in xs y ≡ true → below n y ≡ false = λ y one. false_from_ne_true (below n y) (λ f.
+          true_false (sym (below_falls n x y (at_each (precedes x) xs y (and_parts (list_all (precedes x) xs) (in_order xs) h).0 one) f) ∙ e)) in
+          let none = filter_none (below n) xs (any_none (below n) xs later) in
+          let alike = filter_alike (λ x. nat_eq (rank (kind_of (key_of x))) n) (below (n + 1)) xs (λ y one. same (rank (kind_of (key_of y))) (later y one)) in
+          grind (arith, none, alike, e)
 
 -- what passes of the rows of the kinds before this one
 abbrev pub passed : (Row → Bool) → Desk → ℕ → List Row
@@ -109,11 +96,7 @@ first_kind d p = sym (ap (filter p) (filter_none (below 0) d.others (any_none (b
   least n = grind arith
 
 pub last_kind : (d : Desk) (p : Row → Bool) → passed p d 9 ≡ filter p d.others
-last_kind d p = ap (filter p) (filter_all (below 9) d.others (all d.others)) where
+last_kind d p = ap (filter p) (filter_all (below 9) d.others (from_each (below 9) d.others (λ x one. each x))) where
   each : (x : Row) → below 9 x ≡ true
   each (rows.Room r) = refl
-  each _ = refl
-
-  all : (xs : List Row) → list_all (below 9) xs ≡ true
-  all [] = refl
-  all (x ∷ xs) = and_from _ _ (each x) (all xs)
+  each x = refl

@@ -1,13 +1,10 @@
 -- Lists of cases, and the first refusal of one.
 use Rattle.std.specs.Prelude.{◌≡◌, ◌∷◌, ◌++◌}
-use Rattle.desk_edit.proofs.Words.{Bool, true, false, cond, List, [], Some, None, refl, first_case, or_next, Refusal}
+use Rattle.desk_edit.proofs.Words.{Bool, false, List, [], None, refl, arith, first_case, or_next, Refusal}
 
 pub first_case-append : (xs ys : List (Bool × Refusal)) → first_case (xs ++ ys) ≡ or_next (first_case xs) (first_case ys)
 first_case-append [] ys = refl
-first_case-append (x ∷ xs) ys = by x.0 (first_case-append xs ys) where
-  by : (b : Bool) → first_case (xs ++ ys) ≡ or_next (first_case xs) (first_case ys) → cond b (Some x.1) (first_case (xs ++ ys)) ≡ or_next (cond b (Some x.1) (first_case xs)) (first_case ys)
-  by true rest = refl
-  by false rest = rest
+first_case-append (x ∷ xs) ys = let rest = first_case-append xs ys in grind (arith, rest)
 
 -- no case holds
 abbrev pub NoneHolds : List (Bool × Refusal) → Type 0
@@ -16,10 +13,7 @@ NoneHolds (c ∷ cs) = (c.0 ≡ false) × NoneHolds cs
 
 pub none_holds : (cs : List (Bool × Refusal)) → first_case cs ≡ None → NoneHolds cs
 none_holds [] h = tt
-none_holds (c ∷ cs) h = by c.0 refl h (none_holds cs) where
-  by : (b : Bool) → c.0 ≡ b → cond b (Some c.1) (first_case cs) ≡ None → (first_case cs ≡ None → NoneHolds cs) → NoneHolds (c ∷ cs)
-  by true e h rest = cc
-  by false e h rest = (e, rest h)
+none_holds (c ∷ cs) h = let rest = none_holds cs in grind (arith, rest, h)
 
 -- of two lists of cases
 pub none_of_both : (xs ys : List (Bool × Refusal)) → NoneHolds (xs ++ ys) → NoneHolds xs × NoneHolds ys

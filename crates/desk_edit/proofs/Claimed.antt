@@ -1,15 +1,11 @@
 -- Which kinds of row make a claim, and have audio.
 use Rattle.std.specs.Prelude.{◌≡◌, ◌&&◌, ◌||◌, ◌∷◌}
-use Rattle.desk_edit.proofs.Words.{ℕ, nat_eq, Bool, true, false, not, List, [], map, filter, count_by, refl, sym, ap, ◌∙◌, list_any, and-true, or-false, or_comm, list_any-append, Address, Row, has_key, makes, is_of, Desk, good, is_audio_in, at_each, true_false, list_any-map, plain_others, has, is_claimed, is_audio_of}
+use Rattle.desk_edit.proofs.Words.{ℕ, nat_eq, Bool, true, false, not, List, [], map, filter, count_by, refl, sym, ap, ◌∙◌, arith, list_any, and-true, or-false, or_comm, list_any-append, Address, Row, has_key, makes, is_of, Desk, good, is_audio_in, at_each, true_false, list_any-map, plain_others, has, is_claimed, is_audio_of}
 use Rattle.desk_rows.specs.declared.row.Row.TheVariants as rows
 use Rattle.desk_rows.specs.declared.row.Key.TheVariants as keys
 use Rattle.desk_rows.specs.declared.row.Kind.TheVariants as kinds
 use Rattle.desk_rows.specs.declared.claim.Claim.TheVariants as claims
 use Rattle.desk_edit.proofs.Lists.{turned, any_none, any_alike, count_wider, any_wider, any_other}
-
--- beside the members tests are alike that are alike for what is no member
-others_alike : (d : Desk) → good d ≡ true → (p q : Row → Bool) → ((r : Row) → not (is_of kinds.Member r) ≡ true → p r ≡ q r) → list_any p d.others ≡ list_any q d.others
-others_alike d g p q each = any_alike p q d.others (λ r one. each r (at_each (λ r. not (is_of kinds.Member r)) d.others r (plain_others d g) one))
 
 -- ---- claims
 
@@ -42,11 +38,7 @@ stream_ssrc s r h = refl
 
 any_of_two : (p q : Row → Bool) (xs : List Row) → list_any (λ r. p r || q r) xs ≡ (list_any p xs || list_any q xs)
 any_of_two p q [] = refl
-any_of_two p q (x ∷ xs) = ap (λ b. (p x || q x) || b) (any_of_two p q xs) ∙ mixed (p x) (q x) (list_any p xs) (list_any q xs) where
-  mixed : (a b c d : Bool) → ((a || b) || (c || d)) ≡ ((a || c) || (b || d))
-  mixed true b c d = refl
-  mixed false true true d = refl
-  mixed false b c d = refl
+any_of_two p q (x ∷ xs) = let rest = any_of_two p q xs in grind (arith, rest)
 
 pub ssrc_claimed : (d : Desk) → good d ≡ true → (s : ℕ) → is_claimed d (claims.Ssrc s) ≡ ((has d (keys.Source s) || has d (keys.Slot s)) || list_any (λ m. makes (claims.Ssrc s) (rows.Member m)) d.members)
 ssrc_claimed d g s =
@@ -55,7 +47,7 @@ ssrc_claimed d g s =
     ∙ or_comm (list_any (λ m. makes (claims.Ssrc s) (rows.Member m)) d.members) (has d (keys.Source s) || has d (keys.Slot s)) where
       streams : list_any (makes (claims.Ssrc s)) d.others ≡ (has d (keys.Source s) || has d (keys.Slot s))
       streams =
-          others_alike d g (makes (claims.Ssrc s)) (λ r. has_key (keys.Source s) r || has_key (keys.Slot s) r) (stream_ssrc s)
+          any_alike (makes (claims.Ssrc s)) (λ r. has_key (keys.Source s) r || has_key (keys.Slot s) r) d.others (λ r one. stream_ssrc s r (at_each (λ r. not (is_of kinds.Member r)) d.others r (plain_others d g) one))
           ∙ any_of_two (has_key (keys.Source s)) (has_key (keys.Slot s)) d.others
           ∙ sym (λ i. any_other d (has_key (keys.Source s)) (λ m. refl) i || any_other d (has_key (keys.Slot s)) (λ m. refl) i)
 

@@ -1,12 +1,12 @@
 -- An edit fits where the rows that come are sound and those that stay remain so.
 use Rattle.std.specs.Prelude.{◌≡◌, ◌≤◌, ◌&&◌, ◌||◌, ◌∷◌}
-use Rattle.desk_edit.proofs.Words.{ℕ, nat_le, nat_lt, Bool, true, false, not, List, [], count_by, Option, Some, None, refl, sym, ap, ◌∙◌, is_some, list_all, and_parts, and_from, or_left, or_right, not-true, Row, RoomRow, Audio, Key, room_audio_limit, kind_of, has_key, same_media, names, is_of, is_in, EditOf, ins, Desk, good, rows_of, row_at, room_of_member, room_of, room_of_found, room_at, same_room, are_together, is_audio_in, is_within_limits, obeys, takes, puts, keeps_names, moves, gains_audio, takes_either, all_come, all_stay, at_each, Apt, good_parts, fits_from, after_fits, is_found, sound_good, has, level}
+use Rattle.desk_edit.proofs.Words.{ℕ, nat_lt, Bool, true, false, not, List, [], count_by, Option, Some, None, refl, sym, ap, ◌∙◌, is_some, list_all, and_parts, and_from, or_left, or_right, not-true, Row, RoomRow, Audio, Key, room_audio_limit, kind_of, has_key, same_media, names, is_of, is_in, EditOf, ins, Desk, good, rows_of, row_at, room_of_member, room_of, room_of_found, room_at, same_room, are_together, is_audio_in, is_within_limits, obeys, takes, puts, keeps_names, moves, gains_audio, takes_either, all_come, all_stay, Apt, fits_from, after_fits, is_found, sound_good, has, level}
 use Rattle.desk_rows.specs.declared.row.Row.TheVariants as rows
 use Rattle.desk_rows.specs.declared.row.Key.TheVariants as keys
 use Rattle.desk_rows.specs.declared.row.Kind.TheVariants as kinds
 use Rattle.desk_rows.specs.Exchange.{exchanged, fits, after}
 use Rattle.desk_rows.specs.inner.Judged.{is_sound as is_sound_row, stays_sound}
-use Rattle.desk_edit.proofs.Lists.{at_most, all_both}
+use Rattle.desk_edit.proofs.Lists.{at_most, all_both, obeyed}
 
 -- what is to be shown of an edit
 pub record Carries (d : Desk) (e : EditOf) : Type 0 where
@@ -88,4 +88,4 @@ module _ (d d' : Desk) (ok : Key → Bool) (same : (k : Key) → ok k ≡ true �
 -- ---- audio
 
 pub good_audio : (d : Desk) → good d ≡ true → (r : RoomRow) → is_in (rows_of d) (rows.Room r) ≡ true → count_by (is_audio_in d r.room) d.others ≤ room_audio_limit
-good_audio d g r one = at_most _ _ (and_parts (nat_le (count_by (is_audio_in d r.room) d.others) room_audio_limit) true (at_each (obeys d) (rows_of d) (rows.Room r) (good_parts d g).obey one)).0
+good_audio d g r one = at_most _ _ (obeyed d g (rows.Room r) one).1

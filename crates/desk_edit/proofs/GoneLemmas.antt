@@ -1,10 +1,10 @@
 -- What goes beside members is told by the sources and the slots that go, by the members and by the key.
 use Rattle.std.specs.Prelude.{◌≡◌, ◌<◌, ◌≤◌, ◌&&◌, ◌||◌}
-use Rattle.desk_edit.proofs.Words.{ℕ, nat_eq, Bool, true, false, not, List, [], map, filter, Some, inl, inr, refl, sym, ap, ◌∙◌, arith, eqb-true, list_any, and-true, and-false, or-false, and_parts, or_right, or_cases, cases_Bool, false_from_ne_true, Row, GainRow, Audio, Key, Kind, rank, kind_of, key_of, has_key, names, suits, is_in_range, is_of, in_order, is_in, is_gain_of, gains_naming, Desk, good, rows_of, row_at, are_together, all_suit, is_named_there, obeys, number_itself, its_key, at_each, in_order-filter, good_parts, good_order, is_in-append, true_false, witness, list_any-map, found_one, order_once, keyed_good, plain_others, not_its, skipped, goes_within, goes_with, has, level, can_go, found_list, is_sound}
+use Rattle.desk_edit.proofs.Words.{ℕ, nat_eq, Bool, true, false, not, List, [], map, filter, Some, inl, inr, refl, sym, ap, ◌∙◌, arith, eqb-true, list_any, or-false, and_parts, or_cases, cases_Bool, false_from_ne_true, Row, GainRow, Audio, Key, Kind, rank, kind_of, key_of, has_key, suits, is_of, in_order, is_in, is_gain_of, gains_naming, Desk, good, rows_of, row_at, is_named_there, number_itself, its_key, at_each, in_order-filter, good_parts, good_order, is_in-append, true_false, witness, list_any-map, found_one, order_once, keyed_good, plain_others, not_its, skipped, goes_within, goes_with, has, level, can_go, found_list, is_sound}
 use Rattle.desk_rows.specs.declared.row.Row.TheVariants as rows
 use Rattle.desk_rows.specs.declared.row.Key.TheVariants as keys
 use Rattle.desk_rows.specs.declared.row.Kind.TheVariants as kinds
-use Rattle.desk_edit.proofs.Lists.{and_first, turned, row_some, any_none, in_filter, filter_alike, any_filter, filter_wider, filter_found, any_other}
+use Rattle.desk_edit.proofs.Lists.{and_first, turned, row_some, any_none, in_filter, filter_alike, any_filter, filter_wider, filter_found, other_in, obeyed, any_other}
 use Rattle.desk_edit.proofs.Dependence.{steady, own_only}
 use Rattle.desk_edit.proofs.GoingLemmas.{none_goes, same_goes, no_members_key}
 use Rattle.desk_edit.proofs.ByKinds.{its_kind, none_of_kind}
@@ -37,8 +37,7 @@ module _ (d : Desk) (key : Key) (g : good d ≡ true) (low : level (kind_of key)
       ∙ (λ i. list_any (λ x. one x i) d.others)
       ∙ sym (any_other d (λ x. has_key name x && goes_within 2 d key x) (λ m. ap (λ b. b && goes_within 2 d key (rows.Member m)) (not_its name (no_members_key name (omega (arith, two))) m))) where
         both : (a b c w : Bool) → (c ≡ true → (a ≡ true) × (b ≡ w)) → (a && (b && c)) ≡ (c && w)
-        both a b true w h = (λ i. (h refl).0 i && ((h refl).1 i && true)) ∙ and-true w
-        both a b false w h = ap (λ x. a && x) (and-false b) ∙ and-false a
+        both a b c w h = grind (arith, h)
 
         one : (x : Row) → (is_of (kind_of name) x && (goes x && has_key name x)) ≡ (has_key name x && goes_within 2 d key x)
         one x = both (is_of (kind_of name) x) (goes x) (has_key name x) (goes_within 2 d key x) (λ e.
@@ -111,13 +110,8 @@ module _ (d : Desk) (key : Key) (g : good d ≡ true) (low : level (kind_of key)
       let name = keys.Source s.source in
       let w = witness (has_key name) (going_of kinds.Source) (stream_goes name refl ∙ e) in
       let there = (in_filter (is_of kinds.Source) d.others w.0 (in_filter goes (filter (is_of kinds.Source) d.others) w.0 w.1).0).0 in
-      let found = found_one (has_key name) (rows_of d) w.0 ((keyed_good d g).once name) (held w.0 there) w.2 in
-      let obeyed = at_each (obeys d) (rows_of d) (rows.Gain s) (good_parts d g).obey (held (rows.Gain s) one) in
-      let suited = (and_parts _ _ (and_parts _ _ (and_parts _ _ (and_parts (is_in_range (rows.Gain s) && true) (all_suit d (rows.Gain s) && are_together d (names (rows.Gain s))) obeyed).1).0).1).0 in
-      true_false (sym (row_some is_sound (going_of kinds.Source) w.0 w.1 (sound w.0 (ap kind_of (its_key name w.0 w.2)) (ap (suits (Some Audio)) (sym found) ∙ suited))) ∙ none)) where
-        held : (x : Row) → is_in d.others x ≡ true → is_in (rows_of d) x ≡ true
-        held x one = is_in-append (map rows.Member d.members) d.others x ∙ or_right _ _ one
-
+      let found = found_one (has_key name) (rows_of d) w.0 ((keyed_good d g).once name) (other_in d w.0 there) w.2 in
+      true_false (sym (row_some is_sound (going_of kinds.Source) w.0 w.1 (sound w.0 (ap kind_of (its_key name w.0 w.2)) (ap (suits (Some Audio)) (sym found) ∙ (and_parts _ _ (and_parts _ _ (obeyed d g (rows.Gain s) (other_in d (rows.Gain s) one)).2).1).0))) ∙ none)) where
         sound : (x : Row) → kind_of (key_of x) ≡ kinds.Source → suits (Some Audio) (Some x) ≡ true → is_sound x ≡ true
         sound (rows.Source r) is h = h
         sound x is h = cc
@@ -141,7 +135,7 @@ pub own_gains : (d : Desk) (n : ℕ) → good d ≡ true → list_any is_sound (
 own_gains d n g none =
     sym (filter_alike (goes_with d (keys.Member n)) (is_gain_of n) (filter (is_of kinds.Gain) d.others) (λ x one.
     let both = in_filter (is_of kinds.Gain) d.others x one in
-    each x both.0 (its_kind kinds.Gain x both.1) (at_each (is_named_there d) (rows_of d) x (good_parts d g).named (is_in-append (map rows.Member d.members) d.others x ∙ or_right _ _ both.0)))
+    each x both.0 (its_kind kinds.Gain x both.1) (at_each (is_named_there d) (rows_of d) x (good_parts d g).named (other_in d x both.0)))
     ∙ filter_wider (is_gain_of n) (is_of kinds.Gain) d.others (λ x one. wider x)) where
       each : (x : Row) → is_in d.others x ≡ true → kind_of (key_of x) ≡ kinds.Gain → is_named_there d x ≡ true → goes_with d (keys.Member n) x ≡ is_gain_of n x
       each (rows.Gain s) one is there =

@@ -1,6 +1,6 @@
 -- Lists of rows under tests, and tests joined.
 use Rattle.std.specs.Prelude.{◌≡◌, ◌+◌, ◌≤◌, ◌&&◌, ◌||◌, ◌∷◌, ◌⊎◌}
-use Rattle.desk_edit.proofs.Words.{ℕ, nat_le, nat_lt, nat_eq, Bool, true, false, not, cond, List, [], map, filter, length, count_by, find, Some, inl, inr, refl, sym, ap, ◌∙◌, arith, eqb-true, list_any, list_all, and-true, and-false, and_parts, and_from, or_parts, or_left, or_right, not-true, false_from_ne_true, nil_from_length, length-filter_both, list_any-append, count_by-le-length, length-filter, Row, MemberRow, is_in, Desk, rows_of, row_itself, is_in-filter, count_next, any_counts, true_false, witness, any_count, no_count, count_some, list_any-map, rows_count, all_pass, count_by-filter, found_list}
+use Rattle.desk_edit.proofs.Words.{ℕ, nat_le, nat_lt, nat_eq, Bool, true, false, not, cond, List, [], map, filter, length, count_by, find, refl, sym, ap, ◌∙◌, arith, eqb-true, list_any, list_all, and-true, and-false, and_parts, or_left, or_right, not-true, false_from_ne_true, nil_from_length, list_any-append, count_by-le-length, length-filter, Row, MemberRow, names, is_in_range, is_in, Desk, good, rows_of, are_together, all_suit, has_few_audio, obeys, row_itself, at_each, is_in-filter, count_next, good_parts, any_counts, is_in-append, true_false, witness, any_count, no_count, count_some, list_any-map, rows_count, all_pass, count_by-filter, found_list}
 use Rattle.desk_rows.specs.declared.row.Row.TheVariants as rows
 
 -- ---- tests
@@ -35,10 +35,7 @@ nothing xs n is h = nil_from_length xs (is ∙ eqb-true n 0 h)
 -- what follows of two tests for each holds of all
 pub all_both : {X : Type 0} (p q t : X → Bool) → ((x : X) → p x ≡ true → q x ≡ true → t x ≡ true) → (xs : List X) → list_all p xs ≡ true → list_all q xs ≡ true → list_all t xs ≡ true
 all_both p q t each [] h k = refl
-all_both p q t each (x ∷ xs) h k =
-    let one = and_parts (p x) (list_all p xs) h in
-    let two = and_parts (q x) (list_all q xs) k in
-    and_from _ _ (each x one.0 two.0) (all_both p q t each xs one.1 two.1)
+all_both p q t each (x ∷ xs) h k = let rest = all_both p q t each xs in let here = each x in grind (arith, rest, here, h, k)
 
 -- what did not pass is left
 pub all_left : {X : Type 0} (p t : X → Bool) → ((x : X) → p x ≡ false → t x ≡ true) → (xs : List X) → list_all t (filter (λ x. not (p x)) xs) ≡ true
@@ -46,7 +43,7 @@ all_left p t each xs = let left = all_pass (λ x. not (p x)) xs in all_both (λ 
 
 pub none_all : {X : Type 0} (p : X → Bool) (xs : List X) → list_any p xs ≡ false → list_all (λ x. not (p x)) xs ≡ true
 none_all p [] h = refl
-none_all p (x ∷ xs) h = let both = or_parts (p x) (list_any p xs) h in and_from _ _ (ap not both.0) (none_all p xs both.1)
+none_all p (x ∷ xs) h = let rest = none_all p xs in grind (arith, rest, h)
 
 -- ---- rows that pass, and rows that are left
 
@@ -64,9 +61,7 @@ filter_none p xs h = nil_from_length (filter p xs) (length-filter p xs ∙ no_co
 
 pub filter_alike : (p q : Row → Bool) (xs : List Row) → ((x : Row) → is_in xs x ≡ true → p x ≡ q x) → filter p xs ≡ filter q xs
 filter_alike p q [] each = refl
-filter_alike p q (x ∷ xs) each =
-    let rest = filter_alike p q xs (λ y one. each y (or_right _ _ one)) in
-    (λ i. cond (each x (or_left _ _ (row_itself x)) i) (x ∷ rest i) (rest i))
+filter_alike p q (x ∷ xs) each = let rest = filter_alike p q xs (λ y one. each y (or_right _ _ one)) in let here = each x (or_left _ _ (row_itself x)) in cc
 
 pub count_alike : (p q : Row → Bool) (xs : List Row) → ((x : Row) → is_in xs x ≡ true → p x ≡ q x) → count_by p xs ≡ count_by q xs
 count_alike p q xs each = sym (length-filter p xs) ∙ ap length (filter_alike p q xs each) ∙ length-filter q xs
@@ -76,10 +71,7 @@ any_alike p q xs each = any_count p xs ∙ ap (nat_lt 0) (count_alike p q xs eac
 
 filter_filter : (p q : Row → Bool) (xs : List Row) → filter p (filter q xs) ≡ filter (λ x. q x && p x) xs
 filter_filter p q [] = refl
-filter_filter p q (x ∷ xs) = by (q x) (filter_filter p q xs) where
-  by : (b : Bool) → filter p (filter q xs) ≡ filter (λ x. q x && p x) xs → filter p (cond b (x ∷ filter q xs) (filter q xs)) ≡ cond (b && p x) (x ∷ filter (λ x. q x && p x) xs) (filter (λ x. q x && p x) xs)
-  by true rest = ap (λ ys. cond (p x) (x ∷ ys) ys) rest
-  by false rest = rest
+filter_filter p q (x ∷ xs) = let rest = filter_filter p q xs in grind (arith, rest)
 
 pub any_filter : (p q : Row → Bool) (xs : List Row) → list_any p (filter q xs) ≡ list_any (λ x. q x && p x) xs
 any_filter p q xs = any_count p (filter q xs) ∙ ap (nat_lt 0) (count_by-filter p q xs) ∙ sym (any_count (λ x. q x && p x) xs)
@@ -103,21 +95,28 @@ count_filter p t xs = omega (arith, count_by-filter p t xs, fewer_pass (λ x. t 
 
 -- what passes passes one of two
 pub two_pass : (p a b : Row → Bool) (xs : List Row) → ((x : Row) → p x ≡ true → (a x ≡ true) ⊎ (b x ≡ true)) → count_by p xs ≤ count_by a xs + count_by b xs
-two_pass p a b xs each =
-    let parts = length-filter_both a (λ x. not (a x)) (λ x. refl) (filter p xs) in
-    let first = fewer_pass (λ x. p x && a x) a xs (λ x h. (and_parts (p x) (a x) h).1) in
-    let second = fewer_pass (λ x. p x && not (a x)) b xs (λ x h. let both = and_parts (p x) (not (a x)) h in elim (each x both.0) [
-      | inl e ↦ absurd (true_false (sym e ∙ not-true (a x) both.1))
-      | inr e ↦ e
-    ]) in
-    omega (arith, parts, first, second, length-filter p xs, length-filter a (filter p xs), length-filter (λ x. not (a x)) (filter p xs), count_by-filter a p xs, count_by-filter (λ x. not (a x)) p xs)
+two_pass p a b [] each = omega arith
+two_pass p a b (x ∷ xs) each =
+    let rest = two_pass p a b xs each in
+    let here = each x in
+    grind (arith, rest, here, count_next p x xs, count_next a x xs, count_next b x xs)
 
 pub filter_found : (p : Row → Bool) (xs : List Row) → count_by p xs ≤ 1 → filter p xs ≡ found_list (find p xs)
 filter_found p [] few = refl
-filter_found p (x ∷ xs) few = by (p x) refl (filter_found p xs) where
-  by : (b : Bool) → p x ≡ b → (count_by p xs ≤ 1 → filter p xs ≡ found_list (find p xs)) → cond b (x ∷ filter p xs) (filter p xs) ≡ found_list (cond b (Some x) (find p xs))
-  by true e rest = ap (λ ys. x ∷ ys) (nil_from_length (filter p xs) (omega (arith, few, one_yes (p x) e, count_next p x xs, length-filter p xs)))
-  by false e rest = rest (omega (arith, few, count_next p x xs))
+filter_found p (x ∷ xs) few = let rest = filter_found p xs in grind (arith, rest, few, nil_from_length (filter p xs), count_next p x xs, length-filter p xs)
+
+-- ---- rows of a good desk
+
+pub other_in : (d : Desk) (x : Row) → is_in d.others x ≡ true → is_in (rows_of d) x ≡ true
+other_in d x one = is_in-append (map rows.Member d.members) d.others x ∙ or_right _ _ one
+
+-- what a row's rule says
+pub obeyed : (d : Desk) → good d ≡ true → (x : Row) → is_in (rows_of d) x ≡ true → (is_in_range x ≡ true) × (has_few_audio d x ≡ true) × (all_suit d x ≡ true) × (are_together d (names x) ≡ true)
+obeyed d g x one =
+    let all = and_parts (is_in_range x && has_few_audio d x) (all_suit d x && are_together d (names x)) (at_each (obeys d) (rows_of d) x (good_parts d g).obey one) in
+    let first = and_parts (is_in_range x) (has_few_audio d x) all.0 in
+    let second = and_parts (all_suit d x) (are_together d (names x)) all.1 in
+    (first.0, first.1, second.0, second.1)
 
 -- ---- what no member is, is among the other rows
 
@@ -135,8 +134,4 @@ count_other d p none = let all = rows_count p d in let members = no_member d.mem
 
 pub found_filter : (p t : Row → Bool) (xs : List Row) → ((x : Row) → p x ≡ true → t x ≡ true) → find p (filter t xs) ≡ find p xs
 found_filter p t [] each = refl
-found_filter p t (x ∷ xs) each = by (t x) refl (p x) refl (found_filter p t xs each) where
-  by : (b : Bool) → t x ≡ b → (c : Bool) → p x ≡ c → find p (filter t xs) ≡ find p xs → find p (cond b (x ∷ filter t xs) (filter t xs)) ≡ cond c (Some x) (find p xs)
-  by true e c f rest = ap (λ c. cond c (Some x) (find p (filter t xs))) f ∙ ap (cond c (Some x)) rest
-  by false e true f rest = absurd (true_false (sym (each x f) ∙ e))
-  by false e false f rest = rest
+found_filter p t (x ∷ xs) each = let rest = found_filter p t xs each in let here = each x in grind (arith, rest, here)

@@ -1,6 +1,6 @@
 -- The members that go with a row are those of its room, or the one of its number.
-use Rattle.std.specs.Prelude.{◌≡◌, ◌+◌, ◌||◌, ◌∷◌}
-use Rattle.desk_edit.proofs.Words.{ℕ, nat_eq, Bool, true, false, cond, List, [], inl, inr, refl, sym, ap, ◌∙◌, arith, eqb-true, list_any, list_all, or-false, and_parts, cases_Bool, MemberRow, Key, Desk, good, is_named_there, good_parts, two_alls, goes_with, has, placed_from, picks, picked_with}
+use Rattle.std.specs.Prelude.{◌≡◌, ◌+◌, ◌∷◌}
+use Rattle.desk_edit.proofs.Words.{ℕ, nat_eq, Bool, true, false, List, [], inl, inr, refl, sym, ap, ◌∙◌, arith, eqb-true, list_any, list_all, or-false, and_parts, cases_Bool, MemberRow, Key, Desk, good, is_named_there, good_parts, two_alls, goes_with, has, placed_from, picks, picked_with}
 use Rattle.desk_rows.specs.declared.row.Row.TheVariants as rows
 use Rattle.desk_rows.specs.declared.row.Key.TheVariants as keys
 use Rattle.desk_edit.proofs.Dependence.{own_only}
@@ -19,10 +19,7 @@ goes_is d key m there = own_only 3 d key (rows.Member m) (omega arith)
 
 placed_alike : (n : ℕ) (p q t : MemberRow → Bool) (ms : List MemberRow) → ((m : MemberRow) → t m ≡ true → p m ≡ q m) → list_all t ms ≡ true → placed_from n p ms ≡ placed_from n q ms
 placed_alike n p q t [] each h = refl
-placed_alike n p q t (m ∷ ms) each h =
-    let both = and_parts (t m) (list_all t ms) h in
-    let rest = placed_alike (n + 1) p q t ms each both.1 in
-    (λ i. cond (each m both.0 i) (record { place = n; row = m } ∷ rest i) (rest i))
+placed_alike n p q t (m ∷ ms) each h = let rest = placed_alike (n + 1) p q t ms each in let here = each m in grind (arith, rest, here, h)
 
 pub members_going : (d : Desk) (key : Key) → good d ≡ true → placed_from 0 (picks (picked_with key)) d.members ≡ placed_from 0 (λ m. goes_with d key (rows.Member m)) d.members
 members_going d key g = sym (placed_alike 0 (λ m. goes_with d key (rows.Member m)) (picks (picked_with key)) (λ m. is_named_there d (rows.Member m)) d.members (goes_is d key) (member_named d g))
@@ -30,7 +27,4 @@ members_going d key g = sym (placed_alike 0 (λ m. goes_with d key (rows.Member 
 -- where none is picked, none goes
 pub none_placed : (n : ℕ) (p : MemberRow → Bool) (ms : List MemberRow) → placed_from n p ms ≡ [] → list_any p ms ≡ false
 none_placed n p [] h = refl
-none_placed n p (m ∷ ms) h = by (p m) refl h (none_placed (n + 1) p ms) where
-  by : (b : Bool) → p m ≡ b → cond b (record { place = n; row = m } ∷ placed_from (n + 1) p ms) (placed_from (n + 1) p ms) ≡ [] → (placed_from (n + 1) p ms ≡ [] → list_any p ms ≡ false) → list_any p (m ∷ ms) ≡ false
-  by true e h rest = cc
-  by false e h rest = ap (λ b. b || list_any p ms) e ∙ rest h
+none_placed n p (m ∷ ms) h = let rest = none_placed (n + 1) p ms in grind (arith, rest, h)

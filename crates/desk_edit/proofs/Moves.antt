@@ -1,6 +1,6 @@
 -- The desk with a member in another room has the same rows, but for that one.
 use Rattle.std.specs.Prelude.{◌≡◌, ◌+◌, ◌∷◌, ◌++◌}
-use Rattle.desk_edit.proofs.Words.{ℕ, nat_eq, Bool, true, false, not, cond, List, [], map, count_by, find, Option, Some, refl, ap, ◌∙◌, arith, list_all, fold-map, Row, MemberRow, Key, has_key, same_row, is_of, is_in, Desk, rows_of, row_at, IsKeyed, row_itself, any_counts, count_some, into_room, with_member_in, row_into_room}
+use Rattle.desk_edit.proofs.Words.{ℕ, Bool, true, not, cond, List, [], map, count_by, find, Option, Some, refl, ap, ◌∙◌, arith, list_all, fold-map, Row, MemberRow, Key, has_key, same_row, is_of, is_in, Desk, rows_of, row_at, IsKeyed, row_itself, any_counts, count_some, into_room, with_member_in, row_into_room}
 use Rattle.desk_rows.specs.declared.row.Row.TheVariants as rows
 use Rattle.desk_rows.specs.declared.row.Kind.TheVariants as kinds
 use Rattle.std.specs.Option.{option_map}
@@ -12,18 +12,12 @@ moved_row n room r = r
 
 found_map : (p : Row → Bool) (f : Row → Row) → ((r : Row) → p (f r) ≡ p r) → (rs : List Row) → find p (map f rs) ≡ option_map f (find p rs)
 found_map p f same [] = refl
-found_map p f same (r ∷ rs) = ap (λ b. cond b (Some (f r)) (find p (map f rs))) (same r) ∙ by (p r) (found_map p f same rs) where
-  by : (b : Bool) → find p (map f rs) ≡ option_map f (find p rs) → cond b (Some (f r)) (find p (map f rs)) ≡ option_map f (cond b (Some r) (find p rs))
-  by true rest = refl
-  by false rest = rest
+found_map p f same (r ∷ rs) = let rest = found_map p f same rs in let here = same r in grind (arith, rest, here)
 
 module _ (n room : ℕ) where
   -- what does not look at a member's room says the same
   pub into_keeps : {X : Type 0} (f : MemberRow → X) → ((m : MemberRow) → f (record m { room = room }) ≡ f m) → (m : MemberRow) → f (into_room n room m) ≡ f m
-  into_keeps f same m = by (nat_eq m.member n) where
-    by : (b : Bool) → f (cond b (record m { room = room }) m) ≡ f m
-    by true = same m
-    by false = refl
+  into_keeps f same m = let here = same m in grind (arith, here)
 
   pub moved_keeps : (p : Row → Bool) → ((m : MemberRow) → p (rows.Member (record m { room = room })) ≡ p (rows.Member m)) → (r : Row) → p (moved_row n room r) ≡ p r
   moved_keeps p same (rows.Member m) = into_keeps (λ x. p (rows.Member x)) same m

@@ -1,6 +1,6 @@
 -- What commands that are not refused lead to.
 use Rattle.std.specs.Prelude.{◌≡◌, ◌∷◌, ◌++◌}
-use Rattle.desk_edit.proofs.Words.{Bool, true, false, cond, List, [], Some, None, refl, sym, ap, ◌∙◌, list_all, and_parts, and_from, list_all-append, Row, Key, Kind, kind_of, names, Desk, good, true_false, form_of, desk_led, first_case, missing, lacking, rule_cases, full_cases, audio_cases, cases_of, Refusal}
+use Rattle.desk_edit.proofs.Words.{Bool, true, false, List, [], Some, None, refl, ◌∙◌, arith, list_all, and_from, list_all-append, Row, Key, Kind, kind_of, names, Desk, good, form_of, desk_led, first_case, missing, lacking, rule_cases, full_cases, audio_cases, cases_of, Refusal}
 use Rattle.desk_rows.specs.declared.row.Row.TheVariants as rows
 use Rattle.desk_rows.specs.declared.row.Kind.TheVariants as kinds
 use Rattle.desk_edit.specs.declared.refusal.Refusal.TheVariants as refusals
@@ -32,13 +32,7 @@ is_other c = elim c.1 as (λ w. Bool) [ refusals.OutOfMemory ↦ false | _ ↦ t
 
 first_other : (cs : List (Bool × Refusal)) → list_all is_other cs ≡ true → first_case cs ≡ Some refusals.OutOfMemory → ⊥
 first_other [] all h = cc
-first_other (c ∷ cs) all h = let both = and_parts (is_other c) (list_all is_other cs) all in by c.0 h (first_other cs both.1) both.0 where
-  same : Some c.1 ≡ Some refusals.OutOfMemory → c.1 ≡ refusals.OutOfMemory
-  same e = cc
-
-  by : (b : Bool) → cond b (Some c.1) (first_case cs) ≡ Some refusals.OutOfMemory → (first_case cs ≡ Some refusals.OutOfMemory → ⊥) → is_other c ≡ true → ⊥
-  by true e rest own = true_false (sym own ∙ ap (λ w. is_other (true, w)) (same e))
-  by false e rest own = rest e
+first_other (c ∷ cs) all h = let rest = first_other cs in grind (arith, rest, all, h)
 
 missing_other : (kind : Kind) → is_other (true, missing kind) ≡ true
 missing_other kinds.Room = refl

@@ -1,9 +1,9 @@
 -- Where a member moves, only rows that depend on it can have their two sides in different rooms.
 use Rattle.std.specs.Prelude.{◌≡◌, ◌&&◌, ◌∷◌}
-use Rattle.desk_edit.proofs.Words.{ℕ, nat_eq, true, false, not, cond, List, [], filter, Option, Some, inl, inr, refl, sym, ap, ◌∙◌, list_any, and_parts, or_parts, or_right, cases_Bool, Row, MemberRow, Key, has_key, names, is_in_range, is_in, Desk, good, rows_of, row_at, room_of_member, room_of_found, room_at, same_room, are_together, all_suit, has_few_audio, obeys, finds, at_each, good_parts, is_in-append, true_false, keyed_good, goes_within, goes_with, into_room, with_member_in, row_into_room}
+use Rattle.desk_edit.proofs.Words.{ℕ, nat_eq, true, false, not, cond, List, [], filter, Option, Some, inl, inr, refl, sym, ap, ◌∙◌, list_any, or_parts, cases_Bool, Row, MemberRow, Key, has_key, names, Desk, good, rows_of, row_at, room_of_member, room_of_found, room_at, same_room, are_together, finds, true_false, keyed_good, goes_within, goes_with, into_room, with_member_in, row_into_room}
 use Rattle.desk_rows.specs.declared.row.Row.TheVariants as rows
 use Rattle.desk_rows.specs.declared.row.Key.TheVariants as keys
-use Rattle.desk_edit.proofs.Lists.{filter_wider}
+use Rattle.desk_edit.proofs.Lists.{filter_wider, other_in, obeyed}
 use Rattle.desk_edit.proofs.GoingLemmas.{name_goes}
 use Rattle.desk_edit.proofs.GoneLemmas.{name_goes_at}
 use Rattle.desk_edit.proofs.Moves.{found_moved}
@@ -46,13 +46,8 @@ module _ (d : Desk) (n room : ℕ) (g : good d ≡ true) where
       (λ i. same_room (room_still a one.0 i) (room_still b (or_parts (name_goes_at d key b) false one.1).0 i))
   together_still ks h = refl
 
-  was_together : (x : Row) → is_in d.others x ≡ true → are_together d (names x) ≡ true
-  was_together x one =
-      let obeyed = at_each (obeys d) (rows_of d) x (good_parts d g).obey (is_in-append _ d.others x ∙ or_right _ _ one) in
-      (and_parts (all_suit d x) (are_together d (names x)) (and_parts (is_in_range x && has_few_audio d x) (all_suit d x && are_together d (names x)) obeyed).1).1
-
   pub parted_among : filter (λ r. not (are_together dm (names r))) (filter (goes_with d key) d.others) ≡ filter (λ r. not (are_together dm (names r))) d.others
   parted_among = filter_wider (λ r. not (are_together dm (names r))) (goes_with d key) d.others (λ x one parted. elim (cases_Bool (goes_with d key x)) [
     | inl e ↦ e
-    | inr e ↦ absurd (true_false (sym parted ∙ ap not (together_still (names x) (or_parts (has_key key x) _ e).1 ∙ was_together x one)))
+    | inr e ↦ absurd (true_false (sym parted ∙ ap not (together_still (names x) (or_parts (has_key key x) _ e).1 ∙ (obeyed d g x (other_in d x one)).3)))
   ])

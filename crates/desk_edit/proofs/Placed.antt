@@ -1,6 +1,6 @@
 -- Members picked with their places are taken, and put back changed, by one sweep.
 use Rattle.std.specs.Prelude.{◌≡◌, ◌+◌, ◌<◌, ◌&&◌, ◌∷◌}
-use Rattle.desk_edit.proofs.Words.{ℕ, suc, nat_le, nat_lt, Bool, true, false, not, cond, List, [], map, filter, length, insert, remove, refl, sym, ap, ◌∙◌, arith, lt-ltb, list_all, and_from, or_left, or_right, MemberRow, Placed, is_in, is_at, places_rise, take_at, put_at, can_take, can_put, row_itself, placed_from}
+use Rattle.desk_edit.proofs.Words.{ℕ, suc, nat_le, nat_lt, Bool, true, not, cond, List, [], map, filter, length, insert, refl, sym, ap, ◌∙◌, arith, list_all, or_left, or_right, MemberRow, Placed, is_in, is_at, places_rise, take_at, put_at, can_take, can_put, row_itself, placed_from}
 use Rattle.desk_rows.specs.declared.row.Row.TheVariants as rows
 use Rattle.desk_rows.specs.laws.PlaceLaws.{can_put_within, can_put-take_at, can_take_places}
 use Rattle.std.proofs.lemmas.List.Folds.{list_all-map}
@@ -19,55 +19,37 @@ module _ (p : MemberRow → Bool) where
 
   take_further : (j k : ℕ) → j ≡ suc k → (ms : List MemberRow) (x : MemberRow) (ys : List MemberRow) → take_at (placed_from j p ms) (x ∷ ys) ≡ x ∷ take_at (placed_from k p ms) ys
   take_further j k e [] x ys = refl
-  take_further j k e (m ∷ ms) x ys = by (p m) (take_further (j + 1) (k + 1) (omega (arith, e)) ms x ys) where
-    by : (b : Bool) → take_at (placed_from (j + 1) p ms) (x ∷ ys) ≡ x ∷ take_at (placed_from (k + 1) p ms) ys →
-        take_at (cond b (record { place = j; row = m } ∷ placed_from (j + 1) p ms) (placed_from (j + 1) p ms)) (x ∷ ys) ≡ x ∷ take_at (cond b (record { place = k; row = m } ∷ placed_from (k + 1) p ms) (placed_from (k + 1) p ms)) ys
-    by true rest = (λ i. remove (rest i) (e i))
-    by false rest = rest
+  take_further j k e (m ∷ ms) x ys = let rest = take_further (j + 1) (k + 1) (omega (arith, e)) ms x ys in grind (arith, rest, e)
 
   put_further : (f : MemberRow → MemberRow) (j k : ℕ) → j ≡ suc k → (ms : List MemberRow) (x : MemberRow) (ys : List MemberRow) →
       put_at (map (changed_at f) (placed_from j p ms)) (x ∷ ys) ≡ x ∷ put_at (map (changed_at f) (placed_from k p ms)) ys
   put_further f j k e [] x ys = refl
-  put_further f j k e (m ∷ ms) x ys = by (p m) (put_further f (j + 1) (k + 1) (omega (arith, e)) ms x) where
-    by : (b : Bool) → ((ys : List MemberRow) → put_at (map (changed_at f) (placed_from (j + 1) p ms)) (x ∷ ys) ≡ x ∷ put_at (map (changed_at f) (placed_from (k + 1) p ms)) ys) →
-        put_at (map (changed_at f) (cond b (record { place = j; row = m } ∷ placed_from (j + 1) p ms) (placed_from (j + 1) p ms))) (x ∷ ys)
-        ≡ x ∷ put_at (map (changed_at f) (cond b (record { place = k; row = m } ∷ placed_from (k + 1) p ms) (placed_from (k + 1) p ms))) ys
-    by true rest = ap (λ q. put_at (map (changed_at f) (placed_from (j + 1) p ms)) (insert (x ∷ ys) q (f m))) e ∙ rest (insert ys k (f m))
-    by false rest = rest ys
+  put_further f j k e (m ∷ ms) x ys =
+      let stays = put_further f (j + 1) (k + 1) (omega (arith, e)) ms x ys in
+      let comes = put_further f (j + 1) (k + 1) (omega (arith, e)) ms x (insert ys k (f m)) in
+      grind (arith, stays, comes, e)
 
   at_further : (j k : ℕ) → j ≡ suc k → (ms : List MemberRow) (x : MemberRow) (ys : List MemberRow) →
       list_all (λ q. is_at (x ∷ ys) q.place q.row) (placed_from j p ms) ≡ list_all (λ q. is_at ys q.place q.row) (placed_from k p ms)
   at_further j k e [] x ys = refl
-  at_further j k e (m ∷ ms) x ys = by (p m) (at_further (j + 1) (k + 1) (omega (arith, e)) ms x ys) where
-    by : (b : Bool) → list_all (λ q. is_at (x ∷ ys) q.place q.row) (placed_from (j + 1) p ms) ≡ list_all (λ q. is_at ys q.place q.row) (placed_from (k + 1) p ms) →
-        list_all (λ q. is_at (x ∷ ys) q.place q.row) (cond b (record { place = j; row = m } ∷ placed_from (j + 1) p ms) (placed_from (j + 1) p ms))
-        ≡ list_all (λ q. is_at ys q.place q.row) (cond b (record { place = k; row = m } ∷ placed_from (k + 1) p ms) (placed_from (k + 1) p ms))
-    by true rest = (λ i. is_at (x ∷ ys) (e i) m && rest i)
-    by false rest = rest
+  at_further j k e (m ∷ ms) x ys = let rest = at_further (j + 1) (k + 1) (omega (arith, e)) ms x ys in grind (arith, rest, e)
 
   pub picked : (t : MemberRow → Bool) (n : ℕ) (ms : List MemberRow) → ((m : MemberRow) → is_in (map rows.Member ms) (rows.Member m) ≡ true → p m ≡ true → t m ≡ true) → list_all (λ (q : Placed). t q.row) (placed_from n p ms) ≡ true
   picked t n [] each = refl
-  picked t n (m ∷ ms) each = by (p m) refl (picked t (n + 1) ms (λ x one. each x (or_right _ _ one))) where
-    by : (b : Bool) → p m ≡ b → list_all (λ (q : Placed). t q.row) (placed_from (n + 1) p ms) ≡ true → list_all (λ (q : Placed). t q.row) (cond b (record { place = n; row = m } ∷ placed_from (n + 1) p ms) (placed_from (n + 1) p ms)) ≡ true
-    by true own rest = and_from _ _ (each m (or_left _ _ (row_itself (rows.Member m))) own) rest
-    by false own rest = rest
+  picked t n (m ∷ ms) each =
+      let rest = picked t (n + 1) ms (λ x one. each x (or_right _ _ one)) in
+      let here = each m (or_left _ _ (row_itself (rows.Member m))) in
+      grind (arith, rest, here)
 
   -- ---- places rise
 
   above : (n k : ℕ) (ms : List MemberRow) → n < k → list_all (λ (q : Placed). nat_lt n q.place) (placed_from k p ms) ≡ true
   above n k [] less = refl
-  above n k (m ∷ ms) less = by (p m) (above n (k + 1) ms (omega (arith, less))) where
-    by : (b : Bool) → list_all (λ (q : Placed). nat_lt n q.place) (placed_from (k + 1) p ms) ≡ true →
-        list_all (λ (q : Placed). nat_lt n q.place) (cond b (record { place = k; row = m } ∷ placed_from (k + 1) p ms) (placed_from (k + 1) p ms)) ≡ true
-    by true rest = and_from _ _ (lt-ltb n k less) rest
-    by false rest = rest
+  above n k (m ∷ ms) less = let rest = above n (k + 1) ms (omega (arith, less)) in grind (arith, rest, less)
 
   rising : (k : ℕ) (ms : List MemberRow) → places_rise (placed_from k p ms) ≡ true
   rising k [] = refl
-  rising k (m ∷ ms) = by (p m) (rising (k + 1) ms) where
-    by : (b : Bool) → places_rise (placed_from (k + 1) p ms) ≡ true → places_rise (cond b (record { place = k; row = m } ∷ placed_from (k + 1) p ms) (placed_from (k + 1) p ms)) ≡ true
-    by true rest = and_from _ _ (above k (k + 1) ms (omega arith)) rest
-    by false rest = rest
+  rising k (m ∷ ms) = let rest = rising (k + 1) ms in let over = above k (k + 1) ms (omega arith) in grind (arith, rest, over)
 
   -- ---- of a whole list
 
@@ -82,30 +64,27 @@ module _ (p : MemberRow → Bool) where
 
   pub taken_all : (ms : List MemberRow) → take_at (placed_from 0 p ms) ms ≡ filter (λ m. not (p m)) ms
   taken_all [] = refl
-  taken_all (m ∷ ms) = by (p m) (take_further 1 0 refl ms m ms ∙ ap (λ zs. m ∷ zs) (taken_all ms)) where
-    by : (b : Bool) → take_at (placed_from 1 p ms) (m ∷ ms) ≡ m ∷ filter (λ m. not (p m)) ms →
-        take_at (cond b (record { place = 0; row = m } ∷ placed_from 1 p ms) (placed_from 1 p ms)) (m ∷ ms) ≡ cond (not b) (m ∷ filter (λ m. not (p m)) ms) (filter (λ m. not (p m)) ms)
-    by true rest = ap (λ zs. remove zs 0) rest
-    by false rest = rest
+  taken_all (m ∷ ms) = let rest = take_further 1 0 refl ms m ms in let all = taken_all ms in grind (arith, rest, all)
+
+  one_there : (m : MemberRow) (ms : List MemberRow) → list_all (λ q. is_at (m ∷ ms) q.place q.row) (placed_from 1 p ms) ≡ true → list_all (λ q. is_at (m ∷ ms) q.place q.row) (placed_from 0 p (m ∷ ms)) ≡ true
+  one_there m ms rest = grind (arith, rest, row_itself (rows.Member m))
+
+  all_there : (ms : List MemberRow) → list_all (λ q. is_at ms q.place q.row) (placed_from 0 p ms) ≡ true
+  all_there [] = refl
+  all_there (m ∷ ms) = one_there m ms (at_further 1 0 refl ms m ms ∙ all_there ms)
 
   pub can_take_all : (ms : List MemberRow) → can_take (placed_from 0 p ms) ms ≡ true
-  can_take_all ms = can_take_places (placed_from 0 p ms) ms (all_rise ms) ∙ at_each_place ms where
-    at_each_place : (ms : List MemberRow) → list_all (λ q. is_at ms q.place q.row) (placed_from 0 p ms) ≡ true
-    at_each_place [] = refl
-    at_each_place (m ∷ ms) = by (p m) (at_further 1 0 refl ms m ms ∙ at_each_place ms) where
-      by : (b : Bool) → list_all (λ q. is_at (m ∷ ms) q.place q.row) (placed_from 1 p ms) ≡ true → list_all (λ q. is_at (m ∷ ms) q.place q.row) (cond b (record { place = 0; row = m } ∷ placed_from 1 p ms) (placed_from 1 p ms)) ≡ true
-      by true rest = and_from _ _ (row_itself (rows.Member m)) rest
-      by false rest = rest
+  can_take_all ms = can_take_places (placed_from 0 p ms) ms (all_rise ms) ∙ all_there ms
 
   -- the rows that were taken, put back changed
   pub put_back_all : (f : MemberRow → MemberRow) (ms : List MemberRow) → put_at (map (changed_at f) (placed_from 0 p ms)) (filter (λ m. not (p m)) ms) ≡ map (λ m. cond (p m) (f m) m) ms
   put_back_all f [] = refl
-  put_back_all f (m ∷ ms) = by (p m) (λ x. put_further f 1 0 refl ms x (filter (λ m. not (p m)) ms) ∙ ap (λ zs. x ∷ zs) (put_back_all f ms)) where
-    by : (b : Bool) → ((x : MemberRow) → put_at (map (changed_at f) (placed_from 1 p ms)) (x ∷ filter (λ m. not (p m)) ms) ≡ x ∷ map (λ m. cond (p m) (f m) m) ms) →
-        put_at (map (changed_at f) (cond b (record { place = 0; row = m } ∷ placed_from 1 p ms) (placed_from 1 p ms))) (cond (not b) (m ∷ filter (λ m. not (p m)) ms) (filter (λ m. not (p m)) ms))
-        ≡ cond b (f m) m ∷ map (λ m. cond (p m) (f m) m) ms
-    by true rest = ap (put_at (map (changed_at f) (placed_from 1 p ms))) (insert_first (filter (λ m. not (p m)) ms) (f m)) ∙ rest (f m)
-    by false rest = rest m
+  put_back_all f (m ∷ ms) =
+      let left = filter (λ m. not (p m)) ms in
+      let comes = put_further f 1 0 refl ms (f m) left in
+      let stays = put_further f 1 0 refl ms m left in
+      let all = put_back_all f ms in
+      grind (arith, comes, stays, all, insert_first left (f m))
 
   pub can_put_all : (f : MemberRow → MemberRow) (ms : List MemberRow) → can_put (map (changed_at f) (placed_from 0 p ms)) (filter (λ m. not (p m)) ms) ≡ true
   can_put_all f ms =

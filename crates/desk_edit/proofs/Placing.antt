@@ -1,12 +1,12 @@
 -- The edits that put a row lead to the desk with the row.
 use Rattle.std.specs.Prelude.{◌≡◌, ◌||◌, ◌∷◌}
-use Rattle.desk_edit.proofs.Words.{nat_eq, true, false, not, [], map, filter, length, Option, Some, None, refl, sym, ap, ◌∙◌, arith, or-false, and_from, or_left, or_right, insert_end, Row, MemberRow, Key, rank, kind_of, key_of, has_key, same_row, is_of, is_in, with_row, without_rows, Desk, good, rows_of, row_at, finds, is_elsewhere, its_key, same_row_is, row_itself, both_ways, from_each, filter_all, is_in-append, true_false, found_nothing, found_one, found_there, keyed_good, among_others, with_put, first_case, put_cases, found_list, puts_other, puts_member, replaces, puts_in_place}
+use Rattle.desk_edit.proofs.Words.{nat_eq, true, false, not, [], filter, length, Option, Some, None, refl, sym, ap, ◌∙◌, arith, or-false, and_from, or_left, insert_end, Row, MemberRow, Key, rank, kind_of, key_of, has_key, same_row, is_of, is_in, with_row, without_rows, Desk, good, rows_of, row_at, finds, is_elsewhere, its_key, same_row_is, row_itself, both_ways, from_each, filter_all, true_false, found_nothing, found_one, found_there, keyed_good, among_others, with_put, first_case, put_cases, found_list, puts_other, puts_member, replaces, puts_in_place}
 use Rattle.desk_rows.specs.declared.row.Row.TheVariants as rows
 use Rattle.desk_rows.specs.declared.row.Key.TheVariants as keys
 use Rattle.desk_rows.specs.declared.row.Kind.TheVariants as kinds
 use Rattle.desk_rows.specs.Exchange.{exchanged}
 use Rattle.desk_edit.specs.inner.Edits.{puts as puts_row}
-use Rattle.desk_edit.proofs.Lists.{most, filter_alike}
+use Rattle.desk_edit.proofs.Lists.{most, filter_alike, other_in}
 use Rattle.desk_edit.proofs.Asked.{Free, free_row}
 use Rattle.desk_edit.proofs.Fitting.{Leads, leads}
 use Rattle.desk_edit.proofs.Putting.{Puts, put_carries}
@@ -15,7 +15,7 @@ use Rattle.desk_edit.proofs.Putting.{Puts, put_carries}
 without_found : (d : Desk) → good d ≡ true → (k : Key) → without_rows (found_list (row_at d k)) d.others ≡ filter (λ x. not (has_key k x)) d.others
 without_found d g k = filter_alike (λ x. not (is_in (found_list (row_at d k)) x)) (λ x. not (has_key k x)) d.others (λ x one.
     ap not (both_ways _ _ (found (row_at d k) refl x) (λ own.
-    let at = found_one (has_key k) (rows_of d) x ((keyed_good d g).once k) (is_in-append (map rows.Member d.members) d.others x ∙ or_right _ _ one) own in
+    let at = found_one (has_key k) (rows_of d) x ((keyed_good d g).once k) (other_in d x one) own in
     ap (λ o. is_in (found_list o) x) at ∙ or_left _ _ (row_itself x)))) where
       found : (o : Option Row) → row_at d k ≡ o → (x : Row) → is_in (found_list o) x ≡ true → has_key k x ≡ true
       found None at x h = absurd (true_false (sym h))

@@ -142,10 +142,11 @@ module _ (d : Desk) (e : EditOf) (r : Row) (g : good d ≡ true) (p : Puts d e r
       omega (arith, all.0, was, own, count_other d (is_audio_in d room) (λ m. refl), count_other d' (is_audio_in d' room) (λ m. refl))
 
   few_audio : (room : RoomRow) → is_in (rows_of d) (rows.Room room) ≡ true → count_by (is_audio_in d' room.room) d'.others ≤ room_audio_limit
-  few_audio room one = elim (cases_Bool (is_audio_in d room.room r)) [
-    | inl own ↦ let less = f.audio room.room own in omega (arith, audio_later room.room, less, one_yes (is_audio_in d room.room r) own)
-    | inr own ↦ omega (arith, audio_later room.room, good_audio d g room one, one_no (is_audio_in d room.room r) own)
-  ]
+  few_audio room one =
+      let less = f.audio room.room in
+      let few = good_audio d g room one in
+      let later = audio_later room.room in
+      grind (arith, less, few, later)
 
   -- a room that comes has no audio
   own_audio : (x : Row) → r ≡ x → has_few_audio d' x ≡ true

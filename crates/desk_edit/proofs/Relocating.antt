@@ -1,6 +1,6 @@
 -- A member is put into another room, and what would cross rooms is taken: the desk stays good.
 use Rattle.std.specs.Prelude.{◌≡◌, ◌+◌, ◌≤◌, ◌&&◌, ◌||◌, ◌∷◌, ◌++◌, ◌⊎◌}
-use Rattle.desk_edit.proofs.Words.{ℕ, nat_eq, Bool, true, false, not, cond, List, [], map, filter, count_by, find, Option, Some, None, inl, inr, refl, sym, ap, ◌∙◌, arith, eqb-true, eq-eqb, ltb-false, is_some, list_any, list_all, not-not, and_parts, and_from, or_left, cases_Bool, not-false, false_from_ne_true, filter-append, list_any-append, Row, RoomRow, MemberRow, Media, Audio, Key, Claim, Placed, room_audio_limit, key_of, has_key, same_media, names, wants, suits, is_in_range, makes, claims_of, is_of, is_in, EditOf, Desk, good, rows_of, row_at, room_of_member, room_of, same_room, are_together, all_suit, is_audio_in, has_few_audio, is_bridges, is_made_once, is_alone, is_within_limits, obeys, stay_rows, come_rows, takes, puts, keeps_names, moves, its_key, at_each, from_each, filter_all, is_in-filter, Apt, good_parts, any_counts, is_in-append, true_false, two_alls, is_found, found_there, keyed_good, was_there, plain_others, own_claims, sound_from, into_room, with_member_in, with_moved, has, first_case, is_audio_of, move_cases, placed_from, placed_in, moves_member, row_into_room}
+use Rattle.desk_edit.proofs.Words.{ℕ, nat_eq, Bool, true, false, not, cond, List, [], map, filter, count_by, find, Option, Some, None, inl, inr, refl, sym, ap, ◌∙◌, arith, eqb-true, eq-eqb, ltb-false, is_some, list_any, list_all, not-not, and_parts, and_from, or_left, cases_Bool, not-false, false_from_ne_true, filter-append, list_any-append, Row, RoomRow, MemberRow, Media, Audio, Key, Claim, Placed, room_audio_limit, key_of, has_key, same_media, names, wants, suits, makes, claims_of, is_of, is_in, EditOf, Desk, good, rows_of, row_at, room_of_member, room_of, same_room, are_together, all_suit, is_audio_in, has_few_audio, is_bridges, is_made_once, is_alone, is_within_limits, obeys, stay_rows, come_rows, takes, puts, keeps_names, moves, its_key, at_each, from_each, filter_all, is_in-filter, Apt, good_parts, any_counts, is_in-append, true_false, two_alls, is_found, found_there, keyed_good, was_there, plain_others, own_claims, sound_from, into_room, with_member_in, with_moved, has, first_case, is_audio_of, move_cases, placed_from, placed_in, moves_member, row_into_room}
 use Rattle.desk_rows.specs.declared.row.Row.TheVariants as rows
 use Rattle.desk_rows.specs.declared.row.Key.TheVariants as keys
 use Rattle.desk_rows.specs.declared.claim.Claim.TheVariants as claims
@@ -8,7 +8,8 @@ use Rattle.desk_rows.specs.Exchange.{exchanged}
 use Rattle.desk_rows.specs.inner.Judged.{is_sound as is_sound_row, stays_sound}
 use Rattle.std.proofs.lemmas.List.Folds.{list_all-map}
 use Rattle.std.proofs.Math.Bool.{and-not_self}
-use Rattle.desk_edit.proofs.Lists.{most, all_both, any_none, in_filter, fewer_pass, count_filter, two_pass, found_filter}
+use Rattle.desk_edit.proofs.Lists.{most, all_both, any_none, in_filter, fewer_pass, count_filter, two_pass, obeyed, found_filter}
+use Rattle.desk_edit.proofs.Dependence.{within}
 use Rattle.desk_edit.proofs.Moves.{into_keeps, moved_keeps, moved_in, rows_moved, found_moved, count_moved}
 use Rattle.desk_edit.proofs.Cases.{none_holds}
 use Rattle.desk_edit.proofs.Placed.{picked, back_rise, put_back_all, can_put_all}
@@ -185,9 +186,9 @@ module _ (d : Desk) (n room : ℕ) (g : good d ≡ true) (h : first_case (move_c
 
   obeys_w : (x : Row) → is_in (rows_of d) x ≡ true → t x ≡ true → obeys w x ≡ true
   obeys_w x one own =
-      let was = and_parts (is_in_range x && has_few_audio d x) (all_suit d x && are_together d (names x)) (at_each (obeys d) (rows_of d) x (good_parts d g).obey one) in
-      and_from _ _ (and_from _ _ (and_parts (is_in_range x) (has_few_audio d x) was.0).0 (few x one))
-      (and_from _ _ (suits_w x ∙ (and_parts (all_suit d x) (are_together d (names x)) was.1).0) (together_alike dm w is_base found_w (λ k r base at. names_base r) (names x) (names_base x) ∙ own)) where
+      let was = obeyed d g x one in
+      and_from _ _ (and_from _ _ was.0 (few x one))
+      (and_from _ _ (suits_w x ∙ was.2) (together_alike dm w is_base found_w (λ k r base at. names_base r) (names x) (names_base x) ∙ own)) where
         few : (x : Row) → is_in (rows_of d) x ≡ true → has_few_audio w x ≡ true
         few (rows.Room r) one = most _ _ (few_audio r one)
         few x one = refl

@@ -35,6 +35,7 @@ fn is_stream<A: Allocator + Copy>(rows: &Rows<A>, ssrc: u32) -> bool
 }
 
 /// Whether some row makes this claim. Only rows of the kinds that may make it are asked.
+#[tactic(auto, using(crate::proofs::Claimed::address_claimed, crate::proofs::Claimed::place_claimed, crate::proofs::Claimed::ssrc_claimed))]
 fn is_claimed<A: Allocator + Copy>(rows: &Rows<A>, claim: &Claim) -> bool
     ensures { result ≡ is_claimed rows.now claim.now }
 {
@@ -48,6 +49,7 @@ fn is_claimed<A: Allocator + Copy>(rows: &Rows<A>, claim: &Claim) -> bool
 }
 
 /// Whether there is a row of this key.
+#[tactic(auto, using(crate::proofs::Words::is_found))]
 pub(crate) fn has<A: Allocator + Copy>(rows: &Rows<A>, key: Key) -> bool
     ensures { result ≡ has rows.now key }
 {

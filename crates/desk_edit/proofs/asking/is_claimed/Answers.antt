@@ -3,23 +3,7 @@ use Rattle.desk_edit.proofs.Words.{sym, ap, ◌∙◌, list_any, makes, is_claim
 use Rattle.desk_rows.specs.declared.row.Row.TheVariants as rows
 use Rattle.desk_rows.specs.declared.claim.Claim.TheVariants as claims
 use Rattle.desk_edit.proofs.asking.is_claimed.Goals as goal
-use Rattle.desk_edit.proofs.Claimed.{address_claimed, place_claimed, ssrc_claimed}
-
-pub returns-in-Address : goal.returns-in-Address
-returns-in-Address g c =
-    let d = c.args.rows.now in
-    c.any_member_claims.ensures ∙ (λ i. list_any (λ m. makes (c.in-Address.is i) (rows.Member m)) (c.members.ensures i)) ∙ sym (address_claimed d c.known.ensures c.in-Address.field-0) ∙ sym (ap (is_claimed d) c.in-Address.is)
-
-pub returns-in-Place : goal.returns-in-Place
-returns-in-Place g c =
-    let d = c.args.rows.now in
-    c.any_claims.ensures ∙ (λ i. list_any (makes (c.in-Place.is i)) (c.others_of.ensures i)) ∙ sym (place_claimed d c.in-Place.member c.in-Place.index) ∙ sym (ap (is_claimed d) c.in-Place.is)
-
-pub returns-then-is_stream : goal.returns-then-is_stream
-returns-then-is_stream g c =
-    let d = c.args.rows.now in
-    c.if-is_stream.true ∙ sym (ap (λ b. b || list_any (λ m. makes (claims.Ssrc c.in-Ssrc.ssrc) (rows.Member m)) d.members) (sym c.is_stream.ensures ∙ c.if-is_stream.true))
-    ∙ sym (ssrc_claimed d c.known.ensures c.in-Ssrc.ssrc) ∙ sym (ap (is_claimed d) c.in-Ssrc.is)
+use Rattle.desk_edit.proofs.Claimed.{ssrc_claimed}
 
 pub returns-else-is_stream : goal.returns-else-is_stream
 returns-else-is_stream g c =
