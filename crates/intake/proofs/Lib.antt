@@ -12,3 +12,4 @@ pub mod Results
 pub mod Turns
 pub mod Read
 pub mod Sized
+pub mod UnitLemmas

@@ -8,7 +8,7 @@ ghost use Rattle.intake.specs.Media.{told};
 ghost use Rattle.intake.specs.Taking.{most_epochs};
 ghost use Rattle.intake.specs.inner.Kept.{Judges, base_of, gate_for};
 ghost use Rattle.intake.specs.inner.Holding.{kept_at};
-ghost use Rattle.intake.specs.inner.Moves.{source_in, epoch_in, next_of, IsKept, Advances};
+ghost use Rattle.intake.specs.inner.Moves.{source_in, epoch_in, IsKept, Advances};
 
 use crate::admitting::Admission;
 use crate::ingest::Ingest;
@@ -32,6 +32,16 @@ fn source_in<A: Allocator + Copy>(kept: Option<&Kept<A>>) -> Option<Source>
     }
 }
 
+/// The epoch of what is kept, 0 where nothing is.
+fn epoch_in<A: Allocator + Copy>(kept: Option<&Kept<A>>) -> u64
+    ensures { result ≡ epoch_in (option_copied kept.entry) }
+{
+    match kept {
+        None => 0,
+        Some(kept) => kept.epoch,
+    }
+}
+
 /// The outcome of a verdict.
 fn told(verdict: Verdict) -> Outcome
     ensures { result ≡ told verdict }
@@ -52,12 +62,30 @@ fn counted(epochs: u64, begins: bool) -> u64
     if begins { epochs + 1 } else { epochs }
 }
 
+/// What a source is to become with a judged packet, in this epoch.
+fn next_with<A: Allocator + Copy>(
+    judged: &Judged,
+    epoch: u64,
+    admission: Option<Admission<A>>,
+) -> Next<A>
+    ensures { result ≡ record { source = judged.now.source; epoch = epoch; begins = judged.now.begins; admission = admission } }
+{
+    Next {
+        source: judged.source,
+        epoch,
+        begins: judged.begins,
+        admission,
+    }
+}
+
 impl<A: Allocator + Copy> Intake<A> {
     /// A packet, judged by its source.
     pub(crate) fn judged(&self, key: &Key, mark: Mark) -> Judged
-        ensures { Judges (source_in (kept_at key.now self.now.entries)) mark result }
+        ensures judges { Judges (source_in (kept_at key.now self.now.entries)) mark result }
+        ensures epoch { result.epoch ≡ epoch_in (kept_at key.now self.now.entries) }
     {
-        judge(source_in(self.known.at(key)), mark)
+        let kept = self.known.at(key);
+        judge(source_in(kept), epoch_in(kept), mark)
     }
 
     /// Whether the packet would begin an epoch, and none is left.
@@ -68,30 +96,14 @@ impl<A: Allocator + Copy> Intake<A> {
     }
 
     /// The epoch of a source with the packet.
-    pub(crate) fn epoch_for(&self, key: &Key, begins: bool) -> u64
-        requires { (begins && nat_eq self.now.epochs most_epochs) ≡ false }
-        ensures { result ≡ (if begins then self.now.epochs + 1 else epoch_in (kept_at key.now self.now.entries)) }
+    pub(crate) fn epoch_for(&self, judged: &Judged) -> u64
+        requires { (judged.now.begins && nat_eq self.now.epochs most_epochs) ≡ false }
+        ensures { result ≡ (if judged.now.begins then self.now.epochs + 1 else judged.now.epoch) }
     {
-        if begins {
+        if judged.begins {
             return self.epochs + 1;
         }
-        match self.known.at(key) {
-            None => 0,
-            Some(kept) => kept.epoch,
-        }
-    }
-
-    /// What a source is to become with a judged packet.
-    fn next_for(&self, key: &Key, judged: &Judged, admission: Option<Admission<A>>) -> Next<A>
-        requires { (judged.now.begins && nat_eq self.now.epochs most_epochs) ≡ false }
-        ensures { result ≡ next_of (kept_at key.now self.now.entries) self.now.epochs judged.now admission }
-    {
-        Next {
-            source: judged.source,
-            epoch: self.epoch_for(key, judged.begins),
-            begins: judged.begins,
-            admission,
-        }
+        judged.epoch
     }
 
     /// Keeps a source as what it is to become.
@@ -117,13 +129,14 @@ impl<A: Allocator + Copy> Intake<A> {
         admission: Option<Admission<A>>,
     ) -> Result<Option<Admitted<A>>, AllocError>
         requires room { (judged.now.begins && nat_eq self.old.epochs most_epochs) ≡ false }
+        requires epoch { judged.now.epoch ≡ epoch_in (kept_at key self.old.entries) }
         requires ready { IfSome admission (λ a. is_some (base_of (gate_for (kept_at key self.old.entries) judged.now.begins) a) ≡ true) }
         ensures advances { OnOk result (Advances self.old self.new key judged.now admission) }
         ensures answer { IfOk result (λ answer. answer ≡ option_map (λ a. a.prepared.answer) admission) }
         ensures err { OnErr result (self.new ≡ self.old) }
         ensures asker { self.new.asker ≡ self.old.asker }
     {
-        let next = self.next_for(&key, judged, admission);
+        let next = next_with(judged, self.epoch_for(judged), admission);
         self.keep(key, next)
     }
 
@@ -136,6 +149,7 @@ impl<A: Allocator + Copy> Intake<A> {
         items: Vec<Item<A>, A>,
     ) -> Result<Ingest<A>, AllocError>
         requires room { (judged.now.begins && nat_eq self.old.epochs most_epochs) ≡ false }
+        requires epoch { judged.now.epoch ≡ epoch_in (kept_at key self.old.entries) }
         requires sized { list_all is_sized (map input_of items.items) ≡ true }
         ensures advances { OnOk result (Advances self.old self.new key judged.now None) }
         ensures ingest { IfOk result (λ ingest. ingested_of ingest ≡ with_items (told judged.now.verdict) (map input_of items.items)) }
@@ -158,6 +172,7 @@ impl<A: Allocator + Copy> Intake<A> {
         judged: &Judged,
     ) -> Result<Ingest<A>, AllocError>
         requires room { (judged.now.begins && nat_eq self.old.epochs most_epochs) ≡ false }
+        requires epoch { judged.now.epoch ≡ epoch_in (kept_at key self.old.entries) }
         ensures advances { OnOk result (Advances self.old self.new key judged.now None) }
         ensures ingest { IfOk result (λ ingest. ingested_of ingest ≡ only (told judged.now.verdict)) }
         ensures err { OnErr result (self.new ≡ self.old) }

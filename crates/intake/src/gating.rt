@@ -11,7 +11,7 @@ ghost use Rattle.intake.specs.Taking.{most_epochs};
 ghost use Rattle.intake.specs.inner.Kept.{Admits, gate_for};
 ghost use Rattle.intake.specs.inner.Holding.{kept_at};
 ghost use Rattle.frame_gate.specs.Epochs.{most_missing};
-ghost use Rattle.intake.specs.inner.Moves.{outcome_at, Gates};
+ghost use Rattle.intake.specs.inner.Moves.{outcome_at, epoch_in, Gates};
 
 use crate::admitting::{Admission, admit};
 use crate::ingest::Ingest;
@@ -40,17 +40,17 @@ fn gate_for<A: Allocator + Copy>(kept: Option<&Kept<A>>, begins: bool) -> Option
     }
 }
 
-/// The packet as its source's gate takes it. Its payload is copied here, and shared from here on.
-fn packet_of<A: Allocator + Copy>(alloc: A, view: &RtpView<'_>) -> Result<Packet<A>, AllocError>
-    ensures { IfOk result (λ p. p ≡ gate_packet (packet_of view.now)) }
+/// The packet as its source's gate takes it, with a copy of its payload.
+fn packet_with<A: Allocator + Copy>(view: &RtpView<'_>, payload: Bytes<A>) -> Packet<A>
+    requires { payload ≡ view.now.payload.now }
+    ensures { result ≡ gate_packet (packet_of view.now) }
 {
-    let payload = Bytes::copy_from_slice(alloc, view.payload)?;
-    Ok(Packet {
+    Packet {
         marker: view.marker,
         pt: view.pt,
         ts: view.ts,
         payload,
-    })
+    }
 }
 
 /// The outcome of a packet that came to the gate.
@@ -113,6 +113,15 @@ fn put_frames<A: Allocator + Copy>(
 }
 
 impl<A: Allocator + Copy> Intake<A> {
+    /// The packet as its source's gate takes it. Its payload is copied here, and shared from here on.
+    fn packet_of(&mut self, alloc: A, view: &RtpView<'_>) -> Result<Packet<A>, AllocError>
+        ensures packet { IfOk result (λ p. p ≡ gate_packet (packet_of view.now)) }
+        ensures same { self.new ≡ self.old }
+    {
+        let payload = self.payloads.copied(alloc, view.payload)?;
+        Ok(packet_with(view, payload))
+    }
+
     /// Makes a packet ready for its source's gate.
     fn admission(
         &self,
@@ -120,20 +129,54 @@ impl<A: Allocator + Copy> Intake<A> {
         key: &Key,
         judged: &Judged,
         ext: i64,
-        view: &RtpView<'_>,
+        packet: Packet<A>,
     ) -> Result<Admission<A>, AllocError>
         requires ext { IsExt ext }
-        requires pt { view.now.pt ≤ highest_pt }
+        requires pt { packet.pt ≤ highest_pt }
         ensures few { IfOk result (λ a. length a.prepared.answer.nacks ≤ most_missing) }
-        ensures admits { IfOk result (λ a. Admits (gate_for (kept_at key.now self.now.entries) judged.now.begins) (numbered ext (gate_packet (packet_of view.now))) a) }
+        ensures admits { IfOk result (λ a. Admits (gate_for (kept_at key.now self.now.entries) judged.now.begins) (numbered ext packet) a) }
     {
-        let packet = packet_of(alloc, view)?;
         admit(
             alloc,
             gate_for(self.known.at(key), judged.begins),
             ext,
             packet,
         )
+    }
+
+    /// Puts a packet to its source's gate, as the gate takes it.
+    fn at_gate(
+        &mut self,
+        alloc: A,
+        key: Key,
+        judged: &Judged,
+        ext: i64,
+        restarts: bool,
+        from: &Address,
+        moment: u64,
+        view: &RtpView<'_>,
+        packet: Packet<A>,
+    ) -> Result<Ingest<A>, AllocError>
+        requires room { (judged.now.begins && nat_eq self.old.epochs most_epochs) ≡ false }
+        requires epoch { judged.now.epoch ≡ epoch_in (kept_at key self.old.entries) }
+        requires ext { IsExt ext }
+        requires pt { packet.pt ≤ highest_pt }
+        ensures gates { IfOk result (λ ingest. Gates self.old self.new key judged.now (record { from = from.now; moment = moment; packet = packet_of view.now }) (numbered ext packet) ext restarts (ingested_of ingest)) }
+        ensures err { OnErr result (self.new ≡ self.old) }
+        ensures asker { self.new.asker ≡ self.old.asker }
+    {
+        let admission = self.admission(alloc, &key, judged, ext, packet)?;
+        let answer = admission.answer();
+        let pli = either(restarts, answer.pli);
+        let up = self.asked(alloc, from, view.ssrc, &answer.nacks, pli)?;
+        let outcome = outcome_at(restarts, ext, answer.place);
+        let mut items = Vec::with_capacity(alloc, answer.frames.len())?;
+        let epoch = self.epoch_for(judged);
+        let Some(admitted) = self.advance(key, judged, Some(admission))? else {
+            unreachable!()
+        };
+        put_frames(&mut items, from, view.ssrc, moment, epoch, admitted.frames);
+        Ok(Ingest { outcome, up, items })
     }
 
     /// Puts a packet to its source's gate.
@@ -149,23 +192,16 @@ impl<A: Allocator + Copy> Intake<A> {
         view: &RtpView<'_>,
     ) -> Result<Ingest<A>, AllocError>
         requires room { (judged.now.begins && nat_eq self.old.epochs most_epochs) ≡ false }
+        requires epoch { judged.now.epoch ≡ epoch_in (kept_at key self.old.entries) }
         requires ext { IsExt ext }
         requires pt { view.now.pt ≤ highest_pt }
         ensures gates { IfOk result (λ ingest. Gates self.old self.new key judged.now (record { from = from.now; moment = moment; packet = packet_of view.now }) (numbered ext (gate_packet (packet_of view.now))) ext restarts (ingested_of ingest)) }
         ensures err { OnErr result (self.new ≡ self.old) }
         ensures asker { self.new.asker ≡ self.old.asker }
     {
-        let admission = self.admission(alloc, &key, judged, ext, view)?;
-        let answer = admission.answer();
-        let pli = either(restarts, answer.pli);
-        let up = self.asked(alloc, from, view.ssrc, &answer.nacks, pli)?;
-        let outcome = outcome_at(restarts, ext, answer.place);
-        let mut items = Vec::with_capacity(alloc, answer.frames.len())?;
-        let epoch = self.epoch_for(&key, judged.begins);
-        let Some(admitted) = self.advance(key, judged, Some(admission))? else {
-            unreachable!()
-        };
-        put_frames(&mut items, from, view.ssrc, moment, epoch, admitted.frames);
-        Ok(Ingest { outcome, up, items })
+        let packet = self.packet_of(alloc, view)?;
+        self.at_gate(
+            alloc, key, judged, ext, restarts, from, moment, view, packet,
+        )
     }
 }

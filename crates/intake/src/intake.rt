@@ -13,6 +13,7 @@ ghost use Rattle.intake.specs.Intakes.{Knows, TakesIn, Tells};
 use crate::ingest::Ingest;
 use crate::known::Known;
 use crate::outcome::Outcome;
+use crate::payloads::PayloadRoom;
 use crate::reporting::sources_of;
 use crate::settings::Settings;
 use desk_rows::Rows;
@@ -30,6 +31,8 @@ pub(crate) const MOST_OCTETS: usize = 8_192;
 pub struct Intake<A: Allocator + Copy = Global> {
     pub(crate) settings: Settings<A>,
     pub(crate) known: Known<A>,
+    /// Where payloads of video are copied to.
+    pub(crate) payloads: PayloadRoom<A>,
     /// How many epochs have begun.
     pub(crate) epochs: u64,
 }
@@ -57,6 +60,7 @@ impl<A: Allocator + Copy> Intake<A> {
         Ok(Self {
             settings,
             known,
+            payloads: PayloadRoom::new(alloc),
             epochs: 0,
         })
     }

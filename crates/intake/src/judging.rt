@@ -1,6 +1,6 @@
 //! A packet, judged by its source.
 
-ghost use Rattle.std.specs.Prelude.{◌≡◌, ◌++◌, List, [], ◌∷◌};
+ghost use Rattle.std.specs.Prelude.{◌≡◌, ◌≤◌, ◌++◌, List, [], ◌∷◌};
 ghost use Rattle.source_valid.specs.Histories.{Step, standing_of, past_probation_in};
 ghost use Rattle.source_valid.specs.Represents.{Represents};
 ghost use Rattle.source_valid.specs.Ranges.{IsInRange};
@@ -11,7 +11,7 @@ use source_valid::{Source, Verdict};
 use std::marker::Model;
 
 /// Nanoseconds in a second.
-const NANOSECONDS: u128 = 1_000_000_000;
+const NANOSECONDS: u64 = 1_000_000_000;
 
 /// A source with one more packet, and the verdict on it.
 #[derive(Clone, Copy)]
@@ -20,6 +20,8 @@ pub(crate) struct Judged {
     pub(crate) verdict: Verdict,
     /// The source is initialised at the packet.
     pub(crate) begins: bool,
+    /// The source's epoch before the packet.
+    pub(crate) epoch: u64,
 }
 
 impl Model for Judged {
@@ -27,9 +29,9 @@ impl Model for Judged {
 
     ghost Value = { JudgedOf };
 
-    ghost view = { λ j. record { source = j.source; verdict = j.verdict; begins = j.begins } };
+    ghost view = { λ j. record { source = j.source; verdict = j.verdict; begins = j.begins; epoch = j.epoch } };
 
-    ghost inverse = { λ j. record { source = j.source; verdict = j.verdict; begins = j.begins } };
+    ghost inverse = { λ j. record { source = j.source; verdict = j.verdict; begins = j.begins; epoch = j.epoch } };
 }
 
 /// A packet as its source judges it.
@@ -51,11 +53,16 @@ impl Model for Mark {
     ghost inverse = { λ m. record { seq = m.seq; ts = m.ts; units = m.units } };
 }
 
-/// A moment, in nanoseconds since 1970, in units of a clock rate in Hz, modulo 2^32.
+/// A moment, in nanoseconds since 1970, in units of a clock rate of at most 90,000 Hz, modulo 2^32.
+#[tactic(auto, using(crate::proofs::UnitLemmas::in_two))]
 pub(crate) fn units_of(rate: u32, moment: u64) -> u32
+    requires { rate ≤ 90000 }
     ensures { result ≡ units_of rate moment }
 {
-    (moment as u128 * rate as u128 / NANOSECONDS % (1 << 32)) as u32
+    let rate = u64::from(rate);
+    let (seconds, rest) = (moment / NANOSECONDS, moment % NANOSECONDS);
+    let units = seconds * rate + rest * rate / NANOSECONDS;
+    (units % (1 << 32)) as u32
 }
 
 /// Whether a source is initialised at a packet with this verdict, where it was past probation before or wasn't.
@@ -85,8 +92,9 @@ fn arrived(source: Source, verdict: Verdict, mark: Mark) -> Source
 }
 
 /// Judges a packet of a source that is known.
-fn judge_known(source: Source, mark: Mark) -> Judged
-    ensures { Judges (Some source) mark result }
+fn judge_known(source: Source, epoch: u64, mark: Mark) -> Judged
+    ensures judges { Judges (Some source) mark result }
+    ensures epoch { result.epoch ≡ epoch }
 {
     let was_past = source.past_probation();
     let mut next = source;
@@ -95,19 +103,22 @@ fn judge_known(source: Source, mark: Mark) -> Judged
         source: arrived(next, verdict, mark),
         verdict,
         begins: initialises(was_past, verdict),
+        epoch,
     }
 }
 
-/// Judges a packet. A source that isn't known is on probation with it.
-pub(crate) fn judge(source: Option<Source>, mark: Mark) -> Judged
-    ensures { Judges source mark result }
+/// Judges a packet of a source in this epoch. A source that isn't known is on probation with it.
+pub(crate) fn judge(source: Option<Source>, epoch: u64, mark: Mark) -> Judged
+    ensures judges { Judges source mark result }
+    ensures epoch { result.epoch ≡ epoch }
 {
     match source {
         None => Judged {
             source: Source::first(mark.seq),
             verdict: Verdict::Probation,
             begins: false,
+            epoch,
         },
-        Some(source) => judge_known(source, mark),
+        Some(source) => judge_known(source, epoch, mark),
     }
 }

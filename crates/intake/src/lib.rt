@@ -17,6 +17,7 @@ mod known;
 mod laws;
 mod media;
 mod outcome;
+mod payloads;
 mod reporting;
 mod settings;
 mod sounding;

@@ -32,6 +32,7 @@ const VIDEO_RATE: u32 = 90_000;
 
 /// A packet as a source of this clock rate judges it.
 fn mark_of(rate: u32, moment: u64, view: &RtpView<'_>) -> Mark
+    requires { rate ≤ 90000 }
     ensures { (from : Address) → result ≡ mark_of rate (record { from = from; moment = moment; packet = packet_of view.now }) }
 {
     Mark {

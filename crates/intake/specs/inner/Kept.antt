@@ -33,11 +33,12 @@ pub record Keeps (k : KeptOf) (story : Story) : Type 0 where
   pub epoch : k.epoch ≡ story.epoch
   pub gated : HasGated k.gate story.gated
 
--- a source with a packet, and the verdict on it
+-- a source with a packet, the verdict on it, and the epoch before it
 pub record JudgedOf : Type 0 where
   pub source : SourceOf
   pub verdict : Verdict
   pub begins : Bool
+  pub epoch : ℕ
 
 -- Whatever the source was given, this is the verdict on a packet, and what becomes of the source.
 pub record Judges (source : Option SourceOf) (m : Mark) (j : JudgedOf) : Type 0 where

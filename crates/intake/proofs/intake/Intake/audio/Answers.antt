@@ -16,7 +16,7 @@ returns-then-is_spent-clause-moves g c = λ voice s right asker knows.
     let old = c.args.self.now in
     let coming : Coming = record { from = c.args.from.now; moment = c.args.moment; packet = packet_of c.args.view.now } in
     let j : JudgedOf = c.judged-judged.result in
-    let judges = named_so old j _ _ _ _ c.key_of-key.ensures (c.mark_of.ensures c.args.from.now) c.judged-judged.ensures in
+    let judges = named_so old j _ _ _ _ c.key_of-key.ensures (c.mark_of.ensures c.args.from.now) c.judged-judged.ensures.judges in
     subst (λ (i : Ingested). Gives i old (sourced voice audio_rate (audio_course coming) coming s)) (sym c.only.ensures)
     (when_spent audio_rate (audio_course coming) coming old j judges s knows voice (sym c.is_spent.ensures ∙ c.if-is_spent.true))
 
@@ -25,7 +25,7 @@ returns-clause-moves g c =
     let old = c.args.self.now in
     let coming : Coming = record { from = c.args.from.now; moment = c.args.moment; packet = packet_of c.args.view.now } in
     let j : JudgedOf = c.judged-judged.result in
-    let judges = named_so old j _ _ _ _ c.key_of-key.ensures (c.mark_of.ensures c.args.from.now) c.judged-judged.ensures in
+    let judges = named_so old j _ _ _ _ c.key_of-key.ensures (c.mark_of.ensures c.args.from.now) c.judged-judged.ensures.judges in
     let same = c.in_ok-items.ensures.items c.args.moment ∙ ap (λ (x : JudgedOf). sounds coming x.verdict) c.judged.view_is in
     with_fact c.telling.result c.telling.ensures.advances c.telling.ensures.ingest (λ ingest advances is voice s right asker knows.
     subst (λ (i : Ingested). Gives i c.telling.new.self (sourced voice audio_rate (audio_course coming) coming s)) (sym is)

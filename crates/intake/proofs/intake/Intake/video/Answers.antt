@@ -21,7 +21,7 @@ returns-then-is_spent-clause-moves g c = λ voice s right asker knows.
     let old = c.args.self.now in
     let coming : Coming = record { from = c.args.from.now; moment = c.args.moment; packet = packet_of c.args.view.now } in
     let j : JudgedOf = c.judged-judged.result in
-    let judges = named_so old j _ _ _ _ c.key_of-key.ensures (c.mark_of.ensures c.args.from.now) c.judged-judged.ensures in
+    let judges = named_so old j _ _ _ _ c.key_of-key.ensures (c.mark_of.ensures c.args.from.now) c.judged-judged.ensures.judges in
     subst (λ (i : Ingested). Gives i old (sourced voice video_rate (video_course coming) coming s)) (sym c.only.ensures)
     (when_spent video_rate (video_course coming) coming old j judges s knows voice (sym c.is_spent.ensures ∙ c.if-is_spent.true))
 
@@ -30,7 +30,7 @@ returns-in-Probation-clause-moves g c =
     let old = c.args.self.now in
     let coming : Coming = record { from = c.args.from.now; moment = c.args.moment; packet = packet_of c.args.view.now } in
     let j : JudgedOf = c.judged-judged.result in
-    let judges = named_so old j _ _ _ _ c.key_of-key.ensures (c.mark_of.ensures c.args.from.now) c.judged-judged.ensures in
+    let judges = named_so old j _ _ _ _ c.key_of-key.ensures (c.mark_of.ensures c.args.from.now) c.judged-judged.ensures.judges in
     let verdict : j.verdict ≡ Probation = ap (λ (x : JudgedOf). x.verdict) (sym c.judged.view_is) ∙ c.in-Probation.is in
     with_fact c.plain.result c.plain.ensures.advances c.plain.ensures.ingest (λ ingest advances is voice s right asker knows.
     subst (λ (i : Ingested). Gives i c.plain.new.self (sourced voice video_rate (video_course coming) coming s)) (sym is)
@@ -42,7 +42,7 @@ returns-in-Jump-clause-moves g c =
     let old = c.args.self.now in
     let coming : Coming = record { from = c.args.from.now; moment = c.args.moment; packet = packet_of c.args.view.now } in
     let j : JudgedOf = c.judged-judged.result in
-    let judges = named_so old j _ _ _ _ c.key_of-key.ensures (c.mark_of.ensures c.args.from.now) c.judged-judged.ensures in
+    let judges = named_so old j _ _ _ _ c.key_of-key.ensures (c.mark_of.ensures c.args.from.now) c.judged-judged.ensures.judges in
     let verdict : j.verdict ≡ Jump = ap (λ (x : JudgedOf). x.verdict) (sym c.judged.view_is) ∙ c.in-Jump.is in
     with_fact c.plain-in-Jump.result c.plain-in-Jump.ensures.advances c.plain-in-Jump.ensures.ingest (λ ingest advances is voice s right asker knows.
     subst (λ (i : Ingested). Gives i c.plain-in-Jump.new.self (sourced voice video_rate (video_course coming) coming s)) (sym is)
@@ -54,9 +54,9 @@ returns-in-Accepted-clause-moves g c =
     let old = c.args.self.now in
     let coming : Coming = record { from = c.args.from.now; moment = c.args.moment; packet = packet_of c.args.view.now } in
     let j : JudgedOf = c.judged-judged.result in
-    let judges = named_so old j _ _ _ _ c.key_of-key.ensures (c.mark_of.ensures c.args.from.now) c.judged-judged.ensures in
+    let judges = named_so old j _ _ _ _ c.key_of-key.ensures (c.mark_of.ensures c.args.from.now) c.judged-judged.ensures.judges in
     let verdict : j.verdict ≡ Accepted c.in-Accepted.ext = ap (λ (x : JudgedOf). x.verdict) (sym c.judged.view_is) ∙ c.in-Accepted.is in
-    let range : IsExt c.in-Accepted.ext = subst IsInRange verdict c.judged-judged.ensures.range in
+    let range : IsExt c.in-Accepted.ext = subst IsInRange verdict c.judged-judged.ensures.judges.range in
     let same : to_z w64 (of_z w64 c.in-Accepted.ext) ≡ c.in-Accepted.ext = grind (arith, to_z-of_z, range) in
     from_fact c.gated.result c.gated.ensures.gates (λ ingest gates voice s right asker knows.
     when_gated video_rate (video_course coming) coming old j judges s knows voice _ c.gated.new.self (numbered c.in-Accepted.ext (gate_packet coming.packet)) c.in-Accepted.ext false (placed c.in-Accepted.ext) right asker
@@ -68,9 +68,9 @@ returns-in-Restarted-clause-moves g c =
     let old = c.args.self.now in
     let coming : Coming = record { from = c.args.from.now; moment = c.args.moment; packet = packet_of c.args.view.now } in
     let j : JudgedOf = c.judged-judged.result in
-    let judges = named_so old j _ _ _ _ c.key_of-key.ensures (c.mark_of.ensures c.args.from.now) c.judged-judged.ensures in
+    let judges = named_so old j _ _ _ _ c.key_of-key.ensures (c.mark_of.ensures c.args.from.now) c.judged-judged.ensures.judges in
     let verdict : j.verdict ≡ Restarted c.in-Restarted.ext = ap (λ (x : JudgedOf). x.verdict) (sym c.judged.view_is) ∙ c.in-Restarted.is in
-    let range : IsExt c.in-Restarted.ext = subst IsInRange verdict c.judged-judged.ensures.range in
+    let range : IsExt c.in-Restarted.ext = subst IsInRange verdict c.judged-judged.ensures.judges.range in
     let same : to_z w64 (of_z w64 c.in-Restarted.ext) ≡ c.in-Restarted.ext = grind (arith, to_z-of_z, range) in
     from_fact c.gated-in-Restarted.result c.gated-in-Restarted.ensures.gates (λ ingest gates voice s right asker knows.
     when_gated video_rate (video_course coming) coming old j judges s knows voice _ c.gated-in-Restarted.new.self (numbered c.in-Restarted.ext (gate_packet coming.packet)) c.in-Restarted.ext true (λ place. outcomes.Restarted c.in-Restarted.ext) right asker

@@ -1,0 +1,36 @@
+//! Where payloads are kept.
+
+ghost use Rattle.std.specs.Prelude.{◌≡◌, IfOk};
+
+use bytes::{Bytes, BytesMut};
+use std::alloc::{AllocError, Allocator, Global};
+
+/// How many octets of payloads share a block, unless one of them has more.
+const ROOM: usize = 4_096;
+
+/// Room for payloads, which lie in it one behind the other, so that a block serves several of them.
+#[derive(Drop)]
+pub(crate) struct PayloadRoom<A: Allocator + Copy = Global> {
+    room: BytesMut<A>,
+}
+
+impl<A: Allocator + Copy> PayloadRoom<A> {
+    /// No room yet.
+    pub(crate) fn new(alloc: A) -> Self {
+        Self {
+            room: BytesMut::new(alloc),
+        }
+    }
+
+    /// A copy of the octets, which is shared from here on.
+    pub(crate) fn copied(&mut self, alloc: A, octets: &[u8]) -> Result<Bytes<A>, AllocError>
+        ensures { IfOk result (λ bytes. bytes ≡ octets.now) }
+    {
+        self.room.clear();
+        if self.room.capacity() < octets.len() {
+            self.room = BytesMut::with_capacity(alloc, octets.len().max(ROOM))?;
+        }
+        self.room.extend_from_slice(octets)?;
+        self.room.freeze_to(octets.len())
+    }
+}
