@@ -4,16 +4,17 @@
 usage: time_desk.py [--runs N] [BINARY]
 
 The desk has one room with 1,024 members, 64 audio and 1,984 video sources, 4,096 slots with a subscription each, all
-65,536 gains, a pin and a floor. A command's time is that of a script with many of it, less that of the script that makes
-the desk, over their number; the least of N runs (3 if not said). BINARY is out/confbridge (`rt run` in crates/confbridge
-makes it).
+65,536 gains, a pin and a floor. A command's time is the processor time of a script with many of it, less that of the script
+that makes the desk, over their number; the least of N runs (3 if not said). BINARY is out/confbridge (`rt run` in
+crates/confbridge makes it).
 """
 
 import argparse
+import os
 import pathlib
 import subprocess
 import sys
-import time
+import tempfile
 
 TOP = pathlib.Path(__file__).resolve().parent.parent
 
@@ -37,15 +38,23 @@ def desk(gains):
 
 
 def seconds(binary, lines, runs):
-    """The least time of a script, and how many of its calls were refused."""
-    text = "".join(f"desk 0 {line}\n" for line in lines).encode()
+    """The least processor time of a script, and how many of its calls were refused."""
     best, refused = None, 0
-    for _ in range(runs):
-        start = time.perf_counter()
-        out = subprocess.run([binary, "replay"], input=text, stdout=subprocess.PIPE, check=True).stdout
-        took = time.perf_counter() - start
-        best = took if best is None else min(best, took)
-        refused = sum(line.startswith(b"no ") for line in out.splitlines())
+    with tempfile.TemporaryFile() as given, tempfile.TemporaryFile() as told:
+        given.write("".join(f"desk 0 {line}\n" for line in lines).encode())
+        for _ in range(runs):
+            given.seek(0)
+            told.truncate(0)
+            told.seek(0)
+            with subprocess.Popen([binary, "replay"], stdin=given, stdout=told) as run:
+                _, status, used = os.wait4(run.pid, 0)
+                run.returncode = os.waitstatus_to_exitcode(status)
+            if run.returncode:
+                sys.exit(f"status {run.returncode}")
+            took = used.ru_utime + used.ru_stime
+            best = took if best is None else min(best, took)
+        told.seek(0)
+        refused = sum(line.startswith(b"no ") for line in told)
     return best, refused
 
 
@@ -73,8 +82,8 @@ def main():
         "mute, unmute": pairs(10000, lambda i: f"mute {200000 + i % 2048}", lambda i: f"unmute {200000 + i % 2048}"),
         "unsubscribe, subscribe": pairs(10000, lambda i: f"unsubscribe {300000 + i % 4096}", lambda i: f"subscribe {300000 + i % 4096} 200064"),
         "unpin, undo": pairs(10000, lambda i: "unpin 1", lambda i: f"undo {calls + 2 * i + 1}"),
-        "add-room, remove-room": pairs(500, lambda i: f"add-room {2 + i}", lambda i: f"remove-room {2 + i}"),
-        "remove-slot with its sub, undo": pairs(500, lambda i: f"remove-slot {300000 + i}", lambda i: f"undo {calls + 2 * i + 1}"),
+        "add-room, remove-room": pairs(5000, lambda i: f"add-room {2 + i}", lambda i: f"remove-room {2 + i}"),
+        "remove-slot with its sub, undo": pairs(2000, lambda i: f"remove-slot {300000 + i}", lambda i: f"undo {calls + 2 * i + 1}"),
         "remove-source with 1,024 gains, undo": pairs(50, lambda i: f"remove-source {200000 + i}", lambda i: f"undo {calls + 2 * i + 1}"),
         "remove-member with 64 gains, undo": pairs(50, lambda i: f"remove-member {500 + i}", lambda i: f"undo {calls + 2 * i + 1}"),
         "refused: add-source of an SSRC in use": (f"add-source {300000 + i} 0 audio" for i in range(4000)),

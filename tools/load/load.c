@@ -1,12 +1,13 @@
 /* Loads `confbridge serve` over loopback, and beside it a floor: a program that makes the same socket calls and no more.
  *
  * cc -O2 -o /tmp/load tools/load/load.c
- * /tmp/load BINARY fan SECONDS            1 video source to 16 receivers, 1,000 packets/s in frames of 4
- * /tmp/load BINARY room SECONDS           64 members with PCMU of 160 samples each 20 ms
+ * /tmp/load BINARY fan SECONDS [FLOOR]    1 video source to 16 receivers, 1,000 packets/s in frames of 4
+ * /tmp/load BINARY room SECONDS [FLOOR]   64 members with PCMU of 160 samples each 20 ms
  * /tmp/load BINARY both SECONDS           both together, with the resident memory each minute
  * /tmp/load BINARY storm DATAGRAMS LINES  random datagrams and operator lines; then a call
  *
- * `fan` and `room` run the bridge and then the floor, each for SECONDS. Processor time is user and system time of
+ * `fan` and `room` run the bridge and then the floor, each for SECONDS, and then the floor in Python that FLOOR names
+ * (tools/load/floor.py), if it is given. Processor time is user and system time of
  * /proc/PID/stat. What is told beside it says where packets were lost: before the bridge (its own socket was full), behind it (a
  * member's was), and whether this program or the machine stood still: steps of 4 ms that it couldn't take, which it leaves out, and
  * the share of processor time that the machine beneath took away. The status is 0 where the bridge answered to its end.
@@ -133,8 +134,8 @@ static void stop_bridge(void)
         die("the bridge didn't end well");
 }
 
-/* Seconds of processor time that a process has had. */
-static double processor(pid_t pid)
+/* Seconds of processor time that a process has had, and how many of them in the system. */
+static double processor(pid_t pid, double *within)
 {
     char path[64], text[1024], *at;
     unsigned long user, sys;
@@ -144,6 +145,8 @@ static double processor(pid_t pid)
         die("the process is gone");
     fclose(file);
     sscanf(at + 2, "%*c %*d %*d %*d %*d %*d %*u %*u %*u %*u %*u %lu %lu", &user, &sys);
+    if (within)
+        *within = (double)sys / sysconf(_SC_CLK_TCK);
     return (double)(user + sys) / sysconf(_SC_CLK_TCK);
 }
 
@@ -270,7 +273,7 @@ static void talk(const struct sockaddr_in *to, double seconds, int with_fan, int
         }
         if (watched && step % 15000 == 0) {
             printf("minute %ld: VmRSS %ld kB, processor %.2f s, %ld pictures and %ld mixes came\n", step / 15000,
-                   resident(watched), processor(watched), fan_got, room_got);
+                   resident(watched), processor(watched, 0), fan_got, room_got);
             fflush(stdout);
         }
         next.tv_nsec += 4000000;
@@ -394,19 +397,20 @@ static void machine(double *all, double *taken)
 
 static double measured(const char *what, const struct sockaddr_in *to, pid_t pid, double seconds, int with_fan)
 {
-    double all, taken, all_after, taken_after;
+    double all, taken, all_after, taken_after, within, within_after;
     talk(to, 2, with_fan, !with_fan, 0);
-    double before = processor(pid);
+    double before = processor(pid, &within);
     long had = fan_got + room_got, front = lost_at(ntohs(to->sin_port)), behind = lost_behind();
     pictures_sent = sounds_sent = steps_left_out = 0;
     machine(&all, &taken);
     talk(to, seconds, with_fan, !with_fan, 0);
     machine(&all_after, &taken_after);
-    double spent = processor(pid) - before;
+    double spent = processor(pid, &within_after) - before;
     long came = fan_got + room_got - had;
     double each = with_fan ? spent / came : spent / (seconds * 50);
-    printf("%s: %.2f s of processor time, %ld packets came of %.0f, %.2f us a %s\n", what, spent, came,
-           with_fan ? (double)pictures_sent * RECEIVERS : seconds * 50 * ROOM, each * 1e6, with_fan ? "packet out" : "tick");
+    printf("%s: %.2f s of processor time, %.0f %% of it in the system, %ld packets came of %.0f, %.2f us a %s\n", what, spent,
+           100 * (within_after - within) / spent, came, with_fan ? (double)pictures_sent * RECEIVERS : seconds * 50 * ROOM, each * 1e6,
+           with_fan ? "packet out" : "tick");
     printf("%s: %ld packets sent, %ld lost before it, %ld behind it, %ld steps of 4 ms left out, %.1f %% of the machine taken away\n", what,
            pictures_sent + sounds_sent, lost_at(ntohs(to->sin_port)) - front, lost_behind() - behind, steps_left_out,
            100 * (taken_after - taken) / (all_after - all));
@@ -414,25 +418,52 @@ static double measured(const char *what, const struct sockaddr_in *to, pid_t pid
     return each;
 }
 
-static void beside_floor(const char *binary, double seconds, int with_fan)
+/* The floor in Python, on this socket: it is told the ports of all members. */
+static void python_floor(const char *file, int one)
+{
+    static char number[1 + RECEIVERS + ROOM][12];
+    char *words[4 + RECEIVERS + ROOM] = {"python3", (char *)file};
+    int count = 2;
+    snprintf(number[0], sizeof number[0], "%d", one);
+    for (int i = 1; i <= RECEIVERS; i++)
+        snprintf(number[i], sizeof number[i], "%d", ntohs(fan_at[i].sin_port));
+    for (int i = 0; i < ROOM; i++)
+        snprintf(number[1 + RECEIVERS + i], sizeof number[0], "%d", ntohs(room_at[i].sin_port));
+    for (int i = 0; i < 1 + RECEIVERS + ROOM; i++)
+        words[count++] = number[i];
+    execvp(words[0], words);
+    _exit(127);
+}
+
+/* What a floor takes, by C or by Python. */
+static double measured_floor(const char *file, double seconds, int with_fan)
 {
     struct sockaddr_in at;
+    int one = udp_socket(&at), plain = 212992 / 2;
+    setsockopt(one, SOL_SOCKET, SO_RCVBUF, &plain, sizeof plain); /* what the bridge's has, by the system's choice */
+    server = fork();
+    if (server == 0 && file)
+        python_floor(file, one);
+    if (server == 0)
+        floor_of(one);
+    close(one);
+    double least = measured(file ? "floor in Python" : "floor", &at, server, seconds, with_fan);
+    kill(server, SIGKILL);
+    waitpid(server, 0, 0);
+    return least;
+}
+
+static void beside_floor(const char *binary, double seconds, int with_fan, const char *file)
+{
     members();
     tables();
     start_bridge(binary);
     set_desk(with_fan, !with_fan);
     double bridge = measured("bridge", &udp, server, seconds, with_fan);
     stop_bridge();
-    int one = udp_socket(&at), plain = 212992 / 2;
-    setsockopt(one, SOL_SOCKET, SO_RCVBUF, &plain, sizeof plain); /* what the bridge's has, by the system's choice */
-    server = fork();
-    if (server == 0)
-        floor_of(one);
-    close(one);
-    double least = measured("floor", &at, server, seconds, with_fan);
-    kill(server, SIGKILL);
-    waitpid(server, 0, 0);
-    printf("bridge / floor: %.2f\n", bridge / least);
+    printf("bridge / floor: %.2f\n", bridge / measured_floor(0, seconds, with_fan));
+    if (file)
+        printf("bridge / floor in Python: %.2f\n", bridge / measured_floor(file, seconds, with_fan));
 }
 
 /* xorshift64*, so that a run can be had again. */
@@ -637,16 +668,16 @@ static void call_after(void)
 int main(int count, char **words)
 {
     if (count < 4)
-        die("usage: load BINARY fan|room|both SECONDS | load BINARY storm DATAGRAMS LINES");
+        die("usage: load BINARY fan|room SECONDS [FLOOR] | load BINARY both SECONDS | load BINARY storm DATAGRAMS LINES");
     const char *what = words[2];
     if (!strcmp(what, "fan") || !strcmp(what, "room"))
-        beside_floor(words[1], atof(words[3]), what[0] == 'f');
+        beside_floor(words[1], atof(words[3]), what[0] == 'f', count > 4 ? words[4] : 0);
     else if (!strcmp(what, "both")) {
         members();
         start_bridge(words[1]);
         set_desk(1, 1);
         talk(&udp, atof(words[3]), 1, 1, server);
-        printf("end: VmRSS %ld kB, processor %.2f s\n", resident(server), processor(server));
+        printf("end: VmRSS %ld kB, processor %.2f s\n", resident(server), processor(server, 0));
         stop_bridge();
     } else if (!strcmp(what, "storm") && count == 5) {
         members();
