@@ -42,7 +42,7 @@ pub use Rattle.desk_rows.proofs.Halving.{below_falls}
 pub use Rattle.desk_rows.proofs.Finding.{is_found, found_nothing, found_one, found_there, order_once, keyed_good, was_there, found_still}
 pub use Rattle.desk_rows.proofs.KeyedLemmas.{found_passes}
 pub use Rattle.desk_rows.proofs.KindLemmas.{plain_others, not_its, skipped}
-pub use Rattle.desk_rows.proofs.GroupLemmas.{all_pass, count_by-filter}
+pub use Rattle.desk_rows.specs.laws.ListLaws.{all_pass, count_by-filter}
 pub use Rattle.desk_rows.proofs.Judging.{bridge_same, own_claims, each_claim, sound_from, plain_later, sound_good}
 pub use Rattle.desk_rows.proofs.ExchangeLemmas.{among_others}
 pub use Rattle.desk_edit.specs.Forms.{form_of}
