@@ -5,11 +5,12 @@ usage: time_desk.py [--runs N] [BINARY]
 
 The desk has one room with 1,024 members, 64 audio and 1,984 video sources, 4,096 slots with a subscription each, all
 65,536 gains, a pin and a floor. A command's time is the processor time of a script with many of it, less that of the script
-that makes the desk, over their number; the least of N runs (3 if not said). BINARY is out/confbridge (`rt run` in
+that makes the desk, over their number; the least of N runs of each (3 if not said), in turn. BINARY is out/confbridge (`rt run` in
 crates/confbridge makes it).
 """
 
 import argparse
+import contextlib
 import os
 import pathlib
 import subprocess
@@ -37,24 +38,27 @@ def desk(gains):
     yield "give-floor 1 0"
 
 
-def seconds(binary, lines, runs):
-    """The least processor time of a script, and how many of its calls were refused."""
-    best, refused = None, 0
-    with tempfile.TemporaryFile() as given, tempfile.TemporaryFile() as told:
-        given.write("".join(f"desk 0 {line}\n" for line in lines).encode())
+def seconds(binary, scripts, runs):
+    """The least processor time of each script, which take turns, and how many calls of the last one were refused."""
+    best, refused = [None] * len(scripts), 0
+    with contextlib.ExitStack() as open_files:
+        files = []
+        for lines in scripts:
+            files.append(open_files.enter_context(tempfile.TemporaryFile()))
+            files[-1].write("".join(f"desk 0 {line}\n" for line in lines).encode())
         for _ in range(runs):
-            given.seek(0)
-            told.truncate(0)
-            told.seek(0)
-            with subprocess.Popen([binary, "replay"], stdin=given, stdout=told) as run:
-                _, status, used = os.wait4(run.pid, 0)
-                run.returncode = os.waitstatus_to_exitcode(status)
-            if run.returncode:
-                sys.exit(f"status {run.returncode}")
-            took = used.ru_utime + used.ru_stime
-            best = took if best is None else min(best, took)
-        told.seek(0)
-        refused = sum(line.startswith(b"no ") for line in told)
+            for at, given in enumerate(files):
+                given.seek(0)
+                with tempfile.TemporaryFile() as told:
+                    with subprocess.Popen([binary, "replay"], stdin=given, stdout=told) as run:
+                        _, status, used = os.wait4(run.pid, 0)
+                        run.returncode = os.waitstatus_to_exitcode(status)
+                    if run.returncode:
+                        sys.exit(f"status {run.returncode}")
+                    took = used.ru_utime + used.ru_stime
+                    best[at] = took if best[at] is None else min(best[at], took)
+                    told.seek(0)
+                    refused = sum(line.startswith(b"no ") for line in told)
     return best, refused
 
 
@@ -71,7 +75,7 @@ def main():
     parser.add_argument("binary", nargs="?", default=str(TOP / "crates/confbridge/out/confbridge"))
     args = parser.parse_args()
     full = list(desk(64))
-    base, refused = seconds(args.binary, full, args.runs)
+    (base,), refused = seconds(args.binary, [full], args.runs)
     calls = len(full)
     print(f"the desk: {calls} commands in {base:.2f} s, {base / calls * 1e6:.0f} us each, {refused} refused", flush=True)
     one_row = {
@@ -90,17 +94,16 @@ def main():
     }
     for name, more in one_row.items():
         lines = list(more)
-        took, no = seconds(args.binary, full + lines, args.runs)
+        (base, took), no = seconds(args.binary, [full, full + lines], args.runs)
         print(f"{name}: {(took - base) / len(lines) * 1e6:.0f} us ({no} refused)", flush=True)
     for gains in (16, 64):
         part = list(desk(gains))
         calls = len(part)
-        start, _ = seconds(args.binary, part, args.runs)
         again = ["remove-room 1"] + list(pairs(20, lambda i: f"undo {calls + 2 * i + 1}", lambda i: f"redo {calls + 2 * i + 2}"))
         anew = list(pairs(20, lambda i: "remove-room 1", lambda i: f"undo {calls + 2 * i + 1}"))
-        redone, no = seconds(args.binary, part + again, args.runs)
-        removed, more_no = seconds(args.binary, part + anew, args.runs)
+        (start, redone), no = seconds(args.binary, [part, part + again], args.runs)
         print(f"undo and redo of remove-room with {gains * 1024} gains: {(redone - start) / 41 * 1e3:.1f} ms each ({no} refused)", flush=True)
+        (start, removed), more_no = seconds(args.binary, [part, part + anew], args.runs)
         print(f"remove-room and undo with {gains * 1024} gains: {(removed - start) / 40 * 1e3:.1f} ms each ({more_no} refused)", flush=True)
     return 0
 
