@@ -1,7 +1,7 @@
 //! How a bridge on sockets ends.
 
 ghost use Rattle.std.specs.Prelude.{◌≡◌, Some};
-ghost use Rattle.udp_front.specs.Ended.{front_text, front_status_of};
+ghost use Rattle.udp_front.specs.Ended.{front_text, front_status_of, ended_by_settings, ended_by_io, ended_by_lane, ended_by_core};
 
 use crate::fault::SettingsFault;
 use bridge_core::{CoreFault, LaneFault};
@@ -48,6 +48,8 @@ pub fn front_status(answer: &Result<(), FrontFault>) -> u8
 }
 
 impl From<SettingsFault> for FrontFault {
+    ghost from_gives = { λ fault e. e ≡ ended_by_settings fault };
+
     fn from(fault: SettingsFault) -> FrontFault {
         match fault {
             SettingsFault::OutOfMemory => FrontFault::OutOfMemory,
@@ -57,6 +59,10 @@ impl From<SettingsFault> for FrontFault {
 }
 
 impl From<io::Error> for FrontFault {
+    ghost use Rattle.std.specs.IoError.{error_kind};
+
+    ghost from_gives = { λ error e. e ≡ ended_by_io (error_kind error) };
+
     fn from(error: io::Error) -> FrontFault {
         match error.kind() {
             ErrorKind::OutOfMemory => FrontFault::OutOfMemory,
@@ -66,18 +72,28 @@ impl From<io::Error> for FrontFault {
 }
 
 impl From<AllocError> for FrontFault {
+    ghost use Rattle.udp_front.specs.declared.ending.FrontFault.TheVariants.{OutOfMemory};
+
+    ghost from_gives = { λ _ e. e ≡ OutOfMemory };
+
     fn from(_error: AllocError) -> FrontFault {
         FrontFault::OutOfMemory
     }
 }
 
 impl<T: Drop> From<AllocFailed<T>> for FrontFault {
+    ghost use Rattle.udp_front.specs.declared.ending.FrontFault.TheVariants.{OutOfMemory};
+
+    ghost from_gives = { λ _ e. e ≡ OutOfMemory };
+
     fn from(_error: AllocFailed<T>) -> FrontFault {
         FrontFault::OutOfMemory
     }
 }
 
 impl From<LaneFault> for FrontFault {
+    ghost from_gives = { λ fault e. e ≡ ended_by_lane fault };
+
     fn from(fault: LaneFault) -> FrontFault {
         match fault {
             LaneFault::OutOfMemory => FrontFault::OutOfMemory,
@@ -87,6 +103,8 @@ impl From<LaneFault> for FrontFault {
 }
 
 impl From<CoreFault> for FrontFault {
+    ghost from_gives = { λ fault e. e ≡ ended_by_core fault };
+
     fn from(fault: CoreFault) -> FrontFault {
         match fault {
             CoreFault::OutOfMemory => FrontFault::OutOfMemory,
