@@ -61,7 +61,9 @@ fn take<A: Allocator + Copy>(
 {
     let mut frames = Vec::new(alloc);
     let near = resync(alloc, cells, walk, packet.number, &mut frames)?;
-    let to = near.next + ROOM;
+    // No number above the greatest taken one is held, so none is looked for.
+    let behind = greatest.unwrap_or(0).max(packet.number) + 1;
+    let to = behind.min(near.next + ROOM);
     let far = drain(alloc, cells, Some(&packet), near, to, &mut frames)?;
     let nacks = missing(alloc, greatest, far.next, packet.number)?;
     let pli = packet.number - walk.next >= ROOM;
