@@ -33,8 +33,11 @@ can_take_last (q ∷ ps) p xs h =
 -- ---- order
 
 -- a row that stands before the first stands before all
-pub in_order_next : (r : Row) (rs : List Row) → precedes_head r rs ≡ true → in_order (r ∷ rs) ≡ in_order rs
-in_order_next r [] h = refl
-in_order_next r (x ∷ xs) h = both_ways _ _ (λ e. (and_parts (list_all (precedes r) (x ∷ xs)) _ e).1) (λ e.
+pub before_all : (r : Row) (xs : List Row) → precedes_head r xs ≡ true → in_order xs ≡ true → list_all (precedes r) xs ≡ true
+before_all r [] h e = refl
+before_all r (x ∷ xs) h e =
     let ahead = and_parts (list_all (precedes x) xs) (in_order xs) e in
-    and_from _ _ (and_from _ _ h (from_each (precedes r) xs (λ q one. precedes_on r x q h (at_each (precedes x) xs q ahead.0 one)))) e)
+    and_from _ _ h (from_each (precedes r) xs (λ q one. precedes_on r x q h (at_each (precedes x) xs q ahead.0 one)))
+
+pub in_order_next : (r : Row) (rs : List Row) → precedes_head r rs ≡ true → in_order (r ∷ rs) ≡ in_order rs
+in_order_next r rs h = both_ways _ _ (λ e. (and_parts (list_all (precedes r) rs) (in_order rs) e).1) (λ e. and_from _ _ (before_all r rs h e) e)

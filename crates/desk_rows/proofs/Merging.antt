@@ -1,8 +1,8 @@
 -- Rows put in one by one make what merging makes.
 use Rattle.std.specs.Prelude.{◌≡◌, ◌||◌, ◌∷◌, ◌++◌, ◌&&◌, ◌⊎◌}
-use Rattle.desk_rows.specs.laws.Words.{true, false, cond, List, [], refl, sym, ap, ◌∙◌, not, inl, inr, append_assoc, or_right, or_cases, and_parts, and_from, cases_Bool, false_from_ne_true, not-true, list_all, Row, with_rows, in_order, precedes, with_row, key_is_new, are_apart}
+use Rattle.desk_rows.specs.laws.Words.{true, false, cond, List, [], refl, sym, ap, ◌∙◌, not, inl, inr, or_right, or_cases, and_parts, and_from, cases_Bool, false_from_ne_true, not-true, list_all, Row, with_rows, in_order, precedes, with_row, key_is_new, are_apart}
 use Rattle.desk_rows.specs.laws.ListLaws.{true_false}
-use Rattle.desk_rows.specs.laws.OrderLaws.{precedes_on, one_way, at_each, from_each, list_all-with_row}
+use Rattle.desk_rows.specs.laws.OrderLaws.{precedes_on, one_way, at_each, from_each, list_all-with_row, in_front}
 
 -- ---- one step of a merge
 
@@ -19,34 +19,40 @@ first_stays (p ∷ ps) x xs h =
     let both = and_parts (not (precedes p x)) (list_all (λ p. not (precedes p x)) ps) h in
     ap (with_rows ps) (goes_behind p x xs (not-true (precedes p x) both.0)) ∙ first_stays ps x (with_row p xs) both.1
 
--- the least row that is put comes first where it stands before the rows
-pub put_first : (p : Row) (ps : List Row) (x : Row) (xs : List Row) → in_order (p ∷ ps) ≡ true → precedes p x ≡ true → with_rows (p ∷ ps) (x ∷ xs) ≡ p ∷ with_rows ps (x ∷ xs)
-put_first p ps x xs h e =
-    let order = and_parts (list_all (precedes p) ps) (in_order ps) h in
-    ap (with_rows ps) (goes_before p x xs e)
-    ∙ first_stays ps p (x ∷ xs) (from_each (λ q. not (precedes q p)) ps (λ q one. ap not (one_way p q (at_each (precedes p) ps q order.0 one))))
-
--- and else the first of the rows
-pub row_first : (p : Row) (ps : List Row) (x : Row) (xs : List Row) → in_order (p ∷ ps) ≡ true → precedes p x ≡ false → with_rows (p ∷ ps) (x ∷ xs) ≡ x ∷ with_rows (p ∷ ps) xs
+-- rows that are put stand behind a row that the least of them does not stand before
+row_first : (p : Row) (ps : List Row) (x : Row) (xs : List Row) → in_order (p ∷ ps) ≡ true → precedes p x ≡ false → with_rows (p ∷ ps) (x ∷ xs) ≡ x ∷ with_rows (p ∷ ps) xs
 row_first p ps x xs h e =
     let order = and_parts (list_all (precedes p) ps) (in_order ps) h in
     first_stays (p ∷ ps) x xs (and_from _ _ (ap not e) (from_each (λ q. not (precedes q x)) ps (λ q one.
     ap not (false_from_ne_true (precedes q x) (λ f. true_false (sym (precedes_on p q x (at_each (precedes p) ps q order.0 one) f) ∙ e))))))
 
-pub put_alone : (ps : List Row) → in_order ps ≡ true → with_rows ps [] ≡ ps
-put_alone [] h = refl
-put_alone (p ∷ ps) h =
+pub front_stays : (p : Row) (ps front behind : List Row) → in_order (p ∷ ps) ≡ true → list_all (λ x. not (precedes p x)) front ≡ true → with_rows (p ∷ ps) (front ++ behind) ≡ front ++ with_rows (p ∷ ps) behind
+front_stays p ps [] behind h f = refl
+front_stays p ps (x ∷ xs) behind h f =
+    let both = and_parts (not (precedes p x)) (list_all (λ x. not (precedes p x)) xs) f in
+    row_first p ps x (xs ++ behind) h (not-true (precedes p x) both.0) ∙ ap (λ ys. x ∷ ys) (front_stays p ps xs behind h both.1)
+
+-- the least row that is put comes first where it stands before the rows
+pub comes_first : (p : Row) (ps xs : List Row) → in_order (p ∷ ps) ≡ true → list_all (precedes p) xs ≡ true → with_rows (p ∷ ps) xs ≡ p ∷ with_rows ps xs
+comes_first p ps xs h ahead =
     let order = and_parts (list_all (precedes p) ps) (in_order ps) h in
-    first_stays ps p [] (from_each (λ q. not (precedes q p)) ps (λ q one. ap not (one_way p q (at_each (precedes p) ps q order.0 one))))
-    ∙ ap (λ ys. p ∷ ys) (put_alone ps order.1)
+    ap (with_rows ps) (in_front p xs ahead)
+    ∙ first_stays ps p xs (from_each (λ q. not (precedes q p)) ps (λ q one. ap not (one_way p q (at_each (precedes p) ps q order.0 one))))
 
--- with nothing left of the rows
-pub rows_end : (p : Row) (ps : List Row) → in_order (p ∷ ps) ≡ true → with_rows (p ∷ ps) [] ≡ p ∷ with_rows ps []
-rows_end p ps h = put_alone (p ∷ ps) h ∙ ap (λ ys. p ∷ ys) (sym (put_alone ps (and_parts (list_all (precedes p) ps) (in_order ps) h).1))
+-- ---- rows in order, without those that came
 
--- what was appended so far and what is left make the whole
-pub appended : (out : List Row) (x : Row) (xs whole : List Row) → xs ≡ x ∷ whole → (out ++ x ∷ []) ++ whole ≡ out ++ xs
-appended out x xs whole e = append_assoc out (x ∷ []) whole ∙ ap (λ ys. out ++ ys) (sym e)
+without_one : (p : Row) (xs : List Row) → in_order (with_row p xs) ≡ true → in_order xs ≡ true
+without_one p [] h = refl
+without_one p (x ∷ xs) h = by (without_one p xs) (cases_Bool (precedes p x)) where
+  by : (in_order (with_row p xs) ≡ true → in_order xs ≡ true) → (precedes p x ≡ true) ⊎ (precedes p x ≡ false) → in_order (x ∷ xs) ≡ true
+  by rest (inl e) = (and_parts (list_all (precedes p) (x ∷ xs)) (in_order (x ∷ xs)) (ap in_order (sym (goes_before p x xs e)) ∙ h)).1
+  by rest (inr e) =
+      let both = and_parts (list_all (precedes x) (with_row p xs)) (in_order (with_row p xs)) (ap in_order (sym (goes_behind p x xs e)) ∙ h) in
+      and_from _ _ (and_parts (precedes x p) (list_all (precedes x) xs) (sym (list_all-with_row (precedes x) p xs) ∙ both.0)).1 (rest both.1)
+
+pub order_within : (ps xs : List Row) → in_order (with_rows ps xs) ≡ true → in_order xs ≡ true
+order_within [] xs h = h
+order_within (p ∷ ps) xs h = without_one p xs (order_within ps (with_row p xs) h)
 
 -- ---- rows put in turn are put at once
 

@@ -5,7 +5,7 @@ use Rattle.desk_rows.specs.laws.Equal.{same_row_is, row_itself}
 use Rattle.desk_rows.specs.laws.Laws.{good_order}
 use Rattle.desk_rows.specs.laws.ListLaws.{SameCounts, same_filtered, same_short, all_pass, stand_by-filter}
 use Rattle.desk_rows.specs.laws.NamingLaws.{its_sub}
-use Rattle.desk_rows.specs.laws.PlacesOnce.{of_member, of_index, one_at_place}
+use Rattle.desk_rows.specs.laws.PlacesOnce.{one_at_place}
 use Rattle.desk_rows.proofs.GroupLemmas.{count_in, by, same_list, turns_rise, rises_by}
 
 -- a table has what is in the rows

@@ -1,10 +1,11 @@
 -- A row put in, or taken out, at the place that parts the rows before it from those behind.
-use Rattle.std.specs.Prelude.{◌≡◌, ◌<◌, ◌≤◌, ◌||◌, ◌∷◌}
-use Rattle.desk_rows.specs.laws.Words.{ℕ, zero, suc, true, false, cond, List, [], length, refl, sym, ap, ◌∙◌, arith, not, insert, remove, set, and_parts, and_from, false_from_ne_true, not-true, not-false, list_all, slice_get, Row, is_in, in_order, without_rows, precedes, with_row, key_precedes, same_row, key_of, Parts, is_found_as}
+use Rattle.std.specs.Prelude.{◌≡◌, ◌<◌, ◌≤◌, ◌||◌, ◌∷◌, ◌++◌, ◌⊎◌}
+use Rattle.desk_rows.specs.laws.Words.{ℕ, zero, suc, Bool, true, false, cond, List, [], length, refl, sym, ap, ◌∙◌, arith, not, inl, inr, take, drop, insert, remove, set, and_parts, and_from, cases_Bool, false_from_ne_true, not-true, not-false, length-filter, count_by-le-length, list_all, slice_get, Row, is_in, in_order, without_rows, precedes, with_row, key_precedes, same_row, key_of, Parts, is_found_as}
 use Rattle.desk_rows.specs.laws.Equal.{keys_precede_on, same_row_is, row_itself}
 use Rattle.desk_rows.specs.laws.ListLaws.{true_false, or_turned, filter_all}
-use Rattle.desk_rows.specs.laws.OrderLaws.{same_row_turned, one_way, before_other, at_each, from_each, in_order-filter}
+use Rattle.desk_rows.specs.laws.OrderLaws.{same_row_turned, precedes_on, one_way, before_other, none_before, at_each, from_each, in_order-filter}
 use Rattle.desk_rows.proofs.Halving.{later_parts}
+use Rattle.desk_rows.proofs.Loops.{before_all}
 
 -- what a row stands before, those behind are too
 pub before_falls : (r a b : Row) → precedes a b ≡ true → not (precedes r b) ≡ true → not (precedes r a) ≡ true
@@ -29,12 +30,17 @@ none_behind : (r x : Row) (xs : List Row) → list_all (precedes x) xs ≡ true 
 none_behind r x xs ahead late = from_each (λ y. not (same_row y r)) xs (λ y one. ap not (false_from_ne_true (same_row y r) (λ e.
     true_false (sym (at_each (precedes x) xs y ahead one) ∙ ap (λ q. precedes x q) (same_row_is y r e) ∙ late))))
 
+pub first_goes : (r x : Row) (xs : List Row) → list_all (precedes x) xs ≡ true → precedes x r ≡ false → same_row x r ≡ true → without_rows (r ∷ []) (x ∷ xs) ≡ xs
+first_goes r x xs ahead late e =
+    ap (λ b. cond (not (b || false)) (x ∷ without_rows (r ∷ []) xs) (without_rows (r ∷ []) xs)) e ∙ others_stay r xs (none_behind r x xs ahead late)
+
+pub none_goes : (r x : Row) (xs : List Row) → list_all (precedes x) xs ≡ true → precedes x r ≡ false → same_row x r ≡ false → without_rows (r ∷ []) (x ∷ xs) ≡ x ∷ xs
+none_goes r x xs ahead late e =
+    ap (λ b. cond (not (b || false)) (x ∷ without_rows (r ∷ []) xs) (without_rows (r ∷ []) xs)) e ∙ ap (λ ys. x ∷ ys) (others_stay r xs (none_behind r x xs ahead late))
+
 pub take_out : (r : Row) (xs : List Row) (i : ℕ) → in_order xs ≡ true → Parts (λ x. precedes x r) xs i → is_found_as r (slice_get xs i) ≡ true → without_rows (r ∷ []) xs ≡ remove xs i
 take_out r [] i h p e = cc
-take_out r (x ∷ xs) zero h p e =
-    let order = and_parts (list_all (precedes x) xs) (in_order xs) h in
-    ap (λ b. cond (not (b || false)) (x ∷ without_rows (r ∷ []) xs) (without_rows (r ∷ []) xs)) e
-    ∙ others_stay r xs (none_behind r x xs order.0 (p.1 zero x (omega arith) (omega arith)))
+take_out r (x ∷ xs) zero h p e = first_goes r x xs (and_parts (list_all (precedes x) xs) (in_order xs) h).0 (p.1 zero x (omega arith) (omega arith)) e
 take_out r (x ∷ xs) (suc i) h p e =
     let order = and_parts (list_all (precedes x) xs) (in_order xs) h in
     let rest : without_rows (r ∷ []) xs ≡ remove xs i = take_out r xs i order.1 (later_parts (λ y. precedes y r) x xs i p) e in
@@ -42,10 +48,7 @@ take_out r (x ∷ xs) (suc i) h p e =
 
 pub none_out : (r : Row) (xs : List Row) (i : ℕ) → in_order xs ≡ true → Parts (λ x. precedes x r) xs i → is_found_as r (slice_get xs i) ≡ false → without_rows (r ∷ []) xs ≡ xs
 none_out r [] i h p e = refl
-none_out r (x ∷ xs) zero h p e =
-    let order = and_parts (list_all (precedes x) xs) (in_order xs) h in
-    ap (λ b. cond (not (b || false)) (x ∷ without_rows (r ∷ []) xs) (without_rows (r ∷ []) xs)) e
-    ∙ ap (λ ys. x ∷ ys) (others_stay r xs (none_behind r x xs order.0 (p.1 zero x (omega arith) (omega arith))))
+none_out r (x ∷ xs) zero h p e = none_goes r x xs (and_parts (list_all (precedes x) xs) (in_order xs) h).0 (p.1 zero x (omega arith) (omega arith)) e
 none_out r (x ∷ xs) (suc i) h p e =
     let order = and_parts (list_all (precedes x) xs) (in_order xs) h in
     let rest = none_out r xs i order.1 (later_parts (λ y. precedes y r) x xs i p) e in
@@ -59,26 +62,49 @@ rest_in_order rs xs h = in_order-filter (λ x. not (is_in rs x)) xs h
 
 -- ---- many taken out
 
-pub before_all : (t x : Row) (xs : List Row) → precedes t x ≡ true → in_order (x ∷ xs) ≡ true → list_all (precedes t) (x ∷ xs) ≡ true
-before_all t x xs e h =
+-- a row that stands before the first of those that go stays
+first_stays : (t x : Row) (ts xs : List Row) → in_order (t ∷ ts) ≡ true → precedes x t ≡ true → without_rows (t ∷ ts) (x ∷ xs) ≡ x ∷ without_rows (t ∷ ts) xs
+first_stays t x ts xs h before =
+    ap (λ b. cond (not b) (x ∷ without_rows (t ∷ ts) xs) (without_rows (t ∷ ts) xs)) (none_before x (t ∷ ts) (before_all x (t ∷ ts) before h))
+
+pub front_stays : (t : Row) (ts front behind : List Row) → in_order (t ∷ ts) ≡ true → list_all (λ x. precedes x t) front ≡ true → without_rows (t ∷ ts) (front ++ behind) ≡ front ++ without_rows (t ∷ ts) behind
+front_stays t ts [] behind h f = refl
+front_stays t ts (x ∷ xs) behind h f =
+    let both = and_parts (precedes x t) (list_all (λ x. precedes x t) xs) f in
+    first_stays t x ts (xs ++ behind) h both.0 ∙ ap (λ ys. x ∷ ys) (front_stays t ts xs behind h both.1)
+
+pub out_in_turn : (t : Row) (ts xs : List Row) → without_rows (t ∷ ts) xs ≡ without_rows ts (without_rows (t ∷ []) xs)
+out_in_turn t ts [] = refl
+out_in_turn t ts (x ∷ xs) = by (out_in_turn t ts xs) (cases_Bool (same_row x t)) where
+  by : without_rows (t ∷ ts) xs ≡ without_rows ts (without_rows (t ∷ []) xs) → (same_row x t ≡ true) ⊎ (same_row x t ≡ false) → without_rows (t ∷ ts) (x ∷ xs) ≡ without_rows ts (without_rows (t ∷ []) (x ∷ xs))
+  by rest (inl e) =
+      ap (λ b. cond (not (b || is_in ts x)) (x ∷ without_rows (t ∷ ts) xs) (without_rows (t ∷ ts) xs)) e ∙ rest
+      ∙ sym (ap (λ b. without_rows ts (cond (not (b || false)) (x ∷ without_rows (t ∷ []) xs) (without_rows (t ∷ []) xs))) e)
+  by rest (inr e) =
+      ap (λ b. cond (not (b || is_in ts x)) (x ∷ without_rows (t ∷ ts) xs) (without_rows (t ∷ ts) xs)) e ∙ ap (λ ys. cond (not (is_in ts x)) (x ∷ ys) ys) rest
+      ∙ sym (ap (λ b. without_rows ts (cond (not (b || false)) (x ∷ without_rows (t ∷ []) xs) (without_rows (t ∷ []) xs))) e)
+
+pub few_left : (ts xs : List Row) → length (without_rows ts xs) ≤ length xs
+few_left ts xs = omega (arith, length-filter (λ x. not (is_in ts x)) xs, count_by-le-length (λ x. not (is_in ts x)) xs)
+
+-- ---- parted
+
+pub front_passes : (p : Row → Bool) (xs : List Row) (i : ℕ) → Parts p xs i → list_all p (take i xs) ≡ true
+front_passes p xs zero h = refl
+front_passes p [] (suc i) h = refl
+front_passes p (x ∷ xs) (suc i) h = and_from _ _ (h.0 zero x (omega arith) (omega arith)) (front_passes p xs i (later_parts p x xs i h))
+
+pub each_behind : (p q : Row → Bool) → ((x : Row) → p x ≡ false → q x ≡ true) → (xs : List Row) (i : ℕ) → Parts p xs i → list_all q (drop i xs) ≡ true
+each_behind p q then_q [] zero h = refl
+each_behind p q then_q [] (suc i) h = refl
+each_behind p q then_q (x ∷ xs) zero h =
+    and_from _ _ (then_q x (h.1 zero x (omega arith) (omega arith))) (each_behind p q then_q xs zero (λ k d a b. absurd (omega (arith, b)), λ k d a b. h.1 (suc k) d (omega arith) (omega arith)))
+each_behind p q then_q (x ∷ xs) (suc i) h = each_behind p q then_q xs i (later_parts p x xs i h)
+
+pub none_ahead : (r x : Row) (xs : List Row) → in_order (x ∷ xs) ≡ true → precedes x r ≡ false → list_all (λ y. not (precedes y r)) (x ∷ xs) ≡ true
+none_ahead r x xs h late =
     let order = and_parts (list_all (precedes x) xs) (in_order xs) h in
-    and_from _ _ e (from_each (precedes t) xs (λ y one. keys_precede_on (key_of t) (key_of x) (key_of y) e (at_each (precedes x) xs y order.0 one)))
-
--- a row that stands before all of these is none of them
-pub not_among : (t : Row) (ts xs : List Row) → list_all (precedes t) xs ≡ true → without_rows (t ∷ ts) xs ≡ without_rows ts xs
-not_among t ts [] h = refl
-not_among t ts (x ∷ xs) h =
-    let both = and_parts (precedes t x) (list_all (precedes t) xs) h in
-    let rest = not_among t ts xs both.1 in
-    let other : same_row x t ≡ false = same_row_turned x t ∙ before_other t x both.0 in
-    (λ i. cond (not (other i || is_in ts x)) (x ∷ rest i) (rest i))
-
--- a row that stands not behind the first of those that go stays, unless it is that one
-pub first_stays : (t x : Row) (ts xs : List Row) → in_order (t ∷ ts) ≡ true → precedes t x ≡ false → same_row x t ≡ false → without_rows (t ∷ ts) (x ∷ xs) ≡ x ∷ without_rows (t ∷ ts) xs
-first_stays t x ts xs h late other =
-    let order = and_parts (list_all (precedes t) ts) (in_order ts) h in
-    let none : is_in ts x ≡ false = false_from_ne_true _ (λ one. true_false (sym (at_each (precedes t) ts x order.0 one) ∙ late)) in
-    (λ i. cond (not (other i || none i)) (x ∷ without_rows (t ∷ ts) xs) (without_rows (t ∷ ts) xs))
+    and_from _ _ (ap not late) (from_each (λ y. not (precedes y r)) xs (λ y one. ap not (false_from_ne_true (precedes y r) (λ e. true_false (sym (precedes_on x y r (at_each (precedes x) xs y order.0 one) e) ∙ late)))))
 
 -- ---- one in place of another
 
@@ -95,10 +121,7 @@ replaced_at o n (x ∷ xs) zero h p there same =
     let late = p.1 zero x (omega arith) (omega arith) in
     let not_behind : is_in xs o ≡ false = false_from_ne_true _ (λ e. true_false (sym (at_each (precedes x) xs o order.0 e) ∙ late)) in
     let is : x ≡ o = sym (same_row_is o x (sym (or_turned (same_row o x) false) ∙ ap (λ b. same_row o x || b) (sym not_behind) ∙ there)) in
-    let gone : without_rows (o ∷ []) (x ∷ xs) ≡ xs =
-    ap (λ y. cond (not (same_row y o || false)) (x ∷ without_rows (o ∷ []) xs) (without_rows (o ∷ []) xs)) is
-    ∙ ap (λ b. cond (not (b || false)) (x ∷ without_rows (o ∷ []) xs) (without_rows (o ∷ []) xs)) (row_itself o)
-    ∙ others_stay o xs (none_behind o x xs order.0 late) in
+    let gone = first_goes o x xs order.0 late (ap (λ y. same_row y o) is ∙ row_itself o) in
     (omega arith, ap (with_row n) gone ∙ put_first x n xs (ap key_of is ∙ same) order.0)
 replaced_at o n (x ∷ xs) (suc i) h p there same =
     let order = and_parts (list_all (precedes x) xs) (in_order xs) h in

@@ -1,6 +1,6 @@
 -- The rule of a row that stays holds on where the edit does not touch what it looks at.
 use Rattle.std.specs.Prelude.{◌≡◌, ◌≤◌, ◌||◌, ◌∷◌, ◌&&◌}
-use Rattle.desk_rows.specs.laws.Words.{ℕ, zero, Bool, true, false, List, [], Option, None, Some, refl, sym, ap, ◌∙◌, arith, map, nat_eq, not, inl, inr, eqb-true, nat_le, or_left, or_right, or_cases, and_parts, and_from, cases_Bool, false_from_ne_true, not-true, not-false, or_parts, leb-true, le-leb, list_any, list_all, is_some, count_by, Placed, Key, Media, Audio, Video, MemberRow, Row, Member, Room, Source, Slot, Sub, Gain, Pin, Floor, Desk, rows_of, is_named_there, row_at, obeys, room_of_member, room_of, room_of_found, room_at, same_room, is_audio_in, all_suit, are_together, good, EditOf, outs, ins, exchanged, IsKeyed, is_of, room_audio_limit, is_in, with_rows, without_rows, take_at, has_key, names, same_media, suits, is_in_range, finds, is_elsewhere, come_rows, takes, puts, stay_rows, keeps_names, moves, is_shaken}
+use Rattle.desk_rows.specs.laws.Words.{ℕ, Bool, true, false, List, [], Option, None, Some, refl, sym, ap, ◌∙◌, arith, map, nat_eq, not, inl, inr, eqb-true, nat_le, or_left, or_right, or_cases, and_parts, and_from, cases_Bool, false_from_ne_true, not-true, not-false, or_parts, leb-true, le-leb, list_any, list_all, is_some, count_by, Placed, Key, Media, Audio, Video, MemberRow, Row, Member, Room, Source, Slot, Sub, Gain, Pin, Floor, Desk, rows_of, is_named_there, row_at, obeys, room_of_member, room_of, room_of_found, room_at, same_room, is_audio_in, all_suit, are_together, good, EditOf, outs, ins, exchanged, IsKeyed, is_of, room_audio_limit, is_in, with_rows, without_rows, take_at, has_key, names, same_media, suits, is_in_range, finds, is_elsewhere, come_rows, takes, puts, stay_rows, keeps_names, moves, is_shaken}
 use Rattle.desk_rows.specs.declared.row.Key.TheVariants as keys
 use Rattle.desk_rows.specs.declared.row.Kind.TheVariants as kinds
 use Rattle.desk_rows.specs.laws.ClaimLaws.{witness}

@@ -18,12 +18,13 @@ ghost use Rattle.desk_rows.specs.inner.Judged.{HasOrders, OnlyReplaces, takes, p
 
 use crate::edit::{Edit, Placed};
 use crate::index::{Entry, move_members};
-use crate::ordering::{are_apart, contains_all, have_same_keys, put_rows, sweep_in, take_rows};
+use crate::ordering::{are_apart, contains_all, have_same_keys};
 use crate::overlay::Overlay;
 use crate::places::{can_be_put, can_be_taken};
 use crate::row::{Key, Kind, Member, Row};
 use crate::rows::Rows;
 use crate::sliding::replace_one;
+use crate::sweeping::{put_rows, take_rows};
 use std::alloc::Allocator;
 
 /// A desk, and an edit of it: the rows that go are there, those that come have places, and a row is
@@ -230,28 +231,6 @@ pub(crate) fn exchange_members<A: Allocator + Copy>(
     move_members(members, index, by_address, by_room, taken, put);
 }
 
-/// Puts the rows of two lists in.
-fn put_two<A: Allocator>(
-    others: &mut Vec<Row, A>,
-    spare: &mut Vec<Row, A>,
-    put: &[Row],
-    new: &[Row],
-)
-    requires rows { in_order others.old.items ≡ true }
-    requires put { in_order put.now ≡ true }
-    requires new { in_order new.now ≡ true }
-    requires room { (vec_len others.old + (length put.now + length new.now) ≤ vec_capacity others.old) × (vec_len others.old + (length put.now + length new.now) ≤ vec_capacity spare.old) }
-    ensures items { others.new.items ≡ with_rows new.now (with_rows put.now others.old.items) }
-    ensures room { (n : ℕ) → n ≤ vec_capacity others.old → n ≤ vec_capacity spare.old → (n ≤ vec_capacity others.new) × (n ≤ vec_capacity spare.new) }
-{
-    if put.is_empty() {
-        put_rows(others, spare, new);
-    } else {
-        sweep_in(others, spare, put);
-        sweep_in(others, spare, new);
-    }
-}
-
 /// The one row that is replaced, and the one in its stead, where the edit does nothing else to rows
 /// beside the members.
 fn only_replaced<A: Allocator + Copy>(edit: &Edit<A>) -> Option<(Row, Row)>
@@ -272,18 +251,15 @@ fn move_rows<A: Allocator + Copy>(others: &mut Vec<Row, A>, spare: &mut Vec<Row,
     requires fit { length others.old.items ≤ 78016 }
     requires orders { HasOrders edit.now }
     requires apart { are_apart edit.now.put.others edit.now.replaced.new ≡ true }
+    requires later { in_order (with_rows (ins edit.now) (without_rows (outs edit.now) others.old.items)) ≡ true }
     requires few { length (with_rows (ins edit.now) (without_rows (outs edit.now) others.old.items)) ≤ 78016 }
     requires room { (78016 ≤ vec_capacity others.old) × (78016 ≤ vec_capacity spare.old) }
     ensures items { others.new.items ≡ with_rows (ins edit.now) (without_rows (outs edit.now) others.old.items) }
     ensures room { (78016 ≤ vec_capacity others.new) × (78016 ≤ vec_capacity spare.new) }
 {
     take_rows(others, spare, edit.taken_others(), edit.old());
-    let new = edit.new();
-    if new.is_empty() {
-        put_rows(others, spare, edit.put_others());
-    } else {
-        put_two(others, spare, edit.put_others(), new);
-    }
+    put_rows(others, spare, edit.put_others());
+    put_rows(others, spare, edit.new());
 }
 
 /// Takes the other rows that go, and puts those that come. One that is replaced is overwritten where
@@ -299,6 +275,7 @@ pub(crate) fn exchange_rows<A: Allocator + Copy>(
     requires there { list_all (is_in others.old.items) (outs edit.now) ≡ true }
     requires paired { have_same_keys edit.now.replaced.old edit.now.replaced.new ≡ true }
     requires apart { are_apart edit.now.put.others edit.now.replaced.new ≡ true }
+    requires later { in_order (with_rows (ins edit.now) (without_rows (outs edit.now) others.old.items)) ≡ true }
     requires few { length (with_rows (ins edit.now) (without_rows (outs edit.now) others.old.items)) ≤ 78016 }
     requires room { (78016 ≤ vec_capacity others.old) × (78016 ≤ vec_capacity spare.old) }
     ensures items { others.new.items ≡ with_rows (ins edit.now) (without_rows (outs edit.now) others.old.items) }

@@ -18,6 +18,7 @@ mod places;
 mod row;
 mod rows;
 mod sliding;
+mod sweeping;
 
 pub use self::claim::Claim;
 pub use self::edit::{Edit, Part, Placed, Replaced};

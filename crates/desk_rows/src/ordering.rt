@@ -1,18 +1,16 @@
-//! Rows in the order of kinds and keys: found by halving, taken out and put in by one sweep.
+//! Rows in the order of kinds and keys, found by halving.
 
-ghost use Rattle.std.specs.Prelude.{◌≡◌, ℕ, ◌+◌, ◌≤◌, ◌++◌, true, ◌&&◌, filter, length, not, vec_len, vec_capacity, ◌∷◌, [], IfSome};
-ghost use Rattle.std.specs.List.{find, list_all, list_any};
+ghost use Rattle.std.specs.Prelude.{◌≡◌, true, ◌&&◌, filter};
+ghost use Rattle.std.specs.List.{find, list_all};
 ghost use Rattle.desk_rows.specs.Row.{has_key};
 ghost use Rattle.desk_rows.specs.Kinds.{is_of};
 ghost use Rattle.desk_rows.specs.Naming.{is_gain_of};
-ghost use Rattle.desk_rows.specs.Order.{precedes, precedes_head, in_order, key_is_new, are_apart, have_same_keys, is_in, with_rows, without_rows};
+ghost use Rattle.desk_rows.specs.Order.{precedes_head, in_order, key_is_new, are_apart, have_same_keys, is_in};
 
 use crate::row::{Key, Kind, Row};
-use crate::sliding::{put_one, take_one};
-use std::alloc::Allocator;
 
 /// Whether the row stands before the first of these, if there is one.
-fn precedes_first(row: &Row, rows: &[Row]) -> bool
+pub(crate) fn precedes_first(row: &Row, rows: &[Row]) -> bool
     ensures { result ≡ precedes_head row.now rows.now }
 {
     match rows.first() {
@@ -140,194 +138,4 @@ pub(crate) fn contains_all(others: &[Row], rows: &[Row]) -> bool
     ensures { result ≡ list_all (is_in others.now) rows.now }
 {
     rows.iter().all(|row| contains(others, row))
-}
-
-/// Whether the row is in neither list.
-#[tactic(auto, using(crate::proofs::Counts::any_of_both))]
-fn is_left(row: &Row, taken: &[Row], old: &[Row]) -> bool
-    requires taken { in_order taken.now ≡ true }
-    requires old { in_order old.now ≡ true }
-    ensures { result ≡ not (is_in (with_rows old.now taken.now) row.now) }
-{
-    if contains(old, row) {
-        return false;
-    }
-    !contains(taken, row)
-}
-
-/// The one row of two lists, if there is just one.
-fn only_row(taken: &[Row], old: &[Row]) -> Option<Row>
-    ensures { IfSome result (λ row. with_rows old.now taken.now ≡ row ∷ []) }
-{
-    if old.is_empty() && taken.len() == 1 {
-        return Some(taken[0]);
-    }
-    if taken.is_empty() && old.len() == 1 {
-        return Some(old[0]);
-    }
-    None
-}
-
-/// Takes out the rows of two lists.
-fn pick_out<A: Allocator>(rows: &mut Vec<Row, A>, taken: &[Row], old: &[Row])
-    requires taken { in_order taken.now ≡ true }
-    requires old { in_order old.now ≡ true }
-    ensures items { rows.new.items ≡ without_rows (with_rows old.now taken.now) rows.old.items }
-    ensures capacity { vec_capacity rows.old ≤ vec_capacity rows.new }
-{
-    rows.retain(|row| is_left(row, taken, old));
-}
-
-/// Appends the rows without those of the second list.
-fn leave_out<A: Allocator>(out: &mut Vec<Row, A>, rows: &[Row], taken: &[Row])
-    requires rows { in_order rows.now ≡ true }
-    requires taken { in_order taken.now ≡ true }
-    requires room { vec_len out.old + length rows.now ≤ vec_capacity out.old }
-    ensures items { out.new.items ≡ out.old.items ++ without_rows taken.now rows.now }
-    ensures capacity { vec_capacity out.old ≤ vec_capacity out.new }
-{
-    let mut rest = rows;
-    let mut left = taken;
-    while let Some((first, behind)) = left.split_first() {
-        match rest.split_first() {
-            None => return,
-            Some((row, later)) => {
-                if first.precedes(row) {
-                    left = behind;
-                } else {
-                    if !row.is_same(first) {
-                        out.push_reserved(*row);
-                    }
-                    rest = later;
-                }
-            }
-        }
-    }
-    append(out, rest);
-}
-
-/// Takes these rows out by one sweep into the spare room.
-fn sweep_out<A: Allocator>(rows: &mut Vec<Row, A>, spare: &mut Vec<Row, A>, taken: &[Row])
-    requires rows { in_order rows.old.items ≡ true }
-    requires taken { in_order taken.now ≡ true }
-    requires room { vec_len rows.old ≤ vec_capacity spare.old }
-    ensures items { rows.new.items ≡ without_rows taken.now rows.old.items }
-    ensures room { (n : ℕ) → n ≤ vec_capacity rows.old → n ≤ vec_capacity spare.old → (n ≤ vec_capacity rows.new) × (n ≤ vec_capacity spare.new) }
-{
-    spare.clear();
-    leave_out(spare, rows, taken);
-    std::mem::swap(rows, spare);
-}
-
-/// Takes out the rows of two lists, of which one may be empty.
-fn take_many<A: Allocator>(
-    rows: &mut Vec<Row, A>,
-    spare: &mut Vec<Row, A>,
-    taken: &[Row],
-    old: &[Row],
-)
-    requires rows { in_order rows.old.items ≡ true }
-    requires taken { in_order taken.now ≡ true }
-    requires old { in_order old.now ≡ true }
-    requires room { vec_len rows.old ≤ vec_capacity spare.old }
-    ensures items { rows.new.items ≡ without_rows (with_rows old.now taken.now) rows.old.items }
-    ensures room { (n : ℕ) → n ≤ vec_capacity rows.old → n ≤ vec_capacity spare.old → (n ≤ vec_capacity rows.new) × (n ≤ vec_capacity spare.new) }
-{
-    if old.is_empty() {
-        sweep_out(rows, spare, taken);
-    } else {
-        pick_out(rows, taken, old);
-    }
-}
-
-/// Takes out the rows of two lists: one at its place, more by one sweep.
-pub(crate) fn take_rows<A: Allocator>(
-    rows: &mut Vec<Row, A>,
-    spare: &mut Vec<Row, A>,
-    taken: &[Row],
-    old: &[Row],
-)
-    requires rows { in_order rows.old.items ≡ true }
-    requires taken { in_order taken.now ≡ true }
-    requires old { in_order old.now ≡ true }
-    requires room { vec_len rows.old ≤ vec_capacity spare.old }
-    ensures items { rows.new.items ≡ without_rows (with_rows old.now taken.now) rows.old.items }
-    ensures room { (n : ℕ) → n ≤ vec_capacity rows.old → n ≤ vec_capacity spare.old → (n ≤ vec_capacity rows.new) × (n ≤ vec_capacity spare.new) }
-{
-    if taken.len() + old.len() == 0 {
-        return;
-    }
-    match only_row(taken, old) {
-        Some(row) => take_one(rows, &row),
-        None => take_many(rows, spare, taken, old),
-    }
-}
-
-/// Appends both lists in one, with the rows that are put each where it keeps the order.
-fn merge<A: Allocator>(out: &mut Vec<Row, A>, rows: &[Row], put: &[Row])
-    requires order { in_order put.now ≡ true }
-    requires room { vec_len out.old + (length rows.now + length put.now) ≤ vec_capacity out.old }
-    ensures items { out.new.items ≡ out.old.items ++ with_rows put.now rows.now }
-    ensures capacity { vec_capacity out.old ≤ vec_capacity out.new }
-{
-    let mut rest = rows;
-    let mut left = put;
-    while let Some((first, behind)) = left.split_first() {
-        match rest.split_first() {
-            None => {
-                out.push_reserved(*first);
-                left = behind;
-            }
-            Some((row, later)) => {
-                if first.precedes(row) {
-                    out.push_reserved(*first);
-                    left = behind;
-                } else {
-                    out.push_reserved(*row);
-                    rest = later;
-                }
-            }
-        }
-    }
-    append(out, rest);
-}
-
-fn append<A: Allocator>(out: &mut Vec<Row, A>, rows: &[Row])
-    requires { vec_len out.old + length rows.now ≤ vec_capacity out.old }
-    ensures items { out.new.items ≡ out.old.items ++ rows.now }
-    ensures len { vec_len out.new ≡ vec_len out.old + length rows.now }
-    ensures capacity { vec_capacity out.old ≤ vec_capacity out.new }
-{
-    if out.extend_from_slice(rows).is_err() {
-        return;
-    }
-}
-
-/// Puts these rows in, each where it keeps the order, by one sweep into the spare room.
-pub(crate) fn sweep_in<A: Allocator>(rows: &mut Vec<Row, A>, spare: &mut Vec<Row, A>, put: &[Row])
-    requires order { in_order put.now ≡ true }
-    requires room { vec_len rows.old + length put.now ≤ vec_capacity spare.old }
-    ensures items { rows.new.items ≡ with_rows put.now rows.old.items }
-    ensures room { (n : ℕ) → n ≤ vec_capacity rows.old → n ≤ vec_capacity spare.old → (n ≤ vec_capacity rows.new) × (n ≤ vec_capacity spare.new) }
-{
-    if put.is_empty() {
-        return;
-    }
-    spare.clear();
-    merge(spare, rows, put);
-    std::mem::swap(rows, spare);
-}
-
-/// Puts these rows into rows in order, one at its place, more by one sweep into the spare room.
-pub(crate) fn put_rows<A: Allocator>(rows: &mut Vec<Row, A>, spare: &mut Vec<Row, A>, put: &[Row])
-    requires rows { in_order rows.old.items ≡ true }
-    requires order { in_order put.now ≡ true }
-    requires room { (vec_len rows.old + length put.now ≤ vec_capacity rows.old) × (vec_len rows.old + length put.now ≤ vec_capacity spare.old) }
-    ensures items { rows.new.items ≡ with_rows put.now rows.old.items }
-    ensures room { (n : ℕ) → n ≤ vec_capacity rows.old → n ≤ vec_capacity spare.old → (n ≤ vec_capacity rows.new) × (n ≤ vec_capacity spare.new) }
-{
-    match only_row(put, &[]) {
-        Some(row) => put_one(rows, &row),
-        None => sweep_in(rows, spare, put),
-    }
 }

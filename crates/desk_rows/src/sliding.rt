@@ -9,7 +9,7 @@ use crate::row::Row;
 use std::alloc::Allocator;
 
 /// The place of the row of this row's key, or where one would stand.
-fn place_of(rows: &[Row], row: &Row) -> usize
+pub(crate) fn place_of(rows: &[Row], row: &Row) -> usize
     requires { in_order rows.now ≡ true }
     ensures parts { Parts (λ x. precedes x row.now) rows.now result }
     ensures within { result ≤ length rows.now }
@@ -18,7 +18,7 @@ fn place_of(rows: &[Row], row: &Row) -> usize
 }
 
 /// The place of the first row that this one stands before.
-fn place_before(rows: &[Row], row: &Row) -> usize
+pub(crate) fn place_before(rows: &[Row], row: &Row) -> usize
     requires { in_order rows.now ≡ true }
     ensures parts { Parts (λ x. not (precedes row.now x)) rows.now result }
     ensures within { result ≤ length rows.now }

@@ -1,7 +1,7 @@
 -- An edit that fits can be taken back.
 pub use Rattle.desk_rows.specs.laws.ListLaws.{count_by-append}
 use Rattle.std.specs.Prelude.{◌≡◌, ◌≤◌, ◌||◌, ◌++◌, ◌&&◌}
-use Rattle.desk_rows.specs.laws.Words.{Bool, true, false, List, sym, ap, ◌∙◌, arith, map, nat_eq, not, inl, inr, eqb-true, or_left, or_right, and_parts, and_from, cases_Bool, cond-true, cond-false, true_from_ne_false, not-true, list_any-append, list_all, count_by, Row, Member, Desk, rows_of, is_named_there, is_alone, is_within_limits, obeys, is_listed, good, EditOf, outs, ins, inverse, exchanged, is_apt, fits, after, is_in, with_rows, in_order, without_rows, are_apart, have_same_keys, take_at, can_take, can_put, places_rise, put_at, same_row, has_key, key_of, takes, puts}
+use Rattle.desk_rows.specs.laws.Words.{Bool, true, false, List, sym, ap, ◌∙◌, arith, map, nat_eq, not, inl, inr, eqb-true, or_left, or_right, and_parts, and_from, cases_Bool, cond-true, cond-false, true_from_ne_false, not-true, list_any-append, list_all, count_by, Row, Member, Desk, rows_of, is_named_there, is_alone, is_within_limits, obeys, is_listed, good, EditOf, outs, ins, inverse, exchanged, is_apt, fits, after, is_in, with_rows, in_order, without_rows, are_apart, have_same_keys, take_at, can_take, can_put, places_rise, put_at, same_row, has_key, key_of}
 use Rattle.desk_rows.specs.laws.Equal.{key_itself}
 use Rattle.desk_rows.specs.laws.ListLaws.{true_false, some_count, none_pass}
 use Rattle.desk_rows.specs.laws.OrderLaws.{at_each, from_each, apart_in_order, same_keys_turned, count_by-with_rows, is_in-with_rows, without_rows-with_rows, with_rows-without_rows}

@@ -40,6 +40,10 @@ exchange_rows-requires-clause-paired g c = (at _ _ c.args.edit.now c.self.view_i
 pub exchange_rows-requires-clause-apart : goal.exchange_rows-requires-clause-apart
 exchange_rows-requires-clause-apart g c = (at _ _ c.args.edit.now c.self.view_is c.requires).apart
 
+pub exchange_rows-requires-clause-later : goal.exchange_rows-requires-clause-later
+unfolding exchanged
+exchange_rows-requires-clause-later g c = good_order _ (at _ _ c.args.edit.now c.self.view_is c.requires).good_after
+
 pub exchange_rows-requires-clause-few : goal.exchange_rows-requires-clause-few
 exchange_rows-requires-clause-few g c = (at _ _ c.args.edit.now c.self.view_is c.requires).others_few
 
