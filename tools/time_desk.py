@@ -1,18 +1,19 @@
 #!/usr/bin/env python3
 """Times operator commands on a full desk, by the release binary over scripts.
 
-usage: time_desk.py [--runs N] [BINARY]
+usage: time_desk.py [--runs N] [--only WORD] [--instructions] [BINARY]
 
 The desk has one room with 1,024 members, 64 audio and 1,984 video sources, 4,096 slots with a subscription each, all
 65,536 gains, a pin and a floor. A command's time is the processor time of a script with many of it, less that of the script
-that makes the desk, over their number; the least of N runs of each (3 if not said), in turn. BINARY is out/confbridge (`rt run` in
-crates/confbridge makes it).
+that makes the desk, over their number; the least of N runs of each (3 if not said), in turn. With --only it takes the rows that
+have this word in their names, with --instructions it counts instructions, by callgrind, in place of time, one run of each. BINARY is
+out/confbridge (`rt run` in crates/confbridge makes it).
 """
 
 import argparse
-import contextlib
 import os
 import pathlib
+import re
 import subprocess
 import sys
 import tempfile
@@ -38,27 +39,35 @@ def desk(gains):
     yield "give-floor 1 0"
 
 
-def seconds(binary, scripts, runs):
-    """The least processor time of each script, which take turns, and how many calls of the last one were refused."""
+def spent(binary, given, told):
+    """The processor time of one run, in microseconds."""
+    with subprocess.Popen([binary, "replay"], stdin=given, stdout=told) as run:
+        _, status, used = os.wait4(run.pid, 0)
+        run.returncode = os.waitstatus_to_exitcode(status)
+    if run.returncode:
+        sys.exit(f"status {run.returncode}")
+    return (used.ru_utime + used.ru_stime) * 1e6
+
+
+def counted(binary, given, told):
+    """The instructions of one run."""
+    asked = ["valgrind", "--tool=callgrind", "--callgrind-out-file=/dev/null", binary, "replay"]
+    said = subprocess.run(asked, stdin=given, stdout=told, stderr=subprocess.PIPE, text=True, check=True).stderr
+    return int(re.search(r"Collected : (\d+)", said)[1])
+
+
+def least(measured, binary, scripts, runs):
+    """The least cost of each script, which take turns, and how many calls of the last one were refused."""
     best, refused = [None] * len(scripts), 0
-    with contextlib.ExitStack() as open_files:
-        files = []
-        for lines in scripts:
-            files.append(open_files.enter_context(tempfile.TemporaryFile()))
-            files[-1].write("".join(f"desk 0 {line}\n" for line in lines).encode())
-        for _ in range(runs):
-            for at, given in enumerate(files):
+    for _ in range(runs):
+        for at, lines in enumerate(scripts):
+            with tempfile.TemporaryFile() as given, tempfile.TemporaryFile() as told:
+                given.write("".join(f"desk 0 {line}\n" for line in lines).encode())
                 given.seek(0)
-                with tempfile.TemporaryFile() as told:
-                    with subprocess.Popen([binary, "replay"], stdin=given, stdout=told) as run:
-                        _, status, used = os.wait4(run.pid, 0)
-                        run.returncode = os.waitstatus_to_exitcode(status)
-                    if run.returncode:
-                        sys.exit(f"status {run.returncode}")
-                    took = used.ru_utime + used.ru_stime
-                    best[at] = took if best[at] is None else min(best[at], took)
-                    told.seek(0)
-                    refused = sum(line.startswith(b"no ") for line in told)
+                took = measured(binary, given, told)
+                best[at] = took if best[at] is None else min(best[at], took)
+                told.seek(0)
+                refused = sum(line.startswith(b"no ") for line in told)
     return best, refused
 
 
@@ -72,12 +81,21 @@ def pairs(count, first, second):
 def main():
     parser = argparse.ArgumentParser(usage=__doc__)
     parser.add_argument("--runs", type=int, default=3)
+    parser.add_argument("--only", default="")
+    parser.add_argument("--instructions", action="store_true")
     parser.add_argument("binary", nargs="?", default=str(TOP / "crates/confbridge/out/confbridge"))
     args = parser.parse_args()
+    measured, unit = (counted, "instructions") if args.instructions else (spent, "us")
+    runs = 1 if args.instructions else args.runs
+
+    def told(name, start, lines):
+        if args.only in name:
+            (base, took), no = least(measured, args.binary, [start, start + lines], runs)
+            print(f"{name}: {(took - base) / len(lines):,.0f} {unit} ({no} refused)", flush=True)
+
     full = list(desk(64))
-    (base,), refused = seconds(args.binary, [full], args.runs)
     calls = len(full)
-    print(f"the desk: {calls} commands in {base:.2f} s, {base / calls * 1e6:.0f} us each, {refused} refused", flush=True)
+    told("the desk", [], full)
     one_row = {
         "set-gain over another": (f"set-gain {i % 1024} 200000 {i // 1024 % 2 + 1}" for i in range(20000)),
         "subscribe over another": (f"subscribe {300000 + i % 4096} {200064 + (i + 1 + i // 4096) % 1984}" for i in range(20000)),
@@ -93,18 +111,14 @@ def main():
         "refused: add-source of an SSRC in use": (f"add-source {300000 + i} 0 audio" for i in range(4000)),
     }
     for name, more in one_row.items():
-        lines = list(more)
-        (base, took), no = seconds(args.binary, [full, full + lines], args.runs)
-        print(f"{name}: {(took - base) / len(lines) * 1e6:.0f} us ({no} refused)", flush=True)
+        told(name, full, list(more))
     for gains in (16, 64):
         part = list(desk(gains))
         calls = len(part)
-        again = ["remove-room 1"] + list(pairs(20, lambda i: f"undo {calls + 2 * i + 1}", lambda i: f"redo {calls + 2 * i + 2}"))
+        again = list(pairs(20, lambda i: f"undo {calls + 2 * i + 1}", lambda i: f"redo {calls + 2 * i + 2}"))
         anew = list(pairs(20, lambda i: "remove-room 1", lambda i: f"undo {calls + 2 * i + 1}"))
-        (start, redone), no = seconds(args.binary, [part, part + again], args.runs)
-        print(f"undo and redo of remove-room with {gains * 1024} gains: {(redone - start) / 41 * 1e3:.1f} ms each ({no} refused)", flush=True)
-        (start, removed), more_no = seconds(args.binary, [part, part + anew], args.runs)
-        print(f"remove-room and undo with {gains * 1024} gains: {(removed - start) / 40 * 1e3:.1f} ms each ({more_no} refused)", flush=True)
+        told(f"undo and redo of remove-room with {gains * 1024} gains", part + ["remove-room 1"], again)
+        told(f"remove-room and undo with {gains * 1024} gains", part, anew)
     return 0
 
 
