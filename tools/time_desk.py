@@ -115,8 +115,8 @@ def main():
     for gains in (16, 64):
         part = list(desk(gains))
         calls = len(part)
-        again = list(pairs(20, lambda i: f"undo {calls + 2 * i + 1}", lambda i: f"redo {calls + 2 * i + 2}"))
-        anew = list(pairs(20, lambda i: "remove-room 1", lambda i: f"undo {calls + 2 * i + 1}"))
+        again = list(pairs(100, lambda i: f"undo {calls + 2 * i + 1}", lambda i: f"redo {calls + 2 * i + 2}"))
+        anew = list(pairs(100, lambda i: "remove-room 1", lambda i: f"undo {calls + 2 * i + 1}"))
         told(f"undo and redo of remove-room with {gains * 1024} gains", part + ["remove-room 1"], again)
         told(f"remove-room and undo with {gains * 1024} gains", part, anew)
     return 0
