@@ -10,3 +10,8 @@ if [ ! -x "$program" ] || [ -n "$(find ../../crates.txt .. -path '*/out' -prune 
     fi
     echo "$0: building the program without its proofs, which takes a minute at each call until \`rt ci\` or \`rt run\` has made it." >&2
 fi
+if [ -n "$program" ]; then
+    # Memory comes in large pages where the system has some for who asks, so that packets of thousands of sources wait less for it
+    # (docs/PERFORMANCE.md). A value that is set already stays, also an empty one.
+    export GLIBC_TUNABLES="${GLIBC_TUNABLES-glibc.malloc.hugetlb=1}"
+fi
