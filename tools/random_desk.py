@@ -1,10 +1,12 @@
 #!/usr/bin/env python3
 """Compares random desk calls with a plain, slow desk: its rows in lists, its commands as docs/FORMATS.md says them.
 
-usage: random_desk.py [--calls N] [--seed S] [BINARY]
+usage: random_desk.py [--calls N] [--seed S] [--cases SHOWN] [BINARY]
 
 Each call is drawn from few numbers, so that rows meet, cascades are deep and each refusal comes; about one call in four is an
 undo or a redo. After each call the whole desk is shown. BINARY is confbridge; the status is 0 where all lines are the same.
+With --cases nothing is compared: the calls are printed with the plain desk's answers, as cases of script_cases are written, the
+whole desk after every SHOWN of them.
 """
 
 import argparse
@@ -263,10 +265,21 @@ def draw(r, accepted):
     return f"{'undo' if kind < 0.90 else 'redo'} {last}"
 
 
+def write_cases(script, wanted, shown):
+    """Prints the calls with their answers, and the desk after every so many."""
+    for number, (_, texts) in enumerate(wanted):
+        lines = [script[2 * number], "> " + texts[0]]
+        if (number + 1) % shown == 0:
+            lines += ["show"] + ["> " + text for text in texts[1:]]
+        print("\n".join(lines))
+    return 0
+
+
 def main():
     parser = argparse.ArgumentParser(usage=__doc__)
     parser.add_argument("--calls", type=int, default=10_000)
     parser.add_argument("--seed", type=int, default=1)
+    parser.add_argument("--cases", type=int, default=0)
     parser.add_argument("binary", nargs="?", default=str(TOP / "crates/confbridge/out/confbridge"))
     args = parser.parse_args()
     r = random.Random(args.seed)
@@ -297,6 +310,8 @@ def main():
         counts[told] = counts.get(told, 0) + 1
         script += [f"desk {r.randrange(16)} {line}", "show"]
         wanted += [(line, [reply] + desk.shown(accepted))]
+    if args.cases:
+        return write_cases(script, wanted, args.cases)
     out = subprocess.run([args.binary, "replay"], input=("\n".join(script) + "\n").encode(), stdout=subprocess.PIPE, check=True)
     lines = out.stdout.decode().splitlines()
     at = 0

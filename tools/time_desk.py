@@ -4,10 +4,11 @@
 usage: time_desk.py [--runs N] [--only WORD] [--instructions] [BINARY]
 
 The desk has one room with 1,024 members, 64 audio and 1,984 video sources, 4,096 slots with a subscription each, all
-65,536 gains, a pin and a floor. A command's time is the processor time of a script with many of it, less that of the script
-that makes the desk, over their number; the least of N runs of each (3 if not said), in turn. With --only it takes the rows that
-have this word in their names, with --instructions it counts instructions, by callgrind, in place of time, one run of each. BINARY is
-out/confbridge (`rt run` in crates/confbridge makes it).
+65,536 gains, a pin and a floor; where a member, a source or a slot comes and goes, it is one short of each of these. A command's
+time is the processor time of a script with many of it, less that of the script that makes the desk, over their number; the least of
+N runs of each (3 if not said), in turn. With --only it takes the rows that have this word in their names, with --instructions it
+counts instructions, by callgrind, in place of time, one run of each. BINARY is out/confbridge (`rt run` in crates/confbridge makes
+it).
 """
 
 import argparse
@@ -21,22 +22,23 @@ import tempfile
 TOP = pathlib.Path(__file__).resolve().parent.parent
 
 
-def desk(gains):
-    """The lines that make the desk, with this many gains for each member."""
+def desk(gains, short=0):
+    """The lines that make the desk, with this many gains for each member, and so many members, sources and slots short."""
+    members = 1024 - short
     yield "add-room 1"
-    for m in range(1024):
+    for m in range(short, 1024):
         yield f"add-member {m} 1 10.0.{m >> 8}.{m & 255}:5000 pcmu {100000 + m} 0 0"
-    for s in range(2048):
-        yield f"add-source {200000 + s} {s % 1024} {'audio' if s < 64 else 'video'}"
-    for s in range(4096):
-        yield f"add-slot {300000 + s} {s % 1024} {s >> 10} 0 0"
-    for s in range(4096):
-        yield f"subscribe {300000 + s} {200064 + s % 1984}"
-    for m in range(1024):
+    for s in range(2048 - short):
+        yield f"add-source {200000 + s} {short + s % members} {'audio' if s < 64 else 'video'}"
+    for s in range(4096 - short):
+        yield f"add-slot {300000 + s} {short + s % members} {s // members} 0 0"
+    for s in range(4096 - short):
+        yield f"subscribe {300000 + s} {200064 + s % (1984 - short)}"
+    for m in range(short, 1024):
         for s in range(gains):
             yield f"set-gain {m} {200000 + s} 100"
     yield "pin 1 200064"
-    yield "give-floor 1 0"
+    yield f"give-floor 1 {short}"
 
 
 def spent(binary, given, told):
@@ -112,6 +114,12 @@ def main():
     }
     for name, more in one_row.items():
         told(name, full, list(more))
+    short = list(desk(64, 1)) + ["add-room 2"]
+    joins = "add-member 0 1 10.0.0.0:5000 pcmu 100000 0 0"
+    told("add-member, remove-member", short, list(pairs(5000, lambda i: joins, lambda i: "remove-member 0")))
+    told("add-source, remove-source of video", short, list(pairs(5000, lambda i: f"add-source 199999 {1 + i % 1000} video", lambda i: "remove-source 199999")))
+    told("add-slot, remove-slot", short, list(pairs(5000, lambda i: f"add-slot 299999 {1 + i % 1000} 15 0 0", lambda i: "remove-slot 299999")))
+    told("move-member without rows, there and back", short + [joins], list(pairs(5000, lambda i: "move-member 0 2", lambda i: "move-member 0 1")))
     for gains in (16, 64):
         part = list(desk(gains))
         calls = len(part)

@@ -1,8 +1,8 @@
 #!/bin/sh
 # Tries the cases of script_cases and codec_cases with programs that are built without the proofs: a minute, in place of the
-# gate's. Scripts that fill the desk's tables and its log, and those of many datagrams, are left out, since such a program takes
-# too long for them. One that has no answer in the toolchain's time, as on a busy machine, says nothing of the cases: that is
-# told, and is no failure.
+# gate's. Scripts that fill the desk's tables and its log, and those of many datagrams and random calls, are left out, since such
+# a program takes too long for them. One that has no answer in the toolchain's time, as on a busy machine, says nothing of the
+# cases: that is told, and is no failure.
 set -u
 cd "$(dirname "$0")/.."
 
@@ -18,7 +18,7 @@ told() {
     esac
 }
 
-said=$(cd crates/script_cases && awk '/^\*\* /{fills = 0} /^\*\* (no desk|many datagrams|large requests and reports)$/{fills = 1} !fills' stdin | rt try 2>&1)
+said=$(cd crates/script_cases && awk '/^\*\* /{fills = 0} /^\*\* (no desk|many datagrams|large requests and reports|random calls)$/{fills = 1} !fills' stdin | rt try 2>&1)
 told script_cases "$said"
 said=$(python3 tools/check_vectors.py crates/codec_cases/data 2>&1)
 told codec_cases "$said"

@@ -1,7 +1,7 @@
 //! Plans over small heaps.
 
 use desk_edit::{Command, Refusal, plan};
-use desk_rows::{Codec, Media, Member, Room, Rows, Slot, Source, Sub};
+use desk_rows::{Codec, Gain, Media, Member, Mute, Room, Rows, Slot, Source, Sub};
 use linked_list_allocator::LocalHeap;
 use rtp_codec::Address;
 use std::test::Fail;
@@ -22,11 +22,19 @@ fn member(member: u32, port: u16) -> Command {
     })
 }
 
-fn source(ssrc: u32) -> Command {
+fn source(ssrc: u32, media: Media) -> Command {
     Command::AddSource(Source {
         ssrc,
         member: 10,
-        media: Media::Video,
+        media,
+    })
+}
+
+fn gain(q8: u32) -> Command {
+    Command::SetGain(Gain {
+        member: 10,
+        source: 201,
+        q8,
     })
 }
 
@@ -47,17 +55,20 @@ fn subscribe(source: u32) -> Command {
     })
 }
 
-/// A desk with two sources and a slot that has the first.
+/// A desk with two sources, a slot that has the first, and a source of audio, muted, with a gain.
 fn small_desk<'a>(ample: &'a LocalHeap) -> Result<Rows<&'a LocalHeap>, Fail> {
     let mut rows = Rows::new(ample, 1)?;
     let commands = [
         Command::AddRoom(Room { room: 1 }),
         Command::AddRoom(Room { room: 3 }),
         member(10, 5000),
-        source(101),
-        source(102),
+        source(101, Media::Video),
+        source(102, Media::Video),
         slot(501, 0),
         subscribe(101),
+        source(201, Media::Audio),
+        gain(128),
+        Command::Mute(Mute { source: 201 }),
     ];
     for command in commands {
         let edit = plan(ample, &rows, &command).map_err(|_| Fail::from("refused"))?;
@@ -84,7 +95,8 @@ fn a_plan_tells_want_of_memory_last(rt: HostRuntime) -> Result<(), Fail> {
     let cases = [
         Command::AddRoom(Room { room: 2 }),
         member(11, 5001),
-        source(103),
+        source(103, Media::Video),
+        source(202, Media::Audio),
         slot(502, 1),
         Command::RemoveSlot { out_ssrc: 501 },
         Command::RemoveMember { member: 10 },
@@ -94,10 +106,13 @@ fn a_plan_tells_want_of_memory_last(rt: HostRuntime) -> Result<(), Fail> {
             room: 3,
         },
         subscribe(102),
+        gain(64),
+        Command::RemoveSource { ssrc: 201 },
+        Command::Unmute { source: 201 },
     ];
     for command in cases {
         let mut refused = 0usize;
-        for size in 1..64usize {
+        for size in 1..256usize {
             let heap = LocalHeap::new(rt.alloc(), 16 * size)?;
             let Some(why) = plan_over(&ample, &heap, command)? else {
                 break;
@@ -105,10 +120,10 @@ fn a_plan_tells_want_of_memory_last(rt: HostRuntime) -> Result<(), Fail> {
             assert!(rt; why == Refusal::OutOfMemory);
             refused = refused.saturating_add(1);
         }
-        assert!(rt; refused > 0 && refused < 63, "refused {refused} times");
+        assert!(rt; refused > 0 && refused < 255, "refused {refused} times");
     }
     let none = LocalHeap::new(rt.alloc(), 16)?;
-    let why = plan_over(&ample, &none, source(101))?;
+    let why = plan_over(&ample, &none, source(101, Media::Video))?;
     assert!(rt; why == Some(Refusal::Exists) && ample.used() == 0);
     Ok(())
 }

@@ -60,23 +60,40 @@ fn a_desk_has_its_room_from_the_start(rt: HostRuntime) -> Result<(), Fail> {
     Ok(())
 }
 
-/// Whether a clone over this heap comes, and then whether it is whole.
-fn clone_over<'a>(ample: &'a LocalHeap, heap: &'a LocalHeap) -> Result<Option<bool>, Fail> {
+/// The members of a clone over this heap, if it comes, and those of its original then.
+fn clone_over<'a>(
+    ample: &'a LocalHeap,
+    heap: &'a LocalHeap,
+) -> Result<(Option<usize>, usize), Fail> {
     let _held = Box::new(heap, 0u8)?;
     let mut rows = Rows::new(ample, 1)?;
     rows.absorb(&joining(ample)?);
-    let Ok(copy) = rows.try_clone(heap) else {
-        return Ok(None);
+    let copy = match rows.try_clone(heap) {
+        Ok(copy) if copy.members() == rows.members() => Some(copy.members().len()),
+        Ok(_) => Some(0),
+        Err(_) => None,
     };
-    Ok(Some(copy.members().len() == 3))
+    Ok((copy, rows.members().len()))
 }
 
+/// Heaps that grow by 4,096 octets refuse each allocation of the clone in turn, until one is ample.
 #[test]
 fn a_clone_is_refused_or_whole(rt: HostRuntime) -> Result<(), Fail> {
-    let ample = LocalHeap::new(rt.alloc(), 1 << 24)?;
-    let small = LocalHeap::new(rt.alloc(), 1 << 20)?;
-    let refused = clone_over(&ample, &small)?;
-    assert!(rt; refused == None && clone_over(&ample, &ample)? == Some(true));
+    let ample = LocalHeap::new(rt.alloc(), 1 << 23)?;
+    let mut refused = 0usize;
+    for size in 1..2048usize {
+        let heap = LocalHeap::new(rt.alloc(), 4096 * size)?;
+        let (copy, kept) = clone_over(&ample, &heap)?;
+        assert!(rt; kept == 3 && (copy == None || copy == Some(3)));
+        if copy == Some(3) {
+            break;
+        }
+        refused = refused.saturating_add(1);
+    }
+    assert!(rt;
+        refused > 8 && refused < 2047 && ample.used() == 0,
+        "refused {refused} times"
+    );
     Ok(())
 }
 

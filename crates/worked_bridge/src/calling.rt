@@ -26,6 +26,15 @@ pub fn has_nothing_to_undo(alloc: Global, core: &mut Core) -> Reply
     core.desk(alloc, 0, Call::Undo { last: 4 })
 }
 
+/// That nothing is done is told before a full log.
+pub fn has_nothing_to_undo_in_a_full_log(alloc: Global, core: &mut Core) -> Reply
+    requires version { core.old.version ≡ 1048576 }
+    requires done { core.old.done ≡ [] }
+    ensures { result ≡ Reply.Refused 1048576 Refusal.NothingToUndo }
+{
+    core.desk(alloc, 0, Call::Undo { last: 1_048_576 })
+}
+
 /// An undo of a full log.
 pub fn undoes_no_more(alloc: Global, core: &mut Core) -> Reply
     requires version { core.old.version ≡ 1048576 }
@@ -102,6 +111,15 @@ pub fn has_nothing_to_redo(alloc: Global, core: &mut Core) -> Reply
     ensures { result ≡ Reply.Refused 4 Refusal.NothingToRedo }
 {
     core.desk(alloc, 0, Call::Redo { last: 4 })
+}
+
+/// That nothing is undone is told before a full log.
+pub fn has_nothing_to_redo_in_a_full_log(alloc: Global, core: &mut Core) -> Reply
+    requires version { core.old.version ≡ 1048576 }
+    requires undone { core.old.undone ≡ [] }
+    ensures { result ≡ Reply.Refused 1048576 Refusal.NothingToRedo }
+{
+    core.desk(alloc, 0, Call::Redo { last: 1_048_576 })
 }
 
 /// A redo to a full log.
