@@ -246,6 +246,7 @@ fn only_replaced<A: Allocator + Copy>(edit: &Edit<A>) -> Option<(Row, Row)>
 
 /// Takes the other rows that go, and puts those that come, each where it keeps the order. There is
 /// room for them.
+#[tactic(auto, using(crate::proofs::Merging::put_in_turn, crate::proofs::SlidingLemmas::rest_in_order, crate::proofs::Counts::length_of_both))]
 fn move_rows<A: Allocator + Copy>(others: &mut Vec<Row, A>, spare: &mut Vec<Row, A>, edit: &Edit<A>)
     requires rows { in_order others.old.items ≡ true }
     requires fit { length others.old.items ≤ 78016 }
