@@ -71,8 +71,8 @@ rest_in_order rs xs h = in_order-filter (λ x. not (is_in rs x)) xs h
 
 -- a row that stands before the first of those that go stays
 first_stays : (t x : Row) (ts xs : List Row) → in_order (t ∷ ts) ≡ true → precedes x t ≡ true → without_rows (t ∷ ts) (x ∷ xs) ≡ x ∷ without_rows (t ∷ ts) xs
-first_stays t x ts xs h before =
-    ap (λ b. cond (not b) (x ∷ without_rows (t ∷ ts) xs) (without_rows (t ∷ ts) xs)) (none_before x (t ∷ ts) (before_all x (t ∷ ts) before h))
+first_stays t x ts xs h e =
+    ap (λ b. cond (not b) (x ∷ without_rows (t ∷ ts) xs) (without_rows (t ∷ ts) xs)) (none_before x (t ∷ ts) (before_all x (t ∷ ts) (and_from _ _ e refl) h))
 
 pub front_stays : (t : Row) (ts front behind : List Row) → in_order (t ∷ ts) ≡ true → list_all (λ x. precedes x t) front ≡ true → without_rows (t ∷ ts) (front ++ behind) ≡ front ++ without_rows (t ∷ ts) behind
 front_stays t ts [] behind h f = refl
