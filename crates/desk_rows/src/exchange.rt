@@ -221,12 +221,14 @@ pub(crate) fn exchange_members<A: Allocator + Copy>(
     requires put { can_put edit.now.put.members (take_at edit.now.taken.members members.old.items) ≡ true }
     requires numbers { (n : ℕ) → count_by (λ m. nat_eq m.member n) (put_at edit.now.put.members (take_at edit.now.taken.members members.old.items)) ≤ 1 }
     requires few { length (take_at edit.now.taken.members members.old.items) + length edit.now.put.members ≤ MAX_MEMBERS }
-    requires room { (MAX_MEMBERS ≤ vec_capacity members.old) × (MAX_MEMBERS ≤ vec_capacity index.old) × (MAX_MEMBERS ≤ vec_capacity by_address.old) × (MAX_MEMBERS ≤ vec_capacity by_room.old) }
+    requires room { (MAX_MEMBERS ≤ vec_capacity members.old) × (MAX_MEMBERS ≤ vec_capacity index.old)
+        × (MAX_MEMBERS ≤ vec_capacity by_address.old) × (MAX_MEMBERS ≤ vec_capacity by_room.old) }
     ensures items { members.new.items ≡ put_at edit.now.put.members (take_at edit.now.taken.members members.old.items) }
     ensures index { IsIndex members.new.items index.new.items }
     ensures addresses { IsByAddress members.new.items by_address.new.items }
     ensures rooms { IsByRoom members.new.items by_room.new.items }
-    ensures room { (MAX_MEMBERS ≤ vec_capacity members.new) × (MAX_MEMBERS ≤ vec_capacity index.new) × (MAX_MEMBERS ≤ vec_capacity by_address.new) × (MAX_MEMBERS ≤ vec_capacity by_room.new) }
+    ensures room { (MAX_MEMBERS ≤ vec_capacity members.new) × (MAX_MEMBERS ≤ vec_capacity index.new)
+        × (MAX_MEMBERS ≤ vec_capacity by_address.new) × (MAX_MEMBERS ≤ vec_capacity by_room.new) }
 {
     let (taken, put) = (edit.taken_members(), edit.put_members());
     move_members(members, index, by_address, by_room, taken, put);

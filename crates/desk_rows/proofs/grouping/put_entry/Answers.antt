@@ -16,4 +16,5 @@ returns-clause-order g c =
     let parted = parted_by may (in_turn_on group turn) y c.deref.result.now (ap (stand_by may) there ∙ c.requires.order) in
     let point = IsPartitionPoint-from_clause (λ x. may x y) c.deref.result.now i found.partitioned parted (λ a r q k. search (rules, not-not)) in
     ap (stand_by may) (c.insert.ensures.items ∙ ap (λ b. cond b (insert xs i y) xs) (c.is_err.ensures.negation ∙ ap not c.if-is_err.false))
-    ∙ stand_by-insert may (in_turn_on group turn) (in_turn_either group turn) y xs i c.requires.order (subst (λ zs. Parts (λ x. may x y) zs i) there point) (omega (arith, found.bound, ap length there))
+    ∙ stand_by-insert may (in_turn_on group turn) (in_turn_either group turn) y xs i c.requires.order (subst (λ zs. Parts (λ x. may x y) zs i) there point)
+    (omega (arith, found.bound, ap length there))
