@@ -183,9 +183,8 @@ impl<A: Allocator + Copy> Rows<A> {
     pub fn count(&self, kind: Kind) -> usize
         ensures { result ≡ count_of kind self.now }
     {
-        self.known();
         match kind {
-            Kind::Member => self.members().len(),
+            Kind::Member => self.members.len(),
             _ => self.others_of(kind).len(),
         }
     }
