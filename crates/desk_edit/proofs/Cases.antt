@@ -1,10 +1,11 @@
 -- Lists of cases, and the first refusal of one.
 use Rattle.std.specs.Prelude.{◌≡◌, ◌∷◌, ◌++◌}
-use Rattle.desk_edit.proofs.Words.{Bool, false, List, [], None, refl, arith, first_case, or_next, Refusal}
+use Rattle.std.specs.Option.{option_or}
+use Rattle.desk_edit.proofs.Words.{Bool, false, List, [], None, refl, arith, first_case, Refusal}
 
-pub first_case-append : (xs ys : List (Bool × Refusal)) → first_case (xs ++ ys) ≡ or_next (first_case xs) (first_case ys)
-first_case-append [] ys = refl
-first_case-append (x ∷ xs) ys = let rest = first_case-append xs ys in grind (arith, rest)
+pub first_of_both : (xs ys : List (Bool × Refusal)) → first_case (xs ++ ys) ≡ option_or (first_case xs) (first_case ys)
+first_of_both [] ys = refl
+first_of_both (x ∷ xs) ys = let rest = first_of_both xs ys in grind (arith, rest)
 
 -- no case holds
 abbrev pub NoneHolds : List (Bool × Refusal) → Type 0

@@ -4,7 +4,7 @@ use Rattle.desk_edit.proofs.Words.{ℕ, suc, nat_le, nat_lt, Bool, true, not, co
 use Rattle.desk_rows.specs.declared.row.Row.TheVariants as rows
 use Rattle.desk_rows.specs.laws.PlaceLaws.{can_put_within, can_put-take_at, can_take_places}
 use Rattle.std.proofs.lemmas.List.Folds.{list_all-map}
-use Rattle.desk_rows.specs.Places.{put_within}
+use Rattle.desk_rows.specs.inner.Within.{put_within}
 
 -- a member changed, at its place
 abbrev pub changed_at : (MemberRow → MemberRow) → Placed → Placed

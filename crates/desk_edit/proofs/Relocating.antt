@@ -9,7 +9,6 @@ use Rattle.desk_rows.specs.inner.Judged.{is_sound as is_sound_row, stays_sound}
 use Rattle.std.proofs.lemmas.List.Folds.{list_all-map}
 use Rattle.std.proofs.Math.Bool.{and-not_self}
 use Rattle.desk_edit.proofs.Lists.{most, all_both, any_none, in_filter, fewer_pass, count_filter, two_pass, obeyed, found_filter}
-use Rattle.desk_edit.proofs.Dependence.{within}
 use Rattle.desk_edit.proofs.Moves.{into_keeps, moved_keeps, moved_in, rows_moved, found_moved, count_moved}
 use Rattle.desk_edit.proofs.Cases.{none_holds}
 use Rattle.desk_edit.proofs.Placed.{picked, back_rise, put_back_all, can_put_all}

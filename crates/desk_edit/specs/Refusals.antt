@@ -38,11 +38,6 @@ abbrev pub first_case : List (Bool × Refusal) → Option Refusal
 first_case [] = None
 first_case (c ∷ cs) = if c.0 then Some c.1 else first_case cs
 
--- the first of two
-abbrev pub or_next : Option Refusal → Option Refusal → Option Refusal
-or_next (Some why) next = Some why
-or_next None next = next
-
 -- what is told where a row of this kind has to be there and isn't
 abbrev pub missing : Kind → Refusal
 missing kinds.Room = refusals.NoRoom

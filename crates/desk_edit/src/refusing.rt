@@ -1,9 +1,10 @@
 //! The refusals of commands, in the order of their numbers.
 
 ghost use Rattle.std.specs.Prelude.{◌≡◌, None, Some, ◌<◌, ◌^◌, ◌∷◌, []};
+ghost use Rattle.std.specs.Option.{option_or};
 ghost use Rattle.desk_rows.specs.Few.{listed};
 ghost use Rattle.desk_rows.specs.Row.{names};
-ghost use Rattle.desk_edit.specs.Refusals.{missing, table_of, has, is_full, or_next, first_case, lacking, rule_cases, full_cases, audio_cases, put_cases, remove_cases, move_cases, cases_of, refused};
+ghost use Rattle.desk_edit.specs.Refusals.{missing, table_of, has, is_full, first_case, lacking, rule_cases, full_cases, audio_cases, put_cases, remove_cases, move_cases, cases_of, refused};
 
 use crate::asking::{
     count_audio_in, count_audio_of, has, is_there, room_is_full, room_of_member, ssrc_is_taken,
@@ -31,7 +32,7 @@ fn missing(kind: Kind) -> Refusal
 
 /// The first of two.
 fn or_next(first: Option<Refusal>, next: Option<Refusal>) -> Option<Refusal>
-    ensures { result ≡ or_next first next }
+    ensures { result ≡ option_or first next }
 {
     match first {
         Some(why) => Some(why),

@@ -2,10 +2,10 @@
 pub use Rattle.desk_rows.specs.laws.ListLaws.{true_false, count_by-map, any_count, all_count, some_count, count_some, no_count}
 pub use Rattle.desk_rows.specs.laws.ClaimLaws.{witness}
 use Rattle.std.specs.Prelude.{◌≡◌, ◌≤◌, ◌||◌, ◌∷◌, ◌++◌, ◌+◌, ◌-◌, ◌&&◌}
-use Rattle.desk_rows.specs.laws.Words.{ℕ, Bool, true, List, [], refl, sym, ap, ◌∙◌, arith, map, nat_eq, not, list_all-append, list_all-map, list_any, list_all, count_by, Placed, Row, Member, Desk, rows_of, EditOf, outs, ins, exchanged, with_rows, in_order, without_rows, take_at, come_rows, stay_rows, stay_count, go_count, come_count, all_come, all_stay}
+use Rattle.desk_rows.specs.laws.Words.{ℕ, Bool, true, List, [], refl, sym, ap, ◌∙◌, arith, map, nat_eq, not, list_all-append, list_all-map, list_any, list_all, length, count_by, Placed, Row, Member, Desk, rows_of, EditOf, outs, ins, exchanged, with_rows, in_order, without_rows, take_at, come_rows, stay_rows, stay_count, go_count, come_count, all_come, all_stay}
 use Rattle.desk_rows.specs.laws.Laws.{Apt, outs_order}
 use Rattle.desk_rows.specs.laws.ListLaws.{count_by-append}
-use Rattle.desk_rows.specs.laws.OrderLaws.{count_by-with_rows, list_all-with_rows, list_any-with_rows, count_by-without_rows}
+use Rattle.desk_rows.specs.laws.OrderLaws.{count_by-with_rows, list_all-with_rows, list_any-with_rows, count_by-without_rows, length-with_rows}
 use Rattle.desk_rows.specs.laws.PlaceLaws.{count_by-put_at, count_by-take_at}
 
 pub list_any-map : {X : Type 0} (f : X → Row) (p : Row → Bool) (xs : List X) → list_any p (map f xs) ≡ list_any (λ x. p (f x)) xs
@@ -70,3 +70,6 @@ any_of_both q rs ts = list_any-with_rows q rs ts
 
 pub count_of_both : (q : Row → Bool) (rs ts : List Row) → count_by q (with_rows rs ts) ≡ count_by q rs + count_by q ts
 count_of_both q rs ts = count_by-with_rows q rs ts
+
+pub length_of_both : (rs ts : List Row) → length (with_rows rs ts) ≡ length ts + length rs
+length_of_both rs ts = length-with_rows rs ts

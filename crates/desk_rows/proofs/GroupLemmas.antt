@@ -186,8 +186,3 @@ parted_by may on y xs h = falling may (λ x. may x y) (λ a b ahead e. on a b y 
 
 pub in_turn_either : {X : Type 0} (group turn : X → ℕ) (a b : X) → in_turn group turn a b ≡ false → in_turn group turn b a ≡ true
 in_turn_either group turn a b h = grind (arith, nat_tests, h)
-
--- as many of the rows of the kind as of all
-pub count_among : {X : Type 0} (kind : Kind) (in_row : Row → Option X) → ((r : Row) → is_of kind r ≡ false → in_row r ≡ None) → (p : X → Bool) (these given rows : List Row)
-    → these ≡ filter (is_of kind) given → given ≡ rows → count_by (passes_in in_row p) these ≡ count_by (passes_in in_row p) rows
-count_among kind in_row other p these given rows e f = ap (count_by (passes_in in_row p)) (e ∙ ap (filter (is_of kind)) f) ∙ count_of_kind kind in_row other p rows

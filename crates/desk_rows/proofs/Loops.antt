@@ -1,6 +1,6 @@
 -- Steps of loops over rows.
 use Rattle.std.specs.Prelude.{◌≡◌, ◌<◌, ◌≤◌, ◌∷◌, ◌++◌}
-use Rattle.desk_rows.specs.laws.Words.{ℕ, zero, suc, true, false, List, [], length, get_or, refl, sym, ap, ◌∙◌, arith, remove, and_parts, and_from, list_all, Placed, MemberRow as Member, Row, in_order, precedes, precedes_head, take_at, can_take, is_at, same_row}
+use Rattle.desk_rows.specs.laws.Words.{ℕ, zero, suc, true, false, List, [], length, get_or, refl, sym, ap, ◌∙◌, arith, take, remove, and_parts, and_from, list_all, Placed, MemberRow as Member, Row, in_order, precedes, take_at, can_take, is_at, same_row}
 use Rattle.desk_rows.specs.declared.row.Row.TheVariants as rows
 use Rattle.desk_rows.specs.laws.ListLaws.{both_ways}
 use Rattle.desk_rows.specs.laws.OrderLaws.{precedes_on, at_each, from_each}
@@ -33,11 +33,12 @@ can_take_last (q ∷ ps) p xs h =
 -- ---- order
 
 -- a row that stands before the first stands before all
-pub before_all : (r : Row) (xs : List Row) → precedes_head r xs ≡ true → in_order xs ≡ true → list_all (precedes r) xs ≡ true
+pub before_all : (r : Row) (xs : List Row) → list_all (precedes r) (take 1 xs) ≡ true → in_order xs ≡ true → list_all (precedes r) xs ≡ true
 before_all r [] h e = refl
 before_all r (x ∷ xs) h e =
     let ahead = and_parts (list_all (precedes x) xs) (in_order xs) e in
-    and_from _ _ h (from_each (precedes r) xs (λ q one. precedes_on r x q h (at_each (precedes x) xs q ahead.0 one)))
+    let first = (and_parts (precedes r x) true h).0 in
+    and_from _ _ first (from_each (precedes r) xs (λ q one. precedes_on r x q first (at_each (precedes x) xs q ahead.0 one)))
 
-pub in_order_next : (r : Row) (rs : List Row) → precedes_head r rs ≡ true → in_order (r ∷ rs) ≡ in_order rs
+pub in_order_next : (r : Row) (rs : List Row) → list_all (precedes r) (take 1 rs) ≡ true → in_order (r ∷ rs) ≡ in_order rs
 in_order_next r rs h = both_ways _ _ (λ e. (and_parts (list_all (precedes r) rs) (in_order rs) e).1) (λ e. and_from _ _ (before_all r rs h e) e)

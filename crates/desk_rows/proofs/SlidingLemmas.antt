@@ -1,6 +1,6 @@
 -- A row put in, or taken out, at the place that parts the rows before it from those behind.
 use Rattle.std.specs.Prelude.{◌≡◌, ◌<◌, ◌≤◌, ◌||◌, ◌∷◌, ◌++◌, ◌⊎◌}
-use Rattle.desk_rows.specs.laws.Words.{ℕ, zero, suc, Bool, true, false, cond, List, [], length, refl, sym, ap, ◌∙◌, arith, not, inl, inr, take, drop, insert, remove, set, and_parts, and_from, cases_Bool, false_from_ne_true, not-true, not-false, length-filter, count_by-le-length, list_all, slice_get, Row, is_in, in_order, without_rows, precedes, with_row, key_precedes, same_row, key_of, Parts, is_found_as}
+use Rattle.desk_rows.specs.laws.Words.{ℕ, zero, suc, Bool, true, false, cond, List, [], length, refl, sym, ap, ◌∙◌, arith, not, inl, inr, take, insert, remove, set, and_parts, and_from, cases_Bool, false_from_ne_true, not-true, not-false, length-filter, count_by-le-length, list_all, slice_get, Row, is_in, in_order, without_rows, precedes, with_row, key_precedes, same_row, key_of, Parts, is_found_as}
 use Rattle.desk_rows.specs.laws.Equal.{keys_precede_on, same_row_is, row_itself}
 use Rattle.desk_rows.specs.laws.ListLaws.{true_false, or_turned, filter_all}
 use Rattle.desk_rows.specs.laws.OrderLaws.{same_row_turned, precedes_on, one_way, before_other, none_before, at_each, from_each, in_order-filter}
@@ -30,17 +30,24 @@ none_behind : (r x : Row) (xs : List Row) → list_all (precedes x) xs ≡ true 
 none_behind r x xs ahead late = from_each (λ y. not (same_row y r)) xs (λ y one. ap not (false_from_ne_true (same_row y r) (λ e.
     true_false (sym (at_each (precedes x) xs y ahead one) ∙ ap (λ q. precedes x q) (same_row_is y r e) ∙ late))))
 
-pub first_goes : (r x : Row) (xs : List Row) → list_all (precedes x) xs ≡ true → precedes x r ≡ false → same_row x r ≡ true → without_rows (r ∷ []) (x ∷ xs) ≡ xs
-first_goes r x xs ahead late e =
-    ap (λ b. cond (not (b || false)) (x ∷ without_rows (r ∷ []) xs) (without_rows (r ∷ []) xs)) e ∙ others_stay r xs (none_behind r x xs ahead late)
+-- of rows in order, of which none stands before this one, it can only be the first
+pub first_only : (r x : Row) (xs : List Row) (b : Bool) → list_all (precedes x) xs ≡ true → precedes x r ≡ false → same_row x r ≡ b →
+    without_rows (r ∷ []) (x ∷ xs) ≡ cond b xs (x ∷ xs)
+first_only r x xs b ahead late e =
+    let rest = others_stay r xs (none_behind r x xs ahead late) in (λ i. cond (not (e i || false)) (x ∷ rest i) (rest i)) ∙ turned b where
+      turned : (b : Bool) → cond (not (b || false)) (x ∷ xs) xs ≡ cond b xs (x ∷ xs)
+      turned b = grind arith
 
-pub none_goes : (r x : Row) (xs : List Row) → list_all (precedes x) xs ≡ true → precedes x r ≡ false → same_row x r ≡ false → without_rows (r ∷ []) (x ∷ xs) ≡ x ∷ xs
-none_goes r x xs ahead late e =
-    ap (λ b. cond (not (b || false)) (x ∷ without_rows (r ∷ []) xs) (without_rows (r ∷ []) xs)) e ∙ ap (λ ys. x ∷ ys) (others_stay r xs (none_behind r x xs ahead late))
+pub first_left : (r x : Row) (xs rows : List Row) (b : Bool) → rows ≡ x ∷ xs → in_order rows ≡ true → list_all (λ y. not (precedes y r)) rows ≡ true →
+    same_row x r ≡ b → cond b xs rows ≡ without_rows (r ∷ []) rows
+first_left r x xs rows b is order behind e =
+    let ahead = and_parts (list_all (precedes x) xs) (in_order xs) (ap in_order (sym is) ∙ order) in
+    let late = and_parts (not (precedes x r)) (list_all (λ y. not (precedes y r)) xs) (ap (list_all (λ y. not (precedes y r))) (sym is) ∙ behind) in
+    ap (cond b xs) is ∙ sym (ap (without_rows (r ∷ [])) is ∙ first_only r x xs b ahead.0 (not-true (precedes x r) late.0) e)
 
 pub take_out : (r : Row) (xs : List Row) (i : ℕ) → in_order xs ≡ true → Parts (λ x. precedes x r) xs i → is_found_as r (slice_get xs i) ≡ true → without_rows (r ∷ []) xs ≡ remove xs i
 take_out r [] i h p e = cc
-take_out r (x ∷ xs) zero h p e = first_goes r x xs (and_parts (list_all (precedes x) xs) (in_order xs) h).0 (p.1 zero x (omega arith) (omega arith)) e
+take_out r (x ∷ xs) zero h p e = first_only r x xs true (and_parts (list_all (precedes x) xs) (in_order xs) h).0 (p.1 zero x (omega arith) (omega arith)) e
 take_out r (x ∷ xs) (suc i) h p e =
     let order = and_parts (list_all (precedes x) xs) (in_order xs) h in
     let rest : without_rows (r ∷ []) xs ≡ remove xs i = take_out r xs i order.1 (later_parts (λ y. precedes y r) x xs i p) e in
@@ -48,7 +55,7 @@ take_out r (x ∷ xs) (suc i) h p e =
 
 pub none_out : (r : Row) (xs : List Row) (i : ℕ) → in_order xs ≡ true → Parts (λ x. precedes x r) xs i → is_found_as r (slice_get xs i) ≡ false → without_rows (r ∷ []) xs ≡ xs
 none_out r [] i h p e = refl
-none_out r (x ∷ xs) zero h p e = none_goes r x xs (and_parts (list_all (precedes x) xs) (in_order xs) h).0 (p.1 zero x (omega arith) (omega arith)) e
+none_out r (x ∷ xs) zero h p e = first_only r x xs false (and_parts (list_all (precedes x) xs) (in_order xs) h).0 (p.1 zero x (omega arith) (omega arith)) e
 none_out r (x ∷ xs) (suc i) h p e =
     let order = and_parts (list_all (precedes x) xs) (in_order xs) h in
     let rest = none_out r xs i order.1 (later_parts (λ y. precedes y r) x xs i p) e in
@@ -64,8 +71,8 @@ rest_in_order rs xs h = in_order-filter (λ x. not (is_in rs x)) xs h
 
 -- a row that stands before the first of those that go stays
 first_stays : (t x : Row) (ts xs : List Row) → in_order (t ∷ ts) ≡ true → precedes x t ≡ true → without_rows (t ∷ ts) (x ∷ xs) ≡ x ∷ without_rows (t ∷ ts) xs
-first_stays t x ts xs h before =
-    ap (λ b. cond (not b) (x ∷ without_rows (t ∷ ts) xs) (without_rows (t ∷ ts) xs)) (none_before x (t ∷ ts) (before_all x (t ∷ ts) before h))
+first_stays t x ts xs h e =
+    ap (λ b. cond (not b) (x ∷ without_rows (t ∷ ts) xs) (without_rows (t ∷ ts) xs)) (none_before x (t ∷ ts) (before_all x (t ∷ ts) (and_from _ _ e refl) h))
 
 pub front_stays : (t : Row) (ts front behind : List Row) → in_order (t ∷ ts) ≡ true → list_all (λ x. precedes x t) front ≡ true → without_rows (t ∷ ts) (front ++ behind) ≡ front ++ without_rows (t ∷ ts) behind
 front_stays t ts [] behind h f = refl
@@ -94,13 +101,6 @@ front_passes p xs zero h = refl
 front_passes p [] (suc i) h = refl
 front_passes p (x ∷ xs) (suc i) h = and_from _ _ (h.0 zero x (omega arith) (omega arith)) (front_passes p xs i (later_parts p x xs i h))
 
-pub each_behind : (p q : Row → Bool) → ((x : Row) → p x ≡ false → q x ≡ true) → (xs : List Row) (i : ℕ) → Parts p xs i → list_all q (drop i xs) ≡ true
-each_behind p q then_q [] zero h = refl
-each_behind p q then_q [] (suc i) h = refl
-each_behind p q then_q (x ∷ xs) zero h =
-    and_from _ _ (then_q x (h.1 zero x (omega arith) (omega arith))) (each_behind p q then_q xs zero (λ k d a b. absurd (omega (arith, b)), λ k d a b. h.1 (suc k) d (omega arith) (omega arith)))
-each_behind p q then_q (x ∷ xs) (suc i) h = each_behind p q then_q xs i (later_parts p x xs i h)
-
 pub none_ahead : (r x : Row) (xs : List Row) → in_order (x ∷ xs) ≡ true → precedes x r ≡ false → list_all (λ y. not (precedes y r)) (x ∷ xs) ≡ true
 none_ahead r x xs h late =
     let order = and_parts (list_all (precedes x) xs) (in_order xs) h in
@@ -121,7 +121,7 @@ replaced_at o n (x ∷ xs) zero h p there same =
     let late = p.1 zero x (omega arith) (omega arith) in
     let not_behind : is_in xs o ≡ false = false_from_ne_true _ (λ e. true_false (sym (at_each (precedes x) xs o order.0 e) ∙ late)) in
     let is : x ≡ o = sym (same_row_is o x (sym (or_turned (same_row o x) false) ∙ ap (λ b. same_row o x || b) (sym not_behind) ∙ there)) in
-    let gone = first_goes o x xs order.0 late (ap (λ y. same_row y o) is ∙ row_itself o) in
+    let gone = first_only o x xs true order.0 late (ap (λ y. same_row y o) is ∙ row_itself o) in
     (omega arith, ap (with_row n) gone ∙ put_first x n xs (ap key_of is ∙ same) order.0)
 replaced_at o n (x ∷ xs) (suc i) h p there same =
     let order = and_parts (list_all (precedes x) xs) (in_order xs) h in

@@ -19,11 +19,6 @@ abbrev pub in_order : List Row → Bool
 in_order [] = true
 in_order (r ∷ rs) = list_all (precedes r) rs && in_order rs
 
--- the row stands before the first of these, if there is one
-abbrev pub precedes_head : Row → List Row → Bool
-precedes_head r [] = true
-precedes_head r (x ∷ xs) = precedes r x
-
 -- the row stands before or behind each of these, so none has its key
 abbrev pub key_is_new : Row → List Row → Bool
 key_is_new r xs = list_all (λ x. precedes r x || precedes x r) xs

@@ -38,11 +38,6 @@ abbrev pub places_rise : List Placed → Bool
 places_rise [] = true
 places_rise (p ∷ ps) = list_all (λ q. nat_lt p.place q.place) ps && places_rise ps
 
--- a test of places that walks the rows once
-abbrev pub put_within : ℕ → List Placed → Bool
-put_within n [] = true
-put_within n (p ∷ ps) = nat_le p.place n && put_within (n + 1) ps
-
 -- the place of the member of this number
 abbrev pub place_in : List Member → ℕ → Option ℕ
 place_in [] n = None

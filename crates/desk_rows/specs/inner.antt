@@ -7,3 +7,4 @@ pub mod Parting
 pub mod Grouped
 pub mod Addressed
 pub mod Roomed
+pub mod Within

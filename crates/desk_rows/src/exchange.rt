@@ -2,6 +2,7 @@
 
 ghost use Rattle.std.specs.Prelude.{◌≡◌, ℕ, ◌+◌, ◌≤◌, ◌&&◌, true, not, count_by, nat_eq, length, vec_len, vec_capacity, IfSome};
 ghost use Rattle.std.specs.List.{list_any, list_all};
+ghost use Rattle.desk_rows.specs.declared.limits.TheConstants.{MAX_MEMBERS, MAX_OTHERS};
 ghost use Rattle.desk_rows.specs.declared.row.Kind.TheVariants as kinds;
 ghost use Rattle.desk_rows.specs.declared.row.Row.TheVariants.{Member as MemberRow};
 ghost use Rattle.desk_rows.specs.Row.{key_of, has_key};
@@ -219,13 +220,15 @@ pub(crate) fn exchange_members<A: Allocator + Copy>(
     requires take { can_take edit.now.taken.members members.old.items ≡ true }
     requires put { can_put edit.now.put.members (take_at edit.now.taken.members members.old.items) ≡ true }
     requires numbers { (n : ℕ) → count_by (λ m. nat_eq m.member n) (put_at edit.now.put.members (take_at edit.now.taken.members members.old.items)) ≤ 1 }
-    requires few { length (take_at edit.now.taken.members members.old.items) + length edit.now.put.members ≤ 1024 }
-    requires room { (1024 ≤ vec_capacity members.old) × (1024 ≤ vec_capacity index.old) × (1024 ≤ vec_capacity by_address.old) × (1024 ≤ vec_capacity by_room.old) }
+    requires few { length (take_at edit.now.taken.members members.old.items) + length edit.now.put.members ≤ MAX_MEMBERS }
+    requires room { (MAX_MEMBERS ≤ vec_capacity members.old) × (MAX_MEMBERS ≤ vec_capacity index.old)
+        × (MAX_MEMBERS ≤ vec_capacity by_address.old) × (MAX_MEMBERS ≤ vec_capacity by_room.old) }
     ensures items { members.new.items ≡ put_at edit.now.put.members (take_at edit.now.taken.members members.old.items) }
     ensures index { IsIndex members.new.items index.new.items }
     ensures addresses { IsByAddress members.new.items by_address.new.items }
     ensures rooms { IsByRoom members.new.items by_room.new.items }
-    ensures room { (1024 ≤ vec_capacity members.new) × (1024 ≤ vec_capacity index.new) × (1024 ≤ vec_capacity by_address.new) × (1024 ≤ vec_capacity by_room.new) }
+    ensures room { (MAX_MEMBERS ≤ vec_capacity members.new) × (MAX_MEMBERS ≤ vec_capacity index.new)
+        × (MAX_MEMBERS ≤ vec_capacity by_address.new) × (MAX_MEMBERS ≤ vec_capacity by_room.new) }
 {
     let (taken, put) = (edit.taken_members(), edit.put_members());
     move_members(members, index, by_address, by_room, taken, put);
@@ -246,16 +249,17 @@ fn only_replaced<A: Allocator + Copy>(edit: &Edit<A>) -> Option<(Row, Row)>
 
 /// Takes the other rows that go, and puts those that come, each where it keeps the order. There is
 /// room for them.
+#[tactic(auto, using(crate::proofs::Merging::put_in_turn, crate::proofs::SlidingLemmas::rest_in_order, crate::proofs::Counts::length_of_both))]
 fn move_rows<A: Allocator + Copy>(others: &mut Vec<Row, A>, spare: &mut Vec<Row, A>, edit: &Edit<A>)
     requires rows { in_order others.old.items ≡ true }
-    requires fit { length others.old.items ≤ 78016 }
+    requires fit { length others.old.items ≤ MAX_OTHERS }
     requires orders { HasOrders edit.now }
     requires apart { are_apart edit.now.put.others edit.now.replaced.new ≡ true }
     requires later { in_order (with_rows (ins edit.now) (without_rows (outs edit.now) others.old.items)) ≡ true }
-    requires few { length (with_rows (ins edit.now) (without_rows (outs edit.now) others.old.items)) ≤ 78016 }
-    requires room { (78016 ≤ vec_capacity others.old) × (78016 ≤ vec_capacity spare.old) }
+    requires few { length (with_rows (ins edit.now) (without_rows (outs edit.now) others.old.items)) ≤ MAX_OTHERS }
+    requires room { (MAX_OTHERS ≤ vec_capacity others.old) × (MAX_OTHERS ≤ vec_capacity spare.old) }
     ensures items { others.new.items ≡ with_rows (ins edit.now) (without_rows (outs edit.now) others.old.items) }
-    ensures room { (78016 ≤ vec_capacity others.new) × (78016 ≤ vec_capacity spare.new) }
+    ensures room { (MAX_OTHERS ≤ vec_capacity others.new) × (MAX_OTHERS ≤ vec_capacity spare.new) }
 {
     take_rows(others, spare, edit.taken_others(), edit.old());
     put_rows(others, spare, edit.put_others());
@@ -270,16 +274,16 @@ pub(crate) fn exchange_rows<A: Allocator + Copy>(
     edit: &Edit<A>,
 )
     requires rows { in_order others.old.items ≡ true }
-    requires fit { length others.old.items ≤ 78016 }
+    requires fit { length others.old.items ≤ MAX_OTHERS }
     requires orders { HasOrders edit.now }
     requires there { list_all (is_in others.old.items) (outs edit.now) ≡ true }
     requires paired { have_same_keys edit.now.replaced.old edit.now.replaced.new ≡ true }
     requires apart { are_apart edit.now.put.others edit.now.replaced.new ≡ true }
     requires later { in_order (with_rows (ins edit.now) (without_rows (outs edit.now) others.old.items)) ≡ true }
-    requires few { length (with_rows (ins edit.now) (without_rows (outs edit.now) others.old.items)) ≤ 78016 }
-    requires room { (78016 ≤ vec_capacity others.old) × (78016 ≤ vec_capacity spare.old) }
+    requires few { length (with_rows (ins edit.now) (without_rows (outs edit.now) others.old.items)) ≤ MAX_OTHERS }
+    requires room { (MAX_OTHERS ≤ vec_capacity others.old) × (MAX_OTHERS ≤ vec_capacity spare.old) }
     ensures items { others.new.items ≡ with_rows (ins edit.now) (without_rows (outs edit.now) others.old.items) }
-    ensures room { (78016 ≤ vec_capacity others.new) × (78016 ≤ vec_capacity spare.new) }
+    ensures room { (MAX_OTHERS ≤ vec_capacity others.new) × (MAX_OTHERS ≤ vec_capacity spare.new) }
 {
     match only_replaced(edit) {
         Some((old, new)) => replace_one(others, &old, &new),

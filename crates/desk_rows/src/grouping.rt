@@ -338,6 +338,15 @@ fn exchange_each<T: Grouped, A: Allocator>(
     true
 }
 
+/// The rows of the kind.
+fn rows_in<T: Grouped>(rows: &[Row]) -> &[Row]
+    requires { in_order rows.now ≡ true }
+    ensures few { length result.now ≡ length (filter (is_of T.kind) rows.now) }
+    ensures same { (p : T → Bool) → count_by (passes_in T.in_row p) result.now ≡ count_by (passes_in T.in_row p) rows.now }
+{
+    rows_of_kind(rows, T::kind())
+}
+
 /// Exchanges few rows of a kind one by one. It says whether it did; where it didn't, the table is to be
 /// made anew.
 fn exchange_few<T: Grouped, A: Allocator + Copy>(table: &mut Vec<T, A>, edit: &Edit<A>) -> bool
@@ -348,11 +357,10 @@ fn exchange_few<T: Grouped, A: Allocator + Copy>(table: &mut Vec<T, A>, edit: &E
     ensures same { result ≡ true → (p : T → Bool) → count_by p table.new.items + (count_by (passes_in T.in_row p) edit.now.taken.others + count_by (passes_in T.in_row p) edit.now.replaced.old) ≡ count_by p table.old.items + (count_by (passes_in T.in_row p) edit.now.put.others + count_by (passes_in T.in_row p) edit.now.replaced.new) }
     ensures capacity { vec_capacity table.old ≤ vec_capacity table.new }
 {
-    let kind = T::kind();
-    let taken = rows_of_kind(edit.taken_others(), kind);
-    let old = rows_of_kind(edit.old(), kind);
-    let put = rows_of_kind(edit.put_others(), kind);
-    let new = rows_of_kind(edit.new(), kind);
+    let taken = rows_in::<T>(edit.taken_others());
+    let old = rows_in::<T>(edit.old());
+    let put = rows_in::<T>(edit.put_others());
+    let new = rows_in::<T>(edit.new());
     if taken.len() > FEW || old.len() > FEW || put.len() > FEW || new.len() > FEW {
         return false;
     }
@@ -379,5 +387,5 @@ pub(crate) fn follow<T: Grouped, A: Allocator + Copy>(
     if exchange_few(table, edit) {
         return;
     }
-    regroup(table, rows_of_kind(others, T::kind()));
+    regroup(table, rows_in::<T>(others));
 }

@@ -1,17 +1,17 @@
 //! Rows in the order of kinds and keys, found by halving.
 
-ghost use Rattle.std.specs.Prelude.{◌≡◌, true, ◌&&◌, filter};
+ghost use Rattle.std.specs.Prelude.{◌≡◌, true, ◌&&◌, filter, take};
 ghost use Rattle.std.specs.List.{find, list_all};
 ghost use Rattle.desk_rows.specs.Row.{has_key};
 ghost use Rattle.desk_rows.specs.Kinds.{is_of};
 ghost use Rattle.desk_rows.specs.Naming.{is_gain_of};
-ghost use Rattle.desk_rows.specs.Order.{precedes_head, in_order, key_is_new, are_apart, have_same_keys, is_in};
+ghost use Rattle.desk_rows.specs.Order.{precedes, in_order, key_is_new, are_apart, have_same_keys, is_in};
 
 use crate::row::{Key, Kind, Row};
 
 /// Whether the row stands before the first of these, if there is one.
 pub(crate) fn precedes_first(row: &Row, rows: &[Row]) -> bool
-    ensures { result ≡ precedes_head row.now rows.now }
+    ensures { result ≡ list_all (precedes row.now) (take 1 rows.now) }
 {
     match rows.first() {
         None => true,

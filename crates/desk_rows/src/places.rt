@@ -2,7 +2,8 @@
 
 ghost use Rattle.std.specs.Prelude.{◌≡◌, ℕ, ◌+◌, ◌<◌, ◌≤◌, ◌^◌, true, ◌&&◌, length, nat_lt, vec_len, vec_capacity};
 ghost use Rattle.std.specs.List.{list_all};
-ghost use Rattle.desk_rows.specs.Places.{is_at, places_rise, put_within, can_take, can_put, take_at, put_at};
+ghost use Rattle.desk_rows.specs.Places.{is_at, places_rise, can_take, can_put, take_at, put_at};
+ghost use Rattle.desk_rows.specs.inner.Within.{put_within};
 
 use crate::edit::Placed;
 use crate::row::{Member, Row};

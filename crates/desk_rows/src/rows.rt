@@ -142,7 +142,8 @@ impl<A: Allocator + Copy> Rows<A> {
 
     /// All other rows, by kind and within a kind by key.
     pub(crate) fn others(&self) -> &[Row]
-        ensures { result.now ≡ self.now.others }
+        ensures rows { result.now ≡ self.now.others }
+        ensures order { in_order result.now ≡ true }
     {
         &self.others
     }
@@ -151,14 +152,14 @@ impl<A: Allocator + Copy> Rows<A> {
     pub fn holds(&self, row: &Row) -> bool
         ensures { result ≡ holds self.now row.now }
     {
-        is_among(&self.members, &self.others, row)
+        is_among(&self.members, self.others(), row)
     }
 
     /// The row with this key.
     pub fn find(&self, key: &Key) -> Option<Row>
         ensures { result ≡ row_at self.now key.now }
     {
-        row_with(&self.members, &self.index, &self.others, *key)
+        row_with(&self.members, &self.index, self.others(), *key)
     }
 
     /// The place of the member of this number, from 0.
@@ -182,9 +183,8 @@ impl<A: Allocator + Copy> Rows<A> {
     pub fn count(&self, kind: Kind) -> usize
         ensures { result ≡ count_of kind self.now }
     {
-        self.known();
         match kind {
-            Kind::Member => self.members().len(),
+            Kind::Member => self.members.len(),
             _ => self.others_of(kind).len(),
         }
     }
@@ -204,7 +204,7 @@ impl<A: Allocator + Copy> Rows<A> {
     pub fn others_of(&self, kind: Kind) -> &[Row]
         ensures { result.now ≡ filter (is_of kind) self.now.others }
     {
-        rows_of_kind(&self.others, kind)
+        rows_of_kind(self.others(), kind)
     }
 
     /// The members of this room, each once.
@@ -233,7 +233,7 @@ impl<A: Allocator + Copy> Rows<A> {
     pub fn gains_of(&self, member: u32) -> &[Row]
         ensures { result.now ≡ gains_naming self.now member }
     {
-        gains_of(&self.others, member)
+        gains_of(self.others(), member)
     }
 
     /// The numbers of the room's members by place.

@@ -60,6 +60,7 @@ fn append<A: Allocator>(out: &mut Vec<Row, A>, rows: &[Row])
 }
 
 /// The rows before this one, and the others.
+#[tactic(auto, using(crate::proofs::Halving::order_of_rest, crate::proofs::SlidingLemmas::front_passes))]
 fn parted_at<'a>(rows: &'a [Row], row: &Row) -> (&'a [Row], &'a [Row])
     requires { in_order rows.now ≡ true }
     ensures all { rows.now ≡ result.0.now ++ result.1.now }
@@ -170,6 +171,7 @@ pub(crate) fn take_rows<A: Allocator>(
 }
 
 /// The rows that this one does not stand before, and the others.
+#[tactic(auto, using(crate::proofs::Halving::order_of_rest, crate::proofs::Loops::before_all, crate::proofs::SlidingLemmas::front_passes))]
 fn parted_before<'a>(rows: &'a [Row], row: &Row) -> (&'a [Row], &'a [Row])
     requires { in_order rows.now ≡ true }
     ensures all { rows.now ≡ result.0.now ++ result.1.now }

@@ -48,8 +48,8 @@ pub use Rattle.desk_rows.specs.Kinds.{is_of}
 pub use Rattle.desk_rows.specs.Limits.{member_limit, slot_limit, other_limit, room_limit, source_limit, gain_limit, room_audio_limit}
 pub use Rattle.desk_rows.specs.Naming.{is_gain_of, slot_in, sub_in, subs_naming, slots_naming, members_in, member_in}
 pub use Rattle.desk_rows.specs.Numbers.{numbers_precede, same_numbers}
-pub use Rattle.desk_rows.specs.Order.{is_in, with_rows, in_order, without_rows, precedes, with_row, key_precedes, key_is_new, precedes_head, are_apart, have_same_keys}
-pub use Rattle.desk_rows.specs.Places.{take_at, can_take, can_put, places_rise, put_within, place_in, is_at, put_at}
+pub use Rattle.desk_rows.specs.Order.{is_in, with_rows, in_order, without_rows, precedes, with_row, key_precedes, key_is_new, are_apart, have_same_keys}
+pub use Rattle.desk_rows.specs.Places.{take_at, can_take, can_put, places_rise, place_in, is_at, put_at}
 pub use Rattle.desk_rows.specs.Row.{same_row, has_key, rank, kind_of, own_numbers, key_numbers, key_of, owner_of, same_key, makes, same_claim, other_claims, claims_of, names, same_media, suits, is_in_range, codec_number, media_number, row_numbers, claim_numbers}
 pub use Rattle.desk_rows.specs.inner.Addressed.{ip_and_port, address_cmp, IsByAddress}
 pub use Rattle.desk_rows.specs.inner.Found.{finds, is_elsewhere}
@@ -61,3 +61,4 @@ pub use Rattle.desk_rows.specs.inner.Listed.{desk_of}
 pub use Rattle.desk_rows.specs.inner.Parting.{Parts, is_found_as}
 pub use Rattle.desk_rows.specs.inner.Roomed.{IsByRoom}
 pub use Rattle.desk_rows.specs.inner.Tests.{passes}
+pub use Rattle.desk_rows.specs.inner.Within.{put_within}

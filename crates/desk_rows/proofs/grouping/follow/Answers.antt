@@ -1,4 +1,4 @@
-use Rattle.desk_rows.specs.laws.Words.{true, filter, ap, sym, ◌∙◌, arith, count_by-le-length, is_of, count_by, passes_in}
+use Rattle.desk_rows.specs.laws.Words.{true, filter, ap, sym, ◌∙◌, arith, count_by-le-length, is_of, passes_in}
 use Rattle.desk_rows.proofs.GroupLemmas.{count_of_kind, unchanged}
 use Rattle.desk_rows.proofs.grouping.follow.Goals as goal
 
@@ -29,7 +29,4 @@ returns-then-exchange_few-clause-table g c =
 pub returns-clause-table : goal.returns-clause-table
 returns-clause-table g c =
     let made = c.regroup.ensures.table in
-    record {
-      order = made.order;
-      same = λ p. made.same p ∙ ap (count_by (passes_in g.T.Grouped.in_row p)) c.rows_of_kind.ensures ∙ count_of_kind c.kind-2.result g.T.Grouped.in_row (λ r h. g.met.T.Grouped.of_kind r (ap (λ k. is_of k r) (sym c.kind-2.ensures) ∙ h)) p c.args.others.now;
-    }
+    record { order = made.order; same = λ p. made.same p ∙ c.rows_in.ensures.same p }

@@ -1,22 +1,15 @@
 use Rattle.desk_rows.specs.laws.Words.{not, sym, ap, ◌∙◌, list_all, in_order, precedes}
 use Rattle.std.proofs.lemmas.List.{nil_from_length}
-use Rattle.desk_rows.proofs.Halving.{order_of_rest}
-use Rattle.desk_rows.proofs.SlidingLemmas.{front_passes, each_behind, none_ahead}
+use Rattle.desk_rows.proofs.Halving.{rest_fails}
+use Rattle.desk_rows.proofs.SlidingLemmas.{none_ahead}
 use Rattle.desk_rows.proofs.sweeping.parted_at.Goals.{in-Some+else-precedes, in_default}
 use Rattle.desk_rows.proofs.sweeping.parted_at.Goals as goal
-
-pub returns-then-precedes-clause-front : goal.returns-then-precedes-clause-front
-returns-then-precedes-clause-front c =
-    let row = c.args.row.now in
-    ap (list_all (λ x. precedes x row)) c.split_at.ensures.front ∙ front_passes (λ x. precedes x row) c.args.rows.now c.place_of.result c.place_of.ensures.parts
 
 pub returns-then-precedes-clause-behind : goal.returns-then-precedes-clause-behind
 returns-then-precedes-clause-behind c =
     let row = c.args.row.now in
-    ap (list_all (λ x. not (precedes x row))) c.split_at.ensures.back ∙ each_behind (λ x. precedes x row) (λ x. not (precedes x row)) (λ x e. ap not e) c.args.rows.now c.place_of.result c.place_of.ensures.parts
-
-pub returns-then-precedes-clause-order : goal.returns-then-precedes-clause-order
-returns-then-precedes-clause-order c = ap in_order c.split_at.ensures.back ∙ order_of_rest c.place_of.result c.args.rows.now c.requires
+    ap (list_all (λ x. not (precedes x row))) c.split_at.ensures.back
+    ∙ rest_fails (λ x. precedes x row) c.args.rows.now c.place_of.result c.place_of.ensures.parts
 
 pub returns-clause-behind : goal.returns-clause-behind
 returns-clause-behind c =

@@ -1,10 +1,6 @@
-use Rattle.desk_rows.specs.laws.Words.{sym, ap, subst, ◌∙◌, in_order, IsIndex}
-use Rattle.desk_rows.specs.laws.Laws.{good_order}
+use Rattle.desk_rows.specs.laws.Words.{sym, subst, IsIndex}
 use Rattle.desk_rows.proofs.rows.Rows.find.Goals as goal
 
 pub row_with-requires-clause-index : goal.row_with-requires-clause-index
 row_with-requires-clause-index g c =
     subst (λ es. IsIndex c.deref.result.now es) (sym c.deref-2.ensures.value) (subst (λ ms. IsIndex ms c.self.inside.index.items) (sym c.deref.ensures.value) c.self.invariant.1)
-
-pub row_with-requires-clause-order : goal.row_with-requires-clause-order
-row_with-requires-clause-order g c = ap in_order c.deref-3.ensures.value ∙ good_order _ c.self.invariant.0

@@ -10,78 +10,65 @@ use Rattle.desk_rows.proofs.rows.RowsReversible.absorb_fitting.Goals as goal
 at : (d given : Desk) (e : EditOf) → d ≡ given → fits given e ≡ true → Absorbs d e
 at d given e same fit = absorbs d e (ap (λ x. fits x e) same ∙ fit)
 
-pub exchange_members-requires-clause-take : goal.exchange_members-requires-clause-take
-exchange_members-requires-clause-take g c = (at _ _ c.args.edit.now c.self.view_is c.requires).take
+pub exchange_members-requires : goal.exchange_members-requires
+exchange_members-requires g c =
+    let own = c.self.invariant in
+    let found = at _ _ c.args.edit.now c.self.view_is c.requires in
+    record {
+      index = own.1;
+      addresses = own.10;
+      rooms = own.12;
+      take = found.take;
+      put = found.put;
+      numbers = found.numbers;
+      few = found.members_few;
+      room = (own.2, own.3, own.11, own.13);
+    }
 
-pub exchange_members-requires-clause-put : goal.exchange_members-requires-clause-put
-exchange_members-requires-clause-put g c = (at _ _ c.args.edit.now c.self.view_is c.requires).put
-
-pub exchange_members-requires-clause-numbers : goal.exchange_members-requires-clause-numbers
-exchange_members-requires-clause-numbers g c = (at _ _ c.args.edit.now c.self.view_is c.requires).numbers
-
-pub exchange_members-requires-clause-few : goal.exchange_members-requires-clause-few
-exchange_members-requires-clause-few g c = (at _ _ c.args.edit.now c.self.view_is c.requires).members_few
-
-pub exchange_rows-requires-clause-rows : goal.exchange_rows-requires-clause-rows
-exchange_rows-requires-clause-rows g c = good_order _ c.self.invariant.0
-
-pub exchange_rows-requires-clause-fit : goal.exchange_rows-requires-clause-fit
-exchange_rows-requires-clause-fit g c = (few_rows _ c.self.invariant.0).1
-
-pub exchange_rows-requires-clause-orders : goal.exchange_rows-requires-clause-orders
-exchange_rows-requires-clause-orders g c = (at _ _ c.args.edit.now c.self.view_is c.requires).orders
-
-pub exchange_rows-requires-clause-there : goal.exchange_rows-requires-clause-there
-exchange_rows-requires-clause-there g c = (at _ _ c.args.edit.now c.self.view_is c.requires).there
-
-pub exchange_rows-requires-clause-paired : goal.exchange_rows-requires-clause-paired
-exchange_rows-requires-clause-paired g c = (at _ _ c.args.edit.now c.self.view_is c.requires).paired
-
-pub exchange_rows-requires-clause-apart : goal.exchange_rows-requires-clause-apart
-exchange_rows-requires-clause-apart g c = (at _ _ c.args.edit.now c.self.view_is c.requires).apart
-
-pub exchange_rows-requires-clause-later : goal.exchange_rows-requires-clause-later
+pub exchange_rows-requires : goal.exchange_rows-requires
 unfolding exchanged
-exchange_rows-requires-clause-later g c = good_order _ (at _ _ c.args.edit.now c.self.view_is c.requires).good_after
+exchange_rows-requires g c =
+    let own = c.self.invariant in
+    let found = at _ _ c.args.edit.now c.self.view_is c.requires in
+    record {
+      rows = good_order _ own.0;
+      fit = (few_rows _ own.0).1;
+      orders = found.orders;
+      there = found.there;
+      paired = found.paired;
+      apart = found.apart;
+      later = good_order _ found.good_after;
+      few = found.others_few;
+      room = (own.4, own.5);
+    }
 
-pub exchange_rows-requires-clause-few : goal.exchange_rows-requires-clause-few
-exchange_rows-requires-clause-few g c = (at _ _ c.args.edit.now c.self.view_is c.requires).others_few
-
-pub follow-requires-clause-rows : goal.follow-requires-clause-rows
+pub follow-requires : goal.follow-requires
 unfolding exchanged
-follow-requires-clause-rows g c = ap in_order (c.deref.ensures.value ∙ c.exchange_rows.ensures.items) ∙ good_order _ (at _ _ c.args.edit.now c.self.view_is c.requires).good_after
+follow-requires g c =
+    let own = c.self.invariant in
+    let found = at _ _ c.args.edit.now c.self.view_is c.requires in
+    let now = c.deref.ensures.value ∙ c.exchange_rows.ensures.items in
+    record {
+      order = own.6.order;
+      rows = ap in_order now ∙ good_order _ found.good_after;
+      orders = found.orders;
+      before = λ p. omega (arith, own.6.same p, ap (count_by (passes_in sub_in p)) now, found.balance (passes_in sub_in p));
+      room = omega (arith, ap (λ rows. length (filter (is_of kinds.Sub) rows)) now, found.subs_few, own.7);
+    }
 
-pub follow-requires-clause-orders : goal.follow-requires-clause-orders
-follow-requires-clause-orders g c = (at _ _ c.args.edit.now c.self.view_is c.requires).orders
-
-pub follow-requires-clause-before : goal.follow-requires-clause-before
-follow-requires-clause-before g c p =
-    let later = ap (count_by (passes_in sub_in p)) (c.deref.ensures.value ∙ c.exchange_rows.ensures.items) in
-    let balance = (at _ _ c.args.edit.now c.self.view_is c.requires).balance (passes_in sub_in p) in
-    omega (arith, c.self.invariant.6.same p, later, balance)
-
-pub follow-requires-clause-room : goal.follow-requires-clause-room
-follow-requires-clause-room g c =
-    let later = ap (λ rows. length (filter (is_of kinds.Sub) rows)) (c.deref.ensures.value ∙ c.exchange_rows.ensures.items) in
-    omega (arith, later, (at _ _ c.args.edit.now c.self.view_is c.requires).subs_few, c.self.invariant.7)
-
-pub follow-requires-2-clause-rows : goal.follow-requires-2-clause-rows
+pub follow-requires-2 : goal.follow-requires-2
 unfolding exchanged
-follow-requires-2-clause-rows g c = ap in_order (c.deref-2.ensures.value ∙ c.exchange_rows.ensures.items) ∙ good_order _ (at _ _ c.args.edit.now c.self.view_is c.requires).good_after
-
-pub follow-requires-2-clause-orders : goal.follow-requires-2-clause-orders
-follow-requires-2-clause-orders g c = (at _ _ c.args.edit.now c.self.view_is c.requires).orders
-
-pub follow-requires-2-clause-before : goal.follow-requires-2-clause-before
-follow-requires-2-clause-before g c p =
-    let later = ap (count_by (passes_in slot_in p)) (c.deref-2.ensures.value ∙ c.exchange_rows.ensures.items) in
-    let balance = (at _ _ c.args.edit.now c.self.view_is c.requires).balance (passes_in slot_in p) in
-    omega (arith, c.self.invariant.8.same p, later, balance)
-
-pub follow-requires-2-clause-room : goal.follow-requires-2-clause-room
-follow-requires-2-clause-room g c =
-    let later = ap (λ rows. length (filter (is_of kinds.Slot) rows)) (c.deref-2.ensures.value ∙ c.exchange_rows.ensures.items) in
-    omega (arith, later, (at _ _ c.args.edit.now c.self.view_is c.requires).slots_few, c.self.invariant.9)
+follow-requires-2 g c =
+    let own = c.self.invariant in
+    let found = at _ _ c.args.edit.now c.self.view_is c.requires in
+    let now = c.deref-2.ensures.value ∙ c.exchange_rows.ensures.items in
+    record {
+      order = own.8.order;
+      rows = ap in_order now ∙ good_order _ found.good_after;
+      orders = found.orders;
+      before = λ p. omega (arith, own.8.same p, ap (count_by (passes_in slot_in p)) now, found.balance (passes_in slot_in p));
+      room = omega (arith, ap (λ rows. length (filter (is_of kinds.Slot) rows)) now, found.slots_few, own.9);
+    }
 
 pub invariant_of-self : goal.invariant_of-self
 unfolding exchanged
