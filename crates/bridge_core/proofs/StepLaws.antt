@@ -1,11 +1,13 @@
 -- One more step.
-use Rattle.std.proofs.Common.{◌≡◌, ℕ, ◌+◌, true, false, cond, nat_eq, nat_lt, ◌≤◌, List, [], ◌∷◌, ◌++◌, length, set, None, Some, refl, sym, ap, subst, ◌∙◌, arith, append-nil, append_assoc, inl, inr, ◌⊎◌, ◌≢◌, zero, suc, eq-eqb, length-set}
+use Rattle.std.proofs.Common.{◌≡◌, ℕ, ◌+◌, Bool, true, false, cond, nat_eq, nat_lt, ◌≤◌, List, [], ◌∷◌, ◌++◌, length, set, None, Some, refl, sym, ap, subst, ◌∙◌, arith, append-nil, append_assoc, inl, inr, ◌⊎◌, ◌≢◌, zero, suc, eq-eqb, length-set}
 use Rattle.std.specs.Prelude.{slice_get, OnOk, Result, Ok, Err}
 use Rattle.std.specs.Result.{is_err}
 use Rattle.std.proofs.lemmas.Bool.Decides.{nat_tests}
 use Rattle.std.proofs.lemmas.List.{length_push}
 use Rattle.desk_rows.specs.Edit.{EditOf}
-use Rattle.desk_rows.specs.Desk.{Desk}
+use Rattle.desk_rows.specs.Desk.{Desk, good}
+use Rattle.desk_rows.specs.Exchange.{fits, exchanged, after}
+use Rattle.desk_rows.specs.laws.Laws.{fits_parts}
 use Rattle.desk_edit.specs.declared.command.Call.TheVariants.{Undo, Redo}
 use Rattle.desk_edit.specs.Calls.{call_limit, refusal_at}
 use Rattle.mixer.specs.Mixers.{WasGiven}
@@ -109,7 +111,7 @@ handles old new version desk input sent does lane lanes handled before stands =
 
 -- an item that a lane handles
 pub handled : (old new : CoreOf) (lane : ℕ) (state after : LaneOf) (input : Input) (sent : List Sent)
-    → IsSound old.version old.done old.lanes old.intake.asker → slice_get old.lanes lane ≡ Some state → Handles state after old.version old.desk input sent
+    → IsSound old.version old.desk old.done old.lanes old.intake.asker → slice_get old.lanes lane ≡ Some state → Handles state after old.version old.desk input sent
     → new.version ≡ old.version → new.desk ≡ old.desk → new.lanes ≡ set old.lanes lane after
     → Takes old new (Step.item lane input) (sent ∷ [])
 handled old new lane state after input sent sound at does version desk lanes start before taken =
@@ -138,10 +140,20 @@ handled old new lane state after input sent sound at does version desk lanes sta
       },
     )
 
+-- a good desk stays good, whatever the edit
+pub still_good : (d : Desk) (e : EditOf) → good d ≡ true → good (after d e) ≡ true
+unfolding after
+still_good d e begins = by (fits d e) refl
+  where
+    by : (b : Bool) → fits d e ≡ b → good (cond b (exchanged d e) d) ≡ true
+    by true h = (fits_parts d e h).later
+    by false h = begins
+
 -- a lane keeps its place
-pub still_sound : (version : ℕ) (done : List EditOf) (who : Asker) (old new : List LaneOf) (lane : ℕ) (state after : LaneOf) → IsSound version done old who → slice_get old lane ≡ Some state
-    → after.lane ≡ state.lane → after.lanes ≡ state.lanes → after.who ≡ state.who → new ≡ set old lane after → IsSound version done new who
-still_sound version done who old new lane state after sound at place places name lanes = record {
+pub still_sound : (version : ℕ) (desk : Desk) (done : List EditOf) (who : Asker) (old new : List LaneOf) (lane : ℕ) (state after : LaneOf) → IsSound version desk done old who → slice_get old lane ≡ Some state
+    → after.lane ≡ state.lane → after.lanes ≡ state.lanes → after.who ≡ state.who → new ≡ set old lane after → IsSound version desk done new who
+still_sound version desk done who old new lane state after sound at place places name lanes = record {
+  good = sound.good;
   places = λ i s there.
       let size : length new ≡ length old = ap length lanes ∙ length-set old lane after in
       elim (slice_get-set old lane i after s (ap (λ xs. slice_get xs i) (sym lanes) ∙ there)) [
@@ -168,8 +180,9 @@ AreFresh-push lanes who states state fresh place places name nothing lane s at =
     ]
 
 -- fresh lanes make a sound core
-pub sound_at_first : (lanes : ℕ) (who : Asker) (states : List LaneOf) (done : List EditOf) → AreFresh lanes who states → length states ≡ lanes → done ≡ [] → IsSound 0 done states who
-sound_at_first lanes who states done fresh count none = record {
+pub sound_at_first : (lanes : ℕ) (who : Asker) (states : List LaneOf) (desk : Desk) (done : List EditOf) → good desk ≡ true → AreFresh lanes who states → length states ≡ lanes → done ≡ [] → IsSound 0 desk done states who
+sound_at_first lanes who states desk done begins fresh count none = record {
+  good = begins;
   places = λ lane state at. let f = fresh lane state at in (f.0, f.1 ∙ sym count, f.2);
   fewer = omega (arith, ap length none);
   limit = omega arith;
@@ -194,6 +207,12 @@ redo_free last version done undone d same some room =
     let first : nat_eq last version ≡ true = grind (arith, nat_tests) in
     let second : nat_eq undone 0 ≡ false = grind (arith, nat_tests) in
     rw first (rw second (rw room refl))
+
+-- there is room for one more
+pub one_more_call : (version : ℕ) → version ≤ call_limit → nat_eq version call_limit ≡ false → version + 1 ≤ call_limit
+one_more_call version few room =
+    let other : version ≢ call_limit = λ same. (let full : nat_eq version call_limit ≡ true = eq-eqb version call_limit same in cc) in
+    omega (arith, few, other)
 
 -- what holds of an answer that is no refusal
 pub of_ok : {T E : Type 0} (P : Type 0) (r : Result T E) → false ≡ is_err r → OnOk r P → P

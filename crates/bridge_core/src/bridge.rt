@@ -54,13 +54,14 @@ impl<A: Allocator + Copy> Model for Core<A> {
       intake = c.intake;
     } };
 
-    ghost invariant = { λ c. IsSound c.version c.history.done c.lanes.items c.intake.asker };
+    ghost invariant = { λ c. IsSound c.version c.history.state c.history.done c.lanes.items c.intake.asker };
 }
 
 impl<A: Allocator + Copy> Core<A> {
     /// A bridge without rooms, with 1 to 16 lanes.
     pub fn new(alloc: A, lanes: u32, settings: Settings<A>) -> Result<Self, CoreFault>
         ensures fresh { IfOk result (λ core. HasTaken core (blank settings.bridge_ssrc) []) }
+        ensures begins { IfOk result (λ core. good core.desk ≡ true) }
         ensures history { IfOk result (λ core. HasCalled core (no_calls (blank settings.bridge_ssrc))) }
         ensures lists { IfOk result (λ core. (core.done ≡ []) × (core.undone ≡ [])) }
         ensures lanes { IfOk result (λ core. length core.lanes ≡ lanes) }
@@ -127,7 +128,6 @@ impl<A: Allocator + Copy> Core<A> {
         ensures intake { self.new.intake ≡ self.old.intake }
     {
         let done = self.call(alloc, call);
-        self.history.state().known();
         let version = self.version;
         match done {
             Ok(()) => Reply::Accepted { no: version },

@@ -273,7 +273,6 @@ impl<A: Allocator + Copy> VideoStreams<A> {
         ensures sends { (who : Asker) → IfOk result (λ sent. Answers who place.now.lane place.now.lanes self.old self.new (visit_of stamp.version stamp.item rows.now (frame_input frame.now)) (map sent_of sent.items)) }
         ensures err { OnErr result (self.new ≡ self.old) }
     {
-        rows.known();
         receivers_are_distinct();
         all_who_chose_receive();
         let mut receivers = receivers_of(alloc, rows, frame.source, &frame.address)?;

@@ -1,11 +1,11 @@
 //! What commands ask of a desk.
 
-ghost use Rattle.std.specs.Prelude.{◌≡◌, ◌<◌, ◌^◌, not, ◌&&◌, ◌||◌, count_by, map};
+ghost use Rattle.std.specs.Prelude.{◌≡◌, true, ◌<◌, ◌^◌, not, ◌&&◌, ◌||◌, count_by, map};
 ghost use Rattle.std.specs.List.{list_any};
 ghost use Rattle.desk_rows.specs.declared.row.Row.TheVariants.{Member as MemberRow};
 ghost use Rattle.desk_rows.specs.Row.{makes, other_claims};
 ghost use Rattle.desk_rows.specs.Few.{listed};
-ghost use Rattle.desk_rows.specs.Desk.{is_audio_in, is_bridges, room_of_member, row_at};
+ghost use Rattle.desk_rows.specs.Desk.{good, is_audio_in, is_bridges, room_of_member, row_at};
 ghost use Rattle.desk_edit.specs.Refusals.{has, is_claimed, is_ssrc, is_replaced, is_there, is_other_claimed, is_ssrc_taken, ssrc_is_taken, room_is_full, is_audio_of};
 
 use desk_rows::{
@@ -29,7 +29,8 @@ fn any_claims(rows: &[Row], claim: &Claim) -> bool
 
 /// Whether a source or a slot has the SSRC.
 fn is_stream<A: Allocator + Copy>(rows: &Rows<A>, ssrc: u32) -> bool
-    ensures { result ≡ (has rows.now (Key.Source ssrc) || has rows.now (Key.Slot ssrc)) }
+    ensures there { result ≡ (has rows.now (Key.Source ssrc) || has rows.now (Key.Slot ssrc)) }
+    ensures good { good rows.now ≡ true }
 {
     has(rows, Key::Source(ssrc)) || has(rows, Key::Slot(ssrc))
 }
@@ -39,7 +40,6 @@ fn is_stream<A: Allocator + Copy>(rows: &Rows<A>, ssrc: u32) -> bool
 fn is_claimed<A: Allocator + Copy>(rows: &Rows<A>, claim: &Claim) -> bool
     ensures { result ≡ is_claimed rows.now claim.now }
 {
-    rows.known();
     match claim {
         Claim::Key(key) => has(rows, *key),
         Claim::Address(_) => any_member_claims(rows.members(), claim),
@@ -51,7 +51,8 @@ fn is_claimed<A: Allocator + Copy>(rows: &Rows<A>, claim: &Claim) -> bool
 /// Whether there is a row of this key.
 #[tactic(auto, using(crate::proofs::Words::is_found))]
 pub(crate) fn has<A: Allocator + Copy>(rows: &Rows<A>, key: Key) -> bool
-    ensures { result ≡ has rows.now key }
+    ensures there { result ≡ has rows.now key }
+    ensures good { good rows.now ≡ true }
 {
     rows.find(&key).is_some()
 }

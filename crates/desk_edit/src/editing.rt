@@ -1,6 +1,6 @@
 //! The edits that carry commands out.
 
-ghost use Rattle.std.specs.Prelude.{◌≡◌, ◌++◌, OnOk, ◌∷◌, [], map, filter, length, IfOk, nat_eq, not};
+ghost use Rattle.std.specs.Prelude.{◌≡◌, true, ◌++◌, OnOk, ◌∷◌, [], map, filter, length, IfOk, nat_eq, not};
 ghost use Rattle.desk_rows.specs.declared.row.Row.TheVariants.{Member as MemberRow};
 ghost use Rattle.desk_rows.specs.Row.{names, key_of};
 ghost use Rattle.desk_rows.specs.Kinds.{is_of};
@@ -85,7 +85,8 @@ fn put_in_place<A: Allocator + Copy>(
 
 /// Puts the row, a member last of all, any other in place of the one that there is of its key.
 fn put<A: Allocator + Copy>(alloc: A, rows: &Rows<A>, row: Row) -> Result<Edit<A>, AllocError>
-    ensures { IfOk result (λ edit. edit ≡ puts rows.now row) }
+    ensures edit { IfOk result (λ edit. edit ≡ puts rows.now row) }
+    ensures good { good rows.now ≡ true }
 {
     match row {
         Row::Member(member) => put_member(alloc, rows.members().len(), member),
@@ -95,7 +96,8 @@ fn put<A: Allocator + Copy>(alloc: A, rows: &Rows<A>, row: Row) -> Result<Edit<A
 
 /// Takes the row of this key, and all that depends on it.
 fn remove<A: Allocator + Copy>(alloc: A, rows: &Rows<A>, key: Key) -> Result<Edit<A>, AllocError>
-    ensures { IfOk result (λ edit. edit ≡ takes_all rows.now (goes_with rows.now key)) }
+    ensures edit { IfOk result (λ edit. edit ≡ takes_all rows.now (goes_with rows.now key)) }
+    ensures good { good rows.now ≡ true }
 {
     let members = members_going(alloc, rows, key)?;
     let others = others_going(alloc, rows, key, members.is_empty())?;
@@ -130,7 +132,6 @@ fn others_parted<A: Allocator + Copy>(
 ) -> Result<Vec<Row, A>, AllocError>
     ensures { IfOk result (λ v. v.items ≡ filter (λ r. not (are_together (with_member_in rows.now member room) (names r))) rows.now.others) }
 {
-    rows.known();
     let dependent = others_going(alloc, rows, Key::Member(member), false)?;
     parted(alloc, &Moved { rows, member, room }, &dependent)
 }
@@ -142,7 +143,8 @@ fn move_member<A: Allocator + Copy>(
     member: u32,
     room: u32,
 ) -> Result<Edit<A>, AllocError>
-    ensures { IfOk result (λ edit. edit ≡ moves_member rows.now member room) }
+    ensures edit { IfOk result (λ edit. edit ≡ moves_member rows.now member room) }
+    ensures good { good rows.now ≡ true }
 {
     let members = members_picked(alloc, rows.members(), Picked::Only(member))?;
     let moved = all_placed_in(alloc, room, &members)?;
@@ -160,7 +162,8 @@ pub(crate) fn edit_for<A: Allocator + Copy>(
     rows: &Rows<A>,
     form: &Form,
 ) -> Result<Edit<A>, AllocError>
-    ensures { IfOk result (λ edit. edit ≡ edit_for rows.now form.now) }
+    ensures edit { IfOk result (λ edit. edit ≡ edit_for rows.now form.now) }
+    ensures good { good rows.now ≡ true }
 {
     match form {
         Form::Put(row) => put(alloc, rows, *row),

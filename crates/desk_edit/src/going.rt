@@ -1,9 +1,9 @@
 //! What goes with a row: all that names it, directly or through others.
 
-ghost use Rattle.std.specs.Prelude.{◌≡◌, ◌&&◌, ℕ, IfSome};
+ghost use Rattle.std.specs.Prelude.{◌≡◌, true, ◌&&◌, ℕ, IfSome};
 ghost use Rattle.std.specs.List.{list_any};
 ghost use Rattle.desk_rows.specs.Row.{has_key};
-ghost use Rattle.desk_rows.specs.Desk.{rows_of};
+ghost use Rattle.desk_rows.specs.Desk.{good, rows_of};
 ghost use Rattle.desk_rows.specs.inner.Found.{finds};
 ghost use Rattle.desk_edit.specs.Depends.{goes_within};
 ghost use Rattle.desk_edit.specs.inner.Levels.{level, can_go, is_above};
@@ -50,6 +50,7 @@ pub(crate) struct Going<'a, A: Allocator + Copy> {
     /// Whether the row of the key is there, so that it isn't looked for again.
     pub(crate) is_there: bool,
     ghost there: { is_there ≡ has rows.now key },
+    ghost good: { good rows.now ≡ true },
 }
 
 impl<'a, A: Allocator + Copy> Going<'a, A> {

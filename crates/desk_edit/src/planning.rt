@@ -25,7 +25,6 @@ pub fn plan<A: Allocator + Copy>(
     ensures first { IfErr result (λ why. why ≢ Refusal.OutOfMemory → refused rows.now command.now ≡ Some why) }
     ensures memory { result ≡ Err Refusal.OutOfMemory → refused rows.now command.now ≡ None }
 {
-    rows.known();
     if let Some(why) = refused(rows, command) {
         return Err(why);
     }

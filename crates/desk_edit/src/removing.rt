@@ -25,9 +25,9 @@ pub(crate) fn members_going<A: Allocator + Copy>(
     rows: &Rows<A>,
     key: Key,
 ) -> Result<Vec<Placed, A>, AllocError>
-    ensures { IfOk result (λ v. v.items ≡ placed_from 0 (λ m. goes_with rows.now key (MemberRow m)) rows.now.members) }
+    ensures members { IfOk result (λ v. v.items ≡ placed_from 0 (λ m. goes_with rows.now key (MemberRow m)) rows.now.members) }
+    ensures good { good rows.now ≡ true }
 {
-    rows.known();
     members_picked(alloc, rows.members(), Picked::with(key))
 }
 
@@ -59,28 +59,25 @@ fn going_by_members<A: Allocator + Copy>(
 /// The sources or the slots that go.
 fn streams_going<A: Allocator + Copy>(
     alloc: A,
-    rows: &Rows<A>,
-    key: Key,
+    going: &Going<'_, A>,
     kind: Kind,
     nobody: bool,
 ) -> Result<Vec<Row, A>, AllocError>
     requires kind { level kind ≡ 2 }
-    requires low { level (kind_of key) ≤ 2 }
-    requires nobody { nobody ≡ true → list_any (λ m. goes_with rows.now key (MemberRow m)) rows.now.members ≡ false }
-    ensures { IfOk result (λ v. v.items ≡ filter (goes_with rows.now key) (filter (is_of kind) rows.now.others)) }
+    requires low { level (kind_of going.now.key) ≤ 2 }
+    requires nobody { nobody ≡ true → list_any (λ m. goes_with going.now.rows.now going.now.key (MemberRow m)) going.now.rows.now.members ≡ false }
+    ensures { IfOk result (λ v. v.items ≡ filter (goes_with going.now.rows.now going.now.key) (filter (is_of kind) going.now.rows.now.others)) }
 {
-    rows.known();
-    if !can_go(kind, key.kind()) {
+    if !can_go(kind, going.key.kind()) {
         return Ok(Vec::new(alloc));
     }
-    if level(key.kind()) == 2 {
-        return found_alone(alloc, rows.find(&key));
+    if level(going.key.kind()) == 2 {
+        return found_alone(alloc, going.rows.find(&going.key));
     }
     if nobody {
         return Ok(Vec::new(alloc));
     }
-    let going = Going::of(rows, key);
-    going_by_members(alloc, &going, rows.others_of(kind))
+    going_by_members(alloc, going, going.rows.others_of(kind))
 }
 
 /// What goes with a row, as far as other rows name it: the sources and the slots.
@@ -91,7 +88,6 @@ pub(crate) struct Gone<'a, A: Allocator + Copy> {
     nobody: bool,
     sources: Vec<Row, A>,
     slots: Vec<Row, A>,
-    ghost good: { good going.rows.now ≡ true },
     ghost low: { level (kind_of going.key) ≤ 2 },
     ghost members: { nobody ≡ true → list_any (λ m. goes_with going.rows.now going.key (MemberRow m)) going.rows.now.members ≡ false },
     ghost sources_go: { sources.items ≡ filter (goes_with going.rows.now going.key) (filter (is_of kinds.Source) going.rows.now.others) },
@@ -105,10 +101,8 @@ impl<'a, A: Allocator + Copy> Gone<'a, A> {
         ensures rows { IfOk result (λ x. x.going.rows.now ≡ going.entry.rows.now) }
         ensures key { IfOk result (λ x. x.going.key ≡ going.entry.key) }
     {
-        let (rows, key) = (going.rows, going.key);
-        rows.known();
-        let sources = streams_going(alloc, rows, key, Kind::Source, nobody)?;
-        let slots = streams_going(alloc, rows, key, Kind::Slot, nobody)?;
+        let sources = streams_going(alloc, &going, Kind::Source, nobody)?;
+        let slots = streams_going(alloc, &going, Kind::Slot, nobody)?;
         Ok(Self {
             going,
             nobody,
@@ -311,9 +305,9 @@ pub(crate) fn others_going<A: Allocator + Copy>(
     nobody: bool,
 ) -> Result<Vec<Row, A>, AllocError>
     requires { nobody ≡ true → list_any (λ m. goes_with rows.now key (MemberRow m)) rows.now.members ≡ false }
-    ensures { IfOk result (λ v. v.items ≡ filter (goes_with rows.now key) rows.now.others) }
+    ensures others { IfOk result (λ v. v.items ≡ filter (goes_with rows.now key) rows.now.others) }
+    ensures good { good rows.now ≡ true }
 {
-    rows.known();
     if level(key.kind()) == 3 {
         return found_alone(alloc, rows.find(&key));
     }

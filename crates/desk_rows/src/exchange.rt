@@ -186,8 +186,8 @@ fn can_exchange<A: Allocator + Copy>(others: &[Row], edit: &Edit<A>) -> bool
 /// its key.
 #[tactic(auto, unfolding(crate::specs::Exchange::is_apt))]
 fn is_apt<A: Allocator + Copy>(rows: &Rows<A>, edit: &Edit<A>) -> bool
-    requires { good rows.now ≡ true }
-    ensures { result ≡ is_apt rows.now edit.now }
+    ensures apt { result ≡ is_apt rows.now edit.now }
+    ensures good { good rows.now ≡ true }
 {
     can_move(rows.members(), edit.taken_members(), edit.put_members())
         && can_exchange(rows.others(), edit)
@@ -196,7 +196,6 @@ fn is_apt<A: Allocator + Copy>(rows: &Rows<A>, edit: &Edit<A>) -> bool
 /// Whether the edit fits: the desk stays good.
 #[tactic(auto, using(crate::specs::laws::Laws::fits_test))]
 pub(crate) fn fits<A: Allocator + Copy>(rows: &Rows<A>, edit: &Edit<A>) -> bool
-    requires { good rows.now ≡ true }
     ensures { result ≡ fits rows.now edit.now }
 {
     if !is_apt(rows, edit) {

@@ -32,7 +32,8 @@ use undo_log::Reversible;
 /// The rows of a desk, in room that was reserved for all that there may be.
 ///
 /// Contracts see the desk: the members in joining order, and the set of all other rows, listed by
-/// kind and key. Each value is a good desk.
+/// kind and key. Each value is a good desk: keys are distinct, what its rows name is there, and rules
+/// and limits hold. What gives rows out ensures it.
 #[derive(Drop)]
 pub struct Rows<A: Allocator + Copy = Global> {
     bridge_ssrc: u32,
@@ -87,7 +88,8 @@ impl<A: Allocator + Copy> Model for Rows<A> {
 impl<A: Allocator + Copy> Rows<A> {
     /// The desk without rows, for a bridge that speaks under this SSRC.
     pub fn new(alloc: A, bridge_ssrc: u32) -> Result<Self, AllocError>
-        ensures { IfOk result (λ rows. rows ≡ blank bridge_ssrc) }
+        ensures desk { IfOk result (λ rows. rows ≡ blank bridge_ssrc) }
+        ensures good { IfOk result (λ rows. good rows ≡ true) }
     {
         Ok(Self {
             bridge_ssrc,
@@ -119,13 +121,6 @@ impl<A: Allocator + Copy> Rows<A> {
         })
     }
 
-    /// The desk is good: keys are distinct, what its rows name is there, and rules and limits hold.
-    pub fn known(&self)
-        ensures { good self.now ≡ true }
-    {
-        let _others = &self.others;
-    }
-
     /// The SSRC under which the bridge itself speaks.
     pub fn bridge_ssrc(&self) -> u32
         ensures { result ≡ self.now.bridge_ssrc }
@@ -135,7 +130,8 @@ impl<A: Allocator + Copy> Rows<A> {
 
     /// The members of all rooms in joining order.
     pub fn members(&self) -> &[Member]
-        ensures { result.now ≡ self.now.members }
+        ensures members { result.now ≡ self.now.members }
+        ensures good { good self.now ≡ true }
     {
         &self.members
     }
@@ -157,14 +153,16 @@ impl<A: Allocator + Copy> Rows<A> {
 
     /// The row with this key.
     pub fn find(&self, key: &Key) -> Option<Row>
-        ensures { result ≡ row_at self.now key.now }
+        ensures row { result ≡ row_at self.now key.now }
+        ensures good { good self.now ≡ true }
     {
         row_with(&self.members, &self.index, self.others(), *key)
     }
 
     /// The place of the member of this number, from 0.
     pub fn place_of(&self, member: u32) -> Option<usize>
-        ensures { result ≡ place_in self.now.members member }
+        ensures place { result ≡ place_in self.now.members member }
+        ensures good { good self.now ≡ true }
     {
         match entry_of(&self.index, member) {
             None => None,
@@ -202,7 +200,8 @@ impl<A: Allocator + Copy> Rows<A> {
 
     /// The rows of the kind by key. Members aren't among them.
     pub fn others_of(&self, kind: Kind) -> &[Row]
-        ensures { result.now ≡ filter (is_of kind) self.now.others }
+        ensures rows { result.now ≡ filter (is_of kind) self.now.others }
+        ensures good { good self.now ≡ true }
     {
         rows_of_kind(self.others(), kind)
     }
@@ -216,7 +215,8 @@ impl<A: Allocator + Copy> Rows<A> {
 
     /// The subscriptions that name this source, by the SSRC of their slots.
     pub fn subs_of(&self, source: u32) -> &[Sub]
-        ensures { result.now ≡ subs_naming self.now source }
+        ensures subs { result.now ≡ subs_naming self.now source }
+        ensures good { good self.now ≡ true }
     {
         group_of(&self.subs, source)
     }
@@ -225,13 +225,15 @@ impl<A: Allocator + Copy> Rows<A> {
     pub fn slots_of(&self, member: u32) -> &[Slot]
         ensures rising { IsNonDecreasingBy (λ s. s.index) result.now }
         ensures exactly { (index : ℕ) → filter (λ s. nat_eq s.index index) result.now ≡ filter (λ s. nat_eq s.index index) (slots_naming self.now member) }
+        ensures good { good self.now ≡ true }
     {
         group_of(&self.slots, member)
     }
 
     /// The gains of this member by the SSRC of their sources.
     pub fn gains_of(&self, member: u32) -> &[Row]
-        ensures { result.now ≡ gains_naming self.now member }
+        ensures gains { result.now ≡ gains_naming self.now member }
+        ensures good { good self.now ≡ true }
     {
         gains_of(self.others(), member)
     }
@@ -336,7 +338,6 @@ impl<A: Allocator + Copy> Look for Rows<A> {
     ghost desk = { λ d. d };
 
     fn look(&self, key: Key) -> Option<Row> {
-        self.known();
         self.find(&key)
     }
 }
@@ -353,7 +354,6 @@ impl<A: Allocator + Copy> Reversible for Rows<A> {
     ghost inverse = { inverse };
 
     fn fits(&self, edit: &Edit<A>) -> bool {
-        self.known();
         fits(self, edit)
     }
 

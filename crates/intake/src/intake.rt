@@ -5,6 +5,7 @@
 //! What is told of sources is made in `reporting`.
 
 ghost use Rattle.std.specs.Prelude.{◌≡◌, true, map, IfOk, OnErr};
+ghost use Rattle.desk_rows.specs.Desk.{good};
 ghost use Rattle.intake.specs.Names.{is_name};
 ghost use Rattle.intake.specs.Sources.{no_sources};
 ghost use Rattle.intake.specs.Ingested.{ingested_of, datagram_of};
@@ -106,6 +107,7 @@ impl<A: Allocator + Copy> Intake<A> {
         ensures tells { IfOk result (λ up. Tells self.old self.new (map datagram_of up.items) rows.now moment) }
         ensures err { OnErr result (self.new ≡ self.old) }
         ensures asker { self.new.asker ≡ self.old.asker }
+        ensures good { good rows.now ≡ true }
     {
         let sources = sources_of(alloc, rows)?;
         let up = self.told_to(alloc, rows.members(), &sources, moment)?;

@@ -1,8 +1,9 @@
 //! What is told of sources to the members that send them.
 
-ghost use Rattle.std.specs.Prelude.{◌≡◌, ◌++◌, List, map, filter_map, IfOk, OnOk, IfSome};
+ghost use Rattle.std.specs.Prelude.{◌≡◌, ◌++◌, true, List, map, filter_map, IfOk, OnOk, IfSome};
 ghost use Rattle.std.specs.List.{AllByRecursion};
 ghost use Rattle.rtcp_codec.specs.Report.{FitsLost};
+ghost use Rattle.desk_rows.specs.Desk.{good};
 ghost use Rattle.topology.specs.Looking.{source_in};
 ghost use Rattle.topology.specs.Choice.{sources_of};
 ghost use Rattle.intake.specs.Ingested.{datagram_of};
@@ -42,7 +43,8 @@ pub(crate) fn sources_of<A: Allocator + Copy>(
     alloc: A,
     rows: &Rows<A>,
 ) -> Result<Vec<Source, A>, AllocError>
-    ensures { IfOk result (λ v. v.items ≡ sources_of rows.now) }
+    ensures sources { IfOk result (λ v. v.items ≡ sources_of rows.now) }
+    ensures good { good rows.now ≡ true }
 {
     sources_in(alloc, rows.others_of(Kind::Source))
 }

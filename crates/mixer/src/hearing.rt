@@ -28,7 +28,6 @@ pub fn listen<A: Allocator + Copy>(rows: &Rows<A>, member: &Member, room: &Room<
     requires is { (voices : List Voice) × IsRoom voices room.now }
     ensures { (voices : List Voice) → IsRoom voices room.now → IsHeard rows.now voices member.now result }
 {
-    rows.known();
     gains_are_small();
     let count = room.sources.len();
     let mut gains = [0; MOST_SOURCES];

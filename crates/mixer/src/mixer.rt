@@ -83,7 +83,6 @@ impl<A: Allocator + Copy> Mixer<A> {
         ensures few { IfOk result (λ sent. length sent.items ≤ length rows.now.members) }
         ensures err { OnErr result (self.new ≡ self.old) }
     {
-        rows.known();
         rooms_are_small();
         mixes_are_apart();
         let sources = audio_sources(alloc, rows)?;

@@ -1,7 +1,8 @@
 //! Which source a slot sends.
 
-ghost use Rattle.std.specs.Prelude.{◌≡◌};
+ghost use Rattle.std.specs.Prelude.{◌≡◌, true};
 ghost use Rattle.std.specs.List.{find, filter_map};
+ghost use Rattle.desk_rows.specs.Desk.{good};
 ghost use Rattle.topology.specs.Looking.{source_in};
 ghost use Rattle.topology.specs.Choice.{is_video_of, first_video, shown, shown_on, wanted, is_barred, chosen, choice};
 
@@ -18,7 +19,8 @@ use std::alloc::Allocator;
 /// There is none where that source is muted or of the slot's own member: the next one doesn't stand
 /// in for it. There is none either for an SSRC that is no slot's.
 pub fn choice<A: Allocator + Copy>(rows: &Rows<A>, out_ssrc: u32) -> Option<u32>
-    ensures { result ≡ choice rows.now out_ssrc }
+    ensures source { result ≡ choice rows.now out_ssrc }
+    ensures good { good rows.now ≡ true }
 {
     let slot = slot_at(rows, out_ssrc)?;
     chosen(rows, &slot)

@@ -2,6 +2,7 @@
 
 ghost use Rattle.std.specs.Prelude.{◌≡◌, IfOk, filter, length, map, true};
 ghost use Rattle.std.specs.List.{filter_map};
+ghost use Rattle.desk_rows.specs.Desk.{good};
 ghost use Rattle.desk_rows.specs.Order.{in_order};
 ghost use Rattle.topology.specs.Mixes.{audio_sources, gain_of, in_room, mix_source, mix_plan};
 ghost use Rattle.topology.specs.inner.Audible.{audio_in, is_muted_in, audible_seat, gain_among};
@@ -37,9 +38,9 @@ pub fn audio_sources<A: Allocator + Copy>(
     alloc: A,
     rows: &Rows<A>,
 ) -> Result<Vec<AudioSource, A>, AllocError>
-    ensures { IfOk result (λ v. v.items ≡ audio_sources rows.now) }
+    ensures sources { IfOk result (λ v. v.items ≡ audio_sources rows.now) }
+    ensures good { good rows.now ≡ true }
 {
-    rows.known();
     let mutes = rows.others_of(Kind::Mute);
     let mut seats = seats(alloc, rows, mutes, rows.others_of(Kind::Source))?;
     by_places(alloc, &mut seats)
@@ -138,9 +139,9 @@ pub fn write_gains<A: Allocator + Copy>(
     gains: &mut [u32],
 )
     requires { length gains.old ≡ length sources.now }
-    ensures { gains.new ≡ map (λ s. gain_of rows.now member s.ssrc) sources.now }
+    ensures gains { gains.new ≡ map (λ s. gain_of rows.now member s.ssrc) sources.now }
+    ensures good { good rows.now ≡ true }
 {
-    rows.known();
     let own = rows.gains_of(member);
     if own.is_empty() {
         gains.fill(FULL_GAIN);
@@ -153,7 +154,6 @@ pub fn write_gains<A: Allocator + Copy>(
 fn gain_of<A: Allocator + Copy>(rows: &Rows<A>, member: u32, source: u32) -> u32
     ensures { result ≡ gain_of rows.now member source }
 {
-    rows.known();
     gain_among(rows.gains_of(member), member, source)
 }
 
@@ -166,7 +166,8 @@ pub fn mix_plan<A: Allocator + Copy>(
     rows: &Rows<A>,
     member: u32,
 ) -> Result<Vec<MixSource, A>, AllocError>
-    ensures { IfOk result (λ v. v.items ≡ mix_plan rows.now member) }
+    ensures sources { IfOk result (λ v. v.items ≡ mix_plan rows.now member) }
+    ensures good { good rows.now ≡ true }
 {
     match room_of_member(rows, member) {
         None => Ok(Vec::new(alloc)),

@@ -1,6 +1,7 @@
 //! What a desk has under a number.
 
-ghost use Rattle.std.specs.Prelude.{◌≡◌};
+ghost use Rattle.std.specs.Prelude.{◌≡◌, true};
+ghost use Rattle.desk_rows.specs.Desk.{good};
 ghost use Rattle.topology.specs.Looking.{member_at, slot_at, source_at, subscribed, pinned, holder, is_muted, is_this, sender_of, room_of_member, has_address, source_from, member_from};
 ghost use Rattle.topology.specs.Receivers.{slots_to};
 
@@ -10,7 +11,8 @@ use std::alloc::Allocator;
 
 /// The member of this number.
 pub fn member_at<A: Allocator + Copy>(rows: &Rows<A>, member: u32) -> Option<Member>
-    ensures { result ≡ member_at rows.now member }
+    ensures member { result ≡ member_at rows.now member }
+    ensures good { good rows.now ≡ true }
 {
     match rows.find(&Key::Member(member)) {
         Some(Row::Member(member)) => Some(member),
@@ -30,7 +32,8 @@ fn source_at<A: Allocator + Copy>(rows: &Rows<A>, source: u32) -> Option<Source>
 
 /// The slot of this SSRC.
 pub fn slot_at<A: Allocator + Copy>(rows: &Rows<A>, out_ssrc: u32) -> Option<Slot>
-    ensures { result ≡ slot_at rows.now out_ssrc }
+    ensures slot { result ≡ slot_at rows.now out_ssrc }
+    ensures good { good rows.now ≡ true }
 {
     match rows.find(&Key::Slot(out_ssrc)) {
         Some(Row::Slot(slot)) => Some(slot),
@@ -42,7 +45,6 @@ pub fn slot_at<A: Allocator + Copy>(rows: &Rows<A>, out_ssrc: u32) -> Option<Slo
 pub fn slots_to<A: Allocator + Copy>(rows: &Rows<A>, member: u32) -> &[Slot]
     ensures { result.now ≡ slots_to rows.now member }
 {
-    rows.known();
     rows.slots_of(member)
 }
 
@@ -58,7 +60,8 @@ pub(crate) fn subscribed<A: Allocator + Copy>(rows: &Rows<A>, out_ssrc: u32) -> 
 
 /// The source that is pinned in a room.
 pub(crate) fn pinned<A: Allocator + Copy>(rows: &Rows<A>, room: u32) -> Option<u32>
-    ensures { result ≡ pinned rows.now room }
+    ensures pin { result ≡ pinned rows.now room }
+    ensures good { good rows.now ≡ true }
 {
     match rows.find(&Key::Pin(room)) {
         Some(Row::Pin(pin)) => Some(pin.source),
@@ -78,7 +81,8 @@ pub(crate) fn holder<A: Allocator + Copy>(rows: &Rows<A>, room: u32) -> Option<u
 
 /// Whether nobody is to hear or see the source.
 pub(crate) fn is_muted<A: Allocator + Copy>(rows: &Rows<A>, source: u32) -> bool
-    ensures { result ≡ is_muted rows.now source }
+    ensures mute { result ≡ is_muted rows.now source }
+    ensures good { good rows.now ≡ true }
 {
     rows.find(&Key::Mute(source)).is_some()
 }
@@ -105,7 +109,8 @@ pub fn sender_of<A: Allocator + Copy>(rows: &Rows<A>, source: u32) -> Option<u32
 
 /// The room that a member is in.
 pub(crate) fn room_of_member<A: Allocator + Copy>(rows: &Rows<A>, member: u32) -> Option<u32>
-    ensures { result ≡ room_of_member rows.now member }
+    ensures room { result ≡ room_of_member rows.now member }
+    ensures good { good rows.now ≡ true }
 {
     match member_at(rows, member) {
         None => None,

@@ -1,11 +1,12 @@
 //! Who gets what a source sends.
 
-ghost use Rattle.std.specs.Prelude.{◌≡◌, List, IfOk, Some};
+ghost use Rattle.std.specs.Prelude.{◌≡◌, true, List, IfOk, Some};
 ghost use Rattle.std.specs.List.{filter_map};
 ghost use Rattle.topology.specs.Looking.{is_this, sender_of};
 ghost use Rattle.topology.specs.Choice.{shown};
-ghost use Rattle.topology.specs.Receivers.{by_place, receiver, receivers};
+ghost use Rattle.topology.specs.Receivers.{receiver, receivers};
 ghost use Rattle.desk_rows.specs.declared.row.Member.{Member as MemberRow};
+ghost use Rattle.desk_rows.specs.Desk.{good};
 ghost use Rattle.topology.specs.inner.Takers.{sender_from, subscriber, first_slot, viewer, AreShown, takers};
 ghost use Rattle.topology.specs.inner.Seating.{seat};
 
@@ -35,15 +36,16 @@ pub fn receivers_of<A: Allocator + Copy>(
     source: u32,
     address: &Address,
 ) -> Result<Vec<Receiver, A>, AllocError>
-    ensures { IfOk result (λ v. v.items ≡ receivers rows.now source address.now) }
+    ensures receivers { IfOk result (λ v. v.items ≡ receivers rows.now source address.now) }
+    ensures good { good rows.now ≡ true }
 {
     match sender_from(rows, source, address) {
         None => Ok(Vec::new(alloc)),
         Some(sender) => {
-            rows.known();
             let mut slots = takers(alloc, rows, source, &sender)?;
             slots.sort_by_key(|slot| slot.index)?;
-            by_place(alloc, rows, &slots)
+            let mut seats = seats(alloc, rows, &slots)?;
+            by_places(alloc, &mut seats)
         }
     }
 }
@@ -54,7 +56,8 @@ fn sender_from<A: Allocator + Copy>(
     source: u32,
     address: &Address,
 ) -> Option<Member>
-    ensures { result ≡ sender_from rows.now source address.now }
+    ensures sender { result ≡ sender_from rows.now source address.now }
+    ensures good { good rows.now ≡ true }
 {
     if is_muted(rows, source) {
         return None;
@@ -94,7 +97,6 @@ fn is_shown<A: Allocator + Copy>(rows: &Rows<A>, source: u32, sender: &Member) -
     requires { sender_of rows.now source ≡ Some sender.now.member }
     ensures { result ≡ is_this source (shown rows.now sender.now.room) }
 {
-    rows.known();
     match pinned(rows, sender.room) {
         Some(pin) => pin == source,
         None => {
@@ -181,17 +183,4 @@ fn seats<A: Allocator + Copy>(
         .iter()
         .filter_map(|slot| seat(rows, slot))
         .collect(alloc)
-}
-
-/// The slots as receivers, in the order of the members.
-fn by_place<A: Allocator + Copy>(
-    alloc: A,
-    rows: &Rows<A>,
-    slots: &[Slot],
-) -> Result<Vec<Receiver, A>, AllocError>
-    ensures { IfOk result (λ v. v.items ≡ by_place rows.now.members slots.now) }
-{
-    rows.known();
-    let mut seats = seats(alloc, rows, slots)?;
-    by_places(alloc, &mut seats)
 }

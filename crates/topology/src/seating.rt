@@ -27,7 +27,6 @@ fn standing_at(members: &[Member], place: usize) -> Option<Member>
 pub(crate) fn seat_of<A: Allocator + Copy>(rows: &Rows<A>, member: u32) -> Option<Seated<Member>>
     ensures { result ≡ seat_of rows.now member }
 {
-    rows.known();
     let place = rows.place_of(member)?;
     let thing = standing_at(rows.members(), place)?;
     Some(Seated { place, thing })

@@ -29,6 +29,5 @@ pub fn reports_leave_others_alone(
     ensures { IfOk result (λ up. (s : Sources) → Knows intake.old s → (t : Sources) × Knows intake.new t × (map (λ k. k.origin) t.known ≡ map (λ k. k.origin) s.known) × ((o : Origin) → comes_from rows.now o.ssrc o.address ≡ false → story_at o t.known ≡ story_at o s.known)) }
 {
     reports_begin_intervals();
-    rows.known();
     intake.reports(alloc, rows, moment)
 }

@@ -26,7 +26,6 @@ pub fn sends_what_was_promised(
     let Ok(mut core) = Core::new(alloc, 3, settings) else {
         return None;
     };
-    core.rows().known();
     the_headline();
     match core.desk(alloc, 0, call) {
         Reply::Accepted { no: _ } => {}

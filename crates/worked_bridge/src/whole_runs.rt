@@ -29,7 +29,6 @@ pub fn sends_its_lists(alloc: Global, settings: Settings, item: &Item) -> Option
     let Ok(mut core) = Core::new(alloc, 3, settings) else {
         return None;
     };
-    core.rows().known();
     match core.item(alloc, 2, item) {
         Ok(sent) => Some(sent),
         Err(_) => None,

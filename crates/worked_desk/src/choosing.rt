@@ -25,7 +25,6 @@ pub fn sends_its_subscription_or_nothing(rows: &Rows, out_ssrc: u32) -> Option<u
 pub fn sends_the_least_video_of_the_floor(rows: &Rows, out_ssrc: u32) -> Option<u32>
     ensures { (slot : Slot) (room member other : ℕ) → slot_at rows.now out_ssrc ≡ Some slot → subscribed rows.now out_ssrc ≡ None → slot.index ≡ 0 → room_of_member rows.now slot.member ≡ Some room → pinned rows.now room ≡ None → holder rows.now room ≡ Some member → option_map (is_video_of member) (source_at rows.now other) ≡ Some true → IfSome result (λ chosen. chosen ≤ other) }
 {
-    rows.known();
     first_videos_are_least();
     nothing_falls_through();
     choice(rows, out_ssrc)
@@ -39,7 +38,6 @@ pub fn hears_its_own_room(
 ) -> Result<Vec<MixSource>, AllocError>
     ensures { IfOk result (λ v. All (λ s. room_of_member rows.now s.member ≡ room_of_member rows.now member) v.items) }
 {
-    rows.known();
     mixes_stay_in_the_room();
     mix_plan(alloc, rows, member)
 }

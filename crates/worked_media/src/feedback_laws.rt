@@ -33,7 +33,6 @@ pub fn asks_for_each_number_once(alloc: Global, nack: Nack) -> Result<Vec<u16>, 
 pub fn a_picture_loss_reaches_a_sender(rows: &Rows, from: &Address, out_ssrc: u32) -> bool
     ensures { result ≡ true }
 {
-    rows.known();
     picture_losses_reach_a_sender();
     let Some(slot) = slot_at(rows, out_ssrc) else {
         return true;

@@ -4,10 +4,10 @@ use Rattle.desk_rows.specs.declared.row.Row.TheVariants as rows
 use Rattle.desk_edit.proofs.removing.others_going.Goals as goal
 use Rattle.desk_edit.proofs.GoingLemmas.{goes_alone}
 
-pub returns-then-level-eq3 : goal.returns-then-level-eq3
-returns-then-level-eq3 g c =
+pub returns-then-level-eq3-clause-others : goal.returns-then-level-eq3-clause-others
+returns-then-level-eq3-clause-others g c =
     let top = sym (c.level.ensures ∙ ap level c.kind.ensures) ∙ c.if-level-eq3.true in
-    let same = ap found_list c.find.ensures ∙ goes_alone c.args.rows.now c.args.key c.known.ensures top in
+    let same = ap found_list c.find.ensures.row ∙ goes_alone c.args.rows.now c.args.key c.find.ensures.good top in
     subst (λ (xs : List Row). IfOk c.found_alone.result (λ v. v.items ≡ xs)) same c.found_alone.ensures
 
 pub with-requires-clause-nobody : goal.with-requires-clause-nobody

@@ -24,11 +24,11 @@ returns-in-Ok-item-clause-given c =
 pub returns-in-Ok-item-clause-videos : goal.returns-in-Ok-item-clause-videos
 returns-in-Ok-item-clause-videos c = λ ssrc.
     let start = blank c.args.settings.bridge_ssrc in
-    let begins : good start ≡ true = ap good (sym c.in-Ok.ensures.fresh.desk ∙ sym c.rows.ensures) ∙ c.known.ensures in
+    let begins : good start ≡ true = ap good (sym c.in-Ok.ensures.fresh.desk) ∙ c.in-Ok.ensures.begins in
     c.streams_are_routed_lists.ensures (record { ssrc = c.args.settings.bridge_ssrc; cname = c.args.settings.cname }) 3 start (Step.item 2 (input_of c.args.item.now) ∷ []) ssrc begins (tt, tt)
 
 pub returns-in-Ok-item-clause-mixes : goal.returns-in-Ok-item-clause-mixes
 returns-in-Ok-item-clause-mixes c = λ ssrc.
     let start = blank c.args.settings.bridge_ssrc in
-    let begins : good start ≡ true = ap good (sym c.in-Ok.ensures.fresh.desk ∙ sym c.rows.ensures) ∙ c.known.ensures in
+    let begins : good start ≡ true = ap good (sym c.in-Ok.ensures.fresh.desk) ∙ c.in-Ok.ensures.begins in
     c.mixes_are_mix_lists.ensures (record { ssrc = c.args.settings.bridge_ssrc; cname = c.args.settings.cname }) 3 start (Step.item 2 (input_of c.args.item.now) ∷ []) ssrc begins (tt, tt)

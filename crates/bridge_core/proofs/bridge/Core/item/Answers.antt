@@ -20,7 +20,7 @@ there g c =
 
 pub invariant_of-self : goal.invariant_of-self
 invariant_of-self g c =
-    still_sound c.self.inside.version c.self.inside.history.done c.self.inside.intake.asker c.self.inside.lanes.items _ c.args.lane c.index_mut.result.now c.step.new.self c.self.invariant (there g c) c.step.ensures.place.0 c.step.ensures.place.1 c.step.ensures.place.2 refl
+    still_sound c.self.inside.version c.self.inside.history.state c.self.inside.history.done c.self.inside.intake.asker c.self.inside.lanes.items _ c.args.lane c.index_mut.result.now c.step.new.self c.self.invariant (there g c) c.step.ensures.place.0 c.step.ensures.place.1 c.step.ensures.place.2 refl
 
 pub returns-clause-takes : goal.returns-clause-takes
 returns-clause-takes g c =

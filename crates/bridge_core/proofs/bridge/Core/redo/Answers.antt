@@ -1,10 +1,23 @@
-use Rattle.std.proofs.Common.{◌≡◌, ◌≢◌, ◌+◌, false, nat_eq, length, None, sym, subst, ◌∙◌}
+use Rattle.std.proofs.Common.{◌≡◌, ◌≢◌, ◌+◌, false, nat_eq, length, None, sym, ap, subst, ◌∙◌, arith}
+use Rattle.std.proofs.lemmas.List.{length_push}
+use Rattle.desk_rows.specs.Desk.{good}
 use Rattle.desk_edit.specs.declared.command.Call.TheVariants.{Redo}
 use Rattle.bridge_core.specs.Calls.{call_refused, RedoesEdit}
 use Rattle.desk_edit.specs.Calls.{call_limit}
 use Rattle.bridge_core.specs.Steps.{CoreOf}
-use Rattle.bridge_core.proofs.StepLaws.{redo_free, of_ok}
+use Rattle.bridge_core.proofs.StepLaws.{redo_free, of_ok, still_good, one_more_call}
 use Rattle.bridge_core.proofs.bridge.Core.redo.Goals as goal
+
+pub invariant_of-self-2 : goal.invariant_of-self-2
+invariant_of-self-2 g c =
+    let was = c.self.inside in
+    let does = of_ok _ c.redo.result c.if-is_err.ensures.value c.redo.ensures.ok in
+    record {
+      good = ap good does.3 ∙ still_good was.history.state does.0 c.self.invariant.good;
+      places = c.self.invariant.places;
+      fewer = omega (arith, ap length does.2 ∙ length_push was.history.done does.0, c.self.invariant.fewer);
+      limit = one_more_call was.version c.self.invariant.limit (sym c.log_is_full.ensures ∙ c.if-log_is_full.false);
+    }
 
 pub returns-clause-does : goal.returns-clause-does
 returns-clause-does g c =

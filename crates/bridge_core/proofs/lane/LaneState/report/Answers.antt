@@ -13,4 +13,4 @@ loop-member-preserved g c = λ before left.
 pub returns : goal.returns
 returns g c = λ before left.
     c.loop-member.invariant before left
-    ∙ ap (flat_map (member_reports c.args.self.now c.args.stamp c.args.rows.now c.args.moment before)) (take_all c.loop-member.member-index c.members-member-items.result.now c.loop-member-test.false ∙ c.members-member-items.ensures)
+    ∙ ap (flat_map (member_reports c.args.self.now c.args.stamp c.args.rows.now c.args.moment before)) (take_all c.loop-member.member-index c.members-member-items.result.now c.loop-member-test.false ∙ c.members-member-items.ensures.members)

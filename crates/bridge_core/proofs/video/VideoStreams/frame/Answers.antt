@@ -28,8 +28,8 @@ commit_all-requires-clause-apart g c =
     let share = λ (rs : List Receiver). filter (λ (r : Receiver). is_mine lane lanes r.slot.out_ssrc) rs in
     let same : receivers_of ready ≡ share (receivers desk f.source f.address) =
     c.in_ok-ready.ensures.receivers ∙ c.deref.ensures.value ∙ c.keep_mine.ensures
-    ∙ ap share (c.in_ok-receivers.ensures ∙ ap (λ (f : SourceFrame). receivers desk f.source f.address) c.frame.view_is) in
-    subst AreDistinct (sym same) (AreDistinct-filter _ (receivers desk f.source f.address) (c.receivers_are_distinct.ensures desk f.source f.address c.known.ensures))
+    ∙ ap share (c.in_ok-receivers.ensures.receivers ∙ ap (λ (f : SourceFrame). receivers desk f.source f.address) c.frame.view_is) in
+    subst AreDistinct (sym same) (AreDistinct-filter _ (receivers desk f.source f.address) (c.receivers_are_distinct.ensures desk f.source f.address c.receivers_of.ensures.good))
 
 pub returns-clause-sends : goal.returns-clause-sends
 returns-clause-sends g c who =
@@ -41,13 +41,13 @@ returns-clause-sends g c who =
     let share = λ (rs : List Receiver). filter (λ (r : Receiver). is_mine lane lanes r.slot.out_ssrc) rs in
     let same : receivers_of ready ≡ share (receivers desk f.source f.address) =
     c.in_ok-ready.ensures.receivers ∙ c.deref.ensures.value ∙ c.keep_mine.ensures
-    ∙ ap share (c.in_ok-receivers.ensures ∙ ap (λ (f : SourceFrame). receivers desk f.source f.address) c.frame.view_is) in
+    ∙ ap share (c.in_ok-receivers.ensures.receivers ∙ ap (λ (f : SourceFrame). receivers desk f.source f.address) c.frame.view_is) in
     let old = c.args.self.now in
     let new = c.commit_all.new.table.entries in
     let table = c.reserve.ensures.entries ∙ c.self.view_is in
     frame_answered who lane lanes old new c.args.stamp desk f ready (map sent_of c.commit_all.new.out.items)
-    (c.receivers_are_distinct.ensures desk f.source f.address c.known.ensures)
-    (λ k. c.all_who_chose_receive.ensures desk f.source f.address k c.known.ensures)
+    (c.receivers_are_distinct.ensures desk f.source f.address c.receivers_of.ensures.good)
+    (λ k. c.all_who_chose_receive.ensures desk f.source f.address k c.receivers_of.ensures.good)
     same
     (subst (λ (streams : StreamList). AreNext streams c.args.stamp f ready) c.self.view_is c.in_ok-ready.ensures.next)
     (λ k. c.commit_all.ensures.streams k ∙ ap (λ (streams : StreamList). kept_after k ready (stream_at k streams)) table)

@@ -8,12 +8,12 @@ returns g c =
     let x = c.args.self.now in
     let d = x.going.rows.now in
     let p : Row → Bool = goes_with d x.going.key in
-    let gains = one_kind_more d p x.good kinds.Gain _ _ (c.new-out.ensures.items ∙ first_kind d p) c.in_ok-append.ensures in
-    let rooms = one_kind_more d p x.good kinds.Room _ _ gains c.in_ok-append-2.ensures in
-    let members = members_more d p x.good _ rooms in
-    let sources = one_kind_more d p x.good kinds.Source _ _ members c.in_ok-append-3.ensures in
-    let slots = one_kind_more d p x.good kinds.Slot _ _ sources c.in_ok-append-4.ensures in
-    let subs = one_kind_more d p x.good kinds.Sub _ _ slots c.in_ok-append-5.ensures in
-    let mutes = one_kind_more d p x.good kinds.Mute _ _ subs c.in_ok-append-6.ensures in
-    let pins = one_kind_more d p x.good kinds.Pin _ _ mutes c.in_ok-append-7.ensures in
-    one_kind_more d p x.good kinds.Floor _ _ pins c.in_ok-append-8.ensures ∙ last_kind d p
+    let gains = one_kind_more d p x.going.good kinds.Gain _ _ (c.new-out.ensures.items ∙ first_kind d p) c.in_ok-append.ensures in
+    let rooms = one_kind_more d p x.going.good kinds.Room _ _ gains c.in_ok-append-2.ensures in
+    let members = members_more d p x.going.good _ rooms in
+    let sources = one_kind_more d p x.going.good kinds.Source _ _ members c.in_ok-append-3.ensures in
+    let slots = one_kind_more d p x.going.good kinds.Slot _ _ sources c.in_ok-append-4.ensures in
+    let subs = one_kind_more d p x.going.good kinds.Sub _ _ slots c.in_ok-append-5.ensures in
+    let mutes = one_kind_more d p x.going.good kinds.Mute _ _ subs c.in_ok-append-6.ensures in
+    let pins = one_kind_more d p x.going.good kinds.Pin _ _ mutes c.in_ok-append-7.ensures in
+    one_kind_more d p x.going.good kinds.Floor _ _ pins c.in_ok-append-8.ensures ∙ last_kind d p

@@ -7,4 +7,4 @@ pub returns : goal.returns
 returns g c =
     let x = c.args.self.now in
     c.any_source.ensures ∙ ap (list_any (has_key (keys.Source c.args.ssrc))) (c.deref.ensures.value ∙ x.sources_go)
-    ∙ stream_goes x.going.rows.now x.going.key x.good x.low (keys.Source c.args.ssrc) refl
+    ∙ stream_goes x.going.rows.now x.going.key x.going.good x.low (keys.Source c.args.ssrc) refl

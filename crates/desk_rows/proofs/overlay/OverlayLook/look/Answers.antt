@@ -20,4 +20,4 @@ pub returns-clause-found : goal.returns-clause-found
 returns-clause-found g c =
     let x = c.args.self.now.of in
     let absent = sym (puts_is x.edit.now c.args.key) ∙ ap is_some (sym c.coming.ensures ∙ c.in_default.is) in
-    c.find.ensures ∙ sym (found_still x.rows.now x.edit.now x.good (apt_parts x.rows.now x.edit.now x.apt) c.args.self.now.keyed c.args.key absent (sym c.takes.ensures ∙ c.if-takes.false))
+    c.find.ensures.row ∙ sym (found_still x.rows.now x.edit.now x.good (apt_parts x.rows.now x.edit.now x.apt) c.args.self.now.keyed c.args.key absent (sym c.takes.ensures ∙ c.if-takes.false))

@@ -18,3 +18,6 @@ pub invariant_of-result : goal.invariant_of-result
 invariant_of-result g c =
     rw (c.in_ok-with_capacity.ensures.items, c.in_ok-with_capacity-2.ensures.items, c.in_ok-with_capacity-3.ensures.items, c.in_ok-with_capacity-5.ensures.items, c.in_ok-with_capacity-6.ensures.items, c.in_ok-with_capacity-7.ensures.items, c.in_ok-with_capacity-8.ensures.items)
     (good_blank c.args.bridge_ssrc, empty_index, c.in_ok-with_capacity.ensures.capacity, c.in_ok-with_capacity-2.ensures.capacity, c.in_ok-with_capacity-3.ensures.capacity, c.in_ok-with_capacity-4.ensures.capacity, empty_table sub_in (λ s. s.source) (λ s. s.out_ssrc), c.in_ok-with_capacity-5.ensures.capacity, empty_table slot_in (λ s. s.member) (λ s. s.index), c.in_ok-with_capacity-6.ensures.capacity, empty_by_address, c.in_ok-with_capacity-7.ensures.capacity, empty_by_room, c.in_ok-with_capacity-8.ensures.capacity)
+
+pub returns-clause-good : goal.returns-clause-good
+returns-clause-good g c = rw (c.in_ok-with_capacity.ensures.items, c.in_ok-with_capacity-3.ensures.items) (good_blank c.args.bridge_ssrc)

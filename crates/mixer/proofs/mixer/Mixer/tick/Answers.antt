@@ -15,10 +15,10 @@ pub ready_all-requires : goal.ready_all-requires
 ready_all-requires g c = record {
   few = λ room.
       let d = c.args.rows.now in
-      let sources = c.in_ok-voices.ensures.sources ∙ c.deref.ensures.value ∙ c.in_ok-sources.ensures in
+      let sources = c.in_ok-voices.ensures.sources ∙ c.deref.ensures.value ∙ c.in_ok-sources.ensures.sources in
       subst (λ n. n ≤ 64)
       (sym (ap (λ vs. length (of_room room vs)) c.deref-2.ensures.value ∙ as_many_voices room c.in_ok-voices.voices.items ∙ ap (λ ss. length (filter (in_room room) ss)) sources))
-      (c.rooms_are_small.ensures d room c.known.ensures);
+      (c.rooms_are_small.ensures d room c.audio_sources.ensures.good);
 }
 
 pub returns-clause-ticks : goal.returns-clause-ticks
@@ -30,7 +30,7 @@ returns-clause-ticks g c before w0 =
     let w : WasGiven lane lanes old before = subst (λ (m : MixerOf). WasGiven lane lanes m before) (sym c.self.view_is) w0 in
     let voices = c.deref-2.result.now in
     let voices_are : voices ≡ voices_of before d =
-    c.deref-2.ensures.value ∙ c.in_ok-voices.ensures.heard before w.playouts ∙ ap (map (voice_of before)) (c.deref.ensures.value ∙ c.in_ok-sources.ensures) in
+    c.deref-2.ensures.value ∙ c.in_ok-voices.ensures.heard before w.playouts ∙ ap (map (voice_of before)) (c.deref.ensures.value ∙ c.in_ok-sources.ensures.sources) in
     let streams = c.self.inside.streams.entries in
     let passed = c.pass_all.new.streams.entries in
     let ready = c.in_ok-ready.ready.items in
@@ -38,7 +38,7 @@ returns-clause-ticks g c before w0 =
       voices_are = voices_are;
       stand = w.streams;
       pass = λ ssrc. subst (λ (es : List (ℕ × MixOf)). Passes c.args.moment (mix_at ssrc es) (mix_at ssrc passed)) c.in_ok-reserve.ensures.entries (c.pass_all.ensures.streams ssrc);
-      apart = λ pre m post split. c.mixes_are_apart.ensures d pre m post c.known.ensures split;
+      apart = λ pre m post split. c.mixes_are_apart.ensures d pre m post c.audio_sources.ensures.good split;
     } in (
       c.commit_all.ensures.out ∙ ap (λ xs. xs ++ map sent_of ready) c.in_ok-out.ensures.items
           ∙ tick_sends lane lanes before d c.args.moment voices streams passed here ready c.in_ok-ready.ensures.members c.in_ok-ready.ensures.ready,
