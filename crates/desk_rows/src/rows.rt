@@ -140,6 +140,7 @@ impl<A: Allocator + Copy> Rows<A> {
     pub(crate) fn others(&self) -> &[Row]
         ensures rows { result.now ≡ self.now.others }
         ensures order { in_order result.now ≡ true }
+        ensures good { good self.now ≡ true }
     {
         &self.others
     }
@@ -182,7 +183,7 @@ impl<A: Allocator + Copy> Rows<A> {
         ensures { result ≡ count_of kind self.now }
     {
         match kind {
-            Kind::Member => self.members.len(),
+            Kind::Member => self.members().len(),
             _ => self.others_of(kind).len(),
         }
     }

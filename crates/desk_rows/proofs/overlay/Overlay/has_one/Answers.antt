@@ -8,13 +8,8 @@ pub returns : goal.returns
 returns g c =
     let x = c.args.self.now.of in
     let p = passes (Makes c.args.claim) in
-<<<<<<< HEAD
-    let members = c.count_members.ensures ∙ ap (count_by (λ (m : MemberRow). p (Member m))) c.members.ensures in
-    let others = c.count_rows.ensures ∙ ap (count_by p) c.others.ensures.rows in
-=======
     let members = c.count_members.ensures ∙ ap (count_by (λ (m : MemberRow). p (Member m))) c.members.ensures.members in
-    let others = c.count_rows.ensures ∙ ap (count_by p) c.others.ensures in
->>>>>>> from_c
+    let others = c.count_rows.ensures ∙ ap (count_by p) c.others.ensures.rows in
     (λ i. nat_eq ((members i + others i) + c.count_coming.ensures.count i) (1 + c.count_going.ensures.count i))
     ∙ ap (λ n. nat_eq (n + come_count p x.edit.now) (1 + go_count p x.edit.now)) (sym (rows_count p x.rows.now))
     ∙ one_is p x.rows.now x.edit.now x.good x.apt
