@@ -8,8 +8,8 @@ use Rattle.bridge_core.specs.Steps.{CoreOf}
 use Rattle.bridge_core.proofs.StepLaws.{redo_free, of_ok, still_good, one_more_call}
 use Rattle.bridge_core.proofs.bridge.Core.redo.Goals as goal
 
-pub invariant_of-self-2 : goal.invariant_of-self-2
-invariant_of-self-2 g c =
+pub invariant_of-self : goal.invariant_of-self
+invariant_of-self g c =
     let was = c.self.inside in
     let does = of_ok _ c.redo.result c.if-is_err.ensures.value c.redo.ensures.ok in
     record {
