@@ -26,5 +26,5 @@ returns c =
       c.member.ensures,
       c.in_ok-carry_out-2.ensures,
       c.in_ok-carry_out.ensures,
-      c.in-Ok.ensures,
+      c.in-Ok.ensures.desk,
     ) refl
