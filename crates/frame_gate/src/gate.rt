@@ -40,6 +40,7 @@ impl<A: Allocator + Copy> Model for Gate<A> {
 }
 
 /// Takes a packet whose number is neither decided nor held.
+#[inline(always)]
 fn take<A: Allocator + Copy>(
     alloc: A,
     cells: &[Option<Held<A>>],
@@ -141,6 +142,7 @@ impl<A: Allocator + Copy> Gate<A> {
     }
 
     /// What the gate answers to a packet in its place, and would remember.
+    #[inline(always)]
     fn judge(&self, alloc: A, packet: Held<A>) -> Result<Prepared<A>, AllocError>
         ensures ok { IfOk result (λ r. Prepares self.now packet r) }
         ensures few { IfOk result (λ r. length r.answer.nacks ≤ most_missing) }
@@ -157,6 +159,7 @@ impl<A: Allocator + Copy> Gate<A> {
 
     /// What the gate answers to the packet, and would remember. It asks for at most 255 numbers, since the
     /// packet lies less than 256 above what is undecided afterwards.
+    #[inline(always)]
     pub fn prepare(&self, alloc: A, ext: i64, packet: Packet<A>) -> Result<Prepared<A>, AllocError>
         requires ext { IsExt ext }
         requires pt { packet.pt ≤ highest_pt }
@@ -167,6 +170,7 @@ impl<A: Allocator + Copy> Gate<A> {
     }
 
     /// Keeps a packet, and lets go of what is decided.
+    #[inline(always)]
     fn keep(&mut self, packet: Held<A>, walk: Walk)
         requires ordered { walk.next ≤ walk.after }
         requires number { packet.number < 2 ^ 63 }
@@ -180,6 +184,7 @@ impl<A: Allocator + Copy> Gate<A> {
     }
 
     /// Gives the answer that was prepared for the gate as it is.
+    #[inline(always)]
     pub fn commit(&mut self, prepared: Prepared<A>) -> Admitted<A>
         ensures gate { Commits self.old prepared self.new }
         ensures answer { result ≡ prepared.answer }

@@ -67,6 +67,7 @@ pub(crate) fn admit<A: Allocator + Copy>(
 }
 
 /// Commits what is ready.
+#[inline(always)]
 pub(crate) fn settle<A: Allocator + Copy>(
     gate: &mut Option<Gate<A>>,
     admission: Admission<A>,

@@ -80,6 +80,7 @@ fn next_with<A: Allocator + Copy>(
 
 impl<A: Allocator + Copy> Intake<A> {
     /// A packet, judged by its source.
+    #[inline(always)]
     pub(crate) fn judged(&self, key: &Key, mark: Mark) -> Judged
         ensures judges { Judges (source_in (kept_at key.now self.now.entries)) mark result }
         ensures epoch { result.epoch ≡ epoch_in (kept_at key.now self.now.entries) }
@@ -107,6 +108,7 @@ impl<A: Allocator + Copy> Intake<A> {
     }
 
     /// Keeps a source as what it is to become.
+    #[inline(always)]
     fn keep(&mut self, key: Key, next: Next<A>) -> Result<Option<Admitted<A>>, AllocError>
         requires room { (next.begins && nat_eq self.old.epochs most_epochs) ≡ false }
         requires ready { IfSome next.admission (λ a. is_some (base_of (gate_for (kept_at key self.old.entries) next.begins) a) ≡ true) }
@@ -122,6 +124,7 @@ impl<A: Allocator + Copy> Intake<A> {
     }
 
     /// Keeps a source with a judged packet.
+    #[inline(always)]
     pub(crate) fn advance(
         &mut self,
         key: Key,

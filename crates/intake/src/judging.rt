@@ -92,6 +92,7 @@ fn arrived(source: Source, verdict: Verdict, mark: Mark) -> Source
 }
 
 /// Judges a packet of a source that is known.
+#[inline(always)]
 fn judge_known(source: Source, epoch: u64, mark: Mark) -> Judged
     ensures judges { Judges (Some source) mark result }
     ensures epoch { result.epoch ≡ epoch }
@@ -108,6 +109,7 @@ fn judge_known(source: Source, epoch: u64, mark: Mark) -> Judged
 }
 
 /// Judges a packet of a source in this epoch. A source that isn't known is on probation with it.
+#[inline(always)]
 pub(crate) fn judge(source: Option<Source>, epoch: u64, mark: Mark) -> Judged
     ensures judges { Judges source mark result }
     ensures epoch { result.epoch ≡ epoch }

@@ -50,6 +50,7 @@ impl<A: Allocator + Copy> Model for Next<A> {
 }
 
 /// Commits what is ready, if anything is.
+#[inline(always)]
 fn settle_all<A: Allocator + Copy>(
     gate: &mut Option<Gate<A>>,
     admission: Option<Admission<A>>,
@@ -66,6 +67,7 @@ fn settle_all<A: Allocator + Copy>(
 
 impl<A: Allocator + Copy> Kept<A> {
     /// Becomes what was made ready, without memory, and gives the gate's answer.
+    #[inline(always)]
     pub(crate) fn become_next(&mut self, next: Next<A>) -> Option<Admitted<A>>
         requires ready { IfSome next.admission (λ a. is_some (base_of (gate_for (Some self.old) next.begins) a) ≡ true) }
         ensures becomes { Becomes (Some self.old) next self.new }

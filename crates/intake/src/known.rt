@@ -100,6 +100,7 @@ impl<A: Allocator + Copy> Known<A> {
     }
 
     /// Keeps a source as what it is to become, before the others. Only one that isn't known takes memory.
+    #[inline(always)]
     pub(crate) fn keep(
         &mut self,
         key: Key,
