@@ -105,7 +105,7 @@ impl<A: Allocator + Copy> Rows<A> {
     }
 
     /// The same rows again, in room of their own.
-    pub fn try_clone(&self, alloc: A) -> Result<Self, AllocError>
+    pub fn copy(&self, alloc: A) -> Result<Self, AllocError>
         ensures { IfOk result (λ rows. rows ≡ self.now) }
     {
         Ok(Self {

@@ -60,15 +60,15 @@ fn a_desk_has_its_room_from_the_start(rt: HostRuntime) -> Result<(), Fail> {
     Ok(())
 }
 
-/// The members of a clone over this heap, if it comes, and those of its original then.
-fn clone_over<'a>(
+/// The members of a copy over this heap, if it comes, and those of its original then.
+fn copy_over<'a>(
     ample: &'a LocalHeap,
     heap: &'a LocalHeap,
 ) -> Result<(Option<usize>, usize), Fail> {
     let _held = Box::new(heap, 0u8)?;
     let mut rows = Rows::new(ample, 1)?;
     rows.absorb(&joining(ample)?);
-    let copy = match rows.try_clone(heap) {
+    let copy = match rows.copy(heap) {
         Ok(copy) if copy.members() == rows.members() => Some(copy.members().len()),
         Ok(_) => Some(0),
         Err(_) => None,
@@ -76,14 +76,14 @@ fn clone_over<'a>(
     Ok((copy, rows.members().len()))
 }
 
-/// Heaps that grow by 4,096 octets refuse each allocation of the clone in turn, until one is ample.
+/// Heaps that grow by 4,096 octets refuse each allocation of the copy in turn, until one is ample.
 #[test]
-fn a_clone_is_refused_or_whole(rt: HostRuntime) -> Result<(), Fail> {
+fn a_copy_is_refused_or_whole(rt: HostRuntime) -> Result<(), Fail> {
     let ample = LocalHeap::new(rt.alloc(), 1 << 23)?;
     let mut refused = 0usize;
     for size in 1..2048usize {
         let heap = LocalHeap::new(rt.alloc(), 4096 * size)?;
-        let (copy, kept) = clone_over(&ample, &heap)?;
+        let (copy, kept) = copy_over(&ample, &heap)?;
         assert!(rt; kept == 3 && (copy == None || copy == Some(3)));
         if copy == Some(3) {
             break;

@@ -61,7 +61,7 @@ pub enum Item<A: Allocator + Copy = Global> {
 
 impl<A: Allocator + Copy> Item<A> {
     /// The same item once more, as each lane takes one of its own. A frame's payloads are shared; samples and numbers are copied.
-    pub fn try_clone(&self, alloc: A) -> Result<Self, AllocError>
+    pub fn copy(&self, alloc: A) -> Result<Self, AllocError>
         ensures { IfOk result (λ item. input_of item ≡ input_of self.now) }
     {
         match self {

@@ -18,11 +18,11 @@ pub fn new(alloc: Global) -> Result<Rows, AllocError>
     Rows::new(alloc, 77)
 }
 
-pub fn try_clone(alloc: Global, rows: &Rows) -> Result<Rows, AllocError>
+pub fn copy(alloc: Global, rows: &Rows) -> Result<Rows, AllocError>
     requires { rows.now ≡ two_rooms }
     ensures { IfOk result (λ copy. copy ≡ two_rooms) }
 {
-    rows.try_clone(alloc)
+    rows.copy(alloc)
 }
 
 pub fn bridge_ssrc(rows: &Rows) -> u32
