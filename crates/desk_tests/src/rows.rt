@@ -61,7 +61,7 @@ fn a_desk_has_its_room_from_the_start(rt: HostRuntime) -> Result<(), Fail> {
 }
 
 /// The members of a copy over this heap, if it comes, and those of its original then.
-fn copy_over<'a>(
+fn rows_over<'a>(
     ample: &'a LocalHeap,
     heap: &'a LocalHeap,
 ) -> Result<(Option<usize>, usize), Fail> {
@@ -83,7 +83,7 @@ fn a_copy_is_refused_or_whole(rt: HostRuntime) -> Result<(), Fail> {
     let mut refused = 0usize;
     for size in 1..2048usize {
         let heap = LocalHeap::new(rt.alloc(), 4096 * size)?;
-        let (copy, kept) = copy_over(&ample, &heap)?;
+        let (copy, kept) = rows_over(&ample, &heap)?;
         assert!(rt; kept == 3 && (copy == None || copy == Some(3)));
         if copy == Some(3) {
             break;
