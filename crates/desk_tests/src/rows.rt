@@ -121,7 +121,7 @@ fn a_roster_is_refused_or_whole(rt: HostRuntime) -> Result<(), Fail> {
 fn copy_over<'a>(ample: &'a LocalHeap, heap: &'a LocalHeap) -> Result<bool, Fail> {
     let _held = Box::new(heap, 0u8)?;
     let edit = joining(ample)?;
-    Ok(Rows::copy(heap, &edit).is_ok())
+    Ok(<Rows<_> as Reversible>::copy(heap, &edit).is_ok())
 }
 
 /// Heaps that grow by 16 octets refuse each allocation of the copy in turn, until one is ample.
@@ -165,6 +165,6 @@ fn the_largest_edit_is_copied(rt: HostRuntime) -> Result<(), Fail> {
         put: Part::none(alloc),
         replaced: Replaced::new(old, new),
     };
-    assert!(rt; Rows::copy(alloc, &edit).is_ok());
+    assert!(rt; <Rows as Reversible>::copy(alloc, &edit).is_ok());
     Ok(())
 }

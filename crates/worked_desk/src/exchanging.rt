@@ -45,7 +45,7 @@ pub fn copy(alloc: Global, edit: &Edit) -> Result<Edit, AllocError>
     requires { edit.now ≡ six_lists }
     ensures { IfOk result (λ copied. copied ≡ six_lists) }
 {
-    Rows::copy(alloc, edit)
+    <Rows as Reversible>::copy(alloc, edit)
 }
 
 /// An edit is put together of its parts.
