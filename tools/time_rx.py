@@ -108,7 +108,8 @@ def timed(binary, case, is_known):
             before, spent = spent, waits(run)
             least = min(least, (spent - before) / (step * sources))
         run.stdin.close()
-        run.wait()
+        if run.wait():
+            sys.exit(f"status {run.returncode}")
     return least
 
 
