@@ -17,6 +17,7 @@ ghost use Rattle.desk_rows.specs.inner.Addressed.{IsByAddress};
 ghost use Rattle.desk_rows.specs.inner.Roomed.{IsByRoom};
 ghost use Rattle.desk_rows.specs.inner.Judged.{HasOrders, OnlyReplaces, takes, puts, coming, is_free, comes_once, keys_are_new};
 
+use crate::borrowed::EditLists;
 use crate::edit::{Edit, Placed};
 use crate::index::{Entry, move_members};
 use crate::ordering::{are_apart, contains_all, have_same_keys};
@@ -211,7 +212,7 @@ pub(crate) fn exchange_members<A: Allocator + Copy>(
     index: &mut Vec<Entry, A>,
     by_address: &mut Vec<Member, A>,
     by_room: &mut Vec<Member, A>,
-    edit: &Edit<A>,
+    edit: &EditLists<'_>,
 )
     requires index { IsIndex members.old.items index.old.items }
     requires addresses { IsByAddress members.old.items by_address.old.items }
@@ -235,7 +236,7 @@ pub(crate) fn exchange_members<A: Allocator + Copy>(
 
 /// The one row that is replaced, and the one in its stead, where the edit does nothing else to rows
 /// beside the members.
-fn only_replaced<A: Allocator + Copy>(edit: &Edit<A>) -> Option<(Row, Row)>
+fn only_replaced(edit: &EditLists<'_>) -> Option<(Row, Row)>
     ensures { IfSome result (λ pair. OnlyReplaces edit.now pair.0 pair.1) }
 {
     let (old, new) = (edit.old(), edit.new());
@@ -249,7 +250,11 @@ fn only_replaced<A: Allocator + Copy>(edit: &Edit<A>) -> Option<(Row, Row)>
 /// Takes the other rows that go, and puts those that come, each where it keeps the order. There is
 /// room for them.
 #[tactic(auto, using(crate::proofs::Merging::put_in_turn, crate::proofs::SlidingLemmas::rest_in_order, crate::proofs::Counts::length_of_both))]
-fn move_rows<A: Allocator + Copy>(others: &mut Vec<Row, A>, spare: &mut Vec<Row, A>, edit: &Edit<A>)
+fn move_rows<A: Allocator + Copy>(
+    others: &mut Vec<Row, A>,
+    spare: &mut Vec<Row, A>,
+    edit: &EditLists<'_>,
+)
     requires rows { in_order others.old.items ≡ true }
     requires fit { length others.old.items ≤ MAX_OTHERS }
     requires orders { HasOrders edit.now }
@@ -270,7 +275,7 @@ fn move_rows<A: Allocator + Copy>(others: &mut Vec<Row, A>, spare: &mut Vec<Row,
 pub(crate) fn exchange_rows<A: Allocator + Copy>(
     others: &mut Vec<Row, A>,
     spare: &mut Vec<Row, A>,
-    edit: &Edit<A>,
+    edit: &EditLists<'_>,
 )
     requires rows { in_order others.old.items ≡ true }
     requires fit { length others.old.items ≤ MAX_OTHERS }

@@ -11,7 +11,7 @@ ghost use Rattle.desk_rows.specs.inner.Grouped.{stand_by, in_turn, passes_in, Is
 ghost use Rattle.desk_rows.specs.inner.Judged.{HasOrders};
 ghost use Rattle.desk_rows.specs.inner.Roomed.{IsByRoom};
 
-use crate::edit::Edit;
+use crate::borrowed::EditLists;
 use crate::ordering::rows_of_kind;
 use crate::row::{Kind, Member, Row, Slot, Sub};
 use std::alloc::Allocator;
@@ -228,7 +228,7 @@ fn has_none(rows: &[Row], kind: Kind) -> bool
 }
 
 /// Whether the edit leaves all rows of the kind.
-fn leaves<A: Allocator + Copy>(edit: &Edit<A>, kind: Kind) -> bool
+fn leaves(edit: &EditLists<'_>, kind: Kind) -> bool
     requires { HasOrders edit.now }
     ensures { result ≡ nat_eq (length (filter (is_of kind) edit.now.taken.others) + length (filter (is_of kind) edit.now.replaced.old) + (length (filter (is_of kind) edit.now.put.others) + length (filter (is_of kind) edit.now.replaced.new))) 0 }
 {
@@ -349,7 +349,10 @@ fn rows_in<T: Grouped>(rows: &[Row]) -> &[Row]
 
 /// Exchanges few rows of a kind one by one. It says whether it did; where it didn't, the table is to be
 /// made anew.
-fn exchange_few<T: Grouped, A: Allocator + Copy>(table: &mut Vec<T, A>, edit: &Edit<A>) -> bool
+fn exchange_few<T: Grouped, A: Allocator + Copy>(
+    table: &mut Vec<T, A>,
+    edit: &EditLists<'_>,
+) -> bool
     requires order { stand_by (in_turn T.group T.turn) table.old.items ≡ true }
     requires orders { HasOrders edit.now }
     requires room { count_by (λ x. true) table.old.items + (count_by (passes_in T.in_row (λ x. true)) edit.now.put.others + count_by (passes_in T.in_row (λ x. true)) edit.now.replaced.new) ≤ vec_capacity table.old + (count_by (passes_in T.in_row (λ x. true)) edit.now.taken.others + count_by (passes_in T.in_row (λ x. true)) edit.now.replaced.old) }
@@ -371,7 +374,7 @@ fn exchange_few<T: Grouped, A: Allocator + Copy>(table: &mut Vec<T, A>, edit: &E
 pub(crate) fn follow<T: Grouped, A: Allocator + Copy>(
     table: &mut Vec<T, A>,
     others: &[Row],
-    edit: &Edit<A>,
+    edit: &EditLists<'_>,
 )
     requires order { stand_by (in_turn T.group T.turn) table.old.items ≡ true }
     requires rows { in_order others.now ≡ true }

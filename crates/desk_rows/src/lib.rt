@@ -2,6 +2,7 @@
 #![tactic(auto)]
 
 mod addressing;
+mod borrowed;
 mod changes;
 mod claim;
 mod counting;

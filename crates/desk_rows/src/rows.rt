@@ -16,6 +16,7 @@ ghost use Rattle.desk_rows.specs.Exchange.{fits, after};
 ghost use Rattle.desk_rows.specs.laws.Laws.{inverse_fits, undoes, stays};
 
 use crate::addressing::find_at;
+use crate::borrowed::EditLists;
 use crate::edit::Edit;
 use crate::exchange::{exchange_members, exchange_rows, fits};
 use crate::grouping::{follow, group_of};
@@ -245,6 +246,23 @@ impl<A: Allocator + Copy> Rows<A> {
     {
         numbers_in(alloc, &self.members, room)
     }
+
+    /// Takes the rows that go and puts those that come. It takes no memory.
+    fn exchange(&mut self, edit: &EditLists<'_>)
+        requires { fits self.old edit.now ≡ true }
+        ensures { self.new ≡ after self.old edit.now }
+    {
+        exchange_members(
+            &mut self.members,
+            &mut self.index,
+            &mut self.by_address,
+            &mut self.by_room,
+            edit,
+        );
+        exchange_rows(&mut self.others, &mut self.spare, edit);
+        follow(&mut self.subs, &self.others, edit);
+        follow(&mut self.slots, &self.others, edit);
+    }
 }
 
 /// The same items, in room for so many.
@@ -354,7 +372,7 @@ impl<A: Allocator + Copy> Reversible for Rows<A> {
 
     ghost inverse = { inverse };
 
-    fn fits(&self, edit: &Edit<A>) -> bool {
+    fn fits(&mut self, edit: &Edit<A>) -> bool {
         fits(self, edit)
     }
 
@@ -365,16 +383,11 @@ impl<A: Allocator + Copy> Reversible for Rows<A> {
     }
 
     fn absorb_fitting(&mut self, edit: &Edit<A>) {
-        exchange_members(
-            &mut self.members,
-            &mut self.index,
-            &mut self.by_address,
-            &mut self.by_room,
-            edit,
-        );
-        exchange_rows(&mut self.others, &mut self.spare, edit);
-        follow(&mut self.subs, &self.others, edit);
-        follow(&mut self.slots, &self.others, edit);
+        self.exchange(&EditLists::of(edit));
+    }
+
+    fn absorb_back(&mut self, edit: &Edit<A>) {
+        self.exchange(&EditLists::back(edit));
     }
 
     fn invert(edit: Edit<A>) -> Edit<A> {

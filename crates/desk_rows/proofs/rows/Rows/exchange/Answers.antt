@@ -4,7 +4,7 @@ use Rattle.desk_rows.specs.declared.row.Kind.TheVariants as kinds
 use Rattle.desk_rows.specs.laws.Laws.{good_order}
 use Rattle.desk_rows.proofs.ExchangeLemmas.{few_rows}
 use Rattle.desk_rows.proofs.OverlayLemmas.{Absorbs, absorbs}
-use Rattle.desk_rows.proofs.rows.RowsReversible.absorb_fitting.Goals as goal
+use Rattle.desk_rows.proofs.rows.Rows.exchange.Goals as goal
 
 -- the same of a desk that is the one given
 at : (d given : Desk) (e : EditOf) → d ≡ given → fits given e ≡ true → Absorbs d e
