@@ -4,7 +4,7 @@ use Rattle.desk_edit.proofs.Words.{ℕ, nat_le, nat_eq, Bool, true, false, not, 
 use Rattle.desk_rows.specs.declared.row.Row.TheVariants as rows
 use Rattle.desk_rows.specs.declared.row.Key.TheVariants as keys
 use Rattle.desk_rows.specs.declared.row.Kind.TheVariants as kinds
-use Rattle.desk_edit.specs.declared.refusal.Refusal.TheVariants as refusals
+use Rattle.desk_edit.specs.declared.refusal.Reason.TheVariants as reasons
 use Rattle.desk_rows.specs.Exchange.{exchanged}
 use Rattle.desk_rows.specs.inner.Judged.{is_sound as is_sound_row, stays_sound}
 use Rattle.desk_edit.proofs.Lists.{at_most, most, one_yes, one_no, all_both, any_none, count_alike, count_wider, fewer_pass, filter_found, count_other}
@@ -96,7 +96,7 @@ module _ (d : Desk) (e : EditOf) (r : Row) (g : good d ≡ true) (p : Puts d e r
     ]
   ]
 
-  all_within : (ls : List (Kind × ℕ)) → NoneHolds (map (λ l. (is_full d r l, refusals.Full (table_of l.0) l.1)) ls) → list_all (λ l. nat_le (count_of l.0 d) l.1) ls ≡ true → list_all (λ l. nat_le (count_of l.0 d') l.1) ls ≡ true
+  all_within : (ls : List (Kind × ℕ)) → NoneHolds (map (λ l. (is_full d r l, reasons.Full (table_of l.0) l.1)) ls) → list_all (λ l. nat_le (count_of l.0 d) l.1) ls ≡ true → list_all (λ l. nat_le (count_of l.0 d') l.1) ls ≡ true
   all_within [] free few = refl
   all_within (l ∷ ls) free few =
       let both = and_parts (nat_le (count_of l.0 d) l.1) (list_all (λ l. nat_le (count_of l.0 d) l.1) ls) few in

@@ -49,7 +49,7 @@ pub use Rattle.desk_edit.specs.Forms.{form_of}
 pub use Rattle.desk_edit.specs.Depends.{Names, Depends, IsDependent, goes_within, goes_with, without}
 pub use Rattle.desk_edit.specs.Commands.{with_put, into_room, with_member_in, with_moved, desk_led}
 pub use Rattle.desk_edit.specs.Refusals.{has, is_claimed, first_case, missing, lacking, is_replaced, is_other_claimed, is_ssrc_taken, rule_cases, table_of, is_full, full_cases, room_is_full, audio_cases, put_cases, is_audio_of, move_cases, cases_of}
-pub use Rattle.desk_edit.specs.declared.refusal.Refusal.{Refusal}
+pub use Rattle.desk_edit.specs.declared.refusal.Reason.{Reason}
 pub use Rattle.desk_edit.specs.inner.Levels.{level, is_above, can_go, found_list, is_sound}
 pub use Rattle.desk_edit.specs.inner.Edits.{placed_from, placed_in, puts_other, puts_member, replaces, puts_in_place, takes_all, moves_member, edit_for}
 pub use Rattle.desk_edit.specs.inner.Moving.{row_into_room, picks, picked_with}

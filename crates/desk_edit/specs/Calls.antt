@@ -1,29 +1,31 @@
 -- The history of calls: which commands are done, which are undone, and how each call is answered.
-use Rattle.std.specs.Prelude.{ℕ, ◌+◌, not, nat_eq, List, [], ◌∷◌, ◌++◌, length, fold, Option, Some, None, if◌then◌else◌}
+use Rattle.std.specs.Prelude.{ℕ, ◌+◌, not, nat_eq, List, [], ◌∷◌, ◌++◌, length, fold, take, Option, Some, None, option_map, if◌then◌else◌}
 use Rattle.desk_rows.specs.Desk.{Desk}
 use Rattle.desk_edit.specs.declared.command.Command.{Command}
-use Rattle.desk_edit.specs.declared.command.Call.{Call}
-use Rattle.desk_edit.specs.declared.command.Call.TheVariants.{Apply, Undo, Redo}
+use Rattle.desk_edit.specs.Asked.{CallOf}
+use Rattle.desk_edit.specs.Asked.CallOf.{Apply, Group, Undo, Redo}
 use Rattle.desk_edit.specs.declared.refusal.Refusal.{Refusal}
 use Rattle.desk_edit.specs.declared.refusal.Refusal.TheVariants.{NewerCommand, NothingToUndo, NothingToRedo, LogFull}
-use Rattle.desk_edit.specs.Commands.{desk_after}
+use Rattle.std.specs.Option.{option_or}
+use Rattle.desk_edit.specs.Groups.{desk_after_all, size_refused, part_refused}
+use Rattle.desk_edit.specs.Reasons.{refusal_of_group}
 use Rattle.desk_edit.specs.Refusals.{refused}
 
--- what the accepted calls have come to: two lists of commands over the desk of the start, and how many calls were accepted
+-- what the accepted calls have come to: two lists of groups of commands, of which one alone is a group too, over the desk of the start, and how many calls were accepted
 pub record CallHistory : Type 0 where
   pub start : Desk
-  pub done : List Command
+  pub done : List (List Command)
   -- the last one was undone last
-  pub undone : List Command
+  pub undone : List (List Command)
   pub accepted : ℕ
 
 -- before any call
 abbrev pub no_calls : Desk → CallHistory
 no_calls start = record { start = start; done = []; undone = []; accepted = 0 }
 
--- the desk now: the commands that are done, one after another
+-- the desk now: the groups that are done, one after another
 abbrev pub desk_now : CallHistory → Desk
-desk_now h = fold desk_after h.start h.done
+desk_now h = fold desk_after_all h.start h.done
 
 -- so many calls can be accepted: 2 ^ 20 (own)
 abbrev pub call_limit : ℕ
@@ -34,9 +36,12 @@ abbrev pub or_log_full : Option Refusal → ℕ → Option Refusal
 or_log_full (Some why) version = Some why
 or_log_full None version = if nat_eq version call_limit then Some LogFull else None
 
--- the first reason against a call, want of memory apart, where so many calls were accepted, so many commands are done and so many undone: of a command its own; an undo or a redo has to name the last accepted call, and there has to be something to undo or to do again
-abbrev pub refusal_at : ℕ → Desk → ℕ → ℕ → Call → Option Refusal
+-- the first reason against a call, want of memory apart, where so many calls were accepted, so many commands are done and so many undone: of a command its own; of a group that it has too few or too many commands, then that the log is full, then what stands against its first command that is refused; an undo or a redo has to name the last accepted call, and there has to be something to undo or to do again
+abbrev pub refusal_at : ℕ → Desk → ℕ → ℕ → CallOf → Option Refusal
 refusal_at version d done undone (Apply command) = or_log_full (refused d command) version
+refusal_at version d done undone (Group commands) =
+    option_or (option_map refusal_of_group (size_refused (length commands)))
+    (if nat_eq version call_limit then Some LogFull else option_map refusal_of_group (part_refused 0 d commands))
 refusal_at version d done undone (Undo last) =
     if not (nat_eq last version) then Some (NewerCommand version)
     else (if nat_eq done 0 then Some NothingToUndo
@@ -47,8 +52,18 @@ refusal_at version d done undone (Redo last) =
     else (if nat_eq version call_limit then Some LogFull else None))
 
 -- the first reason against a call after these
-abbrev pub refusal_of : CallHistory → Call → Option Refusal
+abbrev pub refusal_of : CallHistory → CallOf → Option Refusal
 refusal_of h call = refusal_at h.accepted (desk_now h) (length h.done) (length h.undone) call
+
+-- what stands against a call as far as it is judged when memory may first be wanted: a group by its size, the log and its first command, any other call as a whole
+abbrev pub early_refusal_at : ℕ → Desk → ℕ → ℕ → CallOf → Option Refusal
+early_refusal_at version d done undone (Group commands) =
+    option_or (option_map refusal_of_group (size_refused (length commands)))
+    (if nat_eq version call_limit then Some LogFull else option_map refusal_of_group (part_refused 0 d (take 1 commands)))
+early_refusal_at version d done undone call = refusal_at version d done undone call
+
+abbrev pub early_refusal_of : CallHistory → CallOf → Option Refusal
+early_refusal_of h call = early_refusal_at h.accepted (desk_now h) (length h.done) (length h.undone) call
 
 -- a list without its last element
 abbrev pub front : {X : Type 0} → List X → List X
@@ -63,7 +78,8 @@ final (x ∷ []) = x ∷ []
 final (x ∷ y ∷ ys) = final (y ∷ ys)
 
 -- after a call that is accepted: a command is done and what was undone is forgotten; an undo moves the last command from one list to the other, and a redo moves it back
-unfoldable pub after_call : CallHistory → Call → CallHistory
-after_call h (Apply command) = record h { done = h.done ++ command ∷ []; undone = []; accepted = h.accepted + 1 }
+unfoldable pub after_call : CallHistory → CallOf → CallHistory
+after_call h (Apply command) = record h { done = h.done ++ (command ∷ []) ∷ []; undone = []; accepted = h.accepted + 1 }
+after_call h (Group commands) = record h { done = h.done ++ commands ∷ []; undone = []; accepted = h.accepted + 1 }
 after_call h (Undo last) = record h { done = front h.done; undone = h.undone ++ final h.done; accepted = h.accepted + 1 }
 after_call h (Redo last) = record h { done = h.done ++ final h.undone; undone = front h.undone; accepted = h.accepted + 1 }

@@ -2,6 +2,9 @@ pub mod Told
 pub mod Forms
 pub mod Depends
 pub mod Commands
+pub mod Reasons
 pub mod Refusals
+pub mod Groups
+pub mod Asked
 pub mod Calls
 pub mod inner

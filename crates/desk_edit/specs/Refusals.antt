@@ -1,5 +1,5 @@
 -- When commands are refused, and by which refusal: the first that holds.
-use Rattle.std.specs.Prelude.{ℕ, ◌+◌, Bool, true, false, not, ◌&&◌, ◌||◌, List, [], ◌∷◌, ◌++◌, map, nat_eq, nat_le, nat_lt, count_by, Option, Some, None, if◌then◌else◌}
+use Rattle.std.specs.Prelude.{ℕ, ◌+◌, Bool, true, false, not, ◌&&◌, ◌||◌, List, [], ◌∷◌, ◌++◌, map, nat_eq, nat_le, nat_lt, count_by, Option, Some, None, option_map, if◌then◌else◌}
 use Rattle.std.specs.List.{list_any}
 use Rattle.desk_rows.specs.declared.row.Row.{Row}
 use Rattle.desk_rows.specs.declared.row.Row.TheVariants as rows
@@ -18,7 +18,9 @@ use Rattle.desk_edit.specs.declared.command.Command.{Command}
 use Rattle.desk_edit.specs.declared.command.Form.{Form}
 use Rattle.desk_edit.specs.declared.command.Form.TheVariants.{Put, Remove, Move}
 use Rattle.desk_edit.specs.declared.refusal.Refusal.{Refusal}
-use Rattle.desk_edit.specs.declared.refusal.Refusal.TheVariants as refusals
+use Rattle.desk_edit.specs.declared.refusal.Reason.{Reason}
+use Rattle.desk_edit.specs.declared.refusal.Reason.TheVariants as reasons
+use Rattle.desk_edit.specs.Reasons.{refusal_for}
 use Rattle.desk_edit.specs.declared.refusal.Table.{Table}
 use Rattle.desk_edit.specs.declared.refusal.Table.TheVariants as tables
 use Rattle.desk_edit.specs.Forms.{form_of}
@@ -33,25 +35,25 @@ is_claimed d claim = list_any (makes claim) (rows_of d)
 
 -- ---- cases
 
--- the first refusal whose case holds
-abbrev pub first_case : List (Bool × Refusal) → Option Refusal
+-- the first of those whose case holds
+abbrev pub first_case : {X : Type 0} → List (Bool × X) → Option X
 first_case [] = None
 first_case (c ∷ cs) = if c.0 then Some c.1 else first_case cs
 
 -- what is told where a row of this kind has to be there and isn't
-abbrev pub missing : Kind → Refusal
-missing kinds.Room = refusals.NoRoom
-missing kinds.Member = refusals.NoMember
-missing kinds.Source = refusals.NoSource
-missing kinds.Slot = refusals.NoSlot
-missing kinds.Sub = refusals.NotThere
-missing kinds.Mute = refusals.NotThere
-missing kinds.Gain = refusals.NotThere
-missing kinds.Pin = refusals.NotThere
-missing kinds.Floor = refusals.NotThere
+abbrev pub missing : Kind → Reason
+missing kinds.Room = reasons.NoRoom
+missing kinds.Member = reasons.NoMember
+missing kinds.Source = reasons.NoSource
+missing kinds.Slot = reasons.NoSlot
+missing kinds.Sub = reasons.NotThere
+missing kinds.Mute = reasons.NotThere
+missing kinds.Gain = reasons.NotThere
+missing kinds.Pin = reasons.NotThere
+missing kinds.Floor = reasons.NotThere
 
 -- these have to be there
-abbrev pub lacking : Desk → List Key → List (Bool × Refusal)
+abbrev pub lacking : Desk → List Key → List (Bool × Reason)
 lacking d ks = map (λ key. (not (has d key), missing (kind_of key))) ks
 
 -- ---- against a row that is put
@@ -92,13 +94,13 @@ abbrev pub ssrc_is_taken : Desk → Row → Bool
 ssrc_is_taken d r = list_any (is_ssrc_taken d) (other_claims r)
 
 -- a source that it names is of the other kind; what it names is in two rooms; its SSRC is taken; a value is out of its range; the same row is there
-abbrev pub rule_cases : Desk → Row → List (Bool × Refusal)
+abbrev pub rule_cases : Desk → Row → List (Bool × Reason)
 rule_cases d r =
-    (not (all_suit d r), refusals.WrongKind)
-    ∷ (not (are_together d (names r)), refusals.OtherRoom)
-    ∷ (ssrc_is_taken d r, refusals.SsrcTaken)
-    ∷ (not (is_in_range r), refusals.BadValue)
-    ∷ (holds d r, refusals.Already)
+    (not (all_suit d r), reasons.WrongKind)
+    ∷ (not (are_together d (names r)), reasons.OtherRoom)
+    ∷ (ssrc_is_taken d r, reasons.SsrcTaken)
+    ∷ (not (is_in_range r), reasons.BadValue)
+    ∷ (holds d r, reasons.Already)
     ∷ []
 
 -- the table that bounds how many rows of a kind there are: a sub's is its slot's, a mute's its source's, a pin's and a floor's its room's
@@ -118,8 +120,8 @@ abbrev pub is_full : Desk → Row → Kind × ℕ → Bool
 is_full d r limit = is_of limit.0 r && (not (has d (key_of r)) && nat_le limit.1 (count_of limit.0 d))
 
 -- there are as many of its kind as may be
-abbrev pub full_cases : Desk → Row → List (Bool × Refusal)
-full_cases d r = map (λ limit. (is_full d r limit, refusals.Full (table_of limit.0) limit.1)) limits
+abbrev pub full_cases : Desk → Row → List (Bool × Reason)
+full_cases d r = map (λ limit. (is_full d r limit, reasons.Full (table_of limit.0) limit.1)) limits
 
 -- the room has all the audio sources that it may have
 abbrev pub room_is_full : Desk → Option ℕ → Bool
@@ -127,21 +129,21 @@ room_is_full d (Some room) = nat_le room_audio_limit (count_by (is_audio_in d ro
 room_is_full d None = false
 
 -- a source of audio is one too many in its member's room
-abbrev pub audio_cases : Desk → Row → List (Bool × Refusal)
-audio_cases d (rows.Source s) = (same_media s.media Audio && room_is_full d (room_of d (rows.Source s)), refusals.Full tables.RoomAudio room_audio_limit) ∷ []
+abbrev pub audio_cases : Desk → Row → List (Bool × Reason)
+audio_cases d (rows.Source s) = (same_media s.media Audio && room_is_full d (room_of d (rows.Source s)), reasons.Full tables.RoomAudio room_audio_limit) ∷ []
 audio_cases d _ = []
 
 -- against a row, by number: it is there; what it names is missing; it breaks a rule; there is no room for it
-abbrev pub put_cases : Desk → Row → List (Bool × Refusal)
-put_cases d r = (is_there d r, refusals.Exists) ∷ (lacking d (names r) ++ (rule_cases d r ++ (full_cases d r ++ audio_cases d r)))
+abbrev pub put_cases : Desk → Row → List (Bool × Reason)
+put_cases d r = (is_there d r, reasons.Exists) ∷ (lacking d (names r) ++ (rule_cases d r ++ (full_cases d r ++ audio_cases d r)))
 
 -- ---- against a row that is taken, and a member that is moved
 
 -- the row whose number its key has is missing; it is missing itself
-abbrev pub remove_cases : Desk → Key → List (Bool × Refusal)
+abbrev pub remove_cases : Desk → Key → List (Bool × Reason)
 remove_cases d key =
     (not (has d (owner_of key)), missing (kind_of (owner_of key)))
-    ∷ (not (has d key), refusals.NotThere)
+    ∷ (not (has d key), reasons.NotThere)
     ∷ []
 
 -- an audio source of the member
@@ -150,22 +152,26 @@ is_audio_of member (rows.Source s) = same_media s.media Audio && nat_eq s.member
 is_audio_of member _ = false
 
 -- the room is missing; the member is missing; it is there already; the room would have more audio sources than it may
-abbrev pub move_cases : Desk → ℕ → ℕ → List (Bool × Refusal)
+abbrev pub move_cases : Desk → ℕ → ℕ → List (Bool × Reason)
 move_cases d member room =
-    (not (has d (keys.Room room)), refusals.NoRoom)
-    ∷ (not (has d (keys.Member member)), refusals.NoMember)
-    ∷ (same_room (room_of_member (row_at d (keys.Member member))) (Some room), refusals.Already)
-    ∷ (nat_lt room_audio_limit (count_by (is_audio_in d room) d.others + count_by (is_audio_of member) d.others), refusals.Full tables.RoomAudio room_audio_limit)
+    (not (has d (keys.Room room)), reasons.NoRoom)
+    ∷ (not (has d (keys.Member member)), reasons.NoMember)
+    ∷ (same_room (room_of_member (row_at d (keys.Member member))) (Some room), reasons.Already)
+    ∷ (nat_lt room_audio_limit (count_by (is_audio_in d room) d.others + count_by (is_audio_of member) d.others), reasons.Full tables.RoomAudio room_audio_limit)
     ∷ []
 
 -- ---- all
 
 -- what can stand against a command, in the order of the refusals' numbers
-abbrev pub cases_of : Desk → Form → List (Bool × Refusal)
+abbrev pub cases_of : Desk → Form → List (Bool × Reason)
 cases_of d (Put r) = put_cases d r
 cases_of d (Remove key) = remove_cases d key
 cases_of d (Move member room) = move_cases d member room
 
+-- the reason of least number that holds
+unfoldable pub reason_against : Desk → Command → Option Reason
+reason_against d command = first_case (cases_of d (form_of command))
+
 -- the refusal of least number that holds, want of memory apart
 unfoldable pub refused : Desk → Command → Option Refusal
-refused d command = first_case (cases_of d (form_of command))
+refused d command = option_map refusal_for (first_case (cases_of d (form_of command)))

@@ -3,9 +3,9 @@ use Rattle.std.specs.Prelude.{ℕ, List, codes}
 use Rattle.desk_edit.specs.declared.refusal.Table.{Table}
 use Rattle.desk_edit.specs.declared.refusal.Table.TheVariants.{Rooms, Members, Sources, Slots, Gains, RoomAudio}
 use Rattle.desk_edit.specs.declared.refusal.Refusal.{Refusal}
-use Rattle.desk_edit.specs.declared.refusal.Refusal.TheVariants.{Exists, NoRoom, NoMember, NoSource, NoSlot, WrongKind, OtherRoom, SsrcTaken, BadValue, Already, NotThere, Full, OutOfMemory, NewerCommand, NothingToUndo, NothingToRedo, LogFull}
+use Rattle.desk_edit.specs.declared.refusal.Refusal.TheVariants.{Exists, NoRoom, NoMember, NoSource, NoSlot, WrongKind, OtherRoom, SsrcTaken, BadValue, Already, NotThere, Full, OutOfMemory, NewerCommand, NothingToUndo, NothingToRedo, LogFull, EmptyGroup, GroupTooLong, PartRefused}
 use Rattle.desk_edit.specs.declared.refusal.Carried.{Carried}
-use Rattle.desk_edit.specs.declared.refusal.Carried.TheVariants.{Nothing, Limit, Last}
+use Rattle.desk_edit.specs.declared.refusal.Carried.TheVariants.{Nothing, Limit, Last, Most, Part}
 use Rattle.desk_edit.specs.declared.refusal.RefusalRow.{RefusalRow}
 
 -- the name of what is full
@@ -42,6 +42,9 @@ told_of (NewerCommand last) = record { number = 14; name = codes "NewerCommand";
 told_of NothingToUndo = record { number = 15; name = codes "NothingToUndo"; carries = Nothing }
 told_of NothingToRedo = record { number = 16; name = codes "NothingToRedo"; carries = Nothing }
 told_of LogFull = record { number = 17; name = codes "LogFull"; carries = Nothing }
+told_of EmptyGroup = record { number = 18; name = codes "EmptyGroup"; carries = Nothing }
+told_of (GroupTooLong limit) = record { number = 19; name = codes "GroupTooLong"; carries = Most limit }
+told_of (PartRefused part why) = record { number = 20; name = codes "PartRefused"; carries = Part part why }
 
 -- what a row of the code tells
 abbrev pub told_in : RefusalRow → Told

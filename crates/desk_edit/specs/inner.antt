@@ -1,3 +1,4 @@
 pub mod Edits
 pub mod Levels
 pub mod Moving
+pub mod Parts

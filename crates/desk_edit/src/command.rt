@@ -4,6 +4,7 @@ ghost use Rattle.std.specs.Prelude.{◌≡◌};
 ghost use Rattle.desk_edit.specs.Forms.{form_of};
 
 use desk_rows::{Floor, Gain, Key, Member, Mute, Pin, Room, Row, Slot, Source, Sub};
+use std::alloc::{Allocator, Global};
 
 /// What an operator asks of the desk. A row that is taken takes all rows with it that name it,
 /// directly or through others.
@@ -81,9 +82,11 @@ impl Command {
 }
 
 /// A call of an operator.
-#[derive(Clone, Copy)]
-pub enum Call {
+#[derive(Drop)]
+pub enum Call<A: Allocator + Copy = Global> {
     Apply(Command),
+    /// Does the commands one after another as one call: all of them or none.
+    Group(Vec<Command, A>),
     /// Takes the last command back. It names the last accepted call of any kind.
     Undo { last: u64 },
     /// Does the command that was undone last again. It names the last accepted call of any kind.

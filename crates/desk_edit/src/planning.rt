@@ -8,12 +8,13 @@ ghost use Rattle.desk_edit.specs.Refusals.{refused};
 use crate::command::Command;
 use crate::editing::edit_for;
 use crate::refusal::Refusal;
-use crate::refusing::refused;
+use crate::refusing::reason_against;
 use desk_rows::{Edit, Rows};
 use std::alloc::Allocator;
 
-/// The edit that carries a command out, or the first refusal. Want of memory is told only where
-/// nothing else stands against the command.
+/// The edit that carries a command out, or its first refusal. `OutOfMemory` comes only where no other
+/// refusal holds.
+#[tactic(auto, using(crate::proofs::Outcomes::refused_for))]
 pub fn plan<A: Allocator + Copy>(
     alloc: A,
     rows: &Rows<A>,
@@ -25,8 +26,8 @@ pub fn plan<A: Allocator + Copy>(
     ensures first { IfErr result (λ why. why ≢ Refusal.OutOfMemory → refused rows.now command.now ≡ Some why) }
     ensures memory { result ≡ Err Refusal.OutOfMemory → refused rows.now command.now ≡ None }
 {
-    if let Some(why) = refused(rows, command) {
-        return Err(why);
+    if let Some(why) = reason_against(rows, command) {
+        return Err(why.refusal());
     }
     match edit_for(alloc, rows, &command.form()) {
         Ok(edit) => Ok(edit),

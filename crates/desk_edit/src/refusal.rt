@@ -1,8 +1,10 @@
 //! Why calls are refused, and how each refusal is told.
 
 ghost use Rattle.std.specs.Prelude.{◌≡◌};
+ghost use Rattle.desk_edit.specs.Reasons.{refusal_for, refusal_of_group};
 ghost use Rattle.desk_edit.specs.Told.{table_text, told_in, told_of};
 
+use crate::grouping::MAX_GROUP;
 use thiserror::Error;
 
 /// What can be full.
@@ -15,6 +17,52 @@ pub enum Table {
     Gains,
     /// The audio sources of one room.
     RoomAudio,
+}
+
+/// What stands against a command. The first that holds is told.
+#[derive(Clone, Copy, Debug, PartialEq, Eq)]
+pub enum Reason {
+    /// The row is there, or another one stands in its place.
+    Exists,
+    NoRoom,
+    NoMember,
+    NoSource,
+    NoSlot,
+    /// The source is not of the kind that is wanted.
+    WrongKind,
+    /// The two sides are in different rooms.
+    OtherRoom,
+    /// The SSRC is used already.
+    SsrcTaken,
+    /// A value is out of its range.
+    BadValue,
+    /// The row stands already as it would be.
+    Already,
+    /// There is no such row to take.
+    NotThere,
+    Full { table: Table, limit: u32 },
+}
+
+impl Reason {
+    /// What a command is refused by for this reason.
+    pub fn refusal(self) -> Refusal
+        ensures { result ≡ refusal_for self }
+    {
+        match self {
+            Reason::Exists => Refusal::Exists,
+            Reason::NoRoom => Refusal::NoRoom,
+            Reason::NoMember => Refusal::NoMember,
+            Reason::NoSource => Refusal::NoSource,
+            Reason::NoSlot => Refusal::NoSlot,
+            Reason::WrongKind => Refusal::WrongKind,
+            Reason::OtherRoom => Refusal::OtherRoom,
+            Reason::SsrcTaken => Refusal::SsrcTaken,
+            Reason::BadValue => Refusal::BadValue,
+            Reason::Already => Refusal::Already,
+            Reason::NotThere => Refusal::NotThere,
+            Reason::Full { table, limit } => Refusal::Full { table, limit },
+        }
+    }
 }
 
 /// Why a call is refused. The first that holds is told, but for `OutOfMemory`, which comes last.
@@ -63,6 +111,44 @@ pub enum Refusal {
     /// 1,048,576 calls were accepted.
     #[error("1,048,576 calls were accepted")]
     LogFull,
+    #[error("the group has no command")]
+    EmptyGroup,
+    #[error("the group has more than {limit} commands")]
+    GroupTooLong { limit: u32 },
+    /// Something stands against this command of the group, the first one being 0, at the desk after
+    /// those before it.
+    #[error("command {part} of the group is refused")]
+    PartRefused { part: u32, why: Reason },
+}
+
+/// Why a group is refused.
+#[derive(Clone, Copy, Debug, PartialEq, Eq, Error)]
+pub enum GroupRefusal {
+    #[error("it has no command")]
+    Empty,
+    #[error("it has more than 64 commands")]
+    TooLong,
+    /// Something stands against this command, the first one being 0, at the desk after those before it.
+    #[error("command {part} is refused")]
+    Part { part: u32, why: Reason },
+    #[error("out of memory")]
+    OutOfMemory,
+}
+
+impl GroupRefusal {
+    /// What the call is refused by.
+    pub fn refusal(self) -> Refusal
+        ensures { result ≡ refusal_of_group self }
+    {
+        match self {
+            GroupRefusal::Empty => Refusal::EmptyGroup,
+            GroupRefusal::TooLong => Refusal::GroupTooLong {
+                limit: MAX_GROUP as u32,
+            },
+            GroupRefusal::Part { part, why } => Refusal::PartRefused { part, why },
+            GroupRefusal::OutOfMemory => Refusal::OutOfMemory,
+        }
+    }
 }
 
 /// What a refusal carries behind its name.
@@ -73,6 +159,10 @@ pub enum Carried {
     Limit(Table, u32),
     /// The last accepted call.
     Last(u64),
+    /// The most commands of a group.
+    Most(u32),
+    /// Which command of a group, and what stands against it.
+    Part(u32, Reason),
 }
 
 /// How a refusal is told.
@@ -141,6 +231,17 @@ impl Refusal {
             Refusal::NothingToUndo => bare(15, b"NothingToUndo"),
             Refusal::NothingToRedo => bare(16, b"NothingToRedo"),
             Refusal::LogFull => bare(17, b"LogFull"),
+            Refusal::EmptyGroup => bare(18, b"EmptyGroup"),
+            Refusal::GroupTooLong { limit } => RefusalRow {
+                number: 19,
+                name: b"GroupTooLong",
+                carried: Carried::Most(limit),
+            },
+            Refusal::PartRefused { part, why } => RefusalRow {
+                number: 20,
+                name: b"PartRefused",
+                carried: Carried::Part(part, why),
+            },
         }
     }
 }

@@ -4,13 +4,13 @@ ghost use Rattle.std.specs.Prelude.{◌≡◌, None, Some, ◌<◌, ◌^◌, ◌
 ghost use Rattle.std.specs.Option.{option_or};
 ghost use Rattle.desk_rows.specs.Few.{listed};
 ghost use Rattle.desk_rows.specs.Row.{names};
-ghost use Rattle.desk_edit.specs.Refusals.{missing, table_of, has, is_full, first_case, lacking, rule_cases, full_cases, audio_cases, put_cases, remove_cases, move_cases, cases_of, refused};
+ghost use Rattle.desk_edit.specs.Refusals.{missing, table_of, has, is_full, first_case, lacking, rule_cases, full_cases, audio_cases, put_cases, remove_cases, move_cases, cases_of, reason_against};
 
 use crate::asking::{
     count_audio_in, count_audio_of, has, is_there, room_is_full, room_of_member, ssrc_is_taken,
 };
 use crate::command::{Command, Form};
-use crate::refusal::{Refusal, Table};
+use crate::refusal::{Reason, Table};
 use desk_rows::{
     Few, Key, Kind, MAX_GAINS, MAX_MEMBERS, MAX_ROOM_AUDIO, MAX_ROOMS, MAX_SLOTS, MAX_SOURCES,
     Media, Row, Rows, all_suit, are_together, room_of,
@@ -18,20 +18,20 @@ use desk_rows::{
 use std::alloc::Allocator;
 
 /// What a row of this kind is refused for where it isn't there.
-fn missing(kind: Kind) -> Refusal
+fn missing(kind: Kind) -> Reason
     ensures { result ≡ missing kind }
 {
     match kind {
-        Kind::Room => Refusal::NoRoom,
-        Kind::Member => Refusal::NoMember,
-        Kind::Source => Refusal::NoSource,
-        Kind::Slot => Refusal::NoSlot,
-        Kind::Sub | Kind::Mute | Kind::Gain | Kind::Pin | Kind::Floor => Refusal::NotThere,
+        Kind::Room => Reason::NoRoom,
+        Kind::Member => Reason::NoMember,
+        Kind::Source => Reason::NoSource,
+        Kind::Slot => Reason::NoSlot,
+        Kind::Sub | Kind::Mute | Kind::Gain | Kind::Pin | Kind::Floor => Reason::NotThere,
     }
 }
 
 /// The first of two.
-fn or_next(first: Option<Refusal>, next: Option<Refusal>) -> Option<Refusal>
+fn or_next(first: Option<Reason>, next: Option<Reason>) -> Option<Reason>
     ensures { result ≡ option_or first next }
 {
     match first {
@@ -40,7 +40,7 @@ fn or_next(first: Option<Refusal>, next: Option<Refusal>) -> Option<Refusal>
     }
 }
 
-fn lacks<A: Allocator + Copy>(rows: &Rows<A>, key: Key) -> Option<Refusal>
+fn lacks<A: Allocator + Copy>(rows: &Rows<A>, key: Key) -> Option<Reason>
     ensures { result ≡ first_case (lacking rows.now (key ∷ [])) }
 {
     if has(rows, key) {
@@ -51,7 +51,7 @@ fn lacks<A: Allocator + Copy>(rows: &Rows<A>, key: Key) -> Option<Refusal>
 }
 
 /// Against rows that have to be there.
-fn lacks_any<A: Allocator + Copy>(rows: &Rows<A>, names: Few<Key>) -> Option<Refusal>
+fn lacks_any<A: Allocator + Copy>(rows: &Rows<A>, names: Few<Key>) -> Option<Reason>
     ensures { result ≡ first_case (lacking rows.now (listed names)) }
 {
     match names {
@@ -63,23 +63,23 @@ fn lacks_any<A: Allocator + Copy>(rows: &Rows<A>, names: Few<Key>) -> Option<Ref
 
 /// Against a row whose names are there.
 #[tactic(auto, unfolding(crate::specs::Refusals::rule_cases))]
-fn breaks_rules<A: Allocator + Copy>(rows: &Rows<A>, row: &Row) -> Option<Refusal>
+fn breaks_rules<A: Allocator + Copy>(rows: &Rows<A>, row: &Row) -> Option<Reason>
     ensures { result ≡ first_case (rule_cases rows.now row.now) }
 {
     if !all_suit(rows, row) {
-        return Some(Refusal::WrongKind);
+        return Some(Reason::WrongKind);
     }
     if !are_together(rows, row) {
-        return Some(Refusal::OtherRoom);
+        return Some(Reason::OtherRoom);
     }
     if ssrc_is_taken(rows, row) {
-        return Some(Refusal::SsrcTaken);
+        return Some(Reason::SsrcTaken);
     }
     if !row.is_in_range() {
-        return Some(Refusal::BadValue);
+        return Some(Reason::BadValue);
     }
     if rows.holds(row) {
-        return Some(Refusal::Already);
+        return Some(Reason::Already);
     }
     None
 }
@@ -91,18 +91,18 @@ fn is_full<A: Allocator + Copy>(rows: &Rows<A>, row: &Row, kind: Kind, limit: us
     row.is_of(kind) && (!has(rows, row.key()) && rows.count(kind) >= limit)
 }
 
-fn full(table: Table, limit: usize) -> Option<Refusal>
+fn full(table: Table, limit: usize) -> Option<Reason>
     requires { limit < 2 ^ 32 }
-    ensures { result ≡ Some (Refusal.Full table limit) }
+    ensures { result ≡ Some (Reason.Full table limit) }
 {
-    Some(Refusal::Full {
+    Some(Reason::Full {
         table,
         limit: limit as u32,
     })
 }
 
 /// Against a row for which its table has no room.
-fn fills_table<A: Allocator + Copy>(rows: &Rows<A>, row: &Row) -> Option<Refusal>
+fn fills_table<A: Allocator + Copy>(rows: &Rows<A>, row: &Row) -> Option<Reason>
     ensures { result ≡ first_case (full_cases rows.now row.now) }
 {
     if is_full(rows, row, Kind::Room, MAX_ROOMS) {
@@ -124,7 +124,7 @@ fn fills_table<A: Allocator + Copy>(rows: &Rows<A>, row: &Row) -> Option<Refusal
 }
 
 /// Against an audio source for which its room has no room.
-fn fills_room<A: Allocator + Copy>(rows: &Rows<A>, row: &Row) -> Option<Refusal>
+fn fills_room<A: Allocator + Copy>(rows: &Rows<A>, row: &Row) -> Option<Reason>
     ensures { result ≡ first_case (audio_cases rows.now row.now) }
 {
     match row {
@@ -140,11 +140,11 @@ fn fills_room<A: Allocator + Copy>(rows: &Rows<A>, row: &Row) -> Option<Refusal>
 }
 
 /// Against a row that is to be put.
-fn against_put<A: Allocator + Copy>(rows: &Rows<A>, row: &Row) -> Option<Refusal>
+fn against_put<A: Allocator + Copy>(rows: &Rows<A>, row: &Row) -> Option<Reason>
     ensures { result ≡ first_case (put_cases rows.now row.now) }
 {
     if is_there(rows, row) {
-        return Some(Refusal::Exists);
+        return Some(Reason::Exists);
     }
     let full = or_next(fills_table(rows, row), fills_room(rows, row));
     or_next(
@@ -154,7 +154,7 @@ fn against_put<A: Allocator + Copy>(rows: &Rows<A>, row: &Row) -> Option<Refusal
 }
 
 /// Against taking the row of this key.
-fn against_removal<A: Allocator + Copy>(rows: &Rows<A>, key: Key) -> Option<Refusal>
+fn against_removal<A: Allocator + Copy>(rows: &Rows<A>, key: Key) -> Option<Reason>
     ensures { result ≡ first_case (remove_cases rows.now key) }
 {
     let owner = key.owner();
@@ -162,23 +162,23 @@ fn against_removal<A: Allocator + Copy>(rows: &Rows<A>, key: Key) -> Option<Refu
         return Some(missing(owner.kind()));
     }
     if !has(rows, key) {
-        return Some(Refusal::NotThere);
+        return Some(Reason::NotThere);
     }
     None
 }
 
 /// Against putting a member into a room.
-fn against_move<A: Allocator + Copy>(rows: &Rows<A>, member: u32, room: u32) -> Option<Refusal>
+fn against_move<A: Allocator + Copy>(rows: &Rows<A>, member: u32, room: u32) -> Option<Reason>
     ensures { result ≡ first_case (move_cases rows.now member room) }
 {
     if !has(rows, Key::Room(room)) {
-        return Some(Refusal::NoRoom);
+        return Some(Reason::NoRoom);
     }
     if !has(rows, Key::Member(member)) {
-        return Some(Refusal::NoMember);
+        return Some(Reason::NoMember);
     }
     if room_of_member(rows, member) == Some(room) {
-        return Some(Refusal::Already);
+        return Some(Reason::Already);
     }
     if count_audio_in(rows, room) + count_audio_of(rows, member) > MAX_ROOM_AUDIO {
         return full(Table::RoomAudio, MAX_ROOM_AUDIO);
@@ -187,9 +187,12 @@ fn against_move<A: Allocator + Copy>(rows: &Rows<A>, member: u32, room: u32) -> 
 }
 
 /// The first reason against a command, want of memory apart.
-#[tactic(auto, unfolding(crate::specs::Refusals::refused))]
-pub(crate) fn refused<A: Allocator + Copy>(rows: &Rows<A>, command: &Command) -> Option<Refusal>
-    ensures { result ≡ refused rows.now command.now }
+#[tactic(auto, unfolding(crate::specs::Refusals::reason_against))]
+pub(crate) fn reason_against<A: Allocator + Copy>(
+    rows: &Rows<A>,
+    command: &Command,
+) -> Option<Reason>
+    ensures { result ≡ reason_against rows.now command.now }
 {
     match command.form() {
         Form::Put(row) => against_put(rows, &row),

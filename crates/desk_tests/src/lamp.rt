@@ -50,7 +50,7 @@ impl<A: Allocator + Copy> Reversible for Lamp<A> {
 
     ghost inverse = { λ edit. edit };
 
-    fn fits(&self, _edit: &Switch<A>) -> bool {
+    fn fits(&mut self, _edit: &Switch<A>) -> bool {
         true
     }
 
@@ -59,6 +59,10 @@ impl<A: Allocator + Copy> Reversible for Lamp<A> {
     }
 
     fn absorb_fitting(&mut self, _edit: &Switch<A>) {
+        self.is_on = !self.is_on;
+    }
+
+    fn absorb_back(&mut self, _edit: &Switch<A>) {
         self.is_on = !self.is_on;
     }
 

@@ -7,7 +7,7 @@ use rtp_codec::Address;
 use std::test::Fail;
 use undo_log::Reversible;
 
-fn member(member: u32, port: u16) -> Command {
+pub(crate) fn member(member: u32, port: u16) -> Command {
     Command::AddMember(Member {
         member,
         room: 1,
@@ -56,7 +56,7 @@ fn subscribe(source: u32) -> Command {
 }
 
 /// A desk with two sources, a slot that has the first, and a source of audio, muted, with a gain.
-fn small_desk<'a>(ample: &'a LocalHeap) -> Result<Rows<&'a LocalHeap>, Fail> {
+pub(crate) fn small_desk<'a>(ample: &'a LocalHeap) -> Result<Rows<&'a LocalHeap>, Fail> {
     let mut rows = Rows::new(ample, 1)?;
     let commands = [
         Command::AddRoom(Room { room: 1 }),

@@ -1,7 +1,7 @@
 use Rattle.std.specs.Prelude.{◌++◌}
 use Rattle.std.specs.Option.{option_or}
 use Rattle.desk_edit.proofs.Words.{cond, Some, sym, ap, ◌∙◌, names, first_case, lacking, rule_cases, full_cases, audio_cases}
-use Rattle.desk_edit.specs.declared.refusal.Refusal.TheVariants as refusals
+use Rattle.desk_edit.specs.declared.refusal.Reason.TheVariants as reasons
 use Rattle.desk_edit.proofs.refusing.against_put.Goals as goal
 use Rattle.desk_edit.proofs.Cases.{first_of_both}
 
@@ -16,4 +16,4 @@ returns g c =
     let rules = c.or_next.ensures ∙ (λ i. option_or (c.breaks_rules.ensures i) (full i)) ∙ sym (first_of_both (rule_cases d r) more) in
     let lacks = c.lacks_any.ensures ∙ ap (λ ks. first_case (lacking d ks)) c.names.ensures in
     c.or_next-2.ensures ∙ (λ i. option_or (lacks i) (rules i)) ∙ sym (first_of_both (lacking d (names r)) (rule_cases d r ++ more))
-    ∙ sym (ap (λ b. cond b (Some refusals.Exists) (first_case rest)) (sym c.is_there.ensures ∙ c.if-is_there.false))
+    ∙ sym (ap (λ b. cond b (Some reasons.Exists) (first_case rest)) (sym c.is_there.ensures ∙ c.if-is_there.false))
