@@ -6,17 +6,17 @@ use Rattle.std.proofs.lemmas.Grind.{reverse_onto}
 use Rattle.std.proofs.Math.Seq.{drop-append_seam}
 use Rattle.undo_log.specs.Timeline.{rewound}
 use Rattle.desk_rows.specs.Desk.{Desk}
-use Rattle.desk_rows.specs.Edit.{EditOf, inverse}
-use Rattle.desk_rows.specs.Exchange.{fits, after}
-use Rattle.desk_rows.specs.laws.Laws.{undoes}
-use Rattle.desk_edit.specs.declared.command.Command.{Command}
-use Rattle.desk_edit.specs.declared.command.Call.TheVariants.{Undo, Redo}
+use Rattle.desk_rows.specs.Edit.{EditOf}
+use Rattle.bridge_core.specs.Edits.{fits, after, inverse}
+use Rattle.bridge_core.proofs.EditLaws.{undoes}
+use Rattle.desk_edit.specs.Asked.{CallOf as Call}
+use Rattle.desk_edit.specs.Asked.CallOf.{Apply, Group, Undo, Redo}
 use Rattle.desk_edit.specs.Calls.{call_limit, refusal_at}
 use Rattle.bridge_core.specs.declared.reply.Reply.{Reply}
 use Rattle.bridge_core.specs.declared.reply.Reply.TheVariants.{Accepted, Refused}
 use Rattle.bridge_core.specs.Steps.{CoreOf}
-use Rattle.bridge_core.specs.Calls.{Answers, UndoesEdit, RedoesEdit}
-use Rattle.bridge_core.specs.UndoRuns.{AnswersAll, AcceptsAll, UndoesInARow, RedoesInARow, IsAsWas, undos, redos, all_accepted}
+use Rattle.bridge_core.specs.Calls.{Answers, Does, DoesEdit, UndoesEdit, RedoesEdit}
+use Rattle.bridge_core.specs.UndoRuns.{AnswersAll, HasCommands, AcceptsAll, UndoesInARow, RedoesInARow, IsAsWas, undos, redos, all_accepted}
 use Rattle.bridge_core.proofs.FollowLaws.{rewound_one_more}
 
 -- ---- one call
@@ -68,13 +68,13 @@ reverse_pushed xs x = reverse-append xs (x ∷ [])
 -- ---- calls in a row
 
 -- these edits were done
-record HasDone (first last : CoreOf) (n : ℕ) (es : List EditOf) : Type 0 where
+record HasDone (first last : CoreOf) (n : ℕ) (es : List (List EditOf)) : Type 0 where
   count : length es ≡ n
   done : last.done ≡ first.done ++ es
   back : rewound after inverse last.desk (reverse es) ≡ first.desk
 
 -- these edits were undone, the last one first
-record HasUndone (first last : CoreOf) (n : ℕ) (es : List EditOf) : Type 0 where
+record HasUndone (first last : CoreOf) (n : ℕ) (es : List (List EditOf)) : Type 0 where
   count : length es ≡ n
   done : first.done ≡ last.done ++ es
   undone : last.undone ≡ first.undone ++ reverse es
@@ -82,13 +82,13 @@ record HasUndone (first last : CoreOf) (n : ℕ) (es : List EditOf) : Type 0 whe
   back : last.desk ≡ rewound after inverse first.desk (reverse es)
 
 -- these edits were done again, in order
-record HasRedone (first last : CoreOf) (n : ℕ) (es : List EditOf) : Type 0 where
+record HasRedone (first last : CoreOf) (n : ℕ) (es : List (List EditOf)) : Type 0 where
   count : length es ≡ n
   undone : first.undone ≡ last.undone ++ reverse es
   done : last.done ≡ first.done ++ es
   again : last.desk ≡ fold after first.desk es
 
-one_more_done : (first next last : CoreOf) (n : ℕ) (es : List EditOf) (e : EditOf) → fits first.desk e ≡ true → next.desk ≡ after first.desk e → next.done ≡ first.done ++ e ∷ [] → HasDone next last n es
+one_more_done : (first next last : CoreOf) (n : ℕ) (es : List (List EditOf)) (e : List EditOf) → fits first.desk e ≡ true → next.desk ≡ after first.desk e → next.done ≡ first.done ++ e ∷ [] → HasDone next last n es
     → HasDone first last (suc n) (e ∷ es)
 one_more_done first next last n es e fit desk done rest = record {
   count = ap suc rest.count;
@@ -100,7 +100,7 @@ one_more_done first next last n es e fit desk done rest = record {
       ∙ undoes first.desk e fit;
 }
 
-one_more_undone : (first next last : CoreOf) (n : ℕ) (es : List EditOf) (does : UndoesEdit first next) → HasUndone next last n es → HasUndone first last (suc n) (es ++ does.0 ∷ [])
+one_more_undone : (first next last : CoreOf) (n : ℕ) (es : List (List EditOf)) (does : UndoesEdit first next) → HasUndone next last n es → HasUndone first last (suc n) (es ++ does.0 ∷ [])
 one_more_undone first next last n es does rest =
     let e = does.0 in
     record {
@@ -111,7 +111,7 @@ one_more_undone first next last n es does rest =
       back = rest.back ∙ ap (λ d. rewound after inverse d (reverse es)) does.4 ∙ ap (rewound after inverse first.desk) (sym (reverse_pushed es e));
     }
 
-one_more_redone : (first next last : CoreOf) (n : ℕ) (es : List EditOf) (does : RedoesEdit first next) → HasRedone next last n es → HasRedone first last (suc n) (does.0 ∷ es)
+one_more_redone : (first next last : CoreOf) (n : ℕ) (es : List (List EditOf)) (does : RedoesEdit first next) → HasRedone next last n es → HasRedone first last (suc n) (does.0 ∷ es)
 one_more_redone first next last n es does rest =
     let e = does.0 in
     record {
@@ -126,7 +126,13 @@ one_more_accepted : (version next n : ℕ) (reply : Reply) (replies later : List
 one_more_accepted version next n reply replies later is first takes rest =
     is ∙ ap (λ r. r ∷ later) first ∙ ap (λ rs. Accepted (version + 1) ∷ rs) (rest ∙ ap (λ v. all_accepted v n) takes)
 
-commands_done : (first last : CoreOf) (cs : List Command) → AcceptsAll first cs last → (es : List EditOf) × HasDone first last (length cs) es
+does_edit : (old new : CoreOf) (call : Call) → HasCommands call → Does old new call → DoesEdit old new
+does_edit old new (Apply command) has does = does.1
+does_edit old new (Group commands) has does = does.1
+does_edit old new (Undo last) has does = absurd has
+does_edit old new (Redo last) has does = absurd has
+
+commands_done : (first last : CoreOf) (cs : List Call) → AcceptsAll first cs last → (es : List (List EditOf)) × HasDone first last (length cs) es
 commands_done first last [] is = (
   [],
   record {
@@ -137,12 +143,12 @@ commands_done first last [] is = (
 )
 commands_done first last (c ∷ cs) accepts =
     let next = accepts.0 in
-    let does = accepts.1.4.1 in
-    let rest = commands_done next last cs accepts.2 in
+    let does = does_edit first next c accepts.2 accepts.1.4 in
+    let rest = commands_done next last cs accepts.3 in
     (does.0 ∷ rest.0, one_more_done first next last (length cs) rest.0 does.0 does.1 does.2 does.3 rest.1)
 
 commands_undone : (n : ℕ) (first last : CoreOf) (replies : List Reply) → n ≤ length first.done → first.version + n ≤ call_limit → AnswersAll first (undos first.version n) replies last
-    → (replies ≡ all_accepted first.version n) × (es : List EditOf) × HasUndone first last n es
+    → (replies ≡ all_accepted first.version n) × (es : List (List EditOf)) × HasUndone first last n es
 commands_undone zero first last replies some room answers = (
   answers.0,
   [],
@@ -167,7 +173,7 @@ commands_undone (suc n) first last replies some room answers =
     )
 
 commands_redone : (n : ℕ) (first last : CoreOf) (replies : List Reply) → n ≤ length first.undone → first.version + n ≤ call_limit → AnswersAll first (redos first.version n) replies last
-    → (replies ≡ all_accepted first.version n) × (es : List EditOf) × HasRedone first last n es
+    → (replies ≡ all_accepted first.version n) × (es : List (List EditOf)) × HasRedone first last n es
 commands_redone zero first last replies some room answers = (
   answers.0,
   [],
@@ -199,12 +205,12 @@ pub redos_accepted : (first last : CoreOf) (n : ℕ) (replies : List Reply) → 
 redos_accepted first last n replies some again_by = (commands_redone n first last replies some again_by.0 again_by.1).0
 
 -- as many commands are done as were accepted
-enough : (first last : CoreOf) (n : ℕ) (es : List EditOf) → HasDone first last n es → n ≤ length last.done
+enough : (first last : CoreOf) (n : ℕ) (es : List (List EditOf)) → HasDone first last n es → n ≤ length last.done
 enough first last n es is =
     let whole : length last.done ≡ length first.done + length es = ap length is.done ∙ length-append first.done es in
     let count : length es ≡ n = is.count in omega arith
 
-pub come_back : (first middle last : CoreOf) (commands : List Command) (replies : List Reply) → AcceptsAll first commands middle → UndoesInARow middle (length commands) replies last
+pub come_back : (first middle last : CoreOf) (commands : List Call) (replies : List Reply) → AcceptsAll first commands middle → UndoesInARow middle (length commands) replies last
     → (replies ≡ all_accepted middle.version (length commands)) × (last.desk ≡ first.desk) × (last.done ≡ first.done)
 come_back first middle last commands replies accepts back_by =
     let there = commands_done first middle commands accepts in
@@ -238,7 +244,7 @@ come_again first back last n replies later some back_by again_by =
       ),
     )
 
-pub commands_come_again : (first middle back last : CoreOf) (commands : List Command) (replies later : List Reply) → AcceptsAll first commands middle → UndoesInARow middle (length commands) replies back → RedoesInARow back (length commands) later last
+pub commands_come_again : (first middle back last : CoreOf) (commands : List Call) (replies later : List Reply) → AcceptsAll first commands middle → UndoesInARow middle (length commands) replies back → RedoesInARow back (length commands) later last
     → (later ≡ all_accepted back.version (length commands)) × IsAsWas last middle
 commands_come_again first middle back last commands replies later accepts back_by again_by =
     let there = commands_done first middle commands accepts in

@@ -4,46 +4,46 @@ use Rattle.std.proofs.lemmas.List.{length-reverse, reverse-append, reverse-rever
 use Rattle.std.proofs.lemmas.Grind.{reverse_onto}
 use Rattle.undo_log.specs.Timeline.{rewound}
 use Rattle.desk_rows.specs.Desk.{Desk}
-use Rattle.desk_rows.specs.Edit.{EditOf, inverse}
-use Rattle.desk_rows.specs.Exchange.{fits, after}
-use Rattle.desk_rows.specs.laws.Laws.{undoes}
+use Rattle.desk_rows.specs.Edit.{EditOf}
+use Rattle.bridge_core.specs.Edits.{fits, after, inverse}
+use Rattle.bridge_core.proofs.EditLaws.{undoes}
 use Rattle.desk_edit.specs.declared.command.Command.{Command}
-use Rattle.desk_edit.specs.declared.command.Call.{Call}
-use Rattle.desk_edit.specs.declared.command.Call.TheVariants.{Apply, Undo, Redo}
+use Rattle.desk_edit.specs.Asked.{CallOf as Call}
+use Rattle.desk_edit.specs.Asked.CallOf.{Apply, Group, Undo, Redo}
 use Rattle.desk_edit.specs.declared.refusal.Refusal.{Refusal}
-use Rattle.desk_edit.specs.Commands.{desk_after}
-use Rattle.desk_edit.specs.Calls.{CallHistory, desk_now, refusal_at, refusal_of, after_call, front, final}
+use Rattle.desk_edit.specs.Groups.{desk_after_all}
+use Rattle.desk_edit.specs.Calls.{CallHistory, desk_now, refusal_at, refusal_of, early_refusal_at, early_refusal_of, after_call, front, final}
 use Rattle.bridge_core.specs.declared.reply.Reply.TheVariants.{Accepted, Refused}
 use Rattle.bridge_core.specs.Steps.{CoreOf}
-use Rattle.bridge_core.specs.Calls.{call_refused, Does, IsReason}
+use Rattle.bridge_core.specs.Calls.{call_refused, early_call_refused, Does, DoesEdit, IsReason}
 use Rattle.bridge_core.specs.Following.{Follows, HasCalled, IsTold, IsAnswered}
 
-as_many : (d : Desk) (cs : List Command) (es : List EditOf) → Follows d cs es → length cs ≡ length es
+as_many : (d : Desk) (cs : List (List Command)) (es : List (List EditOf)) → Follows d cs es → length cs ≡ length es
 as_many d [] [] f = refl
-as_many d (c ∷ cs) (e ∷ es) f = ap suc (as_many (desk_after d c) cs es f.2)
+as_many d (c ∷ cs) (e ∷ es) f = ap suc (as_many (desk_after_all d c) cs es f.2)
 as_many d [] (e ∷ es) f = absurd f
 as_many d (c ∷ cs) [] f = absurd f
 
-fold_one_more : (d : Desk) (cs : List Command) (c : Command) → fold desk_after d (cs ++ c ∷ []) ≡ desk_after (fold desk_after d cs) c
+fold_one_more : (d : Desk) (cs : List (List Command)) (c : List Command) → fold desk_after_all d (cs ++ c ∷ []) ≡ desk_after_all (fold desk_after_all d cs) c
 fold_one_more d [] c = refl
-fold_one_more d (b ∷ cs) c = fold_one_more (desk_after d b) cs c
+fold_one_more d (b ∷ cs) c = fold_one_more (desk_after_all d b) cs c
 
-one_more : (d : Desk) (cs : List Command) (es : List EditOf) (c : Command) (e : EditOf) → Follows d cs es → fits (fold desk_after d cs) e ≡ true → after (fold desk_after d cs) e ≡ desk_after (fold desk_after d cs) c → Follows d (cs ++ c ∷ []) (es ++ e ∷ [])
+one_more : (d : Desk) (cs : List (List Command)) (es : List (List EditOf)) (c : List Command) (e : List EditOf) → Follows d cs es → fits (fold desk_after_all d cs) e ≡ true → after (fold desk_after_all d cs) e ≡ desk_after_all (fold desk_after_all d cs) c → Follows d (cs ++ c ∷ []) (es ++ e ∷ [])
 one_more d [] [] c e f fit does = (fit, does, tt)
-one_more d (b ∷ cs) (x ∷ es) c e f fit does = (f.0, f.1, one_more (desk_after d b) cs es c e f.2 fit does)
+one_more d (b ∷ cs) (x ∷ es) c e f fit does = (f.0, f.1, one_more (desk_after_all d b) cs es c e f.2 fit does)
 one_more d [] (x ∷ es) c e f fit does = absurd f
 one_more d (b ∷ cs) [] c e f fit does = absurd f
 
 -- the last edit fits the desk that those before it leave, and leads from there to the desk of all, as the last command does
-record Last (d : Desk) (cs : List Command) (es : List EditOf) (e : EditOf) : Type 0 where
+record Last (d : Desk) (cs : List (List Command)) (es : List (List EditOf)) (e : List EditOf) : Type 0 where
   follows : Follows d (front cs) es
-  fits : fits (fold desk_after d (front cs)) e ≡ true
-  leads : after (fold desk_after d (front cs)) e ≡ fold desk_after d cs
-  command : Command
+  fits : fits (fold desk_after_all d (front cs)) e ≡ true
+  leads : after (fold desk_after_all d (front cs)) e ≡ fold desk_after_all d cs
+  command : List Command
   is_final : final cs ≡ command ∷ []
-  makes : fold desk_after d cs ≡ desk_after (fold desk_after d (front cs)) command
+  makes : fold desk_after_all d cs ≡ desk_after_all (fold desk_after_all d (front cs)) command
 
-one_less : (d : Desk) (cs : List Command) (es : List EditOf) (e : EditOf) → Follows d cs (es ++ e ∷ []) → Last d cs es e
+one_less : (d : Desk) (cs : List (List Command)) (es : List (List EditOf)) (e : List EditOf) → Follows d cs (es ++ e ∷ []) → Last d cs es e
 one_less d [] [] e f = absurd f
 one_less d [] (x ∷ es) e f = absurd f
 one_less d (c ∷ []) [] e f = record { follows = tt; fits = f.0; leads = f.1; command = c; is_final = refl; makes = refl }
@@ -51,7 +51,7 @@ one_less d (c ∷ []) (x ∷ []) e f = absurd f.2
 one_less d (c ∷ []) (x ∷ y ∷ es) e f = absurd f.2
 one_less d (c ∷ b ∷ cs) [] e f = absurd f.2
 one_less d (c ∷ b ∷ cs) (x ∷ es) e f =
-    let last = one_less (desk_after d c) (b ∷ cs) es e f.2 in
+    let last = one_less (desk_after_all d c) (b ∷ cs) es e f.2 in
     record {
       follows = (f.0, f.1, last.follows);
       fits = last.fits;
@@ -62,34 +62,34 @@ one_less d (c ∷ b ∷ cs) (x ∷ es) e f =
     }
 
 -- one more command is undone
-one_more_ahead : (d : Desk) (cs : List Command) (es : List EditOf) (c : Command) (e : EditOf) → fits d e ≡ true → after d e ≡ desk_after d c → Follows (desk_after d c) (reverse cs) (reverse es)
+one_more_ahead : (d : Desk) (cs : List (List Command)) (es : List (List EditOf)) (c : List Command) (e : List EditOf) → fits d e ≡ true → after d e ≡ desk_after_all d c → Follows (desk_after_all d c) (reverse cs) (reverse es)
     → Follows d (reverse (cs ++ c ∷ [])) (reverse (es ++ e ∷ []))
 one_more_ahead d cs es c e fit does later =
     subst (λ xs. Follows d xs (reverse (es ++ e ∷ []))) (sym (reverse-append cs (c ∷ [])))
     (subst (λ ys. Follows d (c ∷ reverse cs) ys) (sym (reverse-append es (e ∷ []))) (fit, does, later))
 
-final_of : (cs : List Command) (c : Command) → final (cs ++ c ∷ []) ≡ c ∷ []
+final_of : (cs : List (List Command)) (c : List Command) → final (cs ++ c ∷ []) ≡ c ∷ []
 final_of [] c = refl
 final_of (b ∷ []) c = refl
 final_of (b ∷ d ∷ cs) c = final_of (d ∷ cs) c
 
-front_of : (cs : List Command) (c : Command) → front (cs ++ c ∷ []) ≡ cs
+front_of : (cs : List (List Command)) (c : List Command) → front (cs ++ c ∷ []) ≡ cs
 front_of [] c = refl
 front_of (b ∷ []) c = refl
 front_of (b ∷ d ∷ cs) c = ap (λ xs. b ∷ xs) (front_of (d ∷ cs) c)
 
 -- the edit that was undone last fits the desk, and leads on from there as the last command does
-record Next (d : Desk) (cs : List Command) (es : List EditOf) (e : EditOf) : Type 0 where
+record Next (d : Desk) (cs : List (List Command)) (es : List (List EditOf)) (e : List EditOf) : Type 0 where
   fits : fits d e ≡ true
-  command : Command
-  leads : after d e ≡ desk_after d command
+  command : List Command
+  leads : after d e ≡ desk_after_all d command
   is_final : final cs ≡ command ∷ []
-  ahead : Follows (desk_after d command) (reverse (front cs)) es
+  ahead : Follows (desk_after_all d command) (reverse (front cs)) es
 
-next_ahead : (d : Desk) (cs : List Command) (es : List EditOf) (e : EditOf) → Follows d (reverse cs) (e ∷ es) → Next d cs es e
+next_ahead : (d : Desk) (cs : List (List Command)) (es : List (List EditOf)) (e : List EditOf) → Follows d (reverse cs) (e ∷ es) → Next d cs es e
 next_ahead d cs es e f = by (reverse cs) refl f
   where
-    by : (rs : List Command) → reverse cs ≡ rs → Follows d rs (e ∷ es) → Next d cs es e
+    by : (rs : List (List Command)) → reverse cs ≡ rs → Follows d rs (e ∷ es) → Next d cs es e
     by [] is f = absurd f
     by (c ∷ rs) is f =
         let whole : cs ≡ reverse rs ++ c ∷ [] = sym (reverse-reverse cs) ∙ ap reverse is ∙ reverse-append (c ∷ []) rs in
@@ -98,10 +98,10 @@ next_ahead d cs es e f = by (reverse cs) refl f
           command = c;
           leads = f.1;
           is_final = ap final whole ∙ final_of (reverse rs) c;
-          ahead = subst (λ xs. Follows (desk_after d c) xs es) (sym (ap (λ xs. reverse (front xs)) whole ∙ ap reverse (front_of (reverse rs) c) ∙ reverse-reverse rs)) f.2;
+          ahead = subst (λ xs. Follows (desk_after_all d c) xs es) (sym (ap (λ xs. reverse (front xs)) whole ∙ ap reverse (front_of (reverse rs) c) ∙ reverse-reverse rs)) f.2;
         }
 
-as_many_ahead : (d : Desk) (cs : List Command) (es : List EditOf) → Follows d (reverse cs) (reverse es) → length cs ≡ length es
+as_many_ahead : (d : Desk) (cs : List (List Command)) (es : List (List EditOf)) → Follows d (reverse cs) (reverse es) → length cs ≡ length es
 as_many_ahead d cs es f = sym (length-reverse cs) ∙ as_many d (reverse cs) (reverse es) f ∙ length-reverse es
 
 same_reason : (core : CoreOf) (h : CallHistory) (call : Call) → HasCalled core h → call_refused core call ≡ refusal_of h call
@@ -111,23 +111,35 @@ same_reason core h call called =
     ∙ ap (λ n. refusal_at h.accepted (desk_now h) n (length core.undone) call) (sym (as_many h.start h.done core.done called.follows))
     ∙ ap (λ n. refusal_at h.accepted (desk_now h) (length h.done) n call) (sym (as_many_ahead (desk_now h) h.undone core.undone called.ahead))
 
-called_on : (old new : CoreOf) (h : CallHistory) (call : Call) → HasCalled old h → new.version ≡ old.version + 1 → Does old new call → HasCalled new (after_call h call)
-unfolding after_call
-called_on old new h (Apply command) called next does =
+same_early : (core : CoreOf) (h : CallHistory) (call : Call) → HasCalled core h → early_call_refused core call ≡ early_refusal_of h call
+same_early core h call called =
+    ap (λ v. early_refusal_at v core.desk (length core.done) (length core.undone) call) called.version
+    ∙ ap (λ d. early_refusal_at h.accepted d (length core.done) (length core.undone) call) called.desk
+    ∙ ap (λ n. early_refusal_at h.accepted (desk_now h) n (length core.undone) call) (sym (as_many h.start h.done core.done called.follows))
+    ∙ ap (λ n. early_refusal_at h.accepted (desk_now h) (length h.done) n call) (sym (as_many_ahead (desk_now h) h.undone core.undone called.ahead))
+
+done_on : (old new : CoreOf) (h : CallHistory) (commands : List Command) → HasCalled old h → new.version ≡ old.version + 1 → (new.desk ≡ desk_after_all old.desk commands) × DoesEdit old new
+    → HasCalled new (record h { done = h.done ++ commands ∷ []; undone = []; accepted = h.accepted + 1 })
+done_on old new h commands called next does =
     let e = does.1.0 in
     let fit : fits (desk_now h) e ≡ true = ap (λ d. fits d e) (sym called.desk) ∙ does.1.1 in
-    let leads : after (desk_now h) e ≡ desk_after (desk_now h) command =
-    ap (λ d. after d e) (sym called.desk) ∙ sym does.1.2 ∙ does.0 ∙ ap (λ d. desk_after d command) called.desk in
+    let leads : after (desk_now h) e ≡ desk_after_all (desk_now h) commands =
+    ap (λ d. after d e) (sym called.desk) ∙ sym does.1.2 ∙ does.0 ∙ ap (λ d. desk_after_all d commands) called.desk in
     record {
       version = next ∙ ap (λ n. n + 1) called.version;
-      desk = does.0 ∙ ap (λ d. desk_after d command) called.desk ∙ sym (fold_one_more h.start h.done command);
-      follows = subst (λ es. Follows h.start (h.done ++ command ∷ []) es) (sym does.1.3) (one_more h.start h.done old.done command e called.follows fit leads);
-      ahead = subst (λ es. Follows (fold desk_after h.start (h.done ++ command ∷ [])) [] (reverse es)) (sym does.1.4) tt;
+      desk = does.0 ∙ ap (λ d. desk_after_all d commands) called.desk ∙ sym (fold_one_more h.start h.done commands);
+      follows = subst (λ es. Follows h.start (h.done ++ commands ∷ []) es) (sym does.1.3) (one_more h.start h.done old.done commands e called.follows fit leads);
+      ahead = subst (λ es. Follows (fold desk_after_all h.start (h.done ++ commands ∷ [])) [] (reverse es)) (sym does.1.4) tt;
     }
+
+called_on : (old new : CoreOf) (h : CallHistory) (call : Call) → HasCalled old h → new.version ≡ old.version + 1 → Does old new call → HasCalled new (after_call h call)
+unfolding after_call
+called_on old new h (Apply command) called next does = done_on old new h (command ∷ []) called next does
+called_on old new h (Group commands) called next does = done_on old new h commands called next does
 called_on old new h (Undo last) called next does =
     let e = does.0 in
     let back = one_less h.start h.done new.done e (subst (λ es. Follows h.start h.done es) does.1 called.follows) in
-    let earlier = fold desk_after h.start (front h.done) in
+    let earlier = fold desk_after_all h.start (front h.done) in
     record {
       version = next ∙ ap (λ n. n + 1) called.version;
       desk =
@@ -145,8 +157,8 @@ called_on old new h (Redo last) called next does =
     let e = does.0 in
     let more =
     next_ahead (desk_now h) h.undone (reverse new.undone) e (subst (λ es. Follows (desk_now h) (reverse h.undone) es) (ap reverse does.1 ∙ reverse-append new.undone (e ∷ [])) called.ahead) in
-    let later : fold desk_after h.start (h.done ++ final h.undone) ≡ desk_after (desk_now h) more.command =
-    ap (λ cs. fold desk_after h.start (h.done ++ cs)) more.is_final ∙ fold_one_more h.start h.done more.command in
+    let later : fold desk_after_all h.start (h.done ++ final h.undone) ≡ desk_after_all (desk_now h) more.command =
+    ap (λ cs. fold desk_after_all h.start (h.done ++ cs)) more.is_final ∙ fold_one_more h.start h.done more.command in
     record {
       version = next ∙ ap (λ n. n + 1) called.version;
       desk = does.3 ∙ ap (λ d. after d e) called.desk ∙ more.leads ∙ sym later;
@@ -167,6 +179,9 @@ told_by : (core : CoreOf) (h : CallHistory) (call : Call) (why : Refusal) → Ha
 told_by core h (Apply command) why called reason =
     let same = same_reason core h (Apply command) called in
     (λ other. sym same ∙ reason.0 other, λ memory. sym same ∙ reason.1 memory)
+told_by core h (Group commands) why called reason =
+    let same = same_reason core h (Group commands) called in
+    (λ other. sym same ∙ reason.0 other, λ memory. sym (same_early core h (Group commands) called) ∙ reason.1 memory)
 told_by core h (Undo last) why called reason = sym (same_reason core h (Undo last) called) ∙ reason
 told_by core h (Redo last) why called reason = sym (same_reason core h (Redo last) called) ∙ reason
 
@@ -179,22 +194,22 @@ refused_by old new h call at why called now same reason = (
 
 -- ---- what the stored edits lead to
 
-edits_lead : (d : Desk) (cs : List Command) (es : List EditOf) → Follows d cs es → fold after d es ≡ fold desk_after d cs
+edits_lead : (d : Desk) (cs : List (List Command)) (es : List (List EditOf)) → Follows d cs es → fold after d es ≡ fold desk_after_all d cs
 edits_lead d [] [] f = refl
-edits_lead d (c ∷ cs) (e ∷ es) f = ap (λ x. fold after x es) f.1 ∙ edits_lead (desk_after d c) cs es f.2
+edits_lead d (c ∷ cs) (e ∷ es) f = ap (λ x. fold after x es) f.1 ∙ edits_lead (desk_after_all d c) cs es f.2
 edits_lead d [] (e ∷ es) f = absurd f
 edits_lead d (c ∷ cs) [] f = absurd f
 
-pub rewound_one_more : (d : Desk) (es : List EditOf) (e : EditOf) → rewound after inverse d (es ++ e ∷ []) ≡ after (rewound after inverse d es) (inverse e)
+pub rewound_one_more : (d : Desk) (es : List (List EditOf)) (e : List EditOf) → rewound after inverse d (es ++ e ∷ []) ≡ after (rewound after inverse d es) (inverse e)
 rewound_one_more d [] e = refl
 rewound_one_more d (x ∷ es) e = rewound_one_more (after d (inverse x)) es e
 
-edits_lead_back : (d : Desk) (cs : List Command) (es : List EditOf) → Follows d cs es → rewound after inverse (fold desk_after d cs) (reverse es) ≡ d
+edits_lead_back : (d : Desk) (cs : List (List Command)) (es : List (List EditOf)) → Follows d cs es → rewound after inverse (fold desk_after_all d cs) (reverse es) ≡ d
 edits_lead_back d [] [] f = refl
 edits_lead_back d (c ∷ cs) (e ∷ es) f =
-    ap (rewound after inverse (fold desk_after (desk_after d c) cs)) (reverse_onto es e [])
-    ∙ rewound_one_more (fold desk_after (desk_after d c) cs) (reverse es) e
-    ∙ ap (λ x. after x (inverse e)) (edits_lead_back (desk_after d c) cs es f.2 ∙ sym f.1)
+    ap (rewound after inverse (fold desk_after_all (desk_after_all d c) cs)) (reverse_onto es e [])
+    ∙ rewound_one_more (fold desk_after_all (desk_after_all d c) cs) (reverse es) e
+    ∙ ap (λ x. after x (inverse e)) (edits_lead_back (desk_after_all d c) cs es f.2 ∙ sym f.1)
     ∙ undoes d e f.0
 edits_lead_back d [] (e ∷ es) f = absurd f
 edits_lead_back d (c ∷ cs) [] f = absurd f

@@ -18,5 +18,6 @@ pub mod MixesHeard
 pub mod WholeRunLaws
 pub mod LaneCount
 pub mod EveryLaneLaws
+pub mod EditLaws
 mod FollowLaws
 mod BackAndAgain

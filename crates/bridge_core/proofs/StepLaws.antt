@@ -8,7 +8,7 @@ use Rattle.desk_rows.specs.Edit.{EditOf}
 use Rattle.desk_rows.specs.Desk.{Desk, good}
 use Rattle.desk_rows.specs.Exchange.{fits, exchanged, after}
 use Rattle.desk_rows.specs.laws.Laws.{fits_parts}
-use Rattle.desk_edit.specs.declared.command.Call.TheVariants.{Undo, Redo}
+use Rattle.desk_edit.specs.Asked.CallOf.{Undo, Redo}
 use Rattle.desk_edit.specs.Calls.{call_limit, refusal_at}
 use Rattle.mixer.specs.Mixers.{WasGiven}
 use Rattle.intake.specs.Inputs.{Input}
@@ -150,7 +150,7 @@ still_good d e begins = by (fits d e) refl
     by false h = begins
 
 -- a lane keeps its place
-pub still_sound : (version : ℕ) (desk : Desk) (done : List EditOf) (who : Asker) (old new : List LaneOf) (lane : ℕ) (state after : LaneOf) → IsSound version desk done old who → slice_get old lane ≡ Some state
+pub still_sound : (version : ℕ) (desk : Desk) (done : List (List EditOf)) (who : Asker) (old new : List LaneOf) (lane : ℕ) (state after : LaneOf) → IsSound version desk done old who → slice_get old lane ≡ Some state
     → after.lane ≡ state.lane → after.lanes ≡ state.lanes → after.who ≡ state.who → new ≡ set old lane after → IsSound version desk done new who
 still_sound version desk done who old new lane state after sound at place places name lanes = record {
   good = sound.good;
@@ -180,7 +180,7 @@ AreFresh-push lanes who states state fresh place places name nothing lane s at =
     ]
 
 -- fresh lanes make a sound core
-pub sound_at_first : (lanes : ℕ) (who : Asker) (states : List LaneOf) (desk : Desk) (done : List EditOf) → good desk ≡ true → AreFresh lanes who states → length states ≡ lanes → done ≡ [] → IsSound 0 desk done states who
+pub sound_at_first : (lanes : ℕ) (who : Asker) (states : List LaneOf) (desk : Desk) (done : List (List EditOf)) → good desk ≡ true → AreFresh lanes who states → length states ≡ lanes → done ≡ [] → IsSound 0 desk done states who
 sound_at_first lanes who states desk done begins fresh count none = record {
   good = begins;
   places = λ lane state at. let f = fresh lane state at in (f.0, f.1 ∙ sym count, f.2);

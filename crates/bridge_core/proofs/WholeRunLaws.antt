@@ -16,7 +16,7 @@ called_still old new h version desk done undone called = record {
   version = version ∙ called.version;
   desk = desk ∙ called.desk;
   follows = subst (Follows h.start h.done) (sym done) called.follows;
-  ahead = subst (λ (es : List EditOf). Follows (desk_now h) (reverse h.undone) (reverse es)) (sym undone) called.ahead;
+  ahead = subst (λ (es : List (List EditOf)). Follows (desk_now h) (reverse h.undone) (reverse es)) (sym undone) called.ahead;
 }
 
 -- what is sent, and that all desks are good

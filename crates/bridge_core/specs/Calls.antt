@@ -1,13 +1,14 @@
 -- How the core answers calls of the desk (own).
 use Rattle.std.specs.Prelude.{◌≡◌, ◌≢◌, ℕ, ◌+◌, true, not, ◌||◌, nat_lt, if◌then◌else◌, nat_eq, List, [], ◌∷◌, ◌++◌, length, Option, None, Some}
-use Rattle.desk_rows.specs.Edit.{EditOf, inverse}
-use Rattle.desk_rows.specs.Exchange.{fits, after}
-use Rattle.desk_edit.specs.declared.command.Call.{Call}
-use Rattle.desk_edit.specs.declared.command.Call.TheVariants.{Apply, Undo, Redo}
+use Rattle.desk_rows.specs.Edit.{EditOf}
+use Rattle.bridge_core.specs.Edits.{fits, after, inverse}
+use Rattle.desk_edit.specs.Asked.{CallOf as Call}
+use Rattle.desk_edit.specs.Asked.CallOf.{Apply, Group, Undo, Redo}
 use Rattle.desk_edit.specs.declared.refusal.Refusal.{Refusal}
 use Rattle.desk_edit.specs.declared.refusal.Refusal.TheVariants.{LogFull, OutOfMemory}
 use Rattle.desk_edit.specs.Commands.{desk_after}
-use Rattle.desk_edit.specs.Calls.{call_limit, refusal_at}
+use Rattle.desk_edit.specs.Groups.{desk_after_all}
+use Rattle.desk_edit.specs.Calls.{call_limit, refusal_at, early_refusal_at}
 use Rattle.intake.specs.Names.{is_name}
 use Rattle.bridge_core.specs.declared.fault.CoreFault.{CoreFault}
 use Rattle.bridge_core.specs.declared.fault.CoreFault.TheVariants.{BadLanes, BadSettings}
@@ -27,25 +28,30 @@ core_fault lanes cname =
 -- the desk is edited, and what was undone is forgotten
 abbrev pub DoesEdit : CoreOf → CoreOf → Type 0
 DoesEdit old new =
-    (e : EditOf) × (fits old.desk e ≡ true) × (new.desk ≡ after old.desk e) × (new.done ≡ old.done ++ e ∷ []) × (new.undone ≡ [])
+    (es : List EditOf) × (fits old.desk es ≡ true) × (new.desk ≡ after old.desk es) × (new.done ≡ old.done ++ es ∷ []) × (new.undone ≡ [])
 
 -- the last edit is taken back: it leads from the new desk to the old one, and its inverse from the old one to the new
 abbrev pub UndoesEdit : CoreOf → CoreOf → Type 0
 UndoesEdit old new =
-    (e : EditOf) × (old.done ≡ new.done ++ e ∷ []) × (new.undone ≡ old.undone ++ e ∷ []) × (old.desk ≡ after new.desk e) × (new.desk ≡ after old.desk (inverse e))
+    (es : List EditOf) × (old.done ≡ new.done ++ es ∷ []) × (new.undone ≡ old.undone ++ es ∷ []) × (old.desk ≡ after new.desk es) × (new.desk ≡ after old.desk (inverse es))
 
 -- the edit that was undone last is done again: it leads from the old desk to the new one, and its inverse back
 abbrev pub RedoesEdit : CoreOf → CoreOf → Type 0
 RedoesEdit old new =
-    (e : EditOf) × (old.undone ≡ new.undone ++ e ∷ []) × (new.done ≡ old.done ++ e ∷ []) × (new.desk ≡ after old.desk e) × (old.desk ≡ after new.desk (inverse e))
+    (es : List EditOf) × (old.undone ≡ new.undone ++ es ∷ []) × (new.done ≡ old.done ++ es ∷ []) × (new.desk ≡ after old.desk es) × (old.desk ≡ after new.desk (inverse es))
 
 -- the first reason for which a call is refused, want of memory apart
 abbrev pub call_refused : CoreOf → Call → Option Refusal
 call_refused core call = refusal_at core.version core.desk (length core.done) (length core.undone) call
 
--- what a call is to do: a command makes of the desk what its equation says
+-- the first reason as far as a call is judged when memory may first be wanted
+abbrev pub early_call_refused : CoreOf → Call → Option Refusal
+early_call_refused core call = early_refusal_at core.version core.desk (length core.done) (length core.undone) call
+
+-- what a call is to do: a command makes of the desk what its equation says, and a group what those of its commands say one after another
 abbrev pub Does : CoreOf → CoreOf → Call → Type 0
 Does old new (Apply command) = (new.desk ≡ desk_after old.desk command) × DoesEdit old new
+Does old new (Group commands) = (new.desk ≡ desk_after_all old.desk commands) × DoesEdit old new
 Does old new (Undo last) = UndoesEdit old new
 Does old new (Redo last) = RedoesEdit old new
 
@@ -53,6 +59,8 @@ Does old new (Redo last) = RedoesEdit old new
 abbrev pub IsReason : CoreOf → Call → Refusal → Type 0
 IsReason core (Apply command) why =
     (why ≢ OutOfMemory → call_refused core (Apply command) ≡ Some why) × (why ≡ OutOfMemory → call_refused core (Apply command) ≡ None)
+IsReason core (Group commands) why =
+    (why ≢ OutOfMemory → call_refused core (Group commands) ≡ Some why) × (why ≡ OutOfMemory → early_call_refused core (Group commands) ≡ None)
 IsReason core (Undo last) why = call_refused core (Undo last) ≡ Some why
 IsReason core (Redo last) why = call_refused core (Redo last) ≡ Some why
 

@@ -1,7 +1,7 @@
 -- What happens to a bridge: accepted calls of the desk and items of the lanes, in any order (own).
 use Rattle.std.specs.Prelude.{◌≡◌, ℕ, true, List, [], ◌∷◌, length}
 use Rattle.desk_rows.specs.Desk.{good}
-use Rattle.desk_edit.specs.declared.command.Call.{Call}
+use Rattle.desk_edit.specs.Asked.{CallOf as Call}
 use Rattle.desk_edit.specs.Calls.{CallHistory, desk_now, after_call}
 use Rattle.bridge_core.specs.declared.reply.Reply.TheVariants.{Accepted}
 use Rattle.intake.specs.Inputs.{Input}

@@ -7,7 +7,7 @@ use Rattle.feedback.specs.Upstream.{Asker}
 use Rattle.bridge_core.specs.LaneState.{LaneOf, HasHandled}
 
 -- the desk is good, each lane has its number and the name of the bridge, no more edits are done than calls were accepted, and these are no more than the limit
-pub record IsSound (version : ℕ) (desk : Desk) (done : List EditOf) (lanes : List LaneOf) (who : Asker) : Type 0 where
+pub record IsSound (version : ℕ) (desk : Desk) (done : List (List EditOf)) (lanes : List LaneOf) (who : Asker) : Type 0 where
   pub good : good desk ≡ true
   pub places : (lane : ℕ) (state : LaneOf) → slice_get lanes lane ≡ Some state → (state.lane ≡ lane) × (state.lanes ≡ length lanes) × (state.who ≡ who)
   pub fewer : length done ≤ version

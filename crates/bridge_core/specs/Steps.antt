@@ -64,8 +64,8 @@ sends who lanes start steps = along (sent_at who lanes start) [] steps
 pub record CoreOf : Type 0 where
   pub version : ℕ
   pub desk : Desk
-  pub done : List EditOf
-  pub undone : List EditOf
+  pub done : List (List EditOf)
+  pub undone : List (List EditOf)
   pub lanes : List LaneOf
   pub intake : IntakeOf
 

@@ -1,8 +1,7 @@
 -- Calls in a row: commands, as many undos, and as many redos (own).
 use Rattle.std.specs.Prelude.{◌≡◌, ℕ, zero, suc, ◌+◌, ◌≤◌, List, [], ◌∷◌}
-use Rattle.desk_edit.specs.declared.command.Command.{Command}
-use Rattle.desk_edit.specs.declared.command.Call.{Call}
-use Rattle.desk_edit.specs.declared.command.Call.TheVariants.{Apply, Undo, Redo}
+use Rattle.desk_edit.specs.Asked.{CallOf as Call}
+use Rattle.desk_edit.specs.Asked.CallOf.{Apply, Group, Undo, Redo}
 use Rattle.bridge_core.specs.declared.reply.Reply.{Reply}
 use Rattle.bridge_core.specs.declared.reply.Reply.TheVariants.{Accepted}
 use Rattle.desk_edit.specs.Calls.{call_limit}
@@ -16,11 +15,18 @@ AnswersAll first (call ∷ calls) replies last =
     (next : CoreOf) × (reply : Reply) × (later : List Reply) ×
     (replies ≡ reply ∷ later) × Answers first next call reply × AnswersAll next calls later last
 
--- from the first core to the last, each accepts one of the commands
-abbrev pub AcceptsAll : CoreOf → List Command → CoreOf → Type 0
+-- a call that asks for a command or a group of commands
+abbrev pub HasCommands : Call → Type 0
+HasCommands (Apply command) = Unit {0}
+HasCommands (Group commands) = Unit {0}
+HasCommands (Undo last) = ⊥
+HasCommands (Redo last) = ⊥
+
+-- from the first core to the last, each accepts one of the calls, which all ask for commands
+abbrev pub AcceptsAll : CoreOf → List Call → CoreOf → Type 0
 AcceptsAll first [] last = last ≡ first
-AcceptsAll first (command ∷ commands) last =
-    (next : CoreOf) × Answers first next (Apply command) (Accepted (first.version + 1)) × AcceptsAll next commands last
+AcceptsAll first (call ∷ calls) last =
+    (next : CoreOf) × Answers first next call (Accepted (first.version + 1)) × HasCommands call × AcceptsAll next calls last
 
 -- so many undos in a row, from this version on: each names the last accepted call
 abbrev pub undos : ℕ → ℕ → List Call

@@ -5,9 +5,8 @@ ghost use Rattle.std.specs.List.{AllByRecursion};
 ghost use Rattle.desk_rows.specs.declared.row.Member.{Member};
 ghost use Rattle.desk_rows.specs.Desk.{Desk, good};
 ghost use Rattle.undo_log.specs.Timeline.{rewound};
-ghost use Rattle.desk_rows.specs.Edit.{inverse};
-ghost use Rattle.desk_rows.specs.Exchange.{after};
-ghost use Rattle.desk_edit.specs.declared.command.Command.{Command};
+ghost use Rattle.bridge_core.specs.Edits.{after, inverse};
+ghost use Rattle.desk_edit.specs.Asked.{CallOf};
 ghost use Rattle.desk_edit.specs.Calls.{CallHistory, no_calls};
 ghost use Rattle.topology.specs.declared.receivers.Receiver.{Receiver};
 ghost use Rattle.topology.specs.Receivers.{receiver_on};
@@ -173,8 +172,8 @@ pub fn undos_and_redos_are_accepted()
 /// these are accepted while the log has room, and the desk is the one before the commands, members
 /// at their places. By as many redos it is the one after them again.
 pub fn commands_come_back()
-    ensures back { (first middle last : CoreOf) (commands : List Command) (replies : List Reply) → AcceptsAll first commands middle → UndoesInARow middle (length commands) replies last → (replies ≡ all_accepted middle.version (length commands)) × (last.desk ≡ first.desk) × (last.done ≡ first.done) }
-    ensures again { (first middle back last : CoreOf) (commands : List Command) (replies later : List Reply) → AcceptsAll first commands middle → UndoesInARow middle (length commands) replies back → RedoesInARow back (length commands) later last → (later ≡ all_accepted back.version (length commands)) × IsAsWas last middle }
+    ensures back { (first middle last : CoreOf) (commands : List CallOf) (replies : List Reply) → AcceptsAll first commands middle → UndoesInARow middle (length commands) replies last → (replies ≡ all_accepted middle.version (length commands)) × (last.desk ≡ first.desk) × (last.done ≡ first.done) }
+    ensures again { (first middle back last : CoreOf) (commands : List CallOf) (replies later : List Reply) → AcceptsAll first commands middle → UndoesInARow middle (length commands) replies back → RedoesInARow back (length commands) later last → (later ≡ all_accepted back.version (length commands)) × IsAsWas last middle }
 {}
 
 /// Undos of so many commands as are done, whatever was called before, and as many redos: these are
@@ -196,7 +195,7 @@ pub fn undos_are_redone()
 ///   had last, and a lost picture is asked for from the source that the slot chose;
 /// - the number of lanes makes no difference to a stream.
 pub fn the_headline()
-    ensures undone { (first middle last : CoreOf) (commands : List Command) (replies : List Reply) → AcceptsAll first commands middle → UndoesInARow middle (length commands) replies last → (replies ≡ all_accepted middle.version (length commands)) × (last.desk ≡ first.desk) × (last.done ≡ first.done) }
+    ensures undone { (first middle last : CoreOf) (commands : List CallOf) (replies : List Reply) → AcceptsAll first commands middle → UndoesInARow middle (length commands) replies last → (replies ≡ all_accepted middle.version (length commands)) × (last.desk ≡ first.desk) × (last.done ≡ first.done) }
     ensures holds { (start : Desk) (events : List Event) (sent : List (List Sent)) (first last : CoreOf) → good start ≡ true → HasTaken first start [] → HasCalled first (no_calls start) → Plays first events sent last → Holds first.intake.asker (length first.lanes) start (steps_of (no_calls start) events) sent }
     ensures lanes { (who : Asker) (few many : ℕ) (start : Desk) (events : List Event) (ssrc : ℕ) → 0 < few → 0 < many → (let steps = steps_of (no_calls start) events in sent_on ssrc (sends who few start (to_every few steps)) ≡ sent_on ssrc (sends who many start (to_every many steps))) }
 {

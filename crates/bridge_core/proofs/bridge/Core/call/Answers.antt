@@ -9,3 +9,6 @@ returns-in-Undo-clause-takes g c = published_if c.args.self.now c.undo.new.self 
 
 pub returns-in-Redo-clause-takes : goal.returns-in-Redo-clause-takes
 returns-in-Redo-clause-takes g c = published_if c.args.self.now c.redo.new.self c.redo.result c.redo.ensures.version
+
+pub returns-in-Group-clause-takes : goal.returns-in-Group-clause-takes
+returns-in-Group-clause-takes g c = published_if c.args.self.now c.apply_group.new.self c.apply_group.result c.apply_group.ensures.version

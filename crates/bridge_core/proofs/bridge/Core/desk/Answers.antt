@@ -1,5 +1,6 @@
 use Rattle.std.proofs.Common.{sym, ap, subst}
 use Rattle.bridge_core.specs.declared.reply.Reply.{Reply}
+use Rattle.desk_edit.specs.Asked.{asked_by}
 use Rattle.bridge_core.specs.Steps.{CoreOf}
 use Rattle.bridge_core.specs.Following.{IsAnswered}
 use Rattle.bridge_core.proofs.FollowLaws.{accepted_by, refused_by}
@@ -10,7 +11,7 @@ pub returns-clause-history : goal.returns-clause-history
 returns-clause-history g c h called =
     let old = c.args.self.now in
     let new = c.call-done.new.self in
-    let call = c.args.call in
+    let call = asked_by c.args.call in
     let is_version = ap (λ (core : CoreOf). core.version) c.self.view_is in
     elim c.match-done.branch [
       | in-Ok w ↦

@@ -29,7 +29,7 @@ returns-clause-takes g c =
     IfOk-weaker c.step.result _ _ (λ sent does.
     subst (λ (core : CoreOf). Takes core new (Step.item c.args.lane (input_of c.args.item.now)) (map sent_of sent.items ∷ [])) c.self.view_is
     (handled old new c.args.lane c.index_mut.result.now c.step.new.self (input_of c.args.item.now) (map sent_of sent.items) c.self.invariant (there g c)
-    (subst (λ (d : Desk). Handles c.index_mut.result.now c.step.new.self c.self.inside.version d (input_of c.args.item.now) (map sent_of sent.items)) c.state-rows.ensures does) refl refl refl)) c.step.ensures.sends
+    (subst (λ (d : Desk). Handles c.index_mut.result.now c.step.new.self c.self.inside.version d (input_of c.args.item.now) (map sent_of sent.items)) (c.inner-rows.ensures ∙ c.state.ensures) does) refl refl refl)) c.step.ensures.sends
 
 pub returns-clause-spent : goal.returns-clause-spent
 returns-clause-spent g c =

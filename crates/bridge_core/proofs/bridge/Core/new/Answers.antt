@@ -7,18 +7,18 @@ use Rattle.bridge_core.proofs.bridge.Core.new.Goals as goal
 
 pub invariant_of-result : goal.invariant_of-result
 invariant_of-result g c =
-    subst (IsSound 0 c.new-3.result.state c.new-3.result.done c.in-Ok-lane_states.states.items) (sym c.in-Ok-new.ensures.asker)
-    (sound_at_first c.args.lanes _ c.in-Ok-lane_states.states.items c.new-3.result.state c.new-3.result.done (ap good c.new-3.ensures.state ∙ c.in-Ok.ensures.good) c.in-Ok-lane_states.ensures.fresh c.in-Ok-lane_states.ensures.count c.new-3.ensures.done)
+    subst (IsSound 0 c.new-4.result.state c.new-4.result.done c.in-Ok-lane_states.states.items) (sym c.in-Ok-new.ensures.asker)
+    (sound_at_first c.args.lanes _ c.in-Ok-lane_states.states.items c.new-4.result.state c.new-4.result.done (ap good (c.new-4.ensures.state ∙ c.new-3.ensures) ∙ c.in-Ok.ensures.good) c.in-Ok-lane_states.ensures.fresh c.in-Ok-lane_states.ensures.count c.new-4.ensures.done)
 
 pub returns-clause-fresh : goal.returns-clause-fresh
 returns-clause-fresh g c = record {
   version = refl;
-  desk = c.new-3.ensures.state ∙ c.in-Ok.ensures.desk;
+  desk = (c.new-4.ensures.state ∙ c.new-3.ensures) ∙ c.in-Ok.ensures.desk;
   lanes = λ lane state at. (c.in-Ok-lane_states.ensures.fresh lane state at).3;
 }
 
 pub returns-clause-begins : goal.returns-clause-begins
-returns-clause-begins g c = ap good c.new-3.ensures.state ∙ c.in-Ok.ensures.good
+returns-clause-begins g c = ap good (c.new-4.ensures.state ∙ c.new-3.ensures) ∙ c.in-Ok.ensures.good
 
 pub returns-clause-good : goal.returns-clause-good
 returns-clause-good g c =

@@ -1,11 +1,12 @@
 use Rattle.std.proofs.Common.{◌≡◌, ◌≢◌, ◌+◌, false, nat_eq, length, None, sym, ap, subst, ◌∙◌, arith}
 use Rattle.std.proofs.lemmas.List.{length_push}
 use Rattle.desk_rows.specs.Desk.{good}
-use Rattle.desk_edit.specs.declared.command.Call.TheVariants.{Redo}
+use Rattle.desk_edit.specs.Asked.CallOf.{Redo}
 use Rattle.bridge_core.specs.Calls.{call_refused, RedoesEdit}
 use Rattle.desk_edit.specs.Calls.{call_limit}
 use Rattle.bridge_core.specs.Steps.{CoreOf}
-use Rattle.bridge_core.proofs.StepLaws.{redo_free, of_ok, still_good, one_more_call}
+use Rattle.bridge_core.proofs.StepLaws.{redo_free, of_ok, one_more_call}
+use Rattle.bridge_core.proofs.EditLaws.{still_good}
 use Rattle.bridge_core.proofs.bridge.Core.redo.Goals as goal
 
 pub invariant_of-self : goal.invariant_of-self
