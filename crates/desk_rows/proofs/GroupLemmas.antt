@@ -1,7 +1,9 @@
 -- Tables of what is in rows: made, counted, and parted by groups.
 use Rattle.std.specs.Prelude.{◌≡◌, ◌<◌, ◌≤◌, ◌||◌, ◌∷◌, ◌+◌, ◌&&◌}
-use Rattle.desk_rows.specs.laws.Words.{ℕ, zero, suc, Bool, true, false, cond, List, [], length, get_or, nat_lt, Option, None, Some, refl, sym, ap, ◌∙◌, arith, nat_eq, inl, inr, filter, eqb-true, insert, remove, nat_le, le_of_eq, and_parts, and_from, cases_Bool, leb-true, leb-false, le-leb, nat_tests, sum_by-IsPermutation, count_by-le-length, list_all, filter_map, cons_option, IsNonDecreasingBy, IsPermutation, IsSortedByKey, nat_cmp, is_lt, ordering_then, count_by, Kind, Row, after, is_of, stand_by, in_turn, passes_if, passes_in, Parts}
-use Rattle.desk_rows.specs.laws.ListLaws.{SameCounts, count_next, count_yes, same_length, all_pass, stand_by-filter, ahead_may, falling}
+use Rattle.desk_rows.specs.laws.Words.{ℕ, zero, suc, Bool, true, false, cond, List, [], length, get_or, nat_lt, Option, None, Some, refl, sym, ap, ◌∙◌, arith, nat_eq, inl, inr, filter, eqb-true, insert, remove, drop, not, not-true, nat_le, le_of_eq, and_parts, and_from, cases_Bool, leb-true, leb-false, le-leb, nat_tests, sum_by-IsPermutation, count_by-le-length, list_all, filter_map, cons_option, IsNonDecreasingBy, IsPermutation, IsSortedByKey, nat_cmp, is_lt, ordering_then, count_by, Kind, Row, after, is_of, same_row, stand_by, in_turn, passes_if, passes_in, Parts}
+use Rattle.desk_rows.specs.laws.ListLaws.{SameCounts, count_next, count_yes, count_no, true_false, same_length, all_pass, stand_by-filter, ahead_may, falling}
+use Rattle.std.proofs.Common.{length-drop}
+use Rattle.desk_rows.specs.laws.Equal.{same_row_is}
 use Rattle.desk_rows.proofs.Halving.{later_parts}
 
 -- ---- counts
@@ -186,3 +188,45 @@ parted_by may on y xs h = falling may (λ x. may x y) (λ a b ahead e. on a b y 
 
 pub in_turn_either : {X : Type 0} (group turn : X → ℕ) (a b : X) → in_turn group turn a b ≡ false → in_turn group turn b a ≡ true
 in_turn_either group turn a b h = grind (arith, nat_tests, h)
+
+-- those that stand before an entry come first
+pub parted_before : {X : Type 0} (may : X → X → Bool) → ((a b c : X) → may a b ≡ true → may b c ≡ true → may a c ≡ true) → (y : X) (xs : List X) → stand_by may xs ≡ true
+    → (i j : ℕ) (d : X) → i ≤ j → j < length xs → not (may y (get_or xs j d)) ≡ true → not (may y (get_or xs i d)) ≡ true
+parted_before may on y xs h = falling may (λ x. not (may y x)) (λ a b ahead e. turned (may y a) (may y b) (λ first. on y a b first ahead) e) xs h
+  where
+    turned : (p q : Bool) → (p ≡ true → q ≡ true) → not q ≡ true → not p ≡ true
+    turned true q up e = absurd (true_false (sym (up refl) ∙ not-true q e))
+    turned false q up e = refl
+
+pub in_turn_itself : {X : Type 0} (group turn : X → ℕ) (x : X) → in_turn group turn x x ≡ true
+in_turn_itself group turn x = grind (arith, nat_tests)
+
+-- ---- an entry found
+
+-- all that pass a test stand behind those that pass one which rules it out
+pub count_behind : {X : Type 0} (p q : X → Bool) → ((x : X) → p x ≡ true → q x ≡ false) → (xs : List X) (i : ℕ) → Parts p xs i → count_by q (drop i xs) ≡ count_by q xs
+count_behind p q out xs zero h = refl
+count_behind p q out [] (suc i) h = refl
+count_behind p q out (x ∷ xs) (suc i) h =
+    let rest = count_behind p q out xs i (later_parts p x xs i h) in
+    rest ∙ sym (count_no q x xs (out x (h.0 zero x (omega arith) (omega arith))))
+
+-- where one passes, there is a first one at or behind the place
+pub some_behind : {X : Type 0} (q : X → Bool) (xs : List X) (i : ℕ) → 1 ≤ count_by q (drop i xs) → i < length xs
+some_behind q xs i h = omega (arith, h, count_by-le-length q (drop i xs), length-drop i xs)
+
+pub none_here : {X : Type 0} (q : X → Bool) (xs : List X) (i : ℕ) (d : X) → i < length xs → q (get_or xs i d) ≡ false → count_by q (drop (suc i) xs) ≡ count_by q (drop i xs)
+none_here q [] i d lt e = absurd (omega (arith, lt))
+none_here q (x ∷ xs) zero d lt e = sym (count_no q x xs e)
+none_here q (x ∷ xs) (suc i) d lt e = none_here q xs i d (omega (arith, lt)) e
+
+-- an entry is told by its row
+pub told_by_row : {X : Type 0} (in_row : Row → Option X) (as_row : X → Row) → ((x : X) → in_row (as_row x) ≡ Some x) → (x y : X) → same_row (as_row x) (as_row y) ≡ true → x ≡ y
+told_by_row in_row as_row back x y e =
+    let same : Some x ≡ Some y = sym (back x) ∙ ap in_row (same_row_is (as_row x) (as_row y) e) ∙ back y in cc
+
+-- what is in the first of these rows is among what is in them
+pub first_passes : {X : Type 0} (in_row : Row → Option X) (q : X → Bool) (one : X) (r : Row) (rows all : List Row) → all ≡ r ∷ rows → Some one ≡ in_row r → q one ≡ true → 1 ≤ count_by (passes_in in_row q) all
+first_passes in_row q one r rows all e has passes =
+    let first : passes_in in_row q r ≡ true = ap (passes_if q) (sym has) ∙ passes in
+    omega (arith, ap (count_by (passes_in in_row q)) e, count_yes (passes_in in_row q) r rows first)

@@ -56,6 +56,12 @@ others_balance p d e g h =
     let come = count_by-with_rows p e.replaced.new e.put.others in
     omega (arith, n.0, n.1, out, come)
 
+-- no more go than there are
+pub others_go : (p : Row → Bool) (d : Desk) (e : EditOf) → good d ≡ true → is_apt d e ≡ true → count_by p e.taken.others + count_by p e.replaced.old ≤ count_by p d.others
+others_go p d e g h =
+    let n = others_after p d e (good_order d g) (apt_parts d e h) in
+    omega (arith, n.0, count_by-with_rows p e.replaced.old e.taken.others)
+
 pub over_is : (p : Row → Bool) (d : Desk) (e : EditOf) (limit : ℕ) → good d ≡ true → is_apt d e ≡ true →
     nat_lt (limit + (count_by p e.taken.others + count_by p e.replaced.old)) (count_by p d.others + (count_by p e.put.others + count_by p e.replaced.new)) ≡ not (nat_le (count_by p (exchanged d e).others) limit)
 over_is p d e limit g h = ap (λ n. nat_lt (limit + (count_by p e.taken.others + count_by p e.replaced.old)) n) (others_balance p d e g h) ∙ more _ (count_by p e.taken.others + count_by p e.replaced.old) limit where
@@ -101,6 +107,7 @@ pub record Absorbs (d : Desk) (e : EditOf) : Type 0 where
   pub others_few : length (with_rows (ins e) (without_rows (outs e) d.others)) ≤ other_limit
   pub subs_few : length (filter (is_of kinds.Sub) (with_rows (ins e) (without_rows (outs e) d.others))) ≤ slot_limit
   pub slots_few : length (filter (is_of kinds.Slot) (with_rows (ins e) (without_rows (outs e) d.others))) ≤ slot_limit
+  pub go : (p : Row → Bool) → count_by p e.taken.others + count_by p e.replaced.old ≤ count_by p d.others
   pub balance : (p : Row → Bool) → count_by p d.others + (count_by p e.put.others + count_by p e.replaced.new) ≡ count_by p (with_rows (ins e) (without_rows (outs e) d.others)) + (count_by p e.taken.others + count_by p e.replaced.old)
   pub good_after : good (exchanged d e) ≡ true
   pub after_is : exchanged d e ≡ after d e
@@ -123,6 +130,7 @@ absorbs d e h =
       others_few = few.1;
       subs_few = slots.0;
       slots_few = slots.1;
+      go = λ p. others_go p d e f.before (apt_from d e f.apt);
       balance = λ p. others_balance p d e f.before (apt_from d e f.apt);
       good_after = f.later;
       after_is = sym (after_fits d e h);

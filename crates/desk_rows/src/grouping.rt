@@ -1,8 +1,10 @@
-//! Rows of one kind, listed once more in groups, so that a group is found by halving.
+//! Rows of one kind, listed once more in groups, so that a group is found by binary search.
 
-ghost use Rattle.std.specs.Prelude.{◌≡◌, ℕ, ◌+◌, ◌<◌, ◌≤◌, not, cond, slice_index_or, Bool, true, false, filter, length, count_by, nat_eq, Option, None, vec_len, vec_capacity};
+ghost use Rattle.std.specs.Prelude.{◌≡◌, ℕ, ◌+◌, ◌<◌, ◌≤◌, not, cond, slice_index_or, Bool, true, false, filter, length, count_by, nat_eq, Option, None, vec_len, vec_capacity, refl};
 ghost use Rattle.std.specs.List.{filter_map};
 ghost use Rattle.desk_rows.specs.declared.row.Kind.TheVariants as kinds;
+ghost use Rattle.desk_rows.specs.declared.row.Row.TheVariants.{Member as MemberRow, Slot as SlotRow, Sub as SubRow};
+ghost use Rattle.desk_rows.specs.Row.{same_row};
 ghost use Rattle.desk_rows.specs.Kinds.{is_of};
 ghost use Rattle.desk_rows.specs.Order.{in_order};
 ghost use Rattle.desk_rows.specs.Naming.{member_in, slot_in, sub_in};
@@ -18,6 +20,7 @@ use std::alloc::Allocator;
 
 /// A kind of row that is listed in groups.
 pub(crate) trait Grouped: Copy {
+    ghost use Rattle.std.specs.Prelude.{Some};
     ghost use Rattle.desk_rows.specs.declared.row.Kind.{Kind};
     ghost use Rattle.desk_rows.specs.declared.row.Row.{Row};
 
@@ -28,6 +31,8 @@ pub(crate) trait Grouped: Copy {
     ghost group: { Self → ℕ };
 
     ghost turn: { Self → ℕ };
+
+    ghost as_row: { Self → Row };
 
     fn kind() -> Kind
         ensures { result ≡ kind };
@@ -44,12 +49,22 @@ pub(crate) trait Grouped: Copy {
     fn turn(&self) -> u32
         ensures { result ≡ turn self.now };
 
-    /// Whether the other is the same.
-    fn is_same(&self, other: &Self) -> bool
-        ensures { result ≡ true → self.now ≡ other.now };
+    /// The row that has it.
+    fn as_row(&self) -> Row
+        ensures { result ≡ as_row self.now };
 
     /// No row of another kind has one.
     ghost of_kind: { (r : Row) → is_of kind r ≡ false → in_row r ≡ None };
+
+    /// Its row has this one.
+    ghost its_row: { (one : Self) → in_row (as_row one) ≡ Some one };
+}
+
+/// Whether an entry is the same as the other.
+fn is_same<T: Grouped>(one: &T, other: &T) -> bool
+    ensures { result ≡ same_row (T.as_row one.now) (T.as_row other.now) }
+{
+    one.as_row().is_same(&other.as_row())
 }
 
 /// Whether an entry stands before the other.
@@ -70,6 +85,8 @@ impl Grouped for Sub {
 
     ghost turn = { λ s. s.out_ssrc };
 
+    ghost as_row = { SubRow };
+
     fn kind() -> Kind {
         Kind::Sub
     }
@@ -89,11 +106,13 @@ impl Grouped for Sub {
         self.out_ssrc
     }
 
-    fn is_same(&self, other: &Sub) -> bool {
-        self == other
+    fn as_row(&self) -> Row {
+        Row::Sub(*self)
     }
 
     ghost of_kind = { no_sub };
+
+    ghost its_row = { λ one. refl };
 }
 
 /// By their members.
@@ -105,6 +124,8 @@ impl Grouped for Slot {
     ghost group = { λ s. s.member };
 
     ghost turn = { λ s. s.index };
+
+    ghost as_row = { SlotRow };
 
     fn kind() -> Kind {
         Kind::Slot
@@ -125,11 +146,13 @@ impl Grouped for Slot {
         self.index
     }
 
-    fn is_same(&self, other: &Slot) -> bool {
-        self == other
+    fn as_row(&self) -> Row {
+        Row::Slot(*self)
     }
 
     ghost of_kind = { no_slot };
+
+    ghost its_row = { λ one. refl };
 }
 
 /// By their rooms.
@@ -141,6 +164,8 @@ impl Grouped for Member {
     ghost group = { λ m. m.room };
 
     ghost turn = { λ m. m.member };
+
+    ghost as_row = { MemberRow };
 
     fn kind() -> Kind {
         Kind::Member
@@ -161,11 +186,13 @@ impl Grouped for Member {
         self.member
     }
 
-    fn is_same(&self, other: &Member) -> bool {
-        self == other
+    fn as_row(&self) -> Row {
+        Row::Member(*self)
     }
 
     ghost of_kind = { no_member };
+
+    ghost its_row = { λ one. refl };
 }
 
 /// The group of this number.
@@ -236,26 +263,30 @@ fn leaves(edit: &EditLists<'_>, kind: Kind) -> bool
         && (has_none(edit.put_others(), kind) && has_none(edit.new(), kind))
 }
 
-/// Whether the entry stands at the place.
-fn stands<T: Grouped>(table: &[T], place: usize, one: &T) -> bool
-    ensures { result ≡ true → (place < length table.now) × (slice_index_or table.now place one.now ≡ one.now) }
+/// The place of an entry that the table has. Those of one group and turn stand together.
+fn find_entry<T: Grouped>(table: &[T], one: &T) -> usize
+    requires order { stand_by (in_turn T.group T.turn) table.now ≡ true }
+    requires there { 1 ≤ count_by (λ x. same_row (T.as_row x) (T.as_row one.now)) table.now }
+    ensures bound { result < length table.now }
+    ensures entry { slice_index_or table.now result one.now ≡ one.now }
 {
-    place < table.len() && table[place].is_same(one)
+    let mut place = table.partition_point(|other| precedes(other, one));
+    while !is_same(&table[place], one) {
+        place += 1;
+    }
+    place
 }
 
-/// Takes the entry out, if it stands where one of its group and turn does.
-fn take_entry<T: Grouped, A: Allocator>(table: &mut Vec<T, A>, one: &T) -> bool
+/// Takes out an entry that the table has.
+fn take_entry<T: Grouped, A: Allocator>(table: &mut Vec<T, A>, one: &T)
     requires order { stand_by (in_turn T.group T.turn) table.old.items ≡ true }
+    requires there { 1 ≤ count_by (λ x. same_row (T.as_row x) (T.as_row one.now)) table.old.items }
     ensures order { stand_by (in_turn T.group T.turn) table.new.items ≡ true }
-    ensures taken { result ≡ true → (p : T → Bool) → count_by p table.new.items + cond (p one.now) 1 0 ≡ count_by p table.old.items }
+    ensures taken { (p : T → Bool) → count_by p table.new.items + cond (p one.now) 1 0 ≡ count_by p table.old.items }
     ensures capacity { vec_capacity table.old ≤ vec_capacity table.new }
 {
-    let place = table.partition_point(|other| precedes(other, one));
-    if !stands(table, place, one) {
-        return false;
-    }
+    let place = find_entry(table, one);
     table.remove(place);
-    true
 }
 
 /// Puts the entry in. There is room for it.
@@ -273,23 +304,21 @@ fn put_entry<T: Grouped, A: Allocator>(table: &mut Vec<T, A>, one: &T)
     }
 }
 
-/// Takes what is in these rows out. It says whether all was found.
-fn take_each<T: Grouped, A: Allocator>(table: &mut Vec<T, A>, rows: &[Row]) -> bool
+/// Takes out what is in these rows. The table has all of it.
+fn take_each<T: Grouped, A: Allocator>(table: &mut Vec<T, A>, rows: &[Row])
     requires order { stand_by (in_turn T.group T.turn) table.old.items ≡ true }
+    requires there { (p : T → Bool) → count_by (passes_in T.in_row p) rows.now ≤ count_by p table.old.items }
     ensures order { stand_by (in_turn T.group T.turn) table.new.items ≡ true }
-    ensures taken { result ≡ true → (p : T → Bool) → count_by p table.new.items + count_by (passes_in T.in_row p) rows.now ≡ count_by p table.old.items }
+    ensures taken { (p : T → Bool) → count_by p table.new.items + count_by (passes_in T.in_row p) rows.now ≡ count_by p table.old.items }
     ensures capacity { vec_capacity table.old ≤ vec_capacity table.new }
 {
     let mut rest = rows;
     while let Some((row, later)) = rest.split_first() {
         if let Some(one) = T::in_row(row) {
-            if !take_entry(table, &one) {
-                return false;
-            }
+            take_entry(table, &one);
         }
         rest = later;
     }
-    true
 }
 
 /// Puts what is in these rows in. There is room for it.
@@ -309,33 +338,26 @@ fn put_each<T: Grouped, A: Allocator>(table: &mut Vec<T, A>, rows: &[Row])
     }
 }
 
-/// How many rows of a kind may come and go one by one: of more the table is made anew.
-const FEW: usize = 32;
-
-/// Exchanges what is in the rows that go for what is in those that come, one by one. It says whether
-/// all that goes was found; where it wasn't, the table is to be made anew.
+/// Exchanges what is in the rows that go for what is in those that come, one by one. The table has all
+/// that goes, and room for what comes.
 fn exchange_each<T: Grouped, A: Allocator>(
     table: &mut Vec<T, A>,
     taken: &[Row],
     old: &[Row],
     put: &[Row],
     new: &[Row],
-) -> bool
+)
     requires order { stand_by (in_turn T.group T.turn) table.old.items ≡ true }
+    requires there { (p : T → Bool) → count_by (passes_in T.in_row p) taken.now + count_by (passes_in T.in_row p) old.now ≤ count_by p table.old.items }
     requires room { count_by (λ x. true) table.old.items + (count_by (passes_in T.in_row (λ x. true)) put.now + count_by (passes_in T.in_row (λ x. true)) new.now) ≤ vec_capacity table.old + (count_by (passes_in T.in_row (λ x. true)) taken.now + count_by (passes_in T.in_row (λ x. true)) old.now) }
-    ensures order { result ≡ true → stand_by (in_turn T.group T.turn) table.new.items ≡ true }
-    ensures same { result ≡ true → (p : T → Bool) → count_by p table.new.items + (count_by (passes_in T.in_row p) taken.now + count_by (passes_in T.in_row p) old.now) ≡ count_by p table.old.items + (count_by (passes_in T.in_row p) put.now + count_by (passes_in T.in_row p) new.now) }
+    ensures order { stand_by (in_turn T.group T.turn) table.new.items ≡ true }
+    ensures same { (p : T → Bool) → count_by p table.new.items + (count_by (passes_in T.in_row p) taken.now + count_by (passes_in T.in_row p) old.now) ≡ count_by p table.old.items + (count_by (passes_in T.in_row p) put.now + count_by (passes_in T.in_row p) new.now) }
     ensures capacity { vec_capacity table.old ≤ vec_capacity table.new }
 {
-    if !take_each(table, taken) {
-        return false;
-    }
-    if !take_each(table, old) {
-        return false;
-    }
+    take_each(table, taken);
+    take_each(table, old);
     put_each(table, put);
     put_each(table, new);
-    true
 }
 
 /// The rows of the kind.
@@ -347,28 +369,9 @@ fn rows_in<T: Grouped>(rows: &[Row]) -> &[Row]
     rows_of_kind(rows, T::kind())
 }
 
-/// Exchanges few rows of a kind one by one. It says whether it did; where it didn't, the table is to be
-/// made anew.
-fn exchange_few<T: Grouped, A: Allocator + Copy>(
-    table: &mut Vec<T, A>,
-    edit: &EditLists<'_>,
-) -> bool
-    requires order { stand_by (in_turn T.group T.turn) table.old.items ≡ true }
-    requires orders { HasOrders edit.now }
-    requires room { count_by (λ x. true) table.old.items + (count_by (passes_in T.in_row (λ x. true)) edit.now.put.others + count_by (passes_in T.in_row (λ x. true)) edit.now.replaced.new) ≤ vec_capacity table.old + (count_by (passes_in T.in_row (λ x. true)) edit.now.taken.others + count_by (passes_in T.in_row (λ x. true)) edit.now.replaced.old) }
-    ensures order { result ≡ true → stand_by (in_turn T.group T.turn) table.new.items ≡ true }
-    ensures same { result ≡ true → (p : T → Bool) → count_by p table.new.items + (count_by (passes_in T.in_row p) edit.now.taken.others + count_by (passes_in T.in_row p) edit.now.replaced.old) ≡ count_by p table.old.items + (count_by (passes_in T.in_row p) edit.now.put.others + count_by (passes_in T.in_row p) edit.now.replaced.new) }
-    ensures capacity { vec_capacity table.old ≤ vec_capacity table.new }
-{
-    let taken = rows_in::<T>(edit.taken_others());
-    let old = rows_in::<T>(edit.old());
-    let put = rows_in::<T>(edit.put_others());
-    let new = rows_in::<T>(edit.new());
-    if taken.len() > FEW || old.len() > FEW || put.len() > FEW || new.len() > FEW {
-        return false;
-    }
-    exchange_each(table, taken, old, put, new)
-}
+/// Of how many rows in each list of an edit the table is still changed entry by entry. To change one
+/// moves all entries behind it, so that for more rows it costs less to sort the table anew.
+const FEW: usize = 32;
 
 /// Brings the table of the rows before an edit to those after it.
 pub(crate) fn follow<T: Grouped, A: Allocator + Copy>(
@@ -379,6 +382,7 @@ pub(crate) fn follow<T: Grouped, A: Allocator + Copy>(
     requires order { stand_by (in_turn T.group T.turn) table.old.items ≡ true }
     requires rows { in_order others.now ≡ true }
     requires orders { HasOrders edit.now }
+    requires there { (p : T → Bool) → count_by (passes_in T.in_row p) edit.now.taken.others + count_by (passes_in T.in_row p) edit.now.replaced.old ≤ count_by p table.old.items }
     requires before { (p : T → Bool) → count_by p table.old.items + (count_by (passes_in T.in_row p) edit.now.put.others + count_by (passes_in T.in_row p) edit.now.replaced.new) ≡ count_by (passes_in T.in_row p) others.now + (count_by (passes_in T.in_row p) edit.now.taken.others + count_by (passes_in T.in_row p) edit.now.replaced.old) }
     requires room { length (filter (is_of T.kind) others.now) ≤ vec_capacity table.old }
     ensures table { IsTableOf T.in_row T.group T.turn others.now table.new.items }
@@ -387,8 +391,13 @@ pub(crate) fn follow<T: Grouped, A: Allocator + Copy>(
     if leaves(edit, T::kind()) {
         return;
     }
-    if exchange_few(table, edit) {
+    let taken = rows_in::<T>(edit.taken_others());
+    let old = rows_in::<T>(edit.old());
+    let put = rows_in::<T>(edit.put_others());
+    let new = rows_in::<T>(edit.new());
+    if taken.len() > FEW || old.len() > FEW || put.len() > FEW || new.len() > FEW {
+        regroup(table, rows_in::<T>(others));
         return;
     }
-    regroup(table, rows_in::<T>(others));
+    exchange_each(table, taken, old, put, new);
 }

@@ -4,12 +4,12 @@ use Rattle.desk_rows.proofs.grouping.exchange_each.Goals as goal
 
 pub put_each-requires-clause-room : goal.put_each-requires-clause-room
 put_each-requires-clause-room g c =
-    let first = c.take_each.ensures.taken c.if-not-take_each.false (λ x. true) in
-    let second = c.take_each-2.ensures.taken c.if-not-take_each-2.false (λ x. true) in
+    let first = c.take_each.ensures.taken (λ x. true) in
+    let second = c.take_each-2.ensures.taken (λ x. true) in
     omega (arith, first, second, c.requires.room, count_all c.take_each-2.new.table.items, c.take_each.ensures.capacity, c.take_each-2.ensures.capacity)
 
 pub put_each-requires-2-clause-room : goal.put_each-requires-2-clause-room
 put_each-requires-2-clause-room g c =
-    let first = c.take_each.ensures.taken c.if-not-take_each.false (λ x. true) in
-    let second = c.take_each-2.ensures.taken c.if-not-take_each-2.false (λ x. true) in
+    let first = c.take_each.ensures.taken (λ x. true) in
+    let second = c.take_each-2.ensures.taken (λ x. true) in
     omega (arith, first, second, c.requires.room, c.put_each.ensures.put (λ x. true), count_all c.put_each.new.table.items, c.take_each.ensures.capacity, c.take_each-2.ensures.capacity, c.put_each.ensures.capacity)

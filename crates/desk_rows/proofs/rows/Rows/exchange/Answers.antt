@@ -52,6 +52,7 @@ follow-requires g c =
       order = own.6.order;
       rows = ap in_order now ∙ good_order _ found.good_after;
       orders = found.orders;
+      there = λ p. omega (arith, own.6.same p, found.go (passes_in sub_in p));
       before = λ p. omega (arith, own.6.same p, ap (count_by (passes_in sub_in p)) now, found.balance (passes_in sub_in p));
       room = omega (arith, ap (λ rows. length (filter (is_of kinds.Sub) rows)) now, found.subs_few, own.7);
     }
@@ -66,6 +67,7 @@ follow-requires-2 g c =
       order = own.8.order;
       rows = ap in_order now ∙ good_order _ found.good_after;
       orders = found.orders;
+      there = λ p. omega (arith, own.8.same p, found.go (passes_in slot_in p));
       before = λ p. omega (arith, own.8.same p, ap (count_by (passes_in slot_in p)) now, found.balance (passes_in slot_in p));
       room = omega (arith, ap (λ rows. length (filter (is_of kinds.Slot) rows)) now, found.slots_few, own.9);
     }
