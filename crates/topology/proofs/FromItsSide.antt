@@ -2,7 +2,7 @@
 use Rattle.std.proofs.Common.{◌≡◌, ℕ, Bool, true, false, cond, not, ◌&&◌, ◌||◌, nat_eq, List, [], ◌∷◌, Option, None, Some, refl, sym, ap, ◌∙◌, arith, eqb-true}
 use Rattle.std.specs.Prelude.{filter, option_map, option_and_then}
 use Rattle.std.specs.Option.{is_some, is_none, option_or}
-use Rattle.std.specs.List.{filter_map, cons_option}
+use Rattle.std.specs.List.{AllByRecursion, filter_map, cons_option}
 use Rattle.std.proofs.lemmas.Bool.Decides.{nat_tests}
 use Rattle.rtp_codec.specs.declared.address.Address.{Address}
 use Rattle.rtp_codec.specs.Address.{same_address}
@@ -12,16 +12,17 @@ use Rattle.desk_rows.specs.declared.row.Sub.{Sub as SubRow}
 use Rattle.desk_rows.specs.laws.Equal.{number_itself}
 use Rattle.desk_rows.specs.Desk.{Desk, good}
 use Rattle.desk_rows.specs.Naming.{subs_naming}
-use Rattle.topology.specs.Looking.{member_at, subscribed, is_muted, is_this, sender_of, room_of_member, has_address, comes_from}
-use Rattle.topology.specs.Choice.{shown, shown_on, is_barred, unless_barred}
+use Rattle.topology.specs.Looking.{member_at, slot_at, subscribed, is_muted, is_this, sender_of, room_of_member, has_address, comes_from}
+use Rattle.topology.specs.Choice.{shown, shown_on, are_in_one_room, is_barred, unless_barred}
 use Rattle.topology.specs.Receivers.{slots_of, chooses}
 use Rattle.topology.specs.inner.Takers.{if_at, sender_from, unless_own, subscriber}
 use Rattle.topology.proofs.Distinct.{at}
-use Rattle.topology.proofs.Rising.{joined, joined_turned}
+use Rattle.topology.proofs.Rising.{Found, all_found, joined, joined_turned}
 use Rattle.topology.proofs.KindRows.{subs_of, slot_ssrc, sub_ssrc, slot_row, sub_row}
 use Rattle.topology.proofs.GoodRows.{slots_rise, subs_rise}
 use Rattle.topology.proofs.RoomsOf.{number_of_found}
 use Rattle.topology.proofs.Shown.{shown_sender}
+use Rattle.topology.proofs.InRoom.{sub_in_one_room, shown_in_one_room}
 use Rattle.topology.proofs.Parted.{filter-same, filter-and}
 
 -- ---- who sends
@@ -59,16 +60,16 @@ who_is_heard d source address sender h = by (is_muted d source) (sender_of d sou
 
 -- ---- what a slot chose
 
--- another source isn't chosen, nor is one of the slot's own member
-of_wanted : (d : Desk) (source : ℕ) (address : Address) (sender : MemberRow) → Heard d source address sender → (x : SlotRow) (o : Option ℕ)
+-- another source isn't chosen, nor is one of the slot's own member, where the slot is in one room with what it would get
+of_wanted : (d : Desk) (source : ℕ) (address : Address) (sender : MemberRow) → Heard d source address sender → (x : SlotRow) (o : Option ℕ) → (o ≡ Some source → are_in_one_room d x source ≡ true)
     → is_this source (option_and_then (unless_barred d x) o) ≡ (is_this source o && not (nat_eq x.member sender.member))
-of_wanted d source address sender h x None = refl
-of_wanted d source address sender h x (Some n) = by (nat_eq n source) refl
+of_wanted d source address sender h x None near = refl
+of_wanted d source address sender h x (Some n) near = by (nat_eq n source) refl
   where
-    own : is_barred d x source ≡ nat_eq x.member sender.member
-    own = (λ i. h.quiet i || is_this x.member (h.sends i)) ∙ turned sender.member x.member
+    own : are_in_one_room d x source ≡ true → is_barred d x source ≡ nat_eq x.member sender.member
+    own reach = (λ i. h.quiet i || (is_this x.member (h.sends i) || not (reach i))) ∙ turned sender.member x.member
       where
-        turned : (a b : ℕ) → nat_eq a b ≡ nat_eq b a
+        turned : (a b : ℕ) → (nat_eq a b || false) ≡ nat_eq b a
         turned a b = grind (arith, nat_tests)
 
     other : (b : Bool) → nat_eq n source ≡ false → is_this source (cond b None (Some n)) ≡ false
@@ -82,7 +83,7 @@ of_wanted d source address sender h x (Some n) = by (nat_eq n source) refl
     by : (b : Bool) → nat_eq n source ≡ b → is_this source (cond (is_barred d x n) None (Some n)) ≡ (b && not (nat_eq x.member sender.member))
     by true e =
         ap (λ n. is_this source (cond (is_barred d x n) None (Some n))) (eqb-true n source e)
-        ∙ ap (λ b. is_this source (cond b None (Some source))) own
+        ∙ ap (λ b. is_this source (cond b None (Some source))) (own (near (ap Some (eqb-true n source e))))
         ∙ same (nat_eq x.member sender.member)
     by false e = other (is_barred d x n) e
 
@@ -126,10 +127,10 @@ by_subs d source sender (y ∷ ys) =
     by false (Some x) = refl
 
 -- a slot takes the source by its subscription where it has one and chose the source
-one_slot : (d : Desk) (source : ℕ) (address : Address) (sender : MemberRow) → Heard d source address sender → (x : SlotRow)
+one_slot : (d : Desk) (source : ℕ) (address : Address) (sender : MemberRow) → good d ≡ true → Heard d source address sender → (x : SlotRow) → slot_at d x.out_ssrc ≡ Some x
     → option_and_then (λ y. taking source sender y x) (at sub_ssrc x.out_ssrc (subs_of d)) ≡ cond (has_sub d x && chooses d source x) (Some x) None
-one_slot d source address sender h x =
-    by (at sub_ssrc x.out_ssrc (subs_of d))
+one_slot d source address sender g h x found =
+    by (at sub_ssrc x.out_ssrc (subs_of d)) refl
     ∙ sym (ap (λ o. cond (is_some o && is_this source (option_and_then (unless_barred d x) (option_or o (shown_on d x)))) (Some x) None) (sub_row d x.out_ssrc))
   where
     tests : (b own : Bool) → cond b (cond own None (Some x)) None ≡ cond (b && not own) (Some x) None
@@ -137,19 +138,19 @@ one_slot d source address sender h x =
     tests true false = refl
     tests false own = refl
 
-    by : (o : Option SubRow) → option_and_then (λ y. taking source sender y x) o
+    by : (o : Option SubRow) → at sub_ssrc x.out_ssrc (subs_of d) ≡ o → option_and_then (λ y. taking source sender y x) o
         ≡ cond (is_some (option_map (λ (s : SubRow). s.source) o) && is_this source (option_and_then (unless_barred d x) (option_or (option_map (λ (s : SubRow). s.source) o) (shown_on d x)))) (Some x) None
-    by None = refl
-    by (Some y) =
+    by None is = refl
+    by (Some y) is =
         tests (nat_eq y.source source) (nat_eq x.member sender.member)
-        ∙ sym (ap (λ b. cond b (Some x) None) (of_wanted d source address sender h x (Some y.source)))
+        ∙ sym (ap (λ b. cond b (Some x) None) (of_wanted d source address sender h x (Some y.source) (λ its. sub_in_one_room d source x g found (sub_row d x.out_ssrc ∙ ap (option_map (λ (s : SubRow). s.source)) is ∙ its))))
 
-by_slots : (d : Desk) (source : ℕ) (address : Address) (sender : MemberRow) → Heard d source address sender → (xs : List SlotRow)
+by_slots : (d : Desk) (source : ℕ) (address : Address) (sender : MemberRow) → good d ≡ true → Heard d source address sender → (xs : List SlotRow) → AllByRecursion (Found slot_ssrc (slots_of d)) xs
     → joined sub_ssrc slot_ssrc (λ x y. taking source sender y x) (subs_of d) xs ≡ filter_map (λ x. cond (has_sub d x && chooses d source x) (Some x) None) xs
-by_slots d source address sender h [] = refl
-by_slots d source address sender h (x ∷ xs) =
-    ap (λ o. cons_option o (joined sub_ssrc slot_ssrc (λ x y. taking source sender y x) (subs_of d) xs)) (one_slot d source address sender h x)
-    ∙ ap (cons_option (cond (has_sub d x && chooses d source x) (Some x) None)) (by_slots d source address sender h xs)
+by_slots d source address sender g h [] each = refl
+by_slots d source address sender g h (x ∷ xs) each =
+    ap (λ o. cons_option o (joined sub_ssrc slot_ssrc (λ x y. taking source sender y x) (subs_of d) xs)) (one_slot d source address sender g h x (slot_row d x.out_ssrc ∙ each.0))
+    ∙ ap (cons_option (cond (has_sub d x && chooses d source x) (Some x) None)) (by_slots d source address sender g h xs each.1)
 
 pub subscribers : (d : Desk) (source : ℕ) (address : Address) (sender : MemberRow) → good d ≡ true → Heard d source address sender
     → filter_map (subscriber d sender) (subs_naming d source) ≡ filter (has_sub d) (filter (chooses d source) (slots_of d))
@@ -157,7 +158,7 @@ subscribers d source address sender g h =
     of_passing (λ y. nat_eq y.source source) (subscriber d sender) (subs_of d)
     ∙ by_subs d source sender (subs_of d)
     ∙ joined_turned slot_ssrc sub_ssrc (taking source sender) (slots_of d) (subs_of d) (slots_rise d g) (subs_rise d g)
-    ∙ by_slots d source address sender h (slots_of d)
+    ∙ by_slots d source address sender g h (slots_of d) (all_found slot_ssrc (slots_of d) (slots_rise d g))
     ∙ keep (λ x. has_sub d x && chooses d source x) (slots_of d)
     ∙ filter-and (has_sub d) (chooses d source) (slots_of d)
 
@@ -229,7 +230,7 @@ one_viewer d source address sender g h x =
     by (Some n) = last_none (is_this source (shown d sender.room)) (nat_eq x.index 0 && not (nat_eq x.member sender.member)) (is_this sender.room (room_of_member d x.member))
     by None =
         last_true (is_this source (shown d sender.room)) (nat_eq x.index 0 && not (nat_eq x.member sender.member)) (is_this sender.room (room_of_member d x.member))
-        ∙ at_index (nat_eq x.index 0) ∙ sym (of_wanted d source address sender h x (shown_on d x))
+        ∙ at_index (nat_eq x.index 0) ∙ sym (of_wanted d source address sender h x (shown_on d x) (shown_in_one_room d source x g))
 
 -- the slots that are shown the source
 pub shown_slots : (d : Desk) (source : ℕ) (address : Address) (sender : MemberRow) → good d ≡ true → Heard d source address sender

@@ -18,8 +18,8 @@ use Rattle.desk_rows.specs.laws.Equal.{key_itself}
 use Rattle.desk_rows.specs.laws.PlaceLaws.{count_next}
 use Rattle.desk_rows.specs.laws.Laws.{claims_key, count_by-append, good_parts, good_order}
 use Rattle.desk_rows.specs.Desk.{Desk, good, is_alone, is_named_there, rows_of, row_at, are_together, all_suit, has_few_audio, obeys}
-use Rattle.desk_rows.specs.Naming.{slot_in, sub_in}
-use Rattle.topology.specs.Looking.{member_in, source_in, member_at}
+use Rattle.desk_rows.specs.Naming.{member_in, slot_in, sub_in}
+use Rattle.topology.specs.Looking.{source_in, member_at}
 use Rattle.topology.specs.Choice.{sources_of}
 use Rattle.topology.specs.Receivers.{slots_of}
 use Rattle.topology.proofs.Distinct.{at, Distinct, from_past}

@@ -1,5 +1,5 @@
 -- On a good desk what a slot chose is a video source in its room, heard, and of another member.
-use Rattle.std.proofs.Common.{◌≡◌, ℕ, Bool, true, false, cond, ◌&&◌, ◌||◌, nat_eq, [], ◌∷◌, Option, None, Some, refl, sym, ap, subst, ◌∙◌, eqb-true}
+use Rattle.std.proofs.Common.{◌≡◌, ℕ, Bool, true, false, cond, not, ◌&&◌, ◌||◌, nat_eq, [], ◌∷◌, Option, None, Some, refl, sym, ap, subst, ◌∙◌, eqb-true}
 use Rattle.std.specs.Prelude.{option_map, option_and_then}
 use Rattle.std.specs.Option.{option_or}
 use Rattle.std.specs.List.{list_all}
@@ -16,12 +16,12 @@ use Rattle.desk_rows.specs.laws.Equal.{number_itself}
 use Rattle.desk_rows.specs.laws.Laws.{good_parts}
 use Rattle.desk_rows.specs.Desk.{Desk, good, rows_of, row_at, room_at, same_room, are_together, all_suit, has_few_audio, obeys}
 use Rattle.desk_rows.specs.Naming.{sub_in}
-use Rattle.topology.specs.Looking.{source_at, slot_at, subscribed, is_muted, is_this, sender_of, room_of_member}
-use Rattle.topology.specs.Choice.{shown, shown_on, wanted, is_barred, unless_barred, chosen, choice}
+use Rattle.topology.specs.Looking.{source_at, slot_at, subscribed, is_muted, is_this, sender_of, room_of_member, room_of_source}
+use Rattle.topology.specs.Choice.{shown, shown_on, wanted, are_in_one_room, is_barred, unless_barred, chosen, choice}
 use Rattle.topology.proofs.Finding.{found_key}
 use Rattle.topology.proofs.KindRows.{slot_ssrc, slot_row}
 use Rattle.topology.proofs.GoodRows.{of_found}
-use Rattle.topology.proofs.RoomsOf.{room_at_slot}
+use Rattle.topology.proofs.RoomsOf.{room_at_source, room_at_slot}
 use Rattle.topology.proofs.Shown.{its_media, its_room, suiting, shown_in}
 
 neither : (a b : Bool) → a || b ≡ false → (a ≡ false) × (b ≡ false)
@@ -42,8 +42,10 @@ who_chose d k source h = by (slot_at d k) refl h
     from slot found n would true barred h = absurd (cc)
     from slot found n would false barred h =
         let is : n ≡ source = cc in
-        let free = neither (is_muted d source) (is_this slot.member (sender_of d source)) (sym (ap (is_barred d slot) is) ∙ barred) in
-        (slot, record { found = found; would = would ∙ ap Some is; heard = free.0; others = free.1 })
+        let own = is_this slot.member (sender_of d source) in
+        let away = not (are_in_one_room d slot source) in
+        let free = neither (is_muted d source) (own || away) (sym (ap (is_barred d slot) is) ∙ barred) in
+        (slot, record { found = found; would = would ∙ ap Some is; heard = free.0; others = (neither own away free.1).0 })
 
     would_get : (slot : SlotRow) → slot_at d k ≡ Some slot → (o : Option ℕ) → wanted d slot ≡ o → option_and_then (unless_barred d slot) o ≡ Some source → (slot : SlotRow) × Chose d k source slot
     would_get slot found None would h = absurd (cc)
@@ -111,6 +113,32 @@ by_room d k source room slot h found in_room e =
       video = its_media d source is.0 is.1.is;
       together = (λ i. same_room (here i) (there i)) ∙ number_itself room;
     }
+
+-- a slot is in one room with what it subscribes to
+pub sub_in_one_room : (d : Desk) (source : ℕ) (slot : SlotRow) → good d ≡ true → slot_at d slot.out_ssrc ≡ Some slot → subscribed d slot.out_ssrc ≡ Some source → are_in_one_room d slot source ≡ true
+sub_in_one_room d source slot h found sub =
+    let k = slot.out_ssrc in
+    let there = room_at_slot d k ∙ ap (option_and_then (λ (s : SlotRow). room_of_member d s.member)) found in
+    sym (λ i. same_room ((room_at_source d source ∙ its_sender (source_at d source)) i) (there i)) ∙ (by_sub d k source h sub).together
+  where
+    its_sender : (o : Option SourceRow) → option_and_then (λ (s : SourceRow). room_of_member d s.member) o ≡ option_and_then (room_of_member d) (option_map (λ s. s.member) o)
+    its_sender None = refl
+    its_sender (Some s) = refl
+
+-- and with what it is shown
+pub shown_in_one_room : (d : Desk) (source : ℕ) (slot : SlotRow) → good d ≡ true → shown_on d slot ≡ Some source → are_in_one_room d slot source ≡ true
+shown_in_one_room d source slot h e = at_index (nat_eq slot.index 0) e
+  where
+    in_its_room : (o : Option ℕ) → room_of_member d slot.member ≡ o → option_and_then (shown d) o ≡ Some source → are_in_one_room d slot source ≡ true
+    in_its_room None room e = absurd (cc)
+    in_its_room (Some n) room e =
+        let is = shown_in d n source h e in
+        let here : room_of_source d source ≡ Some n = ap (λ o. option_and_then (room_of_member d) (option_map (λ s. s.member) o)) is.1.is.found ∙ is.1.room_is in
+        (λ i. same_room (here i) (room i)) ∙ number_itself n
+
+    at_index : (b : Bool) → cond b (option_and_then (shown d) (room_of_member d slot.member)) None ≡ Some source → are_in_one_room d slot source ≡ true
+    at_index true e = in_its_room (room_of_member d slot.member) refl e
+    at_index false e = absurd (cc)
 
 -- by the rule that a slot wants by
 meets : (d : Desk) (k source : ℕ) → good d ≡ true → choice d k ≡ Some source → Meets d k source

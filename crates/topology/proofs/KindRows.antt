@@ -15,8 +15,8 @@ use Rattle.desk_rows.specs.declared.row.Kind.TheVariants as kinds
 use Rattle.desk_rows.specs.Row.{has_key}
 use Rattle.desk_rows.specs.Kinds.{is_of}
 use Rattle.desk_rows.specs.Desk.{Desk}
-use Rattle.desk_rows.specs.Naming.{slot_in, sub_in}
-use Rattle.topology.specs.Looking.{member_in, source_in, member_at, source_at, slot_at, subscribed}
+use Rattle.desk_rows.specs.Naming.{member_in, slot_in, sub_in}
+use Rattle.topology.specs.Looking.{source_in, member_at, source_at, slot_at, subscribed}
 use Rattle.topology.specs.Choice.{sources_of}
 use Rattle.topology.specs.Receivers.{slots_of}
 use Rattle.topology.proofs.Distinct.{at}

@@ -13,7 +13,7 @@ use Rattle.desk_rows.specs.Naming.{subs_naming}
 use Rattle.desk_rows.specs.laws.PlacesOnce.{at_place}
 use Rattle.topology.specs.declared.receivers.Receiver.{Receiver}
 use Rattle.topology.specs.Looking.{member_at, is_muted, is_this, sender_of, has_address, comes_from}
-use Rattle.topology.specs.Choice.{wanted, is_barred, unless_barred}
+use Rattle.topology.specs.Choice.{wanted, are_in_one_room, is_barred, unless_barred}
 use Rattle.topology.specs.Receivers.{slots_of, chooses, by_index, by_place, receivers}
 use Rattle.topology.specs.inner.Takers.{if_at, sender_from, subscriber, viewer, AreShown, takers}
 use Rattle.topology.proofs.Rising.{Found, all_found}
@@ -95,7 +95,7 @@ none_chose d source muted (x ∷ xs) = ap (λ b. cond b (x ∷ filter (chooses d
 
     one : (n : ℕ) (b : Bool) → nat_eq n source ≡ b → is_this source (unless_barred d x n) ≡ false
     one n true e =
-        ap (λ m. is_this source (unless_barred d x m)) (eqb-true n source e) ∙ ap (λ b. is_this source (cond (b || is_this x.member (sender_of d source)) None (Some source))) muted
+        ap (λ m. is_this source (unless_barred d x m)) (eqb-true n source e) ∙ ap (λ b. is_this source (cond (b || (is_this x.member (sender_of d source) || not (are_in_one_room d x source))) None (Some source))) muted
     one n false e = other n (is_barred d x n) e
 
     by : (o : Option ℕ) → is_this source (option_and_then (unless_barred d x) o) ≡ false

@@ -11,8 +11,8 @@ use Rattle.desk_rows.specs.declared.row.Key.{Key}
 use Rattle.desk_rows.specs.declared.row.Key.TheVariants as keys
 use Rattle.desk_rows.specs.Row.{has_key}
 use Rattle.desk_rows.specs.Desk.{Desk, rows_of, row_at, room_of_member as room_in, room_of_found, room_at, same_room}
-use Rattle.desk_rows.specs.Naming.{slot_in}
-use Rattle.topology.specs.Looking.{member_in, source_in, member_at, source_at, slot_at, room_of_member}
+use Rattle.desk_rows.specs.Naming.{member_in, slot_in}
+use Rattle.topology.specs.Looking.{source_in, member_at, source_at, slot_at, room_of_member}
 
 -- what is found passes the test
 pub passes : (p : Row → Bool) (rs : List Row) (r : Row) → find p rs ≡ Some r → p r ≡ true

@@ -1,13 +1,13 @@
 -- Which source a slot sends (RFC 7667 section 3.6.2, media-switching mixer; the rule is own).
-use Rattle.std.specs.Prelude.{ℕ, Bool, ◌&&◌, ◌||◌, if◌then◌else◌, nat_eq, List, Option, None, Some}
+use Rattle.std.specs.Prelude.{ℕ, Bool, not, ◌&&◌, ◌||◌, if◌then◌else◌, nat_eq, List, Option, None, Some}
 use Rattle.std.specs.Option.{option_map, option_or, option_and_then}
 use Rattle.std.specs.List.{find, filter_map}
 use Rattle.desk_rows.specs.declared.row.Source.{Source as SourceRow}
 use Rattle.desk_rows.specs.declared.row.Slot.{Slot as SlotRow}
 use Rattle.desk_rows.specs.declared.row.Media.TheVariants.{Video}
 use Rattle.desk_rows.specs.Row.{same_media}
-use Rattle.desk_rows.specs.Desk.{Desk}
-use Rattle.topology.specs.Looking.{source_in, slot_at, subscribed, pinned, holder, is_muted, is_this, sender_of, room_of_member}
+use Rattle.desk_rows.specs.Desk.{Desk, same_room}
+use Rattle.topology.specs.Looking.{source_in, slot_at, subscribed, pinned, holder, is_muted, is_this, sender_of, room_of_member, room_of_source}
 
 -- ---- what a room shows
 
@@ -37,9 +37,13 @@ shown_on d slot = if nat_eq slot.index 0 then option_and_then (shown d) (room_of
 abbrev pub wanted : Desk → SlotRow → Option ℕ
 wanted d slot = option_or (subscribed d slot.out_ssrc) (shown_on d slot)
 
--- the slot does not get the source: it is muted, or of the slot's own member
+-- the slot and the source are in one room
+abbrev pub are_in_one_room : Desk → SlotRow → ℕ → Bool
+are_in_one_room d slot source = same_room (room_of_source d source) (room_of_member d slot.member)
+
+-- the slot does not get the source: it is muted, the slot's own member sends it, or it is in another room
 abbrev pub is_barred : Desk → SlotRow → ℕ → Bool
-is_barred d slot source = is_muted d source || is_this slot.member (sender_of d source)
+is_barred d slot source = is_muted d source || (is_this slot.member (sender_of d source) || not (are_in_one_room d slot source))
 
 -- the source, if the slot may get it
 abbrev pub unless_barred : Desk → SlotRow → ℕ → Option ℕ

@@ -10,17 +10,12 @@ use Rattle.desk_rows.specs.declared.row.Slot.{Slot as SlotRow}
 use Rattle.desk_rows.specs.declared.row.Pin.{Pin as PinRow}
 use Rattle.desk_rows.specs.declared.row.Floor.{Floor as FloorRow}
 use Rattle.desk_rows.specs.declared.row.Row.{Row}
-use Rattle.desk_rows.specs.declared.row.Row.TheVariants.{Member, Source, Pin, Floor}
+use Rattle.desk_rows.specs.declared.row.Row.TheVariants.{Source, Pin, Floor}
 use Rattle.desk_rows.specs.declared.row.Key.TheVariants as keys
 use Rattle.desk_rows.specs.Desk.{Desk, row_at}
-use Rattle.desk_rows.specs.Naming.{slot_in, sub_in}
+use Rattle.desk_rows.specs.Naming.{member_in, slot_in, sub_in}
 
 -- ---- rows of one kind
-
--- the member in a row
-abbrev pub member_in : Row → Option MemberRow
-member_in (Member m) = Some m
-member_in _ = None
 
 -- the source in a row
 abbrev pub source_in : Row → Option SourceRow
@@ -81,6 +76,10 @@ sender_of d source = option_map (λ s. s.member) (source_at d source)
 -- the room that a member is in
 abbrev pub room_of_member : Desk → ℕ → Option ℕ
 room_of_member d member = option_map (λ m. m.room) (member_at d member)
+
+-- the room that a source is in: that of its member
+abbrev pub room_of_source : Desk → ℕ → Option ℕ
+room_of_source d source = option_and_then (room_of_member d) (sender_of d source)
 
 -- there is a member, and this is its address
 abbrev pub has_address : Address → Option MemberRow → Bool

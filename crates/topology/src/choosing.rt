@@ -4,10 +4,11 @@ ghost use Rattle.std.specs.Prelude.{◌≡◌, true};
 ghost use Rattle.std.specs.List.{find, filter_map};
 ghost use Rattle.desk_rows.specs.Desk.{good};
 ghost use Rattle.topology.specs.Looking.{source_in};
-ghost use Rattle.topology.specs.Choice.{is_video_of, first_video, shown, shown_on, wanted, is_barred, chosen, choice};
+ghost use Rattle.topology.specs.Choice.{is_video_of, first_video, shown, shown_on, wanted, are_in_one_room, is_barred, chosen, choice};
 
 use crate::looking::{
-    holder, is_muted, is_this, pinned, room_of_member, sender_of, slot_at, subscribed,
+    holder, is_muted, is_same_room, is_this, pinned, room_of_member, room_of_source, sender_of,
+    slot_at, subscribed,
 };
 use desk_rows::{Kind, Media, Row, Rows, Slot, Source};
 use std::alloc::Allocator;
@@ -16,8 +17,8 @@ use std::alloc::Allocator;
 /// index is 0, the source that is pinned in its room; without one, the least video SSRC of the
 /// member that has the room's floor.
 ///
-/// There is none where that source is muted or of the slot's own member: the next one doesn't stand
-/// in for it. There is none either for an SSRC that is no slot's.
+/// There is none where that source is muted, is sent by the slot's own member or is in another room:
+/// nothing falls through to the next rule. There is none either for an SSRC that is no slot's.
 pub fn choice<A: Allocator + Copy>(rows: &Rows<A>, out_ssrc: u32) -> Option<u32>
     ensures source { result ≡ choice rows.now out_ssrc }
     ensures good { good rows.now ≡ true }
@@ -37,11 +38,24 @@ fn chosen<A: Allocator + Copy>(rows: &Rows<A>, slot: &Slot) -> Option<u32>
     }
 }
 
-/// Whether the slot doesn't get the source: it is muted, or of the slot's own member.
+/// Whether the slot and the source are in one room.
+fn are_in_one_room<A: Allocator + Copy>(rows: &Rows<A>, slot: &Slot, source: u32) -> bool
+    ensures { result ≡ are_in_one_room rows.now slot.now source }
+{
+    is_same_room(
+        room_of_source(rows, source),
+        room_of_member(rows, slot.member),
+    )
+}
+
+/// Whether the slot doesn't get the source: it is muted, the slot's own member sends it, or it is in
+/// another room.
 fn is_barred<A: Allocator + Copy>(rows: &Rows<A>, slot: &Slot, source: u32) -> bool
     ensures { result ≡ is_barred rows.now slot.now source }
 {
-    is_muted(rows, source) || is_this(slot.member, sender_of(rows, source))
+    is_muted(rows, source)
+        || is_this(slot.member, sender_of(rows, source))
+        || !are_in_one_room(rows, slot, source)
 }
 
 /// The source that the slot would get, if it may.

@@ -1,8 +1,8 @@
 //! What a desk has under a number.
 
 ghost use Rattle.std.specs.Prelude.{◌≡◌, true};
-ghost use Rattle.desk_rows.specs.Desk.{good};
-ghost use Rattle.topology.specs.Looking.{member_at, slot_at, source_at, subscribed, pinned, holder, is_muted, is_this, sender_of, room_of_member, has_address, source_from, member_from};
+ghost use Rattle.desk_rows.specs.Desk.{good, same_room};
+ghost use Rattle.topology.specs.Looking.{member_at, slot_at, source_at, subscribed, pinned, holder, is_muted, is_this, sender_of, room_of_member, room_of_source, has_address, source_from, member_from};
 ghost use Rattle.topology.specs.Receivers.{slots_to};
 
 use desk_rows::{Key, Member, Row, Rows, Slot, Source};
@@ -115,6 +115,24 @@ pub(crate) fn room_of_member<A: Allocator + Copy>(rows: &Rows<A>, member: u32) -
     match member_at(rows, member) {
         None => None,
         Some(member) => Some(member.room),
+    }
+}
+
+/// The room that a source is in: that of its member.
+pub(crate) fn room_of_source<A: Allocator + Copy>(rows: &Rows<A>, source: u32) -> Option<u32>
+    ensures { result ≡ room_of_source rows.now source }
+{
+    let sender = sender_of(rows, source)?;
+    room_of_member(rows, sender)
+}
+
+/// Whether both are in a room, and in one.
+pub(crate) fn is_same_room(one: Option<u32>, other: Option<u32>) -> bool
+    ensures { result ≡ same_room one other }
+{
+    match (one, other) {
+        (Some(room), Some(other_room)) => room == other_room,
+        _ => false,
     }
 }
 
