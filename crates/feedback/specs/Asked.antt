@@ -1,4 +1,4 @@
--- Which packets a receiver asks for again (RFC 4585 section 6.2.1; each number once is own).
+-- Which packets a receiver asks for again (RFC 4585 section 6.2.1; that each number counts once is own).
 use Rattle.std.specs.Prelude.{ℕ, not, nat_eq, List, [], ◌∷◌, filter}
 use Rattle.rtcp_codec.specs.Nack.{numbers_named}
 use Rattle.rtcp_codec.specs.Packet.{Packet, Sender, Receiver, Sdes, Bye, App, Nack, Pli, Other}
@@ -8,9 +8,9 @@ abbrev pub firsts : List ℕ → List ℕ
 firsts [] = []
 firsts (n ∷ ns) = n ∷ filter (λ m. not (nat_eq m n)) (firsts ns)
 
--- the numbers that a packet asks for: those that the words of a NACK name, in order, each at its first place; no other packet asks
+-- the numbers that a packet asks for: those that the words of a NACK name, in order, repeats included; no other packet asks
 abbrev pub asked_in : Packet → List ℕ
-asked_in (Nack sender media words) = firsts (numbers_named words)
+asked_in (Nack sender media words) = numbers_named words
 asked_in (Sender ssrc ntp ts packets octets blocks) = []
 asked_in (Receiver ssrc blocks) = []
 asked_in (Sdes chunks) = []

@@ -1,6 +1,6 @@
 //! The numbers of packets that a receiver asks for.
 
-ghost use Rattle.std.specs.Prelude.{◌≡◌, [], length, fold, IfOk, OnOk};
+ghost use Rattle.std.specs.Prelude.{◌≡◌, [], fold, IfOk, OnOk};
 ghost use Rattle.rtcp_codec.specs.Nack.{numbers_named};
 ghost use Rattle.rtcp_codec.specs.View.{packet_of};
 ghost use Rattle.feedback.specs.Asked.{firsts, asked_in};
@@ -67,21 +67,21 @@ pub(crate) fn each_once<A: Allocator + Copy>(
     Ok(once)
 }
 
-/// The numbers that words name, each at its first place.
+/// The numbers that words name, in order.
 fn numbers_in<A: Allocator + Copy>(alloc: A, words: &[NackWord]) -> Result<Vec<u16, A>, AllocError>
-    ensures { IfOk result (λ numbers. numbers.items ≡ firsts (numbers_named words.now)) }
+    ensures { IfOk result (λ numbers. numbers.items ≡ numbers_named words.now) }
 {
-    let mut marks = unmarked(alloc)?;
     let mut numbers = Vec::new(alloc);
     for word in words {
-        let more = nack_numbers(alloc, word.pid, word.blp)?;
-        add_all(&mut numbers, &mut marks, &more)?;
+        numbers.extend_from_slice(&nack_numbers(alloc, word.pid, word.blp)?)?;
     }
     Ok(numbers)
 }
 
-/// The sequence numbers that a packet asks for: those of a generic NACK in order, each at its first
-/// place. No other packet asks for any.
+/// The sequence numbers that a packet asks for: those of a generic NACK in the order of its words, repeats
+/// included. No other packet asks for any.
+///
+/// [`resend`](crate::resend) answers each number once.
 pub fn numbers_of<A: Allocator + Copy, B: Allocator>(
     alloc: A,
     packet: &Rtcp<B>,

@@ -1,4 +1,4 @@
-use Rattle.std.proofs.Common.{◌≡◌, sym, ap, subst, ◌∙◌, fold, List, ℕ}
+use Rattle.std.proofs.Common.{ap, ◌∙◌, fold, List, ℕ}
 use Rattle.feedback.specs.inner.Seen.{added}
 use Rattle.feedback.proofs.Collected.{all_collected}
 use Rattle.feedback.proofs.numbers.each_once.Goals as goal
