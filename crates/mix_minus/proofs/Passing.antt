@@ -1,10 +1,10 @@
 -- One pass after the other.
-use Rattle.std.proofs.Common.{◌≡◌, ℕ, ℤ, pos, ◌+◌, ◌*◌, ◌<◌, ◌≤◌, ◌+ℤ◌, ◌-ℤ◌, List, [], ◌∷◌, length, drop, refl, sym, arith, subst}
+use Rattle.std.proofs.Common.{◌≡◌, ℕ, zero, suc, ℤ, pos, ◌+◌, ◌*◌, ◌<◌, ◌≤◌, ◌+ℤ◌, ◌-ℤ◌, List, [], ◌∷◌, length, drop, refl, sym, arith, subst}
 use Rattle.std.proofs.Common.{get_or, add-one, zero-add, drop-cons}
 use Rattle.std.proofs.lemmas.List.{drop_all}
 use Rattle.std.proofs.lemmas.Int.{ints}
 use Rattle.mix_minus.specs.declared.input.Input.{Input}
-use Rattle.mix_minus.specs.Mix.{heard, heard_sum, sample_at, sample_sum}
+use Rattle.mix_minus.specs.Mix.{heard, heard_sum, sample_at, sample_sum, IsTotal}
 use Rattle.mix_minus.specs.inner.Passes.{at, Moves, Passes, IsWithin, AreSmall}
 
 -- After k passes: what the others will add is left.
@@ -82,3 +82,21 @@ underway_end rest old now k long few u = record { small = λ i lt. by i (u.small
   where
     by : (i : ℕ) → IsWithin (0 + 262144 * k) (at now i) → IsWithin 16777216 (at now i)
     by i h = record { low = omega (arith, ints); high = omega (arith, ints) }
+
+-- ---- a total
+
+sum_within : (i n : ℕ) (inputs : List Input) → ((k : ℕ) (d : Input) → k < length inputs → IsWithin 32768 (sample_at (get_or inputs k d) i)) → length inputs ≤ n → IsWithin (32768 * n) (sample_sum i inputs)
+sum_within i n [] each few = record { low = omega (arith, ints); high = omega (arith, ints) }
+sum_within i zero (input ∷ inputs) each few = absurd (omega (arith, few))
+sum_within i (suc n) (input ∷ inputs) each few =
+    next (sample_at input i) (sample_sum i inputs) (each 0 input (omega arith)) (sum_within i n inputs (λ k d lt. each (suc k) d (omega arith)) (omega arith))
+  where
+    next : (s t : ℤ) → IsWithin 32768 s → IsWithin (32768 * n) t → IsWithin (32768 * suc n) (s +ℤ t)
+    next s t a b = record { low = omega (arith, ints); high = omega (arith, ints) }
+
+-- the total of 64 inputs at most is small
+pub total_small : (inputs : List Input) (total : List ℤ) → ((k : ℕ) (d : Input) (i : ℕ) → k < length inputs → IsWithin 32768 (sample_at (get_or inputs k d) i)) → length inputs ≤ 64 → IsTotal inputs total → AreSmall 16777216 total
+total_small inputs total each few is = record { small = λ i lt. by (sample_sum i inputs) (sum_within i 64 inputs (λ k d below. each k d i below) few) (at total i) (is i lt) }
+  where
+    by : (s : ℤ) → IsWithin (32768 * 64) s → (t : ℤ) → t ≡ s → IsWithin 16777216 t
+    by s h t e = record { low = omega (arith, ints); high = omega (arith, ints) }

@@ -9,6 +9,7 @@ mod input;
 mod mixing;
 mod parts;
 mod places;
+mod ranges;
 mod sums;
 
 pub use contributors::Contributors;

@@ -2,11 +2,11 @@
 
 ghost use Rattle.std.specs.Prelude.{◌≡◌, ℕ, ◌+◌, ◌<◌, ◌≤◌, length, take};
 ghost use Rattle.mix_minus.specs.Mix.{IsMix, IsTotal, AreMixable, ReachTo, contributing};
-ghost use Rattle.mix_minus.specs.inner.Passes.{AreSmall};
 
 use crate::contributors::{Contributors, first_heard};
 use crate::input::Input;
 use crate::places::{PLACES, clear, mix_places, turn_places};
+use crate::ranges::know_inputs;
 use crate::sums::add_all;
 
 /// Writes what the receiver hears: the sum of all other members' inputs, each at its gain in 256ths (at most 1024), clamped
@@ -32,7 +32,6 @@ pub fn room_total(inputs: &[Input], total: &mut [i32])
     requires few { length inputs.now ≤ 64 }
     requires reach { ReachTo (length total.old) inputs.now }
     ensures total { IsTotal inputs.now total.new }
-    ensures small { AreSmall 16777216 total.new }
 {
     clear(total);
     add_all(total, inputs);
@@ -50,12 +49,12 @@ pub fn mix_by_total(
     requires mixable { AreMixable inputs.now gains.now }
     requires reach { ReachTo (length out.old) inputs.now }
     requires total { IsTotal inputs.now total.now }
-    requires small { AreSmall 16777216 total.now }
     requires long { length out.old ≤ length total.now }
     ensures mix { IsMix inputs.now gains.now receiver out.new }
     ensures count { result.count ≤ 15 }
     ensures ssrcs { take result.count result.ssrcs ≡ take 15 (contributing receiver inputs.now gains.now) }
 {
+    know_inputs(inputs);
     let mut start = 0;
     while start < out.len() {
         let count = (out.len() - start).min(PLACES);

@@ -7,7 +7,6 @@ use Rattle.desk_rows.specs.Desk.{Desk}
 use Rattle.mixer.specs.declared.hearing.Heard.{Heard}
 use Rattle.mix_minus.specs.declared.input.Input.{Input}
 use Rattle.mix_minus.specs.Mix.{IsTotal, ReachTo}
-use Rattle.mix_minus.specs.inner.Passes.{AreSmall}
 use Rattle.topology.specs.declared.hearing.AudioSource.{AudioSource}
 use Rattle.topology.specs.Mixes.{in_room}
 use Rattle.mixer.specs.declared.voices.Voice.{Voice}
@@ -49,7 +48,6 @@ pub record IsRoom (voices : List Voice) (r : RoomOf) : Type 0 where
   pub reach : ReachTo tick_length r.inputs
   pub few : length r.inputs ≤ 64
   pub total : IsTotal r.inputs r.total
-  pub small : AreSmall 16777216 r.total
   pub long : length r.total ≡ tick_length
 
 -- This is what the member hears of these voices.
