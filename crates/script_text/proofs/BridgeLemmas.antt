@@ -3,8 +3,8 @@ use Rattle.std.proofs.Common.{◌≡◌, ℕ, Option, List, [], ◌∷◌, ◌++
 use Rattle.std.proofs.lemmas.List.{append-nil}
 use Rattle.std.specs.Result.{OnOk}
 use Rattle.desk_rows.specs.Desk.{Desk}
-use Rattle.desk_edit.specs.declared.command.Call.{Call}
-use Rattle.desk_edit.specs.declared.command.Call.TheVariants.{Apply, Undo, Redo}
+use Rattle.desk_edit.specs.Asked.{CallOf}
+use Rattle.desk_edit.specs.Asked.CallOf.{Apply, Group, Undo, Redo}
 use Rattle.desk_edit.specs.declared.refusal.Refusal.{Refusal}
 use Rattle.desk_edit.specs.declared.refusal.Refusal.TheVariants.{OutOfMemory}
 use Rattle.desk_edit.specs.Calls.{no_calls, desk_now, refusal_of, after_call as history_after}
@@ -42,13 +42,14 @@ not_memory at why told e = absurd (true_false (subst (λ (w : Refusal). wants_me
     true_false : true ≡ false → ⊥
     true_false h = absurd cc
 
-told_why : (bridge : Bridge) (call : Call) (at : ℕ) (why : Refusal) → IsTold bridge.calls call why → wants_memory (Refused at why) ≡ false → refusal_of bridge.calls call ≡ Some why
+told_why : (bridge : Bridge) (call : CallOf) (at : ℕ) (why : Refusal) → IsTold bridge.calls call why → wants_memory (Refused at why) ≡ false → refusal_of bridge.calls call ≡ Some why
 told_why bridge (Apply command) at why by told = by.0 (not_memory at why told)
+told_why bridge (Group commands) at why by told = by.0 (not_memory at why told)
 told_why bridge (Undo last) at why by told = by
 told_why bridge (Redo last) at why by told = by
 
 -- the desk that a step publishes is the one that the calls leave
-accepted : (old new : CoreOf) (bridge : Bridge) (call : Call) → Stands old bridge → HasCalled new (history_after bridge.calls call) → length new.lanes ≡ length old.lanes → new.intake ≡ old.intake → Takes old new (Step.publish new.desk) []
+accepted : (old new : CoreOf) (bridge : Bridge) (call : CallOf) → Stands old bridge → HasCalled new (history_after bridge.calls call) → length new.lanes ≡ length old.lanes → new.intake ≡ old.intake → Takes old new (Step.publish new.desk) []
     → Stands new (answer_call bridge (history_after bridge.calls call) None).1
 accepted old new bridge call s called lanes intake takes = record {
   taken = subst (λ (d : Desk). HasTaken new first_desk (bridge.steps ++ Step.publish d ∷ [])) called.desk (takes first_desk bridge.steps s.taken).1;
@@ -58,7 +59,7 @@ accepted old new bridge call s called lanes intake takes = record {
   speaks = rw intake s.speaks;
 }
 
-pub call_answered : (op : ℕ) (old new : CoreOf) (bridge : Bridge) (call : Call) (reply : Reply) → Stands old bridge → Answers old new call reply → IsAnswered bridge.calls new call reply → OnAccepted reply (Takes old new (Step.publish new.desk) []) → new.intake ≡ old.intake → wants_memory reply ≡ false
+pub call_answered : (op : ℕ) (old new : CoreOf) (bridge : Bridge) (call : CallOf) (reply : Reply) → Stands old bridge → Answers old new call reply → IsAnswered bridge.calls new call reply → OnAccepted reply (Takes old new (Step.publish new.desk) []) → new.intake ≡ old.intake → wants_memory reply ≡ false
     → Stands new (after bridge (DeskRequest op call)) × (reply_text reply ≡ answer_text bridge (DeskRequest op call))
 call_answered op old new bridge call (Accepted number) s does by takes intake told =
     let next = history_after bridge.calls call in (

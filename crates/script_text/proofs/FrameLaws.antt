@@ -23,7 +23,7 @@ use Rattle.script_text.specs.Requests.{Request, Item, kind_text, kind_of, line_k
 use Rattle.script_text.proofs.Joined.{Free, AllFree, free_test, free_append, free_number, parts_joined}
 use Rattle.script_text.proofs.ValueLaws.{found_text, free_values, bind_ok, word_back, or_back, values_back, values_again}
 use Rattle.script_text.proofs.PacketLaws.{packet_read, packet_spelled}
-use Rattle.script_text.proofs.CallLaws.{kind_free, read_from, with_field, read_all}
+use Rattle.script_text.proofs.CommandLaws.{kind_free, read_from, with_field, read_all}
 
 -- ---- no space in a packet's word
 

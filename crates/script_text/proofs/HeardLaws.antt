@@ -1,13 +1,19 @@
 -- A wire for each line of a script is a wire for all of them.
-use Rattle.std.proofs.Common.{◌≡◌, ◌⊎◌, ℕ, List, [], ◌∷◌, Result, Ok, Err, refl, sym, ap, subst, inl, inr}
-use Rattle.std.specs.List.{AllByRecursion}
+use Rattle.std.proofs.Common.{◌≡◌, ◌⊎◌, ℕ, Bool, true, false, not, ◌||◌, ◌==◌, nat_lt, length, slice_index, if◌then◌else◌, List, [], ◌∷◌, Result, Ok, Err, refl, sym, ap, subst, inl, inr}
+use Rattle.std.specs.List.{list_all, AllByRecursion}
 use Rattle.std.specs.Prelude.{drop, get_or}
 use Rattle.std.proofs.lemmas.Bool.{cases_eq}
 use Rattle.feedback.specs.Upstream.{Asker}
 use Rattle.intake.specs.Readings.{Reading, too_long, IsReading}
 use Rattle.intake.specs.Taking.{Voice, IsVoice}
+use Rattle.hex.specs.Hex.{IsBytes}
+use Rattle.rtp_codec.specs.declared.address.Address.{Address}
 use Rattle.script_text.specs.declared.fault.Fault.{Fault}
-use Rattle.script_text.specs.Requests.{Request, Nothing, Desk, Item, Rx, Report, Show, request_of}
+use Rattle.script_text.specs.declared.fault.Fault.TheVariants.{LineTooLong, BadByte}
+use Rattle.script_text.specs.declared.line.TheConstants.{LINE_LIMIT}
+use Rattle.script_text.specs.Words.{words_of}
+use Rattle.script_text.specs.Requests.{Request, Nothing, Desk, Item, Rx, Report, Show, is_printable, words_request, request_of}
+use Rattle.script_text.proofs.RxLaws.{rx_back}
 use Rattle.script_text.specs.Wire.{Wire, script_asker, voice_of, IsHeard, Hears, HearsAll}
 
 -- ---- one datagram
@@ -108,3 +114,46 @@ pub all_heard : HaveVoices → (lines : List (List ℕ)) → AllByRecursion (λ 
 all_heard voices lines all =
     let f = found voices lines all in
     (f.wire, f.hears)
+
+-- ---- where all octets have readings
+
+abbrev HaveReadings : Type 0
+HaveReadings = (octets : List ℕ) → IsBytes octets → (r : Reading) × IsReading octets r
+
+-- what is read of a line that is too long, has a bad octet, or asks for nothing
+abbrev read_by : (long bad empty : Bool) → Result Request (ℕ × Fault) → Result Request (ℕ × Fault)
+read_by long bad empty read = if long then Err (0, LineTooLong) else if bad then Err (0, BadByte) else if empty then Ok Nothing else read
+
+words_read : (long bad empty : Bool) (read : Result Request (ℕ × Fault)) (moment : ℕ) (from : Address) (octets : List ℕ) → read_by long bad empty read ≡ Ok (Rx moment from octets) → read ≡ Ok (Rx moment from octets)
+words_read true bad empty read moment from octets e = absurd cc
+words_read false true empty read moment from octets e = absurd cc
+words_read false false true read moment from octets e = absurd cc
+words_read false false false read moment from octets e = e
+
+-- a datagram of a line is of octets
+line_bytes : (line : List ℕ) (moment : ℕ) (from : Address) (octets : List ℕ) → request_of line ≡ Ok (Rx moment from octets) → IsBytes octets
+unfolding request_of
+line_bytes line moment from octets e =
+    (rx_back line moment from octets (words_read (nat_lt LINE_LIMIT (length line)) (not (list_all is_printable line)) (length line == 0 || slice_index line 0 == 35) (words_request (words_of line)) moment from octets e)).3.bytes
+
+module _ (voices : HaveVoices) (readings : HaveReadings) where
+  -- a wire that hears nothing yet
+  deaf : Wire
+  deaf = record { reading = λ o. too_long; words = (voices script_asker).0.words }
+
+  asked_heard : (line : List ℕ) (asked : Result Request (ℕ × Fault)) → request_of line ≡ asked → (wire : Wire) × Hears wire asked
+  asked_heard line (Ok Nothing) e = (deaf, tt)
+  asked_heard line (Ok (Desk op call)) e = (deaf, tt)
+  asked_heard line (Ok (Item item)) e = (deaf, tt)
+  asked_heard line (Ok (Rx moment from octets)) e = one_heard voices octets (readings octets (line_bytes line moment from octets e))
+  asked_heard line (Ok (Report moment)) e = (deaf, tt)
+  asked_heard line (Ok Show) e = (deaf, tt)
+  asked_heard line (Err fault) e = (deaf, tt)
+
+  each_heard : (lines : List (List ℕ)) → AllByRecursion (λ line. (wire : Wire) × Hears wire (request_of line)) lines
+  each_heard [] = tt
+  each_heard (line ∷ lines) = (asked_heard line (request_of line) refl, each_heard lines)
+
+-- then one wire hears all lines
+pub read_heard : HaveVoices → HaveReadings → (lines : List (List ℕ)) → (wire : Wire) × HearsAll wire lines
+read_heard voices readings lines = all_heard voices lines (each_heard voices readings lines)

@@ -17,6 +17,10 @@ abbrev pub AllFree : ℕ → List (List ℕ) → Type 0
 AllFree c [] = Unit {0}
 AllFree c (w ∷ ws) = Free c w × AllFree c ws
 
+pub free_append_all : (c : ℕ) (ws vs : List (List ℕ)) → AllFree c ws → AllFree c vs → AllFree c (ws ++ vs)
+free_append_all c [] vs h k = k
+free_append_all c (w ∷ ws) vs h k = (h.0, free_append_all c ws vs h.1 k)
+
 free_all : (c : ℕ) (xs : List ℕ) → All (λ b. eqb b c ≡ false) xs → Free c xs
 free_all c [] h = tt
 free_all c (x ∷ xs) h = (h 0 x (omega arith), free_all c xs (λ k d lt. h (suc k) d (omega arith)))

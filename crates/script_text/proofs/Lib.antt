@@ -1,4 +1,6 @@
 pub mod Cuts
+pub mod PartLemmas
+pub mod GroupLemmas
 pub mod ValueSteps
 pub mod NumberLemmas
 pub mod PacketLemmas
@@ -8,6 +10,8 @@ pub mod RunLemmas
 pub mod AddressLemmas
 pub mod Joined
 pub mod ValueLaws
+pub mod CommandLaws
+pub mod GroupLaws
 pub mod CallLaws
 pub mod ExtLemmas
 pub mod PacketLaws

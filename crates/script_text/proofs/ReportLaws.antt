@@ -16,7 +16,7 @@ use Rattle.script_text.specs.Calls.{call_of}
 use Rattle.script_text.specs.Requests.{Report, kind_text, kind_of, line_kinds, front_of, some_packets, sighted, framed, frame_of, some_octets, rx_of, request_with, words_request, report_words, report_line}
 use Rattle.script_text.proofs.Joined.{free_test, parts_joined}
 use Rattle.script_text.proofs.ValueLaws.{found_text, free_values, bind_ok, word_back, or_back, values_back, values_again}
-use Rattle.script_text.proofs.CallLaws.{kind_free}
+use Rattle.script_text.proofs.CommandLaws.{kind_free}
 use Rattle.script_text.proofs.TickLaws.{front, none_back, front_of_one}
 
 words_again : (moment : ℕ) → AllFit (front moment) → words_request (report_words moment) ≡ Ok (Report moment)

@@ -1,9 +1,11 @@
 -- Lines of rows, one after another.
-use Rattle.std.proofs.Common.{◌≡◌, ℕ, zero, suc, ◌+◌, ◌<◌, ◌≤◌, List, [], ◌∷◌, ◌++◌, length, take, drop, get_or, Some, None, sym, ap, ◌∙◌, append_assoc, arith}
+use Rattle.std.proofs.Common.{◌≡◌, ℕ, zero, suc, ◌+◌, ◌<◌, ◌≤◌, List, [], ◌∷◌, ◌++◌, length, take, drop, get_or, Some, None, Result, Ok, Err, sym, ap, ◌∙◌, append_assoc, arith}
 use Rattle.std.specs.List.{slice_get, flat_map}
 use Rattle.std.proofs.lemmas.Grind.{common_steps}
 use Rattle.std.proofs.lemmas.List.{append-nil}
 use Rattle.desk_rows.specs.declared.row.Row.{Row}
+use Rattle.std.specs.Result.{OnOk, OnErr}
+use Rattle.script_text.specs.Output.{IsFrontOf}
 use Rattle.script_text.specs.Text.{line_text}
 use Rattle.script_text.specs.RowLines.{row_words, rows_text}
 
@@ -47,3 +49,16 @@ one_more f (x ∷ xs) (suc k) d lt =
     let e : suc k + 1 ≡ suc (k + 1) = omega arith in
     ap (λ (n : ℕ). flat_map f (take n (x ∷ xs))) e
     ∙ (ap (λ (t : List ℕ). f x ++ t) (one_more f xs k d (omega arith)) ∙ sym (append_assoc (f x) (flat_map f (take k xs)) (f (get_or xs k d))))
+
+-- ---- what stood before still stands first
+
+pub front_same : (old : List ℕ) → IsFrontOf old old
+front_same old = ([], sym (append-nil old))
+
+pub front_then : (old mid new : List ℕ) → IsFrontOf old mid → IsFrontOf mid new → IsFrontOf old new
+front_then old mid new a b = (a.0 ++ b.0, b.1 ∙ (ap (λ (t : List ℕ). t ++ b.0) a.1 ∙ append_assoc old a.0 b.0))
+
+-- a line was appended, or nothing
+pub front_line : {X E : Type 0} (r : Result X E) (old new text : List ℕ) → OnOk r (new ≡ old ++ text) → OnErr r (new ≡ old) → IsFrontOf old new
+front_line (Ok x) old new text is same = (text, is)
+front_line (Err e) old new text is same = ([], same ∙ sym (append-nil old))

@@ -23,7 +23,7 @@ use Rattle.script_text.proofs.Joined.{free_test, parts_joined}
 use Rattle.script_text.proofs.ValueLaws.{found_text, free_values, bind_ok, word_back, or_back, values_back, values_again}
 use Rattle.script_text.proofs.PacketLaws.{hex_spelled, octets_back}
 use Rattle.script_text.proofs.FrameLaws.{hex_free, all_append}
-use Rattle.script_text.proofs.CallLaws.{kind_free, read_from, with_field, read_all}
+use Rattle.script_text.proofs.CommandLaws.{kind_free, read_from, with_field, read_all}
 
 -- the values that stand first
 abbrev front : ℕ → Address → List Value

@@ -18,7 +18,7 @@ use Rattle.script_text.specs.Calls.{call_of}
 use Rattle.script_text.specs.Requests.{Item, kind_text, kind_of, line_kinds, front_of, some_packets, sighted, framed, frame_of, some_octets, rx_of, request_with, words_request, tick_words, tick_line}
 use Rattle.script_text.proofs.Joined.{free_test, parts_joined}
 use Rattle.script_text.proofs.ValueLaws.{found_text, free_values, bind_ok, word_back, or_back, values_back, values_again}
-use Rattle.script_text.proofs.CallLaws.{kind_free, read_from, with_field, read_all}
+use Rattle.script_text.proofs.CommandLaws.{kind_free, read_from, with_field, read_all}
 
 -- the value that stands first
 abbrev pub front : ℕ → List Value

@@ -67,7 +67,7 @@ value_back fields.Media word v e =
     let m = map_some values.Media (media_of word) v e in
     subst (λ (x : Value). Back fields.Media word x) m.2 (found_text media_text word (Audio ∷ Video ∷ []) m.0 m.1, refl, tt)
 
-value_again : (v : Value) → Fits v → value_of (field_of v) (value_text v) ≡ Some v
+pub value_again : (v : Value) → Fits v → value_of (field_of v) (value_text v) ≡ Some v
 value_again (values.U16 n) h = ap (option_map values.U16) (read 65535 n (omega arith) h)
 value_again (values.U32 n) h = ap (option_map values.U32) (read 4294967295 n (omega arith) h)
 value_again (values.U64 n) h = ap (option_map values.U64) (read 18446744073709551615 n (omega arith) h)

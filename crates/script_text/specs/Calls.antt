@@ -1,22 +1,28 @@
--- The lines of calls: a table of their names, of the fields behind each name, and of what they are in the call (own).
-use Rattle.std.specs.Prelude.{ℕ, ◌+◌, ◌==◌, List, [], ◌∷◌, map, length, codes, Option, Result, Ok, if◌then◌else◌}
-use Rattle.std.specs.List.{find, join_with_byte}
+-- The lines of calls (own): the tables of their first words, of the fields behind each, and of what these are in a call.
+use Rattle.std.specs.Prelude.{ℕ, ◌+◌, ◌==◌, Bool, List, [], ◌∷◌, ◌++◌, map, length, nat_lt, codes, Option, Some, None, Result, Ok, Err, if◌then◌else◌}
+use Rattle.std.specs.List.{find, join_with_byte, slice_split}
 use Rattle.std.specs.Str.{bytes_eq}
-use Rattle.desk_edit.specs.declared.command.Call.{Call}
-use Rattle.desk_edit.specs.declared.command.Call.TheVariants.{Apply, Undo, Redo}
+use Rattle.desk_edit.specs.Asked.{CallOf}
+use Rattle.desk_edit.specs.Asked.CallOf.{Apply, Group, Undo, Redo}
+use Rattle.desk_edit.specs.declared.command.Command.{Command}
 use Rattle.desk_edit.specs.declared.command.Command.TheVariants.{AddRoom, RemoveRoom, AddMember, RemoveMember, MoveMember, AddSource, RemoveSource, AddSlot, RemoveSlot, Subscribe, Unsubscribe, SetGain, Mute, Unmute, Pin, Unpin, GiveFloor, TakeFloor}
 use Rattle.script_text.specs.declared.fault.Fault.{Fault}
-use Rattle.script_text.specs.declared.fault.Fault.TheVariants.{UnknownWord}
+use Rattle.script_text.specs.declared.fault.Fault.TheVariants.{LineTooLong, UnknownWord}
 use Rattle.script_text.specs.declared.value.Field.{Field}
 use Rattle.script_text.specs.declared.value.Field.TheVariants as fields
 use Rattle.script_text.specs.declared.value.Value.{Value}
 use Rattle.script_text.specs.declared.value.Value.TheVariants.{U16, U32, U64, Address, Codec, Media}
 use Rattle.script_text.specs.declared.name.Name.{Name}
 use Rattle.script_text.specs.declared.name.Name.TheVariants as names
+use Rattle.script_text.specs.declared.name.Head.{Head}
+use Rattle.script_text.specs.declared.name.Head.TheVariants as heads
+use Rattle.script_text.specs.declared.line.TheConstants.{LINE_LIMIT}
 use Rattle.script_text.specs.Words.{◌>>=◌, words_of, word_at, none_left, value_or}
-use Rattle.script_text.specs.Values.{value_text, values_of, AllFit, number_at, address_at, codec_at, media_at}
+use Rattle.script_text.specs.Values.{value_text, values_of, Fits, AllFit, number_at, address_at, codec_at, media_at}
 
--- how the name of a call is written
+-- ---- commands
+
+-- how the name of a command is written
 abbrev pub name_text : Name → List ℕ
 name_text names.AddRoom = codes "add-room"
 name_text names.RemoveRoom = codes "remove-room"
@@ -36,8 +42,6 @@ name_text names.Pin = codes "pin"
 name_text names.Unpin = codes "unpin"
 name_text names.GiveFloor = codes "give-floor"
 name_text names.TakeFloor = codes "take-floor"
-name_text names.Undo = codes "undo"
-name_text names.Redo = codes "redo"
 
 -- all names
 abbrev pub all_names : List Name
@@ -60,8 +64,6 @@ all_names =
     ∷ names.Unpin
     ∷ names.GiveFloor
     ∷ names.TakeFloor
-    ∷ names.Undo
-    ∷ names.Redo
     ∷ []
 
 -- the fields behind a name
@@ -84,85 +86,180 @@ shape_of names.Pin = fields.U32 ∷ fields.U32 ∷ []
 shape_of names.Unpin = fields.U32 ∷ []
 shape_of names.GiveFloor = fields.U32 ∷ fields.U32 ∷ []
 shape_of names.TakeFloor = fields.U32 ∷ []
-shape_of names.Undo = fields.U64 ∷ []
-shape_of names.Redo = fields.U64 ∷ []
 
 -- a name with values behind it
 pub record Spelt : Type 0 where
   pub name : Name
   pub values : List Value
 
--- what the line of a call says
-abbrev pub fields_of : Call → Spelt
-fields_of (Apply (AddRoom r)) = record { name = names.AddRoom; values = U32 r.room ∷ [] }
-fields_of (Apply (RemoveRoom room)) = record { name = names.RemoveRoom; values = U32 room ∷ [] }
-fields_of (Apply (AddMember m)) = record { name = names.AddMember; values = U32 m.member ∷ U32 m.room ∷ Address m.address ∷ Codec m.codec ∷ U32 m.out_audio ∷ U16 m.first_seq ∷ U32 m.first_ts ∷ [] }
-fields_of (Apply (RemoveMember member)) = record { name = names.RemoveMember; values = U32 member ∷ [] }
-fields_of (Apply (MoveMember member room)) = record { name = names.MoveMember; values = U32 member ∷ U32 room ∷ [] }
-fields_of (Apply (AddSource s)) = record { name = names.AddSource; values = U32 s.ssrc ∷ U32 s.member ∷ Media s.media ∷ [] }
-fields_of (Apply (RemoveSource ssrc)) = record { name = names.RemoveSource; values = U32 ssrc ∷ [] }
-fields_of (Apply (AddSlot s)) = record { name = names.AddSlot; values = U32 s.out_ssrc ∷ U32 s.member ∷ U32 s.index ∷ U16 s.first_seq ∷ U32 s.first_ts ∷ [] }
-fields_of (Apply (RemoveSlot out_ssrc)) = record { name = names.RemoveSlot; values = U32 out_ssrc ∷ [] }
-fields_of (Apply (Subscribe s)) = record { name = names.Subscribe; values = U32 s.out_ssrc ∷ U32 s.source ∷ [] }
-fields_of (Apply (Unsubscribe out_ssrc)) = record { name = names.Unsubscribe; values = U32 out_ssrc ∷ [] }
-fields_of (Apply (SetGain g)) = record { name = names.SetGain; values = U32 g.member ∷ U32 g.source ∷ U32 g.q8 ∷ [] }
-fields_of (Apply (Mute m)) = record { name = names.Mute; values = U32 m.source ∷ [] }
-fields_of (Apply (Unmute source)) = record { name = names.Unmute; values = U32 source ∷ [] }
-fields_of (Apply (Pin p)) = record { name = names.Pin; values = U32 p.room ∷ U32 p.source ∷ [] }
-fields_of (Apply (Unpin room)) = record { name = names.Unpin; values = U32 room ∷ [] }
-fields_of (Apply (GiveFloor f)) = record { name = names.GiveFloor; values = U32 f.room ∷ U32 f.member ∷ [] }
-fields_of (Apply (TakeFloor room)) = record { name = names.TakeFloor; values = U32 room ∷ [] }
-fields_of (Undo last) = record { name = names.Undo; values = U64 last ∷ [] }
-fields_of (Redo last) = record { name = names.Redo; values = U64 last ∷ [] }
+-- what the words of a command say
+abbrev pub fields_of : Command → Spelt
+fields_of (AddRoom r) = record { name = names.AddRoom; values = U32 r.room ∷ [] }
+fields_of (RemoveRoom room) = record { name = names.RemoveRoom; values = U32 room ∷ [] }
+fields_of (AddMember m) = record { name = names.AddMember; values = U32 m.member ∷ U32 m.room ∷ Address m.address ∷ Codec m.codec ∷ U32 m.out_audio ∷ U16 m.first_seq ∷ U32 m.first_ts ∷ [] }
+fields_of (RemoveMember member) = record { name = names.RemoveMember; values = U32 member ∷ [] }
+fields_of (MoveMember member room) = record { name = names.MoveMember; values = U32 member ∷ U32 room ∷ [] }
+fields_of (AddSource s) = record { name = names.AddSource; values = U32 s.ssrc ∷ U32 s.member ∷ Media s.media ∷ [] }
+fields_of (RemoveSource ssrc) = record { name = names.RemoveSource; values = U32 ssrc ∷ [] }
+fields_of (AddSlot s) = record { name = names.AddSlot; values = U32 s.out_ssrc ∷ U32 s.member ∷ U32 s.index ∷ U16 s.first_seq ∷ U32 s.first_ts ∷ [] }
+fields_of (RemoveSlot out_ssrc) = record { name = names.RemoveSlot; values = U32 out_ssrc ∷ [] }
+fields_of (Subscribe s) = record { name = names.Subscribe; values = U32 s.out_ssrc ∷ U32 s.source ∷ [] }
+fields_of (Unsubscribe out_ssrc) = record { name = names.Unsubscribe; values = U32 out_ssrc ∷ [] }
+fields_of (SetGain g) = record { name = names.SetGain; values = U32 g.member ∷ U32 g.source ∷ U32 g.q8 ∷ [] }
+fields_of (Mute m) = record { name = names.Mute; values = U32 m.source ∷ [] }
+fields_of (Unmute source) = record { name = names.Unmute; values = U32 source ∷ [] }
+fields_of (Pin p) = record { name = names.Pin; values = U32 p.room ∷ U32 p.source ∷ [] }
+fields_of (Unpin room) = record { name = names.Unpin; values = U32 room ∷ [] }
+fields_of (GiveFloor f) = record { name = names.GiveFloor; values = U32 f.room ∷ U32 f.member ∷ [] }
+fields_of (TakeFloor room) = record { name = names.TakeFloor; values = U32 room ∷ [] }
 
--- the call of a name with values of its fields
-abbrev pub call_with : Name → List Value → Call
-call_with names.AddRoom vs = Apply (AddRoom (record { room = number_at 0 vs }))
-call_with names.RemoveRoom vs = Apply (RemoveRoom (number_at 0 vs))
-call_with names.AddMember vs = Apply (AddMember (record { member = number_at 0 vs; room = number_at 1 vs; address = address_at 2 vs; codec = codec_at 3 vs; out_audio = number_at 4 vs; first_seq = number_at 5 vs; first_ts = number_at 6 vs }))
-call_with names.RemoveMember vs = Apply (RemoveMember (number_at 0 vs))
-call_with names.MoveMember vs = Apply (MoveMember (number_at 0 vs) (number_at 1 vs))
-call_with names.AddSource vs = Apply (AddSource (record { ssrc = number_at 0 vs; member = number_at 1 vs; media = media_at 2 vs }))
-call_with names.RemoveSource vs = Apply (RemoveSource (number_at 0 vs))
-call_with names.AddSlot vs = Apply (AddSlot (record { out_ssrc = number_at 0 vs; member = number_at 1 vs; index = number_at 2 vs; first_seq = number_at 3 vs; first_ts = number_at 4 vs }))
-call_with names.RemoveSlot vs = Apply (RemoveSlot (number_at 0 vs))
-call_with names.Subscribe vs = Apply (Subscribe (record { out_ssrc = number_at 0 vs; source = number_at 1 vs }))
-call_with names.Unsubscribe vs = Apply (Unsubscribe (number_at 0 vs))
-call_with names.SetGain vs = Apply (SetGain (record { member = number_at 0 vs; source = number_at 1 vs; q8 = number_at 2 vs }))
-call_with names.Mute vs = Apply (Mute (record { source = number_at 0 vs }))
-call_with names.Unmute vs = Apply (Unmute (number_at 0 vs))
-call_with names.Pin vs = Apply (Pin (record { room = number_at 0 vs; source = number_at 1 vs }))
-call_with names.Unpin vs = Apply (Unpin (number_at 0 vs))
-call_with names.GiveFloor vs = Apply (GiveFloor (record { room = number_at 0 vs; member = number_at 1 vs }))
-call_with names.TakeFloor vs = Apply (TakeFloor (number_at 0 vs))
-call_with names.Undo vs = Undo (number_at 0 vs)
-call_with names.Redo vs = Redo (number_at 0 vs)
+-- the command of a name with values of its fields
+abbrev pub command_with : Name → List Value → Command
+command_with names.AddRoom vs = AddRoom (record { room = number_at 0 vs })
+command_with names.RemoveRoom vs = RemoveRoom (number_at 0 vs)
+command_with names.AddMember vs = AddMember (record { member = number_at 0 vs; room = number_at 1 vs; address = address_at 2 vs; codec = codec_at 3 vs; out_audio = number_at 4 vs; first_seq = number_at 5 vs; first_ts = number_at 6 vs })
+command_with names.RemoveMember vs = RemoveMember (number_at 0 vs)
+command_with names.MoveMember vs = MoveMember (number_at 0 vs) (number_at 1 vs)
+command_with names.AddSource vs = AddSource (record { ssrc = number_at 0 vs; member = number_at 1 vs; media = media_at 2 vs })
+command_with names.RemoveSource vs = RemoveSource (number_at 0 vs)
+command_with names.AddSlot vs = AddSlot (record { out_ssrc = number_at 0 vs; member = number_at 1 vs; index = number_at 2 vs; first_seq = number_at 3 vs; first_ts = number_at 4 vs })
+command_with names.RemoveSlot vs = RemoveSlot (number_at 0 vs)
+command_with names.Subscribe vs = Subscribe (record { out_ssrc = number_at 0 vs; source = number_at 1 vs })
+command_with names.Unsubscribe vs = Unsubscribe (number_at 0 vs)
+command_with names.SetGain vs = SetGain (record { member = number_at 0 vs; source = number_at 1 vs; q8 = number_at 2 vs })
+command_with names.Mute vs = Mute (record { source = number_at 0 vs })
+command_with names.Unmute vs = Unmute (number_at 0 vs)
+command_with names.Pin vs = Pin (record { room = number_at 0 vs; source = number_at 1 vs })
+command_with names.Unpin vs = Unpin (number_at 0 vs)
+command_with names.GiveFloor vs = GiveFloor (record { room = number_at 0 vs; member = number_at 1 vs })
+command_with names.TakeFloor vs = TakeFloor (number_at 0 vs)
 
 -- the name that a word is
 abbrev pub name_of : List ℕ → Option Name
 name_of word = find (λ name. bytes_eq word (name_text name)) all_names
 
+-- the command that words spell, of which the first stands at this place on the line
+unfoldable pub command_of : ℕ → List (List ℕ) → Result Command (ℕ × Fault)
+command_of place words = do
+  word ← word_at place words
+  name ← value_or place UnknownWord (name_of word.0)
+  read ← values_of (place + 1) (shape_of name) word.1
+  end ← none_left (place + 1 + length (shape_of name)) read.1
+  Ok (command_with name read.0)
+
+-- the words of a command
+abbrev pub command_words : Command → List (List ℕ)
+command_words command = name_text (fields_of command).name ∷ map value_text (fields_of command).values
+
+-- the numbers of a command are in range
+abbrev pub IsCommand : Command → Type 0
+IsCommand command = AllFit (fields_of command).values
+
+-- ---- groups
+
+-- the word that stands between the commands of a group
+abbrev pub slash : List ℕ
+slash = codes "/"
+
+-- a word is this one
+abbrev pub is_slash : List ℕ → Bool
+is_slash word = bytes_eq word slash
+
+-- the commands that the parts of a group spell, or the first fault: the first part begins at this place on the line,
+-- each other one behind a `/`
+unfoldable pub commands_of : ℕ → List (List (List ℕ)) → Result (List Command) (ℕ × Fault)
+commands_of place [] = Ok []
+commands_of place (part ∷ parts) = do
+  command ← command_of place part
+  commands ← commands_of (place + length part + 1) parts
+  Ok (command ∷ commands)
+
+-- the words of a group's commands
+abbrev pub group_words : List Command → List (List ℕ)
+group_words [] = []
+group_words (command ∷ []) = command_words command
+group_words (command ∷ next ∷ commands) = command_words command ++ slash ∷ group_words (next ∷ commands)
+
+-- the numbers of all commands are in range
+abbrev pub AreCommands : List Command → Type 0
+AreCommands [] = Unit {0}
+AreCommands (command ∷ commands) = IsCommand command × AreCommands commands
+
+-- ---- calls
+
+-- how a call begins that is no single command
+abbrev pub head_text : Head → List ℕ
+head_text heads.Undo = codes "undo"
+head_text heads.Redo = codes "redo"
+head_text heads.Group = codes "group"
+
+-- all of these
+abbrev pub all_heads : List Head
+all_heads = heads.Undo ∷ heads.Redo ∷ heads.Group ∷ []
+
+-- the one that a word is
+abbrev pub head_of : List ℕ → Option Head
+head_of word = find (λ head. bytes_eq word (head_text head)) all_heads
+
+-- the number of a call that words spell from this place on, where no other word is left
+unfoldable pub last_of : ℕ → List (List ℕ) → Result ℕ (ℕ × Fault)
+last_of place words = do
+  read ← values_of place (fields.U64 ∷ []) words
+  end ← none_left (place + 1) read.1
+  Ok (number_at 0 read.0)
+
+-- what a call that begins so asks, with these words behind its first, which stands at this place
+unfoldable pub headed : Head → ℕ → List (List ℕ) → Result CallOf (ℕ × Fault)
+headed heads.Undo place behind = do
+  last ← last_of (place + 1) behind
+  Ok (Undo last)
+headed heads.Redo place behind = do
+  last ← last_of (place + 1) behind
+  Ok (Redo last)
+headed heads.Group place behind = do
+  commands ← commands_of (place + 1) (slice_split is_slash behind)
+  Ok (Group commands)
+
+-- what words ask that are one command, of which the first stands at this place
+unfoldable pub single : ℕ → List (List ℕ) → Result CallOf (ℕ × Fault)
+single place words = do
+  command ← command_of place words
+  Ok (Apply command)
+
+-- the call of words, by how they begin
+abbrev pub call_by : Option Head → ℕ → (words behind : List (List ℕ)) → Result CallOf (ℕ × Fault)
+call_by None place words behind = single place words
+call_by (Some head) place words behind = headed head place behind
+
 -- the call that words spell, of which `base` words stand before them on the line
-unfoldable pub call_of : ℕ → List (List ℕ) → Result Call (ℕ × Fault)
+unfoldable pub call_of : ℕ → List (List ℕ) → Result CallOf (ℕ × Fault)
 call_of base words = do
   word ← word_at (base + 1) words
-  name ← value_or (base + 1) UnknownWord (name_of word.0)
-  read ← values_of (base + 2) (shape_of name) word.1
-  end ← none_left (base + 2 + length (shape_of name)) read.1
-  Ok (call_with name read.0)
+  call_by (head_of word.0) (base + 1) words word.1
 
 -- the words of a call
-abbrev pub call_words : Call → List (List ℕ)
-call_words call = name_text (fields_of call).name ∷ map value_text (fields_of call).values
+abbrev pub call_words : CallOf → List (List ℕ)
+call_words (Apply command) = command_words command
+call_words (Group commands) = head_text heads.Group ∷ group_words commands
+call_words (Undo last) = head_text heads.Undo ∷ value_text (U64 last) ∷ []
+call_words (Redo last) = head_text heads.Redo ∷ value_text (U64 last) ∷ []
 
 -- the line of a call: its words with spaces (32) between them
-abbrev pub call_line : Call → List ℕ
+abbrev pub call_line : CallOf → List ℕ
 call_line call = join_with_byte 32 (call_words call)
 
--- the numbers of a call are in range
-abbrev pub IsCall : Call → Type 0
-IsCall call = AllFit (fields_of call).values
+-- the numbers of a call are in range, and a group has a command at least
+abbrev pub IsCall : CallOf → Type 0
+IsCall (Apply command) = IsCommand command
+IsCall (Group []) = ⊥
+IsCall (Group (command ∷ commands)) = AreCommands (command ∷ commands)
+IsCall (Undo last) = Fits (U64 last)
+IsCall (Redo last) = Fits (U64 last)
 
 -- the words of a text that is a call and nothing else: the empty text has none
 abbrev pub spoken_words : List ℕ → List (List ℕ)
 spoken_words text = if length text == 0 then [] else words_of text
+
+-- the call that a text is; place 0 is the whole text
+abbrev pub spoken_call : List ℕ → Result CallOf (ℕ × Fault)
+spoken_call text = if nat_lt LINE_LIMIT (length text) then Err (0, LineTooLong) else call_of 0 (spoken_words text)

@@ -1,12 +1,17 @@
--- In which order the reasons against a call are asked, want of memory apart: that of the refusals' numbers (own).
-use Rattle.std.specs.Prelude.{ℕ, ◌≤◌, Bool, not, nat_eq, List, [], ◌∷◌, ◌++◌, map}
+-- In which order the reasons against a call are asked, out of memory apart (own).
+use Rattle.std.specs.Prelude.{ℕ, ◌+◌, ◌≤◌, Bool, not, nat_eq, nat_lt, List, [], ◌∷◌, ◌++◌, length, map}
 use Rattle.undo_log.specs.declared.history.TheConstants.{LIMIT}
 use Rattle.desk_rows.specs.Desk.{Desk}
-use Rattle.desk_edit.specs.declared.command.Call.{Call}
-use Rattle.desk_edit.specs.declared.command.Call.TheVariants.{Apply, Undo, Redo}
+use Rattle.desk_edit.specs.declared.command.Command.{Command}
+use Rattle.desk_edit.specs.declared.grouping.TheConstants.{MAX_GROUP}
+use Rattle.desk_edit.specs.Asked.{CallOf}
+use Rattle.desk_edit.specs.Asked.CallOf.{Apply, Group, Undo, Redo}
+use Rattle.desk_edit.specs.declared.refusal.Reason.{Reason}
 use Rattle.desk_edit.specs.declared.refusal.Refusal.{Refusal}
-use Rattle.desk_edit.specs.declared.refusal.Refusal.TheVariants.{NewerCommand, NothingToUndo, NothingToRedo, LogFull}
+use Rattle.desk_edit.specs.declared.refusal.Refusal.TheVariants.{NewerCommand, NothingToUndo, NothingToRedo, LogFull, EmptyGroup, GroupTooLong, PartRefused}
+use Rattle.desk_edit.specs.Commands.{desk_after}
 use Rattle.desk_edit.specs.Forms.{form_of}
+use Rattle.desk_edit.specs.Reasons.{refusal_for}
 use Rattle.desk_edit.specs.Refusals.{cases_of}
 use Rattle.desk_edit.specs.Told.{told_of}
 
@@ -14,11 +19,37 @@ use Rattle.desk_edit.specs.Told.{told_of}
 abbrev pub log_case : ℕ → Bool × Refusal
 log_case version = (nat_eq version LIMIT, LogFull)
 
--- what stands against a call where so many calls were accepted, so many commands are done and so many undone: the log comes last
-abbrev pub call_cases : ℕ → Desk → ℕ → ℕ → Call → List (Bool × Refusal)
-call_cases version d done undone (Apply command) = cases_of d (form_of command) ++ log_case version ∷ []
+-- what stands against a command, each reason as a refusal
+abbrev pub told_as : (Reason → Refusal) → List (Bool × Reason) → List (Bool × Refusal)
+told_as refusal cases = map (λ c. (c.0, refusal c.1)) cases
+
+-- a group has no command, or too many
+abbrev pub size_cases : ℕ → List (Bool × Refusal)
+size_cases count = (nat_eq count 0, EmptyGroup) ∷ (nat_lt MAX_GROUP count, GroupTooLong MAX_GROUP) ∷ []
+
+-- what stands against commands, where the first of them has this number in its group: all against one, and then against
+-- the next at the desk that it leaves
+abbrev pub part_cases : ℕ → Desk → List Command → List (Bool × Refusal)
+part_cases part d [] = []
+part_cases part d (command ∷ commands) =
+    told_as (PartRefused part) (cases_of d (form_of command)) ++ part_cases (part + 1) (desk_after d command) commands
+
+-- what stands against a call where so many calls were accepted, so many commands are done and so many undone: the log
+-- comes last, but before the commands of a group
+abbrev pub call_cases : ℕ → Desk → ℕ → ℕ → CallOf → List (Bool × Refusal)
+call_cases version d done undone (Apply command) =
+    told_as refusal_for (cases_of d (form_of command)) ++ log_case version ∷ []
+call_cases version d done undone (Group commands) =
+    size_cases (length commands) ++ log_case version ∷ part_cases 0 d commands
 call_cases version d done undone (Undo last) = (not (nat_eq last version), NewerCommand version) ∷ (nat_eq done 0, NothingToUndo) ∷ log_case version ∷ []
 call_cases version d done undone (Redo last) = (not (nat_eq last version), NewerCommand version) ∷ (nat_eq undone 0, NothingToRedo) ∷ log_case version ∷ []
+
+-- a call that is no group
+abbrev pub IsSingle : CallOf → Type 0
+IsSingle (Apply command) = Unit {0}
+IsSingle (Group commands) = ⊥
+IsSingle (Undo last) = Unit {0}
+IsSingle (Redo last) = Unit {0}
 
 -- the numbers of refusals
 abbrev pub case_numbers : List (Bool × Refusal) → List ℕ

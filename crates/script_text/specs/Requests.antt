@@ -2,7 +2,7 @@
 use Rattle.std.specs.Prelude.{◌≡◌, ◌≢◌, ℕ, Bool, ◌&&◌, ◌||◌, ◌==◌, not, List, [], ◌∷◌, ◌++◌, map, length, nat_lt, nat_le, slice_index, codes, Option, Some, None, Result, Ok, Err, if◌then◌else◌}
 use Rattle.std.specs.List.{list_all, find, join_with_byte}
 use Rattle.std.specs.Str.{bytes_eq}
-use Rattle.desk_edit.specs.declared.command.Call.{Call}
+use Rattle.desk_edit.specs.Asked.{CallOf}
 use Rattle.hex.specs.Hex.{IsBytes, decode_of, encode_lower}
 use Rattle.rtp_codec.specs.declared.address.Address.{Address as Endpoint}
 use Rattle.frame_gate.specs.declared.frame.FrameFault.{FrameFault}
@@ -27,7 +27,7 @@ use Rattle.script_text.specs.Calls.{call_of, call_words}
 -- nothing, an operator's call, an item for the lane, a datagram from an address at a moment, the reports of a moment, or the desk's rows
 pub data Request : Type 0 where
   Nothing : Request
-  Desk : (op : ℕ) (call : Call) → Request
+  Desk : (op : ℕ) (call : CallOf) → Request
   Item : (item : Input) → Request
   Rx : (moment : ℕ) (from : Endpoint) (octets : List ℕ) → Request
   Report : (moment : ℕ) → Request
@@ -145,7 +145,7 @@ request_of line =
     else words_request (words_of line)
 
 -- the line of an operator's call: its words with spaces (32) between them
-abbrev pub desk_line : ℕ → Call → List ℕ
+abbrev pub desk_line : ℕ → CallOf → List ℕ
 desk_line op call = join_with_byte 32 (kind_text kinds.Desk ∷ value_text (Operator op) ∷ call_words call)
 
 -- the words of a datagram's line whose octets are written so

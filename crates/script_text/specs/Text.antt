@@ -4,7 +4,10 @@ use Rattle.std.specs.List.{join_with_byte}
 use Rattle.std.specs.Fmt.{signed_decimal}
 use Rattle.hex.specs.Hex.{encode_lower}
 use Rattle.desk_edit.specs.declared.refusal.Carried.{Carried}
-use Rattle.desk_edit.specs.declared.refusal.Carried.TheVariants.{Nothing, Limit, Last}
+use Rattle.desk_edit.specs.declared.refusal.Carried.TheVariants.{Nothing, Limit, Last, Most, Part}
+use Rattle.desk_edit.specs.declared.refusal.Reason.{Reason}
+use Rattle.desk_edit.specs.declared.refusal.Reason.TheVariants as reasons
+use Rattle.desk_edit.specs.Reasons.{refusal_for}
 use Rattle.desk_edit.specs.Told.{Told, table_text, told_of}
 use Rattle.rtp_codec.specs.declared.address.Address.{Address as Endpoint}
 use Rattle.bridge_core.specs.declared.reply.Reply.{Reply}
@@ -48,11 +51,33 @@ word_text (hex octets) = encode_lower octets
 abbrev pub line_text : List Word → List ℕ
 line_text words = join_with_byte 32 (map word_text words) ++ 10 ∷ []
 
+-- what the reason against a command carries behind its name
+abbrev pub full_words : Reason → List Word
+full_words (reasons.Full table limit) = fixed (table_text table) ∷ value (U32 limit) ∷ []
+full_words reasons.Exists = []
+full_words reasons.NoRoom = []
+full_words reasons.NoMember = []
+full_words reasons.NoSource = []
+full_words reasons.NoSlot = []
+full_words reasons.WrongKind = []
+full_words reasons.OtherRoom = []
+full_words reasons.SsrcTaken = []
+full_words reasons.BadValue = []
+full_words reasons.Already = []
+full_words reasons.NotThere = []
+
+-- the words of the reason against a command: those that the command alone is refused by
+abbrev pub reason_words : Reason → List Word
+reason_words reason =
+    value (U16 (told_of (refusal_for reason)).number) ∷ fixed (told_of (refusal_for reason)).name ∷ full_words reason
+
 -- what a refusal carries behind its name
 abbrev pub carried_words : Carried → List Word
 carried_words Nothing = []
 carried_words (Limit table limit) = fixed (table_text table) ∷ value (U32 limit) ∷ []
 carried_words (Last last) = value (U64 last) ∷ []
+carried_words (Most limit) = value (U32 limit) ∷ []
+carried_words (Part part why) = value (U32 part) ∷ reason_words why
 
 -- the words of what is told
 abbrev pub told_words : Told → List Word

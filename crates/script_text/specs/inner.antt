@@ -1,4 +1,5 @@
 pub mod Cursor
+pub mod Parts
 pub mod Growing
 pub mod Shown
 pub mod Pieces

@@ -2,6 +2,7 @@
 
 ghost use Rattle.std.specs.Prelude.{◌≡◌, ◌≢◌, ◌⊎◌, ◌^◌, ◌++◌, true, [], OnOk, map};
 ghost use Rattle.std.specs.List.{flat_map, list_all};
+ghost use Rattle.desk_edit.specs.Asked.{asked_by};
 ghost use Rattle.intake.specs.Inputs.{input_of, is_sized};
 ghost use Rattle.bridge_core.specs.Sent.{sent_of};
 ghost use Rattle.script_text.specs.Text.{sent_text};
@@ -42,11 +43,11 @@ fn answer_call<A: Allocator + Copy>(
     alloc: A,
     core: &mut Core<A>,
     op: u8,
-    call: Call,
+    call: Call<A>,
     out: &mut Vec<u8, A>,
 ) -> Result<(), AllocError>
     requires { out.old.items ≡ [] }
-    ensures answer { OnOk result (AnswersRequest core.old (Desk op call) core.new out.new.items) }
+    ensures answer { OnOk result (AnswersRequest core.old (Desk op (asked_by call)) core.new out.new.items) }
     ensures lane { HasLane core.old → HasLane core.new }
 {
     let reply = core.desk(alloc, op, call);

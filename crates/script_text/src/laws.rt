@@ -1,6 +1,6 @@
 //! Laws of the definitions, in the words of a script's grammar.
 
-ghost use Rattle.std.specs.Prelude.{◌≡◌, ℕ, ℤ, pos, ◌^◌, ◌<◌, ◌≤◌, List, ◌∷◌, Some, Ok, codes};
+ghost use Rattle.std.specs.Prelude.{◌≡◌, ℕ, ℤ, pos, ◌^◌, ◌<◌, ◌≤◌, List, ◌∷◌, map, Some, Ok, codes};
 ghost use Rattle.std.specs.Fmt.{decimal, signed_decimal};
 ghost use Rattle.std.specs.List.{join_with_byte, flat_map, All, AllByRecursion};
 ghost use Rattle.hex.specs.Hex.{IsBytes, decode_of, encode_lower};
@@ -13,9 +13,13 @@ ghost use Rattle.script_text.specs.Scripts.{answers_of, sent_in, steps_of};
 ghost use Rattle.bridge_core.specs.Headline.{AreGood, HaveNoGap, numbers};
 ghost use Rattle.bridge_core.specs.Named.{Name, firsts};
 ghost use Rattle.bridge_core.specs.Steps.{sends};
+ghost use Rattle.desk_edit.specs.declared.refusal.Reason.{Reason};
+ghost use Rattle.desk_edit.specs.Reasons.{refusal_for};
+ghost use Rattle.desk_edit.specs.Told.{told_of};
 ghost use Rattle.desk_edit.specs.Refusals.{first_case};
 ghost use Rattle.desk_edit.specs.Calls.{refusal_at};
-ghost use Rattle.script_text.specs.Judged.{call_cases, case_numbers, Rises};
+ghost use Rattle.script_text.specs.Judged.{part_cases, call_cases, case_numbers, Rises, IsSingle};
+ghost use Rattle.script_text.specs.Text.{told_words, reason_words};
 ghost use Rattle.script_text.specs.Values.{last_operator};
 ghost use Rattle.script_text.specs.Words.{words_of, Lacks};
 ghost use Rattle.script_text.specs.Numbers.{number_of, ext_of, IsExt};
@@ -23,7 +27,10 @@ ghost use Rattle.script_text.specs.Addresses.{address_of, address_text, IsAddres
 ghost use Rattle.frame_gate.specs.Frame.{SourcePacket};
 ghost use Rattle.forward_rewrite.specs.Frame.{SourceFrame};
 ghost use Rattle.intake.specs.Inputs.Input.{frame, tick};
-ghost use Rattle.desk_edit.specs.declared.command.Call.{Call};
+ghost use Rattle.intake.specs.Readings.{Reading, IsReading};
+ghost use Rattle.desk_edit.specs.Asked.{CallOf};
+ghost use Rattle.desk_edit.specs.Asked.CallOf.{Group};
+ghost use Rattle.desk_edit.specs.declared.command.Command.{Command};
 ghost use Rattle.script_text.specs.Calls.{call_of, call_line, IsCall};
 ghost use Rattle.script_text.specs.Requests.{request_of, words_request, Desk, desk_line, Item, frame_words, frame_line, IsFrame, Rx, rx_words, rx_line, IsDatagram, tick_line, Report, report_line};
 ghost use Rattle.script_text.specs.Packets.{SpellPackets, packet_of, packet_text, SpellsExt, SpellsHex, SpellsPacket, IsReadable};
@@ -71,11 +78,11 @@ pub fn address_words()
 /// The words of a call's line are that call, and what is read as a call is spelled by its line: once
 /// for all commands. So it is with an operator's line of a script.
 pub fn call_lines()
-    ensures read { (c : Call) → IsCall c → call_of 0 (words_of (call_line c)) ≡ Ok c }
-    ensures spelled { (line : List ℕ) (c : Call) → call_of 0 (words_of line) ≡ Ok c → (line ≡ call_line c) × IsCall c }
-    ensures desk_read { (op : ℕ) (c : Call) → op ≤ last_operator → IsCall c
+    ensures read { (c : CallOf) → IsCall c → call_of 0 (words_of (call_line c)) ≡ Ok c }
+    ensures spelled { (line : List ℕ) (c : CallOf) → call_of 0 (words_of line) ≡ Ok c → (line ≡ call_line c) × IsCall c }
+    ensures desk_read { (op : ℕ) (c : CallOf) → op ≤ last_operator → IsCall c
         → words_request (words_of (desk_line op c)) ≡ Ok (Desk op c) }
-    ensures desk_spelled { (line : List ℕ) (op : ℕ) (c : Call) → words_request (words_of line) ≡ Ok (Desk op c)
+    ensures desk_spelled { (line : List ℕ) (op : ℕ) (c : CallOf) → words_request (words_of line) ≡ Ok (Desk op c)
         → (line ≡ desk_line op c) × (op ≤ last_operator) × IsCall c }
 {}
 
@@ -135,13 +142,18 @@ pub fn script_bridge()
     ensures desk { first_desk ≡ blank BRIDGE_SSRC }
 {}
 
-/// The reason for which a call is refused is the first that holds, and they are asked in the order
-/// of the refusals' numbers.
+/// The reason for which a call is refused is the first that holds. They are asked in the order of the
+/// refusals' numbers. Of a group first its size is asked (18, 19), then the log (17), and then each
+/// command (20). Of a command in a group the reason is printed as of the command alone.
 pub fn refusal_words()
-    ensures first { (version done undone : ℕ) (d : Rows) (call : Call)
+    ensures first { (version done undone : ℕ) (d : Rows) (call : CallOf)
         → refusal_at version d done undone call ≡ first_case (call_cases version d done undone call) }
-    ensures rising { (version done undone : ℕ) (d : Rows) (call : Call)
+    ensures rising { (version done undone : ℕ) (d : Rows) (call : CallOf) → IsSingle call
         → Rises (case_numbers (call_cases version d done undone call)) }
+    ensures group { (version done undone : ℕ) (d : Rows) (commands : List Command)
+        → case_numbers (call_cases version d done undone (Group commands))
+        ≡ 18 ∷ 19 ∷ 17 ∷ map (λ c. 20) (part_cases 0 d commands) }
+    ensures part { (why : Reason) → reason_words why ≡ told_words (told_of (refusal_for why)) }
 {}
 
 /// Each datagram is heard, whatever memory there is: its octets have a reading, and the bridge has words for lost packets.
@@ -153,8 +165,12 @@ pub fn datagrams_are_heard<A: Allocator + Copy>(alloc: A, octets: &[u8])
 }
 
 /// Where each line of a script is heard, one wire hears them all. Only datagrams have to be heard.
+/// So where all octets have readings, each script has a wire that hears it.
 pub fn scripts_are_heard()
-    ensures { (lines : List (List ℕ)) → AllByRecursion (λ line. (wire : Wire) × Hears wire (request_of line)) lines → (wire : Wire) × HearsAll wire lines }
+    ensures each { (lines : List (List ℕ)) → AllByRecursion (λ line. (wire : Wire) × Hears wire (request_of line)) lines
+        → (wire : Wire) × HearsAll wire lines }
+    ensures all { ((octets : List ℕ) → IsBytes octets → (r : Reading) × IsReading octets r)
+        → (lines : List (List ℕ)) → (wire : Wire) × HearsAll wire lines }
 {
     voices_are_there();
 }

@@ -5,6 +5,7 @@
 mod answer;
 mod appending;
 mod building;
+mod calling;
 mod exits;
 mod fault;
 mod laws;
@@ -13,6 +14,7 @@ mod name;
 mod number;
 mod outcomes;
 mod packet;
+mod parts;
 mod print;
 mod reading;
 mod running;
@@ -25,7 +27,7 @@ mod spelling;
 mod value;
 mod words;
 
-pub use self::building::parse_desk;
+pub use self::calling::parse_desk;
 pub use self::exits::{Ask, Outcome, asked, exit_status, status, unread};
 pub use self::fault::{Fault, ParseFault, RunFault};
 pub use self::laws::{

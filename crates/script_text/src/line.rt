@@ -8,7 +8,7 @@ ghost use Rattle.script_text.specs.inner.Cursor.{words_in, size_of, view, sighti
 ghost use Rattle.script_text.specs.Values.{field_of};
 ghost use Rattle.script_text.specs.Requests.{is_printable, some_packets, framed, frame_of, desk_of, some_octets, rx_of, tick_of, report_of, show_of, front_of, request_with, words_request, request_of};
 
-use crate::building::call;
+use crate::calling::call;
 use crate::fault::{Fault, ParseFault};
 use crate::name::{Kind, front, parse_kind};
 use crate::packet::{octets, packets};
@@ -29,7 +29,7 @@ pub(crate) enum Line<A: Allocator + Copy = Global> {
     Nothing,
     Desk {
         op: u8,
-        call: Call,
+        call: Call<A>,
     },
     Frame(MediaFrame<A>),
     Rx {
@@ -47,10 +47,11 @@ pub(crate) enum Line<A: Allocator + Copy = Global> {
 }
 
 /// The call of an operator.
-fn desk<A: Allocator + Copy>(op: u8, words: Option<&[u8]>) -> Result<Line<A>, ParseFault>
+fn desk<A: Allocator + Copy>(alloc: A, op: u8, words: Option<&[u8]>) -> Result<Line<A>, ParseFault>
+    requires { size_of words ≤ LINE_LIMIT + 1 }
     ensures { Gives view result (desk_of op (words_in words.entry)) }
 {
-    let call = call(2, words)?;
+    let call = call(alloc, 2, words)?;
     Ok(Line::Desk { op, call })
 }
 
@@ -64,7 +65,7 @@ fn show<A: Allocator + Copy>(words: Option<&[u8]>) -> Result<Line<A>, ParseFault
 
 /// What a `frame` line says before its packets.
 #[derive(Clone, Copy)]
-struct Head {
+struct FrameHead {
     moment: u64,
     address: Address,
     source: u32,
@@ -88,12 +89,12 @@ fn some_packets<A: Allocator + Copy>(
 
 /// The frame of these packets, which have to make one.
 fn framed<A: Allocator + Copy>(
-    head: Head,
+    head: FrameHead,
     packets: Vec<FramePacket<A>, A>,
 ) -> Result<Line<A>, ParseFault>
     ensures { Gives view result (framed (sighting head packets.items) (fault_of packets.items)) }
 {
-    let Head {
+    let FrameHead {
         moment,
         address,
         source,
@@ -116,7 +117,7 @@ fn framed<A: Allocator + Copy>(
 #[tactic(auto, unfolding(crate::specs::Requests::frame_of))]
 fn frame<A: Allocator + Copy>(
     alloc: A,
-    head: Head,
+    head: FrameHead,
     words: Option<&[u8]>,
 ) -> Result<Line<A>, ParseFault>
     requires { size_of words ≤ LINE_LIMIT + 1 }
@@ -188,9 +189,9 @@ fn line_with<A: Allocator + Copy>(
     ensures { Gives view result (request_with kind values.now (words_in words.entry)) }
 {
     match kind {
-        Kind::Desk => desk(operator_at(values, 0), words),
+        Kind::Desk => desk(alloc, operator_at(values, 0), words),
         Kind::Frame => {
-            let head = Head {
+            let head = FrameHead {
                 moment: u64_at(values, 0),
                 address: address_at(values, 1),
                 source: u32_at(values, 2),

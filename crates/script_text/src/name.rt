@@ -1,7 +1,7 @@
 //! The tables of lines: names, and the fields behind each.
 
 ghost use Rattle.std.specs.Prelude.{◌≡◌, ◌≤◌, length};
-ghost use Rattle.script_text.specs.Calls.{name_of, shape_of};
+ghost use Rattle.script_text.specs.Calls.{name_of, shape_of, head_of};
 ghost use Rattle.script_text.specs.Requests.{kind_of, front_of};
 
 use crate::value::Field;
@@ -58,7 +58,7 @@ pub(crate) fn front(kind: Kind) -> &'static [Field]
     }
 }
 
-/// The name of a call.
+/// The name of a command.
 #[derive(Clone, Copy)]
 pub(crate) enum Name {
     AddRoom,
@@ -79,8 +79,6 @@ pub(crate) enum Name {
     Unpin,
     GiveFloor,
     TakeFloor,
-    Undo,
-    Redo,
 }
 
 /// The name that a word is.
@@ -123,10 +121,6 @@ pub(crate) fn parse_name(word: &[u8]) -> Option<Name>
         Some(Name::GiveFloor)
     } else if word == b"take-floor".as_slice() {
         Some(Name::TakeFloor)
-    } else if word == b"undo".as_slice() {
-        Some(Name::Undo)
-    } else if word == b"redo".as_slice() {
-        Some(Name::Redo)
     } else {
         None
     }
@@ -164,6 +158,28 @@ pub(crate) fn shape(name: Name) -> &'static [Field]
         Name::Unpin => &[Field::U32],
         Name::GiveFloor => &[Field::U32, Field::U32],
         Name::TakeFloor => &[Field::U32],
-        Name::Undo | Name::Redo => &[Field::U64],
+    }
+}
+
+/// The first word of a call that is no single command.
+#[derive(Clone, Copy)]
+pub(crate) enum Head {
+    Undo,
+    Redo,
+    Group,
+}
+
+/// The head that a word is.
+pub(crate) fn parse_head(word: &[u8]) -> Option<Head>
+    ensures { result ≡ head_of word.now }
+{
+    if word == b"undo".as_slice() {
+        Some(Head::Undo)
+    } else if word == b"redo".as_slice() {
+        Some(Head::Redo)
+    } else if word == b"group".as_slice() {
+        Some(Head::Group)
+    } else {
+        None
     }
 }

@@ -2,7 +2,7 @@
 
 ghost use Rattle.std.specs.Prelude.{◌≡◌, ◌+◌, ◌<◌, ◌∷◌, ◌++◌, codes, length, map, OnOk, OnErr, vec_len, vec_capacity};
 ghost use Rattle.script_text.specs.declared.value.Value.TheVariants.{U64};
-ghost use Rattle.script_text.specs.Text.{fixed, value, line_text, told_words, reply_text, head_words, media_words, source_words, loss_words, sent_text};
+ghost use Rattle.script_text.specs.Text.{fixed, value, line_text, told_words, reason_words, reply_text, head_words, media_words, source_words, loss_words, sent_text};
 ghost use Rattle.script_text.specs.inner.Shown.{said};
 ghost use Rattle.desk_edit.specs.Told.{told_in};
 ghost use Rattle.bridge_core.specs.Sent.{sent_of};
@@ -10,7 +10,7 @@ ghost use Rattle.bridge_core.specs.Sent.{sent_of};
 use crate::appending::{Word, print_line};
 use crate::value::Value;
 use bridge_core::{Egress, LossNote, Reply};
-use desk_edit::{Carried, RefusalRow};
+use desk_edit::{Carried, Reason, RefusalRow};
 use rtp_codec::Address;
 use std::alloc::{AllocError, Allocator};
 
@@ -52,6 +52,44 @@ fn print_refused<A: Allocator>(
             let last = Word::Value(Value::U64(last));
             print_line(b"no", &[at, number, name, last], out)
         }
+        Carried::Most(limit) => {
+            let limit = Word::Value(Value::U32(limit));
+            print_line(b"no", &[at, number, name, limit], out)
+        }
+        Carried::Part(part, why) => {
+            let part = Word::Value(Value::U32(part));
+            print_part([at, number, name, part], why, out)
+        }
+    }
+}
+
+/// Appends the line of a refused group: these words, and then the reason against one of its commands.
+fn print_part<A: Allocator>(
+    words: [Word<'_>; 4],
+    why: Reason,
+    out: &mut Vec<u8, A>,
+) -> Result<(), AllocError>
+    ensures ok { OnOk result (out.new.items ≡ out.old.items
+        ++ line_text (fixed (codes "no") ∷ map said words.entry ++ reason_words why)) }
+    ensures err { OnErr result (out.new.items ≡ out.old.items) }
+    ensures full { OnErr result (vec_capacity out.old
+        < vec_len out.old + length (line_text (fixed (codes "no") ∷ map said words.entry ++ reason_words why))) }
+{
+    let [at, number, name, part] = words;
+    let row = why.refusal().told();
+    let reason = Word::Value(Value::U16(row.number));
+    let text = Word::Fixed(row.name);
+    match why {
+        Reason::Full { table, limit } => {
+            let table = Word::Fixed(table.text());
+            let limit = Word::Value(Value::U32(limit));
+            print_line(
+                b"no",
+                &[at, number, name, part, reason, text, table, limit],
+                out,
+            )
+        }
+        _ => print_line(b"no", &[at, number, name, part, reason, text], out),
     }
 }
 

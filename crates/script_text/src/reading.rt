@@ -1,6 +1,6 @@
 //! Reading the values that words spell.
 
-ghost use Rattle.std.specs.Prelude.{◌≡◌, ◌≢◌, ◌≤◌, length, map, IfOk};
+ghost use Rattle.std.specs.Prelude.{◌≡◌, ◌≢◌, ◌≤◌, ◌^◌, length, map, IfOk};
 ghost use Rattle.script_text.specs.Words.{Gives};
 ghost use Rattle.script_text.specs.inner.Cursor.{words_in, size_of};
 ghost use Rattle.script_text.specs.Values.{field_of, values_of};
@@ -23,7 +23,7 @@ pub(crate) fn read_values<'a>(
     words: Option<&'a [u8]>,
 ) -> Result<Front<'a>, ParseFault>
     requires few { length shape.now ≤ MOST_VALUES }
-    requires near { place ≤ 4 }
+    requires near { place ≤ 2 ^ 18 }
     ensures values { Gives (λ x. (x.0.items, words_in x.1)) result (values_of place shape.now (words_in words.entry)) }
     ensures shape { IfOk result (λ x. map field_of x.0.items ≡ shape.now) }
     ensures shorter { IfOk result (λ x. size_of x.1 ≤ size_of words.entry) }

@@ -1,9 +1,10 @@
 //! What is printed for the rows of a desk.
 
-ghost use Rattle.std.specs.Prelude.{◌≡◌, ◌++◌, OnOk};
+ghost use Rattle.std.specs.Prelude.{◌≡◌, ◌++◌, OnOk, OnErr};
 ghost use Rattle.std.specs.List.{flat_map};
 ghost use Rattle.script_text.specs.Text.{value, line_text};
 ghost use Rattle.script_text.specs.inner.Shown.{said};
+ghost use Rattle.script_text.specs.Output.{IsFrontOf};
 ghost use Rattle.script_text.specs.RowLines.{row_words, kind_lines, all_kinds, show_text};
 ghost use Rattle.script_text.specs.declared.value.Value.TheVariants.{U32};
 
@@ -25,7 +26,8 @@ fn print_member<A: Allocator>(
     member: &Member,
     out: &mut Vec<u8, A>,
 ) -> Result<(), AllocError>
-    ensures { OnOk result (out.new.items ≡ out.old.items ++ line_text (row_words place (Row.Member member.now))) }
+    ensures ok { OnOk result (out.new.items ≡ out.old.items ++ line_text (row_words place (Row.Member member.now))) }
+    ensures err { OnErr result (out.new.items ≡ out.old.items) }
 {
     let words = [
         Word::Value(Value::U64(place as u64)),
@@ -42,7 +44,8 @@ fn print_member<A: Allocator>(
 
 /// Appends the line of a slot.
 fn print_slot<A: Allocator>(slot: &Slot, out: &mut Vec<u8, A>) -> Result<(), AllocError>
-    ensures { OnOk result (out.new.items ≡ out.old.items ++ line_text (row_words 0 (Row.Slot slot.now))) }
+    ensures ok { OnOk result (out.new.items ≡ out.old.items ++ line_text (row_words 0 (Row.Slot slot.now))) }
+    ensures err { OnErr result (out.new.items ≡ out.old.items) }
 {
     let words = [
         number(slot.out_ssrc),
@@ -56,7 +59,8 @@ fn print_slot<A: Allocator>(slot: &Slot, out: &mut Vec<u8, A>) -> Result<(), All
 
 /// Appends the line of a row that stands at this place among those of its kind.
 fn print_row<A: Allocator>(place: usize, row: &Row, out: &mut Vec<u8, A>) -> Result<(), AllocError>
-    ensures { OnOk result (out.new.items ≡ out.old.items ++ line_text (row_words place row.now)) }
+    ensures ok { OnOk result (out.new.items ≡ out.old.items ++ line_text (row_words place row.now)) }
+    ensures err { OnErr result (out.new.items ≡ out.old.items) }
 {
     match row {
         Row::Room(room) => print_line(b"room", &[number(room.room)], out),
@@ -87,7 +91,8 @@ fn print_kind<A: Allocator + Copy>(
     kind: Kind,
     out: &mut Vec<u8, A>,
 ) -> Result<(), AllocError>
-    ensures { OnOk result (out.new.items ≡ out.old.items ++ kind_lines rows.now kind) }
+    ensures ok { OnOk result (out.new.items ≡ out.old.items ++ kind_lines rows.now kind) }
+    ensures grows { IsFrontOf out.old.items out.new.items }
 {
     for place in 0..rows.count(kind) {
         if let Some(row) = rows.at(kind, place) {
@@ -112,7 +117,8 @@ const KINDS: [Kind; 9] = [
 
 /// Appends the lines of the rows of all kinds.
 fn print_kinds<A: Allocator + Copy>(rows: &Rows<A>, out: &mut Vec<u8, A>) -> Result<(), AllocError>
-    ensures { OnOk result (out.new.items ≡ out.old.items ++ flat_map (kind_lines rows.now) all_kinds) }
+    ensures ok { OnOk result (out.new.items ≡ out.old.items ++ flat_map (kind_lines rows.now) all_kinds) }
+    ensures grows { IsFrontOf out.old.items out.new.items }
 {
     for kind in &KINDS {
         print_kind(rows, *kind, out)?;
@@ -120,14 +126,32 @@ fn print_kinds<A: Allocator + Copy>(rows: &Rows<A>, out: &mut Vec<u8, A>) -> Res
     Ok(())
 }
 
-/// Appends a line for each row, and the version.
+/// Appends a line for each row, and the version. Out of memory leaves what was appended before.
+fn print_shown<A: Allocator + Copy>(
+    rows: &Rows<A>,
+    version: u64,
+    out: &mut Vec<u8, A>,
+) -> Result<(), AllocError>
+    ensures ok { OnOk result (out.new.items ≡ out.old.items ++ show_text rows.now version) }
+    ensures grows { IsFrontOf out.old.items out.new.items }
+{
+    print_kinds(rows, out)?;
+    print_line(b"end", &[Word::Value(Value::U64(version))], out)
+}
+
+/// Appends a line for each row, and the version. An `Err` changes nothing.
 pub fn print_rows<A: Allocator + Copy>(
     rows: &Rows<A>,
     version: u64,
     out: &mut Vec<u8, A>,
 ) -> Result<(), AllocError>
-    ensures { OnOk result (out.new.items ≡ out.old.items ++ show_text rows.now version) }
+    ensures ok { OnOk result (out.new.items ≡ out.old.items ++ show_text rows.now version) }
+    ensures err { OnErr result (out.new.items ≡ out.old.items) }
 {
-    print_kinds(rows, out)?;
-    print_line(b"end", &[Word::Value(Value::U64(version))], out)
+    let before = out.len();
+    let answer = print_shown(rows, version, out);
+    if answer.is_err() {
+        out.truncate(before);
+    }
+    answer
 }

@@ -3,10 +3,11 @@ use Rattle.std.specs.Prelude.{◌≡◌, ◌≢◌, ℕ, ◌+◌, List, [], ◌�
 use Rattle.std.specs.Borrow.{Bor}
 use Rattle.frame_gate.specs.Frame.{SourcePacket}
 use Rattle.forward_rewrite.specs.Frame.{SourceFrame}
+use Rattle.desk_edit.specs.Asked.{asked_by}
 use Rattle.intake.specs.Inputs.Input.{frame, tick}
 use Rattle.script_text.specs.declared.fault.ParseFault.{ParseFault}
 use Rattle.script_text.specs.declared.packet.Parts.{Parts}
-use Rattle.script_text.specs.declared.line.Head.{Head}
+use Rattle.script_text.specs.declared.line.FrameHead.{FrameHead}
 use Rattle.script_text.specs.declared.line.Line.{Line}
 use Rattle.script_text.specs.declared.line.Line.TheVariants as lines
 use Rattle.script_text.specs.Words.{Fails, words_of}
@@ -21,7 +22,7 @@ words_in (Some text) = words_of text.now
 -- a line as it was read, without where it lies in memory
 abbrev pub view : {A : Type 0} → Line A → Request
 view lines.Nothing = Nothing
-view (lines.Desk op call) = Desk op call
+view (lines.Desk op call) = Desk op (asked_by call)
 view (lines.Frame f) = Item (frame f)
 view (lines.Tick moment) = Item (tick moment)
 view (lines.Report moment) = Report moment
@@ -29,7 +30,7 @@ view (lines.Rx moment from octets) = Rx moment from octets.items
 view lines.Show = Show
 
 -- the frame of these packets, with what stands before them
-abbrev pub sighting : Head → List SourcePacket → SourceFrame
+abbrev pub sighting : FrameHead → List SourcePacket → SourceFrame
 sighting h packets = record { source = h.source; address = h.address; epoch = h.epoch; moment = h.moment; frame = record { ts = h.ts; packets = packets } }
 
 -- these are the four parts, or there are not four

@@ -1,4 +1,4 @@
-use Rattle.script_text.proofs.JudgedLaws.{asked, rising}
+use Rattle.script_text.proofs.JudgedLaws.{asked, rising, group, part}
 use Rattle.script_text.proofs.laws.refusal_words.Goals as goal
 
 pub returns-clause-first : goal.returns-clause-first
@@ -6,3 +6,9 @@ returns-clause-first c = asked
 
 pub returns-clause-rising : goal.returns-clause-rising
 returns-clause-rising c = rising
+
+pub returns-clause-group : goal.returns-clause-group
+returns-clause-group c = group
+
+pub returns-clause-part : goal.returns-clause-part
+returns-clause-part c = part
