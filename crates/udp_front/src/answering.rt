@@ -1,16 +1,17 @@
 //! What an operator's line is answered.
 
-ghost use Rattle.std.specs.Prelude.{◌≡◌, ◌++◌, IfOk, OnOk, OnErr};
+ghost use Rattle.std.specs.Prelude.{◌≡◌, ◌++◌, Ok, IfOk, OnOk, OnErr};
+ghost use Rattle.desk_edit.specs.Asked.{asked_by};
 ghost use Rattle.script_text.specs.declared.fault.Fault.TheVariants.{LineTooLong};
-ghost use Rattle.udp_front.specs.Operators.{fault_line, busy_line, AppendsReply, AnswersLine};
+ghost use Rattle.udp_front.specs.Operators.{fault_line, busy_line, alone, AppendsReply, AppendsAnswer, AnswersLine};
 
-use crate::asking::{Ask, parse_line};
+use crate::asking::{Ask, Verb, parse_line};
 use bridge_core::Core;
 use desk_edit::Call;
 use script_text::{Fault, ParseFault, print_reply, print_rows};
 use std::alloc::{AllocError, Allocator};
 
-/// What becomes of a connection behind a line.
+/// What becomes of a connection after a line.
 #[derive(Clone, Copy, Debug, PartialEq, Eq)]
 pub enum Next {
     /// It stays.
@@ -21,14 +22,14 @@ pub enum Next {
     Stop,
 }
 
-/// What a connection is told that finds no seat.
+/// What a connection is told when no seat is free.
 pub fn busy() -> &'static [u8]
     ensures { result.now ≡ busy_line }
 {
     b"busy\n"
 }
 
-/// Appends the line of a fault of a word, from 1; word 0 is the whole line. An `Err` appends nothing.
+/// Appends the line of a fault of a word, counted from 1; word 0 is the whole line. An `Err` appends nothing.
 fn print_fault<A: Allocator + Copy>(
     alloc: A,
     word: u32,
@@ -42,7 +43,7 @@ fn print_fault<A: Allocator + Copy>(
     out.extend_from_slice(line.as_bytes())
 }
 
-/// Appends what a line is told that has more octets than a line may have. An `Err` appends nothing.
+/// Appends the answer to a line of more octets than a line may have. An `Err` appends nothing.
 pub fn print_too_long<A: Allocator + Copy>(alloc: A, out: &mut Vec<u8, A>) -> Result<(), AllocError>
     ensures ok { OnOk result (out.new.items ≡ out.old.items ++ fault_line 0 LineTooLong) }
     ensures err { OnErr result (out.new.items ≡ out.old.items) }
@@ -50,23 +51,44 @@ pub fn print_too_long<A: Allocator + Copy>(alloc: A, out: &mut Vec<u8, A>) -> Re
     print_fault(alloc, 0, Fault::LineTooLong, out)
 }
 
-/// Carries out a call, and appends the line of its reply.
+/// Carries out a call, and appends the line of its reply. An `Err` appends nothing, but the call may be carried out.
 fn answer_call<A: Allocator + Copy>(
     alloc: A,
     core: &mut Core<A>,
     op: u8,
-    call: Call,
+    call: Call<A>,
     out: &mut Vec<u8, A>,
 ) -> Result<(), AllocError>
-    ensures { OnOk result (AppendsReply core.old core.new call out.old.items out.new.items) }
+    ensures ok { OnOk result (AppendsReply core.old core.new (asked_by call) out.old.items out.new.items) }
+    ensures err { OnErr result (out.new.items ≡ out.old.items) }
 {
     let reply = core.desk(alloc, op, call);
     print_reply(&reply, out)
 }
 
+/// Does what a word that stands alone asks for, and appends what the operator is told. An `Err` appends nothing.
+fn answer_verb<A: Allocator + Copy>(
+    core: &Core<A>,
+    verb: Verb,
+    out: &mut Vec<u8, A>,
+) -> Result<Next, AllocError>
+    ensures answer { IfOk result (λ next.
+        AppendsAnswer core.now (Ok (alone verb)) core.now out.old.items out.new.items next) }
+    ensures err { OnErr result (out.new.items ≡ out.old.items) }
+{
+    match verb {
+        Verb::Show => {
+            print_rows(core.rows(), core.version(), out)?;
+            Ok(Next::Stay)
+        }
+        Verb::Quit => Ok(Next::Quit),
+        Verb::Stop => Ok(Next::Stop),
+    }
+}
+
 /// Answers a line of an operator, without its LF: does what it asks for, and appends what the operator is told.
 ///
-/// Where memory runs out nothing is known of what was appended, and a call may have been carried out.
+/// When memory runs out nothing is appended, but a call may be carried out.
 pub fn answer<A: Allocator + Copy>(
     alloc: A,
     core: &mut Core<A>,
@@ -75,23 +97,18 @@ pub fn answer<A: Allocator + Copy>(
     out: &mut Vec<u8, A>,
 ) -> Result<Next, AllocError>
     ensures answer { IfOk result (λ next. AnswersLine core.old core.new line.now out.old.items out.new.items next) }
+    ensures err { OnErr result (out.new.items ≡ out.old.items) }
 {
-    match parse_line(line) {
+    match parse_line(alloc, line) {
         Ok(Ask::Call(call)) => {
             answer_call(alloc, core, op, call, out)?;
             Ok(Next::Stay)
         }
-        Ok(Ask::Show) => {
-            print_rows(core.rows(), core.version(), out)?;
-            Ok(Next::Stay)
-        }
-        Ok(Ask::Quit) => Ok(Next::Quit),
-        Ok(Ask::Stop) => Ok(Next::Stop),
+        Ok(Ask::Verb(verb)) => answer_verb(core, verb, out),
         Err(ParseFault::Line { word, fault }) => {
             print_fault(alloc, word, fault, out)?;
             Ok(Next::Stay)
         }
-        // A line is read without memory.
         Err(ParseFault::OutOfMemory) => Err(AllocError),
     }
 }

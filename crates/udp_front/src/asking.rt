@@ -1,17 +1,33 @@
 //! What an operator's line asks for.
 
 ghost use Rattle.std.specs.Prelude.{◌≡◌, ◌≢◌, Err};
+ghost use Rattle.desk_edit.specs.Asked.{asked_by};
 ghost use Rattle.script_text.specs.Words.{Gives, cut_of};
-ghost use Rattle.udp_front.specs.Operators.{alone_of, asked_call, asked_in, asked_of, is_printed};
-ghost use Rattle.script_text.specs.Calls.{call_of, spoken_words};
+ghost use Rattle.script_text.specs.Calls.{spoken_call};
+ghost use Rattle.udp_front.specs.Operators.{
+  alone_of,
+  asked_call,
+  asked_in,
+  asked_of,
+  asks,
+  begins_group,
+  is_printed,
+};
 
 use desk_edit::Call;
 use script_text::{Fault, ParseFault, cut, parse_desk};
+use std::alloc::{Allocator, Global};
 
 /// What a line of an operator asks for.
+#[derive(Drop)]
+pub(crate) enum Ask<A: Allocator + Copy = Global> {
+    Call(Call<A>),
+    Verb(Verb),
+}
+
+/// A word that stands alone on its line.
 #[derive(Clone, Copy)]
-pub(crate) enum Ask {
-    Call(Call),
+pub(crate) enum Verb {
     /// The rows of the desk.
     Show,
     /// The end of the connection.
@@ -27,57 +43,57 @@ fn is_printed(line: &[u8]) -> bool
     line.iter().all(|octet| 32 <= *octet && *octet <= 126)
 }
 
-/// What a word asks for that stands alone, where it is one of those that do.
-fn alone(word: &[u8]) -> Option<Ask>
+/// The word that stands alone, if this is one.
+fn alone(word: &[u8]) -> Option<Verb>
     ensures { result ≡ alone_of word.now }
 {
     if word == b"show".as_slice() {
-        Some(Ask::Show)
+        Some(Verb::Show)
     } else if word == b"quit".as_slice() {
-        Some(Ask::Quit)
+        Some(Verb::Quit)
     } else if word == b"stop".as_slice() {
-        Some(Ask::Stop)
+        Some(Verb::Stop)
     } else {
         None
     }
 }
 
-/// The call that a line is.
-fn call(line: &[u8]) -> Result<Ask, ParseFault>
-    ensures call { Gives (λ x. x) result (asked_call (call_of 0 (spoken_words line.now))) }
-    ensures memory { result ≢ Err ParseFault.OutOfMemory }
+/// The call that a line is. Only a group takes memory.
+fn call<A: Allocator + Copy>(alloc: A, line: &[u8]) -> Result<Ask<A>, ParseFault>
+    ensures call { Gives asks result (asked_call (spoken_call line.now)) }
+    ensures memory { result ≡ Err ParseFault.OutOfMemory → begins_group line.now }
 {
-    match parse_desk(line) {
+    match parse_desk(alloc, line) {
         Ok(call) => Ok(Ask::Call(call)),
         Err(fault) => Err(fault),
     }
 }
 
-/// What the words of a line ask for.
-fn words(line: &[u8]) -> Result<Ask, ParseFault>
-    ensures asked { Gives (λ x. x) result (asked_in line.now (cut_of 32 line.now) (asked_call (call_of 0 (spoken_words line.now)))) }
-    ensures memory { result ≢ Err ParseFault.OutOfMemory }
+/// What the words of a line ask for. Only a group takes memory.
+fn words<A: Allocator + Copy>(alloc: A, line: &[u8]) -> Result<Ask<A>, ParseFault>
+    ensures asked { Gives asks result (asked_in line.now (cut_of 32 line.now) (asked_call (spoken_call line.now))) }
+    ensures memory { result ≡ Err ParseFault.OutOfMemory → begins_group line.now }
 {
     match cut(line, b' ') {
         None => match alone(line) {
-            Some(ask) => Ok(ask),
-            None => call(line),
+            Some(verb) => Ok(Ask::Verb(verb)),
+            None => call(alloc, line),
         },
         Some((word, _)) => match alone(word) {
             Some(_) => Err(ParseFault::Line {
                 word: 2,
                 fault: Fault::ExtraWord,
             }),
-            None => call(line),
+            None => call(alloc, line),
         },
     }
 }
 
-/// What a line asks for, or its first fault. No memory is taken.
+/// What a line asks for, or its first fault. Only a group takes memory.
 #[tactic(auto, unfolding(crate::specs::Operators::asked_of))]
-pub(crate) fn parse_line(line: &[u8]) -> Result<Ask, ParseFault>
-    ensures asked { Gives (λ x. x) result (asked_of line.now) }
-    ensures memory { result ≢ Err ParseFault.OutOfMemory }
+pub(crate) fn parse_line<A: Allocator + Copy>(alloc: A, line: &[u8]) -> Result<Ask<A>, ParseFault>
+    ensures asked { Gives asks result (asked_of line.now) }
+    ensures memory { result ≡ Err ParseFault.OutOfMemory → begins_group line.now }
 {
     if !is_printed(line) {
         return Err(ParseFault::Line {
@@ -85,5 +101,5 @@ pub(crate) fn parse_line(line: &[u8]) -> Result<Ask, ParseFault>
             fault: Fault::BadByte,
         });
     }
-    words(line)
+    words(alloc, line)
 }
