@@ -1,7 +1,10 @@
-//! The bridge's program. `confbridge replay` answers a script from standard input, `confbridge serve FILE` runs a bridge
-//! on sockets.
+//! The bridge's program. `confbridge replay` answers a script from standard input, `confbridge serve FILE` runs a
+//! bridge on sockets.
 #![tactic(auto)]
 
+mod ending;
+
+use crate::ending::{ServeFault, serve_status};
 use script_text::{Ask, Outcome, Reader, Writer, asked, exit_status, run, unread};
 use std::alloc::AllocGlobal;
 use std::fs::Files;
@@ -10,12 +13,12 @@ use std::process::ExitCode;
 use std::rt::Runtime;
 use std::sync::Wait;
 use std::{env, fs, io};
-use udp_front::{Front, FrontFault, FrontSettings, SettingsFault, front_status, settings};
+use udp_front::{Front, FrontSettings, SettingsFault, settings};
 
 /// What the arguments ask for.
 #[derive(Drop)]
 enum Task {
-    /// What needs standard input alone, or nothing.
+    /// What needs no more than standard input.
     Script(Ask),
     /// A bridge on sockets, with the settings of this file.
     Serve(String),
@@ -40,7 +43,7 @@ fn arguments(rt: &HostRuntime) -> Task {
     Task::Script(asked(first.as_deref(), second.as_deref()))
 }
 
-/// Does what is asked for with standard input.
+/// Does what needs no more than standard input.
 fn outcome(rt: &HostRuntime, ask: Ask) -> Outcome {
     match ask {
         Ask::Replay => {
@@ -53,7 +56,7 @@ fn outcome(rt: &HostRuntime, ask: Ask) -> Outcome {
     }
 }
 
-/// Says how it ended on standard error, where that is not well, and by the exit status.
+/// Tells how a script ended: on standard error unless it ended well, and by the exit status.
 fn tell(rt: &HostRuntime, outcome: &Outcome) -> ExitCode {
     let status = exit_status(outcome);
     if status != 0 {
@@ -63,30 +66,30 @@ fn tell(rt: &HostRuntime, outcome: &Outcome) -> ExitCode {
 }
 
 /// The settings that a file gives.
-fn settings_in<R: Files + AllocGlobal>(rt: &R, path: &str) -> Result<FrontSettings, FrontFault> {
+fn settings_in<R: Files + AllocGlobal>(rt: &R, path: &str) -> Result<FrontSettings, ServeFault> {
     let octets = fs::read(rt, path)?;
     match str::from_utf8(&octets) {
         Ok(text) => Ok(settings(rt.alloc(), text)?),
-        Err(_) => Err(FrontFault::Settings(SettingsFault::BadToml)),
+        Err(_) => Err(ServeFault::Settings(SettingsFault::BadToml)),
     }
 }
 
-/// Runs a bridge with the settings of a file until it is stopped. Where it listens is told on standard error.
-fn serve<R: Runtime + AllocGlobal + Net + Wait>(rt: &R, path: &str) -> Result<(), FrontFault> {
+/// Runs a bridge with the settings of a file until it is stopped. Tells on standard error where it listens.
+fn serve<R: Runtime + AllocGlobal + Net + Wait>(rt: &R, path: &str) -> Result<(), ServeFault> {
     let front = Front::bind(rt, settings_in(rt, path)?)?;
     let listening = front.listening()?;
     let _ = eprintln!(rt; "confbridge: listening on {listening}");
-    front.run(rt)
+    Ok(front.run(rt)?)
 }
 
-/// Runs a bridge, and says how it ended on standard error and by the exit status.
+/// Runs a bridge, and tells how it ended: on standard error and by the exit status.
 fn served<R: Runtime + AllocGlobal + Net + Wait>(rt: &R, path: &str) -> ExitCode {
     let answer = serve(rt, path);
     let _ = match &answer {
         Ok(()) => eprintln!(rt; "confbridge: stopped"),
         Err(fault) => eprintln!(rt; "confbridge: {fault}"),
     };
-    ExitCode::from(front_status(&answer))
+    ExitCode::from(serve_status(&answer))
 }
 
 fn main(rt: HostRuntime) -> ExitCode {

@@ -1,22 +1,20 @@
 //! How a bridge on sockets ends.
 
 ghost use Rattle.std.specs.Prelude.{◌≡◌, Some};
-ghost use Rattle.udp_front.specs.Ended.{front_text, front_status_of, ended_by_settings, ended_by_io, ended_by_lane, ended_by_core};
+ghost use Rattle.udp_front.specs.Ended.{front_text, front_status_of, ended_by_io, ended_by_lane, ended_by_core};
 
-use crate::fault::SettingsFault;
 use bridge_core::{CoreFault, LaneFault};
 use std::alloc::{AllocError, AllocFailed};
 use std::error::Error;
 use std::io::ErrorKind;
 use std::{fmt, io};
 
-/// Why a bridge on sockets ended otherwise than by `stop`, or did not begin.
-#[derive(Debug, Drop)]
+/// Why a bridge on sockets did not start, or ended without `stop`.
+#[derive(Clone, Copy, Debug)]
 pub enum FrontFault {
-    /// The settings are not good.
-    Settings(SettingsFault),
-    /// A file, a socket or a clock failed, or a lane's items were used up.
+    /// 1: a file, a socket or a clock failed, or a lane has used up its items' numbers.
     Io,
+    /// 2: memory ran out.
     OutOfMemory,
 }
 
@@ -25,7 +23,6 @@ impl fmt::Display for FrontFault {
 
     fn fmt<W: fmt::Write>(&self, f: &mut fmt::Formatter<W>) -> fmt::Result {
         match self {
-            FrontFault::Settings(fault) => write!(f, "settings: {fault}"),
             FrontFault::Io => write!(f, "input or output failed"),
             FrontFault::OutOfMemory => write!(f, "out of memory"),
         }
@@ -34,27 +31,15 @@ impl fmt::Display for FrontFault {
 
 impl Error for FrontFault {}
 
-/// The exit status of a bridge on sockets: 0 after `stop`, 1 for a fault of the settings, 2 for want of memory, 3 where
-/// a file, a socket or a clock failed.
+/// The exit status of a bridge on sockets: 0 after `stop`, 2 when memory ran out, 3 when a file, a socket or a clock
+/// failed.
 pub fn front_status(answer: &Result<(), FrontFault>) -> u8
     ensures { result ≡ front_status_of answer.now }
 {
     match answer {
         Ok(()) => 0,
-        Err(FrontFault::Settings(_)) => 1,
         Err(FrontFault::OutOfMemory) => 2,
         Err(FrontFault::Io) => 3,
-    }
-}
-
-impl From<SettingsFault> for FrontFault {
-    ghost from_gives = { λ fault e. e ≡ ended_by_settings fault };
-
-    fn from(fault: SettingsFault) -> FrontFault {
-        match fault {
-            SettingsFault::OutOfMemory => FrontFault::OutOfMemory,
-            fault => FrontFault::Settings(fault),
-        }
     }
 }
 
@@ -108,7 +93,7 @@ impl From<CoreFault> for FrontFault {
     fn from(fault: CoreFault) -> FrontFault {
         match fault {
             CoreFault::OutOfMemory => FrontFault::OutOfMemory,
-            // The settings were judged when they were read.
+            // Settings that were read never have these faults.
             CoreFault::BadLanes | CoreFault::BadSettings => FrontFault::Io,
         }
     }
