@@ -1,8 +1,8 @@
-//! The front of a bridge that runs on sockets: its settings, the lines that operators send and what they are answered,
-//! what goes out onto a wire, and the rounds of the bridge on one thread.
+//! The front of a bridge that runs on sockets: its settings, operators' lines and their answers, datagrams on a wire,
+//! and the rounds of the bridge on one thread.
 //!
-//! Begin with [`settings`] and [`Front::bind`], then [`Lines::feed`] and [`answer`]. A [`Front`] becomes a [`Serving`], which
-//! goes on round by round. Of the sockets, and so of `bind`, `run` and `round`, contracts say nothing.
+//! Begin with [`settings`] and [`Front::bind`], then [`Lines::feed`] and [`answer`]. A [`Front`] becomes a [`Serving`],
+//! which runs round by round. Contracts say nothing of sockets, and so nothing of `bind`, `run` and `round`.
 #![tactic(auto)]
 
 mod answering;
@@ -37,4 +37,4 @@ pub use reading::settings;
 pub use seats::free_seat;
 pub use serving::Serving;
 pub use setup::{FrontSettings, Key};
-pub use wire::{Wire, send_all, send_each};
+pub use wire::{Wire, send_all};

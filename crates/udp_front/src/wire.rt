@@ -7,38 +7,29 @@ use bridge_core::{Egress, PacketBytes};
 use rtp_codec::Address;
 use std::alloc::Allocator;
 
-/// Where datagrams are sent. Contracts see it as the list of its attempts, oldest first, where that is known.
+/// Where datagrams are sent. Contracts see the list of its attempts, oldest first, where that is known.
 pub trait Wire {
     /// What was tried so far, and whether it was sent. Nothing is known of a socket.
     ghost attempts: { Self → Option (List Attempt) };
 
     /// Tries once to send a datagram, and tells whether it was sent.
     fn send(&mut self, to: Address, octets: &[u8]) -> bool
-        ensures { attempts self.new ≡ with_tried (record { to = to; octets = octets.now; sent = result } ∷ []) (attempts self.old) };
+        ensures { attempts self.new
+            ≡ with_tried (record { to = to; octets = octets.now; sent = result } ∷ []) (attempts self.old) };
 
     /// The same, of a datagram in two parts.
     fn send_parts(&mut self, to: Address, first: &[u8], rest: &[u8]) -> bool
-        ensures { attempts self.new ≡ with_tried (record { to = to; octets = first.now ++ rest.now; sent = result } ∷ []) (attempts self.old) };
+        ensures { attempts self.new
+            ≡ with_tried (record { to = to; octets = first.now ++ rest.now; sent = result } ∷ []) (attempts self.old) };
 }
 
-/// Tries to send each datagram once, in order, whatever failed before, and answers how many failed.
-/// The number beside each is its lane's, and does not matter here.
+/// Tries to send each datagram once, in order, whatever failed before. Returns how many failed.
+/// The number beside each egress is its lane's. It has no effect.
 pub fn send_all<A: Allocator + Copy, W: Wire>(egresses: &[(u32, Egress<A>)], wire: &mut W) -> u64
     ensures { GrewBy (map (λ e. e.1) egresses.now) (W.attempts wire.old) (W.attempts wire.new) result }
 {
     let mut failed = 0;
     for (_, egress) in egresses {
-        failed += send_one(egress, wire);
-    }
-    failed
-}
-
-/// Tries to send what a lane gave for an item, as `send_all` does.
-pub fn send_each<A: Allocator + Copy, W: Wire>(egresses: &[Egress<A>], wire: &mut W) -> u64
-    ensures { GrewBy egresses.now (W.attempts wire.old) (W.attempts wire.new) result }
-{
-    let mut failed = 0;
-    for egress in egresses {
         failed += send_one(egress, wire);
     }
     failed
@@ -69,7 +60,7 @@ fn attempt_packet<A: Allocator + Copy, W: Wire>(
     }
 }
 
-/// Tries to send what goes out of an egress, if anything does, and counts the failure.
+/// Tries to send the datagram of an egress, if it has one, and counts the failure.
 #[tactic(auto, using(crate::proofs::WireLemmas::grew_one, crate::proofs::WireLemmas::grew_none))]
 fn send_one<A: Allocator + Copy, W: Wire>(egress: &Egress<A>, wire: &mut W) -> u64
     ensures grew { GrewBy (egress.now ∷ []) (W.attempts wire.old) (W.attempts wire.new) result }
