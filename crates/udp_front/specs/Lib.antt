@@ -9,5 +9,6 @@ pub mod Seats
 pub mod Settings
 pub mod SettingsTold
 pub mod SettingValues
+pub mod Sockets
 pub mod inner
 pub mod laws

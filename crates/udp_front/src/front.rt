@@ -30,19 +30,33 @@ pub struct Listening {
     pub tcp: Address,
 }
 
-/// How an address is written.
-fn write_address<W: fmt::Write>(address: Address, f: &mut fmt::Formatter<W>) -> fmt::Result {
-    let [a, b, c, d] = address.ip;
-    let port = address.port;
-    write!(f, "{a}.{b}.{c}.{d}:{port}")
+/// An address, to be printed.
+#[derive(Clone, Copy)]
+struct Shown(Address);
+
+impl fmt::Display for Shown {
+    ghost use Rattle.std.specs.Prelude.{Some};
+    ghost use Rattle.script_text.specs.Addresses.{address_text};
+
+    ghost output = { λ shown. Some (address_text shown.0) };
+
+    fn fmt<W: fmt::Write>(&self, f: &mut fmt::Formatter<W>) -> fmt::Result {
+        let [a, b, c, d] = self.0.ip;
+        let port = self.0.port;
+        write!(f, "{a}.{b}.{c}.{d}:{port}")
+    }
 }
 
 impl fmt::Display for Listening {
+    ghost use Rattle.std.specs.Prelude.{Some};
+    ghost use Rattle.udp_front.specs.Sockets.{listening_text};
+
+    ghost output = { λ listening. Some (listening_text listening) };
+
     fn fmt<W: fmt::Write>(&self, f: &mut fmt::Formatter<W>) -> fmt::Result {
-        f.write_str("udp ")?;
-        write_address(self.udp, f)?;
-        f.write_str(" and tcp ")?;
-        write_address(self.tcp, f)
+        let udp = Shown(self.udp);
+        let tcp = Shown(self.tcp);
+        write!(f, "udp {udp} and tcp {tcp}")
     }
 }
 

@@ -1,5 +1,8 @@
 //! The moments of a bridge that runs.
 
+ghost use Rattle.std.specs.Prelude.{◌≡◌};
+ghost use Rattle.udp_front.specs.Sockets.{nanos_of};
+
 use std::io;
 use std::time::{Clock, Duration, Instant, SystemTime, UNIX_EPOCH};
 
@@ -12,7 +15,9 @@ pub(crate) struct Moments {
 }
 
 /// A time as nanoseconds, at most 2^64 - 1.
-fn nanos(time: Duration) -> u64 {
+fn nanos(time: Duration) -> u64
+    ensures { result ≡ nanos_of time }
+{
     u64::try_from(time.as_nanos()).unwrap_or(u64::MAX)
 }
 

@@ -1,5 +1,8 @@
 //! A bridge that runs, round by round.
 
+ghost use Rattle.std.specs.Prelude.{◌<◌, length, IfOk};
+ghost use Rattle.intake.specs.Readings.{most_octets};
+
 use crate::answering::Next;
 use crate::connection::{Connection, turn_away};
 use crate::ending::FrontFault;
@@ -62,8 +65,10 @@ fn free_seats(alloc: Global, count: u32) -> Result<Vec<Option<Connection>>, Allo
     Ok(seats)
 }
 
-/// Room for what is read.
-fn chunk(alloc: Global) -> Result<Vec<u8>, AllocError> {
+/// Where octets are read to. The largest datagram fits, and an octet more, so that a longer one is known.
+fn chunk(alloc: Global) -> Result<Vec<u8>, AllocError>
+    ensures { IfOk result (λ chunk. most_octets < length chunk.items) }
+{
     let mut chunk = Vec::new(alloc);
     chunk.resize(CHUNK, 0)?;
     Ok(chunk)

@@ -1,18 +1,24 @@
 //! Addresses of sockets, and the socket that datagrams go out from.
 
+ghost use Rattle.std.specs.Prelude.{◌≡◌, Some};
+ghost use Rattle.udp_front.specs.Sockets.{told_address};
+
 use crate::wire::Wire;
 use mio::net::UdpSocket;
 use rtp_codec::Address;
 use std::net::{IpAddr, Ipv4Addr, SocketAddr};
 
 /// An address as the system has it.
-pub(crate) fn socket_address(address: Address) -> SocketAddr {
-    let [a, b, c, d] = address.ip;
-    SocketAddr::new(IpAddr::V4(Ipv4Addr::new(a, b, c, d)), address.port)
+pub(crate) fn socket_address(address: Address) -> SocketAddr
+    ensures { told_address result ≡ Some address }
+{
+    SocketAddr::new(IpAddr::V4(Ipv4Addr::from_octets(address.ip)), address.port)
 }
 
-/// The address that the system tells, which is of IPv4 on a socket of IPv4.
-pub(crate) fn address_of(told: SocketAddr) -> Option<Address> {
+/// The address that the system tells. A socket of IPv4 has one of IPv4.
+pub(crate) fn address_of(told: SocketAddr) -> Option<Address>
+    ensures { result ≡ told_address told }
+{
     match told.ip() {
         IpAddr::V4(ip) => Some(Address {
             ip: ip.octets(),
@@ -26,7 +32,7 @@ pub(crate) fn address_of(told: SocketAddr) -> Option<Address> {
 #[derive(Drop)]
 pub(crate) struct UdpWire<'a> {
     pub(crate) socket: &'a UdpSocket,
-    /// Room in which a datagram's parts are put together.
+    /// Where a datagram's parts are put together.
     pub(crate) whole: &'a mut Vec<u8>,
 }
 
@@ -44,7 +50,7 @@ impl<'a> Wire for UdpWire<'a> {
             return self.send(to, rest);
         }
         self.whole.clear();
-        // Want of memory is loss on the wire.
+        // Out of memory counts as loss on the wire.
         if self.whole.extend_from_slice(first).is_err()
             || self.whole.extend_from_slice(rest).is_err()
         {
