@@ -8,7 +8,8 @@ ghost use Rattle.udp_front.specs.laws.Whole.{HasNoLf, joined};
 /// A line that is too long ends a stream: whatever comes afterwards, no line is added.
 pub fn too_long_for_good()
     ensures stays { (before octets : List ℕ) → is_too_long before ≡ true → is_too_long (before ++ octets) ≡ true }
-    ensures no_line { (before octets : List ℕ) → is_too_long before ≡ true → lines_of (before ++ octets) ≡ lines_of before }
+    ensures no_line { (before octets : List ℕ) → is_too_long before ≡ true
+        → lines_of (before ++ octets) ≡ lines_of before }
 {}
 
 /// A stream is its parts, an LF behind each but the last, and no part has an LF.

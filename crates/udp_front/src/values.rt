@@ -80,7 +80,8 @@ fn value_at(table: &Table, key: Key) -> Option<&Value>
 /// The address of the UDP socket.
 pub(crate) fn udp_of(table: &Table) -> Result<Address, SettingsFault>
     ensures memory { result ≢ Err SettingsFault.OutOfMemory }
-    ensures answer { Gives (λ x. x) result (needed Key.Udp address_in (get_member (codes "udp") (table_view table.now))) }
+    ensures answer { Gives (λ x. x) result
+        (needed Key.Udp address_in (get_member (codes "udp") (table_view table.now))) }
 {
     let key = Key::Udp;
     let Some(value) = value_at(table, key) else {
@@ -102,7 +103,8 @@ pub(crate) fn tcp_of(table: &Table) -> Result<Address, SettingsFault>
 
 /// The number at a key, from `low` to `high`, or 1.
 pub(crate) fn number_of(table: &Table, key: Key, low: u32, high: u32) -> Result<u32, SettingsFault>
-    ensures { Gives (λ x. x) result (given key (number_in low high) 1 (get_member (key_text key) (table_view table.now))) }
+    ensures { Gives (λ x. x) result
+        (given key (number_in low high) 1 (get_member (key_text key) (table_view table.now))) }
 {
     match value_at(table, key) {
         None => Ok(1),
@@ -112,7 +114,8 @@ pub(crate) fn number_of(table: &Table, key: Key, low: u32, high: u32) -> Result<
 
 /// The canonical name, or `bridge`.
 pub(crate) fn cname_of(table: &Table) -> Result<&[u8], SettingsFault>
-    ensures { Gives (λ x. x.now) result (given Key.Cname cname_in (codes "bridge") (get_member (codes "cname") (table_view table.now))) }
+    ensures { Gives (λ x. x.now) result
+        (given Key.Cname cname_in (codes "bridge") (get_member (codes "cname") (table_view table.now))) }
 {
     match value_at(table, Key::Cname) {
         None => Ok(b"bridge"),
