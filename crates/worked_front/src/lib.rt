@@ -1,0 +1,7 @@
+//! Worked calls of the front: single answers, each proved from the contract of the call that gives it.
+#![tactic(auto)]
+
+pub mod attempts;
+pub mod feeding;
+pub mod pacing;
+pub mod unread;
