@@ -2,6 +2,7 @@
 
 ghost use Rattle.std.specs.Prelude.{◌≡◌, ◌+◌, ◌*◌, ◌≤◌, ◌%◌, ◌^◌, ℕ, true, nat_eq, if◌then◌else◌, List, [], ◌∷◌, filter, IfOk};
 ghost use Rattle.std.specs.List.{AllByRecursion, flat_map, list_any};
+ghost use Rattle.feedback.specs.Asked.{firsts};
 ghost use Rattle.rtcp_codec.specs.CanonicalName.{named};
 ghost use Rattle.rtcp_codec.specs.Compound.{written};
 ghost use Rattle.rtcp_codec.specs.Nack.{numbers_named};
@@ -21,9 +22,11 @@ use rtp_codec::Address;
 use std::alloc::{AllocError, Global};
 use topology::{choice, member_from, slot_at};
 
-/// Each number that a NACK names, however often, is asked for once, and no other one is.
+/// Of what a NACK names, the list that is resent has each number once, however often it is named, and no
+/// other one.
 pub fn asks_for_each_number_once(alloc: Global, nack: Nack) -> Result<Vec<u16>, AllocError>
-    ensures { IfOk result (λ v. (n : ℕ) → filter (nat_eq n) v.items ≡ (if list_any (nat_eq n) (numbers_named nack.words.items) then n ∷ [] else [])) }
+    ensures { IfOk result (λ v. (n : ℕ) → filter (nat_eq n) (firsts v.items)
+        ≡ (if list_any (nat_eq n) (numbers_named nack.words.items) then n ∷ [] else [])) }
 {
     each_number_once();
     numbers_of(alloc, &Rtcp::Nack(nack))

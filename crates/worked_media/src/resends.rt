@@ -97,9 +97,9 @@ pub fn another_member_is_not_answered(alloc: Global) -> Result<bool, AllocError>
     Ok(window.find(0, &owner(2, 7)).is_some())
 }
 
-/// What two words name is asked for once, where it stands first, over the wrap too.
-pub fn a_number_is_asked_for_once(alloc: Global) -> Result<Vec<u16>, AllocError>
-    ensures { IfOk result (λ numbers. numbers.items ≡ 65535 ∷ 0 ∷ 2 ∷ []) }
+/// Two words name a number each beyond the wrap, and it stands there twice.
+pub fn a_number_is_named_twice(alloc: Global) -> Result<Vec<u16>, AllocError>
+    ensures { IfOk result (λ numbers. numbers.items ≡ 65535 ∷ 0 ∷ 0 ∷ 2 ∷ []) }
 {
     let mut words = Vec::new(alloc);
     words.push(NackWord { pid: 65535, blp: 1 })?;
