@@ -8,9 +8,15 @@ use Rattle.worked_desk.specs.Rows.{member}
 abbrev pub add_room : ℕ → Command
 add_room number = commands.AddRoom (record { room = number })
 
+abbrev pub remove_room : ℕ → Command
+remove_room number = commands.RemoveRoom number
+
 -- by number, room, port at 10.0.0.1 and the SSRC of the mix
 abbrev pub add_member : ℕ → ℕ → ℕ → ℕ → Command
 add_member number room port out_audio = commands.AddMember (member number room port out_audio)
+
+abbrev pub remove_member : ℕ → Command
+remove_member number = commands.RemoveMember number
 
 -- by SSRC and member
 abbrev pub add_video : ℕ → ℕ → Command

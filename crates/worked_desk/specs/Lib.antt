@@ -7,4 +7,5 @@ pub mod Cases
 pub mod FitCases
 pub mod RefusalCases
 pub mod DeskCases
+pub mod GroupCases
 pub mod ShownRooms

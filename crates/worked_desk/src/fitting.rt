@@ -10,8 +10,8 @@ ghost use Rattle.worked_desk.specs.FitCases.{putting_a_65th_room, putting_a_65th
 use desk_rows::{Edit, Rows};
 use undo_log::Reversible;
 
-pub fn fits(rows: &Rows, edit: &Edit) -> bool
-    requires { rows.now ≡ two_rooms }
+pub fn fits(rows: &mut Rows, edit: &Edit) -> bool
+    requires { rows.old ≡ two_rooms }
     ensures taking { Answers taking edit.now result }
     ensures taking_members { Answers taking_members edit.now result }
     ensures putting_members { Answers putting_members edit.now result }
@@ -19,19 +19,20 @@ pub fn fits(rows: &Rows, edit: &Edit) -> bool
     ensures putting_subs { Answers putting_subs edit.now result }
     ensures replacing { Answers replacing edit.now result }
     ensures moving { Answers moving edit.now result }
+    ensures same { rows.new ≡ two_rooms }
 {
     rows.fits(edit)
 }
 
-pub fn fits_among_64_rooms(rows: &Rows, edit: &Edit) -> bool
-    requires { rows.now ≡ of_rooms 64 }
+pub fn fits_among_64_rooms(rows: &mut Rows, edit: &Edit) -> bool
+    requires { rows.old ≡ of_rooms 64 }
     ensures { Answers putting_a_65th_room edit.now result }
 {
     rows.fits(edit)
 }
 
-pub fn fits_beside_64_audio_sources(rows: &Rows, edit: &Edit) -> bool
-    requires { rows.now ≡ of_audio 64 }
+pub fn fits_beside_64_audio_sources(rows: &mut Rows, edit: &Edit) -> bool
+    requires { rows.old ≡ of_audio 64 }
     ensures { Answers putting_a_65th_source edit.now result }
 {
     rows.fits(edit)

@@ -11,6 +11,7 @@ pub mod comparing;
 pub mod exchanging;
 pub mod finding;
 pub mod fitting;
+pub mod grouping;
 pub mod making;
 pub mod refusing;
 pub mod showing;

@@ -8,4 +8,4 @@ use Rattle.worked_desk.proofs.fitting.fits_among_64_rooms.Goals as goal
 
 pub returns : goal.returns
 unfolding fits is_apt exchanged good
-returns c = answers fits (of_rooms 64) putting_a_65th_room refl c.requires c.fits.ensures
+returns c = answers fits (of_rooms 64) putting_a_65th_room refl c.requires c.fits.ensures.answer

@@ -8,4 +8,4 @@ use Rattle.worked_desk.proofs.fitting.fits_beside_64_audio_sources.Goals as goal
 
 pub returns : goal.returns
 unfolding fits is_apt exchanged good
-returns c = answers fits (of_audio 64) putting_a_65th_source refl c.requires c.fits.ensures
+returns c = answers fits (of_audio 64) putting_a_65th_source refl c.requires c.fits.ensures.answer
