@@ -3,7 +3,11 @@
 #![tactic(auto)]
 
 #[cfg(test)]
+mod direct;
+#[cfg(test)]
 mod gating;
+#[cfg(test)]
+mod grouping;
 #[cfg(test)]
 mod lanes;
 #[cfg(test)]

@@ -146,9 +146,9 @@ fn added_at_last<'a>(
     core: &mut Core<&'a LocalHeap>,
     room: u32,
 ) -> Result<(u64, u32), Fail> {
-    let call = Call::Apply(Command::AddRoom(Room { room }));
     let mut refusals: u32 = 0;
     for pieces in 0..1_024 {
+        let call = Call::Apply(Command::AddRoom(Room { room }));
         let _held = hold(alloc, heap, 16 * pieces)?;
         match core.desk(heap, 0, call) {
             Reply::Accepted { no } => return Ok((no, refusals)),

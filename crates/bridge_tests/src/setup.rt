@@ -28,7 +28,7 @@ pub fn settings<A: Allocator + Copy>(alloc: A) -> Result<Settings<A>, Fail> {
 
 /// Carries out a call as it is spelled.
 pub fn call<A: Allocator + Copy>(alloc: A, core: &mut Core<A>, text: &str) -> Result<(), Fail> {
-    let Ok(call) = parse_desk(text.as_bytes()) else {
+    let Ok(call) = parse_desk(alloc, text.as_bytes()) else {
         return Err(Fail::from("no call"));
     };
     let _reply = core.desk(alloc, 0, call);

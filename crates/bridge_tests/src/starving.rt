@@ -4,7 +4,7 @@ use bridge_core::{Egress, PacketBytes};
 use bytes::Bytes;
 use linked_list_allocator::LocalHeap;
 use rtp_codec::Address;
-use script_text::{RunFault, print_egress, run};
+use script_text::{RunFault, output, print_egress, run};
 use std::alloc::{AllocError, Allocator, Global};
 use std::test::Fail;
 
@@ -67,6 +67,8 @@ fn a_run_stops_between_answers(rt: HostRuntime) -> Result<(), Fail> {
         most == TEXT.len() && stops > 3,
         "{stops} stops, {most} octets"
     );
+    let text = output(rt.alloc(), SCRIPT).map_err(|_| Fail::from("no output"))?;
+    assert!(rt; text.as_slice() == TEXT);
     Ok(())
 }
 
