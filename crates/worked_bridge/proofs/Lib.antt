@@ -1,3 +1,4 @@
 pub mod Wires
 pub mod Answered
 pub mod Spoken
+pub mod Given

@@ -1,12 +1,14 @@
 -- What texts spell, and the one line of a script.
-use Rattle.std.proofs.Common.{rules, ◌≡◌, ◌==◌, ℕ, Bool, false, if◌then◌else◌, List, [], ◌∷◌, length, map, Ok, Err, sym, ap, subst, ◌∙◌, arith}
+use Rattle.std.proofs.Common.{rules, ◌≡◌, ◌==◌, ℕ, Bool, true, false, nat_lt, if◌then◌else◌, List, [], ◌∷◌, length, map, Ok, Err, sym, ap, subst, ◌∙◌, arith}
 use Rattle.std.specs.Prelude.{Result, OnOk}
 use Rattle.std.specs.List.{AllByRecursion}
 use Rattle.rtp_codec.specs.declared.address.Address.{Address}
-use Rattle.desk_edit.specs.declared.command.Call.{Call}
+use Rattle.desk_edit.specs.Asked.{CallOf}
 use Rattle.script_text.specs.declared.fault.Fault.{Fault}
+use Rattle.script_text.specs.declared.fault.Fault.TheVariants.{LineTooLong}
+use Rattle.script_text.specs.declared.line.TheConstants.{LINE_LIMIT}
 use Rattle.script_text.specs.Words.{words_of}
-use Rattle.script_text.specs.Calls.{call_of, spoken_words}
+use Rattle.script_text.specs.Calls.{call_of, spoken_words, spoken_call}
 use Rattle.script_text.specs.Requests.{Rx, request_of}
 use Rattle.script_text.specs.Wire.{Wire, IsHeard, Hears}
 use Rattle.worked_bridge.proofs.Answered.{first_or}
@@ -15,13 +17,22 @@ abbrev Fails : {A : Type 0} → Result A (ℕ × Fault) → Type 0
 Fails (Ok x) = ⊥
 Fails (Err e) = Unit {0}
 
--- a text that spells a call has words
-pub spoken : (text : List ℕ) (call : Call) → call_of 0 (spoken_words text) ≡ Ok call → call_of 0 (words_of text) ≡ Ok call
+-- a text with words that spells a call
+in_words : (text : List ℕ) (call : CallOf) → call_of 0 (spoken_words text) ≡ Ok call → call_of 0 (words_of text) ≡ Ok call
 unfolding call_of
-spoken [] call is = absurd (subst Fails is tt)
-spoken (x ∷ xs) call is =
+in_words [] call is = absurd (subst Fails is tt)
+in_words (x ∷ xs) call is =
     let some : (length (x ∷ xs) == 0) ≡ false = search rules in
     ap (λ (b : Bool). call_of 0 (if b then [] else words_of (x ∷ xs))) (sym some) ∙ is
+
+-- it spells one only where it is no longer than a line
+within : (long : Bool) (read : Result CallOf (ℕ × Fault)) (call : CallOf) → (if long then Err (0, LineTooLong) else read) ≡ Ok call → read ≡ Ok call
+within false read call is = is
+within true read call is = absurd (subst Fails is tt)
+
+-- a text that spells a call has words
+pub spoken : (text : List ℕ) (call : CallOf) → spoken_call text ≡ Ok call → call_of 0 (words_of text) ≡ Ok call
+spoken text call is = in_words text call (within (nat_lt LINE_LIMIT (length text)) (call_of 0 (spoken_words text)) call is)
 
 -- the one line of a script is heard on the wire of its datagram
 pub one_is_heard : (lines : List (List ℕ)) (moment : ℕ) (from : Address) (octets : List ℕ) → map request_of lines ≡ Ok (Rx moment from octets) ∷ [] → (wire : Wire) → IsHeard wire octets

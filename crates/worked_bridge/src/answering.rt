@@ -60,3 +60,14 @@ pub fn a_script_shows_rows(alloc: Global) -> Result<Vec<u8>, RunFault>
     )?;
     Ok(out)
 }
+
+/// A group is one call, and one undo takes all of it back.
+pub fn a_script_takes_a_group_back(alloc: Global) -> Result<Vec<u8>, RunFault>
+    ensures { IfOk result (λ out. out.items ≡ codes "ok 1\nok 2\nend 2\n") }
+{
+    let out = output(
+        alloc,
+        b"desk 0 group add-room 1 / add-room 2\ndesk 0 undo 1\nshow\n",
+    )?;
+    Ok(out)
+}

@@ -1,10 +1,10 @@
 //! Calls of operators.
 
-ghost use Rattle.std.specs.Prelude.{◌≡◌, [], length};
+ghost use Rattle.std.specs.Prelude.{◌≡◌, [], ◌∷◌, length};
 ghost use Rattle.worked_bridge.specs.Small.{small};
 
 use bridge_core::{Core, Reply};
-use desk_edit::{Call, Command, Refusal};
+use desk_edit::{Call, Command, Reason, Refusal};
 use desk_rows::Room;
 use std::alloc::Global;
 
@@ -64,6 +64,55 @@ pub fn adds_no_room_to_a_full_log(alloc: Global, core: &mut Core) -> Reply
     ensures same { core.new ≡ core.old }
 {
     core.desk(alloc, 0, Call::Apply(Command::AddRoom(Room { room: 2 })))
+}
+
+/// A group of no command is told so before a full log.
+pub fn carries_out_no_empty_group(alloc: Global, core: &mut Core, commands: Vec<Command>) -> Reply
+    requires version { core.old.version ≡ 1048576 }
+    requires commands { commands.items ≡ [] }
+    ensures answer { result ≡ Reply.Refused 1048576 Refusal.EmptyGroup }
+    ensures same { core.new ≡ core.old }
+{
+    core.desk(alloc, 0, Call::Group(commands))
+}
+
+/// A group of 65 commands is told so before a full log.
+pub fn carries_out_no_group_of_65(alloc: Global, core: &mut Core, commands: Vec<Command>) -> Reply
+    requires version { core.old.version ≡ 1048576 }
+    requires commands { length commands.items ≡ 65 }
+    ensures { result ≡ Reply.Refused 1048576 (Refusal.GroupTooLong 64) }
+{
+    core.desk(alloc, 0, Call::Group(commands))
+}
+
+/// A full log is told before what stands against a group's first command: room 1 is there.
+pub fn carries_out_no_group_in_a_full_log(
+    alloc: Global,
+    core: &mut Core,
+    commands: Vec<Command>,
+) -> Reply
+    requires version { core.old.version ≡ 1048576 }
+    requires desk { core.old.desk ≡ small }
+    requires commands { commands.items ≡ Command.AddRoom (record { room = 1 }) ∷ [] }
+    ensures { result ≡ Reply.Refused 1048576 Refusal.LogFull }
+{
+    core.desk(alloc, 0, Call::Group(commands))
+}
+
+/// What stands against a group's first command is told with its part: room 1 is there at version 6.
+#[tactic(auto, unfolding(desk_edit::specs::Refusals::reason_against, desk_edit::specs::Commands::desk_after))]
+pub fn carries_out_no_group_with_a_refused_part(
+    alloc: Global,
+    core: &mut Core,
+    commands: Vec<Command>,
+) -> Reply
+    requires version { core.old.version ≡ 6 }
+    requires desk { core.old.desk ≡ small }
+    requires commands { commands.items ≡ Command.AddRoom (record { room = 1 }) ∷ Command.AddRoom (record { room = 2 }) ∷ [] }
+    ensures answer { result ≡ Reply.Refused 6 (Refusal.PartRefused 0 Reason.Exists) }
+    ensures same { core.new ≡ core.old }
+{
+    core.desk(alloc, 0, Call::Group(commands))
 }
 
 /// The last number before the log is full.

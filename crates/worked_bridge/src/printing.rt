@@ -4,7 +4,7 @@ ghost use Rattle.std.specs.Prelude.{◌≡◌, [], ◌∷◌, codes, pos, negsuc
 ghost use Rattle.bridge_core.specs.Sent.{Sent, sent_of};
 
 use bridge_core::{Egress, Reply};
-use desk_edit::{Refusal, Table};
+use desk_edit::{Reason, Refusal, Table};
 use script_text::{Fault, RunFault, print_egress, print_reply, status};
 use std::alloc::{AllocError, Global};
 
@@ -39,6 +39,17 @@ pub fn prints_a_full_table(alloc: Global) -> Result<Vec<u8>, AllocError>
     };
     print_reply(&Reply::Refused { at: 64, why }, &mut out)?;
     Ok(out)
+}
+
+/// The line of a refused group: its size, or the number of its part with what stands against that.
+pub fn prints_a_refused_group(why: Refusal, out: &mut Vec<u8>) -> Result<(), AllocError>
+    requires { out.old.items ≡ [] }
+    ensures empty { why ≡ Refusal.EmptyGroup → OnOk result (out.new.items ≡ codes "no 6 18 EmptyGroup\n") }
+    ensures long { why ≡ Refusal.GroupTooLong 64 → OnOk result (out.new.items ≡ codes "no 6 19 GroupTooLong 64\n") }
+    ensures part { why ≡ Refusal.PartRefused 2 Reason.NoMember → OnOk result (out.new.items ≡ codes "no 6 20 PartRefused 2 3 NoMember\n") }
+    ensures full { why ≡ Refusal.PartRefused 63 (Reason.Full Table.Rooms 64) → OnOk result (out.new.items ≡ codes "no 6 20 PartRefused 63 12 Full rooms 64\n") }
+{
+    print_reply(&Reply::Refused { at: 6, why }, out)
 }
 
 /// The line of a packet behind another line.

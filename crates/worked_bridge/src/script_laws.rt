@@ -5,6 +5,7 @@ ghost use Rattle.rtp_codec.specs.declared.address.Address.{Address};
 ghost use Rattle.desk_rows.specs.Desk.{Desk, blank, good};
 ghost use Rattle.frame_gate.specs.Frame.{SourcePacket};
 ghost use Rattle.forward_rewrite.specs.Frame.{SourceFrame};
+ghost use Rattle.desk_edit.specs.Asked.{asked_by};
 ghost use Rattle.desk_edit.specs.declared.refusal.Refusal.{Refusal as RefusalOf};
 ghost use Rattle.desk_edit.specs.Refusals.{first_case};
 ghost use Rattle.bridge_core.specs.Sent.{Sent, sent_of};
@@ -43,14 +44,18 @@ pub fn texts_of_the_same_words_are_one(first: &[u8], second: &[u8]) -> bool
 }
 
 /// Texts that spell one call are one text.
-pub fn one_call_is_spelt_in_one_way(first: &[u8], second: &[u8]) -> Option<(Call, Call)>
-    ensures { IfSome result (λ both. both.0 ≡ both.1 → first.now ≡ second.now) }
+pub fn one_call_is_spelt_in_one_way(
+    alloc: Global,
+    first: &[u8],
+    second: &[u8],
+) -> Option<(Call, Call)>
+    ensures { IfSome result (λ both. asked_by both.0 ≡ asked_by both.1 → first.now ≡ second.now) }
 {
     call_lines();
-    let Ok(one) = parse_desk(first) else {
+    let Ok(one) = parse_desk(alloc, first) else {
         return None;
     };
-    let Ok(other) = parse_desk(second) else {
+    let Ok(other) = parse_desk(alloc, second) else {
         return None;
     };
     Some((one, other))
@@ -120,7 +125,7 @@ pub fn others_are_printed_otherwise()
 
 /// A call that is refused is told the first reason that holds.
 pub fn tells_the_first_reason(alloc: Global, core: &mut Core, call: Call) -> Reply
-    ensures { (at : ℕ) (why : RefusalOf) → result ≡ Reply.Refused at why → why ≢ RefusalOf.OutOfMemory → first_case (call_cases core.old.version core.old.desk (length core.old.done) (length core.old.undone) call) ≡ Some why }
+    ensures { (at : ℕ) (why : RefusalOf) → result ≡ Reply.Refused at why → why ≢ RefusalOf.OutOfMemory → first_case (call_cases core.old.version core.old.desk (length core.old.done) (length core.old.undone) (asked_by call)) ≡ Some why }
 {
     refusal_words();
     core.desk(alloc, 0, call)

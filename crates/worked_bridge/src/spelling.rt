@@ -1,71 +1,40 @@
 //! What lines spell.
 
-ghost use Rattle.std.specs.Prelude.{◌≡◌, [], ◌∷◌, Ok, Err};
+ghost use Rattle.std.specs.Prelude.{◌≡◌, ◌≢◌, ℕ, [], ◌∷◌, codes, Ok, Err, IfOk};
+ghost use Rattle.desk_edit.specs.Asked.{CallOf, asked_by};
 
 use desk_edit::{Call, Command};
 use desk_rows::Codec;
 use script_text::{Fault, ParseFault, parse_desk};
+use std::alloc::Global;
 
-/// A call that undoes.
-#[tactic(auto, unfolding(script_text::specs::Calls::call_of, script_text::specs::Values::values_of))]
-pub fn spells_an_undo() -> Result<Call, ParseFault>
-    ensures { result ≡ Ok (Call.Undo 18) }
+/// A call of an undo: its number may be the greatest, and no greater, and no word stands behind it.
+pub fn spells_an_undo(alloc: Global, text: &[u8]) -> Result<Call, ParseFault>
+    ensures undo { text.now ≡ codes "undo 18" → result ≡ Ok (Call.Undo 18) }
+    ensures most { text.now ≡ codes "undo 18446744073709551615" → result ≡ Ok (Call.Undo 18446744073709551615) }
+    ensures more { text.now ≡ codes "undo 18446744073709551616" → result ≡ Err (ParseFault.Line 2 Fault.BadNumber) }
+    ensures behind { text.now ≡ codes "undo 1 2" → result ≡ Err (ParseFault.Line 3 Fault.ExtraWord) }
 {
-    parse_desk(b"undo 18")
+    parse_desk(alloc, text)
 }
 
-/// A word too many.
-#[tactic(auto, unfolding(script_text::specs::Calls::call_of, script_text::specs::Values::values_of))]
-pub fn spells_a_word_too_many() -> Result<Call, ParseFault>
-    ensures { result ≡ Err (ParseFault.Line 3 Fault.ExtraWord) }
+/// A call of one command. The empty text has no word.
+pub fn spells_a_command(alloc: Global, text: &[u8]) -> Result<Call, ParseFault>
+    ensures member { text.now ≡ codes "add-member 1 2 3.4.5.6:7 l16 8 9 10" → result ≡ Ok (Call.Apply (Command.AddMember (record { member = 1; room = 2; address = record { ip = 3 ∷ 4 ∷ 5 ∷ 6 ∷ []; port = 7 }; codec = Codec.L16; out_audio = 8; first_seq = 9; first_ts = 10 }))) }
+    ensures address { text.now ≡ codes "add-member 1 2 3.4.5.06:7 l16 8 9 10" → result ≡ Err (ParseFault.Line 4 Fault.BadAddress) }
+    ensures number { text.now ≡ codes "add-room x" → result ≡ Err (ParseFault.Line 2 Fault.BadNumber) }
+    ensures nothing { text.now ≡ [] → result ≡ Err (ParseFault.Line 1 Fault.MissingWord) }
 {
-    parse_desk(b"undo 1 2")
+    parse_desk(alloc, text)
 }
 
-/// The greatest number, and one more.
-#[tactic(auto, unfolding(script_text::specs::Calls::call_of, script_text::specs::Values::values_of))]
-pub fn spells_the_greatest_number() -> Result<Call, ParseFault>
-    ensures { result ≡ Ok (Call.Undo 18446744073709551615) }
+/// A call of a group: commands with a `/` between them, and no other call among them.
+pub fn spells_a_group(alloc: Global, text: &[u8]) -> Result<Call, ParseFault>
+    ensures two { text.now ≡ codes "group add-room 7 / remove-room 7" → IfOk result (λ call. asked_by call ≡ CallOf.Group (Command.AddRoom (record { room = 7 }) ∷ Command.RemoveRoom 7 ∷ [])) }
+    ensures good { text.now ≡ codes "group add-room 7 / remove-room 7" → (word : ℕ) (fault : Fault) → result ≢ Err (ParseFault.Line word fault) }
+    ensures empty { text.now ≡ codes "group" → IfOk result (λ call. ⊥) }
+    ensures missing { text.now ≡ codes "group" → (word : ℕ) (fault : Fault) → result ≡ Err (ParseFault.Line word fault) → (word ≡ 2) × (fault ≡ Fault.MissingWord) }
+    ensures undo { text.now ≡ codes "group add-room 7 / undo 1" → (word : ℕ) (fault : Fault) → result ≡ Err (ParseFault.Line word fault) → (word ≡ 5) × (fault ≡ Fault.UnknownWord) }
 {
-    parse_desk(b"undo 18446744073709551615")
-}
-
-/// One more than the greatest number.
-#[tactic(auto, unfolding(script_text::specs::Calls::call_of, script_text::specs::Values::values_of))]
-pub fn spells_too_great_a_number() -> Result<Call, ParseFault>
-    ensures { result ≡ Err (ParseFault.Line 2 Fault.BadNumber) }
-{
-    parse_desk(b"undo 18446744073709551616")
-}
-
-/// A room in hexadecimal.
-#[tactic(auto, unfolding(script_text::specs::Calls::call_of, script_text::specs::Values::values_of))]
-pub fn spells_no_number() -> Result<Call, ParseFault>
-    ensures { result ≡ Err (ParseFault.Line 2 Fault.BadNumber) }
-{
-    parse_desk(b"add-room x")
-}
-
-/// Seven words of six kinds.
-#[tactic(auto, unfolding(script_text::specs::Calls::call_of, script_text::specs::Values::values_of, script_text::specs::Addresses::address_of, script_text::specs::Addresses::field_of))]
-pub fn spells_a_member() -> Result<Call, ParseFault>
-    ensures { result ≡ Ok (Call.Apply (Command.AddMember (record { member = 1; room = 2; address = record { ip = 3 ∷ 4 ∷ 5 ∷ 6 ∷ []; port = 7 }; codec = Codec.L16; out_audio = 8; first_seq = 9; first_ts = 10 }))) }
-{
-    parse_desk(b"add-member 1 2 3.4.5.6:7 l16 8 9 10")
-}
-
-/// A leading zero in an address.
-#[tactic(auto, unfolding(script_text::specs::Calls::call_of, script_text::specs::Values::values_of, script_text::specs::Addresses::address_of, script_text::specs::Addresses::field_of))]
-pub fn spells_no_address() -> Result<Call, ParseFault>
-    ensures { result ≡ Err (ParseFault.Line 4 Fault.BadAddress) }
-{
-    parse_desk(b"add-member 1 2 3.4.5.06:7 l16 8 9 10")
-}
-
-/// The empty text has no word.
-#[tactic(auto, unfolding(script_text::specs::Calls::call_of, script_text::specs::Values::values_of))]
-pub fn spells_nothing() -> Result<Call, ParseFault>
-    ensures { result ≡ Err (ParseFault.Line 1 Fault.MissingWord) }
-{
-    parse_desk(b"")
+    parse_desk(alloc, text)
 }

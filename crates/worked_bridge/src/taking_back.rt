@@ -2,8 +2,7 @@
 
 ghost use Rattle.std.specs.Prelude.{◌≡◌, ◌+◌, ◌≤◌, true, fold, length, reverse, IfSome};
 ghost use Rattle.undo_log.specs.Timeline.{rewound};
-ghost use Rattle.desk_rows.specs.Edit.{inverse};
-ghost use Rattle.desk_rows.specs.Exchange.{after};
+ghost use Rattle.bridge_core.specs.Edits.{after, inverse};
 ghost use Rattle.desk_edit.specs.Calls.{call_limit, CallHistory};
 ghost use Rattle.bridge_core.specs.Following.{HasCalled};
 
@@ -20,6 +19,17 @@ pub fn a_command_comes_back(alloc: Global, core: &mut Core, command: Command) ->
 {
     commands_come_back();
     match core.desk(alloc, 0, Call::Apply(command)) {
+        Reply::Accepted { no } => Some(core.desk(alloc, 0, Call::Undo { last: no })),
+        Reply::Refused { at: _, why: _ } => None,
+    }
+}
+
+/// How an undo behind an accepted group is answered: where the log has room it is accepted, and the desk is the one before the group.
+pub fn the_group_comes_back(alloc: Global, core: &mut Core, commands: Vec<Command>) -> Option<Reply>
+    ensures { IfSome result (λ reply. core.old.version + 2 ≤ call_limit → (reply ≡ Reply.Accepted (core.old.version + 2)) × (core.new.desk ≡ core.old.desk) × (core.new.done ≡ core.old.done)) }
+{
+    commands_come_back();
+    match core.desk(alloc, 0, Call::Group(commands)) {
         Reply::Accepted { no } => Some(core.desk(alloc, 0, Call::Undo { last: no })),
         Reply::Refused { at: _, why: _ } => None,
     }

@@ -1,5 +1,6 @@
 use Rattle.std.proofs.Common.{◌≡◌, ℕ, true, List, [], ◌∷◌, map, refl, ap, sym, subst, ◌∙◌}
 use Rattle.desk_rows.specs.Desk.{blank, good}
+use Rattle.desk_edit.specs.Asked.{asked_by}
 use Rattle.desk_edit.specs.Calls.{no_calls}
 use Rattle.feedback.specs.Upstream.{Asker}
 use Rattle.intake.specs.Inputs.{input_of}
@@ -17,9 +18,9 @@ returns-in-Ok-item c =
     let last = c.item.new.self in
     let input = input_of c.args.item.now in
     let sent = map sent_of c.in-Ok-item.sent.items in
-    let events : List Event = Event.called c.args.call ∷ Event.item 2 input ∷ [] in
+    let events : List Event = Event.called (asked_by c.args.call) ∷ Event.item 2 input ∷ [] in
     let begins : good start ≡ true = ap good (sym c.in-Ok.ensures.fresh.desk) ∙ c.in-Ok.ensures.begins in
-    let accepts : Accepts first middle c.args.call = record {
+    let accepts : Accepts first middle (asked_by c.args.call) = record {
       number = c.in-Accepted.no;
       answered = c.in-Accepted.ensures.history;
       takes = c.in-Accepted.ensures.takes;

@@ -7,5 +7,5 @@ pub returns : goal.returns
 returns c =
     let lines = lines_of c.args.script.now in
     let one = c.datagrams_are_heard.ensures in
-    let all = c.scripts_are_heard.ensures lines (one_is_heard lines c.args.moment c.args.from.now c.args.octets.now c.requires one.0 one.1) in
+    let all = c.scripts_are_heard.ensures.each lines (one_is_heard lines c.args.moment c.args.from.now c.args.octets.now c.requires one.0 one.1) in
     IfOk-weaker c.output.result _ _ (λ out both. (all.0, all.1, both.1)) (c.output.ensures.ok all.0 all.1)

@@ -1,5 +1,5 @@
 use Rattle.std.proofs.Common.{◌+◌, ℕ, [], ◌∷◌, refl, subst}
-use Rattle.desk_edit.specs.declared.command.Call.TheVariants.{Undo}
+use Rattle.desk_edit.specs.Asked.CallOf.{Undo}
 use Rattle.bridge_core.specs.declared.reply.Reply.TheVariants.{Accepted}
 use Rattle.bridge_core.specs.Calls.{Answers}
 use Rattle.bridge_core.specs.UndoRuns.{UndoesInARow}

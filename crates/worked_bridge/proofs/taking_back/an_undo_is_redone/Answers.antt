@@ -1,5 +1,5 @@
 use Rattle.std.proofs.Common.{◌≡◌, ◌+◌, ◌≤◌, ℕ, [], ◌∷◌, refl, ap, subst, ◌∙◌, arith}
-use Rattle.desk_edit.specs.declared.command.Call.TheVariants.{Redo, Undo}
+use Rattle.desk_edit.specs.Asked.CallOf.{Redo, Undo}
 use Rattle.bridge_core.specs.declared.reply.Reply.{Reply}
 use Rattle.bridge_core.specs.declared.reply.Reply.TheVariants.{Accepted}
 use Rattle.bridge_core.specs.Calls.{Answers}
