@@ -1,25 +1,32 @@
-//! A bridge on sockets of this machine, round by round, with sockets of members and operators: what comes to the bridge and what it
-//! answers, line by line, read from standard input. A line that comes out otherwise is printed; last stands how many lines there
-//! were.
+//! Cases of a bridge on sockets. A case is some lines of standard input: what comes to the bridge, and what it answers.
+//! The program has the sockets of members and operators, and calls the bridge round by round. It prints each line that
+//! comes out otherwise, and then the number of lines.
 //!
-//! | Line | Means |
-//! |---|---|
-//! | `** TEXT` | what the lines behind it show |
-//! | `bridge SEATS` | a new bridge for so many operators; all sockets of the one before are closed |
-//! | `opens N` | operator N connects |
-//! | `says N TEXT`, `drips N TEXT` | it sends a line, at once or an octet a round; `@M` and a space stand for member M's address, `\r` for a CR, and a `\` at the end leaves out the LF |
-//! | `repeats N TIMES TEXT` | it sends a line so many times and reads nothing, until it can't |
-//! | `floods N TIMES` | it sends so many times 8,192 octets without an LF |
-//! | `told N TEXT`, `closed N` | the next line that it is told; it was told nothing more, and the bridge closed its connection |
-//! | `closes N` | it leaves |
-//! | `member M`, `leaves M` | member M has a socket, has none any more |
-//! | `sends M HEX`, `fills M COUNT` | it sends the bridge a datagram of these octets, or of so many |
-//! | `gets M HEX` | the next datagram that comes to it |
-//! | `rounds COUNT` | the bridge goes on for so many rounds |
-//! | `stopped` | an operator stops the bridge |
+//! - `** TEXT`: what the lines behind it show.
+//! - `settings TEXT > ANSWER`: the settings of a text, where `\n` is an LF, or their fault. Settings are
+//!   `udp ADDRESS and tcp ADDRESS LANES OPERATORS SSRC CNAME`.
+//! - `bridge SEATS [LANES]`: a new bridge with so many seats for operators, and so many lanes or one. All sockets of
+//!   the one before are closed.
+//! - `opens N`: operator N connects.
+//! - `says N TEXT`, `drips N TEXT`: it sends a line, at once or an octet a round. `@M` and a space stand for member M's
+//!   address, `\r` for a CR, and a `\` at the end leaves out the LF.
+//! - `repeats N TIMES TEXT`: it sends a line so many times and reads nothing, until the bridge takes no more.
+//! - `floods N TIMES`: it sends so many times 8,192 octets without an LF.
+//! - `told N TEXT`: the next line that it is told.
+//! - `closed N`: it is told nothing more, and the bridge closes its connection.
+//! - `shuts N`: it sends nothing more.
+//! - `hears N LINES`: it is told so many lines, and then the bridge closes its connection.
+//! - `closes N`: it leaves.
+//! - `member M`, `leaves M`, `returns M`: member M has a socket, has none any more, has one again at the same port.
+//! - `sends M HEX`: it sends the bridge a datagram of these octets. A space stands for nothing, and `WORD*TIMES` for a
+//!   word so many times.
+//! - `gets M HEX`: the next datagram that comes to it, where a dot stands for any digit.
+//! - `rounds COUNT`: the bridge goes on for so many rounds.
+//! - `stopped`: an operator stops the bridge.
 #![tactic(auto)]
 
 mod operator;
+mod setting;
 mod stage;
 mod text;
 

@@ -2,9 +2,9 @@
 
 use std::alloc::Global;
 use std::io::{Read, Write};
-use std::net::{Net, SocketAddr, TcpStream};
+use std::net::{Net, Shutdown, SocketAddr, TcpStream};
 
-/// A connection that never waits, and what it was told that no line has asked for yet.
+/// A connection that never waits, and what it was told that no line of the case has asked for yet.
 #[derive(Drop)]
 pub struct Operator {
     stream: TcpStream,
@@ -33,9 +33,14 @@ impl Operator {
         (&self.stream).write(octets).unwrap_or(0)
     }
 
+    /// Sends nothing more.
+    pub fn shut(&self) -> Option<()> {
+        self.stream.shutdown(Shutdown::Write).ok()
+    }
+
     /// Takes what has come.
     pub fn listen(&mut self) -> Option<()> {
-        let mut chunk = [0u8; 512];
+        let mut chunk = [0u8; 4_096];
         if let Ok(count) = (&self.stream).read(&mut chunk) {
             self.is_closed = self.is_closed || count == 0;
             self.got.extend_from_slice(&chunk[..count]).ok()?;
@@ -56,6 +61,16 @@ impl Operator {
         let is = first == line.as_bytes();
         self.got = rest;
         Some(is)
+    }
+
+    /// How many whole lines have come that no line of the case has asked for.
+    pub fn lines(&self) -> usize {
+        self.got.iter().filter(|octet| **octet == b'\n').count()
+    }
+
+    /// Whether the bridge has closed the connection.
+    pub fn is_closed(&self) -> bool {
+        self.is_closed
     }
 
     /// Whether the bridge has closed the connection, and all that it told before was asked for.

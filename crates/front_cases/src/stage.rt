@@ -1,15 +1,20 @@
 //! The bridge of a case, with its members and operators.
 
 use crate::operator::Operator;
-use crate::text::{numbered, spoken};
+use crate::setting::answer;
+use crate::text::{are_like, digits, numbered, spoken};
 use rtp_codec::Address;
 use std::alloc::{AllocGlobal, Global};
 use std::net::{IpAddr, Ipv4Addr, Net, SocketAddr, TcpStream, UdpSocket};
 use std::time::Clock;
 use udp_front::{Front, Listening, Serving, settings};
 
-/// How many rounds an answer may take: each waits 5 ms at most.
+/// How many rounds an operator's answer may take. Each waits 5 ms at most.
 const ROUNDS: u32 = 400;
+/// How many rounds a datagram may take: a report is due every 5 s.
+const LONG_ROUNDS: u32 = 1_600;
+/// More octets than a datagram has that the bridge sends.
+const CHUNK: usize = 9_000;
 
 /// A bridge on ports of the system's choice, and the sockets around it, by number.
 #[derive(Drop)]
@@ -18,6 +23,10 @@ pub struct Stage {
     bridge: Option<(Serving, Listening)>,
     operators: [Option<Operator>; 20],
     members: [Option<UdpSocket>; 4],
+    /// The ports that members had last.
+    ports: [u16; 4],
+    /// What a member was sent last.
+    chunk: Vec<u8>,
     /// Whether an operator has stopped the bridge.
     is_stopped: bool,
 }
@@ -33,10 +42,14 @@ fn socket_address(address: Address) -> SocketAddr {
     SocketAddr::new(IpAddr::V4(Ipv4Addr::new(a, b, c, d)), address.port)
 }
 
-/// A bridge with so many seats.
-fn begin<R: Net + Clock + AllocGlobal>(rt: &R, seats: usize) -> Option<(Serving, Listening)> {
+/// A bridge with so many seats and lanes.
+fn begin<R: Net + Clock + AllocGlobal>(
+    rt: &R,
+    seats: usize,
+    lanes: usize,
+) -> Option<(Serving, Listening)> {
     let text = format!(in rt.alloc();
-        "udp = \"127.0.0.1:0\"\ntcp = \"127.0.0.1:0\"\noperators = {seats}\n"
+        "udp = \"127.0.0.1:0\"\ntcp = \"127.0.0.1:0\"\noperators = {seats}\nlanes = {lanes}\n"
     ).ok()?;
     let settings = settings(rt.alloc(), text.as_str()).ok()?;
     let front = Front::bind(rt, settings).ok()?;
@@ -52,6 +65,8 @@ impl Stage {
             bridge: None,
             operators: [const { None }; 20],
             members: [const { None }; 4],
+            ports: [0; 4],
+            chunk: Vec::new(alloc),
             is_stopped: false,
         }
     }
@@ -72,10 +87,21 @@ impl Stage {
         Some(true)
     }
 
-    /// A new bridge with so many seats; those who had to do with the one before are gone.
-    fn bridge<R: Net + Clock + AllocGlobal>(&mut self, rt: &R, seats: usize) -> Option<bool> {
+    /// A new bridge with so many seats, and so many lanes or one. All sockets of the one before are closed.
+    fn bridge<R: Net + Clock + AllocGlobal>(
+        &mut self,
+        rt: &R,
+        seats: usize,
+        lanes: &str,
+    ) -> Option<bool> {
+        let lanes = if lanes.is_empty() {
+            1
+        } else {
+            lanes.parse().ok()?
+        };
         *self = Self::new(self.alloc);
-        self.bridge = Some(begin(rt, seats)?);
+        self.chunk.resize(CHUNK, 0).ok()?;
+        self.bridge = Some(begin(rt, seats, lanes)?);
         Some(true)
     }
 
@@ -159,6 +185,19 @@ impl Stage {
         Some(false)
     }
 
+    /// Whether an operator is told so many lines, and then its connection is closed.
+    fn hears(&mut self, rt: &impl Clock, at: usize, lines: usize) -> Option<bool> {
+        for _ in 0..ROUNDS {
+            let operator = self.operators.get_mut(at)?.as_mut()?;
+            operator.listen()?;
+            if operator.is_closed() {
+                return Some(operator.lines() == lines);
+            }
+            self.round(rt)?;
+        }
+        Some(false)
+    }
+
     /// Whether an operator stops the bridge.
     fn stopped(&mut self, rt: &impl Clock) -> Option<bool> {
         for _ in 0..ROUNDS {
@@ -170,10 +209,11 @@ impl Stage {
         Some(false)
     }
 
-    /// A member's new socket, which never waits.
-    fn member<R: Net>(&mut self, rt: &R, at: usize) -> Option<bool> {
-        let socket = UdpSocket::bind(rt, loopback(0)).ok()?;
+    /// A member's new socket at a port, which never waits. Port 0 is one of the system's choice.
+    fn member<R: Net>(&mut self, rt: &R, at: usize, port: u16) -> Option<bool> {
+        let socket = UdpSocket::bind(rt, loopback(port)).ok()?;
         socket.set_nonblocking(true).ok()?;
+        *self.ports.get_mut(at)? = socket.local_addr().ok()?.port();
         *self.members.get_mut(at)? = Some(socket);
         Some(true)
     }
@@ -186,13 +226,13 @@ impl Stage {
         Some(sent.is_ok())
     }
 
-    /// Whether the next datagram that comes to a member is this one.
-    fn gets(&mut self, rt: &impl Clock, at: usize, octets: &[u8]) -> Option<bool> {
-        let mut chunk = [0u8; 2_048];
-        for _ in 0..ROUNDS {
+    /// Whether the next datagram that comes to a member has these digits.
+    fn gets(&mut self, rt: &impl Clock, at: usize, wanted: &str) -> Option<bool> {
+        for _ in 0..LONG_ROUNDS {
             self.round(rt)?;
-            if let Ok((count, _)) = self.members.get(at)?.as_ref()?.recv_from(&mut chunk) {
-                return Some(chunk.get(..count)? == octets);
+            let socket = self.members.get(at)?.as_ref()?;
+            if let Ok((count, _)) = socket.recv_from(&mut self.chunk) {
+                return are_like(self.alloc, self.chunk.get(..count)?, wanted);
             }
         }
         Some(false)
@@ -204,7 +244,7 @@ impl Stage {
         let mut whole = String::from_str(self.alloc, parts.next()?).ok()?;
         for part in parts {
             let (at, rest) = numbered(part)?;
-            let port = self.members.get(at)?.as_ref()?.local_addr().ok()?.port();
+            let port = self.ports.get(at)?;
             whole
                 .push_str(
                     format!(in self.alloc; "127.0.0.1:{port} {rest}")
@@ -239,6 +279,11 @@ impl Stage {
             "floods" => self.floods(rt, at, text.parse().ok()?),
             "told" => self.told(rt, at, text),
             "closed" => self.closed(rt, at),
+            "shuts" => {
+                self.operators.get(at)?.as_ref()?.shut()?;
+                Some(true)
+            }
+            "hears" => self.hears(rt, at, text.parse().ok()?),
             "closes" => {
                 *self.operators.get_mut(at)? = None;
                 self.rounds(rt, 10)
@@ -256,10 +301,19 @@ impl Stage {
         text: &str,
     ) -> Option<bool> {
         match verb {
-            "member" => self.member(rt, at),
-            "sends" => self.sends(at, &hex::decode(self.alloc, text).ok()?),
-            "fills" => self.sends(at, &vec![in self.alloc; 0x80; text.parse().ok()?].ok()?),
-            "gets" => self.gets(rt, at, &hex::decode(self.alloc, text).ok()?),
+            "member" => self.member(rt, at, 0),
+            "returns" => {
+                let port = *self.ports.get(at)?;
+                self.member(rt, at, port)
+            }
+            "sends" => {
+                let digits = digits(self.alloc, text)?;
+                self.sends(at, &hex::decode(self.alloc, digits.as_str()).ok()?)
+            }
+            "gets" => {
+                let digits = digits(self.alloc, text)?;
+                self.gets(rt, at, digits.as_str())
+            }
             "leaves" => {
                 *self.members.get_mut(at)? = None;
                 Some(true)
@@ -268,21 +322,30 @@ impl Stage {
         }
     }
 
-    /// Carries out a line, and tells whether it came out as the line says; none is told of a line that says nothing.
+    /// Whether settings are what a line says: TEXT and their values or fault, with ` > ` between.
+    fn of_settings(&self, line: &str) -> Option<bool> {
+        let (text, wanted) = line.split_once(" > ")?;
+        let text = spoken(self.alloc, text).ok()?;
+        Some(answer(self.alloc, str::from_utf8(&text).ok()?)?.as_str() == wanted)
+    }
+
+    /// Carries out a line, and tells whether it came out as the line says. `None` is a line that says nothing.
     pub fn line<R: Net<Stream = TcpStream> + Clock + AllocGlobal>(
         &mut self,
         rt: &R,
         line: &str,
     ) -> Option<bool> {
         let (verb, rest) = line.split_once(" ").unwrap_or((line, ""));
-        if verb == "stopped" {
-            return self.stopped(rt);
+        match verb {
+            "stopped" => return self.stopped(rt),
+            "settings" => return self.of_settings(rest),
+            _ => {}
         }
         let (at, text) = numbered(rest)?;
         match verb {
-            "bridge" => self.bridge(rt, at),
+            "bridge" => self.bridge(rt, at, text),
             "rounds" => self.rounds(rt, at),
-            "member" | "sends" | "fills" | "gets" | "leaves" => {
+            "member" | "returns" | "sends" | "gets" | "leaves" => {
                 self.of_member(rt, verb, at, text)
             }
             _ => self.of_operator(rt, verb, at, text),

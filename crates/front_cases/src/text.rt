@@ -8,13 +8,17 @@ pub fn numbered(text: &str) -> Option<(usize, &str)> {
     Some((number.parse().ok()?, rest))
 }
 
-/// A text with its escapes read: `\r` is a CR, and without a `\` at its end an LF stands there.
+/// A text with its escapes read: `\r` is a CR, `\n` an LF, and without a `\` at its end an LF stands there.
 pub fn spoken(alloc: Global, text: &str) -> Result<Vec<u8>, AllocError> {
     let mut octets = Vec::new(alloc);
     let mut is_escaped = false;
     for octet in text.bytes() {
         if is_escaped {
-            octets.push(if octet == b'r' { b'\r' } else { octet })?;
+            octets.push(match octet {
+                b'r' => b'\r',
+                b'n' => b'\n',
+                other => other,
+            })?;
             is_escaped = false;
         } else if octet == b'\\' {
             is_escaped = true;
@@ -26,4 +30,24 @@ pub fn spoken(alloc: Global, text: &str) -> Result<Vec<u8>, AllocError> {
         octets.push(b'\n')?;
     }
     Ok(octets)
+}
+
+/// The digits of a datagram: words behind one another, of which `WORD*TIMES` stands there so many times.
+pub fn digits(alloc: Global, text: &str) -> Option<String> {
+    let mut whole = String::new(alloc);
+    for word in text.split(' ') {
+        let (word, times) = word.split_once("*").unwrap_or((word, "1"));
+        let times: usize = times.parse().ok()?;
+        for _ in 0..times {
+            whole.push_str(word).ok()?;
+        }
+    }
+    Some(whole)
+}
+
+/// Whether octets have these digits, where a dot stands for any digit.
+pub fn are_like(alloc: Global, octets: &[u8], wanted: &str) -> Option<bool> {
+    let had = hex::encode(alloc, octets).ok()?;
+    let mut pairs = had.bytes().zip(wanted.bytes());
+    Some(had.len() == wanted.len() && pairs.all(|(is, like)| like == b'.' || is == like))
 }

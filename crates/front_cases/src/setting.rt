@@ -1,0 +1,25 @@
+//! Settings of a case.
+
+use std::alloc::Global;
+use udp_front::{FrontSettings, Listening, settings};
+
+/// Settings as a line of a case has them: where the bridge listens, its lanes, its operators, its SSRC and its name.
+fn shown(alloc: Global, settings: &FrontSettings) -> Option<String> {
+    let listening = Listening {
+        udp: settings.udp,
+        tcp: settings.tcp,
+    };
+    let lanes = settings.lanes;
+    let operators = settings.operators;
+    let ssrc = settings.bridge.bridge_ssrc;
+    let cname = str::from_utf8(&settings.bridge.cname).ok()?;
+    format!(in alloc; "{listening} {lanes} {operators} {ssrc} {cname}").ok()
+}
+
+/// What the settings of a text are, or their fault.
+pub fn answer(alloc: Global, text: &str) -> Option<String> {
+    match settings(alloc, text) {
+        Ok(settings) => shown(alloc, &settings),
+        Err(fault) => format!(in alloc; "{fault}").ok(),
+    }
+}
