@@ -1,12 +1,14 @@
 #!/usr/bin/env python3
 """Compares random desk calls with a plain, slow desk: its rows in lists, its commands as docs/FORMATS.md says them.
 
-usage: random_desk.py [--calls N] [--seed S] [--cases SHOWN] [BINARY]
+usage: random_desk.py [--calls N] [--seed S] [--groups] [--cases SHOWN] [BINARY]
 
 Each call is drawn from few numbers, so that rows meet, cascades are deep and each refusal comes; about one call in four is an
-undo or a redo. After each call the whole desk is shown. BINARY is confbridge; the status is 0 where all lines are the same.
-With --cases nothing is compared: the calls are printed with the plain desk's answers, as cases of script_cases are written, the
-whole desk after every SHOWN of them.
+undo or a redo. With --groups one call in three is a group of 1 to 65 commands, mostly 2 to 5: most are accepted, some are refused
+at a part, and some take back what they do. The plain desk carries a group's commands out one by one on a copy of its lists. After
+each call the whole desk is shown. BINARY is confbridge; the status is 0 where all lines are the same. With --cases nothing is
+compared: the calls are printed with the plain desk's answers, as cases of script_cases are written, the whole desk after every
+SHOWN of them.
 """
 
 import argparse
@@ -17,6 +19,7 @@ import subprocess
 import sys
 
 TOP = pathlib.Path(__file__).resolve().parent.parent
+MOST_PARTS = 64
 LIMITS = {"rooms": 64, "members": 1024, "sources": 2048, "slots": 4096, "gains": 65536, "room-audio": 64}
 
 
@@ -224,6 +227,28 @@ def carry_out(d, words):
     d.sweep()
 
 
+def desk_after(d, words):
+    """The desk after a command or a group, or a refusal; the desk itself stays as it is."""
+    later = copy.deepcopy(d)
+    if words[0] != "group":
+        carry_out(later, words)
+        return later
+    parts = parts_of(words)
+    if len(parts) > MOST_PARTS:
+        raise Refused(f"19 GroupTooLong {MOST_PARTS}")
+    for number, part in enumerate(parts):
+        try:
+            carry_out(later, part)
+        except Refused as why:
+            raise Refused(f"20 PartRefused {number} {why}") from None
+    return later
+
+
+def parts_of(words):
+    """The words of each command of a group."""
+    return [part.split(" ") for part in " ".join(words[1:]).split(" / ")]
+
+
 def draw(r, accepted):
     """A call, of few numbers."""
     room, member, video, audio, slot = r.randrange(1, 5), r.randrange(10, 20), r.randrange(100, 112), r.randrange(200, 212), r.randrange(300, 316)
@@ -265,6 +290,46 @@ def draw(r, accepted):
     return f"{'undo' if kind < 0.90 else 'redo'} {last}"
 
 
+# What takes back what a command did, where that put no row in another's place.
+OPPOSITES = {
+    "add-room": "remove-room", "add-member": "remove-member", "add-source": "remove-source", "add-slot": "remove-slot",
+    "subscribe": "unsubscribe", "mute": "unmute", "pin": "unpin", "give-floor": "take-floor",
+}  # fmt: skip
+
+
+def draw_command(r, names=None):
+    """A command, of few numbers, with one of the names if there are any."""
+    while True:
+        line = draw(r, 0)
+        name = line.split()[0]
+        if name in names if names else name not in ("undo", "redo"):
+            return line
+
+
+def draw_part(drawn, desk):
+    """A command that the desk accepts, if one is soon drawn. The desk carries it out."""
+    for _ in range(40):
+        line = drawn()
+        try:
+            carry_out(desk, line.split())
+            break
+        except Refused:
+            pass
+    return line
+
+
+def draw_group(r, desk):
+    """A group, most of whose commands are accepted at the desk after those before them."""
+    desk, kind = copy.deepcopy(desk), r.random()
+    if kind < 0.15:
+        parts = [draw_part(lambda: draw_command(r, OPPOSITES), desk) for _ in range(r.choice([1, 1, 1, 2, 2, 3]))]
+        back = [part.split() for part in reversed(parts)]
+        return "group " + " / ".join(parts + [f"{OPPOSITES[words[0]]} {words[1]}" for words in back])
+    count = r.randrange(2, 6) if kind < 0.9 else r.choice([1, r.randrange(6, 65), 64, 65])
+    any_at = r.randrange(count) if r.random() < 0.5 else count
+    return "group " + " / ".join(draw_command(r) if at == any_at else draw_part(lambda: draw_command(r), desk) for at in range(count))
+
+
 def write_cases(script, wanted, shown):
     """Prints the calls with their answers, and the desk after every so many."""
     for number, (_, texts) in enumerate(wanted):
@@ -279,14 +344,15 @@ def main():
     parser = argparse.ArgumentParser(usage=__doc__)
     parser.add_argument("--calls", type=int, default=10_000)
     parser.add_argument("--seed", type=int, default=1)
+    parser.add_argument("--groups", action="store_true")
     parser.add_argument("--cases", type=int, default=0)
     parser.add_argument("binary", nargs="?", default=str(TOP / "crates/confbridge/out/confbridge"))
     args = parser.parse_args()
     r = random.Random(args.seed)
     desk, accepted, done, undone = Desk(), 0, [], []
-    script, wanted, counts = [], [], {}
+    script, wanted, counts, cancelled = [], [], {}, 0
     for _ in range(args.calls):
-        line = draw(r, accepted)
+        line = draw_group(r, desk) if args.groups and r.random() < 1 / 3 else draw(r, accepted)
         words = line.split()
         try:
             if words[0] in ("undo", "redo"):
@@ -295,18 +361,19 @@ def main():
                     raise Refused(f"14 NewerCommand {accepted}")
                 if not stack:
                     raise Refused(empty)
-                other.append(copy.deepcopy(desk))
-                desk = stack.pop()
+                name, before = stack.pop()
+                other.append((name, desk))
+                desk, words = before, [words[0] + (" of a group" if name == "group" else "")]
             else:
-                later = copy.deepcopy(desk)
-                carry_out(later, words)
-                done.append(desk)
+                later = desk_after(desk, words)
+                done.append((words[0], desk))
+                cancelled += words[0] == "group" and later.shown(0) == desk.shown(0)
                 desk, undone = later, []
             accepted += 1
             reply = f"ok {accepted}"
         except Refused as why:
             reply = f"no {accepted} {why}"
-        told = words[0] + " " + (" ".join(reply.split()[2:4]) if reply.startswith("no") else "ok")
+        told = words[0] + " " + (" ".join(word for word in reply.split()[2:] if word.isalpha()) if reply.startswith("no") else "ok")
         counts[told] = counts.get(told, 0) + 1
         script += [f"desk {r.randrange(16)} {line}", "show"]
         wanted += [(line, [reply] + desk.shown(accepted))]
@@ -325,6 +392,10 @@ def main():
         print(f"{len(lines) - at} lines too many")
         return 1
     print(f"{args.calls} calls, {len(lines)} lines, {len(counts)} kinds of answer, no difference")
+    if args.groups:
+        count = lambda name: sum(number for kind, number in counts.items() if kind.startswith(name))
+        print(f"groups: {count('group ok')} accepted, {cancelled} of which changed no row, {count('group PartRefused')} refused at a part,"
+              f" {count('group GroupTooLong')} too long, {count('undo of a group')} undone, {count('redo of a group')} done again")  # fmt: skip
     return 0
 
 
