@@ -1,17 +1,18 @@
 #!/usr/bin/env python3
 """Compares what members hear with a plain, slow mixer: samples at places, sums over lists, and the table of G.711, as docs/ and the standards say them.
 
-usage: random_mix.py [--lines N] [--seed S] [--seconds N] [BINARY]
+usage: random_mix.py [--lines N] [--seed S] [--seconds N] [--groups] [--cases] [BINARY]
 
 Members of two rooms send audio in both codecs that is reordered, lost, doubled, and jumps in time; ticks come between, and operators
-mute, set gains, move, remove and undo. BINARY is confbridge; without one the program is built without the proofs, and has so many
-seconds. The status is 0 where all lines are the same.
+mute, set gains, move, remove and undo, with --groups most of it in groups. BINARY is confbridge; without one the program is built
+without the proofs, and has so many seconds. The status is 0 where all lines are the same. With --cases the lines are printed as in
+random_rx.py.
 """
 
 import collections
 import sys
 
-from random_rx import Bridge, compared, rtp
+from random_rx import Bridge, compared, grouped, rtp
 
 RATE, TICK, DELAY = 8000, 160, 480
 
@@ -156,7 +157,27 @@ class Voice:
         return self.way[at] if r.random() < 0.03 else self.way.pop(at)
 
 
-def drawn(r, count):
+def call_of(r, version):
+    """A call of the desk."""
+    n, member, source = r.randrange(7), 10 + r.randrange(7), r.choice([201, 202, 203, 204, 205, 206, 207, 301])
+    return r.choice([
+        f"mute {source}", f"unmute {source}", f"unmute {source}", f"set-gain {member} {source} {r.choice([0, 1, 128, 255, 256, 257, 1024])}",
+        f"set-gain {member} {source} 256", f"move-member {member} {r.choice([1, 1, 2])}", f"remove-member {member}" if r.random() < 0.3 else f"mute {source}",
+        f"add-member {10 + n} {r.choice([1, 1, 2])} {ADDRESSES[n]} {r.choice(['l16', 'pcmu'])} {9001 + n} {r.randrange(65536)} {r.randrange(2**32)}",
+        f"add-source {201 + n} {10 + n} audio", f"add-source {201 + n} {10 + n} audio", f"remove-source {source}" if r.random() < 0.3 else f"unmute {source}",
+        f"undo {version}", f"undo {version}", f"redo {version}",
+    ])  # fmt: skip
+
+
+def command_of(r):
+    """A call of the desk that is a command."""
+    while True:
+        words = call_of(r, 0)
+        if words.split(" ")[0] not in ("undo", "redo"):
+            return words
+
+
+def drawn(r, count, groups):
     bridge, script = MixBridge(), []
     voices = [Voice(r, a, 201 + n) for n, a in enumerate(ADDRESSES)] + [Voice(r, ADDRESSES[0], 301)]
     for line in SETUP:
@@ -166,14 +187,8 @@ def drawn(r, count):
         moment += r.randrange(20_000_000)
         roll = r.random()
         if roll < 0.06:
-            n, member, source = r.randrange(7), 10 + r.randrange(7), r.choice([201, 202, 203, 204, 205, 206, 207, 301])
-            words = r.choice([
-                f"mute {source}", f"unmute {source}", f"unmute {source}", f"set-gain {member} {source} {r.choice([0, 1, 128, 255, 256, 257, 1024])}",
-                f"set-gain {member} {source} 256", f"move-member {member} {r.choice([1, 1, 2])}", f"remove-member {member}" if r.random() < 0.3 else f"mute {source}",
-                f"add-member {10 + n} {r.choice([1, 1, 2])} {ADDRESSES[n]} {r.choice(['l16', 'pcmu'])} {9001 + n} {r.randrange(65536)} {r.randrange(2**32)}",
-                f"add-source {201 + n} {10 + n} audio", f"add-source {201 + n} {10 + n} audio", f"remove-source {source}" if r.random() < 0.3 else f"unmute {source}",
-                f"undo {bridge.version}", f"undo {bridge.version}", f"redo {bridge.version}",
-            ])  # fmt: skip
+            words = call_of(r, bridge.version)
+            words = grouped(r, bridge.desk, words, lambda: command_of(r)) if groups else words
             line = f"desk 0 {words}"
         elif roll < 0.35:
             line = f"tick {moment}"

@@ -1,18 +1,19 @@
 #!/usr/bin/env python3
 """Compares reports with a plain, slow bridge: whole lists of what came and what went, as the standards and docs/ say.
 
-usage: random_reports.py [--lines N] [--seed S] [--seconds N] [BINARY]
+usage: random_reports.py [--lines N] [--seed S] [--seconds N] [--groups] [--cases] [BINARY]
 
 Senders of video and audio send as in random_rx.py, and sender reports besides; receivers send report blocks, NACKs and picture
-losses; ticks, reports and calls of operators come between. BINARY is confbridge; without one the program is built without the
-proofs, and has so many seconds. The status is 0 where all lines are the same.
+losses; ticks, reports and calls of operators come between, with --groups most of their commands in groups. BINARY is confbridge;
+without one the program is built without the proofs, and has so many seconds. The status is 0 where all lines are the same. With
+--cases the lines are printed as in random_rx.py.
 """
 
 import collections
 import sys
 
 from random_mix import MixBridge
-from random_rx import CALLS, MENDS, P, Q, R, SETUP, Sender, compared
+from random_rx import CALLS, MENDS, P, Q, R, SETUP, Sender, compared, grouped
 
 
 def named(ssrc):
@@ -140,7 +141,7 @@ def compound_of(r, bridge):
     return octets
 
 
-def drawn(r, count):
+def drawn(r, count, groups):
     bridge = ReportBridge()
     script = [(line, bridge.answer(line)) for line in SETUP]
     first = Sender(r, P, 101, False)
@@ -151,6 +152,7 @@ def drawn(r, count):
         kind = r.random()
         if kind < 0.02:
             words = r.choice(CALLS + 5 * MENDS) if r.random() < 0.8 else f"{r.choice(['undo', 'redo'])} {bridge.version}"
+            words = grouped(r, bridge.desk, words, lambda: r.choice(CALLS)) if groups else words
             line = f"desk {r.randrange(16)} {words}"
         elif kind < 0.05:
             line = f"tick {moment}"

@@ -1,11 +1,13 @@
 #!/usr/bin/env python3
 """Compares random datagrams with a plain, slow bridge: lists of numbers, whole frames and windows as the standards and docs/ say them.
 
-usage: random_rx.py [--lines N] [--seed S] [--seconds N] [BINARY]
+usage: random_rx.py [--lines N] [--seed S] [--seconds N] [--groups] [--cases] [BINARY]
 
 Two video senders and an audio sender send packets that are reordered, lost, doubled, cut short and changed, with wraps and
 restarts; receivers send NACKs; operators mute, unsubscribe, remove and undo between them. BINARY is confbridge; without one
-the program is built without the proofs, and has so many seconds. The status is 0 where all lines are the same.
+the program is built without the proofs, and has so many seconds. The status is 0 where all lines are the same. With --groups
+most commands come in groups. With --cases nothing is compared: the lines are printed with the plain bridge's answers, as cases of
+script_cases are written.
 """
 
 import argparse
@@ -16,7 +18,7 @@ import random
 import subprocess
 import sys
 
-from random_desk import Desk, Refused, carry_out
+from random_desk import Desk, Refused, desk_after, draw_part
 
 TOP = pathlib.Path(__file__).resolve().parent.parent
 RTP_FAULTS = {1: "Short", 2: "Version", 3: "Csrc", 4: "Extension", 5: "Padding"}
@@ -243,8 +245,7 @@ class Bridge:
                 other.append(copy.deepcopy(self.desk))
                 self.desk = stack.pop()
             else:
-                later = copy.deepcopy(self.desk)
-                carry_out(later, words)
+                later = desk_after(self.desk, words)
                 self.done.append(self.desk)
                 self.desk, self.undone = later, []
             self.version += 1
@@ -491,7 +492,16 @@ class Sender:
         return octets
 
 
-def drawn(r, lines):
+def grouped(r, desk, words, drawn):
+    """A group of the command and of some others, most of which are accepted behind it; an undo or a redo stays alone."""
+    if words.split(" ")[0] in ("undo", "redo"):
+        return words
+    later = copy.deepcopy(desk)
+    more = [draw_part(drawn, later) for _ in range(r.randrange(4))]
+    return "group " + " / ".join(r.sample([words] + more, 1 + len(more)) if r.random() < 0.3 else more + [words])
+
+
+def drawn(r, lines, groups):
     """A random script with its answers."""
     bridge = Bridge()
     script = [(line, bridge.answer(line)) for line in SETUP]
@@ -503,6 +513,7 @@ def drawn(r, lines):
         kind = r.random()
         if kind < 0.02:
             words = r.choice(CALLS + 5 * MENDS) if r.random() < 0.8 else f"{r.choice(['undo', 'redo'])} {bridge.version}"
+            words = grouped(r, bridge.desk, words, lambda: r.choice(CALLS)) if groups else words
             line = f"desk {r.randrange(16)} {words}"
             calls += 1
         elif kind < 0.07:
@@ -563,9 +574,14 @@ def compared(usage, drawn, most):
     parser.add_argument("--lines", type=int, default=most)
     parser.add_argument("--seed", type=int, default=1)
     parser.add_argument("--seconds", type=int, default=300)
+    parser.add_argument("--groups", action="store_true")
+    parser.add_argument("--cases", action="store_true")
     parser.add_argument("binary", nargs="?")
     args = parser.parse_args()
-    script = drawn(random.Random(args.seed), args.lines)
+    script = drawn(random.Random(args.seed), args.lines, args.groups)
+    if args.cases:
+        print("\n".join(text for line, texts in script for text in [line, *("> " + text for text in texts)]))
+        return 0
     counts = collections.Counter(" ".join(text.split(" ")[: 4 if " dropped " in text else 2 if text.startswith("rx") else 1]) for _, texts in script for text in texts)
     lines = compare(script, printed([line for line, _ in script], args.binary, args.seconds))
     print(", ".join(f"{name} {count}" for name, count in sorted(counts.items())))
