@@ -1,7 +1,7 @@
 #!/usr/bin/env python3
 """Times operator commands on a full desk, by the release binary over scripts.
 
-usage: time_desk.py [--runs N] [--only WORD] [--instructions] [BINARY]
+usage: time_desk.py [--runs N] [--only WORD] [--instructions | --groups SIZES] [BINARY]
 
 The desk has one room with 1,024 members, 64 audio and 1,984 video sources, 4,096 slots with a subscription each, all
 65,536 gains, a pin and a floor; where a member, a source or a slot comes and goes, it is one short of each of these. A command's
@@ -9,6 +9,10 @@ time is the processor time of a script with many of it, less that of the script 
 N runs of each (3 if not said), in turn. With --only it takes the rows that have this word in their names, with --instructions it
 counts instructions, by callgrind, in place of time, one run of each. BINARY is out/confbridge (`rt run` in crates/confbridge makes
 it).
+
+With --groups 1,2,8,64 it counts the instructions of the same commands one by one and in groups of these sizes, and of their undos, on
+the desk that isn't short, in one run of one program. For a group it prints too what it takes over its commands one by one, and that in
+parts of one: with 2 commands and more this is above all the copy of the rows. `--groups 0` makes no groups, for a program that has none.
 """
 
 import argparse
@@ -18,6 +22,7 @@ import re
 import subprocess
 import sys
 import tempfile
+import threading
 
 TOP = pathlib.Path(__file__).resolve().parent.parent
 
@@ -80,13 +85,94 @@ def pairs(count, first, second):
         yield second(i)
 
 
+class Counted:
+    """A program under callgrind that counts what comes behind its first lines."""
+
+    def __init__(self, binary, first):
+        self.folder, self.dumps = tempfile.TemporaryDirectory(), 0
+        asked = ["valgrind", "--tool=callgrind", "--instr-atstart=no", f"--callgrind-out-file={self.folder.name}/out", binary, "replay"]
+        self.run = subprocess.Popen(asked, stdin=subprocess.PIPE, stdout=subprocess.PIPE, stderr=subprocess.DEVNULL)
+        self.answers(first)
+        self.control("-i", "on")
+
+    def control(self, *words):
+        subprocess.run(["callgrind_control", *words, str(self.run.pid)], check=True, stdout=subprocess.DEVNULL, stderr=subprocess.DEVNULL)
+
+    def answers(self, lines):
+        """The answers to lines that are each answered with one."""
+
+        def give():
+            self.run.stdin.write("".join(f"desk 0 {line}\n" for line in lines).encode())
+            self.run.stdin.flush()
+
+        giving = threading.Thread(target=give)
+        giving.start()
+        answers = [self.run.stdout.readline() for _ in lines]
+        giving.join()
+        return answers
+
+    def instructions(self, lines):
+        """What the lines take, none of which may be refused."""
+        refused = [pair for pair in zip(lines, self.answers(lines)) if not pair[1].startswith(b"ok ")]
+        if refused:
+            sys.exit(f"{refused[0][0]}: {refused[0][1].decode()}")
+        self.control("-d")
+        self.dumps += 1
+        text = pathlib.Path(f"{self.folder.name}/out.{self.dumps}").read_text()
+        return int(re.search(r"^(?:totals|summary): (\d+)", text, re.M)[1])
+
+    def end(self):
+        self.run.communicate()
+        self.folder.cleanup()
+
+
+def commands_of_groups():
+    """Commands for groups, of which each finds the full desk as those before it left it."""
+    slots, members = range(300000, 300064), range(500, 532)
+    back = lambda s: (f"add-slot {s} {s - 300000} 0 0 0", f"subscribe {s} {s - 99936}")
+    yield "set-gain over another", [f"set-gain {m} 200000 7" for m in range(512)]
+    yield "subscribe over another", [f"subscribe {300000 + s} {200065 + s}" for s in range(512)]
+    yield "mute, unmute", [f"{word} {200000 + s}" for s in range(256) for word in ("mute", "unmute")]
+    yield "remove-slot with its sub, add-slot, subscribe", [line for s in slots for line in (f"remove-slot {s}", *back(s))]
+    yield "remove-member with 64 gains, add-member", [
+        line for m in members for line in (f"remove-member {m}", f"add-member {m} 1 10.0.{m >> 8}.{m & 255}:5000 pcmu {100000 + m} 0 0")
+    ]
+
+
+def count_groups(binary, sizes, only):
+    first = list(desk(64))
+    run, version = Counted(binary, first), len(first)
+    for name, commands in commands_of_groups():
+        if only not in name:
+            continue
+        alone = None
+        for size in [0] + sizes:
+            calls = commands
+            if size:
+                calls = ["group " + " / ".join(commands[at : at + size]) for at in range(0, len(commands), size)]
+            does = run.instructions(calls) / len(calls)
+            version += len(calls)
+            undoes = run.instructions([f"undo {version + at}" for at in range(len(calls))]) / len(calls)
+            version += len(calls)
+            if not size:
+                alone = does, undoes
+                print(f"{name}: {does:,.0f} a command, {undoes:,.0f} its undo", flush=True)
+                continue
+            said = [f"{what:,.0f} ({what - size * one:+,.0f}, {what / (size * one):.3f})" for what, one in zip((does, undoes), alone)]
+            print(f"{name}, in groups of {size}: {said[0]} a group, {said[1]} its undo", flush=True)
+    run.end()
+
+
 def main():
     parser = argparse.ArgumentParser(usage=__doc__)
     parser.add_argument("--runs", type=int, default=3)
     parser.add_argument("--only", default="")
     parser.add_argument("--instructions", action="store_true")
+    parser.add_argument("--groups", metavar="SIZES")
     parser.add_argument("binary", nargs="?", default=str(TOP / "crates/confbridge/out/confbridge"))
     args = parser.parse_args()
+    if args.groups:
+        return count_groups(args.binary, [int(size) for size in args.groups.split(",") if int(size)], args.only)
     measured, unit = (counted, "instructions") if args.instructions else (spent, "us")
     runs = 1 if args.instructions else args.runs
 
