@@ -493,12 +493,12 @@ class Sender:
 
 
 def grouped(r, desk, words, drawn):
-    """A group of the command and of some others, most of which are accepted behind it; an undo or a redo stays alone."""
+    """A group of commands that are accepted one after another, at times with the given one behind them; an undo or a redo stays alone."""
     if words.split(" ")[0] in ("undo", "redo"):
         return words
     later = copy.deepcopy(desk)
-    more = [draw_part(drawn, later) for _ in range(r.randrange(4))]
-    return "group " + " / ".join(r.sample([words] + more, 1 + len(more)) if r.random() < 0.3 else more + [words])
+    parts = [draw_part(drawn, later) for _ in range(r.randrange(1, 5))]
+    return "group " + " / ".join(parts + [words] if r.random() < 0.3 else parts)
 
 
 def drawn(r, lines, groups):
