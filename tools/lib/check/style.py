@@ -1,23 +1,33 @@
-#!/usr/bin/env python3
 """Checks how documents and sources are written.
 
-    tools/style.py          prints the figures of documents and of sources
-    tools/style.py --docs   checks README.md, CONTRIBUTING.md and docs/ alone: status 1 where a document's median sentence has
-                            over 16 words, a sentence over 38, or a link to a file leads nowhere
+Documents are README.md, CONTRIBUTING.md and docs/. The status is 1 where one has a median sentence of over 16 words, a sentence
+of over 38, or a link that leads nowhere. Code, tables, headings and lists of names are no sentences, and a piece of code within
+a sentence counts as one word.
 
-Code, tables, headings and lists of names are no sentences. A piece of code within a sentence counts as one word."""
+Of sources it prints how long functions, lines and files of crates/*/src are.
+"""
 
 import re
 import statistics
-import sys
-from pathlib import Path
 
-ROOT = Path(__file__).resolve().parent.parent
+from lib.shared import CRATES, ROOT
+
+NEEDS = "nothing"
+
 MOST_MEDIAN = 16
 MOST_WORDS = 38
 MOST_LINES_OF_FUNCTION = 30
 MOST_COLUMNS = 120
 MOST_LINES_OF_FILE = 300
+
+
+def options(parser):
+    which = parser.add_mutually_exclusive_group()
+    which.add_argument("--docs", action="store_true", help="documents alone")
+    which.add_argument("--sources", action="store_true", help="sources alone")
+
+
+# Documents
 
 
 def documents():
@@ -48,7 +58,7 @@ def paragraphs(text):
                 yield " ".join(current)
             current = []
         if bare and not bare.startswith(("|", "#")):
-            current.append(bare[begins_item.end():] if begins_item else bare)
+            current.append(bare[begins_item.end() :] if begins_item else bare)
 
 
 def plain(paragraph):
@@ -59,11 +69,13 @@ def plain(paragraph):
 
 
 def is_list_of_names(sentence):
+    """Whether a sentence is six short pieces or more."""
     pieces = re.split(r"[,;]", sentence)
     return len(pieces) >= 6 and statistics.median(len(piece.split()) for piece in pieces) <= 3
 
 
 def sentences(text):
+    """Each sentence, with how many words it has."""
     for paragraph in paragraphs(text):
         for sentence in re.split(r"(?<=[.!?])\)?\s+(?=[\"(]?[A-Z0-9`]|code)", plain(paragraph)):
             words = [word for word in sentence.split() if re.search(r"\w", word)]
@@ -72,6 +84,7 @@ def sentences(text):
 
 
 def broken_links(path, text):
+    """The targets of links that lead to no file or to no heading."""
     for target in re.findall(r"\]\(([^)\s]+)\)", without_fences(text)):
         if re.match(r"[a-z]+:", target):
             continue
@@ -84,38 +97,37 @@ def broken_links(path, text):
 
 
 def anchors(path):
+    """What a link can name in a document: its headings."""
     for line in without_fences(path.read_text()).split("\n"):
         if line.startswith("#"):
             name = re.sub(r"[^\w\- ]", "", line.lstrip("# ").lower())
             yield name.replace(" ", "-")
 
 
+def faults_of(path, text, found):
+    """What is wrong with a document whose sentences were found."""
+    median = statistics.median([count for count, _ in found] or [0])
+    faults = [f"the median is over {MOST_MEDIAN}"] if median > MOST_MEDIAN else []
+    faults += [f"{count} words: {sentence}" for count, sentence in found if count > MOST_WORDS]
+    return faults + [f"a link leads nowhere: {target}" for target in broken_links(path, text)]
+
+
 def check_documents():
-    """Prints a line for each document and what is wrong with it. Whether nothing is."""
+    """Prints a line for each document, and what is wrong with it. Whether nothing is."""
     good = True
     print(f"{'document':24}{'lines':>6}{'sentences':>11}{'median':>8}{'longest':>9}")
     for path in documents():
-        if not path.exists():
-            print(f"{path.name}: is not there")
-            good = False
-            continue
-        text = path.read_text()
+        text = path.read_text() if path.exists() else ""
         found = list(sentences(text))
         lengths = [count for count, _ in found] or [0]
-        median = statistics.median(lengths)
-        lines = text.count("\n")
-        print(f"{path.name:24}{lines:>6}{len(found):>11}{median:>8g}{max(lengths):>9}")
-        if median > MOST_MEDIAN:
-            print(f"  the median is over {MOST_MEDIAN}")
-            good = False
-        for count, sentence in found:
-            if count > MOST_WORDS:
-                print(f"  {count} words: {sentence}")
-                good = False
-        for target in broken_links(path, text):
-            print(f"  a link leads nowhere: {target}")
-            good = False
+        print(f"{path.name:24}{text.count(chr(10)):>6}{len(found):>11}{statistics.median(lengths):>8g}{max(lengths):>9}")
+        faults = faults_of(path, text, found) if path.exists() else ["is missing"]
+        good = good and not faults
+        print("".join(f"  {fault}\n" for fault in faults), end="")
     return good
+
+
+# Sources
 
 
 def body_of(lines, first, indent):
@@ -142,41 +154,33 @@ def functions(lines):
             yield name, closed - opened - 1
 
 
-def report_sources():
-    """Prints how long functions, lines and files of src/ are."""
-    lengths, long_functions, long_files = [], [], []
-    long_lines = 0
-    for path in sorted((ROOT / "crates").glob("*/src/**/*.rt")):
-        lines = path.read_text().splitlines()
-        where = path.relative_to(ROOT)
-        if len(lines) > MOST_LINES_OF_FILE:
-            long_files.append((len(lines), where))
-        long_lines += sum(len(line) > MOST_COLUMNS for line in lines)
-        for name, length in functions(lines):
-            lengths.append(length)
-            if length > MOST_LINES_OF_FUNCTION:
-                long_functions.append((length, f"{where}: {name}"))
-    print(f"{len(lengths)} functions, median {statistics.median(lengths):g} lines of body, {len(long_functions)} over {MOST_LINES_OF_FUNCTION}")
-    for length, name in sorted(long_functions, reverse=True):
-        print(f"  {length:4} {name}")
-    print(f"{long_lines} lines over {MOST_COLUMNS} columns")
-    print(f"{len(long_files)} files over {MOST_LINES_OF_FILE} lines")
-    for length, where in sorted(long_files, reverse=True):
+def print_longest(found):
+    """Prints (length, where), the longest first."""
+    for length, where in sorted(found, reverse=True):
         print(f"  {length:4} {where}")
 
 
-def main():
-    arguments = sys.argv[1:]
-    if arguments not in ([], ["--docs"]):
-        print(__doc__, file=sys.stderr)
-        return 4
-    good = check_documents()
-    if arguments:
-        return 0 if good else 1
-    print()
-    report_sources()
-    return 0
+def report_sources():
+    """Prints how long functions, lines and files of src/ are."""
+    all_functions, long_files, long_lines = [], [], 0
+    for path in sorted(CRATES.glob("*/src/**/*.rt")):
+        lines, where = path.read_text().splitlines(), str(path.relative_to(ROOT))
+        if len(lines) > MOST_LINES_OF_FILE:
+            long_files.append((len(lines), where))
+        long_lines += sum(len(line) > MOST_COLUMNS for line in lines)
+        all_functions += [(length, f"{where}: {name}") for name, length in functions(lines)]
+    long_functions = [found for found in all_functions if found[0] > MOST_LINES_OF_FUNCTION]
+    median = statistics.median(length for length, _ in all_functions)
+    print(f"{len(all_functions)} functions, median {median:g} lines of body, {len(long_functions)} over {MOST_LINES_OF_FUNCTION}")
+    print_longest(long_functions)
+    print(f"{long_lines} lines over {MOST_COLUMNS} columns")
+    print(f"{len(long_files)} files over {MOST_LINES_OF_FILE} lines")
+    print_longest(long_files)
 
 
-if __name__ == "__main__":
-    sys.exit(main())
+def run(args):
+    good = args.sources or check_documents()
+    if not args.docs:
+        print()
+        report_sources()
+    return 0 if good else 1

@@ -1,0 +1,1 @@
+"""The subcommands of tools/bridge, a module each, and what they share."""

@@ -1,0 +1,1 @@
+"""`tools/bridge make`: each module writes a file of the repository."""
