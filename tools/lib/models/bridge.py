@@ -1,0 +1,235 @@
+"""A plain bridge: what the core answers to calls, datagrams and frames. Nobody ticks or reports here."""
+
+import collections
+
+from lib.models.codec import Dropped, nack_numbers, nack_words, read_rtcp, read_rtp
+from lib.models.desk import Log
+from lib.models.streams import Gate, Source, Stream
+from lib.packets import number
+
+# A stream keeps so many packets to send again.
+SENT_BEFORE = 512
+# So many sources are remembered.
+KEPT = 4096
+# A receiver report without blocks, and the bridge's name.
+FRONT = "80c9000100000001" + "81ca000400000001010662726964676500000000"
+
+
+class Bridge:
+    """The desk, the sources that were heard, and the streams that went out."""
+
+    def __init__(self):
+        self.log, self.kept, self.epoch, self.items, self.streams = Log(), collections.OrderedDict(), 0, 0, {}
+
+    @property
+    def desk(self):
+        return self.log.desk
+
+    @property
+    def version(self):
+        return self.log.version
+
+    def member_at(self, address):
+        return self.desk.one("members", address=address)
+
+    # Which source a slot shows
+
+    def wanted(self, slot):
+        """The source that a slot's subscription, its room's pin or its room's floor names."""
+        d, room = self.desk, self.desk.room_of(slot["member"])
+        sub, pin, floor = d.one("subs", out=slot["out"]), d.one("pins", room=room), d.one("floors", room=room)
+        if sub:
+            return sub["source"]
+        if slot["index"]:
+            return None
+        if pin:
+            return pin["source"]
+        if floor:
+            return min((s["ssrc"] for s in d.sources if s["member"] == floor["member"] and s["media"] == "video"), default=None)
+        return None
+
+    def choice(self, slot):
+        """The source that a slot shows, if it shows one."""
+        d, ssrc = self.desk, self.wanted(slot)
+        source = d.source(ssrc)
+        if not source or d.one("mutes", source=ssrc) or source["member"] == slot["member"]:
+            return None
+        return ssrc if d.room_of(source["member"]) == d.room_of(slot["member"]) else None
+
+    # Frames
+
+    def frame(self, moment, address, ssrc, epoch, packets):
+        """The lines of a frame; packets are (extended number, fields)."""
+        self.items += 1
+        d, source, lines = self.desk, self.desk.source(ssrc), []
+        if not source or d.one("members", member=source["member"])["address"] != address:
+            return []
+        for m in d.members:
+            for slot in d.slots_of(m["member"]):
+                if self.choice(slot) == ssrc:
+                    lines += self.send(slot, m, moment, (ssrc, address, epoch), packets)
+        return lines
+
+    def send(self, slot, m, moment, run, packets):
+        """The lines of a frame for one slot."""
+        stream, ssrc, lines = self.streams.setdefault(slot["out"], Stream(slot)), run[0], []
+        ts = stream.timestamp(run, packets[0][1]["ts"], moment)
+        for n, p in packets:
+            head = bytes([0x81, p["marker"] << 7 | p["pt"]]) + stream.next.to_bytes(2, "big") + ts.to_bytes(4, "big")
+            octets = (head + slot["out"].to_bytes(4, "big") + ssrc.to_bytes(4, "big") + p["payload"]).hex()
+            text = f"{self.version} {self.items} {m['address']} {slot['out']} {stream.next} {octets}"
+            stream.sent = (stream.sent + [(stream.next, m["member"], m["address"], text, f"{ssrc} {n}")])[-SENT_BEFORE:]
+            lines.append("tx " + text)
+            stream.next = (stream.next + 1) % 65536
+        return lines
+
+    # What receivers send
+
+    def nack(self, address, body):
+        """The packets that a NACK asks for, as they were sent before."""
+        self.items += 1
+        stream, asker = self.streams.get(number(body[4:8])), self.member_at(address)
+        if not stream or not asker:
+            return []
+        found = [stream.kept(n, asker["member"], address) for n in nack_numbers(body[8:])]
+        return [f"re {self.version} {text}" for kept in found for text, _ in kept]
+
+    def block(self, address, body):
+        """The line of a report block (RFC 3550 section 6.4.1)."""
+        self.items += 1
+        stream, teller, found = self.streams.get(number(body[:4])), self.member_at(address), "- -"
+        if not stream or not teller:
+            return []
+        for _, source in stream.kept(number(body[10:12]), teller["member"], address):
+            found = source
+        lost = int.from_bytes(body[5:8], "big", signed=True)
+        return [f"note {self.version} {self.items} {address} {number(body[:4])} {body[4]} {lost} {found}"]
+
+    def pli(self, address, body):
+        """The PLI for the source that a member's slot shows."""
+        self.items += 1
+        slot, teller = self.desk.one("slots", out=number(body[4:8])), self.member_at(address)
+        ssrc = self.choice(slot) if slot and teller and slot["member"] == teller["member"] else None
+        if ssrc is None:
+            return []
+        to = self.desk.one("members", member=self.desk.source(ssrc)["member"])["address"]
+        return [f"ct {self.version} {self.items} {to} {FRONT}81ce000200000001{ssrc:08x}"]
+
+    # For models that know more
+
+    def noted(self, moment, address, body):
+        """Keeps the time of a sender report at its source (RFC 3550 section 6.4.1: LSR)."""
+        source = self.kept.get((address, number(body[:4])))
+        if source and source.greatest is not None:
+            source.report = number(body[6:10]), moment
+
+    def arrived(self, source, verdict, moment, rate, ts):
+        """Counts an accepted packet for reports."""
+
+    def sound(self, address, packet):
+        """Hands a packet's samples to the mixer."""
+
+    # Datagrams
+
+    def asked(self, address, ssrc, nacks, pli):
+        """The line of what the bridge asks a source for."""
+        if not nacks and not pli:
+            return []
+        octets = FRONT
+        if nacks:
+            words = nack_words(nacks)
+            octets += f"81cd{2 + len(words):04x}00000001{ssrc:08x}" + "".join(f"{pid:04x}{blp:04x}" for pid, blp in words)
+        if pli:
+            octets += f"81ce000200000001{ssrc:08x}"
+        return [f"up {address} {octets}"]
+
+    def rx(self, moment, address, d):
+        """The lines that answer a datagram."""
+        try:
+            if len(d) > 8192:
+                raise Dropped("TooLong")
+            if len(d) < 2 or d[0] >> 6 != 2:
+                raise Dropped("Neither")
+            return (self.rtcp if 192 <= d[1] <= 223 else self.rtp)(moment, address, d)
+        except Dropped as why:
+            return [f"rx dropped {why}"]
+
+    def rtcp(self, moment, address, d):
+        """The lines of a compound."""
+        packets = read_rtcp(d)
+        if not self.member_at(address):
+            raise Dropped("Unknown")
+        lines = [f"rx rtcp {len(packets)}"]
+        for pt, count, body in packets:
+            if pt == 200:
+                self.noted(moment, address, body)
+            if pt in (200, 201):
+                first = 24 if pt == 200 else 4
+                lines += [line for at in range(first, first + 24 * count, 24) for line in self.block(address, body[at : at + 24])]
+            if (pt, count) == (205, 1):
+                lines += self.nack(address, body)
+            if (pt, count) == (206, 1):
+                lines += self.pli(address, body)
+        return lines
+
+    def rtp(self, moment, address, d):
+        """The lines of an RTP packet."""
+        p = read_rtp(d)
+        row, member = self.desk.source(p["ssrc"]), self.member_at(address)
+        if not row or not member or row["member"] != member["member"]:
+            raise Dropped("Unknown")
+        is_audio = row["media"] == "audio"
+        if is_audio:
+            check_audio(p)
+        source = self.source_at(address, p["ssrc"])
+        verdict, ext = source.verdict(p["seq"])
+        if ext is None:
+            return [f"rx {verdict}"]
+        if verdict in ("begun", "restarted"):
+            self.epoch += 1
+            source.epoch, source.gate = self.epoch, Gate()
+        self.arrived(source, verdict, moment, 8000 if is_audio else 90000, p["ts"])
+        return (self.audio if is_audio else self.video)(moment, address, p, source, verdict, ext)
+
+    def source_at(self, address, ssrc):
+        """The source with this number at this address, which is now the last one heard."""
+        source = self.kept.setdefault((address, ssrc), Source())
+        self.kept.move_to_end((address, ssrc))
+        if len(self.kept) > KEPT:
+            self.kept.popitem(last=False)
+        return source
+
+    def audio(self, _moment, address, p, _source, verdict, ext):
+        if p["payload"]:
+            self.items += 1
+            self.sound(address, p)
+        return [f"rx {'restarted' if verdict == 'restarted' else 'accepted'} {ext}"]
+
+    def video(self, moment, address, p, source, verdict, ext):
+        name = "restarted" if verdict == "restarted" else "accepted"
+        place, frames, nacks, gave_up = source.gate.admit(ext, p)
+        lines = [f"rx {name if place == 'accepted' else place} {ext}"]
+        lines += self.asked(address, p["ssrc"], nacks, gave_up or verdict == "restarted")
+        for packets in frames:
+            lines += self.frame(moment, address, p["ssrc"], source.epoch, packets)
+        return lines
+
+    # Lines
+
+    def answer(self, line):
+        """The lines that answer a line without a fault."""
+        words = line.split(" ")
+        if words[0] == "desk":
+            return [self.log.call(words[2:])]
+        if words[0] == "rx":
+            return self.rx(int(words[1]), words[2], bytes.fromhex(words[3]))
+        packets = [part.split("/") for part in words[6:]]
+        packets = [(int(e), dict(marker=int(m), pt=int(pt), ts=int(words[5]), payload=bytes.fromhex(h))) for e, m, pt, h in packets]
+        return self.frame(int(words[1]), words[2], int(words[3]), int(words[4]), packets)
+
+
+def check_audio(p):
+    """Drops what is no PCMU or L16 of up to 1,600 samples."""
+    octets, width = len(p["payload"]), 2 if p["pt"] == 97 else 1
+    if p["pt"] not in (0, 97) or octets % width or octets // width > 1600:
+        raise Dropped("BadPayload")

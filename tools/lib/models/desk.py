@@ -1,0 +1,342 @@
+"""A plain desk: its rows stand in lists, and its commands do what docs/FORMATS.md says, one function each."""
+
+import copy
+
+MOST_PARTS = 64
+LIMITS = {"rooms": 64, "members": 1024, "sources": 2048, "slots": 4096, "gains": 65536, "room-audio": 64}
+
+
+class Refused(Exception):
+    """A refusal: its number, its name and what follows that."""
+
+
+class Desk:
+    """The rows of a desk, each kind in a list."""
+
+    def __init__(self):
+        self.rooms, self.members, self.sources, self.slots = [], [], [], []
+        self.subs, self.mutes, self.gains, self.pins, self.floors = [], [], [], [], []
+
+    def one(self, table, **fields):
+        """The first row with these fields, or None."""
+        found = [row for row in getattr(self, table) if all(row[name] == value for name, value in fields.items())]
+        return found[0] if found else None
+
+    def source(self, ssrc):
+        return self.one("sources", ssrc=ssrc)
+
+    def room_of(self, member):
+        return self.one("members", member=member)["room"]
+
+    def room_of_source(self, ssrc):
+        return self.room_of(self.source(ssrc)["member"])
+
+    def ssrcs(self):
+        """All SSRCs in use, the bridge's own included."""
+        return [1] + [s["ssrc"] for s in self.sources] + [s["out"] for s in self.slots] + [m["out_audio"] for m in self.members]
+
+    def audio_in(self, room):
+        return sum(s["media"] == "audio" and self.room_of(s["member"]) == room for s in self.sources)
+
+    def slots_of(self, member):
+        return sorted((s for s in self.slots if s["member"] == member), key=lambda s: s["index"])
+
+    def sweep(self):
+        """Removes all rows that name a row which is gone, until none does."""
+        before = None
+        while before != self.shown(0):
+            before = self.shown(0)
+            rooms = {r["room"] for r in self.rooms}
+            self.members = [m for m in self.members if m["room"] in rooms]
+            members = {m["member"] for m in self.members}
+            self.sources = [s for s in self.sources if s["member"] in members]
+            self.slots = [s for s in self.slots if s["member"] in members]
+            sources, slots = {s["ssrc"] for s in self.sources}, {s["out"] for s in self.slots}
+            self.subs = [s for s in self.subs if s["out"] in slots and s["source"] in sources]
+            self.mutes = [m for m in self.mutes if m["source"] in sources]
+            self.gains = [g for g in self.gains if g["member"] in members and g["source"] in sources]
+            self.pins = [p for p in self.pins if p["room"] in rooms and p["source"] in sources]
+            self.floors = [f for f in self.floors if f["room"] in rooms and f["member"] in members]
+
+    def shown(self, version):
+        """The lines that answer `show`."""
+
+        def lines(word, rows, fields, *keys):
+            ordered = sorted(rows, key=lambda row: [row[key] for key in keys]) if keys else rows
+            return [" ".join([word] + [str(row[field]) for field in fields.split()]) for row in ordered]
+
+        members = [{"place": place, **row} for place, row in enumerate(self.members)]
+        return [
+            *lines("room", self.rooms, "room", "room"),
+            *lines("member", members, "place member room address codec out_audio seq ts"),
+            *lines("source", self.sources, "ssrc member media", "ssrc"),
+            *lines("slot", self.slots, "out member index seq ts", "out"),
+            *lines("sub", self.subs, "out source", "out"),
+            *lines("mute", self.mutes, "source", "source"),
+            *lines("gain", self.gains, "member source q8", "member", "source"),
+            *lines("pin", self.pins, "room source", "room"),
+            *lines("floor", self.floors, "room member", "room"),
+            f"end {version}",
+        ]
+
+    def carry_out(self, words):
+        """Carries a command out, or raises its refusal."""
+        COMMANDS[words[0]](self, *(int(word) if word.isdigit() else word for word in words[1:]))
+        self.sweep()
+
+
+def desk_after(desk, words):
+    """The desk after a command or a group, or a refusal. The desk itself stays as it is."""
+    later = copy.deepcopy(desk)
+    if words[0] != "group":
+        later.carry_out(words)
+        return later
+    parts = parts_of(words)
+    if len(parts) > MOST_PARTS:
+        raise Refused(f"19 GroupTooLong {MOST_PARTS}")
+    for number, part in enumerate(parts):
+        try:
+            later.carry_out(part)
+        except Refused as why:
+            raise Refused(f"20 PartRefused {number} {why}") from None
+    return later
+
+
+def parts_of(words):
+    """The words of each command of a group."""
+    return [part.split(" ") for part in " ".join(words[1:]).split(" / ")]
+
+
+class Log:
+    """A desk with its version, and the desks that undo and redo lead to, each with the name of the call that it undoes."""
+
+    def __init__(self):
+        self.desk, self.version, self.done, self.undone = Desk(), 0, [], []
+
+    def call(self, words):
+        """The line that answers a call."""
+        try:
+            if words[0] == "undo":
+                self.go_to(self.done, self.undone, int(words[1]), "15 NothingToUndo")
+            elif words[0] == "redo":
+                self.go_to(self.undone, self.done, int(words[1]), "16 NothingToRedo")
+            else:
+                later = desk_after(self.desk, words)
+                self.done.append((words[0], self.desk))
+                self.desk, self.undone = later, []
+        except Refused as why:
+            return f"no {self.version} {why}"
+        self.version += 1
+        return f"ok {self.version}"
+
+    def go_to(self, stack, other, version, empty):
+        """Makes the last desk of one stack the present one, and puts the present one on the other."""
+        if version != self.version:
+            raise Refused(f"14 NewerCommand {self.version}")
+        if not stack:
+            raise Refused(empty)
+        name, before = stack.pop()
+        other.append((name, self.desk))
+        self.desk = before
+
+
+# Refusals
+
+
+def refuse(holds, text):
+    if holds:
+        raise Refused(text)
+
+
+def refuse_full(rows, table):
+    refuse(len(rows) >= LIMITS[table], f"12 Full {table} {LIMITS[table]}")
+
+
+def need_room(d, room):
+    refuse(not d.one("rooms", room=room), "2 NoRoom")
+
+
+def need_member(d, member):
+    refuse(not d.one("members", member=member), "3 NoMember")
+
+
+def need_source(d, ssrc):
+    refuse(not d.source(ssrc), "4 NoSource")
+
+
+def need_slot(d, out):
+    refuse(not d.one("slots", out=out), "5 NoSlot")
+
+
+def need_media(d, ssrc, media):
+    refuse(d.source(ssrc)["media"] != media, "6 WrongKind")
+
+
+def need_one_room(one, other):
+    refuse(one != other, "7 OtherRoom")
+
+
+def refuse_taken(d, ssrc):
+    refuse(ssrc in d.ssrcs(), "8 SsrcTaken")
+
+
+def refuse_already(d, table, **fields):
+    refuse(d.one(table, **fields), "10 Already")
+
+
+def remove_one(d, table, **fields):
+    """Removes the row with these fields, or refuses."""
+    row = d.one(table, **fields)
+    refuse(not row, "11 NotThere")
+    getattr(d, table).remove(row)
+
+
+def replace(d, table, keys, **row):
+    """Puts a row in the place of those with the same keys."""
+    rows = getattr(d, table)
+    rows[:] = [other for other in rows if any(other[key] != row[key] for key in keys)] + [row]
+
+
+# Commands, each with its refusals in their order
+
+
+def add_room(d, room):
+    refuse(d.one("rooms", room=room), "1 Exists")
+    refuse_full(d.rooms, "rooms")
+    d.rooms.append({"room": room})
+
+
+def remove_room(d, room):
+    need_room(d, room)
+    d.rooms.remove(d.one("rooms", room=room))
+
+
+def add_member(d, member, room, address, codec, out_audio, seq, ts):
+    refuse(d.one("members", member=member) or d.one("members", address=address), "1 Exists")
+    need_room(d, room)
+    refuse_taken(d, out_audio)
+    refuse(address.endswith(":0"), "9 BadValue")
+    refuse_full(d.members, "members")
+    d.members.append(dict(member=member, room=room, address=address, codec=codec, out_audio=out_audio, seq=seq, ts=ts))
+
+
+def remove_member(d, member):
+    need_member(d, member)
+    d.members.remove(d.one("members", member=member))
+
+
+def move_member(d, member, room):
+    """The member keeps its sources and slots. Rows that tie them to the old room go."""
+    own = [s for s in d.sources if s["member"] == member and s["media"] == "audio"]
+    need_room(d, room)
+    need_member(d, member)
+    refuse(d.room_of(member) == room, "10 Already")
+    refuse(d.audio_in(room) + len(own) > LIMITS["room-audio"], "12 Full room-audio 64")
+    old, sources = d.room_of(member), {s["ssrc"] for s in d.sources if s["member"] == member}
+    slots = {s["out"] for s in d.slots if s["member"] == member}
+    d.one("members", member=member)["room"] = room
+    d.floors = [f for f in d.floors if not (f["room"] == old and f["member"] == member)]
+    d.pins = [p for p in d.pins if not (p["room"] == old and p["source"] in sources)]
+    d.subs = [s for s in d.subs if (s["out"] in slots) == (s["source"] in sources)]
+    d.gains = [g for g in d.gains if (g["member"] == member) == (g["source"] in sources)]
+
+
+def add_source(d, ssrc, member, media):
+    refuse(d.source(ssrc), "1 Exists")
+    need_member(d, member)
+    refuse_taken(d, ssrc)
+    refuse_full(d.sources, "sources")
+    refuse(media == "audio" and d.audio_in(d.room_of(member)) >= LIMITS["room-audio"], "12 Full room-audio 64")
+    d.sources.append(dict(ssrc=ssrc, member=member, media=media))
+
+
+def remove_source(d, ssrc):
+    need_source(d, ssrc)
+    d.sources.remove(d.source(ssrc))
+
+
+def add_slot(d, out, member, index, seq, ts):
+    refuse(d.one("slots", out=out) or d.one("slots", member=member, index=index), "1 Exists")
+    need_member(d, member)
+    refuse_taken(d, out)
+    refuse(index > 15, "9 BadValue")
+    refuse_full(d.slots, "slots")
+    d.slots.append(dict(out=out, member=member, index=index, seq=seq, ts=ts))
+
+
+def remove_slot(d, out):
+    need_slot(d, out)
+    d.slots.remove(d.one("slots", out=out))
+
+
+def subscribe(d, out, source):
+    need_source(d, source)
+    need_slot(d, out)
+    need_media(d, source, "video")
+    need_one_room(d.room_of(d.one("slots", out=out)["member"]), d.room_of_source(source))
+    refuse_already(d, "subs", out=out, source=source)
+    replace(d, "subs", ["out"], out=out, source=source)
+
+
+def unsubscribe(d, out):
+    need_slot(d, out)
+    remove_one(d, "subs", out=out)
+
+
+def set_gain(d, member, source, q8):
+    need_member(d, member)
+    need_source(d, source)
+    need_media(d, source, "audio")
+    need_one_room(d.room_of(member), d.room_of_source(source))
+    refuse(q8 > 1024, "9 BadValue")
+    refuse_already(d, "gains", member=member, source=source, q8=q8)
+    if not d.one("gains", member=member, source=source):
+        refuse_full(d.gains, "gains")
+    replace(d, "gains", ["member", "source"], member=member, source=source, q8=q8)
+
+
+def mute(d, source):
+    need_source(d, source)
+    refuse_already(d, "mutes", source=source)
+    d.mutes.append({"source": source})
+
+
+def unmute(d, source):
+    need_source(d, source)
+    remove_one(d, "mutes", source=source)
+
+
+def pin(d, room, source):
+    need_room(d, room)
+    need_source(d, source)
+    need_media(d, source, "video")
+    need_one_room(room, d.room_of_source(source))
+    refuse_already(d, "pins", room=room, source=source)
+    replace(d, "pins", ["room"], room=room, source=source)
+
+
+def unpin(d, room):
+    need_room(d, room)
+    remove_one(d, "pins", room=room)
+
+
+def give_floor(d, room, member):
+    need_room(d, room)
+    need_member(d, member)
+    need_one_room(room, d.room_of(member))
+    refuse_already(d, "floors", room=room, member=member)
+    replace(d, "floors", ["room"], room=room, member=member)
+
+
+def take_floor(d, room):
+    need_room(d, room)
+    remove_one(d, "floors", room=room)
+
+
+COMMANDS = {
+    made.__name__.replace("_", "-"): made
+    for made in (
+        add_room, remove_room, add_member, remove_member, move_member, add_source, remove_source, add_slot, remove_slot,
+        subscribe, unsubscribe, set_gain, mute, unmute, pin, unpin, give_floor, take_floor,
+    )
+}  # fmt: skip
