@@ -1,0 +1,187 @@
+"""Holds a call over sockets, with members and an operator of its own.
+
+Two members send PCMU tones, and one of them video, which is lost in part. An operator mutes a source, unsubscribes a slot and
+undoes both. The checks: each stream's numbers have no gap; each member hears the other's tone and not its own; a NACK is
+answered; lost packets are asked for; a PLI is passed on; and reports come.
+"""
+
+import pathlib
+import socket
+import subprocess
+import tempfile
+import time
+
+from lib.packets import has_no_gap, is_rtp_of, nack, pli, rtp, seq_of
+from lib.serving import Operator, free_port, port_of, settings, udp_socket
+from lib.shared import CRATES, add_program_or_build, fail, found_program, try_command
+
+NEEDS = "a program, ten seconds"
+
+# Tones of one sample each, mu-law (ITU-T G.711): 988 and -988.
+TONES = {201: 0xCE, 202: 0x4E}
+SETUP = [
+    "add-room 1",
+    "add-member 10 1 127.0.0.1:{p} pcmu 9001 0 0",
+    "add-member 11 1 127.0.0.1:{q} pcmu 9002 65530 0",
+    "add-source 201 10 audio",
+    "add-source 202 11 audio",
+    "add-source 101 10 video",
+    "add-slot 501 11 0 65535 1000",
+    "subscribe 501 101",
+]
+
+
+def options(parser):
+    add_program_or_build(parser)
+
+
+def check(holds, text):
+    if not holds:
+        fail(text)
+
+
+def start(args, folder):
+    """The bridge, and the ports of its sockets. A program built without proofs may not say them, so they are chosen here."""
+    udp, tcp = free_port(socket.SOCK_DGRAM), free_port(socket.SOCK_STREAM)
+    words, program = ["serve", settings(folder, udp, tcp)], found_program(args.binary)
+    command = [program, *words] if program else try_command(words, args.seconds)
+    with said_in(folder).open("w") as said:
+        null = subprocess.DEVNULL
+        bridge = subprocess.Popen(command, cwd=CRATES / "confbridge", stdin=null, stdout=null, stderr=said)
+    return bridge, udp, tcp
+
+
+def said_in(folder):
+    """The file that has the bridge's standard error."""
+    return pathlib.Path(folder) / "stderr"
+
+
+def connected(bridge, port, folder):
+    """An operator's connection, once the bridge listens."""
+    while bridge.poll() is None:
+        try:
+            return socket.create_connection(("127.0.0.1", port), timeout=10)
+        except ConnectionRefusedError:
+            time.sleep(0.1)
+    return fail(f"the bridge ended with status {bridge.returncode} before it listened\n{said_in(folder).read_text()[-2000:]}")
+
+
+def member():
+    one = udp_socket()
+    one.setblocking(False)
+    return one
+
+
+def drain(one, got):
+    """Takes all datagrams that have come."""
+    while True:
+        try:
+            got.append(one.recv(65536))
+        except BlockingIOError:
+            return
+
+
+class Call:
+    """The members, the operator, and what has come."""
+
+    def __init__(self, connection, udp):
+        self.udp = ("127.0.0.1", udp)
+        self.desk = Operator(connection)
+        self.members = {201: member(), 202: member()}
+        self.got = {201: [], 202: []}
+        self.seq = 0
+
+    def ask(self, line, answer):
+        told = self.desk.ask(line)
+        check(told == answer, f"`{line}` is answered `{told}`, not `{answer}`")
+
+    def send(self, ssrc, octets):
+        self.members[ssrc].sendto(octets, self.udp)
+
+    def talk(self, seconds):
+        """Each member sends a packet each 20 ms, and the first one a frame of one packet too, but for each tenth."""
+        end = time.monotonic() + seconds
+        while time.monotonic() < end:
+            for ssrc, one in self.members.items():
+                self.send(ssrc, rtp(self.seq, self.seq * 160, ssrc, bytes([TONES[ssrc]]) * 160, pt=0))
+                drain(one, self.got[ssrc])
+            if self.seq % 10 != 9:
+                self.send(201, rtp(self.seq, self.seq * 3000, 101, b"picture", marker=1))
+            self.seq += 1
+            time.sleep(0.02)
+        for ssrc, one in self.members.items():
+            drain(one, self.got[ssrc])
+
+    def stream(self, member, ssrc):
+        """What came to a member of a stream."""
+        return [packet for packet in self.got[member] if is_rtp_of(packet, ssrc)]
+
+    def control(self, member, kind):
+        """The compounds that came to a member and begin with this packet type."""
+        return [packet for packet in self.got[member] if packet[1] == kind]
+
+
+def use_desk(call):
+    """Sets the desk, mutes a source and unsubscribes a slot in mid-call, and undoes both."""
+    ports = {"p": port_of(call.members[201]), "q": port_of(call.members[202])}
+    for version, line in enumerate(SETUP, 1):
+        call.ask(line.format(**ports), f"ok {version}")
+    call.talk(2)
+    call.ask("mute 201", "ok 9")
+    call.talk(1)
+    before = len(call.stream(202, 9002))
+    call.talk(1)
+    check(len(call.stream(202, 9002)) <= before + 2, "a muted source is heard")
+    call.ask("undo 9", "ok 10")
+    call.ask("unsubscribe 501", "ok 11")
+    call.talk(0.5)
+    call.ask("undo 11", "ok 12")
+    call.talk(2)
+
+
+def check_mixes(call):
+    for ssrc, out, other in ((201, 9001, 202), (202, 9002, 201)):
+        mixes = call.stream(ssrc, out)
+        check(has_no_gap(mixes), f"stream {out} has a gap: {[seq_of(mix) for mix in mixes[:20]]}")
+        heard = {mix[-1] for mix in mixes}
+        check(heard == {TONES[other]}, f"stream {out} holds other tones than {TONES[other]}: {heard}")
+
+
+def check_video(call):
+    """Checks the video and what is asked for. The number of its packets."""
+    shown = call.stream(202, 501)
+    check(has_no_gap(shown), f"the video has a gap: {[seq_of(packet) for packet in shown[:20]]}")
+    last = shown[-1]
+    call.send(202, nack(501, seq_of(last)))
+    call.talk(0.2)
+    again = [packet for packet in call.stream(202, 501) if seq_of(packet) == seq_of(last)]
+    check(again == [last, last], "a NACK isn't answered with the same octets")
+    call.send(202, pli(501))
+    call.talk(0.2)
+    passed = [packet for packet in call.control(201, 201) if packet[-12:-8] == bytes.fromhex("81ce0002")]
+    check(passed != [], "a PLI isn't passed on")
+    check(any(b"\x81\xcd" in packet for packet in call.control(201, 201)), "lost packets aren't asked for")
+    return len(shown)
+
+
+def hold(call):
+    use_desk(call)
+    check_mixes(call)
+    shown = check_video(call)
+    check(call.control(202, 200) != [], "no sender report comes")
+    check(call.control(201, 201) != [], "no receiver report comes")
+    mixes = len(call.stream(201, 9001)) + len(call.stream(202, 9002))
+    print(f"a call of {call.seq * 0.02:.1f} s: {mixes} mixes, {shown} video packets, no fault")
+
+
+def run(args):
+    with tempfile.TemporaryDirectory() as folder:
+        bridge, udp, tcp = start(args, folder)
+        try:
+            call = Call(connected(bridge, tcp, folder), udp)
+            hold(call)
+            call.desk.tell("stop")
+            bridge.wait(timeout=30)
+        finally:
+            bridge.kill()
+    return 0

@@ -1,0 +1,61 @@
+"""A bridge on sockets, and an operator's connection to it."""
+
+import pathlib
+import re
+import socket
+import subprocess
+
+from lib.shared import fail
+
+LISTENS = re.compile(r"confbridge: listening on udp 127\.0\.0\.1:([0-9]+) and tcp 127\.0\.0\.1:([0-9]+)\n")
+
+
+def udp_socket(port=0):
+    """A UDP socket on loopback, at a port of the system's choice if none is given."""
+    one = socket.socket(socket.AF_INET, socket.SOCK_DGRAM)
+    one.bind(("127.0.0.1", port))
+    return one
+
+
+def port_of(one):
+    return one.getsockname()[1]
+
+
+def free_port(kind):
+    """A port that no socket of this kind has."""
+    with socket.socket(socket.AF_INET, kind) as one:
+        one.bind(("127.0.0.1", 0))
+        return port_of(one)
+
+
+def settings(folder, udp=0, tcp=0):
+    """The path of a settings file with these ports, which is written to a folder."""
+    path = pathlib.Path(folder) / "serve.toml"
+    path.write_text(f'udp = "127.0.0.1:{udp}"\ntcp = "127.0.0.1:{tcp}"\noperators = 2\n')
+    return path
+
+
+def started(program, path):
+    """A bridge with these settings, once it says where it listens, and the ports of its sockets."""
+    bridge = subprocess.Popen([program, "serve", path], stdin=subprocess.DEVNULL, stderr=subprocess.PIPE, text=True)
+    listens = LISTENS.fullmatch(bridge.stderr.readline())
+    if not listens:
+        bridge.kill()
+        fail("the bridge doesn't say where it listens")
+    return bridge, int(listens[1]), int(listens[2])
+
+
+class Operator:
+    """A connection of an operator."""
+
+    def __init__(self, connection):
+        self.lines = connection.makefile("rw", newline="\n")
+
+    def ask(self, line):
+        """The line that answers a line."""
+        self.tell(line)
+        return self.lines.readline().strip()
+
+    def tell(self, line):
+        self.lines.write(line + "\n")
+        self.lines.flush()
