@@ -1,0 +1,1 @@
+"""`tools/bridge bench`: each module measures the release program."""

@@ -1,0 +1,260 @@
+/* A bridge, its desk, its members and what they send. */
+enum { RECEIVERS = 16, ROOM = 64, VIDEO = 1100, SAMPLES = 160, MIX = 12 + 15 * 4 + SAMPLES };
+
+static pid_t server;
+static struct sockaddr_in udp, tcp;
+static int desk = -1;
+
+static void die(const char *text)
+{
+    fprintf(stderr, "load: %s\n", text);
+    if (server > 0)
+        kill(server, SIGKILL);
+    exit(1);
+}
+
+static struct sockaddr_in loopback(int port)
+{
+    struct sockaddr_in a = {.sin_family = AF_INET, .sin_port = htons(port)};
+    a.sin_addr.s_addr = htonl(INADDR_LOOPBACK);
+    return a;
+}
+
+/* A UDP socket of the system's choice of port, which never waits, with much room where the system lets it have any. */
+static int udp_socket(struct sockaddr_in *at)
+{
+    int one = socket(AF_INET, SOCK_DGRAM | SOCK_NONBLOCK, 0), room = 8 << 20;
+    socklen_t size = sizeof *at;
+    if (setsockopt(one, SOL_SOCKET, SO_RCVBUFFORCE, &room, sizeof room))
+        setsockopt(one, SOL_SOCKET, SO_RCVBUF, &room, sizeof room);
+    *at = loopback(0);
+    if (one < 0 || bind(one, (void *)at, sizeof *at) || getsockname(one, (void *)at, &size))
+        die("no socket");
+    return one;
+}
+
+static void start_bridge(const char *binary)
+{
+    char path[] = "/tmp/load-XXXXXX", told[4096];
+    int file = mkstemp(path), ends[2], u, t;
+    size_t had = 0;
+    const char *text = "udp = \"127.0.0.1:0\"\ntcp = \"127.0.0.1:0\"\noperators = 4\n";
+    if (file < 0 || write(file, text, strlen(text)) < 0 || pipe(ends))
+        die("no settings");
+    server = fork();
+    if (server == 0) {
+        dup2(ends[1], 2);
+        execl(binary, binary, "serve", path, (char *)0);
+        _exit(127);
+    }
+    close(ends[1]);
+    do {
+        ssize_t n = read(ends[0], told + had, sizeof told - 1 - had);
+        if (n <= 0)
+            die("the bridge doesn't listen");
+        had += n;
+        told[had] = 0;
+    } while (!strchr(told, '\n'));
+    unlink(path);
+    if (sscanf(told, "confbridge: listening on udp 127.0.0.1:%d and tcp 127.0.0.1:%d", &u, &t) != 2)
+        die(told);
+    udp = loopback(u);
+    tcp = loopback(t);
+}
+
+static int connected(void)
+{
+    int one = socket(AF_INET, SOCK_STREAM, 0);
+    if (connect(one, (void *)&tcp, sizeof tcp))
+        die("no connection");
+    return one;
+}
+
+/* An operator's line, and the first line that it is answered. */
+static char *ask(const char *line)
+{
+    static char told[1 << 20];
+    size_t had = 0;
+    dprintf(desk, "%s\n", line);
+    do {
+        ssize_t n = read(desk, told + had, sizeof told - 1 - had);
+        if (n <= 0)
+            die("the desk is closed");
+        had += n;
+        told[had] = 0;
+    } while (strcmp(line, "show") ? !strchr(told, '\n') : !(strstr(told, "end ") && told[had - 1] == '\n'));
+    return told;
+}
+
+static void accepted(const char *line)
+{
+    char *told = ask(line);
+    if (strncmp(told, "ok ", 3)) {
+        fprintf(stderr, "load: %s: %s", line, told);
+        die("a line isn't accepted");
+    }
+}
+
+static void stop_bridge(void)
+{
+    int status;
+    dprintf(desk, "stop\n");
+    waitpid(server, &status, 0);
+    close(desk);
+    server = 0;
+    if (!WIFEXITED(status) || WEXITSTATUS(status))
+        die("the bridge didn't end well");
+}
+
+/* Seconds of processor time that a process has had, and how many of them in the system. */
+static double processor(pid_t pid, double *within)
+{
+    char path[64], text[1024], *at;
+    unsigned long user, sys;
+    snprintf(path, sizeof path, "/proc/%d/stat", pid);
+    FILE *file = fopen(path, "r");
+    if (!file || !fgets(text, sizeof text, file) || !(at = strrchr(text, ')')))
+        die("the process is gone");
+    fclose(file);
+    sscanf(at + 2, "%*c %*d %*d %*d %*d %*d %*u %*u %*u %*u %*u %lu %lu", &user, &sys);
+    if (within)
+        *within = (double)sys / sysconf(_SC_CLK_TCK);
+    return (double)(user + sys) / sysconf(_SC_CLK_TCK);
+}
+
+static long resident(pid_t pid)
+{
+    char path[64], text[256];
+    long kb = -1;
+    snprintf(path, sizeof path, "/proc/%d/status", pid);
+    FILE *file = fopen(path, "r");
+    while (file && fgets(text, sizeof text, file))
+        sscanf(text, "VmRSS: %ld", &kb);
+    if (file)
+        fclose(file);
+    return kb;
+}
+
+static void put16(uint8_t *at, unsigned v) { at[0] = v >> 8; at[1] = v; }
+static void put32(uint8_t *at, uint32_t v) { put16(at, v >> 16); put16(at + 2, v); }
+
+static void header(uint8_t *at, unsigned pt, unsigned seq, uint32_t ts, uint32_t ssrc)
+{
+    at[0] = 0x80;
+    at[1] = pt;
+    put16(at + 2, seq);
+    put32(at + 4, ts);
+    put32(at + 8, ssrc);
+}
+
+/* The members: those of the fan (a source, then receivers) and those of the room. */
+static int fan[RECEIVERS + 1], room[ROOM];
+static struct sockaddr_in fan_at[RECEIVERS + 1], room_at[ROOM];
+static long fan_got, room_got;
+
+static void members(void)
+{
+    for (int i = 0; i <= RECEIVERS; i++)
+        fan[i] = udp_socket(&fan_at[i]);
+    for (int i = 0; i < ROOM; i++)
+        room[i] = udp_socket(&room_at[i]);
+}
+
+static void set_desk(int with_fan, int with_room)
+{
+    char line[200];
+    desk = connected();
+    if (with_fan) {
+        accepted("add-room 1");
+        for (int i = 0; i <= RECEIVERS; i++) {
+            snprintf(line, sizeof line, "add-member %d 1 127.0.0.1:%d pcmu %d 0 0", 100 + i, ntohs(fan_at[i].sin_port), 9000 + i);
+            accepted(line);
+        }
+        accepted("add-source 101 100 video");
+        for (int i = 1; i <= RECEIVERS; i++) {
+            snprintf(line, sizeof line, "add-slot %d %d 0 0 0", 500 + i, 100 + i);
+            accepted(line);
+            snprintf(line, sizeof line, "subscribe %d 101", 500 + i);
+            accepted(line);
+        }
+    }
+    if (with_room) {
+        accepted("add-room 2");
+        for (int i = 0; i < ROOM; i++) {
+            snprintf(line, sizeof line, "add-member %d 2 127.0.0.1:%d pcmu %d 0 0", 200 + i, ntohs(room_at[i].sin_port), 20000 + i);
+            accepted(line);
+            snprintf(line, sizeof line, "add-source %d %d audio", 30000 + i, 200 + i);
+            accepted(line);
+        }
+    }
+}
+
+static void drain(int *some, int count, long *got)
+{
+    uint8_t octets[9000];
+    for (int i = 0; i < count; i++)
+        while (1) {
+            ssize_t n = recv(some[i], octets, sizeof octets, 0);
+            if (n < 0)
+                break;
+            *got += n >= 12 && !(octets[1] >= 192 && octets[1] <= 223);
+        }
+}
+
+/* What was sent, and how many steps were left out since they were due too long ago. */
+static long pictures_sent, sounds_sent, steps_left_out;
+
+static double seconds_now(void)
+{
+    struct timespec now;
+    clock_gettime(CLOCK_MONOTONIC, &now);
+    return now.tv_sec + now.tv_nsec * 1e-9;
+}
+
+/* Both kinds of sending for so many seconds, in steps of 4 ms; a line each minute where it is asked for. A step that is more than
+ * 20 ms late is left out, so that no burst follows where this program stood still; timestamps and steps go on by the clock from the
+ * first one on, so that a source never comes later than it began. */
+static void talk(const struct sockaddr_in *to, double seconds, int with_fan, int with_room, pid_t watched)
+{
+    static unsigned seq, tick;
+    static struct timespec next;
+    static long step;
+    uint8_t octets[12 + VIDEO] = {0};
+    if (!next.tv_sec)
+        clock_gettime(CLOCK_MONOTONIC, &next);
+    for (long until = step + seconds * 250; step < until; step++) {
+        int is_late = seconds_now() - (next.tv_sec + next.tv_nsec * 1e-9) > 0.02;
+        steps_left_out += is_late;
+        if (with_fan && !is_late)
+            for (int i = 0; i < 4; i++, seq++, pictures_sent++) {
+                header(octets, 100 | (i == 3) << 7, seq, seq / 4 * 360, 101);
+                sendto(fan[0], octets, sizeof octets, 0, (void *)to, sizeof *to);
+            }
+        if (with_room && step % 5 == 0 && is_late)
+            tick++;
+        if (with_room && step % 5 == 0 && !is_late) {
+            sounds_sent += ROOM;
+            for (int i = 0; i < ROOM; i++) {
+                header(octets, 0, tick, tick * SAMPLES, 30000 + i);
+                for (int j = 0; j < SAMPLES; j++)
+                    octets[12 + j] = (i * 7 + j * 13 + tick) | 0x90;
+                sendto(room[i], octets, 12 + SAMPLES, 0, (void *)to, sizeof *to);
+            }
+            memset(octets, 0, sizeof octets);
+            tick++;
+        }
+        if (watched && step % 15000 == 0) {
+            printf("minute %ld: VmRSS %ld kB, processor %.2f s, %ld pictures and %ld mixes came\n", step / 15000,
+                   resident(watched), processor(watched, 0), fan_got, room_got);
+            fflush(stdout);
+        }
+        next.tv_nsec += 4000000;
+        if (next.tv_nsec >= 1000000000) {
+            next.tv_nsec -= 1000000000;
+            next.tv_sec++;
+        }
+        clock_nanosleep(CLOCK_MONOTONIC, TIMER_ABSTIME, &next, 0);
+        drain(fan, RECEIVERS + 1, &fan_got);
+        drain(room, ROOM, &room_got);
+    }
+}
