@@ -1,30 +1,36 @@
-#!/usr/bin/env python3
-"""Runs the gate, and tells crate by crate where its processor seconds go.
+"""Runs the gate, and prints where its time goes.
 
-usage: gate_times.py [COMMAND ..]
+It runs COMMAND (`rt ci` if none is given) at the top of the repository, looks at its processes until it ends, and then prints
+a table: for each crate its lines of code, the processor seconds of its first proof, its tests and its must-fail edits, and the
+seconds of first proof a line. A program's proof includes what both compilers take. The last rows are what belongs to no crate
+(the tool itself, runs of programs) and the sum.
 
-Runs COMMAND (`rt ci` if none is given) in this repository, looks at its processes until it has ended, and then prints a
-table: for each crate its lines of code, the processor seconds of its first proof, of its tests and of its must-fail edits,
-and the seconds of first proof a line. A program counts as proof what both compilers take to make it. The last rows are
-what can't be told apart (the tool itself, runs of programs) and the sum. Seconds are those that the kernel counts for a
-process, read every quarter of a second, so each process may have taken that much more. What the command prints goes to
-standard error, and its status is the status.
+Seconds are what the kernel counts for a process, read every quarter of a second, so each process may have taken that much
+more. The command prints to standard error, and its status is the status.
 """
 
+import argparse
 import os
 import pathlib
-import re
 import resource
 import subprocess
 import sys
 import time
 
-TOP = pathlib.Path(__file__).resolve().parent.parent
+from lib.shared import CRATES, ROOT, crates
+
+NEEDS = "`rt`, the time of a gate run"
+
 TICKS = os.sysconf("SC_CLK_TCK")
 EVERY = 0.25
 
 
+def options(parser):
+    parser.add_argument("command", nargs=argparse.REMAINDER, metavar="COMMAND", help="what to run (`rt ci` if not given)")
+
+
 def text_of(path):
+    """The text of a file, empty if it is gone."""
     try:
         return pathlib.Path(path).read_bytes().decode(errors="replace")
     except OSError:
@@ -43,7 +49,7 @@ def processes():
 
 
 def work_of(number):
-    """The crate that a process works on and what it does there, if its words tell it."""
+    """The crate that a process works on and what it does there, if its arguments say so."""
     words = text_of(f"/proc/{number}/cmdline").split("\0")
     if "--crate-name" not in words[:-1]:
         return None
@@ -57,9 +63,9 @@ def work_of(number):
     return crate, "tests" if "--test" in words else "proof"
 
 
-def watched(command):
-    """Runs the command, and gives the seconds by crate and kind of work, and its status."""
-    started = subprocess.Popen(command, cwd=TOP, stdout=sys.stderr)
+def watch(command):
+    """Runs the command. The seconds by crate and kind of work, and its status."""
+    started = subprocess.Popen(command, cwd=ROOT, stdout=sys.stderr)
     works, seconds = {}, {}
     while started.poll() is None:
         found = processes()
@@ -78,18 +84,10 @@ def watched(command):
 
 
 def lines_of(crate):
-    return sum(len(text_of(path).splitlines()) for path in (TOP / "crates" / crate / "src").rglob("*.rt"))
+    return sum(len(text_of(path).splitlines()) for path in (CRATES / crate / "src").rglob("*.rt"))
 
 
-def crates():
-    names = [line.partition(":")[0].strip() for line in (TOP / "crates.txt").read_text().splitlines()]
-    return [name for name in names if re.fullmatch(r"\w+", name)]
-
-
-def main():
-    sums, status = watched(sys.argv[1:] or ["rt", "ci"])
-    used = resource.getrusage(resource.RUSAGE_CHILDREN)
-    whole = used.ru_utime + used.ru_stime
+def print_table(sums, whole):
     print("| Crate | Lines | First proof | Tests | Edits | Proof a line |\n|---|---|---|---|---|---|")
     columns = [0, 0, 0]
     for crate in crates():
@@ -100,8 +98,10 @@ def main():
         print(f"| {crate} | {lines} | {cells} | {row[0] / max(lines, 1):.2f} |")
     print(f"| other | | {whole - sum(columns):.0f} | | | |")
     print(f"| sum | | {columns[0]:.0f} | {columns[1]:.0f} | {columns[2]:.0f} | {whole / 60:.0f} minutes in all |")
+
+
+def run(args):
+    sums, status = watch(args.command or ["rt", "ci"])
+    used = resource.getrusage(resource.RUSAGE_CHILDREN)
+    print_table(sums, used.ru_utime + used.ru_stime)
     return status
-
-
-if __name__ == "__main__":
-    sys.exit(main())
