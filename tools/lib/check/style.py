@@ -4,13 +4,16 @@ Documents are README.md, CONTRIBUTING.md and docs/. The status is 1 where one ha
 of over 38, or a link that leads nowhere. Code, tables, headings and lists of names are no sentences, and a piece of code within
 a sentence counts as one word.
 
-Of sources it prints how long functions, lines and files of crates/*/src are.
+Of sources it prints how long functions, lines and files of crates/*/src are, and which names of the bridge's crates are doubled:
+types with two homes, and words of definitions with three or more.
 """
 
+import collections
 import re
 import statistics
 
-from lib.shared import CRATES, ROOT
+from lib.make.definitions import definition_files, words_of
+from lib.shared import CRATES, ROOT, bridge_crates
 
 NEEDS = "nothing"
 
@@ -178,9 +181,42 @@ def report_sources():
     print_longest(long_files)
 
 
+def homes_of(pairs, least):
+    """The names among (name, home) that have so many homes, with these."""
+    homes = collections.defaultdict(list)
+    for name, home in pairs:
+        if home not in homes[name]:
+            homes[name].append(home)
+    return {name: found for name, found in sorted(homes.items()) if len(found) >= least}
+
+
+def type_names():
+    """The public types of the bridge's crates, with their homes."""
+    for crate in bridge_crates():
+        for path in sorted((CRATES / crate / "src").glob("**/*.rt")):
+            for name in re.findall(r"^pub (?:struct|enum|trait) (\w+)", path.read_text(), re.M):
+                yield name, crate
+
+
+def definition_names():
+    """The words of definitions, with their homes."""
+    for crate, path in definition_files():
+        for name in words_of(path.read_text().splitlines()):
+            yield name, f"{crate}/{path.stem}"
+
+
+def report_names():
+    """Prints which names have more homes than one meaning needs."""
+    for what, found in {"types with two homes": homes_of(type_names(), 2), "words with three homes": homes_of(definition_names(), 3)}.items():
+        print(f"{len(found)} {what} or more")
+        for name, homes in found.items():
+            print(f"       {name}: {', '.join(homes)}")
+
+
 def run(args):
     good = args.sources or check_documents()
     if not args.docs:
         print()
         report_sources()
+        report_names()
     return 0 if good else 1

@@ -71,14 +71,17 @@ def row_of(crate, path):
     return "| " + " | ".join(cell.replace("|", "\\|") for cell in (file, said, section, words)) + " |"
 
 
-def document():
-    """The text of the document."""
-    rows = []
+def definition_files():
+    """The files of definitions, with their crates."""
     for crate in bridge_crates():
         for path in sorted((CRATES / crate / "specs").glob("*.antt")):
             if path.stem not in ("Lib", "inner", "laws"):
-                rows.append(row_of(crate, path))
-    return HEAD + "\n".join(rows) + "\n"
+                yield crate, path
+
+
+def document():
+    """The text of the document."""
+    return HEAD + "\n".join(row_of(crate, path) for crate, path in definition_files()) + "\n"
 
 
 def run(_args):
