@@ -1,5 +1,5 @@
 //! Drives the core in one case, again and again, so that its time can be taken from outside, as
-//! tools/time_media.py does: `bench CASE TIMES SLOTS PACKETS`. Prints what came out, and no times.
+//! tools/bridge bench media does: `bench CASE TIMES SLOTS PACKETS`. Prints what came out, and no times.
 #![tactic(auto)]
 
 mod asking;
