@@ -20,11 +20,13 @@ PROGRAMS = {"confbridge", "codec_cases", "source_cases", "script_cases", "front_
 
 FN = re.compile(r"(?P<vis>pub(?:\(crate\))? |)(?:const )?fn (?P<name>\w+)\s*(?:<[^(]*>)?\(")
 IMPL = re.compile(r"^(?:impl|pub trait|trait)\b(?:<[^{]*?>)?\s*(?:[\w:]+(?:<[^{]*>)? for )?(?P<owner>\w+)[^{]*\{", re.M)
+ENUM = re.compile(r"enum (\w+)(?:<[^{;]*>)?\s*\{")
 STRUCT = re.compile(r"struct (\w+)(?:<[^{;]*>)?\s*\{([^}]*)\}")
 EXPORT = re.compile(r"pub use (?:self::)?\w+::(\w+|\{[^}]*\})")
-IGNORED = re.compile(r"//[^\n]*|^\s*ghost use [^\n]*|\"(?:[^\"\\]|\\.)*\"", re.M)
+IGNORED = re.compile(r"//[^\n]*|^\s*ghost use [^\n]*|\"(?:[^\"\\]|\\[\s\S])*\"", re.M)
 RESULT = re.compile(r"\s*(->[^{;]*?(?=\s(?:requires|ensures|ghost|where|decreases)\b|\s*[{;]))?")
 CLAUSE = re.compile(r"\s*(requires|ensures|ghost|decreases)\b[^{]*|\s*where[^{]*")
+VARIANT = re.compile(r"(\w+)::(\w+)\((?:mut )?(\w+)\)")
 LET = re.compile(r"let (?:mut )?((?:Ok|Some|Err)?\(?(?:mut )?\w+)\)? = ([^;{]*)")
 CALL = re.compile(r"([\w.]+\.|)(?:(\w+)(?:::<[^>(]*>)?::)?(\w+)(?:::<[^>(]*>)?\(")
 CHAINED = re.compile(r"(?:\)\??|\])\s*\.(\w+)\(")
@@ -101,6 +103,9 @@ class Sources:
                 self.exports[crate] |= set(re.findall(r"\w+", names))
         for name, inside in STRUCT.findall(text):
             self.fields[name].update(re.findall(r"(\w+): ([^\n]+)", inside))
+        for match in ENUM.finditer(text):
+            inside = text[match.end() : closing(text, match.end() - 1)]
+            self.fields[match[1]].update(re.findall(r"(\w+)\((\w[^)]*)\)", inside))
         spans = [(m.start(), closing(text, m.end() - 1), m["owner"]) for m in IMPL.finditer(text)]
         for match in FN.finditer(text):
             owner = next((owner for start, end, owner in spans if start < match.start() < end), None)
@@ -135,6 +140,9 @@ class Sources:
         """The types of a function's arguments and of what it binds."""
         known = {name: self.type_in(text) for name, text in re.findall(r"(\w+): ([^,)]+(?:<[^)]*>)?)", f.takes)}
         known["self"] = f.owner
+        for owner, variant, name in VARIANT.findall(f.body):
+            if variant in self.fields.get(owner, {}):
+                known[name] = self.type_in(self.fields[owner][variant])
         for names, value in LET.findall(f.body):
             self.bind(f, known, re.findall(r"\w+", names)[-1], value)
         return known
