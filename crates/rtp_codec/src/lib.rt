@@ -4,6 +4,7 @@
 mod address;
 mod class;
 mod fault;
+mod laws;
 mod reading;
 mod sequence;
 mod view;
@@ -12,6 +13,7 @@ mod writing;
 pub use self::address::Address;
 pub use self::class::{Class, classify};
 pub use self::fault::RtpFault;
+pub use self::laws::faultless_is_packet;
 pub use self::reading::read;
 pub use self::sequence::{seq_distance, seq_next};
 pub use self::view::RtpView;
