@@ -1,6 +1,7 @@
 pub mod ReasonLemmas
 pub mod WholeBodies
 pub mod Compounds
+pub mod Decided
 pub mod Descriptions
 pub mod FirstFaults
 pub mod Fitting

@@ -74,7 +74,7 @@ first_16 (a ∷ b ∷ rest) bytes long =
 first_16 (a ∷ []) bytes long = absurd (omega arith)
 first_16 [] bytes long = absurd (omega arith)
 
-first_32 : (octets : List ℕ) → IsBytes octets → 4 ≤ length octets → One (λ (n : ℕ). to_be_bytes w32 n) (λ n. n < 2 ^ 32) 4 octets
+pub first_32 : (octets : List ℕ) → IsBytes octets → 4 ≤ length octets → One (λ (n : ℕ). to_be_bytes w32 n) (λ n. n < 2 ^ 32) 4 octets
 first_32 (a ∷ b ∷ c ∷ d ∷ rest) bytes long =
     let front = a ∷ b ∷ c ∷ d ∷ [] in
     let n = from_be_bytes w32 front in
@@ -325,7 +325,7 @@ by_kind kinds.Other pt n body e small bytes words whole = (Other pt n body, reco
 some_body : (pt n : ℕ) (body : List ℕ) → pt < 256 → IsBytes body → length body % 4 ≡ 0 → IsWholeBody (kind_of pt n) n body → (p : Packet) × IsOf pt n body p
 some_body pt n body small bytes words whole = by_kind (kind_of pt n) pt n body refl small bytes words whole
 
-body_words : (first at_end : Bool) (octets packet body : List ℕ) → IsHead first octets → packet ≡ packet_at octets → IsGoodPadding at_end (padding_of packet) packet → body ≡ body_of packet → length body % 4 ≡ 0
+pub body_words : (first at_end : Bool) (octets packet body : List ℕ) → IsHead first octets → packet ≡ packet_at octets → IsGoodPadding at_end (padding_of packet) packet → body ≡ body_of packet → length body % 4 ≡ 0
 body_words first at_end octets packet body head at good body-is =
     let n = padding_of packet in
     let len : length packet ≡ size octets = omega (arith, ap length at, length-take (size octets) octets, head.whole) in

@@ -24,7 +24,7 @@ mod writing_reports;
 
 pub use self::description::{SdesChunk, SdesItem};
 pub use self::fault::{RtcpFault, WriteFault};
-pub use self::laws::numbers_have_words;
+pub use self::laws::{compound_or_fault, numbers_have_words};
 pub use self::nack::{Nack, NackWord, nack_numbers, nack_words};
 pub use self::naming::named;
 pub use self::packet::{App, Bye, Other, Pli, Rtcp};
