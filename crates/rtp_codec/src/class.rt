@@ -1,19 +1,20 @@
-//! Which datagrams are RTP and which RTCP, where both come to one port.
+//! RTP and RTCP on one port (RFC 5761 section 4).
 
 ghost use Rattle.std.specs.Prelude.{◌≡◌};
 ghost use Rattle.rtp_codec.specs.Class.{class_of};
 
-/// What a datagram is by its first two octets.
+/// What a datagram is, judged by its first two octets.
 #[derive(Clone, Copy, PartialEq, Eq)]
 pub enum Class {
     Rtp,
     Rtcp,
+    /// Under two octets, or another version than 2.
     Neither,
 }
 
-/// What a datagram is by its first two octets (RFC 5761 section 4).
+/// Tells RTP from RTCP by the first two octets of a datagram (RFC 5761 section 4).
 ///
-/// A packet with the marker and payload type 64 to 95 counts as RTCP.
+/// Packet types 192 to 223 are RTCP. So an RTP packet with the marker and payload type 64 to 95 counts as RTCP.
 pub fn classify(octets: &[u8]) -> Class
     ensures { result ≡ class_of octets.now }
 {

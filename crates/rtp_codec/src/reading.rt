@@ -1,7 +1,9 @@
 //! Reading RTP packets.
 
-ghost use Rattle.std.specs.Prelude.{◌≡◌, ℕ, ◌++◌, true, false, List, length, drop, slice_index, is_some, nat_lt, IfOk, IfSome, IsOkAnd, MatchOption, MatchResult, Some, None};
-ghost use Rattle.rtp_codec.specs.Packet.{Packet, IsPacket, IsPadding, FitsHeader, FitsExtension, second_octet, number_fields, extension_octets};
+ghost use Rattle.std.specs.Prelude.{◌≡◌, ℕ, ◌++◌, true, false, List, length, drop, slice_index, is_some, nat_lt, IfOk};
+ghost use Rattle.std.specs.Prelude.{IfSome, IsOkAnd, MatchOption, MatchResult, Some, None};
+ghost use Rattle.rtp_codec.specs.Packet.{Packet, IsPacket, IsPadding, FitsHeader, FitsExtension, second_octet};
+ghost use Rattle.rtp_codec.specs.Packet.{number_fields, extension_octets};
 ghost use Rattle.rtp_codec.specs.Fault.{first_fault, lacks_extension, behind_extension, lacks_padding};
 ghost use Rattle.rtp_codec.specs.View.{packet_of, extension_of};
 
@@ -9,7 +11,7 @@ use crate::fault::RtpFault;
 use crate::view::RtpView;
 use crate::writing::Header;
 
-/// The header in the twelve octets that a packet begins with, but for the fields of the first:
+/// The fields of the fixed header, but for those of its first octet:
 ///
 /// ```text
 ///  0                   1                   2                   3
@@ -38,7 +40,7 @@ fn header_of(fixed: &[u8]) -> Header
     }
 }
 
-/// The header extension, where one is due, and what follows it:
+/// The header extension, if the packet has one, and the octets behind it:
 ///
 /// ```text
 ///  0                   1                   2                   3
@@ -49,7 +51,8 @@ fn header_of(fixed: &[u8]) -> Header
 /// |                             words                             |
 /// ```
 fn split_extension(extended: bool, octets: &[u8]) -> Option<(Option<(u16, &[u8])>, &[u8])>
-    ensures lacks { MatchOption result (lacks_extension extended octets.now ≡ true) (λ r. lacks_extension extended octets.now ≡ false) }
+    ensures lacks { MatchOption result (lacks_extension extended octets.now ≡ true)
+        (λ r. lacks_extension extended octets.now ≡ false) }
     ensures parts { IfSome result (λ r. octets.now ≡ extension_octets (extension_of r.0) ++ r.1.now) }
     ensures behind { IfSome result (λ r. r.1.now ≡ behind_extension extended octets.now) }
     ensures extended { IfSome result (λ r. is_some (extension_of r.0) ≡ extended) }
@@ -72,10 +75,12 @@ fn split_extension(extended: bool, octets: &[u8]) -> Option<(Option<(u16, &[u8])
     Some((Some((profile, words)), rest))
 }
 
-/// The payload, and the number of octets of padding behind it, where padding is due.
+/// The payload, and the number of octets of padding behind it.
 fn split_padding(padded: bool, octets: &[u8]) -> Option<(&[u8], u8)>
-    ensures lacks { MatchOption result (lacks_padding padded octets.now ≡ true) (λ r. lacks_padding padded octets.now ≡ false) }
-    ensures parts { IfSome result (λ r. (padding : List ℕ) × IsPadding r.1 padding × (octets.now ≡ r.0.now ++ padding)) }
+    ensures lacks { MatchOption result (lacks_padding padded octets.now ≡ true)
+        (λ r. lacks_padding padded octets.now ≡ false) }
+    ensures parts { IfSome result
+        (λ r. (padding : List ℕ) × IsPadding r.1 padding × (octets.now ≡ r.0.now ++ padding)) }
     ensures padded { IfSome result (λ r. nat_lt 0 r.1 ≡ padded) }
 {
     if !padded {
@@ -90,7 +95,7 @@ fn split_padding(padded: bool, octets: &[u8]) -> Option<(&[u8], u8)>
     Some((payload, count))
 }
 
-/// The packet that the datagram holds, or the first fault.
+/// The packet of a datagram, or the datagram's first fault.
 #[tactic(auto, unfolding(crate::specs::Fault::first_fault))]
 fn parse(octets: &[u8]) -> Result<RtpView<'_>, RtpFault>
     ensures found { IfOk result (λ v. IsPacket (packet_of v) octets.now) }
@@ -129,13 +134,15 @@ fn parse(octets: &[u8]) -> Result<RtpView<'_>, RtpFault>
     })
 }
 
-/// The packet that the datagram holds (RFC 3550 section 5.1). An empty payload is accepted.
+/// Reads the RTP packet of a datagram (RFC 3550 section 5.1), without copying.
+///
+/// An empty payload is accepted. A datagram that is no packet gives its first fault, in the order of [`RtpFault`].
 pub fn read(octets: &[u8]) -> Result<RtpView<'_>, RtpFault>
-    // What is read is spelled so, octet by octet.
+    // The octets are those of this packet.
     ensures found { IfOk result (λ v. IsPacket (packet_of v) octets.now) }
-    // What is a packet is read, as this packet and no other.
+    // Each packet is read, as itself and as no other.
     ensures only { (p : Packet) → IsPacket p octets.now → IsOkAnd result (λ v. packet_of v ≡ p) }
-    // A fault is told where its case is the first that holds.
+    // The fault is the first that holds.
     ensures fault { MatchResult result (λ v. first_fault octets.now ≡ None) (λ f. first_fault octets.now ≡ Some f) }
 {
     parse(octets)

@@ -1,15 +1,18 @@
 //! Writing RTP packets.
 
-ghost use Rattle.std.specs.Prelude.{◌≡◌, ℕ, List, ◌+◌, ◌*◌, ◌<◌, ◌≤◌, ◌++◌, length, false, OnOk, OnErr, vec_len, vec_capacity};
-ghost use Rattle.rtp_codec.specs.Packet.{written, fixed_header, plain, IsPacket, FitsHeader, number_octets, size, most_pt, most_csrcs};
+ghost use Rattle.std.specs.Prelude.{◌≡◌, ℕ, List, ◌+◌, ◌*◌, ◌<◌, ◌≤◌, ◌++◌, length, false, OnOk, OnErr, vec_len};
+ghost use Rattle.std.specs.Prelude.{vec_capacity};
+ghost use Rattle.rtp_codec.specs.Packet.{written, fixed_header, plain, IsPacket, FitsHeader, number_octets, size};
+ghost use Rattle.rtp_codec.specs.Packet.{most_pt, most_csrcs};
 ghost use Rattle.rtp_codec.specs.declared.writing.Header.{Header};
 
 use std::alloc::{AllocError, Allocator};
 
-/// The fixed part of an RTP packet's header (RFC 3550 section 5.1), but for the counts that
+/// The fixed header of an RTP packet (RFC 3550 section 5.1). The version, the counts and the flags of its first octet
 /// follow from the packet.
 #[derive(Clone, Copy, PartialEq, Eq)]
 pub struct Header {
+    /// The marker bit. For video it ends a frame.
     pub marker: bool,
     /// The payload type, at most 127.
     pub pt: u8,
@@ -21,7 +24,7 @@ pub struct Header {
     pub ssrc: u32,
 }
 
-/// The octets of the fixed header of a packet with this many contributing sources:
+/// The octets of the fixed header, without padding and extension:
 ///
 /// ```text
 ///  0                   1                   2                   3
@@ -85,10 +88,10 @@ fn append_numbers<A: Allocator>(numbers: &[u32], out: &mut Vec<u8, A>)
     }
 }
 
-/// Appends the packet with these contributing sources and this payload, without padding and
-/// without a header extension (RFC 3550 section 5.1).
+/// Appends an RTP packet to `out` (RFC 3550 section 5.1), without padding and header extension.
 ///
-/// Where memory runs out, `out` stays as it was.
+/// A packet has at most 15 contributing sources, and a payload type of at most 127. On out of memory `out` stays as it
+/// was. If `out` has the capacity, `write` succeeds.
 pub fn write<A: Allocator>(
     header: &Header,
     csrcs: &[u32],
@@ -98,10 +101,11 @@ pub fn write<A: Allocator>(
     requires pt { header.now.pt ≤ most_pt }
     requires csrcs { length csrcs.now ≤ most_csrcs }
     ensures ok { OnOk result (out.new.items ≡ out.old.items ++ written header.now csrcs.now payload.now) }
-    // What was appended is the packet of these parts, so it reads back as them.
-    ensures reads { OnOk result (IsPacket (plain header.now csrcs.now payload.now) (written header.now csrcs.now payload.now)) }
+    // It reads back as these parts.
+    ensures reads { OnOk result
+        (IsPacket (plain header.now csrcs.now payload.now) (written header.now csrcs.now payload.now)) }
     ensures err { OnErr result (out.new.items ≡ out.old.items) }
-    // Memory is wanted only where the packet has no room.
+    // Only a packet that exceeds the capacity takes memory.
     ensures full { OnErr result (vec_capacity out.old < vec_len out.old + size csrcs.now payload.now) }
 {
     let octets = 12 + 4 * csrcs.len() + payload.len();
@@ -112,8 +116,8 @@ pub fn write<A: Allocator>(
     Ok(())
 }
 
-/// The written form of parts that fit their fields is the packet of these parts, so `read` reads
-/// it as them: for who knows a packet and not how it was written.
+/// A law: [`read`] reads a written packet back as its parts. A caller that knows only the octets uses it.
 pub fn written_is_packet()
-    ensures { (header : Header) (csrcs payload : List ℕ) → FitsHeader header → length csrcs ≤ most_csrcs → IsPacket (plain header csrcs payload) (written header csrcs payload) }
+    ensures { (header : Header) (csrcs payload : List ℕ) → FitsHeader header → length csrcs ≤ most_csrcs
+        → IsPacket (plain header csrcs payload) (written header csrcs payload) }
 {}
