@@ -1,6 +1,7 @@
-//! Appending octets where there is room for them.
+//! Appends octets to a buffer that has the capacity for them.
 
-ghost use Rattle.std.specs.Prelude.{◌≡◌, ◌+◌, ◌-◌, ◌%◌, ◌<◌, ◌≤◌, ◌++◌, length, replicate, slice_set, vec_len, vec_capacity};
+ghost use Rattle.std.specs.Prelude.{◌≡◌, ◌+◌, ◌-◌, ◌%◌, ◌<◌, ◌≤◌, ◌++◌, length, replicate, slice_set, vec_len};
+ghost use Rattle.std.specs.Prelude.{vec_capacity};
 
 use std::alloc::Allocator;
 
@@ -15,7 +16,7 @@ pub(crate) fn append<A: Allocator>(octets: &[u8], out: &mut Vec<u8, A>)
     let _ = out.extend_from_slice(octets);
 }
 
-/// Appends nulls to the next boundary of 32 bits behind so many octets. There is room for them.
+/// Appends nulls up to the next 32-bit boundary behind `size` octets. There is room for them.
 pub(crate) fn append_fill<A: Allocator>(size: usize, out: &mut Vec<u8, A>)
     requires { vec_len out.old + (4 - size % 4) % 4 ≤ vec_capacity out.old }
     ensures items { out.new.items ≡ out.old.items ++ replicate ((4 - size % 4) % 4) 0 }

@@ -1,4 +1,4 @@
-//! Reading the bodies of packets.
+//! Reads the bodies of packets.
 
 ghost use Rattle.std.specs.Prelude.{◌≡◌, ◌+◌, ◌*◌, ◌%◌, ◌^◌, ◌<◌, ◌≤◌, ◌++◌, [], ◌∷◌, length, IfOk, IfSome, IfNone};
 ghost use Rattle.std.specs.List.{flat_map, AllByRecursion};
@@ -19,7 +19,7 @@ use crate::reading_descriptions::chunks_from;
 use crate::reading_reports::{receiver_from, sender_from};
 use std::alloc::{AllocError, Allocator};
 
-/// So many sources at the front, and what follows them.
+/// `count` sources at the front, and the octets behind them.
 fn ssrcs_from<A: Allocator>(
     alloc: A,
     count: u8,
@@ -40,7 +40,7 @@ fn ssrcs_from<A: Allocator>(
     Ok((ssrcs, rest))
 }
 
-/// The reason for leaving at the front, if there is any octet.
+/// The reason for leaving at the front. No octet is no reason.
 fn reason_from<A: Allocator>(alloc: A, octets: &[u8]) -> Result<Option<Vec<u8, A>>, AllocError>
     requires { IsWholeReason octets.now }
     ensures none { IfOk result (λ r. IfNone r (octets.now ≡ [])) }
@@ -145,7 +145,7 @@ fn sdes_from<A: Allocator + Copy>(alloc: A, count: u8, body: &[u8]) -> Result<Rt
     Ok(Rtcp::Sdes(chunks_from(alloc, count, body)?))
 }
 
-/// The packet of this type and count, or format, in this body, which is whole.
+/// The packet of this type and count (or format) in this whole body.
 pub(crate) fn packet_from<A: Allocator + Copy>(
     alloc: A,
     pt: u8,

@@ -1,6 +1,7 @@
-//! What can be written.
+//! Checks what can be written, and counts its octets.
 
-ghost use Rattle.std.specs.Prelude.{◌≡◌, ◌≢◌, ◌+◌, ◌*◌, ◌%◌, ◌≤◌, ◌⊎◌, true, false, IfSome, IfNone, IfOk, IfErr, length, map};
+ghost use Rattle.std.specs.Prelude.{◌≡◌, ◌≢◌, ◌+◌, ◌*◌, ◌%◌, ◌≤◌, ◌⊎◌, true, false, IfSome, IfNone, IfOk, IfErr};
+ghost use Rattle.std.specs.Prelude.{length, map};
 ghost use Rattle.std.specs.Option.{option_map};
 ghost use Rattle.rtcp_codec.specs.declared.fault.WriteFault.TheVariants as write_faults;
 ghost use Rattle.std.specs.List.{flat_map, AllByRecursion};
@@ -9,7 +10,8 @@ ghost use Rattle.rtcp_codec.specs.Description.{item_octets, chunk_octets, filled
 ghost use Rattle.rtcp_codec.specs.Packet.{fields, reason_octets, CountFits, PartsFit, MeaningFits};
 ghost use Rattle.rtcp_codec.specs.Report.{FitsLost};
 ghost use Rattle.rtcp_codec.specs.View.{item_of, chunk_of, packet_of, packets_of};
-ghost use Rattle.rtcp_codec.specs.WriteFault.{most_octets, LengthFits, IsWritable, AreWritable, IsFirstFault, HasWriteFault};
+ghost use Rattle.rtcp_codec.specs.WriteFault.{most_octets, LengthFits, IsWritable, AreWritable, IsFirstFault};
+ghost use Rattle.rtcp_codec.specs.WriteFault.{HasWriteFault};
 
 use crate::description::{SdesChunk, SdesItem};
 use crate::fault::WriteFault;
@@ -18,23 +20,21 @@ use crate::packet::{App, Rtcp};
 use crate::report::ReportBlock;
 use std::alloc::Allocator;
 
-/// The largest count that the five bits of the common header tell.
+/// The largest count of the common header, which has five bits for it.
 const MOST_COUNT: usize = 31;
 
-/// The longest text or reason whose length one octet tells.
+/// The longest text or reason, whose length is one octet.
 const MOST_TEXT: usize = 255;
 
-/// The most octets that the body of a packet has: the length of a packet in words, but for the
-/// header's one, has 16 bits.
+/// The most octets of a body. The length field has 16 bits, and counts the words behind the common header.
 const MOST_OCTETS: usize = 4 * 65535;
 
-/// The least and the most packets lost that 24 bits tell.
+/// The least and the greatest loss that fit 24 bits.
 const LEAST_LOST: i32 = -8_388_608;
 
 const MOST_LOST: i32 = 8_388_607;
 
-/// Whether a count can be told: at most 31 blocks, chunks or sources, a subtype or count of at
-/// most 31, some words of a NACK.
+/// Whether a packet's count fits its field: at most 31, and at least one word of a NACK.
 fn has_count<A: Allocator>(packet: &Rtcp<A>) -> bool
     ensures good { result ≡ true → CountFits (packet_of packet.now) }
     ensures bad { result ≡ false → ¬ CountFits (packet_of packet.now) }
@@ -51,11 +51,12 @@ fn has_count<A: Allocator>(packet: &Rtcp<A>) -> bool
     }
 }
 
-/// How many octets items have, unless a text is over 255 octets or they are too many.
+/// The octets of items. `None` if a text is over 255 octets, or there are too many.
 fn items_size<A: Allocator>(items: &[SdesItem<A>]) -> Option<usize>
     ensures size { IfSome result (λ n. n ≡ length (flat_map item_octets (map item_of items.now))) }
     ensures texts { IfSome result (λ n. TextsFit (map item_of items.now)) }
-    ensures none { IfNone result (¬ (TextsFit (map item_of items.now) × (length (flat_map item_octets (map item_of items.now)) ≤ most_octets))) }
+    ensures none { IfNone result (¬ (TextsFit (map item_of items.now)
+        × (length (flat_map item_octets (map item_of items.now)) ≤ most_octets))) }
     ensures most { IfSome result (λ n. n ≤ most_octets) }
 {
     let mut size = 0;
@@ -69,23 +70,24 @@ fn items_size<A: Allocator>(items: &[SdesItem<A>]) -> Option<usize>
     Some(size)
 }
 
-/// How many octets a chunk has with its fill, unless a text is over 255 octets or they are too
-/// many.
+/// The octets of a chunk with its fill. `None` if a text is over 255 octets, or there are too many.
 fn chunk_size<A: Allocator>(chunk: &SdesChunk<A>) -> Option<usize>
     ensures size { IfSome result (λ n. n ≡ length (filled (chunk_octets (chunk_of chunk.now)))) }
     ensures texts { IfSome result (λ n. TextsFit (chunk_of chunk.now).items) }
-    ensures none { IfNone result (¬ (TextsFit (chunk_of chunk.now).items × (length (filled (chunk_octets (chunk_of chunk.now))) ≤ most_octets))) }
+    ensures none { IfNone result (¬ (TextsFit (chunk_of chunk.now).items
+        × (length (filled (chunk_octets (chunk_of chunk.now))) ≤ most_octets))) }
     ensures most { IfSome result (λ n. n ≤ most_octets + 8) }
 {
     let size = items_size(&chunk.items)?;
     Some((4 + size + 1 + 3) / 4 * 4)
 }
 
-/// How many octets chunks have, unless a text is over 255 octets or they are too many.
+/// The octets of chunks. `None` if a text is over 255 octets, or there are too many.
 fn chunks_size<A: Allocator>(chunks: &[SdesChunk<A>]) -> Option<usize>
     ensures size { IfSome result (λ n. n ≡ length (flat_map (λ c. filled (chunk_octets c)) (map chunk_of chunks.now))) }
     ensures texts { IfSome result (λ n. AllByRecursion (λ c. TextsFit c.items) (map chunk_of chunks.now)) }
-    ensures none { IfNone result (¬ (AllByRecursion (λ c. TextsFit c.items) (map chunk_of chunks.now) × (length (flat_map (λ c. filled (chunk_octets c)) (map chunk_of chunks.now)) ≤ most_octets))) }
+    ensures none { IfNone result (¬ (AllByRecursion (λ c. TextsFit c.items) (map chunk_of chunks.now)
+        × (length (flat_map (λ c. filled (chunk_octets c)) (map chunk_of chunks.now)) ≤ most_octets))) }
     ensures most { IfSome result (λ n. n ≤ most_octets) }
 {
     let mut size = 0;
@@ -99,10 +101,11 @@ fn chunks_size<A: Allocator>(chunks: &[SdesChunk<A>]) -> Option<usize>
     Some(size)
 }
 
-/// How many octets a reason has with its length, unless it is over 255 octets.
+/// The octets of a reason with its length. `None` if it is over 255 octets.
 fn reason_size<A: Allocator>(reason: &Option<Vec<u8, A>>) -> Option<usize>
     ensures size { IfSome result (λ n. n ≡ length (reason_octets (option_map (λ v. v.items) reason.now))) }
-    ensures text { IfSome result (λ n. IfSome (option_map (λ v. v.items) reason.now) (λ text. length text ≤ most_text)) }
+    ensures text { IfSome result
+        (λ n. IfSome (option_map (λ v. v.items) reason.now) (λ text. length text ≤ most_text)) }
     ensures none { IfNone result (¬ (IfSome (option_map (λ v. v.items) reason.now) (λ text. length text ≤ most_text))) }
     ensures most { IfSome result (λ n. n ≤ 1 + most_text) }
 {
@@ -113,14 +116,15 @@ fn reason_size<A: Allocator>(reason: &Option<Vec<u8, A>>) -> Option<usize>
     }
 }
 
-/// How many octets the fields of a packet have, unless a text or reason is over 255 octets, a
-/// content or body isn't whole words, or they are too many.
+/// The octets of a packet's fields. `None` if a text or reason is over 255 octets, a content or body isn't whole
+/// words, or there are too many.
 #[tactic(auto, using(crate::proofs::Lists::blocks_length, crate::proofs::Lists::words_length, crate::proofs::Lists::numbers_length))]
 fn fields_size<A: Allocator>(packet: &Rtcp<A>) -> Option<usize>
     requires { CountFits (packet_of packet.now) }
     ensures size { IfSome result (λ n. n ≡ length (fields (packet_of packet.now))) }
     ensures parts { IfSome result (λ n. PartsFit (packet_of packet.now)) }
-    ensures none { IfNone result (¬ (PartsFit (packet_of packet.now) × (length (fields (packet_of packet.now)) ≤ most_octets))) }
+    ensures none { IfNone result (¬ (PartsFit (packet_of packet.now)
+        × (length (fields (packet_of packet.now)) ≤ most_octets))) }
     ensures most { IfSome result (λ n. n ≤ most_octets) }
 {
     match packet {
@@ -145,18 +149,18 @@ fn fields_size<A: Allocator>(packet: &Rtcp<A>) -> Option<usize>
     }
 }
 
-/// How many octets the fields of an application's packet have, unless its content isn't whole
-/// words or is too long.
+/// The octets of an application's packet. `None` if its content isn't whole words or is too long.
 fn app_size<A: Allocator>(app: &App<A>) -> Option<usize>
     ensures size { IfSome result (λ n. n ≡ 4 + (length app.now.name + length app.now.content.items)) }
     ensures whole { IfSome result (λ n. length app.now.content.items % 4 ≡ 0) }
-    ensures none { IfNone result (¬ ((length app.now.content.items % 4 ≡ 0) × (4 + (length app.now.name + length app.now.content.items) ≤ most_octets))) }
+    ensures none { IfNone result (¬ ((length app.now.content.items % 4 ≡ 0)
+        × (4 + (length app.now.name + length app.now.content.items) ≤ most_octets))) }
     ensures most { IfSome result (λ n. n ≤ most_octets) }
 {
     whole_words(4 + app.name.len(), &app.content)
 }
 
-/// How many octets there are behind so many, unless they aren't whole words or are too many.
+/// `before` and the number of these octets together. `None` if these aren't whole words, or there are too many.
 fn whole_words(before: usize, octets: &[u8]) -> Option<usize>
     requires { before ≤ 8 }
     ensures size { IfSome result (λ n. n ≡ before + length octets.now) }
@@ -172,7 +176,7 @@ fn whole_words(before: usize, octets: &[u8]) -> Option<usize>
     }
 }
 
-/// How many octets the written body has, with its fill.
+/// The octets of the written body, with its fill.
 fn body_size<A: Allocator>(packet: &Rtcp<A>) -> Option<usize>
     requires { CountFits (packet_of packet.now) }
     ensures size { IfSome result (λ n. n ≡ length (filled (fields (packet_of packet.now)))) }
@@ -228,8 +232,8 @@ fn has_chunks<A: Allocator>(chunks: &[SdesChunk<A>]) -> bool
     true
 }
 
-/// Whether each value reads back as it is: losses of 24 bits, items that aren't of type 0, an
-/// `Other` that is of no other kind.
+/// Whether each value reads back as it is: losses fit 24 bits, no item has type 0, and an `Other` is of no other
+/// kind.
 fn has_meaning<A: Allocator>(packet: &Rtcp<A>) -> bool
     ensures good { result ≡ true → MeaningFits (packet_of packet.now) }
     ensures bad { result ≡ false → ¬ (MeaningFits (packet_of packet.now)) }
@@ -243,7 +247,7 @@ fn has_meaning<A: Allocator>(packet: &Rtcp<A>) -> bool
     }
 }
 
-/// How many octets the body of the written packet has, or the packet's first fault.
+/// The octets of the written packet's body, or the packet's first fault.
 fn packet_size<A: Allocator>(packet: &Rtcp<A>) -> Result<usize, WriteFault>
     ensures writable { IfOk result (λ n. IsWritable (packet_of packet.now)) }
     ensures size { IfOk result (λ n. n ≡ length (filled (fields (packet_of packet.now)))) }
@@ -263,7 +267,7 @@ fn packet_size<A: Allocator>(packet: &Rtcp<A>) -> Result<usize, WriteFault>
     Ok(size)
 }
 
-/// Whether a compound may begin so.
+/// Whether a compound may begin with this packet.
 fn begins_with_report<A: Allocator>(packets: &[Rtcp<A>]) -> bool
     ensures good { result ≡ true → BeginsWithReport (packets_of packets.now) }
     ensures bad { result ≡ false → ¬ BeginsWithReport (packets_of packets.now) }
@@ -274,8 +278,7 @@ fn begins_with_report<A: Allocator>(packets: &[Rtcp<A>]) -> bool
     }
 }
 
-/// How many octets the written packets have, which may be more than a `usize` counts, or the first
-/// fault.
+/// The octets of the written packets, which may exceed a `usize`, or the first fault.
 pub(crate) fn compound_size<A: Allocator>(packets: &[Rtcp<A>]) -> Result<u128, WriteFault>
     ensures writable { IfOk result (λ n. AreWritable (packets_of packets.now)) }
     ensures size { IfOk result (λ n. n ≡ length (written (packets_of packets.now))) }

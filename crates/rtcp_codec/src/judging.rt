@@ -1,16 +1,18 @@
-//! Judging octets: whether they are a compound, or their first fault. It takes no memory.
+//! Judges octets: they are a compound, or have a first fault. It takes no memory.
 
-ghost use Rattle.std.specs.Prelude.{◌≡◌, ◌+◌, ◌≤◌, ◌%◌, ◌<◌, ◌++◌, ◌↔◌, ◌⊎◌, true, false, List, length, IsTrue, IfOk, IfErr};
+ghost use Rattle.std.specs.Prelude.{◌≡◌, ◌+◌, ◌≤◌, ◌%◌, ◌<◌, ◌++◌, ◌↔◌, ◌⊎◌, true, false, List, length, IsTrue, IfOk};
+ghost use Rattle.std.specs.Prelude.{IfErr};
 ghost use Rattle.rtcp_codec.specs.Kind.{kind_of};
 ghost use Rattle.rtcp_codec.specs.Packet.{Packet};
-ghost use Rattle.rtcp_codec.specs.Compound.{size, packet_at, padding_of, body_of, is_padded, IsReport, IsBadPadding, IsFirstOf, in_order, IsWholeReason, IsWholeBody, IsCompound, HasFault};
+ghost use Rattle.rtcp_codec.specs.Compound.{size, packet_at, padding_of, body_of, is_padded, IsReport, IsBadPadding};
+ghost use Rattle.rtcp_codec.specs.Compound.{IsFirstOf, in_order, IsWholeReason, IsWholeBody, IsCompound, HasFault};
 ghost use Rattle.rtcp_codec.specs.inner.Reading.{IsHead, IsGoodPadding, Takes};
 
 use crate::fault::RtcpFault;
 use crate::judging_descriptions::has_chunks;
 use crate::kind::{Kind, kind_of};
 
-/// How many octets the packet that begins here has, by its length field.
+/// The octets of the packet at the front, by its length field.
 pub(crate) fn size_at(octets: &[u8]) -> usize
     requires { 4 ≤ length octets.now }
     ensures { result ≡ size octets.now }
@@ -18,7 +20,7 @@ pub(crate) fn size_at(octets: &[u8]) -> usize
     4 * (usize::from(u16::from_be_bytes([octets[2], octets[3]])) + 1)
 }
 
-/// How many octets of padding end a packet, by its last octet where P is set.
+/// The octets of padding at the end of a packet. If P is set, the last octet counts them.
 fn padding_at(packet: &[u8]) -> usize
     requires { 4 ≤ length packet.now }
     ensures value { result ≡ padding_of packet.now }
@@ -31,7 +33,7 @@ fn padding_at(packet: &[u8]) -> usize
     }
 }
 
-/// What follows a packet's common header, without the padding.
+/// The octets behind a packet's common header, without padding.
 pub(crate) fn body_at(packet: &[u8]) -> &[u8]
     requires { 4 + padding_of packet.now ≤ length packet.now }
     ensures { result.now ≡ body_of packet.now }
@@ -49,7 +51,7 @@ fn is_report(pt: u8, count: u8) -> bool
     }
 }
 
-/// The packet at the front, up to where its length says, and what follows it. The common header:
+/// The packet at the front, by its length field, and the octets behind it. The common header:
 ///
 /// ```text
 ///  0                   1                   2                   3
@@ -84,11 +86,12 @@ fn split_packet(first: bool, octets: &[u8]) -> Result<(&[u8], &[u8]), RtcpFault>
     Ok(octets.split_at(size))
 }
 
-/// Whether the padding of a packet may be: none, or on the last packet some whole words that
-/// follow the common header.
+/// Whether a packet may have its padding: only the last packet has any, and then whole words behind the common
+/// header.
 fn has_good_padding(last: bool, packet: &[u8]) -> bool
     requires { 4 ≤ length packet.now }
-    ensures bad { result ≡ false → (is_padded packet.now ≡ true) × ((last ≡ false) ⊎ IsBadPadding (padding_of packet.now) packet.now) }
+    ensures bad { result ≡ false
+        → (is_padded packet.now ≡ true) × ((last ≡ false) ⊎ IsBadPadding (padding_of packet.now) packet.now) }
     ensures good { result ≡ true → IsGoodPadding last (padding_of packet.now) packet.now }
 {
     if packet[0] / 32 % 2 != 1 {

@@ -1,8 +1,10 @@
-//! Judging source descriptions.
+//! Judges source descriptions.
 
-ghost use Rattle.std.specs.Prelude.{◌≡◌, ℕ, ◌%◌, ◌<◌, ◌++◌, ◌∷◌, true, false, List, length, slice_index, IfSome, IfNone};
+ghost use Rattle.std.specs.Prelude.{◌≡◌, ℕ, ◌%◌, ◌<◌, ◌++◌, ◌∷◌, true, false, List, length, slice_index, IfSome};
+ghost use Rattle.std.specs.Prelude.{IfNone};
 ghost use Rattle.std.specs.List.{flat_map, AllByRecursion};
-ghost use Rattle.rtcp_codec.specs.Description.{Item, Chunk, item_octets, chunk_octets, IsFill, FitsItem, FitsChunk, HasChunks};
+ghost use Rattle.rtcp_codec.specs.Description.{Item, Chunk, item_octets, chunk_octets, IsFill, FitsItem, FitsChunk};
+ghost use Rattle.rtcp_codec.specs.Description.{HasChunks};
 ghost use Rattle.rtcp_codec.specs.inner.Reading.{HasItems, HasChunk};
 
 use crate::fields::u32_from;
@@ -26,7 +28,9 @@ fn behind_item(octets: &[u8]) -> Option<&[u8]>
 
 /// What follows the items and the null that ends them, if they are whole.
 fn behind_items(octets: &[u8]) -> Option<&[u8]>
-    ensures some { IfSome result (λ rest. (items : List Item) × AllByRecursion FitsItem items × (octets.now ≡ flat_map item_octets items ++ 0 ∷ rest.now)) }
+    ensures some { IfSome result
+        (λ rest. (items : List Item) × AllByRecursion FitsItem items
+        × (octets.now ≡ flat_map item_octets items ++ 0 ∷ rest.now)) }
     ensures none { IfNone result (¬ HasItems octets.now) }
 {
     let mut rest = octets;
@@ -41,7 +45,9 @@ fn behind_items(octets: &[u8]) -> Option<&[u8]>
 /// What follows the chunk at the front and its fill, if it is whole.
 fn behind_chunk(octets: &[u8]) -> Option<&[u8]>
     requires { length octets.now % 4 ≡ 0 }
-    ensures some { IfSome result (λ rest. (c : Chunk) × (fill : List ℕ) × FitsChunk c × IsFill (length (chunk_octets c)) fill × (octets.now ≡ chunk_octets c ++ (fill ++ rest.now))) }
+    ensures some { IfSome result
+        (λ rest. (c : Chunk) × (fill : List ℕ) × FitsChunk c × IsFill (length (chunk_octets c)) fill
+        × (octets.now ≡ chunk_octets c ++ (fill ++ rest.now))) }
     ensures words { IfSome result (λ rest. length rest.now % 4 ≡ 0) }
     ensures none { IfNone result (¬ HasChunk octets.now) }
 {
@@ -55,7 +61,7 @@ fn behind_chunk(octets: &[u8]) -> Option<&[u8]>
     Some(rest)
 }
 
-/// Whether so many chunks stand at the front, each whole.
+/// Whether `count` whole chunks stand at the front.
 pub(crate) fn has_chunks(count: u8, octets: &[u8]) -> bool
     requires { length octets.now % 4 ≡ 0 }
     ensures good { result ≡ true → HasChunks count octets.now }

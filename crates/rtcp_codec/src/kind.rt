@@ -1,9 +1,9 @@
-//! Which packet a type and a count stand for.
+//! The kinds of RTCP packets, by packet type and count.
 
 ghost use Rattle.std.specs.Prelude.{◌≡◌};
 ghost use Rattle.rtcp_codec.specs.Kind.{kind_of};
 
-/// The packet types.
+/// The packet types (RFC 3550 section 12.1, RFC 4585 section 6.1).
 pub(crate) const SR: u8 = 200;
 
 pub(crate) const RR: u8 = 201;
@@ -18,12 +18,12 @@ pub(crate) const RTPFB: u8 = 205;
 
 pub(crate) const PSFB: u8 = 206;
 
-/// The format of a generic NACK, and that of a picture loss indication.
+/// The formats of a generic NACK and of a picture loss indication (RFC 4585 sections 6.2.1 and 6.3.1).
 pub(crate) const NACK_FORMAT: u8 = 1;
 
 pub(crate) const PLI_FORMAT: u8 = 1;
 
-/// The kinds of RTCP packets that have a variant of their own, and all others.
+/// The kinds of RTCP packets with a variant of their own, and all others.
 #[derive(Clone, Copy, PartialEq, Eq)]
 pub(crate) enum Kind {
     Sender,
@@ -36,7 +36,7 @@ pub(crate) enum Kind {
     Other,
 }
 
-/// The kind of a packet with this type and this count, which is the format of a feedback packet.
+/// The kind of a packet with this type and count. The count of a feedback packet is its format.
 pub(crate) fn kind_of(pt: u8, count: u8) -> Kind
     ensures { result ≡ kind_of pt count }
 {

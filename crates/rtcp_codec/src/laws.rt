@@ -15,7 +15,8 @@ pub fn compound_or_fault()
         → ((ps : List Packet) × IsCompound ps octets) ⊎ ((f : Fault) × HasFault f octets) }
 {}
 
-/// Any sequence numbers have words that name them in order, each as many as it can.
+/// Each list of sequence numbers has words that name it in order, each word as many numbers as it can.
 pub fn numbers_have_words()
-    ensures { (numbers : List ℕ) → AllByRecursion (λ n. n < 2 ^ 16) numbers → (words : List NackWord) × IsPacking numbers words }
+    ensures { (numbers : List ℕ) → AllByRecursion (λ n. n < 2 ^ 16) numbers
+        → (words : List NackWord) × IsPacking numbers words }
 {}

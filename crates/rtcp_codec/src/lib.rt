@@ -1,4 +1,17 @@
 //! RTCP compounds and generic NACKs (RFC 3550 section 6, RFC 4585 section 6).
+//!
+//! Begin with [`read_compound`] and [`write_compound`]. [`nack_words`] packs sequence numbers into the words of a NACK,
+//! and [`nack_numbers`] unpacks a word. A contract sees an [`Rtcp`] as a packet of the grammar (specs/Packet.antt), and
+//! a compound as the list of its packets. What is written reads back as the same packets.
+//!
+//! ```rust
+//! // A receiver report of source 9 without blocks.
+//! let packets = read_compound(alloc, &[0x80, 201, 0, 1, 0, 0, 0, 9])?;
+//! // 65535, 0 and 15 fit one word; 16 begins another.
+//! let words = nack_words(alloc, &[65_535, 0, 15, 16])?;
+//! ```
+//!
+//! `reads_report_alone` and `over_the_wrap` of worked_codecs are these calls, with their answers proved.
 #![tactic(auto)]
 
 mod appending;

@@ -7,30 +7,31 @@ ghost use Rattle.rtcp_codec.specs.Packet.{Begin};
 
 use std::alloc::{AllocError, Allocator, Global};
 
-/// How many numbers a word names at most: its PID, and one for each bit.
+/// The most numbers that a word names: its PID, and one for each bit.
 const MOST_NUMBERS: u16 = 17;
 
-/// A lost packet, and which of the 16 behind it were lost too (RFC 4585 section 6.2.1).
+/// A word of a NACK: a lost packet, and which of the 16 behind it were lost too (RFC 4585 section 6.2.1).
 #[derive(Clone, Copy, PartialEq, Eq)]
 pub struct NackWord {
     /// The sequence number of a lost packet.
     pub pid: u16,
-    /// Bit i, the least significant being bit 1, names the packet `pid + i`, modulo 65536.
+    /// Bit i names the packet `pid + i`, modulo 65536. The least significant bit is bit 1.
     pub blp: u16,
 }
 
 /// A generic NACK (RFC 4585 section 6.2.1).
 #[derive(Drop)]
 pub struct Nack<A: Allocator = Global> {
-    /// Who asks.
+    /// The SSRC that asks.
     pub sender: u32,
-    /// Whose packets are asked for.
+    /// The SSRC whose packets were lost.
     pub media: u32,
-    /// At least one.
+    /// The words, at least one.
     pub words: Vec<NackWord, A>,
 }
 
-/// The numbers that a word names, ascending from `pid`: at most 17 (RFC 4585 section 6.2.1).
+/// The sequence numbers that a word names: `pid` first, then one for each bit that is set (RFC 4585 section 6.2.1).
+/// They are 1 to 17. The only error is out of memory.
 pub fn nack_numbers<A: Allocator>(alloc: A, pid: u16, blp: u16) -> Result<Vec<u16, A>, AllocError>
     ensures { IfOk result (λ v. v.items ≡ numbers_of pid blp) }
 {
@@ -44,17 +45,17 @@ pub fn nack_numbers<A: Allocator>(alloc: A, pid: u16, blp: u16) -> Result<Vec<u1
     Ok(numbers)
 }
 
-/// The words that name these numbers in order, each as many as it can.
+/// The words of a NACK that names these sequence numbers, in their order (RFC 4585 section 6.2.1).
 ///
-/// The numbers are those of lost packets, each a step or more behind the one before. Steps are
-/// counted round the wrap, so 0 stands one behind 65535.
+/// Each word names as many numbers as it can. A number that is up to 16 ahead of the word's PID fits into it, counted
+/// modulo 65536: 0 is 1 ahead of 65535. The only error is out of memory.
 pub fn nack_words<A: Allocator>(alloc: A, numbers: &[u16]) -> Result<Vec<NackWord, A>, AllocError>
     ensures names { IfOk result (λ v. numbers_named v.items ≡ numbers.now) }
     ensures packed { IfOk result (λ v. ArePacked v.items) }
-    // No other words that fit their fields name these numbers and are packed.
+    // No other packed words name these numbers.
     ensures only { (words : List NackWord) → IsPacking numbers.now words → IfOk result (λ v. v.items ≡ words) }
     ensures apart { AreRising numbers.now → IfOk result (λ v. AreApart v.items) }
-    // An empty list wants no memory.
+    // An empty list takes no memory.
     ensures none { numbers.now ≡ [] → IsOk result }
 {
     let mut words = Vec::new(alloc);
@@ -67,8 +68,7 @@ pub fn nack_words<A: Allocator>(alloc: A, numbers: &[u16]) -> Result<Vec<NackWor
     Ok(words)
 }
 
-/// The bits for the numbers that stand at the front and that a word of `pid` can name, and the
-/// other numbers.
+/// The bits for the numbers at the front that a word of `pid` can name, and the numbers behind them.
 fn blp_from(pid: u16, numbers: &[u16]) -> (u16, &[u16])
     ensures names { numbers_of pid result.0 ++ result.1.now ≡ pid ∷ numbers.now }
     ensures packed { TakesAll pid result.0 result.1.now }
@@ -88,7 +88,7 @@ fn blp_from(pid: u16, numbers: &[u16]) -> (u16, &[u16])
     (blp as u16, rest)
 }
 
-/// Whether the number stands at the front, and what follows it.
+/// Whether the number stands at the front, and the numbers behind it.
 fn without(number: u16, numbers: &[u16]) -> (bool, &[u16])
     ensures parts { numbers.now ≡ (if result.0 then number ∷ [] else []) ++ result.1.now }
     ensures first { IsTrue result.0 ↔ Begin (number ∷ []) numbers.now }

@@ -12,8 +12,9 @@ use std::alloc::{AllocError, Allocator};
 /// The type of a canonical name among the items of a source description.
 const CNAME: u8 = 1;
 
-/// The source description that gives an SSRC its canonical name, of 1 to 255 octets, and says nothing else
-/// (RFC 3550 section 6.5.1).
+/// A source description with one item: the canonical name of an SSRC (CNAME, RFC 3550 section 6.5.1).
+///
+/// The name has 1 to 255 octets. The only error is out of memory.
 pub fn named<A: Allocator + Copy>(alloc: A, ssrc: u32, cname: &[u8]) -> Result<Rtcp<A>, AllocError>
     requires { IsCname cname.now }
     ensures packet { IfOk result (λ p. packet_of p ≡ named ssrc cname.now) }

@@ -5,45 +5,45 @@ use crate::nack::Nack;
 use crate::report::{ReceiverReport, SenderReport};
 use std::alloc::{Allocator, Global};
 
-/// Sources that leave (BYE, RFC 3550 section 6.6).
+/// Says that sources leave (BYE, RFC 3550 section 6.6).
 #[derive(Drop)]
 pub struct Bye<A: Allocator = Global> {
-    /// At most 31.
+    /// The sources that leave, at most 31.
     pub ssrcs: Vec<u32, A>,
-    /// At most 255 octets. An empty reason isn't the same as none.
+    /// The reason, at most 255 octets. An empty reason differs from none.
     pub reason: Option<Vec<u8, A>>,
 }
 
 /// A packet that an application defines (APP, RFC 3550 section 6.7).
 #[derive(Drop)]
 pub struct App<A: Allocator = Global> {
-    /// At most 31.
+    /// The subtype, at most 31.
     pub subtype: u8,
-    /// Who sends it.
+    /// The source that sends it.
     pub ssrc: u32,
-    /// What the application calls it, by custom in ASCII.
+    /// The application's name for it, usually in ASCII.
     pub name: [u8; 4],
-    /// Whole words of four octets.
+    /// The application's data: whole words of four octets.
     pub content: Vec<u8, A>,
 }
 
 /// A picture loss indication (PLI, RFC 4585 section 6.3.1).
 #[derive(Clone, Copy, PartialEq, Eq)]
 pub struct Pli {
-    /// Who asks.
+    /// The SSRC that asks.
     pub sender: u32,
-    /// Whose picture was lost.
+    /// The SSRC whose picture was lost.
     pub media: u32,
 }
 
-/// A packet of a kind that has no variant of its own.
+/// A packet without a variant of its own: another type, or another format of feedback.
 #[derive(Drop)]
 pub struct Other<A: Allocator = Global> {
     /// The packet type.
     pub pt: u8,
-    /// The count or format, at most 31.
+    /// The count, or the format of feedback; at most 31.
     pub count: u8,
-    /// What follows the common header: whole words of four octets.
+    /// The octets behind the common header: whole words of four octets.
     pub body: Vec<u8, A>,
 }
 
@@ -52,7 +52,7 @@ pub struct Other<A: Allocator = Global> {
 pub enum Rtcp<A: Allocator = Global> {
     Sender(SenderReport<A>),
     Receiver(ReceiverReport<A>),
-    /// Source descriptions, of at most 31 sources.
+    /// Source descriptions, one chunk a source; at most 31 chunks.
     Sdes(Vec<SdesChunk<A>, A>),
     Bye(Bye<A>),
     App(App<A>),

@@ -1,4 +1,4 @@
-//! Reading compounds.
+//! Reads compounds.
 
 ghost use Rattle.std.specs.Prelude.{◌≡◌, ◌<◌, ℕ, false, List, length, IfOk, IfErr, MatchResult, IsErrOf, ◌⊎◌};
 ghost use Rattle.rtcp_codec.specs.declared.fault.RtcpFault.{RtcpFault as Fault};
@@ -18,7 +18,8 @@ use std::alloc::{AllocError, Allocator};
 fn next_packet<A: Allocator + Copy>(alloc: A, octets: &[u8]) -> Result<(Rtcp<A>, &[u8]), AllocError>
     requires { (p : Packet) × (rest : List ℕ) × Takes false p octets.now rest }
     ensures left { IfOk result (λ r. length r.1.now < length octets.now) }
-    ensures same { IfOk result (λ r. (p : Packet) (rest : List ℕ) → Takes false p octets.now rest → (packet_of r.0 ≡ p) × (r.1.now ≡ rest)) }
+    ensures same { IfOk result (λ r. (p : Packet) (rest : List ℕ) → Takes false p octets.now rest
+        → (packet_of r.0 ≡ p) × (r.1.now ≡ rest)) }
 {
     let (packet, rest) = octets.split_at(size_at(octets));
     let body = body_at(packet);
@@ -41,23 +42,26 @@ fn packets_from<A: Allocator + Copy>(alloc: A, octets: &[u8]) -> Result<Vec<Rtcp
     Ok(packets)
 }
 
-/// The packets of the compound that the datagram holds (RFC 3550 section 6.1).
+/// Reads the packets of a compound (RFC 3550 section 6.1).
 ///
-/// A compound without a source description is accepted. Packets of unknown types are `Other`.
-/// What follows the named parts of a body, and the fill of a chunk, are ignored.
+/// A compound may lack a source description. A packet of an unknown type is an [`Other`](crate::Other). Octets behind
+/// the named parts of a body are ignored, and so is the fill of a chunk.
+///
+/// A datagram that is no compound gives the first fault of its first faulty packet, and takes no memory.
 pub fn read_compound<A: Allocator + Copy>(
     alloc: A,
     octets: &[u8],
 ) -> Result<Vec<Rtcp<A>, A>, RtcpFault>
-    // What is read is the compound that the octets are.
+    // The octets are the compound of these packets.
     ensures found { IfOk result (λ v. IsCompound (packets_of v.items) octets.now) }
-    // What is a compound is read, as these packets and no others, unless memory runs out.
-    ensures only { (ps : List Packet) → IsCompound ps octets.now → MatchResult result (λ v. packets_of v.items ≡ ps) (λ f. f ≡ faults.OutOfMemory) }
-    // A fault is told where its case is the first that holds, at the first packet that has one.
+    // Each compound is read, as its packets and no others, unless memory runs out.
+    ensures only { (ps : List Packet) → IsCompound ps octets.now
+        → MatchResult result (λ v. packets_of v.items ≡ ps) (λ f. f ≡ faults.OutOfMemory) }
+    // The fault is the first of the first faulty packet.
     ensures fault { IfErr result (λ f. (f ≡ faults.OutOfMemory) ⊎ HasFault f octets.now) }
-    // What has a fault is told so, and that takes no memory.
+    // Each fault is reported, and that takes no memory.
     ensures told { (f : Fault) → HasFault f octets.now → IsErrOf result f }
-    // Memory is wanted only for a compound.
+    // Only a compound takes memory.
     ensures memory { IfErr result (λ f. f ≡ faults.OutOfMemory → (ps : List Packet) × IsCompound ps octets.now) }
 {
     judge(octets)?;

@@ -1,8 +1,9 @@
-//! Reading source descriptions.
+//! Reads source descriptions.
 
 ghost use Rattle.std.specs.Prelude.{◌≡◌, ℕ, ◌%◌, ◌<◌, ◌++◌, ◌∷◌, List, length, slice_index, map, IfOk};
 ghost use Rattle.std.specs.List.{flat_map, AllByRecursion};
-ghost use Rattle.rtcp_codec.specs.Description.{item_octets, chunk_octets, IsFill, Describe, FitsItem, FitsChunk, HasChunks};
+ghost use Rattle.rtcp_codec.specs.Description.{item_octets, chunk_octets, IsFill, Describe, FitsItem, FitsChunk};
+ghost use Rattle.rtcp_codec.specs.Description.{HasChunks};
 ghost use Rattle.rtcp_codec.specs.inner.Reading.{HasItems, HasChunk};
 ghost use Rattle.rtcp_codec.specs.View.{item_of, chunk_of};
 
@@ -52,7 +53,9 @@ fn chunk_from<A: Allocator + Copy>(
 ) -> Result<(SdesChunk<A>, &[u8]), AllocError>
     requires words { length octets.now % 4 ≡ 0 }
     requires whole { HasChunk octets.now }
-    ensures parts { IfOk result (λ r. (fill : List ℕ) × IsFill (length (chunk_octets (chunk_of r.0))) fill × (octets.now ≡ chunk_octets (chunk_of r.0) ++ (fill ++ r.1.now))) }
+    ensures parts { IfOk result
+        (λ r. (fill : List ℕ) × IsFill (length (chunk_octets (chunk_of r.0))) fill
+        × (octets.now ≡ chunk_octets (chunk_of r.0) ++ (fill ++ r.1.now))) }
     ensures fits { IfOk result (λ r. FitsChunk (chunk_of r.0)) }
     ensures words { IfOk result (λ r. length r.1.now % 4 ≡ 0) }
 {
@@ -63,7 +66,7 @@ fn chunk_from<A: Allocator + Copy>(
     Ok((SdesChunk { ssrc, items }, rest))
 }
 
-/// So many chunks at the front.
+/// `count` chunks at the front.
 pub(crate) fn chunks_from<A: Allocator + Copy>(
     alloc: A,
     count: u8,

@@ -1,4 +1,4 @@
-//! Reading sender and receiver reports.
+//! Reads sender and receiver reports.
 
 ghost use Rattle.std.specs.Prelude.{◌≡◌, ◌+◌, ◌*◌, ◌≤◌, ◌++◌, length, IfOk};
 ghost use Rattle.std.specs.List.{flat_map, AllByRecursion};
@@ -76,7 +76,7 @@ fn block_from(octets: &[u8]) -> (ReportBlock, &[u8])
     (block, rest)
 }
 
-/// So many report blocks at the front.
+/// `count` report blocks at the front.
 fn blocks_from<A: Allocator>(
     alloc: A,
     count: u8,

@@ -2,22 +2,22 @@
 
 use std::alloc::{Allocator, Global};
 
-/// What a receiver says of one source (RFC 3550 section 6.4.1).
+/// A receiver's statistics of one source (RFC 3550 section 6.4.1).
 #[derive(Clone, Copy, PartialEq, Eq)]
 pub struct ReportBlock {
     /// The source that the block is about.
     pub ssrc: u32,
-    /// The share of packets that was lost since the last report, in 256ths.
+    /// The fraction of packets lost since the last report, in 256ths.
     pub fraction: u8,
-    /// How many packets were lost in all, negative where duplicates came: -8388608 to 8388607.
+    /// The packets lost in all: -8,388,608 to 8,388,607. Duplicates make it negative.
     pub lost: i32,
-    /// The highest sequence number, extended by the number of wraps.
+    /// The highest sequence number in the lower 16 bits, the number of wraps in the upper 16.
     pub highest: u32,
     /// The interarrival jitter, in units of the RTP timestamp.
     pub jitter: u32,
-    /// The middle 32 bits of the last sender report's NTP timestamp, 0 without one.
+    /// The middle 32 bits of the last sender report's NTP timestamp (LSR). 0 if there was none.
     pub lsr: u32,
-    /// The delay since that report, in 65536ths of a second, 0 without one.
+    /// The delay since that report (DLSR), in 65536ths of a second. 0 if there was none.
     pub dlsr: u32,
 }
 
@@ -26,15 +26,15 @@ pub struct ReportBlock {
 pub struct SenderReport<A: Allocator = Global> {
     /// The sender.
     pub ssrc: u32,
-    /// Seconds since 1900 in the upper 32 bits, and their fraction in the lower.
+    /// The NTP timestamp: seconds since 1900 in the upper 32 bits, their fraction in the lower 32.
     pub ntp: u64,
     /// The RTP timestamp of the same moment.
     pub ts: u32,
-    /// How many packets the sender has sent.
+    /// The packets that the sender has sent, modulo 2^32.
     pub packets: u32,
-    /// How many octets of payload the sender has sent.
+    /// The octets of payload that the sender has sent, modulo 2^32.
     pub octets: u32,
-    /// At most 31.
+    /// The report blocks, at most 31.
     pub blocks: Vec<ReportBlock, A>,
 }
 
@@ -43,6 +43,6 @@ pub struct SenderReport<A: Allocator = Global> {
 pub struct ReceiverReport<A: Allocator = Global> {
     /// The receiver.
     pub ssrc: u32,
-    /// At most 31.
+    /// The report blocks, at most 31.
     pub blocks: Vec<ReportBlock, A>,
 }

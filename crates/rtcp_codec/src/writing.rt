@@ -1,6 +1,7 @@
 //! Writing compounds.
 
-ghost use Rattle.std.specs.Prelude.{List, ◌≡◌, ◌+◌, ◌^◌, ◌<◌, ◌≤◌, ◌++◌, length, IfSome, IfOk, IfErr, ◌⊎◌, IsErrOf, OnOk, OnErr, vec_len, vec_capacity};
+ghost use Rattle.std.specs.Prelude.{List, ◌≡◌, ◌+◌, ◌^◌, ◌<◌, ◌≤◌, ◌++◌, length, IfSome, IfOk, IfErr, ◌⊎◌, IsErrOf};
+ghost use Rattle.std.specs.Prelude.{OnOk, OnErr, vec_len, vec_capacity};
 ghost use Rattle.std.specs.Option.{option_map};
 ghost use Rattle.std.specs.List.{flat_map, AllByRecursion};
 ghost use Rattle.rtp_codec.specs.Packet.{number_octets};
@@ -8,7 +9,8 @@ ghost use Rattle.rtcp_codec.specs.declared.fault.WriteFault.{WriteFault as Fault
 ghost use Rattle.rtcp_codec.specs.declared.fault.WriteFault.TheVariants as write_faults;
 ghost use Rattle.rtcp_codec.specs.Description.{filled, most_text};
 ghost use Rattle.rtcp_codec.specs.Nack.{word_octets, FitsWord};
-ghost use Rattle.rtcp_codec.specs.Packet.{Packet, FitsTypes, CountFits, most_count, type_of, count_of, fields, reason_octets, written_packet};
+ghost use Rattle.rtcp_codec.specs.Packet.{Packet, FitsTypes, CountFits, most_count, type_of, count_of, fields};
+ghost use Rattle.rtcp_codec.specs.Packet.{reason_octets, written_packet};
 ghost use Rattle.rtcp_codec.specs.Compound.{written, IsCompound};
 ghost use Rattle.rtcp_codec.specs.WriteFault.{IsWritable, AreWritable, HasWriteFault};
 ghost use Rattle.rtcp_codec.specs.View.{packet_of, packets_of};
@@ -53,7 +55,8 @@ fn append_ssrcs<A: Allocator>(ssrcs: &[u32], out: &mut Vec<u8, A>)
 /// Appends a reason, if there is one. There is room for it.
 fn append_reason<A: Allocator, B: Allocator>(reason: &Option<Vec<u8, A>>, out: &mut Vec<u8, B>)
     requires text { IfSome reason.now (λ v. length v.items ≤ most_text) }
-    requires room { vec_len out.old + length (reason_octets (option_map (λ v. v.items) reason.now)) ≤ vec_capacity out.old }
+    requires room { vec_len out.old + length (reason_octets (option_map (λ v. v.items) reason.now))
+        ≤ vec_capacity out.old }
     ensures items { out.new.items ≡ out.old.items ++ reason_octets (option_map (λ v. v.items) reason.now) }
     ensures len { vec_len out.new ≡ vec_len out.old + length (reason_octets (option_map (λ v. v.items) reason.now)) }
     ensures capacity { vec_capacity out.old ≤ vec_capacity out.new }
@@ -135,7 +138,7 @@ fn type_of<A: Allocator>(packet: &Rtcp<A>) -> u8
     }
 }
 
-/// The count of blocks, chunks or sources, the subtype of an APP or the format of feedback.
+/// The count of blocks, chunks or sources; the subtype of an APP; the format of feedback.
 fn count_of<A: Allocator>(packet: &Rtcp<A>) -> u8
     requires { CountFits (packet_of packet.now) }
     ensures value { result ≡ count_of (packet_of packet.now) }
@@ -192,31 +195,32 @@ fn append_packets<A: Allocator, B: Allocator>(packets: &[Rtcp<A>], out: &mut Vec
     }
 }
 
-/// Appends the compound of the packets (RFC 3550 section 6.1), without padding, with null fill
-/// and nothing behind the named parts.
+/// Appends a compound of these packets to `out` (RFC 3550 section 6.1).
 ///
-/// Where it is refused, `out` stays as it was.
+/// It has no padding, null fill, and nothing behind the named parts. On an error `out` stays as it was. If `out` has
+/// the capacity, the call takes no memory.
 pub fn write_compound<A: Allocator, B: Allocator>(
     packets: &[Rtcp<A>],
     out: &mut Vec<u8, B>,
 ) -> Result<(), WriteFault>
     ensures ok { OnOk result (out.new.items ≡ out.old.items ++ written (packets_of packets.now)) }
-    // What was appended is the compound of these packets, so it reads back as them.
+    // It reads back as these packets.
     ensures reads { OnOk result (IsCompound (packets_of packets.now) (written (packets_of packets.now))) }
-    // Only what can be written is.
+    // What was written can be written.
     ensures writable { OnOk result (AreWritable (packets_of packets.now)) }
     ensures err { OnErr result (out.new.items ≡ out.old.items) }
-    // A fault is told where its case is the first, at the first packet that has one.
+    // The fault is the first of the first faulty packet.
     ensures fault { IfErr result (λ f. (f ≡ write_faults.OutOfMemory) ⊎ HasWriteFault f (packets_of packets.now)) }
-    // What has a fault is told so, and that takes no memory.
+    // Each fault is reported, and that takes no memory.
     ensures told { (f : Fault) → HasWriteFault f (packets_of packets.now) → IsErrOf result f }
-    // Memory is wanted only for packets that can be written.
+    // Only packets that can be written take memory.
     ensures memory { IfErr result (λ f. f ≡ write_faults.OutOfMemory → AreWritable (packets_of packets.now)) }
-    // It is wanted only where the compound has no room.
-    ensures full { IfErr result (λ f. f ≡ write_faults.OutOfMemory → vec_capacity out.old < vec_len out.old + length (written (packets_of packets.now))) }
+    // Only a compound that exceeds the capacity takes memory.
+    ensures full { IfErr result (λ f. f ≡ write_faults.OutOfMemory
+        → vec_capacity out.old < vec_len out.old + length (written (packets_of packets.now))) }
 {
     let size = compound_size(packets)?;
-    // What can't be counted can't be reserved either.
+    // A size that exceeds a `usize` exceeds the memory too.
     let Ok(size) = usize::try_from(size) else {
         return Err(WriteFault::OutOfMemory);
     };
@@ -225,9 +229,9 @@ pub fn write_compound<A: Allocator, B: Allocator>(
     Ok(())
 }
 
-/// The compound of packets that can be written, as a vector of its own.
+/// A compound of these packets in a new vector (RFC 3550 section 6.1).
 ///
-/// For who makes packets and knows that they have no fault: what is left is want of memory.
+/// The caller knows that the packets can be written. So the only error is out of memory.
 #[tactic(auto, using(crate::proofs::FirstFaults::writable_has_no_fault))]
 pub fn compound_of<A: Allocator, B: Allocator>(
     alloc: A,
@@ -249,9 +253,8 @@ pub fn compound_of<A: Allocator, B: Allocator>(
     }
 }
 
-/// The written form of packets that can be written and whose numbers fit is the compound of these
-/// packets, so `read_compound` reads it as them: for who knows packets and not how they were
-/// written.
+/// A law: [`read_compound`](crate::read_compound) reads written packets back as themselves. A caller that knows only
+/// the octets uses it.
 pub fn written_is_compound()
     ensures { (ps : List Packet) → AreWritable ps → AllByRecursion FitsTypes ps → IsCompound ps (written ps) }
 {}

@@ -1,4 +1,4 @@
-//! Writing source descriptions.
+//! Writes source descriptions.
 
 ghost use Rattle.std.specs.Prelude.{◌≡◌, ◌+◌, ◌^◌, ◌<◌, ◌≤◌, ◌++◌, length, map, vec_len, vec_capacity};
 ghost use Rattle.std.specs.List.{flat_map, AllByRecursion};
@@ -59,9 +59,11 @@ pub(crate) fn append_chunks<A: Allocator, B: Allocator>(
     out: &mut Vec<u8, B>,
 )
     requires texts { AllByRecursion (λ c. TextsFit c.items) (map chunk_of chunks.now) }
-    requires room { vec_len out.old + length (flat_map (λ c. filled (chunk_octets c)) (map chunk_of chunks.now)) ≤ vec_capacity out.old }
+    requires room { vec_len out.old + length (flat_map (λ c. filled (chunk_octets c)) (map chunk_of chunks.now))
+        ≤ vec_capacity out.old }
     ensures items { out.new.items ≡ out.old.items ++ flat_map (λ c. filled (chunk_octets c)) (map chunk_of chunks.now) }
-    ensures len { vec_len out.new ≡ vec_len out.old + length (flat_map (λ c. filled (chunk_octets c)) (map chunk_of chunks.now)) }
+    ensures len { vec_len out.new
+        ≡ vec_len out.old + length (flat_map (λ c. filled (chunk_octets c)) (map chunk_of chunks.now)) }
     ensures capacity { vec_capacity out.old ≤ vec_capacity out.new }
     ensures types { AllByRecursion FitsTypesOfChunk (map chunk_of chunks.now) }
 {

@@ -1,4 +1,4 @@
-//! Writing sender and receiver reports.
+//! Writes sender and receiver reports.
 
 ghost use Rattle.std.specs.Prelude.{◌≡◌, ◌+◌, ◌≤◌, [], ◌++◌, length, vec_len, vec_capacity};
 ghost use Rattle.std.specs.List.{flat_map, AllByRecursion};
@@ -70,10 +70,13 @@ pub(crate) fn append_blocks<A: Allocator>(blocks: &[ReportBlock], out: &mut Vec<
     }
 }
 
-/// What a sender report says of its sender.
+/// The octets of a sender report up to its report blocks.
 pub(crate) fn sender_array<A: Allocator>(report: &SenderReport<A>) -> [u8; 24]
-    ensures octets { result ++ flat_map block_octets report.now.blocks.items ≡ fields (Sender report.now.ssrc report.now.ntp report.now.ts report.now.packets report.now.octets report.now.blocks.items) }
-    ensures types { FitsTypes (Sender report.now.ssrc report.now.ntp report.now.ts report.now.packets report.now.octets []) }
+    ensures octets { result ++ flat_map block_octets report.now.blocks.items
+        ≡ fields (Sender report.now.ssrc report.now.ntp report.now.ts report.now.packets report.now.octets
+        report.now.blocks.items) }
+    ensures types { FitsTypes
+        (Sender report.now.ssrc report.now.ntp report.now.ts report.now.packets report.now.octets []) }
 {
     let (ssrc, ntp, ts) = (report.ssrc, report.ntp, report.ts);
     let (packets, octets) = (report.packets, report.octets);
