@@ -1,6 +1,7 @@
-//! The room of a gate: each packet lies in the cell of its number modulo the room, and keeps its number.
+//! The cells of a gate. A packet lies in the cell of its number modulo 256, together with its number.
 
-ghost use Rattle.std.specs.Prelude.{◌≡◌, ℕ, ◌+◌, ◌-◌, ◌<◌, ◌≤◌, ◌^◌, length, IfOk, OnOk, IsSome, List, ◌++◌, None, vec_len, map, false, ◌%◌};
+ghost use Rattle.std.specs.Prelude.{◌≡◌, ℕ, ◌+◌, ◌-◌, ◌<◌, ◌≤◌, ◌^◌, length, IfOk, OnOk, IsSome, List, ◌++◌, None};
+ghost use Rattle.std.specs.Prelude.{vec_len, map, false, ◌%◌};
 ghost use Rattle.std.specs.Option.{option_to_list, option_copied};
 ghost use Rattle.frame_gate.specs.Runs.{full, IsRow};
 ghost use Rattle.frame_gate.specs.inner.Cells.{held, cell, from_on, MayForget, Forgets};
@@ -11,10 +12,10 @@ use crate::frame::FramePacket;
 use crate::held::Held;
 use std::alloc::{AllocError, Allocator};
 
-/// How many numbers from the first undecided one on a gate has room for.
+/// The cells of a gate: it can hold this many numbers from the first undecided one on.
 pub const ROOM: u64 = 256;
 
-/// Cells that hold nothing.
+/// Empty cells.
 pub fn empty_cells<A: Allocator + Copy>(alloc: A) -> Result<Vec<Option<Held<A>>, A>, AllocError>
     ensures len { IfOk result (λ cells. vec_len cells ≡ 256) }
     ensures empty { IfOk result (λ cells. (i : ℕ) → cell cells.items i ≡ None) }
@@ -26,7 +27,7 @@ pub fn empty_cells<A: Allocator + Copy>(alloc: A) -> Result<Vec<Option<Held<A>>,
     Ok(cells)
 }
 
-/// The packet of this number that is held, or has just come.
+/// The packet of this number, if it is held or is the newcomer.
 pub fn find_held<'a, A: Allocator + Copy>(
     cells: &'a [Option<Held<A>>],
     newcomer: Option<&'a Held<A>>,
@@ -48,12 +49,13 @@ pub fn find_held<'a, A: Allocator + Copy>(
     None
 }
 
-/// Keeps the packet, where there is one and it isn't empty.
+/// Appends the packet that was found, unless it is empty.
 fn keep<A: Allocator + Copy>(
     out: &mut Vec<FramePacket<A>, A>,
     found: Option<&Held<A>>,
 ) -> Result<(), AllocError>
-    ensures items { OnOk result (out.new.items ≡ out.old.items ++ map frame_packet (full (option_to_list (option_copied found.entry)))) }
+    ensures items { OnOk result (out.new.items
+        ≡ out.old.items ++ map frame_packet (full (option_to_list (option_copied found.entry)))) }
     ensures kinds { OnOk result (has_bad_kind out.old.items ≡ false → has_bad_kind out.new.items ≡ false) }
 {
     if let Some(packet) = found {
@@ -64,7 +66,7 @@ fn keep<A: Allocator + Copy>(
     Ok(())
 }
 
-/// The non-empty packets, as a frame has them, from one number to before another.
+/// The packets with payload from number `from` up to `to`, which is left out.
 pub fn piece<A: Allocator + Copy>(
     alloc: A,
     cells: &[Option<Held<A>>],
@@ -74,7 +76,9 @@ pub fn piece<A: Allocator + Copy>(
 ) -> Result<Vec<FramePacket<A>, A>, AllocError>
     requires { length cells.now ≡ 256 }
     ensures kinds { IfOk result (λ out. has_bad_kind out.items ≡ false) }
-    ensures items { IfOk result (λ out. (packets : List NumberedPacket) → IsRow (held cells.now (option_copied newcomer.entry)) from packets → to ≡ from + length packets → out.items ≡ map frame_packet (full packets)) }
+    ensures items { IfOk result (λ out. (packets : List NumberedPacket)
+        → IsRow (held cells.now (option_copied newcomer.entry)) from packets → to ≡ from + length packets
+        → out.items ≡ map frame_packet (full packets)) }
 {
     let mut out = Vec::new(alloc);
     for number in from..to {
@@ -83,7 +87,7 @@ pub fn piece<A: Allocator + Copy>(
     Ok(out)
 }
 
-/// The least number from `from` on that is held, or `number` where there is none below it.
+/// The least held number from `from` on. `number` if none below it is held.
 pub fn least_held<A: Allocator + Copy>(cells: &[Option<Held<A>>], from: u64, number: u64) -> u64
     requires cells { length cells.now ≡ 256 }
     requires far { from + 256 ≤ number }
@@ -100,7 +104,7 @@ pub fn least_held<A: Allocator + Copy>(cells: &[Option<Held<A>>], from: u64, num
     number
 }
 
-/// Forgets what lies in the cell of a number, where its own number is below `to`.
+/// Empties the cell of a number, if the packet in it is numbered below `to`.
 fn forget<A: Allocator + Copy>(cells: &mut [Option<Held<A>>], number: u64, to: u64)
     requires { length cells.old ≡ 256 }
     ensures len { length cells.new ≡ 256 }
@@ -115,7 +119,7 @@ fn forget<A: Allocator + Copy>(cells: &mut [Option<Held<A>>], number: u64, to: u
     }
 }
 
-/// Forgets what is numbered from one number to before another.
+/// Forgets the packets from number `from` up to `to`, which is left out.
 pub fn forget_between<A: Allocator + Copy>(cells: &mut [Option<Held<A>>], from: u64, to: u64)
     requires { length cells.old ≡ 256 }
     ensures len { length cells.new ≡ 256 }

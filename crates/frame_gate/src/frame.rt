@@ -2,7 +2,8 @@
 
 ghost use Rattle.std.specs.Prelude.{◌≡◌, ◌≤◌, length, OnOk, IfOk, IfErr, Option, None, Some};
 ghost use Rattle.std.specs.List.{All};
-ghost use Rattle.frame_gate.specs.Frame.{most_packets, highest_pt, WholeFrame, fault_of, numbers_rise, rise_from, marker_is_early, lacks_payload, has_bad_kind};
+ghost use Rattle.frame_gate.specs.Frame.{most_packets, highest_pt, WholeFrame, fault_of, numbers_rise, rise_from};
+ghost use Rattle.frame_gate.specs.Frame.{marker_is_early, lacks_payload, has_bad_kind};
 
 use bytes::Bytes;
 use std::alloc::{AllocError, Allocator, Global};
@@ -18,11 +19,13 @@ const HIGHEST_PT: u8 = 127;
 /// A packet of a frame.
 #[derive(Drop)]
 pub struct FramePacket<A: Allocator + Copy = Global> {
-    /// The extended sequence number of its source.
+    /// The source's extended sequence number.
     pub ext: i64,
+    /// The marker bit. Only the last packet of a frame may have it.
     pub marker: bool,
-    /// The payload type.
+    /// The payload type, at most 127.
     pub pt: u8,
+    /// The payload, at least one octet.
     pub payload: Bytes<A>,
 }
 
@@ -35,7 +38,7 @@ impl<A: Allocator + Copy> Model for FramePacket<A> {
 }
 
 impl<A: Allocator + Copy> FramePacket<A> {
-    /// The same packet once more. The payload is shared, so that its octets aren't copied.
+    /// A copy that shares the payload. The only error is out of memory.
     pub fn try_clone(&self) -> Result<Self, AllocError>
         ensures { IfOk result (λ packet. packet ≡ self.now) }
     {
@@ -50,12 +53,13 @@ impl<A: Allocator + Copy> FramePacket<A> {
 
 /// A whole video frame: packets of one timestamp.
 ///
-/// It has 1 to 256 packets with payload and a payload type of at most 127, their numbers rise,
-/// and no packet but the last has the marker.
+/// It has 1 to 256 packets. Each has payload and a payload type of at most 127. Their numbers rise, and only the last
+/// may have the marker.
 #[derive(Drop)]
 pub struct Frame<A: Allocator + Copy = Global> {
     /// The frame's RTP timestamp, at 90000 Hz.
     pub ts: u32,
+    /// The packets, by rising number.
     pub packets: Vec<FramePacket<A>, A>,
 }
 
@@ -70,31 +74,25 @@ impl<A: Allocator + Copy> Model for Frame<A> {
     ghost invariant = { λ f. fault_of f.packets.items ≡ None };
 }
 
-/// Why packets are no frame. The first that holds is reported.
+/// Why packets are no frame. The variants stand in the order of the checks, and the first fault is reported.
 #[derive(Clone, Copy, Debug, PartialEq, Eq, Error)]
 pub enum FrameFault {
-    /// No packet.
     #[error("no packet")]
     Empty,
-    /// The numbers do not rise.
     #[error("the numbers do not rise")]
     Order,
-    /// More than 256 packets.
     #[error("more than 256 packets")]
     TooMany,
-    /// A packet without payload.
     #[error("a packet without payload")]
     NoPayload,
-    /// A payload type over 127.
     #[error("a payload type over 127")]
     BadKind,
-    /// A marker before the last packet.
     #[error("a marker before the last packet")]
     Marker,
 }
 
 impl<A: Allocator + Copy> Frame<A> {
-    /// The frame of these packets, if they are one.
+    /// Makes a frame of these packets, or reports their first fault.
     pub fn new(ts: u32, packets: Vec<FramePacket<A>, A>) -> Result<Self, FrameFault>
         ensures kept { IfOk result (λ frame. frame ≡ record { ts = ts; packets = packets.items }) }
         ensures whole { OnOk result (fault_of packets.items ≡ None) }
@@ -106,7 +104,7 @@ impl<A: Allocator + Copy> Frame<A> {
         Ok(Self { ts, packets })
     }
 
-    /// The same frame once more. The payloads are shared.
+    /// A copy that shares the payloads. The only error is out of memory.
     pub fn try_clone(&self, alloc: A) -> Result<Self, AllocError>
         ensures { IfOk result (λ frame. frame ≡ self.now) }
     {
@@ -120,7 +118,7 @@ impl<A: Allocator + Copy> Frame<A> {
         })
     }
 
-    /// The frame's packets.
+    /// The frame's packets, in their order.
     pub fn sent(&self) -> &[FramePacket<A>]
         ensures packets { result.now ≡ self.now.packets }
         ensures kinds { All (λ p. p.pt ≤ highest_pt) self.now.packets }
@@ -128,7 +126,7 @@ impl<A: Allocator + Copy> Frame<A> {
         &self.packets
     }
 
-    /// How many packets the frame has.
+    /// The number of packets, 1 to 256.
     pub fn len(&self) -> u16
         ensures count { result ≡ length self.now.packets }
         ensures few { result ≤ most_packets }
@@ -173,7 +171,7 @@ fn numbers_rise<A: Allocator + Copy>(packets: &[FramePacket<A>]) -> bool
     }
 }
 
-/// Whether the numbers rise, the first being above this one.
+/// Whether the numbers rise, and the first is above `before`.
 fn rise_from<A: Allocator + Copy>(mut before: i64, packets: &[FramePacket<A>]) -> bool
     ensures { result ≡ rise_from before packets.now }
 {

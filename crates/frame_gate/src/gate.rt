@@ -1,6 +1,7 @@
-//! The gate of one epoch.
+//! Reassembles the frames of one epoch.
 
-ghost use Rattle.std.specs.Prelude.{◌≡◌, ℕ, ◌+◌, ◌-◌, ◌<◌, ◌≤◌, ◌^◌, ◌%◌, length, IfOk, OnErr, List, [], ◌∷◌, ◌++◌, None, Some, slice_set, unwrap_or, nat_le, false, map};
+ghost use Rattle.std.specs.Prelude.{◌≡◌, ℕ, ◌+◌, ◌-◌, ◌<◌, ◌≤◌, ◌^◌, ◌%◌, length, IfOk, OnErr, List, [], ◌∷◌, ◌++◌};
+ghost use Rattle.std.specs.Prelude.{None, Some, slice_set, unwrap_or, nat_le, false, map};
 ghost use Rattle.frame_gate.specs.inner.Cells.{held};
 ghost use Rattle.frame_gate.specs.Epochs.{Epoch, resynced, taking, top, missing_above, most_missing, opened, frames_of};
 ghost use Rattle.frame_gate.specs.inner.Ties.{Tied};
@@ -18,9 +19,10 @@ use crate::walk::{Walk, drain};
 use std::alloc::{AllocError, Allocator, Global};
 use std::marker::Model;
 
-/// Reassembles the frames of one epoch: the packets of one source since it was initialised.
+/// Reassembles the frames of one epoch: the packets of a source since it was initialised.
 ///
-/// Only [`new`](Self::new) and [`prepare`](Self::prepare) take memory.
+/// Give each packet to [`admit`](Self::admit). A caller that has more to prepare calls [`prepare`](Self::prepare)
+/// first, which takes the memory, and [`commit`](Self::commit) last, which can't fail.
 #[derive(Drop)]
 pub struct Gate<A: Allocator + Copy = Global> {
     cells: Vec<Option<Held<A>>, A>,
@@ -36,7 +38,8 @@ impl<A: Allocator + Copy> Model for Gate<A> {
 
     ghost view = { λ g. record { cells = g.cells.items; walk = g.walk; greatest = g.greatest } };
 
-    ghost invariant = { λ g. (vec_len g.cells ≡ 256) × (g.walk.next ≤ g.walk.after) × (unwrap_or g.greatest 0 < 2 ^ 63) };
+    ghost invariant = { λ g. (vec_len g.cells ≡ 256) × (g.walk.next ≤ g.walk.after)
+        × (unwrap_or g.greatest 0 < 2 ^ 63) };
 }
 
 /// Takes a packet whose number is neither decided nor held.
@@ -53,7 +56,10 @@ fn take<A: Allocator + Copy>(
     requires number { (walk.next ≤ packet.number) × (packet.number < 2 ^ 63) }
     requires greatest { unwrap_or greatest 0 < 2 ^ 63 }
     requires new { held cells.now None packet.number ≡ None }
-    ensures tied { IfOk result (λ r. (given : List WholeFrame) (e : Epoch) → Tied (held cells.now None) given e walk [] → greatest ≡ top e.taken → Tied (held (slice_set cells.now (packet.number % 256) (Some packet)) None) given (taking (resynced packet.number e packet.number) packet) r.walk r.answer.frames) }
+    ensures tied { IfOk result (λ r. (given : List WholeFrame) (e : Epoch) → Tied (held cells.now None) given e walk []
+        → greatest ≡ top e.taken
+        → Tied (held (slice_set cells.now (packet.number % 256) (Some packet)) None) given
+        (taking (resynced packet.number e packet.number) packet) r.walk r.answer.frames) }
     ensures nacks { IfOk result (λ r. r.answer.nacks ≡ map ext_of (missing_above greatest r.walk.next packet.number)) }
     ensures pli { IfOk result (λ r. r.answer.pli ≡ nat_le (walk.next + 256) packet.number) }
     ensures place { IfOk result (λ r. r.answer.place ≡ Place.Taken) }
@@ -80,7 +86,7 @@ fn take<A: Allocator + Copy>(
     })
 }
 
-/// An answer that changes nothing.
+/// The answer to a packet that changes nothing.
 fn unchanged<A: Allocator + Copy>(
     alloc: A,
     walk: Walk,
@@ -107,7 +113,7 @@ fn unchanged<A: Allocator + Copy>(
 }
 
 impl<A: Allocator + Copy> Gate<A> {
-    /// A gate that was given nothing.
+    /// A gate without packets. The only error is out of memory.
     pub fn new(alloc: A) -> Result<Self, AllocError>
         ensures { IfOk result (λ gate. Represents gate []) }
     {
@@ -123,9 +129,10 @@ impl<A: Allocator + Copy> Gate<A> {
         })
     }
 
-    /// The walk, begun at this number by the first packet.
+    /// The gate's walk. The first packet begins it at its number.
     fn opened(&self, packet: &Held<A>) -> Walk
-        ensures tied { (e : Epoch) → IsAt self.now e → Tied (held self.now.cells None) (frames_of e) (opened e packet.now) result [] }
+        ensures tied { (e : Epoch) → IsAt self.now e
+            → Tied (held self.now.cells None) (frames_of e) (opened e packet.now) result [] }
         ensures above { (e : Epoch) → IsAt self.now e → self.now.walk.next ≤ result.next }
         ensures ordered { result.next ≤ result.after }
     {
@@ -141,7 +148,7 @@ impl<A: Allocator + Copy> Gate<A> {
         }
     }
 
-    /// What the gate answers to a packet in its place, and would remember.
+    /// The answer to a numbered packet, and what the gate would remember.
     #[inline(always)]
     fn judge(&self, alloc: A, packet: Held<A>) -> Result<Prepared<A>, AllocError>
         ensures ok { IfOk result (λ r. Prepares self.now packet r) }
@@ -157,8 +164,10 @@ impl<A: Allocator + Copy> Gate<A> {
         take(alloc, &self.cells, walk, self.greatest, packet)
     }
 
-    /// What the gate answers to the packet, and would remember. It asks for at most 255 numbers, since the
-    /// packet lies less than 256 above what is undecided afterwards.
+    /// The answer to a packet, and what the gate will remember. Nothing changes until [`commit`](Self::commit).
+    ///
+    /// `ext` is the packet's extended sequence number, at least -65536. The answer asks for at most 255 numbers. The
+    /// only error is out of memory.
     #[inline(always)]
     pub fn prepare(&self, alloc: A, ext: i64, packet: Packet<A>) -> Result<Prepared<A>, AllocError>
         requires ext { IsExt ext }
@@ -169,7 +178,7 @@ impl<A: Allocator + Copy> Gate<A> {
         self.judge(alloc, Held::new(ext, packet))
     }
 
-    /// Keeps a packet, and lets go of what is decided.
+    /// Keeps a packet, and forgets what is decided.
     #[inline(always)]
     fn keep(&mut self, packet: Held<A>, walk: Walk)
         requires ordered { walk.next ≤ walk.after }
@@ -183,7 +192,7 @@ impl<A: Allocator + Copy> Gate<A> {
         self.greatest = Some(self.greatest.unwrap_or(0).max(number));
     }
 
-    /// Gives the answer that was prepared for the gate as it is.
+    /// Takes the prepared packet in, and gives its answer. The gate must be as it was when this was prepared.
     #[inline(always)]
     pub fn commit(&mut self, prepared: Prepared<A>) -> Admitted<A>
         ensures gate { Commits self.old prepared self.new }
@@ -200,8 +209,10 @@ impl<A: Allocator + Copy> Gate<A> {
         answer
     }
 
-    /// Admits a packet; after a refusal for want of memory the gate is as it was. It asks for at most 255
-    /// numbers.
+    /// Takes a packet in, and tells which frames are whole now and which numbers are missing.
+    ///
+    /// `ext` is the packet's extended sequence number, at least -65536. The answer asks for at most 255 numbers. On out
+    /// of memory, the only error, the gate is as it was.
     pub fn admit(
         &mut self,
         alloc: A,

@@ -1,4 +1,4 @@
-//! A packet in its place in the epoch.
+//! A packet with its number in the epoch.
 
 ghost use Rattle.std.specs.Prelude.{◌≡◌, ◌<◌, ◌≤◌, ◌^◌, IfOk};
 ghost use Rattle.frame_gate.specs.Packets.{numbered, number_of, ext_of, frame_packet, IsExt};
@@ -11,10 +11,10 @@ use bytes::Bytes;
 use std::alloc::{AllocError, Allocator, Global};
 use std::marker::Model;
 
-/// How far below 0 an extended number may be.
+/// Extended sequence numbers begin this far below 0.
 const BELOW: i64 = 65536;
 
-/// A packet and its number: its extended sequence number, counted from the least one.
+/// A packet and its number: its extended sequence number plus 65536, so that it is not negative.
 #[derive(Drop)]
 pub struct Held<A: Allocator + Copy = Global> {
     pub number: u64,
@@ -82,7 +82,7 @@ impl<A: Allocator + Copy> Held<A> {
         self.payload.is_empty()
     }
 
-    /// The packet as its frame has it; the octets are shared.
+    /// The packet for its frame. The payload is shared.
     pub fn frame_packet(&self) -> Result<FramePacket<A>, AllocError>
         ensures packet { IfOk result (λ packet. packet ≡ frame_packet self.now) }
         ensures pt { IfOk result (λ packet. packet.pt ≤ highest_pt) }

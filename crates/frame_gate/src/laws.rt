@@ -1,8 +1,8 @@
-//! A law of the definitions, as a function that does nothing when it runs.
+//! A law of the definitions: a function that does nothing when it runs.
 
 ghost use Rattle.frame_gate.specs.laws.WholeDivision.{WholeDivision};
 
-/// A run is divided where a piece ends or the timestamp is another, and nowhere else.
+/// A law: a run of packets is divided behind a marker and where the timestamp changes, and nowhere else.
 pub fn whole_division()
     ensures { WholeDivision }
 {}

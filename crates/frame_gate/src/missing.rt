@@ -1,4 +1,4 @@
-//! The numbers that a packet leaves missing.
+//! The numbers that are missing when a packet comes.
 
 ghost use Rattle.std.specs.Prelude.{◌≡◌, ◌-◌, ◌<◌, ◌≤◌, ◌^◌, IfOk, OnOk, map, unwrap_or, ◌++◌, ◌∷◌, []};
 ghost use Rattle.std.specs.List.{range_with_len};
@@ -17,7 +17,7 @@ fn ask<A: Allocator + Copy>(out: &mut Vec<i64, A>, number: u64) -> Result<(), Al
     Ok(())
 }
 
-/// The extended numbers from one on up to before another.
+/// The extended numbers from `start` up to `end`, which is left out.
 fn between<A: Allocator + Copy>(alloc: A, start: u64, end: u64) -> Result<Vec<i64, A>, AllocError>
     requires { end ≤ 2 ^ 63 }
     ensures { IfOk result (λ out. out.items ≡ map ext_of (range_with_len start (end - start))) }
@@ -29,7 +29,7 @@ fn between<A: Allocator + Copy>(alloc: A, start: u64, end: u64) -> Result<Vec<i6
     Ok(out)
 }
 
-/// The extended numbers above the greatest and below this one, from `next` on.
+/// The extended numbers from `next` on that are above `greatest` and below `number`.
 pub fn missing<A: Allocator + Copy>(
     alloc: A,
     greatest: Option<u64>,

@@ -1,4 +1,4 @@
-//! Where reassembly starts afresh.
+//! Resyncs: points where reassembly starts afresh.
 
 ghost use Rattle.std.specs.Prelude.{◌≡◌, ℕ, ◌+◌, ◌<◌, ◌≤◌, ◌^◌, length, IfOk, List, None};
 ghost use Rattle.frame_gate.specs.inner.Cells.{held};
@@ -12,7 +12,7 @@ use crate::held::Held;
 use crate::walk::{Walk, drain};
 use std::alloc::{AllocError, Allocator};
 
-/// Places one cut.
+/// Places one cut, where reassembly starts afresh.
 fn cut<A: Allocator + Copy>(
     alloc: A,
     cells: &[Option<Held<A>>],
@@ -23,7 +23,9 @@ fn cut<A: Allocator + Copy>(
     requires cells { length cells.now ≡ 256 }
     requires number { number ≤ 2 ^ 63 }
     requires far { walk.next + 256 ≤ number }
-    ensures tied { IfOk result (λ w. (given : List WholeFrame) (e : Epoch) → Tied (held cells.now None) given e walk frames.old.items → Tied (held cells.now None) given (placed e number) w frames.new.items) }
+    ensures tied { IfOk result (λ w. (given : List WholeFrame) (e : Epoch)
+        → Tied (held cells.now None) given e walk frames.old.items
+        → Tied (held cells.now None) given (placed e number) w frames.new.items) }
     ensures next { IfOk result (λ w. (walk.next < w.next) × (w.next ≤ w.after) × (w.after ≤ number)) }
 {
     let place = least_held(cells, walk.next, number);
@@ -36,7 +38,7 @@ fn cut<A: Allocator + Copy>(
     drain(alloc, cells, None, begun, walk.next + ROOM, frames)
 }
 
-/// Places cuts until there is room for the number.
+/// Places cuts until the number fits the cells.
 pub fn resync<A: Allocator + Copy>(
     alloc: A,
     cells: &[Option<Held<A>>],
@@ -47,7 +49,9 @@ pub fn resync<A: Allocator + Copy>(
     requires cells { length cells.now ≡ 256 }
     requires number { number ≤ 2 ^ 63 }
     requires ordered { (from.next ≤ from.after) × (from.next ≤ number) }
-    ensures tied { IfOk result (λ w. (given : List WholeFrame) (e : Epoch) (most : ℕ) → Tied (held cells.now None) given e from frames.old.items → number < from.next + 256 + most → Tied (held cells.now None) given (resynced most e number) w frames.new.items) }
+    ensures tied { IfOk result (λ w. (given : List WholeFrame) (e : Epoch) (most : ℕ)
+        → Tied (held cells.now None) given e from frames.old.items → number < from.next + 256 + most
+        → Tied (held cells.now None) given (resynced most e number) w frames.new.items) }
     ensures next { IfOk result (λ w. (from.next ≤ w.next) × (w.next ≤ w.after) × (w.next ≤ number)) }
     ensures room { IfOk result (λ w. number < w.next + 256) }
 {

@@ -1,7 +1,9 @@
-//! How far a gate has come along the run.
+//! Follows the run of held packets, and divides it into frames.
 
-ghost use Rattle.std.specs.Prelude.{◌≡◌, ℕ, ◌+◌, ◌-◌, ◌<◌, ◌≤◌, ◌^◌, length, IfOk, List, Option, Some, None, true, IsSome};
-ghost use Rattle.frame_gate.specs.Runs.{Divided as AnyDivided, closes, parted, ended, with_packet, row, divide_on, is_full};
+ghost use Rattle.std.specs.Prelude.{◌≡◌, ℕ, ◌+◌, ◌-◌, ◌<◌, ◌≤◌, ◌^◌, length, IfOk, List, Option, Some, None, true};
+ghost use Rattle.std.specs.Prelude.{IsSome};
+ghost use Rattle.frame_gate.specs.Runs.{Divided as AnyDivided, closes, parted, ended, with_packet, row, divide_on};
+ghost use Rattle.frame_gate.specs.Runs.{is_full};
 ghost use Rattle.std.specs.Option.{option_copied};
 ghost use Rattle.frame_gate.specs.inner.Cells.{held};
 ghost use Rattle.frame_gate.specs.Packets.{NumberedPacket};
@@ -13,27 +15,27 @@ use crate::frame::Frame;
 use crate::held::Held;
 use std::alloc::{AllocError, Allocator};
 
-/// How far the run was followed from the last cut.
+/// How far the run was followed since the last cut.
 #[derive(Clone, Copy)]
 pub struct Walk {
     /// Every number below is decided.
     pub next: u64,
-    /// The number after the packets that were followed.
+    /// The number behind the packets that were followed.
     pub after: u64,
     /// The unclosed piece is the first since the cut.
     pub first: bool,
-    /// The timestamp of the unclosed piece's non-empty packets.
+    /// The timestamp of the unclosed piece's packets with payload.
     pub stamp: Option<u32>,
 }
 
-/// Whether the packet begins a piece behind packets of this timestamp.
+/// Whether the packet begins a new piece behind packets of this timestamp.
 fn tells_apart<A: Allocator + Copy>(ts: u32, packet: &Held<A>) -> bool
     ensures { result ≡ tells_apart_at (Some ts) packet.now }
 {
     !packet.is_empty() && ts != packet.ts
 }
 
-/// Divides the run after what was followed; the piece, of this timestamp, is a frame, unless it is the first.
+/// Divides the run behind the packets that were followed. Their piece is a frame, unless it is the first.
 fn close<A: Allocator + Copy>(
     alloc: A,
     cells: &[Option<Held<A>>],
@@ -45,7 +47,10 @@ fn close<A: Allocator + Copy>(
     requires cells { length cells.now ≡ 256 }
     requires few { walk.after ≤ walk.next + 256 }
     requires stamp { walk.stamp ≡ Some ts }
-    ensures stands { IfOk result (λ w. (cut : ℕ) (given earlier : List WholeFrame) (d : AnyDivided) → Stands (held cells.now (option_copied newcomer.entry)) cut given earlier d walk frames.old.items → MayEnd d.unclosed → Stands (held cells.now (option_copied newcomer.entry)) cut given earlier (closes d) w frames.new.items) }
+    ensures stands { IfOk result (λ w. (cut : ℕ) (given earlier : List WholeFrame) (d : AnyDivided)
+        → Stands (held cells.now (option_copied newcomer.entry)) cut given earlier d walk frames.old.items
+        → MayEnd d.unclosed
+        → Stands (held cells.now (option_copied newcomer.entry)) cut given earlier (closes d) w frames.new.items) }
     ensures walk { IfOk result (λ w. w ≡ closed_at walk) }
 {
     if !walk.first {
@@ -62,7 +67,7 @@ fn close<A: Allocator + Copy>(
     })
 }
 
-/// One more packet of the unclosed piece.
+/// Adds a packet to the unclosed piece.
 fn join<A: Allocator + Copy>(walk: Walk, packet: &Held<A>) -> Walk
     requires { walk.after < 2 ^ 63 + 256 }
     ensures { result ≡ joined_at walk packet.now }
@@ -83,7 +88,7 @@ fn join<A: Allocator + Copy>(walk: Walk, packet: &Held<A>) -> Walk
     }
 }
 
-/// Divides before the packet, where its timestamp tells it apart from the unclosed piece.
+/// Divides before the packet, if its timestamp differs from that of the unclosed piece.
 fn part<A: Allocator + Copy>(
     alloc: A,
     cells: &[Option<Held<A>>],
@@ -94,7 +99,11 @@ fn part<A: Allocator + Copy>(
 ) -> Result<Walk, AllocError>
     requires cells { length cells.now ≡ 256 }
     requires few { walk.after ≤ walk.next + 256 }
-    ensures stands { IfOk result (λ w. (cut : ℕ) (given earlier : List WholeFrame) (d : AnyDivided) → Stands (held cells.now (option_copied newcomer.entry)) cut given earlier d walk frames.old.items → MayEnd d.unclosed → Stands (held cells.now (option_copied newcomer.entry)) cut given earlier (parted d packet.now) w frames.new.items) }
+    ensures stands { IfOk result (λ w. (cut : ℕ) (given earlier : List WholeFrame) (d : AnyDivided)
+        → Stands (held cells.now (option_copied newcomer.entry)) cut given earlier d walk frames.old.items
+        → MayEnd d.unclosed
+        → Stands (held cells.now (option_copied newcomer.entry)) cut given earlier
+        (parted d packet.now) w frames.new.items) }
     ensures after { IfOk result (λ w. w.after ≡ walk.after) }
     ensures next { IfOk result (λ w. walk.next ≤ walk.after → (walk.next ≤ w.next) × (w.next ≤ w.after)) }
     ensures fresh { IfOk result (λ w. walk.first ≡ true → walk.stamp ≡ None → w ≡ walk) }
@@ -107,7 +116,7 @@ fn part<A: Allocator + Copy>(
     Ok(walk)
 }
 
-/// Divides after the packet, where it ends a piece.
+/// Divides behind the packet, if it ends a piece.
 fn end<A: Allocator + Copy>(
     alloc: A,
     cells: &[Option<Held<A>>],
@@ -119,7 +128,11 @@ fn end<A: Allocator + Copy>(
     requires cells { length cells.now ≡ 256 }
     requires few { walk.after ≤ walk.next + 256 }
     requires stamp { is_full packet.now ≡ true → walk.stamp ≡ Some packet.now.ts }
-    ensures stands { IfOk result (λ w. (cut : ℕ) (given earlier : List WholeFrame) (d : AnyDivided) → Stands (held cells.now (option_copied newcomer.entry)) cut given earlier d walk frames.old.items → MayEnd d.unclosed → Stands (held cells.now (option_copied newcomer.entry)) cut given earlier (ended d packet.now) w frames.new.items) }
+    ensures stands { IfOk result (λ w. (cut : ℕ) (given earlier : List WholeFrame) (d : AnyDivided)
+        → Stands (held cells.now (option_copied newcomer.entry)) cut given earlier d walk frames.old.items
+        → MayEnd d.unclosed
+        → Stands (held cells.now (option_copied newcomer.entry)) cut given earlier
+        (ended d packet.now) w frames.new.items) }
     ensures after { IfOk result (λ w. w.after ≡ walk.after) }
     ensures next { IfOk result (λ w. walk.next ≤ walk.after → (walk.next ≤ w.next) × (w.next ≤ w.after)) }
 {
@@ -130,7 +143,7 @@ fn end<A: Allocator + Copy>(
     }
 }
 
-/// One packet more of the run.
+/// Follows the run by one packet.
 fn follow<A: Allocator + Copy>(
     alloc: A,
     cells: &[Option<Held<A>>],
@@ -143,7 +156,11 @@ fn follow<A: Allocator + Copy>(
     requires after { walk.after < 2 ^ 63 + 256 }
     requires ordered { walk.next ≤ walk.after }
     requires few { walk.after < walk.next + 256 }
-    ensures stands { IfOk result (λ w. (cut : ℕ) (given earlier : List WholeFrame) (d : AnyDivided) → Stands (held cells.now (option_copied newcomer.entry)) cut given earlier d walk frames.old.items → GoesOn d.unclosed → held cells.now (option_copied newcomer.entry) walk.after ≡ Some packet.now → Stands (held cells.now (option_copied newcomer.entry)) cut given earlier (with_packet d packet.now) w frames.new.items) }
+    ensures stands { IfOk result (λ w. (cut : ℕ) (given earlier : List WholeFrame) (d : AnyDivided)
+        → Stands (held cells.now (option_copied newcomer.entry)) cut given earlier d walk frames.old.items
+        → GoesOn d.unclosed → held cells.now (option_copied newcomer.entry) walk.after ≡ Some packet.now
+        → Stands (held cells.now (option_copied newcomer.entry)) cut given earlier
+        (with_packet d packet.now) w frames.new.items) }
     ensures after { IfOk result (λ w. w.after ≡ walk.after + 1) }
     ensures next { IfOk result (λ w. walk.next ≤ walk.after → (walk.next ≤ w.next) × (w.next ≤ w.after)) }
     ensures fresh { IfOk result (λ w. walk.first ≡ true → walk.stamp ≡ None → walk.after + 1 ≤ w.next) }
@@ -153,7 +170,7 @@ fn follow<A: Allocator + Copy>(
     end(alloc, cells, newcomer, joined, packet, frames)
 }
 
-/// Follows the run as far as it goes below `to`.
+/// Follows the run up to the first number that is not held, or to `to`.
 pub fn drain<'a, A: Allocator + Copy>(
     alloc: A,
     cells: &'a [Option<Held<A>>],
@@ -166,10 +183,17 @@ pub fn drain<'a, A: Allocator + Copy>(
     requires to { to ≤ 2 ^ 63 + 256 }
     requires ordered { from.next ≤ from.after }
     requires few { to ≤ from.next + 256 }
-    ensures stands { IfOk result (λ w. (cut : ℕ) (given earlier : List WholeFrame) (d : AnyDivided) → Stands (held cells.now (option_copied newcomer.entry)) cut given earlier d from frames.old.items → GoesOn d.unclosed → Stands (held cells.now (option_copied newcomer.entry)) cut given earlier (divide_on d (row (held cells.now (option_copied newcomer.entry)) from.after (to - from.after))) w frames.new.items) }
+    ensures stands { IfOk result (λ w. (cut : ℕ) (given earlier : List WholeFrame) (d : AnyDivided)
+        → Stands (held cells.now (option_copied newcomer.entry)) cut given earlier d from frames.old.items
+        → GoesOn d.unclosed
+        → Stands (held cells.now (option_copied newcomer.entry)) cut given earlier
+        (divide_on d
+        (row (held cells.now (option_copied newcomer.entry)) from.after (to - from.after))) w frames.new.items) }
     ensures next { IfOk result (λ w. (from.next ≤ w.next) × (w.next ≤ w.after)) }
-    ensures after { IfOk result (λ w. (from.after ≤ to → w.after ≤ to) × (from.after ≤ w.after) × (to < from.after → w.after ≡ from.after)) }
-    ensures fresh { IfOk result (λ w. from.first ≡ true → from.stamp ≡ None → from.after < to → IsSome (held cells.now (option_copied newcomer.entry) from.after) → from.after + 1 ≤ w.next) }
+    ensures after { IfOk result
+        (λ w. (from.after ≤ to → w.after ≤ to) × (from.after ≤ w.after) × (to < from.after → w.after ≡ from.after)) }
+    ensures fresh { IfOk result (λ w. from.first ≡ true → from.stamp ≡ None → from.after < to
+        → IsSome (held cells.now (option_copied newcomer.entry) from.after) → from.after + 1 ≤ w.next) }
 {
     let mut walk = from;
     for number in from.after..to {
