@@ -1,4 +1,4 @@
-//! One playout.
+//! A jitter buffer for one source.
 
 ghost use Rattle.std.specs.Prelude.{◌≡◌, ◌≤◌, ◌<◌, ◌*◌, ◌+◌, ◌-◌, ◌%◌, ◌^◌, ℕ, true, IfOk, [], length};
 ghost use Rattle.playout.specs.Playout.{delay, begun_by};
@@ -13,10 +13,12 @@ use circular_buffer::HeapCircularBuffer;
 use std::alloc::{AllocError, Allocator, Global};
 use std::marker::Model;
 
-/// How long samples wait before they are taken, in milliseconds.
+/// The time that samples wait before they are taken, in milliseconds.
 const DELAY: usize = 60;
 
-/// The samples of one source on their way, known by the puts and takes so far. Only [`new`](Self::new) takes memory.
+/// A jitter buffer of samples for one source. Contracts know it by the puts and takes so far.
+///
+/// Only [`new`](Self::new) takes memory.
 #[derive(Drop)]
 pub struct Playout<A: Allocator = Global> {
     begun: bool,
@@ -29,13 +31,17 @@ impl<A: Allocator> Model for Playout<A> {
 
     ghost Value = { Held };
 
-    ghost view = { λ playout. record { begun = playout.begun; position = playout.position; cells = playout.ring.items } };
+    ghost view = { λ playout. record {
+      begun = playout.begun;
+      position = playout.position;
+      cells = playout.ring.items;
+    } };
 
     ghost invariant = { λ playout. IsSound playout.begun playout.ring.items playout.ring.capacity };
 }
 
 impl<A: Allocator> Playout<A> {
-    /// A playout for so many samples a second, 50 to 48,000, with room for one second.
+    /// An empty buffer of one second. `rate` is in samples a second, 50 to 48,000. The only error is out of memory.
     pub fn new(alloc: A, rate: usize) -> Result<Self, AllocError>
         requires least { 50 ≤ rate }
         requires most { rate ≤ 48000 }
@@ -50,14 +56,15 @@ impl<A: Allocator> Playout<A> {
         })
     }
 
-    /// Begins at this timestamp, 60 ms ahead of it.
+    /// Begins 60 ms before this timestamp.
     fn begin(&mut self, ts: u32, samples: &[i16]) -> u32
         requires few { length samples.now * 5 ≤ length self.old.cells }
         requires blank { IsBlank self.old.cells }
         ensures rate { length self.new.cells ≡ length self.old.cells }
         ensures begun { self.new.begun ≡ true }
         ensures position { self.new.position ≡ (ts + 2 ^ 32 - delay (length self.old.cells)) % 2 ^ 32 }
-        ensures agrees { Agrees self.new.cells (begun_by (length self.old.cells) ts samples.now).pairs (begun_by (length self.old.cells) ts samples.now).position }
+        ensures agrees { Agrees self.new.cells (begun_by (length self.old.cells) ts samples.now).pairs
+            (begun_by (length self.old.cells) ts samples.now).position }
         ensures count { result ≡ length samples.now }
     {
         let delay = self.ring.capacity() * DELAY / 1000;
@@ -66,7 +73,7 @@ impl<A: Allocator> Playout<A> {
         keep(&mut self.ring, delay, samples)
     }
 
-    /// Puts samples at the places from this timestamp on: at least one, and a fifth of a second at most.
+    /// Puts samples at the places from this RTP timestamp on: 1 sample to a fifth of a second.
     pub fn put(&mut self, ts: u32, samples: &[i16]) -> Placed
         requires some { 0 < length samples.now }
         requires few { length samples.now * 5 ≤ length self.old.cells }
@@ -88,7 +95,7 @@ impl<A: Allocator> Playout<A> {
         }
     }
 
-    /// Takes the next samples, a second's at most, 0 where there is none, and tells how many there were.
+    /// Takes the next samples, at most a second of them. A missing sample is 0. Returns the number of those present.
     pub fn take(&mut self, out: &mut [i16]) -> u32
         requires { length out.old ≤ length self.old.cells }
         ensures shows { Shows self.old out.new result }
@@ -100,7 +107,7 @@ impl<A: Allocator> Playout<A> {
         count
     }
 
-    /// Takes so many samples unseen.
+    /// Takes the next `count` samples without reading them; at most a second of them.
     pub fn skip(&mut self, count: usize)
         requires { count ≤ length self.old.cells }
         ensures taken { HasTaken self.old self.new count }
@@ -110,7 +117,7 @@ impl<A: Allocator> Playout<A> {
         self.position = self.position.wrapping_add(count as u32);
     }
 
-    /// Shows what [`take`](Self::take) would take.
+    /// Reads the samples that [`take`](Self::take) would take, and leaves them.
     pub fn peek(&self, out: &mut [i16]) -> u32
         requires { length out.old ≤ length self.now.cells }
         ensures { Shows self.now out.new result }

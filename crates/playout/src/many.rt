@@ -1,4 +1,4 @@
-//! The playouts of many sources.
+//! Jitter buffers for many sources.
 
 ghost use Rattle.std.specs.Prelude.{◌≡◌, ◌≤◌, ◌<◌, ◌*◌, [], length, None, IfOk, OnOk, OnErr};
 ghost use Rattle.playout.specs.Playouts.{PutOf, TakeAll, playout_at, Has, HasAlso, ShowsOf};
@@ -10,10 +10,10 @@ use std::alloc::{AllocError, Allocator, Global};
 use std::hash::{BuildHasherDefault, FoldHasher};
 use std::marker::Model;
 
-/// The room for playouts that there is from the start.
+/// The number of sources to allocate for at first.
 const FIRST_SOURCES: usize = 16;
 
-/// Whose playout it is: an SSRC, and the parts of an address.
+/// The key of a source: an SSRC, and the parts of an address.
 #[derive(Clone, Copy, PartialEq, Eq, Hash)]
 pub(crate) struct Key {
     source: u32,
@@ -34,7 +34,9 @@ fn key_of(source: u32, address: &Address) -> Key
 
 type Table<A> = IndexMap<Key, Playout<A>, BuildHasherDefault<FoldHasher>, A>;
 
-/// The playouts of all sources that a lane (media worker) has had samples of, by SSRC and address. None of them is ever dropped.
+/// The jitter buffers of a lane (media worker), one for each source by SSRC and address.
+///
+/// A source's buffer begins with its first samples, and is never dropped.
 #[derive(Drop)]
 pub struct Playouts<A: Allocator + Copy = Global> {
     rate: usize,
@@ -53,7 +55,7 @@ impl<A: Allocator + Copy> Model for Playouts<A> {
 }
 
 impl<A: Allocator + Copy> Playouts<A> {
-    /// No playout; each will be for so many samples a second, 50 to 48,000.
+    /// No buffers yet. `rate` is in samples a second, 50 to 48,000, for all sources. The only error is out of memory.
     pub fn new(alloc: A, rate: usize) -> Result<Self, AllocError>
         requires least { 50 ≤ rate }
         requires most { rate ≤ 48000 }
@@ -64,7 +66,7 @@ impl<A: Allocator + Copy> Playouts<A> {
         Ok(Self { rate, table })
     }
 
-    /// Begins the playout of a source that has none.
+    /// Begins the buffer of a new source.
     fn begin(
         &mut self,
         alloc: A,
@@ -86,8 +88,9 @@ impl<A: Allocator + Copy> Playouts<A> {
         Ok(())
     }
 
-    /// Puts samples of a source at the places from this timestamp on: at least one, and a fifth of a second at most. The first put of a
-    /// source takes memory.
+    /// Puts samples of a source at the places from this RTP timestamp on: 1 sample to a fifth of a second.
+    ///
+    /// Only the first put of a source takes memory. On out of memory, the only error, nothing changes.
     pub fn put(
         &mut self,
         alloc: A,
@@ -111,7 +114,7 @@ impl<A: Allocator + Copy> Playouts<A> {
         }
     }
 
-    /// Takes the next samples of every playout, a second's at most.
+    /// Takes the next `count` samples of every source without reading them; at most a second of them.
     pub fn take_all(&mut self, count: usize)
         requires { count ≤ self.old.rate }
         ensures has { HasAlso self.old self.new (TakeAll count) }
@@ -124,7 +127,8 @@ impl<A: Allocator + Copy> Playouts<A> {
         }
     }
 
-    /// Shows the next samples of a source, a second's at most, 0 where there is none, and tells how many there are.
+    /// Reads the next samples of a source, at most a second of them, and leaves them. A missing sample is 0.
+    /// Returns the number of those present.
     pub fn peek(&self, source: u32, address: &Address, out: &mut [i16]) -> u32
         requires { length out.old ≤ self.now.rate }
         ensures { ShowsOf self.now source address.now out.new result }

@@ -1,12 +1,15 @@
-//! What becomes of samples that are put.
+//! The answer to samples that are put.
 
-/// The answer to a put.
+/// What became of samples that were put.
 #[derive(Clone, Copy, PartialEq, Eq)]
 pub enum Placed {
-    /// So many of the samples are new: the others came late, or their places have samples.
-    Kept { count: u32 },
-    /// All of them came too late.
+    /// Some were kept. The others came too late, or their places had samples.
+    Kept {
+        /// The number of samples that were kept.
+        count: u32,
+    },
+    /// All came too late.
     Late,
-    /// They are too far from the position: what was there is gone, and all of them are kept at a new beginning.
+    /// They are more than a second away. The buffer was emptied, and begins anew with them.
     Reset,
 }

@@ -1,4 +1,4 @@
-//! Where a put falls.
+//! Finds the places of samples that are put.
 
 ghost use Rattle.std.specs.Prelude.{◌≡◌, ℕ, ◌+◌, ◌-◌, ◌<◌, ◌≤◌, ◌^◌, ◌%◌, length, List};
 ghost use Rattle.playout.specs.Playout.{Pair, placed_of, pairs_after};
@@ -13,14 +13,14 @@ use std::alloc::Allocator;
 /// Half the number of timestamps.
 const HALF_A_TURN: u32 = 1 << 31;
 
-/// How far the timestamp is from the position, half a turn up.
+/// How far the timestamp is ahead of the position, plus half a turn.
 fn distance(position: u32, ts: u32) -> u32
     ensures { result ≡ (ts + 2 ^ 31 + 2 ^ 32 - position) % 2 ^ 32 }
 {
     ts.wrapping_sub(position).wrapping_add(HALF_A_TURN)
 }
 
-/// Puts samples after the first put; at Reset the caller begins anew.
+/// Puts samples after the first put. On `Reset` the caller begins anew.
 pub fn put_begun<A: Allocator>(
     ring: &mut HeapCircularBuffer<Cell, A>,
     position: u32,
@@ -30,8 +30,10 @@ pub fn put_begun<A: Allocator>(
     requires full { length ring.old.items ≡ ring.old.capacity }
     requires rate { ring.old.capacity ≤ 48000 }
     requires few { (0 < length samples.now) × (length samples.now ≤ ring.old.capacity) }
-    ensures placed { (p : ℕ) (pairs : List Pair) → Agrees ring.old.items pairs p → p % 2 ^ 32 ≡ position → 2 ^ 31 ≤ p → result ≡ placed_of ring.old.capacity p pairs ts samples.now }
-    ensures agrees { (p : ℕ) (pairs : List Pair) → Agrees ring.old.items pairs p → p % 2 ^ 32 ≡ position → 2 ^ 31 ≤ p → Agrees ring.new.items (pairs_after ring.old.capacity p pairs ts samples.now) p }
+    ensures placed { (p : ℕ) (pairs : List Pair) → Agrees ring.old.items pairs p → p % 2 ^ 32 ≡ position → 2 ^ 31 ≤ p
+        → result ≡ placed_of ring.old.capacity p pairs ts samples.now }
+    ensures agrees { (p : ℕ) (pairs : List Pair) → Agrees ring.old.items pairs p → p % 2 ^ 32 ≡ position → 2 ^ 31 ≤ p
+        → Agrees ring.new.items (pairs_after ring.old.capacity p pairs ts samples.now) p }
     ensures capacity { ring.new.capacity ≡ ring.old.capacity }
     ensures long { length ring.new.items ≡ length ring.old.items }
 {

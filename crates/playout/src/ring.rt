@@ -1,6 +1,7 @@
-//! The samples of the places from the position on, as many as a second has.
+//! A ring of places for one second, from the position on.
 
-ghost use Rattle.std.specs.Prelude.{◌≡◌, IfOk, ℕ, ◌+◌, ◌<◌, ◌≤◌, length, slice_index_or, is_none, is_some, None, map, take, replicate, count_by, [], List};
+ghost use Rattle.std.specs.Prelude.{◌≡◌, IfOk, ℕ, ◌+◌, ◌<◌, ◌≤◌, length, slice_index_or, is_none, is_some, None, map};
+ghost use Rattle.std.specs.Prelude.{take, replicate, count_by, [], List};
 ghost use Rattle.playout.specs.Playout.{Pair, offers};
 ghost use Rattle.playout.specs.inner.Agrees.{Agrees, IsBlank, filled};
 ghost use Rattle.playout.specs.inner.Cells.{heard};
@@ -9,7 +10,7 @@ use crate::cell::{BLANK, Cell};
 use circular_buffer::HeapCircularBuffer;
 use std::alloc::{AllocError, Allocator};
 
-/// Keeps a sample where there is none.
+/// Keeps a sample if its place is empty.
 pub fn fill<A: Allocator>(
     ring: &mut HeapCircularBuffer<Cell, A>,
     offset: usize,
@@ -32,27 +33,29 @@ pub fn fill<A: Allocator>(
     }
 }
 
-/// How many places it moves on by at a time.
+/// The most places that it moves on by at a time.
 const BLOCK: usize = 160;
 
-/// A block of places, none of which has a sample.
+/// A block of empty places.
 const BLANKS: [Cell; BLOCK] = [BLANK; BLOCK];
 
-/// Moves on by so many places, a block at most.
+/// Moves on by `count` places, at most a block.
 fn advance<A: Allocator>(ring: &mut HeapCircularBuffer<Cell, A>, count: usize)
     requires full { length ring.old.items ≡ ring.old.capacity }
     requires few { count ≤ 160 }
-    ensures agrees { (p : ℕ) (pairs : List Pair) → Agrees ring.old.items pairs p → Agrees ring.new.items pairs (p + count) }
+    ensures agrees { (p : ℕ) (pairs : List Pair) → Agrees ring.old.items pairs p
+        → Agrees ring.new.items pairs (p + count) }
     ensures capacity { ring.new.capacity ≡ ring.old.capacity }
     ensures full { length ring.new.items ≡ ring.new.capacity }
 {
     ring.extend_from_slice(&BLANKS[..count]);
 }
 
-/// Moves on by so many places.
+/// Moves on by `count` places.
 pub fn skip<A: Allocator>(ring: &mut HeapCircularBuffer<Cell, A>, count: usize)
     requires full { length ring.old.items ≡ ring.old.capacity }
-    ensures agrees { (p : ℕ) (pairs : List Pair) → Agrees ring.old.items pairs p → Agrees ring.new.items pairs (p + count) }
+    ensures agrees { (p : ℕ) (pairs : List Pair) → Agrees ring.old.items pairs p
+        → Agrees ring.new.items pairs (p + count) }
     ensures capacity { ring.new.capacity ≡ ring.old.capacity }
     ensures full { length ring.new.items ≡ ring.new.capacity }
 {
@@ -62,7 +65,7 @@ pub fn skip<A: Allocator>(ring: &mut HeapCircularBuffer<Cell, A>, count: usize)
     advance(ring, count % BLOCK);
 }
 
-/// Keeps samples from an offset on.
+/// Keeps samples from an offset on. Returns the number that was kept.
 pub fn keep<A: Allocator>(
     ring: &mut HeapCircularBuffer<Cell, A>,
     offset: usize,
@@ -70,8 +73,10 @@ pub fn keep<A: Allocator>(
 ) -> u32
     requires room { offset + length samples.now ≤ length ring.old.items }
     requires few { length ring.old.items ≤ 48000 }
-    ensures agrees { (p : ℕ) (pairs : List Pair) → Agrees ring.old.items pairs p → Agrees ring.new.items (offers p pairs (p + offset) samples.now) p }
-    ensures count { (p : ℕ) (pairs : List Pair) → Agrees ring.old.items pairs p → length (offers p pairs (p + offset) samples.now) ≡ length pairs + result }
+    ensures agrees { (p : ℕ) (pairs : List Pair) → Agrees ring.old.items pairs p
+        → Agrees ring.new.items (offers p pairs (p + offset) samples.now) p }
+    ensures count { (p : ℕ) (pairs : List Pair) → Agrees ring.old.items pairs p
+        → length (offers p pairs (p + offset) samples.now) ≡ length pairs + result }
     ensures capacity { ring.new.capacity ≡ ring.old.capacity }
     ensures long { length ring.new.items ≡ length ring.old.items }
 {
@@ -84,7 +89,7 @@ pub fn keep<A: Allocator>(
     count
 }
 
-/// Copies the samples of some places, and counts those that there are.
+/// Copies the samples of these places, and counts those present.
 fn read(cells: &[Cell], out: &mut [i16]) -> u32
     requires alike { length out.old ≡ length cells.now }
     requires few { length cells.now ≤ 48000 }
@@ -100,7 +105,7 @@ fn read(cells: &[Cell], out: &mut [i16]) -> u32
     count
 }
 
-/// Copies the samples of the first places, and counts those that there are.
+/// Copies the samples of the first places, and counts those present.
 pub fn read_first<A: Allocator>(ring: &HeapCircularBuffer<Cell, A>, out: &mut [i16]) -> u32
     requires within { length out.old ≤ length ring.now.items }
     requires few { length ring.now.items ≤ 48000 }
@@ -114,7 +119,7 @@ pub fn read_first<A: Allocator>(ring: &HeapCircularBuffer<Cell, A>, out: &mut [i
     read(&front[..split], first) + read(&back[..rest], second)
 }
 
-/// Fills a ring that has nothing with places of which none has a sample.
+/// Fills a new ring with empty places.
 fn fill_up<A: Allocator>(ring: &mut HeapCircularBuffer<Cell, A>)
     requires { ring.old.items ≡ [] }
     ensures blank { IsBlank ring.new.items }
@@ -126,7 +131,7 @@ fn fill_up<A: Allocator>(ring: &mut HeapCircularBuffer<Cell, A>)
     }
 }
 
-/// A ring of so many places, none of which has a sample.
+/// A ring of `rate` empty places.
 pub fn empty<A: Allocator>(alloc: A, rate: usize) -> Result<HeapCircularBuffer<Cell, A>, AllocError>
     ensures blank { IfOk result (λ ring. IsBlank ring.items) }
     ensures capacity { IfOk result (λ ring. ring.capacity ≡ rate) }
@@ -137,7 +142,7 @@ pub fn empty<A: Allocator>(alloc: A, rate: usize) -> Result<HeapCircularBuffer<C
     Ok(ring)
 }
 
-/// Leaves no sample.
+/// Empties all places.
 pub fn clear<A: Allocator>(ring: &mut HeapCircularBuffer<Cell, A>)
     ensures blank { IsBlank ring.new.items }
     ensures capacity { ring.new.capacity ≡ ring.old.capacity }
