@@ -1,4 +1,4 @@
-//! Packets that were sent.
+//! The packets of a retransmission buffer.
 
 ghost use Rattle.std.specs.Prelude.{◌≡◌, IfOk};
 
@@ -8,19 +8,22 @@ use rtp_codec::Address;
 use std::alloc::{AllocError, Allocator, Global};
 use std::marker::Model;
 
-/// A packet that was sent, and the source's packet that it carried.
+/// A packet that was sent, and where it came from.
 #[derive(Drop)]
 pub struct Entry<A: Allocator + Copy = Global> {
-    /// Its sequence number on the outgoing stream.
+    /// The sequence number on the outgoing stream.
     pub number: u16,
+    /// The receiver that it went to.
     pub owner: Owner,
-    /// The desk version by which it was sent.
+    /// The version of the desk that it followed.
     pub version: u64,
-    /// The item for which it was sent, by its number in the lane.
+    /// The number of the lane's item that it was sent for, from 1 on.
     pub item: u64,
-    /// The SSRC of the source, and the address and the epoch of its packet.
+    /// The SSRC of the source.
     pub source: u32,
+    /// The address that the source's packet came from.
     pub address: Address,
+    /// The epoch of the source's packet. Each initialisation of a source begins an epoch.
     pub epoch: u64,
     /// The extended sequence number of the source's packet.
     pub ext: i64,
@@ -33,11 +36,21 @@ impl<A: Allocator + Copy> Model for Entry<A> {
 
     ghost Value = { SentPacket };
 
-    ghost view = { λ e. record { number = e.number; owner = e.owner; version = e.version; item = e.item; source = e.source; address = e.address; epoch = e.epoch; ext = e.ext; bytes = e.bytes } };
+    ghost view = { λ e. record {
+      number = e.number;
+      owner = e.owner;
+      version = e.version;
+      item = e.item;
+      source = e.source;
+      address = e.address;
+      epoch = e.epoch;
+      ext = e.ext;
+      bytes = e.bytes;
+    } };
 }
 
 impl<A: Allocator + Copy> Entry<A> {
-    /// The same packet again, which shares the octets.
+    /// A copy that shares the octets. The only error is out of memory.
     pub fn try_clone(&self) -> Result<Self, AllocError>
         ensures { IfOk result (λ entry. entry ≡ self.now) }
     {

@@ -2,9 +2,11 @@
 
 use rtp_codec::Address;
 
-/// The receiver of a packet: a member, with the address that it had when the packet was sent.
+/// The receiver that a packet went to.
 #[derive(Clone, Copy, PartialEq, Eq)]
 pub struct Owner {
+    /// The member's number.
     pub member: u32,
+    /// The member's address when the packet was sent.
     pub address: Address,
 }

@@ -6,8 +6,10 @@ use bytes::Bytes;
 use std::alloc::{AllocError, Allocator, Global};
 use std::marker::Model;
 
-/// The octets of an RTP packet, in one piece, or in two: a header with one contributing source (RFC 3550 section 5.1) and a
-/// payload that is shared with other packets. A contract sees all of them as one list.
+/// The octets of an RTP packet, in one piece or in two.
+///
+/// In two pieces they are a header with one contributing source (RFC 3550 section 5.1), and a payload that other
+/// packets share. A contract sees one list of octets.
 #[derive(Drop)]
 pub struct PacketBytes<A: Allocator + Copy = Global> {
     header: Option<[u8; 16]>,
@@ -34,7 +36,7 @@ impl<A: Allocator + Copy> PacketBytes<A> {
         }
     }
 
-    /// A packet of a header with one contributing source and a payload, which isn't copied.
+    /// A packet of a header with one contributing source, and a payload that isn't copied.
     pub fn with_header(header: [u8; 16], payload: Bytes<A>) -> Self
         ensures { result ≡ header ++ payload }
     {
@@ -44,7 +46,7 @@ impl<A: Allocator + Copy> PacketBytes<A> {
         }
     }
 
-    /// The same octets again. What is shared isn't copied.
+    /// A copy that shares the payload. The only error is out of memory.
     pub fn try_clone(&self) -> Result<Self, AllocError>
         ensures { IfOk result (λ octets. octets ≡ self.now) }
     {
@@ -54,7 +56,7 @@ impl<A: Allocator + Copy> PacketBytes<A> {
         })
     }
 
-    /// The octets that are the packet's own, which may be none, and behind them all others.
+    /// The header, empty for a packet in one piece, and the octets behind it.
     pub fn parts(&self) -> (&[u8], &[u8])
         ensures { result.0.now ++ result.1.now ≡ self.now }
     {

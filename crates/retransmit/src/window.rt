@@ -12,10 +12,10 @@ use rtp_codec::seq_distance;
 use std::alloc::{AllocError, Allocator, Global};
 use std::marker::Model;
 
-/// How many packets can be sent again.
+/// The number of packets that can be sent again.
 const ROOM: usize = 512;
 
-/// The last packets of an outgoing stream. Only [`new`](Self::new) takes memory.
+/// The last 512 packets of an outgoing stream. Only [`new`](Self::new) takes memory.
 #[derive(Drop)]
 pub struct Window<A: Allocator + Copy = Global> {
     ring: HeapCircularBuffer<Entry<A>, A>,
@@ -34,7 +34,7 @@ impl<A: Allocator + Copy> Model for Window<A> {
 }
 
 impl<A: Allocator + Copy> Window<A> {
-    /// A window of a stream that has sent nothing, with room for all that it will keep.
+    /// An empty window. It allocates for 512 packets. The only error is out of memory.
     pub fn new(alloc: A) -> Result<Self, AllocError>
         ensures { IfOk result (λ window. window ≡ []) }
     {
@@ -42,7 +42,9 @@ impl<A: Allocator + Copy> Window<A> {
         Ok(Self { ring })
     }
 
-    /// Keeps a packet that was sent. The oldest one goes when the window is full.
+    /// Keeps a packet that was sent. A full window drops its oldest packet.
+    ///
+    /// Its number must follow the last one's: 0 follows 65535.
     pub fn push(&mut self, entry: Entry<A>)
         requires { MayFollow self.old entry }
         ensures { self.new ≡ latest room (self.old ++ entry ∷ []) }
@@ -50,7 +52,7 @@ impl<A: Allocator + Copy> Window<A> {
         self.ring.push_back(entry);
     }
 
-    /// The packet of this number, whoever its owner is: no other one is looked at.
+    /// The packet of this number, for any owner. It looks at one packet.
     fn numbered(&self, number: u16) -> Option<&Entry<A>>
         ensures { (owner : Owner) → resend_of number owner self.now ≡ to_owner owner (option_copied result) }
     {
@@ -59,9 +61,9 @@ impl<A: Allocator + Copy> Window<A> {
         self.ring.get(usize::from(place))
     }
 
-    /// The packet that was sent to this owner under this number, if it can still be sent again.
+    /// The packet that went to this owner under this number, if it is among the last 512.
     ///
-    /// Nobody but the owner is answered.
+    /// Nobody but the owner gets it.
     pub fn find(&self, number: u16, owner: &Owner) -> Option<&Entry<A>>
         ensures { option_copied result ≡ resend_of number owner.now self.now }
     {
