@@ -1,4 +1,4 @@
-//! Whole packets of samples.
+//! Decodes and encodes whole packets.
 
 ghost use Rattle.std.specs.Prelude.{◌≡◌, length, map};
 ghost use Rattle.std.specs.List.{AllZip};
@@ -6,7 +6,7 @@ ghost use Rattle.g711.specs.MuLaw.{decoded, IsCode, code_of};
 
 use crate::samples::{decode, encode};
 
-/// Decodes each octet into the place of its own.
+/// Decodes each octet into `out`, which is as long.
 pub fn decode_all(codes: &[u8], out: &mut [i16])
     requires { length out.old ≡ length codes.now }
     ensures { out.new ≡ map decoded codes.now }
@@ -16,7 +16,7 @@ pub fn decode_all(codes: &[u8], out: &mut [i16])
     }
 }
 
-/// Encodes each sample into the place of its own.
+/// Encodes each sample into `out`, which is as long.
 pub fn encode_all(samples: &[i16], out: &mut [u8])
     requires { length out.old ≡ length samples.now }
     ensures held { AllZip IsCode samples.now out.new }
