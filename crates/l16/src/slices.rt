@@ -1,9 +1,9 @@
-//! Whole packets of samples.
+//! Decodes and encodes whole packets.
 
 ghost use Rattle.std.specs.Prelude.{◌≡◌, ◌*◌, length};
 ghost use Rattle.l16.specs.Samples.{samples_of, octets_of};
 
-/// Decodes each two octets into the place of their sample. Encoded again, the samples are these octets.
+/// Decodes octets into samples. There are two octets for each sample. Encoding gives them back.
 pub fn decode(octets: &[u8], samples: &mut [i16])
     requires { length octets.now ≡ 2 * length samples.old }
     ensures samples { samples.new ≡ samples_of octets.now }
@@ -14,7 +14,7 @@ pub fn decode(octets: &[u8], samples: &mut [i16])
     }
 }
 
-/// Encodes each sample into the places of its two octets. Decoded again, the octets are these samples.
+/// Encodes samples into octets. There are two octets for each sample. Decoding gives the samples back.
 pub fn encode(samples: &[i16], octets: &mut [u8])
     requires { length octets.old ≡ 2 * length samples.now }
     ensures octets { octets.new ≡ octets_of samples.now }
