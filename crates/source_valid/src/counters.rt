@@ -1,39 +1,41 @@
 //! The counters of a source past probation (RFC 3550 A.1).
 
 ghost use Rattle.std.specs.Prelude.{◌≡◌, ◌+◌, ◌-◌, ◌<◌, ◌≤◌, ◌^◌, ◌%◌, pos};
-ghost use Rattle.source_valid.specs.Stretches.{Stretch, begun, expected_of, greatest_of, max_dropout, max_misorder, told_in};
+ghost use Rattle.source_valid.specs.Stretches.{Stretch, begun, expected_of, greatest_of, max_dropout, max_misorder};
+ghost use Rattle.source_valid.specs.Stretches.{told_in};
 ghost use Rattle.source_valid.specs.Ranges.{IsInRange};
 ghost use Rattle.source_valid.specs.inner.Stands.{Stands, Sound, Answers};
 
 use crate::verdict::Verdict;
 
-/// How many sequence numbers there are (RFC 3550 A.1, RTP_SEQ_MOD).
+/// The number of sequence numbers (RFC 3550 A.1, RTP_SEQ_MOD).
 const RTP_SEQ_MOD: u32 = 65536;
 
-/// A number this far ahead, or farther, is no dropout (RFC 3550 A.1).
+/// A number this far ahead or farther is no dropout (RFC 3550 A.1).
 const MAX_DROPOUT: u32 = 3000;
 
-/// A number this far behind, or farther, is not out of order (RFC 3550 A.1).
+/// A number this far behind or farther is not out of order (RFC 3550 A.1).
 const MAX_MISORDER: u32 = 100;
 
-/// The cycles stay at most here, so that extended numbers fit 64 bits.
+/// The most cycles, so that extended numbers fit 64 bits.
 const MAX_CYCLES: u64 = 1 << 62;
 
 /// The counters of RFC 3550 A.1 since the last initialisation.
 #[derive(Clone, Copy)]
 pub struct Counters {
-    /// The number at which the source was initialised.
+    /// The number that initialised the source.
     pub base_seq: u16,
     /// The low 16 bits of the greatest extended number.
     pub max_seq: u16,
-    /// Its other bits: 65536 for each wrap.
+    /// The rest of the greatest extended number: 65536 for each wrap.
     pub cycles: u64,
-    /// The number that would restart the source.
+    /// The number that would restart the source, if it came next.
     pub bad_seq: Option<u16>,
-    /// The packets that were accepted, as far as 64 bits count them.
+    /// The packets that were accepted. It stays at the most that 64 bits count.
     pub received: u64,
-    /// What was expected and received when the last block was told.
+    /// The packets that were expected when the last block was made.
     pub expected_prior: u64,
+    /// The packets that were accepted when the last block was made.
     pub received_prior: u64,
 }
 
@@ -71,7 +73,7 @@ impl Counters {
         ((self.cycles + self.max_seq as u64) % (1 << 32)) as u32
     }
 
-    /// Starts a new interval, from here on.
+    /// Starts a new interval.
     pub fn tell(&mut self)
         requires { Sound self.old }
         ensures sound { Sound self.new }
@@ -106,7 +108,7 @@ impl Counters {
         }
     }
 
-    /// A packet that is too far off: the second of two in a row starts anew.
+    /// A packet that is too far off. The second of two in a row restarts the source.
     fn jump(&mut self, seq: u16) -> Verdict
         requires sound { Sound self.old }
         requires far { max_dropout ≤ (seq + (2 ^ 16 - self.old.max_seq)) % 2 ^ 16 }
@@ -123,7 +125,7 @@ impl Counters {
         Verdict::Jump
     }
 
-    /// A packet out of order, or a second time.
+    /// A packet out of order, or a duplicate.
     fn behind(&mut self, seq: u16) -> Verdict
         requires sound { Sound self.old }
         requires behind { 2 ^ 16 - max_misorder < (seq + (2 ^ 16 - self.old.max_seq)) % 2 ^ 16 }
@@ -142,7 +144,7 @@ impl Counters {
         }
     }
 
-    /// Judges one more packet.
+    /// Judges the next packet.
     pub fn update(&mut self, seq: u16) -> Verdict
         requires { Sound self.old }
         ensures sound { Sound self.new }

@@ -5,14 +5,16 @@ ghost use Rattle.source_valid.specs.Reports.{lsr_of, dlsr_of};
 
 const NANOSECONDS: u128 = 1_000_000_000;
 
-/// The NTP time that a sender report gave, and when it came, in nanoseconds since 1970.
+/// A sender report that came.
 #[derive(Clone, Copy)]
 pub struct Heard {
+    /// Its NTP timestamp.
     pub ntp: u64,
+    /// The moment when it came, in nanoseconds since 1970.
     pub moment: u64,
 }
 
-/// The middle 32 bits of the last report's NTP time, 0 without one (RFC 3550 section 6.4.1, LSR).
+/// The middle 32 bits of the last report's NTP timestamp, 0 without a report (LSR, RFC 3550 section 6.4.1).
 pub fn lsr(heard: Option<Heard>) -> u32
     ensures { result ≡ lsr_of heard }
 {
@@ -22,7 +24,7 @@ pub fn lsr(heard: Option<Heard>) -> u32
     }
 }
 
-/// The delay since the last report in units of 1/65536 second, 0 without one (RFC 3550 section 6.4.1, DLSR).
+/// The delay since the last report in 65536ths of a second, 0 without a report (DLSR, RFC 3550 section 6.4.1).
 pub fn dlsr(heard: Option<Heard>, moment: u64) -> u32
     ensures { result ≡ dlsr_of heard moment }
 {

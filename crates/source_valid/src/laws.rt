@@ -1,4 +1,4 @@
-//! Laws of the definitions, as functions that do nothing when they run.
+//! Laws of the definitions: functions that do nothing when they run.
 
 ghost use Rattle.source_valid.specs.laws.Delays.{Delays};
 ghost use Rattle.source_valid.specs.laws.Intervals.{Intervals};
@@ -8,38 +8,38 @@ ghost use Rattle.source_valid.specs.laws.Restarts.{Restarts};
 ghost use Rattle.source_valid.specs.laws.Steady.{Steady};
 ghost use Rattle.source_valid.specs.laws.TrueNumbers.{TrueNumbers};
 
-/// A sender's numbers are found again from their low 16 bits.
+/// A law: the low 16 bits of a sender's numbers give back the whole numbers.
 pub fn true_numbers()
     ensures { TrueNumbers }
 {}
 
-/// Probation lasts while no number is one more than the number before it.
+/// A law: probation lasts until a number is one more than the number before it.
 pub fn probations()
     ensures { Probations }
 {}
 
-/// Two far numbers in a row initialise the source at the second one.
+/// A law: two far numbers in a row initialise the source at the second.
 pub fn restarts()
     ensures { Restarts }
 {}
 
-/// What is expected in each interval adds up to what is expected of all.
+/// A law: the packets expected in each interval add up to those expected in all.
 pub fn intervals()
     ensures { Intervals }
 {}
 
-/// Packets that all take the same time have no jitter.
+/// A law: packets that all take the same time have no jitter.
 pub fn steady()
     ensures { Steady }
 {}
 
-/// A delay of whole seconds is told exactly.
+/// A law: the delay since a sender report is exact for whole seconds.
 pub fn delays()
     ensures { Delays }
 {}
 
-/// The fraction that was lost is rounded down, 0 where none was and 255 where all were. The loss is told where 24 bits can spell it,
-/// and else as the nearest number that they can (RFC 3550 A.3 and section 6.4.1).
+/// A law of losses (RFC 3550 A.3 and section 6.4.1). The fraction is rounded down: 0 if no packet was lost, 255 if all
+/// were. The cumulative loss is exact if 24 bits can hold it, and else the nearest number that they can.
 pub fn losses()
     ensures { Losses }
 {}

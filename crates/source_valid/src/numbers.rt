@@ -1,15 +1,15 @@
-//! The losses that a report block tells (RFC 3550 A.3).
+//! The losses of a report block (RFC 3550 A.3).
 
 ghost use Rattle.std.specs.Prelude.{◌≡◌};
 ghost use Rattle.rtcp_codec.specs.Report.{FitsLost};
 ghost use Rattle.source_valid.specs.Reports.{fraction_of, lost_of};
 
-/// What a field of 24 bits with a sign holds.
+/// The least and the greatest number of 24 bits with a sign.
 const LEAST_LOST: i128 = -8_388_608;
 
 const MOST_LOST: i128 = 8_388_607;
 
-/// The lost part of the packets that were expected, in 256ths.
+/// The fraction of the expected packets that was lost, in 256ths.
 pub fn fraction(expected: u64, received: u64) -> u8
     ensures { result ≡ fraction_of expected received }
 {
@@ -20,7 +20,7 @@ pub fn fraction(expected: u64, received: u64) -> u8
     (256 * lost / expected as u128).min(255) as u8
 }
 
-/// The packets lost, as far as 24 bits hold them.
+/// The packets lost, clamped to 24 bits.
 pub fn lost(expected: u64, received: u64) -> i32
     ensures value { result ≡ lost_of expected received }
     ensures fits { FitsLost result }

@@ -1,4 +1,4 @@
-//! Probation, and what comes after it.
+//! Probation, and the counting after it.
 
 ghost use Rattle.std.specs.Prelude.{◌≡◌};
 ghost use Rattle.source_valid.specs.Histories.{Standing, verdict_of, after_number};
@@ -8,17 +8,17 @@ ghost use Rattle.source_valid.specs.inner.Phases.{InPhase, SoundPhase};
 use crate::counters::{Counters, initialised};
 use crate::verdict::Verdict;
 
-/// How far a source has come.
+/// The phase of a source.
 #[derive(Clone, Copy)]
 pub enum Phase {
-    /// On probation, by the last number.
+    /// On probation, with the last sequence number.
     OnProbation(u16),
     /// Past probation.
     Counting(Counters),
 }
 
 impl Phase {
-    /// Judges one more packet.
+    /// Judges the next packet.
     pub fn update(&mut self, seq: u16) -> Verdict
         requires { SoundPhase self.old }
         ensures sound { SoundPhase self.new }

@@ -1,4 +1,4 @@
-//! One RTP source.
+//! The state of one RTP source.
 
 ghost use Rattle.std.specs.Prelude.{◌≡◌, ◌+◌, true, List, [], ◌∷◌, ◌++◌};
 ghost use Rattle.rtcp_codec.specs.Report.{FitsLost};
@@ -16,9 +16,10 @@ use crate::verdict::Verdict;
 use rtcp_codec::ReportBlock;
 use std::marker::Model;
 
-/// One RTP source, known by the list of what it was given: sequence numbers, arrivals, sender reports, and blocks told.
+/// One RTP source. Contracts know it by the list of what it was given: sequence numbers, arrivals, sender reports, and
+/// requests for a block.
 ///
-/// It is `Copy` and takes no memory.
+/// It is `Copy`, so a caller can judge on a copy first. It takes no memory.
 #[derive(Clone, Copy)]
 pub struct Source {
     phase: Phase,
@@ -41,7 +42,7 @@ impl Model for Source {
 }
 
 impl Source {
-    /// A source that was given its first packet, which is on probation (RFC 3550 A.1).
+    /// A source after its first packet. It is on probation (RFC 3550 A.1).
     pub fn first(seq: u16) -> Source
         ensures { Represents result (Number seq ∷ []) }
     {
@@ -55,7 +56,7 @@ impl Source {
         }
     }
 
-    /// Judges one more packet by its sequence number.
+    /// Judges the next packet by its sequence number (RFC 3550 A.1).
     pub fn update(&mut self, seq: u16) -> Verdict
         ensures judged { Judges self.old self.new seq result }
         ensures range { IsInRange result }
@@ -63,10 +64,11 @@ impl Source {
         self.phase.update(seq)
     }
 
-    /// Whether two numbers in a row have come, so that the source was initialised.
+    /// Whether two numbers in a row have come, so that probation is over.
     pub fn past_probation(&self) -> bool
         ensures now { result ≡ is_counting self.now.phase }
-        ensures history { (before : List Step) → Represents self.now before → result ≡ past_probation_in (standing_of before) }
+        ensures history { (before : List Step) → Represents self.now before
+            → result ≡ past_probation_in (standing_of before) }
     {
         match self.phase {
             Phase::Counting(_) => true,
@@ -74,27 +76,30 @@ impl Source {
         }
     }
 
-    /// Takes in an accepted packet's timestamp, and its arrival in units of the clock rate, modulo 2^32 (RFC 3550 A.8).
+    /// Takes in an accepted packet's arrival for the jitter (RFC 3550 A.8).
+    ///
+    /// `ts` is its RTP timestamp. `arrival_units` is the moment of its arrival in units of the same clock, modulo 2^32.
     pub fn arrival(&mut self, ts: u32, arrival_units: u32)
         ensures { Adds self.old self.new (Arrival ts arrival_units) }
     {
         self.timing.arrival(ts, arrival_units);
     }
 
-    /// Takes in the NTP time of a sender report and the moment at which it came, in nanoseconds since 1970.
+    /// Takes in a sender report: its NTP timestamp, and the moment when it came, in nanoseconds since 1970.
     pub fn sender_report(&mut self, ntp: u64, moment: u64)
         ensures { Adds self.old self.new (Sender (record { ntp = ntp; moment = moment })) }
     {
         self.heard = Some(Heard { ntp, moment });
     }
 
-    /// The report block about this SSRC at this moment, in nanoseconds since 1970, after which a new interval begins.
+    /// Makes the report block about this SSRC (RFC 3550 section 6.4.1), and begins a new interval.
     ///
-    /// [`past_probation`](Self::past_probation) is the test whether there is one.
+    /// `moment` is in nanoseconds since 1970. The source must be past probation: test with
+    /// [`past_probation`](Self::past_probation) first.
     pub fn block(&mut self, ssrc: u32, moment: u64) -> ReportBlock
         requires { is_counting self.old.phase ≡ true }
         ensures block { Tells self.old ssrc moment result }
-        // So it can be written.
+        // It can be written.
         ensures fits { FitsLost result.lost }
         ensures new { Adds self.old self.new Block }
     {

@@ -3,16 +3,17 @@
 ghost use Rattle.std.specs.Prelude.{◌≡◌, ◌≤◌, ◌^◌};
 ghost use Rattle.source_valid.specs.Timings.{timed};
 
-/// The last transit time (arrival less timestamp, modulo 2^32, in units of the clock rate), and the jitter, 16 times as
-/// large as it is reported.
+/// The jitter estimator of a source.
 #[derive(Clone, Copy)]
 pub struct Timing {
+    /// The last transit time: arrival less timestamp, in units of the clock rate, modulo 2^32.
     pub transit: Option<u32>,
+    /// 16 times the jitter, in units of the clock rate; at most 2^35.
     pub jitter: u64,
 }
 
 impl Timing {
-    /// Takes in an accepted packet's timestamp and the units at its arrival.
+    /// Takes in an accepted packet: its timestamp, and its arrival in units of the clock rate.
     pub fn arrival(&mut self, ts: u32, units: u32)
         requires { self.old.jitter ≤ 2 ^ 35 }
         ensures bounded { self.new.jitter ≤ 2 ^ 35 }

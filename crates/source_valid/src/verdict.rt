@@ -1,14 +1,20 @@
-//! What becomes of a packet.
+//! The verdict on a packet.
 
 /// The answer to one packet's sequence number (RFC 3550 A.1).
 #[derive(Clone, Copy, PartialEq, Eq)]
 pub enum Verdict {
-    /// The source is on probation: no two numbers in a row have come yet.
+    /// The packet does not count: the source is on probation until two numbers in a row have come.
     Probation,
-    /// The packet counts, under this extended number, which can be negative shortly after an initialisation.
-    Accepted { ext: i64 },
-    /// The number is too far off, and is not counted.
+    /// The packet counts.
+    Accepted {
+        /// Its extended sequence number, at least -65536. It can be negative shortly after an initialisation.
+        ext: i64,
+    },
+    /// The packet does not count: its number is too far off.
     Jump,
-    /// The second of two far numbers in a row: the source is initialised at it, and it counts.
-    Restarted { ext: i64 },
+    /// The packet counts, and initialises the source anew. It is the second of two far numbers in a row.
+    Restarted {
+        /// Its extended sequence number, 0 to 65535.
+        ext: i64,
+    },
 }
