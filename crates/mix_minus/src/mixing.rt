@@ -1,4 +1,4 @@
-//! The mix of one tick.
+//! Mixes one tick.
 
 ghost use Rattle.std.specs.Prelude.{◌≡◌, ℕ, ◌+◌, ◌<◌, ◌≤◌, length, take};
 ghost use Rattle.mix_minus.specs.Mix.{IsMix, IsTotal, AreMixable, ReachTo, contributing};
@@ -9,8 +9,10 @@ use crate::places::{PLACES, clear, mix_places, turn_places};
 use crate::ranges::know_inputs;
 use crate::sums::add_all;
 
-/// Writes what the receiver hears: the sum of all other members' inputs, each at its gain in 256ths (at most 1024), clamped
-/// once to 16 bits. Names the first contributors.
+/// Writes what the receiver hears: the sum of all other members' inputs at their gains, clamped once to 16 bits.
+///
+/// There are at most 64 inputs, each at least as long as `out`. Each has a gain in 256ths, 0 to 1024. Returns the first
+/// 15 contributors: other members' inputs with a gain above 0 and a sample present.
 pub fn mix(inputs: &[Input], gains: &[u32], receiver: u32, out: &mut [i16]) -> Contributors
     requires mixable { AreMixable inputs.now gains.now }
     requires reach { ReachTo (length out.old) inputs.now }
@@ -27,7 +29,7 @@ pub fn mix(inputs: &[Input], gains: &[u32], receiver: u32, out: &mut [i16]) -> C
     first_heard(inputs, gains, receiver)
 }
 
-/// Writes the plain sum of all inputs' samples, once for all receivers of a room.
+/// Writes the plain sum of all inputs' samples, once for all receivers of a room. There are at most 64 inputs.
 pub fn room_total(inputs: &[Input], total: &mut [i32])
     requires few { length inputs.now ≤ 64 }
     requires reach { ReachTo (length total.old) inputs.now }
@@ -37,8 +39,9 @@ pub fn room_total(inputs: &[Input], total: &mut [i32])
     add_all(total, inputs);
 }
 
-/// Writes what [`mix`] writes, from the room's total: the receiver's own samples come off before the clamp, and each gain
-/// other than 256 corrects its input's part.
+/// Writes the same as [`mix`], from the room's total.
+///
+/// The receiver's own samples come off before the clamp. A gain other than 256 corrects its input's part.
 pub fn mix_by_total(
     total: &[i32],
     inputs: &[Input],

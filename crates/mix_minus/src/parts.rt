@@ -1,4 +1,4 @@
-//! Passes over the sums of a tick, one input at a time.
+//! Adds one input to the sums of a tick.
 
 ghost use Rattle.std.specs.Prelude.{◌≡◌, ℕ, ◌+◌, ◌<◌, ◌≤◌, pos, neg_ℤ, ◌-ℤ◌, ◌≤ℤ◌, length};
 ghost use Rattle.mix_minus.specs.Mix.{scaled, clamped};
@@ -14,7 +14,7 @@ fn scale(sample: i16, gain: u32) -> i32
     (sample as i32 * gain as i32) >> 8
 }
 
-/// What a sample becomes more by a gain.
+/// The change of a sample by a gain.
 fn change(sample: i16, gain: u32) -> i32
     requires { gain ≤ 1024 }
     ensures value { result ≡ scaled sample gain -ℤ sample }
@@ -24,7 +24,7 @@ fn change(sample: i16, gain: u32) -> i32
     scale(sample, gain) - sample as i32
 }
 
-/// The nearest sample.
+/// Clamps a sum to 16 bits.
 pub fn clamp(sum: i32) -> i16
     ensures { result ≡ clamped sum }
 {
@@ -42,7 +42,7 @@ pub fn add(sums: &mut [i32], samples: &[i16], start: usize)
     }
 }
 
-/// Takes a source's samples off.
+/// Takes a source's samples off the sums.
 pub fn take_off(sums: &mut [i32], samples: &[i16], start: usize)
     requires len { start + length sums.old ≤ length samples.now }
     requires small { AreSmall 1073741824 sums.old }
@@ -65,7 +65,7 @@ pub fn add_scaled(sums: &mut [i32], samples: &[i16], start: usize, gain: u32)
     }
 }
 
-/// Puts a source's samples at a gain in the place of its samples.
+/// Replaces a source's samples in the sums by its samples at a gain.
 pub fn correct(sums: &mut [i32], samples: &[i16], start: usize, gain: u32)
     requires len { start + length sums.old ≤ length samples.now }
     requires gain { gain ≤ 1024 }

@@ -1,4 +1,4 @@
-//! Some places of a tick at a time, in a fixed room.
+//! Mixes a few places of a tick at a time, in an array on the stack.
 
 ghost use Rattle.std.specs.Prelude.{◌≡◌, ℕ, ◌+◌, ◌<◌, ◌≤◌, pos, length};
 ghost use Rattle.mix_minus.specs.Mix.{clamped, heard_sum, AreMixable, ReachTo, IsTotal};
@@ -8,10 +8,10 @@ use crate::input::Input;
 use crate::parts::clamp;
 use crate::sums::{add_all_heard, turn_all};
 
-/// How many places are summed at a time.
+/// The most places that are summed at a time.
 pub const PLACES: usize = 256;
 
-/// Makes each sum 0.
+/// Sets each sum to 0.
 pub fn clear(sums: &mut [i32])
     ensures { (i : ℕ) → i < length sums.old → at sums.new i ≡ pos 0 }
 {
@@ -20,7 +20,7 @@ pub fn clear(sums: &mut [i32])
     }
 }
 
-/// Makes the sums those from a place on.
+/// Copies the totals from a place on into the sums.
 fn load(sums: &mut [i32], total: &[i32], start: usize)
     requires { start + length sums.old ≤ length total.now }
     ensures { (i : ℕ) → i < length sums.old → at sums.new i ≡ at total.now (start + i) }
@@ -30,7 +30,7 @@ fn load(sums: &mut [i32], total: &[i32], start: usize)
     }
 }
 
-/// Writes the samples from a place on.
+/// Writes the clamped sums as samples, from a place on.
 fn write(sums: &[i32], start: usize, out: &mut [i16])
     requires { start + length sums.now ≤ length out.old }
     ensures written { (i : ℕ) → i < length sums.now → at out.new (start + i) ≡ clamped (at sums.now i) }
@@ -41,7 +41,7 @@ fn write(sums: &[i32], start: usize, out: &mut [i16])
     }
 }
 
-/// Mixes so many places.
+/// Mixes `count` places from `start` on.
 pub fn mix_places(
     inputs: &[Input],
     gains: &[u32],
@@ -54,7 +54,8 @@ pub fn mix_places(
     requires reach { ReachTo (start + count) inputs.now }
     requires count { count ≤ 256 }
     requires out { start + count ≤ length out.old }
-    ensures written { (i : ℕ) → i < count → at out.new (start + i) ≡ clamped (heard_sum receiver (start + i) inputs.now gains.now) }
+    ensures written { (i : ℕ) → i < count
+        → at out.new (start + i) ≡ clamped (heard_sum receiver (start + i) inputs.now gains.now) }
     ensures before { (i : ℕ) → i < start → at out.new i ≡ at out.old i }
 {
     let mut room = [0; PLACES];
@@ -64,7 +65,7 @@ pub fn mix_places(
     write(sums, start, out);
 }
 
-/// Mixes so many places from the room's total.
+/// Mixes `count` places from `start` on, from the room's total.
 pub fn turn_places(
     total: &[i32],
     inputs: &[Input],
@@ -81,7 +82,8 @@ pub fn turn_places(
     requires count { count ≤ 256 }
     requires out { start + count ≤ length out.old }
     requires long { start + count ≤ length total.now }
-    ensures written { (i : ℕ) → i < count → at out.new (start + i) ≡ clamped (heard_sum receiver (start + i) inputs.now gains.now) }
+    ensures written { (i : ℕ) → i < count
+        → at out.new (start + i) ≡ clamped (heard_sum receiver (start + i) inputs.now gains.now) }
     ensures before { (i : ℕ) → i < start → at out.new i ≡ at out.old i }
 {
     let mut room = [0; PLACES];

@@ -1,5 +1,5 @@
-//! The ranges of samples, for proofs. A contract knows the range of a sample that was read. So these
-//! functions read, and do nothing else: the compiler leaves no code of them.
+//! The ranges of samples, for proofs. A contract knows the range of a sample that was read. So these functions only
+//! read, and the compiler removes them.
 
 ghost use Rattle.std.specs.Prelude.{ℕ, ◌<◌, length, slice_index_or};
 ghost use Rattle.mix_minus.specs.declared.input.Input.{Input as InputOf};
@@ -19,7 +19,8 @@ fn know_samples(samples: &[i16])
 
 /// The samples of inputs have 16 bits.
 pub fn know_inputs(inputs: &[Input])
-    ensures { (k : ℕ) (d : InputOf) (i : ℕ) → k < length inputs.now → IsWithin 32768 (sample_at (slice_index_or inputs.now k d) i) }
+    ensures { (k : ℕ) (d : InputOf) (i : ℕ) → k < length inputs.now
+        → IsWithin 32768 (sample_at (slice_index_or inputs.now k d) i) }
 {
     for k in 0..inputs.len() {
         know_samples(inputs[k].samples);

@@ -23,12 +23,13 @@ fn add_heard(sums: &mut [i32], input: &Input, gain: u32, receiver: u32, start: u
     }
 }
 
-/// Puts what the receiver hears of an input in the place of its samples.
+/// Replaces an input's samples in the sums by what the receiver hears of it.
 fn turn(sums: &mut [i32], input: &Input, gain: u32, receiver: u32, start: usize)
     requires len { start + length sums.old ≤ length input.now.samples.now }
     requires gain { gain ≤ 1024 }
     requires small { AreSmall 1073741824 sums.old }
-    ensures { Passes (λ i. heard receiver (start + i) input.now gain -ℤ sample_at input.now (start + i)) sums.old sums.new }
+    ensures { Passes
+        (λ i. heard receiver (start + i) input.now gain -ℤ sample_at input.now (start + i)) sums.old sums.new }
 {
     if input.member == receiver {
         take_off(sums, input.samples, start);
@@ -54,7 +55,9 @@ pub fn turn_all(sums: &mut [i32], inputs: &[Input], gains: &[u32], receiver: u32
     requires mixable { AreMixable inputs.now gains.now }
     requires reach { ReachTo (start + length sums.old) inputs.now }
     requires small { AreSmall 16777216 sums.old }
-    ensures { (i : ℕ) → i < length sums.old → at sums.new i +ℤ sample_sum (start + i) inputs.now ≡ at sums.old i +ℤ heard_sum receiver (start + i) inputs.now gains.now }
+    ensures { (i : ℕ) → i < length sums.old
+        → at sums.new i +ℤ sample_sum (start + i) inputs.now
+        ≡ at sums.old i +ℤ heard_sum receiver (start + i) inputs.now gains.now }
 {
     for k in 0..inputs.len() {
         turn(sums, &inputs[k], gains[k], receiver, start);
