@@ -1,17 +1,18 @@
-//! What a sender report tells of a stream.
+//! The counts of a stream for its sender reports.
 
-/// What an outgoing stream has sent so far, each packet once: resends don't count.
+/// What an outgoing stream has sent so far, for its sender report (RFC 3550 section 6.4.1). Resends don't count.
 #[derive(Clone, Copy)]
 pub struct Counts {
+    /// The SSRC of the stream.
     pub ssrc: u32,
-    /// How many packets, modulo 2^32.
+    /// The packets that were sent, modulo 2^32.
     pub packets: u32,
-    /// How many octets of payload, modulo 2^32.
+    /// The octets of payload that were sent, modulo 2^32.
     pub octets: u32,
-    /// The RTP timestamp of its last frame, or of a mix its last tick.
+    /// The RTP timestamp of its last frame; of a mix, its last tick.
     pub ts: u32,
     /// The moment of that frame or tick, in nanoseconds since 1970.
     pub moment: u64,
-    /// How many units of the timestamp a second has, in Hz.
+    /// The clock rate of the timestamp, in Hz.
     pub rate: u32,
 }

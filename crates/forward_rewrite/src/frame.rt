@@ -1,4 +1,4 @@
-//! Video frames on their way through the bridge.
+//! Video frames with their origin.
 
 ghost use Rattle.std.specs.Prelude.{◌≡◌, IfOk};
 
@@ -7,15 +7,18 @@ use rtp_codec::Address;
 use std::alloc::{AllocError, Allocator, Global};
 use std::marker::Model;
 
-/// A frame of a source at an address, in one of its epochs: initialisations of the source.
+/// A frame, and the source that it came from.
 #[derive(Drop)]
 pub struct MediaFrame<A: Allocator + Copy = Global> {
     /// The SSRC of the source.
     pub source: u32,
+    /// The address that it came from.
     pub address: Address,
+    /// The epoch of the source. Each initialisation of a source begins an epoch.
     pub epoch: u64,
-    /// When it came, in nanoseconds since 1970.
+    /// The moment when it became whole, in nanoseconds since 1970.
     pub moment: u64,
+    /// The packets of the frame.
     pub frame: Frame<A>,
 }
 
@@ -24,11 +27,17 @@ impl<A: Allocator + Copy> Model for MediaFrame<A> {
 
     ghost Value = { SourceFrame };
 
-    ghost view = { λ f. record { source = f.source; address = f.address; epoch = f.epoch; moment = f.moment; frame = f.frame } };
+    ghost view = { λ f. record {
+      source = f.source;
+      address = f.address;
+      epoch = f.epoch;
+      moment = f.moment;
+      frame = f.frame;
+    } };
 }
 
 impl<A: Allocator + Copy> MediaFrame<A> {
-    /// The same frame once more. The payloads are shared, so that no octet of them is copied.
+    /// A copy that shares the payloads. The only error is out of memory.
     pub fn try_clone(&self, alloc: A) -> Result<Self, AllocError>
         ensures { IfOk result (λ frame. frame ≡ self.now) }
     {

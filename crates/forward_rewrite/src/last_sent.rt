@@ -1,4 +1,4 @@
-//! What a stream keeps of the last frame that it sent.
+//! The last frame of a stream, from which the next timestamp follows.
 
 ghost use Rattle.std.specs.Prelude.{◌≡◌, Some};
 ghost use Rattle.forward_rewrite.specs.Streams.{sent};
@@ -8,7 +8,7 @@ use crate::frame::MediaFrame;
 use rtp_codec::Address;
 use std::alloc::Allocator;
 
-/// The last frame that was sent, and how far its run's timestamps are from the source's.
+/// The last frame that was sent. Its offset leads from the source's timestamps to the stream's.
 #[derive(Clone, Copy)]
 pub struct LastSent {
     source: u32,
@@ -20,7 +20,7 @@ pub struct LastSent {
 }
 
 impl LastSent {
-    /// What is kept of a frame that is sent under this timestamp.
+    /// The frame as it is kept, sent under this timestamp.
     pub fn new<A: Allocator + Copy>(frame: &MediaFrame<A>, ts: u32) -> Self
         ensures { result ≡ sent frame.now ts }
     {
@@ -42,14 +42,14 @@ impl LastSent {
         self.ts
     }
 
-    /// The moment at which it came, in nanoseconds since 1970.
+    /// The moment when it came, in nanoseconds since 1970.
     pub fn moment(&self) -> u64
         ensures { result ≡ self.now.moment }
     {
         self.moment
     }
 
-    /// The timestamp of one more frame.
+    /// The timestamp of the next frame.
     pub fn ts_for<A: Allocator + Copy>(&self, frame: &MediaFrame<A>) -> u32
         ensures { result ≡ ts_after 0 (Some self.now) frame.now }
     {
@@ -62,7 +62,7 @@ impl LastSent {
         ((u64::from(self.ts) + ticks) % 4_294_967_296) as u32
     }
 
-    /// Whether the frame is of the run of the last one.
+    /// Whether the frame has the source, address and epoch of the last one.
     fn goes_on<A: Allocator + Copy>(&self, frame: &MediaFrame<A>) -> bool
         ensures { result ≡ goes_on self.now frame.now }
     {

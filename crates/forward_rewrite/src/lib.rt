@@ -1,7 +1,24 @@
-//! The sending side of outgoing streams. A forwarded video stream: frames of changing sources go out as one stream, numbered in a row
-//! and with a time of its own, and its last 512 packets can be found again. A mix: in each tick of 20 ms a packet or none.
+//! Outgoing streams. A video [`Stream`] forwards frames of changing sources as one stream: numbered in a row, with
+//! timestamps of its own. It keeps its last 512 packets for receivers that ask again. A [`MixStream`] sends one packet
+//! of a mix or none in each tick of 20 ms.
 //!
-//! A contract speaks of the list of frames or ticks so far. Begin with [`Stream::new`] and [`MixStream::new`].
+//! Begin with [`Stream::new`] and [`MixStream::new`]. Both prepare first, which takes the memory, and then commit,
+//! which can't fail; `send` does both. A contract speaks of the list of frames or ticks so far.
+//!
+//! ```rust
+//! let mut packets = Vec::with_capacity(alloc, 1)?;
+//! packets.push(FramePacket { ext: 100, marker: true, pt: 96, payload: Bytes::from_static(b"\xab") })?;
+//! let address = Address { ip: [127, 0, 0, 1], port: 8 };
+//! let frame = Frame::new(9_000, packets)?;
+//! let frame = MediaFrame { source: 5, address, epoch: 1, moment: 0, frame };
+//! let receiver = Owner { member: 1, address: Address { ip: [127, 0, 0, 1], port: 7 } };
+//!
+//! let mut stream = Stream::new(alloc, 500, 65_535, 1_000)?; // SSRC, first number, first timestamp
+//! let out = stream.send(alloc, &frame, Stamp { version: 3, item: 1 }, receiver)?; // packet 65535 at timestamp 1000
+//! ```
+//!
+//! `the_other_source_goes_on` of worked_media makes this call, and a second one with a frame of another source. Its
+//! answer is proved.
 #![tactic(auto)]
 
 mod counts;

@@ -10,7 +10,7 @@ use retransmit::PacketBytes;
 use rtp_codec::{Header, write};
 use std::alloc::{AllocError, Allocator};
 
-/// The payload type of a codec.
+/// The payload type of a codec: 0 for PCMU (RFC 3551 section 6), 97 for L16.
 pub fn payload_type(codec: Codec) -> u8
     ensures { result ≡ pt_of codec }
 {
@@ -20,7 +20,7 @@ pub fn payload_type(codec: Codec) -> u8
     }
 }
 
-/// How many octets of payload the samples are.
+/// The octets of payload for these samples.
 #[tactic(auto, using(crate::proofs::Payloads::lengths))]
 pub fn payload_len(codec: Codec, samples: &[i16]) -> usize
     ensures len { result ≡ length (encoded codec samples.now) }
@@ -32,7 +32,7 @@ pub fn payload_len(codec: Codec, samples: &[i16]) -> usize
     }
 }
 
-/// Encodes samples into as many octets as they are.
+/// Encodes samples into octets. There are as many as [`payload_len`] says.
 #[tactic(auto, using(crate::proofs::Payloads::lengths))]
 fn encode_into(codec: Codec, samples: &[i16], octets: &mut [u8])
     requires { length octets.old ≡ length (encoded codec samples.now) }
@@ -59,7 +59,7 @@ fn append_encoded<A: Allocator>(
     Ok(())
 }
 
-/// The octets of a packet with these samples, made in one piece.
+/// The octets of a packet with these samples, in one piece.
 pub fn packet_of<A: Allocator + Copy>(
     alloc: A,
     header: &Header,

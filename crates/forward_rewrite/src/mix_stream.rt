@@ -1,8 +1,9 @@
-//! Outgoing mix streams: in each tick of 20 ms a packet or none, numbered in a row, with a time that goes on by the ticks.
+//! Outgoing mix streams: one packet or none in each tick of 20 ms.
 
 ghost use Rattle.std.specs.Prelude.{◌≡◌, ◌≤◌, [], ◌∷◌, ℕ, List, length, IfOk, OnErr};
 ghost use Rattle.rtp_codec.specs.Packet.{most_csrcs};
-ghost use Rattle.forward_rewrite.specs.Mixes.{MixTick, sound_of, sounding, silent, mix_state, mix_counts, HasMixed, GivesTick};
+ghost use Rattle.forward_rewrite.specs.Mixes.{MixTick, sound_of, sounding, silent, mix_state, mix_counts, HasMixed};
+ghost use Rattle.forward_rewrite.specs.Mixes.{GivesTick};
 ghost use Rattle.forward_rewrite.specs.inner.MixCounters.{IsPreparedMix, after_silence};
 
 use crate::counts::Counts;
@@ -13,28 +14,29 @@ use rtp_codec::{Header, seq_next};
 use std::alloc::{AllocError, Allocator, Global};
 use std::marker::Model;
 
-/// How far the timestamp goes on in a tick: 20 ms at 8000 Hz.
+/// The timestamp advances by this in a tick: 20 ms at 8000 Hz.
 const TICK_UNITS: u32 = 160;
 
-/// The clock of its timestamps, in Hz.
+/// The clock rate of its timestamps, in Hz.
 const RATE: u32 = 8000;
 
-/// An outgoing mix stream, of PCMU or L16 at 8000 Hz. It begins with its first packet, and from then on each tick takes its
-/// timestamp on by 160.
+/// An outgoing mix stream, of PCMU or L16 at 8000 Hz. It begins with its first packet. From then on its timestamp
+/// advances by 160 at each tick.
 ///
-/// It is `Copy` and takes no memory.
+/// At each tick, call [`prepare`](Self::prepare) and [`commit`](Self::commit), or [`pass`](Self::pass) if nothing
+/// sounds. It is `Copy`.
 #[derive(Clone, Copy)]
 pub struct MixStream {
     ssrc: u32,
     /// The number of the next packet.
     next: u16,
-    /// The timestamp of the next tick, or until it begins that of the first packet.
+    /// The timestamp of the next tick. Before the first packet it is that packet's.
     ts: u32,
     /// Whether the last tick sent a packet.
     spoke: bool,
-    /// How many packets it has sent, modulo 2^32.
+    /// The packets that it has sent, modulo 2^32.
     packets: u32,
-    /// How many octets of payload they had, modulo 2^32.
+    /// The octets of payload that they had, modulo 2^32.
     octets: u32,
     /// The moment of the last tick since it began.
     moment: Option<u64>,
@@ -45,15 +47,33 @@ impl Model for MixStream {
 
     ghost Value = { MixOf };
 
-    ghost view = { λ s. record { ssrc = s.ssrc; next = s.next; ts = s.ts; spoke = s.spoke; packets = s.packets; octets = s.octets; moment = s.moment } };
+    ghost view = { λ s. record {
+      ssrc = s.ssrc;
+      next = s.next;
+      ts = s.ts;
+      spoke = s.spoke;
+      packets = s.packets;
+      octets = s.octets;
+      moment = s.moment;
+    } };
 
-    ghost inverse = { λ v. record { ssrc = v.ssrc; next = v.next; ts = v.ts; spoke = v.spoke; packets = v.packets; octets = v.octets; moment = v.moment } };
+    ghost inverse = { λ v. record {
+      ssrc = v.ssrc;
+      next = v.next;
+      ts = v.ts;
+      spoke = v.spoke;
+      packets = v.packets;
+      octets = v.octets;
+      moment = v.moment;
+    } };
 }
 
-/// A packet that is ready to be sent on a mix stream, with the stream as it is once the packet is sent.
+/// A packet that is ready to be sent on a mix stream.
 #[derive(Drop)]
 pub struct PreparedMix<A: Allocator + Copy = Global> {
+    /// The stream as it is once the packet is sent.
     pub next: MixStream,
+    /// The packet.
     pub packet: OutPacket<A>,
 }
 
@@ -66,7 +86,7 @@ impl<A: Allocator + Copy> Model for PreparedMix<A> {
 }
 
 impl MixStream {
-    /// A mix stream that has sent nothing. Its first packet will have this number and this timestamp, in units of 1/8000 second.
+    /// A mix stream that has sent nothing. Its first packet will have this number and this timestamp, at 8000 Hz.
     pub fn new(ssrc: u32, first_seq: u16, first_ts: u32) -> Self
         ensures { result ≡ mix_state ssrc first_seq first_ts [] }
     {
@@ -81,19 +101,18 @@ impl MixStream {
         }
     }
 
-    /// The SSRC that its packets have.
+    /// The SSRC of its packets.
     pub fn ssrc(&self) -> u32
         ensures { result ≡ self.now.ssrc }
     {
         self.ssrc
     }
 
-    /// The packet of a tick that sounds, and the stream once it is sent: samples at 8000 Hz, their contributing sources (15 at most),
-    /// how they are to be encoded, and the tick's moment in nanoseconds since 1970. The stream stays as it is.
+    /// Makes the packet of a tick that sounds. The stream stays as it is until [`commit`](Self::commit).
     ///
-    /// The marker is set on the stream's first packet and after a tick that sent none (RFC 3551 section 4.1).
-    ///
-    /// This takes all the memory that sending the packet takes, and its error is want of it.
+    /// The samples are at 8000 Hz. They have at most 15 contributing sources. `moment` is in nanoseconds since 1970.
+    /// The first packet and one behind a silent tick have the marker (RFC 3551 section 4.1). The only error is out of
+    /// memory.
     pub fn prepare<A: Allocator + Copy>(
         &self,
         alloc: A,
@@ -103,13 +122,14 @@ impl MixStream {
         moment: u64,
     ) -> Result<PreparedMix<A>, AllocError>
         requires { length csrcs.now ≤ most_csrcs }
-        ensures gives { IfOk result (λ p. GivesTick self.now p.next (sounding (sound_of codec csrcs.now samples.now) moment) (p.packet ∷ [])) }
+        ensures gives { IfOk result
+            (λ p. GivesTick self.now p.next (sounding (sound_of codec csrcs.now samples.now) moment) (p.packet ∷ [])) }
         ensures ssrc { IfOk result (λ p. p.next.ssrc ≡ self.now.ssrc) }
     {
         self.by_counters(alloc, codec, csrcs, samples, moment)
     }
 
-    /// The packet of a tick that sounds, by what the stream keeps.
+    /// The packet of a tick that sounds, by the stream's fields.
     fn by_counters<A: Allocator + Copy>(
         &self,
         alloc: A,
@@ -147,7 +167,7 @@ impl MixStream {
         })
     }
 
-    /// Sends what was prepared. This takes no memory.
+    /// Sends a prepared packet. This takes no memory.
     pub fn commit<A: Allocator + Copy>(&mut self, prepared: PreparedMix<A>) -> OutPacket<A>
         ensures stream { self.new ≡ prepared.next }
         ensures packet { result ≡ prepared.packet }
@@ -157,8 +177,8 @@ impl MixStream {
         packet
     }
 
-    /// Sends the packet of a tick that sounds, as [`prepare`](MixStream::prepare) says. Where memory is wanting, the stream stays as
-    /// it was.
+    /// Prepares and commits the packet of a tick that sounds. On out of memory, the only error, the stream stays as it
+    /// was.
     pub fn send<A: Allocator + Copy>(
         &mut self,
         alloc: A,
@@ -168,7 +188,8 @@ impl MixStream {
         moment: u64,
     ) -> Result<OutPacket<A>, AllocError>
         requires { length csrcs.now ≤ most_csrcs }
-        ensures gives { IfOk result (λ out. GivesTick self.old self.new (sounding (sound_of codec csrcs.now samples.now) moment) (out ∷ [])) }
+        ensures gives { IfOk result
+            (λ out. GivesTick self.old self.new (sounding (sound_of codec csrcs.now samples.now) moment) (out ∷ [])) }
         ensures ssrc { self.new.ssrc ≡ self.old.ssrc }
         ensures err { OnErr result (self.new ≡ self.old) }
     {
@@ -176,8 +197,9 @@ impl MixStream {
         Ok(self.commit(prepared))
     }
 
-    /// A tick that sends no packet, at this moment in nanoseconds since 1970. Before the first packet it changes nothing. This takes
-    /// no memory.
+    /// Passes a silent tick, which sends no packet. `moment` is in nanoseconds since 1970.
+    ///
+    /// Before the first packet it changes nothing. It takes no memory.
     pub fn pass(&mut self, moment: u64)
         ensures gives { GivesTick self.old self.new (silent moment) [] }
         ensures ssrc { self.new.ssrc ≡ self.old.ssrc }
@@ -185,7 +207,7 @@ impl MixStream {
         self.go_on(moment);
     }
 
-    /// A tick that sends no packet, by what the stream keeps.
+    /// A silent tick, by the stream's fields.
     fn go_on(&mut self, moment: u64)
         ensures { self.new ≡ after_silence self.old moment }
     {
@@ -196,9 +218,10 @@ impl MixStream {
         }
     }
 
-    /// What a sender report tells of it, once it has sent a packet. Ticks that sent none take its timestamp and moment on too.
+    /// The counts for a sender report, once a packet was sent. Silent ticks advance the timestamp and moment too.
     pub fn counts(&self) -> Option<Counts>
-        ensures { (first_seq first_ts : ℕ) (ticks : List MixTick) → HasMixed self.now first_seq first_ts ticks → result ≡ mix_counts self.now.ssrc first_seq first_ts ticks }
+        ensures { (first_seq first_ts : ℕ) (ticks : List MixTick) → HasMixed self.now first_seq first_ts ticks
+            → result ≡ mix_counts self.now.ssrc first_seq first_ts ticks }
     {
         let ts = self.ts.wrapping_sub(TICK_UNITS);
         self.moment.map(|moment| Counts {

@@ -1,4 +1,4 @@
-//! The packets of a frame as a stream sends them.
+//! Makes the packets of a frame on a stream.
 
 ghost use Rattle.std.specs.Prelude.{◌≡◌, ℕ, ◌≤◌, ◌%◌, ◌^◌, List, ◌∷◌, [], ◌++◌, length, map, sum_by, IfOk};
 ghost use Rattle.std.specs.List.{All};
@@ -15,25 +15,28 @@ use retransmit::{Entry, Owner, PacketBytes};
 use rtp_codec::{Header, seq_next, write};
 use std::alloc::{AllocError, Allocator};
 
-/// What the packets of a frame share.
+/// What all packets of a frame share.
 #[derive(Clone, Copy)]
 pub struct Shared {
     /// The SSRC of the stream.
     pub ssrc: u32,
     /// The timestamp under which the frame is sent.
     pub ts: u32,
+    /// The desk's version and the item.
     pub stamp: Stamp,
+    /// The receiver.
     pub owner: Owner,
 }
 
-/// The octets before the payload of a packet with one contributing source. The room is for them alone.
+/// The header of a packet with one contributing source. `room` is a buffer to write it in.
 fn header_octets<A: Allocator>(
     header: &Header,
     source: u32,
     room: &mut Vec<u8, A>,
 ) -> Result<[u8; 16], AllocError>
     requires { header.now.pt ≤ highest_pt }
-    ensures { IfOk result (λ octets. (payload : List ℕ) → octets ++ payload ≡ written header.now (source ∷ []) payload) }
+    ensures { IfOk result (λ octets. (payload : List ℕ)
+        → octets ++ payload ≡ written header.now (source ∷ []) payload) }
 {
     room.clear();
     write(header, &[source], &[], room)?;
@@ -42,7 +45,7 @@ fn header_octets<A: Allocator>(
     Ok(octets)
 }
 
-/// A packet of a frame as it is sent under this number.
+/// A packet of a frame, sent under this number.
 fn entry_of<A: Allocator + Copy>(
     shared: &Shared,
     number: u16,
@@ -51,7 +54,8 @@ fn entry_of<A: Allocator + Copy>(
     room: &mut Vec<u8, A>,
 ) -> Result<Entry<A>, AllocError>
     requires { packet.now.pt ≤ highest_pt }
-    ensures { IfOk result (λ entry. entry ≡ sent_packet shared.now.ssrc number (part_of (stamped_by shared.now frame.now) packet.now)) }
+    ensures { IfOk result
+        (λ entry. entry ≡ sent_packet shared.now.ssrc number (part_of (stamped_by shared.now frame.now) packet.now)) }
 {
     let header = Header {
         marker: packet.marker,
@@ -75,7 +79,7 @@ fn entry_of<A: Allocator + Copy>(
     })
 }
 
-/// Packets of a frame as they are sent, the first under this number.
+/// The packets of a frame, sent under numbers from `first` on.
 pub fn entries_of<A: Allocator + Copy>(
     alloc: A,
     shared: &Shared,
@@ -84,7 +88,8 @@ pub fn entries_of<A: Allocator + Copy>(
     packets: &[FramePacket<A>],
 ) -> Result<Vec<Entry<A>, A>, AllocError>
     requires { All (λ p. p.pt ≤ highest_pt) packets.now }
-    ensures { IfOk result (λ v. v.items ≡ numbered shared.now.ssrc first (map (part_of (stamped_by shared.now frame.now)) packets.now)) }
+    ensures { IfOk result
+        (λ v. v.items ≡ numbered shared.now.ssrc first (map (part_of (stamped_by shared.now frame.now)) packets.now)) }
 {
     let mut entries = Vec::with_capacity(alloc, packets.len())?;
     let mut room = Vec::with_capacity(alloc, 16)?;
@@ -97,7 +102,7 @@ pub fn entries_of<A: Allocator + Copy>(
     Ok(entries)
 }
 
-/// How many octets of payload packets have, modulo 2^32.
+/// The octets of payload of these packets, modulo 2^32.
 pub fn payload_octets<A: Allocator + Copy>(packets: &[FramePacket<A>]) -> u32
     ensures { result ≡ sum_by (λ p. length p.payload) packets.now % 2 ^ 32 }
 {
@@ -108,7 +113,7 @@ pub fn payload_octets<A: Allocator + Copy>(packets: &[FramePacket<A>]) -> u32
     octets
 }
 
-/// A packet as it goes out: its number, and the octets that the window keeps too.
+/// A packet to be sent, which shares its octets with the window.
 fn out_packet<A: Allocator + Copy>(entry: &Entry<A>) -> Result<OutPacket<A>, AllocError>
     ensures { IfOk result (λ p. p ≡ out_of entry.now) }
 {
@@ -119,7 +124,7 @@ fn out_packet<A: Allocator + Copy>(entry: &Entry<A>) -> Result<OutPacket<A>, All
     })
 }
 
-/// Packets as they go out.
+/// The packets to be sent.
 pub fn out_packets<A: Allocator + Copy>(
     alloc: A,
     entries: &[Entry<A>],

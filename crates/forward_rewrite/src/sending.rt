@@ -1,22 +1,22 @@
-//! What a frame is sent by, and what goes out of it.
+//! What explains a packet, and the packets that are sent.
 
 use retransmit::PacketBytes;
 use std::alloc::{Allocator, Global};
 use std::marker::Model;
 
-/// By which version of the desk, and as which item of its lane, a frame is sent.
+/// Explains what a lane sends: the version of the desk that it followed, and the item that it answered.
 #[derive(Clone, Copy, PartialEq, Eq)]
 pub struct Stamp {
-    /// The desk version.
+    /// The version of the desk.
     pub version: u64,
-    /// The item's number in the lane.
+    /// The item's number in the lane, from 1 on.
     pub item: u64,
 }
 
-/// A packet as it goes out.
+/// A packet that is sent.
 #[derive(Drop)]
 pub struct OutPacket<A: Allocator + Copy = Global> {
-    /// Its sequence number on the outgoing stream.
+    /// The sequence number on the outgoing stream.
     pub number: u16,
     /// The octets of the whole RTP packet.
     pub bytes: PacketBytes<A>,

@@ -1,4 +1,4 @@
-//! Outgoing video streams: they number their packets in a row, keep a time of their own, and the last packets.
+//! Outgoing video streams.
 
 ghost use Rattle.std.specs.Prelude.{◌≡◌, ◌≤◌, ℕ, List, [], ◌++◌, length, map, IfOk, OnErr, option_copied};
 ghost use Rattle.std.specs.List.{AllByRecursion};
@@ -18,10 +18,13 @@ use retransmit::{Entry, Owner, Window};
 use std::alloc::{AllocError, Allocator, Global};
 use std::marker::Model;
 
-/// The clock of video timestamps, in Hz.
+/// The clock rate of video timestamps, in Hz.
 const RATE: u32 = 90000;
 
-/// An outgoing video stream. Its window keeps the last 512 packets.
+/// An outgoing video stream. It numbers its packets in a row, has timestamps of its own, and keeps its last 512
+/// packets.
+///
+/// For each frame, call [`prepare`](Self::prepare) and [`commit`](Self::commit), or [`send`](Self::send).
 #[derive(Drop)]
 pub struct Stream<A: Allocator + Copy = Global> {
     ssrc: u32,
@@ -29,9 +32,9 @@ pub struct Stream<A: Allocator + Copy = Global> {
     first_ts: u32,
     /// The number of the next packet.
     next: u16,
-    /// How many packets it has sent, modulo 2^32.
+    /// The packets that it has sent, modulo 2^32.
     packets: u32,
-    /// How many octets of payload they had, modulo 2^32.
+    /// The octets of payload that they had, modulo 2^32.
     octets: u32,
     last: Option<LastSent>,
     window: Window<A>,
@@ -43,12 +46,20 @@ impl<A: Allocator + Copy> Model for Stream<A> {
 
     ghost Value = { StreamOf };
 
-    ghost view = { λ s. record { ssrc = s.ssrc; first_ts = s.first_ts; next = s.next; packets = s.packets; octets = s.octets; last = s.last; window = s.window } };
+    ghost view = { λ s. record {
+      ssrc = s.ssrc;
+      first_ts = s.first_ts;
+      next = s.next;
+      packets = s.packets;
+      octets = s.octets;
+      last = s.last;
+      window = s.window;
+    } };
 
     ghost invariant = { λ s. IsKept s.window s.next };
 }
 
-/// Keeps packets that were sent, of all packets the last 512.
+/// Keeps packets that were sent. The window keeps the last 512.
 fn keep<A: Allocator + Copy>(window: &mut Window<A>, entries: Vec<Entry<A>, A>)
     requires few { length window.old ≤ room }
     requires goes_on { MayGoOn window.old entries.items }
@@ -60,10 +71,10 @@ fn keep<A: Allocator + Copy>(window: &mut Window<A>, entries: Vec<Entry<A>, A>)
 }
 
 impl<A: Allocator + Copy> Stream<A> {
-    /// A stream that has sent nothing. Its first packet will have this number, and its first frame this timestamp,
-    /// in units of 1/90000 second.
+    /// A stream that has sent nothing. Its first packet will have this number, and its first frame this timestamp, at
+    /// 90000 Hz.
     ///
-    /// This takes the memory of the window, and its error is want of it. No other call takes memory for the window.
+    /// It allocates for the 512 packets that it keeps. The only error is out of memory.
     pub fn new(alloc: A, ssrc: u32, first_seq: u16, first_ts: u32) -> Result<Self, AllocError>
         ensures { IfOk result (λ s. s ≡ state_of ssrc first_seq first_ts []) }
     {
@@ -79,16 +90,17 @@ impl<A: Allocator + Copy> Stream<A> {
         })
     }
 
-    /// The SSRC that its packets have.
+    /// The SSRC of its packets.
     pub fn ssrc(&self) -> u32
         ensures { result ≡ self.now.ssrc }
     {
         self.ssrc
     }
 
-    /// What a sender report tells of it, once it has sent a frame. What is sent again isn't counted.
+    /// The counts for a sender report, once a frame was sent. Resends don't count.
     pub fn counts(&self) -> Option<Counts>
-        ensures { (first_seq first_ts : ℕ) (sendings : List Sending) → HasSent self.now first_seq first_ts sendings → result ≡ counts_of self.now.ssrc first_ts sendings }
+        ensures { (first_seq first_ts : ℕ) (sendings : List Sending) → HasSent self.now first_seq first_ts sendings
+            → result ≡ counts_of self.now.ssrc first_ts sendings }
     {
         self.last.map(|last| Counts {
             ssrc: self.ssrc,
@@ -100,7 +112,7 @@ impl<A: Allocator + Copy> Stream<A> {
         })
     }
 
-    /// The timestamp of one more frame.
+    /// The timestamp of the next frame.
     fn ts_for(&self, frame: &MediaFrame<A>) -> u32
         ensures { result ≡ ts_after self.now.first_ts self.now.last frame.now }
     {
@@ -111,9 +123,10 @@ impl<A: Allocator + Copy> Stream<A> {
         }
     }
 
-    /// What one more frame is sent as, to this owner. The stream stays as it is.
+    /// Makes the packets of the next frame, for this receiver. The stream stays as it is until
+    /// [`commit`](Self::commit).
     ///
-    /// This takes all the memory that sending the frame takes, and its error is want of it.
+    /// The payloads are shared. The only error is out of memory.
     pub fn prepare(
         &self,
         alloc: A,
@@ -121,7 +134,8 @@ impl<A: Allocator + Copy> Stream<A> {
         stamp: Stamp,
         owner: Owner,
     ) -> Result<Prepared<A>, AllocError>
-        ensures sends { IfOk result (λ p. SendsNext self.now (committed self.now p) (sending_of frame.now stamp owner) p.packets) }
+        ensures sends { IfOk result
+            (λ p. SendsNext self.now (committed self.now p) (sending_of frame.now stamp owner) p.packets) }
         ensures first { IfOk result (λ p. p.first ≡ self.now.next) }
         ensures count { IfOk result (λ p. length p.packets ≡ length frame.now.frame.packets) }
         ensures whose { IfOk result (λ p. AllByRecursion (IsOf (sending_of frame.now stamp owner)) p.packets) }
@@ -129,7 +143,7 @@ impl<A: Allocator + Copy> Stream<A> {
         self.by_counters(alloc, frame, stamp, owner)
     }
 
-    /// What one more frame is sent as, by what the stream keeps.
+    /// The packets of the next frame, by the stream's fields.
     fn by_counters(
         &self,
         alloc: A,
@@ -159,7 +173,9 @@ impl<A: Allocator + Copy> Stream<A> {
         })
     }
 
-    /// Sends what was prepared of this stream as it is now. This takes no memory.
+    /// Sends a prepared frame, and keeps its packets. This takes no memory.
+    ///
+    /// The stream must be as it was when the frame was prepared.
     pub fn commit(&mut self, prepared: Prepared<A>) -> Vec<OutPacket<A>, A>
         requires { prepared.first ≡ self.old.next }
         ensures stream { self.new ≡ committed self.old prepared }
@@ -183,7 +199,7 @@ impl<A: Allocator + Copy> Stream<A> {
         out
     }
 
-    /// Sends one more frame, to this owner. Where memory is wanting, the stream stays as it was.
+    /// Prepares and commits the next frame. On out of memory, the only error, the stream stays as it was.
     pub fn send(
         &mut self,
         alloc: A,
@@ -200,9 +216,9 @@ impl<A: Allocator + Copy> Stream<A> {
         Ok(self.commit(prepared))
     }
 
-    /// The packet that was sent to this owner under this number, if it is one of the last 512.
+    /// The packet that went to this owner under this number, if it is among the last 512.
     ///
-    /// Nobody but the owner is answered.
+    /// Nobody but the owner gets it.
     pub fn find(&self, number: u16, owner: &Owner) -> Option<&Entry<A>>
         ensures { option_copied result ≡ resend_of number owner.now self.now.window }
     {
