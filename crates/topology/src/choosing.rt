@@ -1,10 +1,11 @@
-//! Which source a slot sends.
+//! Chooses the source of a slot.
 
 ghost use Rattle.std.specs.Prelude.{◌≡◌, true};
 ghost use Rattle.std.specs.List.{find, filter_map};
 ghost use Rattle.desk_rows.specs.Desk.{good};
 ghost use Rattle.topology.specs.Looking.{source_in};
-ghost use Rattle.topology.specs.Choice.{is_video_of, first_video, shown, shown_on, wanted, are_in_one_room, is_barred, chosen, choice};
+ghost use Rattle.topology.specs.Choice.{is_video_of, first_video, shown, shown_on, wanted, are_in_one_room, is_barred};
+ghost use Rattle.topology.specs.Choice.{chosen, choice};
 
 use crate::looking::{
     holder, is_muted, is_same_room, is_this, pinned, room_of_member, room_of_source, sender_of,
@@ -13,12 +14,13 @@ use crate::looking::{
 use desk_rows::{Kind, Media, Row, Rows, Slot, Source};
 use std::alloc::Allocator;
 
-/// The source that the slot of this SSRC sends: that of its subscription; without one, if its
-/// index is 0, the source that is pinned in its room; without one, the least video SSRC of the
-/// member that has the room's floor.
+/// The source that the slot of this SSRC sends, if any.
 ///
-/// There is none where that source is muted, is sent by the slot's own member or is in another room:
-/// nothing falls through to the next rule. There is none either for an SSRC that is no slot's.
+/// A subscription decides first. Without one, only a slot of index 0 gets a source: the pin of its room, or without a
+/// pin the least video SSRC of the member that has the room's floor.
+///
+/// The slot sends nothing if that source is muted, is its own member's, or is in another room. Then no later rule
+/// applies. An SSRC without a slot gives `None`.
 pub fn choice<A: Allocator + Copy>(rows: &Rows<A>, out_ssrc: u32) -> Option<u32>
     ensures source { result ≡ choice rows.now out_ssrc }
     ensures good { good rows.now ≡ true }
@@ -27,6 +29,7 @@ pub fn choice<A: Allocator + Copy>(rows: &Rows<A>, out_ssrc: u32) -> Option<u32>
     chosen(rows, &slot)
 }
 
+/// The source that this slot sends, if any.
 fn chosen<A: Allocator + Copy>(rows: &Rows<A>, slot: &Slot) -> Option<u32>
     ensures { result ≡ chosen rows.now slot.now }
 {
@@ -48,8 +51,7 @@ fn are_in_one_room<A: Allocator + Copy>(rows: &Rows<A>, slot: &Slot, source: u32
     )
 }
 
-/// Whether the slot doesn't get the source: it is muted, the slot's own member sends it, or it is in
-/// another room.
+/// Whether the slot may not send the source: it is muted, is the slot's own member's, or is in another room.
 fn is_barred<A: Allocator + Copy>(rows: &Rows<A>, slot: &Slot, source: u32) -> bool
     ensures { result ≡ is_barred rows.now slot.now source }
 {
@@ -58,7 +60,7 @@ fn is_barred<A: Allocator + Copy>(rows: &Rows<A>, slot: &Slot, source: u32) -> b
         || !are_in_one_room(rows, slot, source)
 }
 
-/// The source that the slot would get, if it may.
+/// The source that the rules name for the slot, barred or not.
 fn wanted<A: Allocator + Copy>(rows: &Rows<A>, slot: &Slot) -> Option<u32>
     ensures { result ≡ wanted rows.now slot.now }
 {
@@ -68,7 +70,7 @@ fn wanted<A: Allocator + Copy>(rows: &Rows<A>, slot: &Slot) -> Option<u32>
     }
 }
 
-/// What a slot gets without a subscription.
+/// The source for a slot without a subscription.
 fn shown_on<A: Allocator + Copy>(rows: &Rows<A>, slot: &Slot) -> Option<u32>
     ensures { result ≡ shown_on rows.now slot.now }
 {
@@ -80,7 +82,7 @@ fn shown_on<A: Allocator + Copy>(rows: &Rows<A>, slot: &Slot) -> Option<u32>
     }
 }
 
-/// What a room shows: its pin; without one, the least video SSRC of its floor holder.
+/// The source that a room shows: its pin, or without one the least video SSRC of its floor holder.
 fn shown<A: Allocator + Copy>(rows: &Rows<A>, room: u32) -> Option<u32>
     ensures { result ≡ shown rows.now room }
 {
@@ -113,12 +115,14 @@ fn first_among(these: &[Row], member: u32) -> Option<Source>
         .find(|source| is_video_of(member, source))
 }
 
+/// Whether the source is video and of this member.
 fn is_video_of(member: u32, source: &Source) -> bool
     ensures { result ≡ is_video_of member source.now }
 {
     source.member == member && source.media.is_same(Media::Video)
 }
 
+/// The source in a row.
 fn source_in(row: &Row) -> Option<Source>
     ensures { result ≡ source_in row.now }
 {

@@ -1,4 +1,4 @@
-//! Which sources the mix of a member is made of.
+//! The sources of a member's mix.
 
 ghost use Rattle.std.specs.Prelude.{◌≡◌, IfOk, filter, length, map, true};
 ghost use Rattle.std.specs.List.{filter_map};
@@ -16,24 +16,30 @@ use std::alloc::{AllocError, Allocator};
 /// An unmuted audio source of the desk, with its member's address and room.
 #[derive(Clone, Copy)]
 pub struct AudioSource {
+    /// The SSRC of the source.
     pub ssrc: u32,
+    /// The address of its member.
     pub address: Address,
+    /// The member that sends it.
     pub member: u32,
+    /// The room of its member.
     pub room: u32,
 }
 
-/// A source of a member's mix, with the member's gain for it in 256ths.
+/// A source of a member's mix.
 #[derive(Clone, Copy)]
 pub struct MixSource {
+    /// The SSRC of the source.
     pub ssrc: u32,
+    /// The address of the member that sends it.
     pub address: Address,
+    /// The member that sends it.
     pub member: u32,
+    /// The listener's gain for it in 256ths, 0 to 1024.
     pub gain: u32,
 }
 
-/// The audio sources of all rooms that aren't muted, by place of the member and then by SSRC.
-///
-/// An error says that memory was refused.
+/// The unmuted audio sources of all rooms, by place of the member and then by SSRC. The only error is out of memory.
 pub fn audio_sources<A: Allocator + Copy>(
     alloc: A,
     rows: &Rows<A>,
@@ -46,7 +52,7 @@ pub fn audio_sources<A: Allocator + Copy>(
     by_places(alloc, &mut seats)
 }
 
-/// The sources in these rows that may be heard, each at its member's place.
+/// The unmuted audio sources in these rows, each at its member's place.
 fn seats<A: Allocator + Copy>(
     alloc: A,
     rows: &Rows<A>,
@@ -105,10 +111,10 @@ fn is_muted_in(mutes: &[Row], source: u32) -> bool
     find_row(mutes, Key::Mute(source)).is_some()
 }
 
-/// The gain of a source for which none is set, in 256ths: as loud as it came.
+/// The gain of a source without a row of its own, in 256ths: as loud as it came.
 const FULL_GAIN: u32 = 256;
 
-/// The gain that these rows have for a member and a source, in 256ths.
+/// The member's gain for a source by these rows, in 256ths.
 fn gain_among(gains: &[Row], member: u32, source: u32) -> u32
     requires { in_order gains.now ≡ true }
     ensures { result ≡ gain_among gains.now member source }
@@ -119,7 +125,7 @@ fn gain_among(gains: &[Row], member: u32, source: u32) -> u32
     }
 }
 
-/// Writes the gains that these rows have for a member and each of the sources.
+/// Writes the member's gain for each of the sources, by these rows.
 fn write_each(own: &[Row], member: u32, sources: &[AudioSource], gains: &mut [u32])
     requires order { in_order own.now ≡ true }
     requires lengths { length gains.old ≡ length sources.now }
@@ -130,8 +136,9 @@ fn write_each(own: &[Row], member: u32, sources: &[AudioSource], gains: &mut [u3
     }
 }
 
-/// Writes how loud a member hears each of these sources, in 256ths: 0 to 1024, and 256 where no
-/// gain is set.
+/// Writes a member's gain for each of these sources, in 256ths: 0 to 1024. Without a gain of its own it is 256.
+///
+/// `gains` is as long as `sources`.
 pub fn write_gains<A: Allocator + Copy>(
     rows: &Rows<A>,
     member: u32,
@@ -150,17 +157,17 @@ pub fn write_gains<A: Allocator + Copy>(
     }
 }
 
-/// How loud a member hears a source, in 256ths.
+/// A member's gain for a source, in 256ths.
 fn gain_of<A: Allocator + Copy>(rows: &Rows<A>, member: u32, source: u32) -> u32
     ensures { result ≡ gain_of rows.now member source }
 {
     gain_among(rows.gains_of(member), member, source)
 }
 
-/// The sources of a member's mix: the audio sources of its room that aren't muted, its own among
-/// them, by place of the member and then by SSRC. There is none for a number that is no member's.
+/// The sources of a member's mix: the unmuted audio sources of its room, by place of the member and then by SSRC.
 ///
-/// An error says that memory was refused.
+/// The member's own sources are among them, and the mixer leaves them out. A number without a member gives none. The
+/// only error is out of memory.
 pub fn mix_plan<A: Allocator + Copy>(
     alloc: A,
     rows: &Rows<A>,
@@ -178,7 +185,7 @@ pub fn mix_plan<A: Allocator + Copy>(
     }
 }
 
-/// Those of the sources that are in the room, with the member's gains for them.
+/// The sources of the room, with the member's gains for them.
 fn room_mix<A: Allocator + Copy>(
     alloc: A,
     rows: &Rows<A>,

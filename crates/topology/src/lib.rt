@@ -1,5 +1,17 @@
-//! Who gets what a source sends: which source each slot chooses, the receivers of a source, and the
-//! sources of a mix.
+//! Who gets what, by the rows of a desk: the source that each slot chooses, the receivers of a source, the sources of a
+//! mix.
+//!
+//! Begin with [`receivers_of`] for a source, [`choice`] for a slot, and [`mix_plan`] for a member. A contract sees the
+//! rows as a desk. Each answer is a definition over the whole desk.
+//!
+//! ```rust
+//! // Slots 504 and 508, of members 11 and 13, have subscribed to source 101 of member 10 at this address.
+//! let address = Address { ip: [127, 0, 0, 1], port: 5010 };
+//! let source = choice(&rows, 504); // Some(101)
+//! let receivers = receivers_of(alloc, &rows, 101, &address)?; // both slots, with the addresses of their members
+//! ```
+//!
+//! `choice` and `receivers_of` of worked_desk are these calls on such a desk, with their answers proved.
 #![tactic(auto)]
 
 mod choosing;

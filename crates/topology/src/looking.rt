@@ -1,8 +1,10 @@
-//! What a desk has under a number.
+//! Looks rows up by number.
 
 ghost use Rattle.std.specs.Prelude.{◌≡◌, true};
 ghost use Rattle.desk_rows.specs.Desk.{good, same_room};
-ghost use Rattle.topology.specs.Looking.{member_at, slot_at, source_at, subscribed, pinned, holder, is_muted, is_this, sender_of, room_of_member, room_of_source, has_address, source_from, member_from};
+ghost use Rattle.topology.specs.Looking.{member_at, slot_at, source_at, subscribed, pinned, holder, is_muted, is_this};
+ghost use Rattle.topology.specs.Looking.{sender_of, room_of_member, room_of_source, has_address, source_from};
+ghost use Rattle.topology.specs.Looking.{member_from};
 ghost use Rattle.topology.specs.Receivers.{slots_to};
 
 use desk_rows::{Key, Member, Row, Rows, Slot, Source};
@@ -41,14 +43,14 @@ pub fn slot_at<A: Allocator + Copy>(rows: &Rows<A>, out_ssrc: u32) -> Option<Slo
     }
 }
 
-/// The slots of a member, by index.
+/// The slots of a member, by rising index.
 pub fn slots_to<A: Allocator + Copy>(rows: &Rows<A>, member: u32) -> &[Slot]
     ensures { result.now ≡ slots_to rows.now member }
 {
     rows.slots_of(member)
 }
 
-/// The source that the slot of this SSRC has subscribed to.
+/// The source that the slot of this SSRC is subscribed to.
 pub(crate) fn subscribed<A: Allocator + Copy>(rows: &Rows<A>, out_ssrc: u32) -> Option<u32>
     ensures { result ≡ subscribed rows.now out_ssrc }
 {
@@ -79,7 +81,7 @@ pub(crate) fn holder<A: Allocator + Copy>(rows: &Rows<A>, room: u32) -> Option<u
     }
 }
 
-/// Whether nobody is to hear or see the source.
+/// Whether the source is muted, so that nobody hears or sees it.
 pub(crate) fn is_muted<A: Allocator + Copy>(rows: &Rows<A>, source: u32) -> bool
     ensures mute { result ≡ is_muted rows.now source }
     ensures good { good rows.now ≡ true }
@@ -87,7 +89,7 @@ pub(crate) fn is_muted<A: Allocator + Copy>(rows: &Rows<A>, source: u32) -> bool
     rows.find(&Key::Mute(source)).is_some()
 }
 
-/// Whether there is a number, and it is this one.
+/// Whether a number was found, and it is this one.
 pub(crate) fn is_this(number: u32, found: Option<u32>) -> bool
     ensures { result ≡ is_this number found }
 {
@@ -97,7 +99,7 @@ pub(crate) fn is_this(number: u32, found: Option<u32>) -> bool
     }
 }
 
-/// The member that a source is of.
+/// The number of the member that sends a source.
 pub fn sender_of<A: Allocator + Copy>(rows: &Rows<A>, source: u32) -> Option<u32>
     ensures { result ≡ sender_of rows.now source }
 {
@@ -118,7 +120,7 @@ pub(crate) fn room_of_member<A: Allocator + Copy>(rows: &Rows<A>, member: u32) -
     }
 }
 
-/// The room that a source is in: that of its member.
+/// The room of a source's member.
 pub(crate) fn room_of_source<A: Allocator + Copy>(rows: &Rows<A>, source: u32) -> Option<u32>
     ensures { result ≡ room_of_source rows.now source }
 {
@@ -126,7 +128,7 @@ pub(crate) fn room_of_source<A: Allocator + Copy>(rows: &Rows<A>, source: u32) -
     room_of_member(rows, sender)
 }
 
-/// Whether both are in a room, and in one.
+/// Whether both are in one room.
 pub(crate) fn is_same_room(one: Option<u32>, other: Option<u32>) -> bool
     ensures { result ≡ same_room one other }
 {
@@ -136,7 +138,7 @@ pub(crate) fn is_same_room(one: Option<u32>, other: Option<u32>) -> bool
     }
 }
 
-/// Whether there is a member, and this is its address.
+/// Whether a member was found, and has this address.
 fn has_address(address: &Address, found: Option<Member>) -> bool
     ensures { result ≡ has_address address.now found }
 {
@@ -146,7 +148,7 @@ fn has_address(address: &Address, found: Option<Member>) -> bool
     }
 }
 
-/// The source of this SSRC, if its member has this address.
+/// The source of this SSRC, if its member has this address. Packets from elsewhere are not the source's.
 pub fn source_from<A: Allocator + Copy>(
     rows: &Rows<A>,
     source: u32,

@@ -1,4 +1,4 @@
-//! Who gets what a source sends.
+//! The receivers of a source.
 
 ghost use Rattle.std.specs.Prelude.{◌≡◌, true, List, IfOk, Some};
 ghost use Rattle.std.specs.List.{filter_map};
@@ -19,17 +19,19 @@ use desk_rows::{Member, Rows, Slot, Sub};
 use rtp_codec::Address;
 use std::alloc::{AllocError, Allocator};
 
-/// A slot that a frame goes to, and its member's address.
+/// A receiver of a source's frames.
 #[derive(Clone, Copy)]
 pub struct Receiver {
+    /// The slot whose stream sends them.
     pub slot: Slot,
+    /// The address of the slot's member.
     pub address: Address,
 }
 
-/// The receivers of what a source sends from an address: the slots that chose it, by place of the
-/// member and then by index. There is none where the source's member has another address.
+/// The receivers of what a source sends from an address: the slots that chose it, by place of the member and then by
+/// index.
 ///
-/// An error says that memory was refused.
+/// There are none if the source's member has another address. The only error is out of memory.
 pub fn receivers_of<A: Allocator + Copy>(
     alloc: A,
     rows: &Rows<A>,
@@ -50,7 +52,7 @@ pub fn receivers_of<A: Allocator + Copy>(
     }
 }
 
-/// The member who sends the source from the address, unless the source is muted.
+/// The member that sends the source from this address, unless the source is muted.
 fn sender_from<A: Allocator + Copy>(
     rows: &Rows<A>,
     source: u32,
@@ -70,7 +72,7 @@ fn sender_from<A: Allocator + Copy>(
     }
 }
 
-/// The slots that get the source: those whose subscription names it, and those that are shown it.
+/// The slots that get the source: by their subscription, or because their room shows it.
 fn takers<A: Allocator + Copy>(
     alloc: A,
     rows: &Rows<A>,
@@ -78,7 +80,9 @@ fn takers<A: Allocator + Copy>(
     sender: &Member,
 ) -> Result<Vec<Slot, A>, AllocError>
     requires { sender_of rows.now source ≡ Some sender.now.member }
-    ensures { IfOk result (λ v. (shown : List MemberRow) × AreShown rows.now source sender.now.room shown × (v.items ≡ takers rows.now source sender.now shown)) }
+    ensures { IfOk result
+        (λ v. (shown : List MemberRow) × AreShown rows.now source sender.now.room shown
+        × (v.items ≡ takers rows.now source sender.now shown)) }
 {
     rows.subs_of(source)
         .iter()
@@ -91,8 +95,7 @@ fn takers<A: Allocator + Copy>(
         .collect(alloc)
 }
 
-/// Whether the sender's room shows its source: by the pin; without one, by the floor, if the sender has
-/// it.
+/// Whether the sender's room shows the source: by its pin, or without one because the sender has the floor.
 fn is_shown<A: Allocator + Copy>(rows: &Rows<A>, source: u32, sender: &Member) -> bool
     requires { sender_of rows.now source ≡ Some sender.now.member }
     ensures { result ≡ is_this source (shown rows.now sender.now.room) }
@@ -106,7 +109,7 @@ fn is_shown<A: Allocator + Copy>(rows: &Rows<A>, source: u32, sender: &Member) -
     }
 }
 
-/// The members of the sender's room, if it shows its source, and else none.
+/// The members of the sender's room if it shows the source, else none.
 fn members_if_shown<'a, A: Allocator + Copy>(
     rows: &'a Rows<A>,
     source: u32,
@@ -144,7 +147,8 @@ fn first_slot<A: Allocator + Copy>(rows: &Rows<A>, member: u32) -> Option<Slot>
     }
 }
 
-/// The slot of index 0 of a member of the sender's room, not the sender, if it has no subscription.
+/// The slot of index 0 of a member that sees what its room shows: in the sender's room, not the sender, and without a
+/// subscription.
 fn viewer<A: Allocator + Copy>(rows: &Rows<A>, sender: &Member, member: &Member) -> Option<Slot>
     ensures { result ≡ viewer rows.now sender.now member.now }
 {
@@ -172,6 +176,7 @@ fn seat<A: Allocator + Copy>(rows: &Rows<A>, slot: &Slot) -> Option<Seated<Recei
     })
 }
 
+/// The slots as receivers, at their members' places.
 fn seats<A: Allocator + Copy>(
     alloc: A,
     rows: &Rows<A>,
