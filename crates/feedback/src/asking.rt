@@ -1,4 +1,4 @@
-//! What the bridge asks of a source.
+//! Writes what the bridge asks of a source.
 
 ghost use Rattle.std.specs.Prelude.{◌≡◌, ◌≤◌, ◌++◌, List, length, map, IfOk, OnOk};
 ghost use Rattle.rtcp_codec.specs.declared.nack.NackWord.{NackWord};
@@ -30,14 +30,15 @@ fn seqs_of<A: Allocator>(alloc: A, exts: &[i64]) -> Result<Vec<u16, A>, AllocErr
     Ok(seqs)
 }
 
-/// Appends a NACK of the words, where there are any.
+/// Appends a NACK of these words, if there are any.
 fn push_nack<A: Allocator + Copy>(
     packets: &mut Vec<Rtcp<A>, A>,
     sender: u32,
     media: u32,
     words: Vec<NackWord, A>,
 ) -> Result<(), AllocError>
-    ensures { OnOk result (packets_of packets.new.items ≡ packets_of packets.old.items ++ nack_of sender media words.items) }
+    ensures { OnOk result (packets_of packets.new.items
+        ≡ packets_of packets.old.items ++ nack_of sender media words.items) }
 {
     if words.is_empty() {
         return Ok(());
@@ -50,7 +51,7 @@ fn push_nack<A: Allocator + Copy>(
     Ok(())
 }
 
-/// Appends a PLI, where it is asked for.
+/// Appends a PLI, if `pli` says so.
 fn push_pli<A: Allocator + Copy>(
     packets: &mut Vec<Rtcp<A>, A>,
     sender: u32,
@@ -65,7 +66,7 @@ fn push_pli<A: Allocator + Copy>(
     Ok(())
 }
 
-/// The packets that go up to a source.
+/// The packets for a source.
 fn packets_for<A: Allocator + Copy>(
     alloc: A,
     bridge_ssrc: u32,
@@ -75,7 +76,9 @@ fn packets_for<A: Allocator + Copy>(
     pli: bool,
 ) -> Result<Vec<Rtcp<A>, A>, AllocError>
     requires { IsCname cname.now }
-    ensures packets { IfOk result (λ packets. packets_of packets.items ≡ upstream_packets (record { ssrc = bridge_ssrc; cname = cname.now }) source words.items pli) }
+    ensures packets { IfOk result
+        (λ packets. packets_of packets.items
+        ≡ upstream_packets (record { ssrc = bridge_ssrc; cname = cname.now }) source words.items pli) }
     ensures name { OnOk result (IsWritable (named bridge_ssrc cname.now)) }
 {
     let mut packets = Vec::with_capacity(alloc, 4)?;
@@ -93,16 +96,17 @@ fn packets_for<A: Allocator + Copy>(
 fn words_for<A: Allocator + Copy>(alloc: A, exts: &[i64]) -> Result<Vec<NackWord, A>, AllocError>
     ensures names { IfOk result (λ v. numbers_named v.items ≡ map seq_of exts.now) }
     ensures packed { IfOk result (λ v. ArePacked v.items) }
-    ensures only { (words : List NackWord) → IsPacking (map seq_of exts.now) words → IfOk result (λ v. v.items ≡ words) }
+    ensures only { (words : List NackWord) → IsPacking (map seq_of exts.now) words
+        → IfOk result (λ v. v.items ≡ words) }
 {
     nack_words(alloc, &seqs_of(alloc, exts)?)
 }
 
-/// What goes up to a source: a compound in which the bridge names itself, asks for the packets with these extended numbers by a
-/// generic NACK, where there are any, and for a whole picture by a PLI, where `pli` says so.
+/// Writes the compound that goes to a source: an empty receiver report, the bridge's canonical name, a NACK if there
+/// are numbers, and a PLI if `pli` says so (RFC 3550 section 6.1, RFC 4585 sections 6.2.1 and 6.3.1).
 ///
-/// Each number is asked for by its low 16 bits, in the order given. There are at most 65,533, so that a word for each
-/// fits the 16 bits of a packet's length.
+/// `nacks` are extended sequence numbers, at most 65,533. The NACK names their low 16 bits, in this order. The name has
+/// 1 to 255 octets. The only error is out of memory.
 pub fn upstream<A: Allocator + Copy>(
     alloc: A,
     bridge_ssrc: u32,
@@ -113,8 +117,13 @@ pub fn upstream<A: Allocator + Copy>(
 ) -> Result<Vec<u8, A>, AllocError>
     requires name { IsCname cname.now }
     requires few { length nacks.now ≤ most_words }
-    ensures packed { (words : List NackWord) → IsPacking (map seq_of nacks.now) words → IfOk result (λ v. v.items ≡ written (upstream_packets (record { ssrc = bridge_ssrc; cname = cname.now }) source words pli)) }
-    ensures found { IfOk result (λ v. (words : List NackWord) × IsUpstream (record { ssrc = bridge_ssrc; cname = cname.now }) source nacks.now pli words v.items) }
+    ensures packed { (words : List NackWord) → IsPacking (map seq_of nacks.now) words
+        → IfOk result
+        (λ v. v.items
+        ≡ written (upstream_packets (record { ssrc = bridge_ssrc; cname = cname.now }) source words pli)) }
+    ensures found { IfOk result
+        (λ v. (words : List NackWord)
+        × IsUpstream (record { ssrc = bridge_ssrc; cname = cname.now }) source nacks.now pli words v.items) }
 {
     let words = words_for(alloc, nacks)?;
     let packets = packets_for(alloc, bridge_ssrc, cname, source, words, pli)?;

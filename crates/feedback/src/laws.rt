@@ -1,4 +1,4 @@
-//! Laws of the definitions, as functions that do nothing when they run.
+//! Laws of the definitions: functions that do nothing when they run.
 
 ghost use Rattle.std.specs.Prelude.{◌≡◌, ℕ, true, nat_eq, if◌then◌else◌, List, [], ◌∷◌, ◌++◌, filter, Some};
 ghost use Rattle.std.specs.List.{list_any};
@@ -12,16 +12,20 @@ ghost use Rattle.feedback.specs.PassedUp.{is_of_member_at, pli_up};
 
 use topology::choices_stay_in_the_room;
 
-/// Each number of a list is kept once, and no other one; a further number is kept behind the others
-/// where it is new.
+/// A law: each number of a list is kept once, and no other. A further number is kept last, if it is new.
 pub fn each_number_once()
-    ensures once { (numbers : List ℕ) (n : ℕ) → filter (nat_eq n) (firsts numbers) ≡ (if list_any (nat_eq n) numbers then n ∷ [] else []) }
-    ensures one_more { (numbers : List ℕ) (n : ℕ) → firsts (numbers ++ n ∷ []) ≡ (if list_any (nat_eq n) numbers then firsts numbers else firsts numbers ++ n ∷ []) }
+    ensures once { (numbers : List ℕ) (n : ℕ)
+        → filter (nat_eq n) (firsts numbers) ≡ (if list_any (nat_eq n) numbers then n ∷ [] else []) }
+    ensures one_more { (numbers : List ℕ) (n : ℕ)
+        → firsts (numbers ++ n ∷ [])
+        ≡ (if list_any (nat_eq n) numbers then firsts numbers else firsts numbers ++ n ∷ []) }
 {}
 
-/// On a good desk, a picture loss that a slot's member tells is passed up wherever the slot chose a source: this has a member.
+/// A law: on a good desk, a PLI from a slot's member is passed up whenever the slot chose a source.
 pub fn picture_losses_reach_a_sender()
-    ensures { (desk : Desk) (from : Address) (out_ssrc source : ℕ) → good desk ≡ true → is_of_member_at desk from (slot_at desk out_ssrc) ≡ true → choice desk out_ssrc ≡ Some source → is_some (pli_up desk from out_ssrc) ≡ true }
+    ensures { (desk : Desk) (from : Address) (out_ssrc source : ℕ) → good desk ≡ true
+        → is_of_member_at desk from (slot_at desk out_ssrc) ≡ true → choice desk out_ssrc ≡ Some source
+        → is_some (pli_up desk from out_ssrc) ≡ true }
 {
     choices_stay_in_the_room();
 }

@@ -1,7 +1,15 @@
-//! What receivers of outgoing streams ask for, and what is asked of the sources.
+//! Feedback (RFC 4585): NACKs and PLIs that receivers send to the bridge, and those that the bridge sends to sources.
 //!
-//! Begin with [`numbers_of`], which tells the sequence numbers of the packets that a receiver asks for again; [`resend`] finds them in
-//! the stream's window. [`pli_up`] tells which source's picture a receiver lost, and [`upstream`] is what the bridge itself asks for.
+//! Begin with [`numbers_of`], which lists the sequence numbers of a NACK. [`resend`] finds these packets in a stream's
+//! retransmission buffer. [`pli_up`] leads a receiver's PLI to the source that its slot chose. [`upstream`] writes the
+//! bridge's own NACK and PLI for a source. A contract sees packets and desk as values.
+//!
+//! ```rust
+//! // The bridge, SSRC 1, asks source 101 for packet 102.
+//! let compound = upstream(alloc, 1, b"bridge", 101, &[102], false)?;
+//! ```
+//!
+//! `a_lost_packet_is_asked_for` of worked_media is this call, with its octets proved.
 #![tactic(auto)]
 
 mod asking;

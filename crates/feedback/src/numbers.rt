@@ -1,4 +1,4 @@
-//! The numbers of packets that a receiver asks for.
+//! The sequence numbers that a receiver asks for.
 
 ghost use Rattle.std.specs.Prelude.{◌≡◌, [], fold, IfOk, OnOk};
 ghost use Rattle.rtcp_codec.specs.Nack.{numbers_named};
@@ -9,10 +9,10 @@ ghost use Rattle.feedback.specs.inner.Seen.{added, Marks};
 use rtcp_codec::{NackWord, Rtcp, nack_numbers};
 use std::alloc::{AllocError, Allocator};
 
-/// How many sequence numbers there are.
+/// The number of sequence numbers.
 const NUMBERS: usize = 1 << 16;
 
-/// Appends the number, where it has no mark, and marks it.
+/// Appends the number and marks it, unless it has a mark.
 fn add<A: Allocator>(
     numbers: &mut Vec<u16, A>,
     marks: &mut [bool],
@@ -31,7 +31,7 @@ fn add<A: Allocator>(
     Ok(())
 }
 
-/// Appends those of more numbers that have no mark, each once.
+/// Appends the numbers without a mark, each once.
 fn add_all<A: Allocator>(
     numbers: &mut Vec<u16, A>,
     marks: &mut [bool],
@@ -47,14 +47,14 @@ fn add_all<A: Allocator>(
     Ok(())
 }
 
-/// Marks of which none is set.
+/// Marks, none of which is set.
 fn unmarked<A: Allocator>(alloc: A) -> Result<Vec<bool, A>, AllocError>
     ensures { IfOk result (λ marks. Marks marks.items []) }
 {
     vec![in alloc; false; NUMBERS]
 }
 
-/// Numbers, each at its first place.
+/// The numbers, each at its first place only.
 pub(crate) fn each_once<A: Allocator + Copy>(
     alloc: A,
     numbers: &[u16],
@@ -78,10 +78,10 @@ fn numbers_in<A: Allocator + Copy>(alloc: A, words: &[NackWord]) -> Result<Vec<u
     Ok(numbers)
 }
 
-/// The sequence numbers that a packet asks for: those of a generic NACK in the order of its words, repeats
-/// included. No other packet asks for any.
+/// The sequence numbers that a packet asks for (RFC 4585 section 6.2.1).
 ///
-/// [`resend`](crate::resend) answers each number once.
+/// A generic NACK asks for those of its words, in their order, with repeats. No other packet asks for any.
+/// [`resend`](crate::resend) answers each number once. The only error is out of memory.
 pub fn numbers_of<A: Allocator + Copy, B: Allocator>(
     alloc: A,
     packet: &Rtcp<B>,

@@ -1,4 +1,4 @@
-//! Picture losses of receivers.
+//! Passes a receiver's picture loss on to the source.
 
 ghost use Rattle.std.specs.Prelude.{◌≡◌};
 ghost use Rattle.topology.specs.Looking.{slot_at};
@@ -9,7 +9,7 @@ use rtp_codec::Address;
 use std::alloc::Allocator;
 use topology::{choice, member_at, member_from, sender_of, slot_at};
 
-/// Whether the slot of this SSRC is there, and is of the member at this address.
+/// Whether the slot of this SSRC exists, and belongs to the member at this address.
 fn is_of_member_at<A: Allocator + Copy>(rows: &Rows<A>, from: &Address, out_ssrc: u32) -> bool
     ensures { result ≡ is_of_member_at rows.now from.now (slot_at rows.now out_ssrc) }
 {
@@ -22,7 +22,7 @@ fn is_of_member_at<A: Allocator + Copy>(rows: &Rows<A>, from: &Address, out_ssrc
     }
 }
 
-/// A source, and the address of its member.
+/// A source with the address of its member.
 fn with_address<A: Allocator + Copy>(rows: &Rows<A>, source: u32) -> Option<(Address, u32)>
     ensures { result ≡ with_address rows.now source }
 {
@@ -31,10 +31,10 @@ fn with_address<A: Allocator + Copy>(rows: &Rows<A>, source: u32) -> Option<(Add
     Some((member.address, source))
 }
 
-/// To which address, and for which source, a receiver's picture loss indication about an outgoing stream is passed up: to the
-/// member of the source that the stream's slot has chosen, whether or not the stream has begun.
+/// Where a receiver's PLI about an outgoing stream goes (RFC 4585 section 6.3.1): the address of the source's member,
+/// and the source that the stream's slot chose.
 ///
-/// It is passed up only where it came from the address of the slot's member, as the desk has it now.
+/// `from` must be the present address of the slot's member; else the PLI goes nowhere. The stream need not have begun.
 pub fn pli_up<A: Allocator + Copy>(
     rows: &Rows<A>,
     from: &Address,

@@ -1,4 +1,4 @@
-//! Packets that are sent again.
+//! Finds the packets to send again.
 
 ghost use Rattle.std.specs.Prelude.{◌≡◌, ◌++◌, [], IfOk, OnOk, option_copied};
 ghost use Rattle.std.specs.List.{filter_map, cons_option};
@@ -13,7 +13,7 @@ use rtp_codec::Address;
 use std::alloc::{AllocError, Allocator};
 use topology::member_from;
 
-/// Appends another handle of the packet that was found, if one was.
+/// Appends a copy of the packet that was found, which shares its octets.
 fn append<A: Allocator + Copy>(
     entries: &mut Vec<Entry<A>, A>,
     found: Option<&Entry<A>>,
@@ -26,14 +26,15 @@ fn append<A: Allocator + Copy>(
     Ok(())
 }
 
-/// The packets of the stream that this owner can be sent again for the numbers, in their order.
+/// The owner's packets of these numbers that the stream still has, in their order.
 fn copies<A: Allocator + Copy>(
     alloc: A,
     stream: &Stream<A>,
     owner: &Owner,
     numbers: &[u16],
 ) -> Result<Vec<Entry<A>, A>, AllocError>
-    ensures { IfOk result (λ entries. entries.items ≡ filter_map (λ n. resend_of n owner.now stream.now.window) numbers.now) }
+    ensures { IfOk result
+        (λ entries. entries.items ≡ filter_map (λ n. resend_of n owner.now stream.now.window) numbers.now) }
 {
     let mut entries = Vec::new(alloc);
     for number in numbers {
@@ -42,9 +43,10 @@ fn copies<A: Allocator + Copy>(
     Ok(entries)
 }
 
-/// The packets of a stream that are sent again to who asks for these sequence numbers from an address:
-/// to the member that is there now, those of the last 512 that went to it at this address. Each number
-/// counts at its first place, and the packets stand in the order in which they are asked for.
+/// The packets of a stream to send again, for these sequence numbers and the address that asks.
+///
+/// Only the member at this address now gets any: those of the last 512 packets that went to it at this address. They
+/// stand in the order of the numbers, and a repeated number counts once. The only error is out of memory.
 pub fn resend<A: Allocator + Copy>(
     alloc: A,
     rows: &Rows<A>,
