@@ -1,4 +1,4 @@
-//! Laws of the definitions, as functions that do nothing when they run.
+//! Laws of the definitions: functions that do nothing when they run.
 
 ghost use Rattle.std.specs.Prelude.{◌≡◌, ℕ, ◌+◌, ◌*◌, ◌/◌, ◌%◌, ◌^◌, ◌<◌, ◌≤◌, List};
 ghost use Rattle.std.specs.List.{flat_map};
@@ -7,17 +7,20 @@ ghost use Rattle.forward_rewrite.specs.declared.counts.Counts.{Counts};
 ghost use Rattle.reports.specs.Times.{second, from_1900_to_1970, ntp_of, ts_at};
 ghost use Rattle.reports.specs.ReceiverReports.{receiver_reports, blocks_in};
 
-/// The reports of blocks tell each of them once, in their order.
+/// A law: receiver reports contain each of their blocks once, in order.
 pub fn blocks_are_told_once()
     ensures { (ssrc : ℕ) (blocks : List ReportBlock) → flat_map blocks_in (receiver_reports ssrc blocks) ≡ blocks }
 {}
 
-/// A report of the moment of the last frame or tick, or of an earlier one, has its timestamp, and so many seconds later it is
-/// ahead by as many times the rate. The high 32 bits of the NTP timestamp are the seconds since 1900, which begin anew 2085978496 seconds
-/// after 1970, in 2036; the low 32 bits are the part of a second, in units of 2^-32, rounded down.
+/// A law of the timestamps in sender reports.
+///
+/// Up to the moment of the last frame or tick, the RTP timestamp is that one's. Each second later it is ahead by the
+/// rate. The high 32 bits of the NTP timestamp are the seconds since 1900, modulo 2^32: they are 0 in 2036,
+/// 2,085,978,496 seconds after 1970. The low 32 bits are the fraction of a second in units of 2^-32, rounded down.
 pub fn times_of_reports()
     ensures still { (c : Counts) (moment : ℕ) → c.ts < 2 ^ 32 → moment ≤ c.moment → ts_at c moment ≡ c.ts }
-    ensures ahead { (c : Counts) (seconds : ℕ) → ts_at c (c.moment + seconds * second) ≡ (c.ts + seconds * c.rate) % 2 ^ 32 }
+    ensures ahead { (c : Counts) (seconds : ℕ)
+        → ts_at c (c.moment + seconds * second) ≡ (c.ts + seconds * c.rate) % 2 ^ 32 }
     ensures seconds { (moment : ℕ) → ntp_of moment / 2 ^ 32 ≡ (moment / second + from_1900_to_1970) % 2 ^ 32 }
     ensures not_later { (moment : ℕ) → ntp_of moment % 2 ^ 32 * second ≤ moment % second * 2 ^ 32 }
     ensures not_earlier { (moment : ℕ) → moment % second * 2 ^ 32 < (ntp_of moment % 2 ^ 32 + 1) * second }

@@ -1,4 +1,4 @@
-//! What receivers tell of losses.
+//! Reads what receivers report of losses.
 
 ghost use Rattle.std.specs.Prelude.{◌≡◌};
 ghost use Rattle.reports.specs.LossNotes.{note_of};
@@ -7,24 +7,24 @@ use forward_rewrite::{Owner, Stream};
 use rtcp_codec::ReportBlock;
 use std::alloc::Allocator;
 
-/// What a receiver's report block says of an outgoing stream.
+/// A receiver's losses on an outgoing stream, by its report block.
 #[derive(Clone, Copy)]
 pub struct LossNote {
-    /// The stream's SSRC.
+    /// The SSRC of the stream.
     pub out_ssrc: u32,
-    /// The share of packets that was lost since the receiver's last report, in 256ths.
+    /// The fraction of packets lost since the receiver's last report, in 256ths.
     pub fraction: u8,
-    /// How many packets were lost in all, negative where duplicates came: -8388608 to 8388607.
+    /// The packets lost in all: -8,388,608 to 8,388,607. Duplicates make it negative.
     pub lost: i32,
-    /// The source's packet that the receiver had as its highest, by the source's SSRC and the extended sequence number, where
-    /// that can still be told.
+    /// The source's packet that the receiver got last by number: its SSRC and extended sequence number. `None` if the
+    /// stream no longer has it.
     pub source: Option<(u32, i64)>,
 }
 
-/// What a report block that came from this owner says of the stream that it is about (RFC 3550 section 6.4.1).
+/// Reads a report block that this owner sent about this stream (RFC 3550 section 6.4.1).
 ///
-/// The highest number leads back to a source's packet where it is, modulo 65536, that of one of the stream's last 512 packets,
-/// and this packet went to the owner.
+/// The block's highest number leads back to the source's packet, if its low 16 bits are those of one of the stream's
+/// last 512 packets, and that packet went to the owner.
 pub fn note<A: Allocator + Copy>(block: &ReportBlock, owner: &Owner, stream: &Stream<A>) -> LossNote
     ensures { result ≡ note_of block.now owner.now stream.now.window }
 {

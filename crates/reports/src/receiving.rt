@@ -1,4 +1,4 @@
-//! Receiver reports.
+//! Writes receiver reports.
 
 ghost use Rattle.std.specs.Prelude.{◌≡◌, ◌<◌, length, IfOk, OnOk};
 ghost use Rattle.std.specs.List.{AllByRecursion};
@@ -13,10 +13,10 @@ ghost use Rattle.reports.specs.ReceiverReports.{blocks_at, count_of_reports, rec
 use rtcp_codec::{ReceiverReport, ReportBlock, Rtcp, compound_of, named};
 use std::alloc::{AllocError, Allocator};
 
-/// The most blocks of a report.
+/// The most blocks of a report (RFC 3550 section 6.4.1).
 const MOST_BLOCKS: usize = 31;
 
-/// How many reports so many blocks take.
+/// The number of reports for this number of blocks.
 fn count_of_reports(blocks: usize) -> usize
     ensures { result ≡ count_of_reports blocks }
 {
@@ -66,10 +66,11 @@ fn packets_for<A: Allocator + Copy>(
     Ok(packets)
 }
 
-/// What the sender of sources is told of them: the report blocks in their order, 31 to a receiver report, and behind the reports the
-/// canonical name, of 1 to 255 octets, all under the bridge's SSRC (RFC 3550 sections 6.1, 6.4.2, 6.5.1).
+/// Writes the compound for the sender of sources: receiver reports of up to 31 blocks each, then the canonical name
+/// (RFC 3550 sections 6.1, 6.4.2, 6.5.1).
 ///
-/// Without a block there is one report, of no blocks. Each block's loss has 24 bits: -8388608 to 8388607.
+/// All are under the bridge's SSRC, and the blocks keep their order. Without a block there is one report without
+/// blocks. Each loss is -8,388,608 to 8,388,607. The name has 1 to 255 octets. The only error is out of memory.
 pub fn receiver_report<A: Allocator + Copy>(
     alloc: A,
     bridge_ssrc: u32,

@@ -1,4 +1,4 @@
-//! Sender reports.
+//! Writes sender reports.
 
 ghost use Rattle.std.specs.Prelude.{◌≡◌, IfOk};
 ghost use Rattle.rtcp_codec.specs.CanonicalName.{IsCname};
@@ -36,11 +36,11 @@ fn packets_for<A: Allocator + Copy>(
     Ok(packets)
 }
 
-/// What a stream's receiver is told of it at a moment, in nanoseconds since 1970: a sender report without blocks and the canonical
-/// name, of 1 to 255 octets, under the stream's SSRC (RFC 3550 sections 6.4.1, 6.5.1).
+/// Writes the compound for the receiver of a stream: a sender report without blocks, then the canonical name, both
+/// under the stream's SSRC (RFC 3550 sections 6.4.1, 6.5.1).
 ///
-/// The RTP timestamp is the one that the stream's time has reached at the moment. Where the last frame or tick is later than
-/// the moment, it is that one's.
+/// `moment` is in nanoseconds since 1970. The RTP timestamp is that of the last frame or tick, advanced to this moment.
+/// If the moment is earlier, it is not advanced. The name has 1 to 255 octets. The only error is out of memory.
 pub fn sender_report<A: Allocator + Copy>(
     alloc: A,
     counts: &Counts,

@@ -1,18 +1,18 @@
-//! The moment of a report, by the wall clock and by the stream's.
+//! The NTP and RTP timestamps of a report's moment.
 
 ghost use Rattle.std.specs.Prelude.{◌≡◌};
 ghost use Rattle.reports.specs.Times.{ntp_of, ts_at};
 
 use forward_rewrite::Counts;
 
-/// The nanoseconds of a second and of a microsecond, and the microseconds of a second.
+/// Nanoseconds in a second, nanoseconds in a microsecond, and microseconds in a second.
 const SECOND: u64 = 1_000_000_000;
 
 const MICROSECOND: u64 = 1000;
 
 const MICROSECONDS: u128 = 1_000_000;
 
-/// The seconds from 1900, from which NTP counts, to 1970, from which moments count.
+/// The seconds from 1900, where NTP begins, to 1970, where moments begin.
 const FROM_1900_TO_1970: u64 = 2_208_988_800;
 
 /// The NTP timestamp of a moment in nanoseconds since 1970 (RFC 3550 section 4).
@@ -24,7 +24,7 @@ pub fn ntp_of(moment: u64) -> u64
     seconds * (1 << 32) + fraction
 }
 
-/// The RTP timestamp of a moment in nanoseconds since 1970: that of the last frame or tick, advanced at the stream's rate.
+/// The RTP timestamp of a moment in nanoseconds since 1970: that of the last frame or tick, advanced at the clock rate.
 pub fn ts_at(counts: &Counts, moment: u64) -> u32
     ensures { result ≡ ts_at counts.now moment }
 {
