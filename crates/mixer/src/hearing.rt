@@ -1,4 +1,4 @@
-//! What one member hears.
+//! Mixes for one member.
 
 ghost use Rattle.std.specs.Prelude.{◌≡◌, ◌≤◌, ◌<◌, List, length, map, take};
 ghost use Rattle.desk_rows.specs.Desk.{good};
@@ -12,17 +12,19 @@ use mix_minus::{Contributors, mix_by_total};
 use std::alloc::Allocator;
 use topology::{gains_are_small, write_gains};
 
-/// The most sources of a room.
+/// The most audio sources of a room.
 const MOST_SOURCES: usize = 64;
 
 /// What a member hears in a tick.
 #[derive(Clone, Copy)]
 pub struct Heard {
+    /// The contributing sources.
     pub named: Contributors,
+    /// The samples of the mix.
     pub samples: [i16; PLACES],
 }
 
-/// What a member hears of its room.
+/// The mix of its room for a member.
 pub fn listen<A: Allocator + Copy>(rows: &Rows<A>, member: &Member, room: &Room<'_, A>) -> Heard
     requires own { room.now.room ≡ member.now.room }
     requires is { (voices : List Voice) × IsRoom voices room.now }

@@ -1,4 +1,4 @@
-//! Laws of mixes over all ticks, as functions that do nothing when they run.
+//! Laws of mixes over all ticks: functions that do nothing when they run.
 
 ghost use Rattle.std.specs.Prelude.{◌≡◌, ℕ, ℤ, true, List, [], ◌∷◌, ◌++◌};
 ghost use Rattle.rtp_codec.specs.declared.address.Address.{Address};
@@ -10,22 +10,26 @@ ghost use Rattle.mixer.specs.MixLists.{AreInARow, Carries, on_stream, to_its_mem
 
 use topology::mixes_have_one_member;
 
-/// All the packets of a mix stream are numbered one after the other, over all ticks and whatever the desks.
+/// A law: over all ticks and desks, the packets of a mix stream are numbered in a row.
 pub fn mixes_are_in_a_row()
     ensures { (ssrc : ℕ) (given : List Given) → AreInARow (mixes ssrc given) }
 {}
 
-/// A tick adds to a mix stream one packet of what its member hears, behind all that went before, and nothing where
-/// nothing is heard. Samples add nothing.
+/// A law: a tick adds one packet to a mix stream if its member hears anything, and else none. The packet carries what
+/// the member hears. Samples that come in add no packet.
 pub fn ticks_add_what_is_heard()
-    ensures behind { (ssrc : ℕ) (before : List Given) (d : Desk) (moment : ℕ) → mixes ssrc (before ++ tick d moment ∷ []) ≡ mixes ssrc before ++ mixes_at ssrc before d moment }
-    ensures heard { (ssrc : ℕ) (before : List Given) (d : Desk) (moment : ℕ) → Carries ssrc (turn_of ssrc before d moment).heard (mixes_at ssrc before d moment) }
-    ensures samples { (ssrc : ℕ) (before : List Given) (source : ℕ) (address : Address) (ts : ℕ) (samples : List ℤ) → mixes ssrc (before ++ put source address ts samples ∷ []) ≡ mixes ssrc before }
+    ensures behind { (ssrc : ℕ) (before : List Given) (d : Desk) (moment : ℕ)
+        → mixes ssrc (before ++ tick d moment ∷ []) ≡ mixes ssrc before ++ mixes_at ssrc before d moment }
+    ensures heard { (ssrc : ℕ) (before : List Given) (d : Desk) (moment : ℕ)
+        → Carries ssrc (turn_of ssrc before d moment).heard (mixes_at ssrc before d moment) }
+    ensures samples { (ssrc : ℕ) (before : List Given) (source : ℕ) (address : Address) (ts : ℕ) (samples : List ℤ)
+        → mixes ssrc (before ++ put source address ts samples ∷ []) ≡ mixes ssrc before }
 {}
 
-/// On a good desk, what a tick sends on a stream is what it adds to the mix, once, to the member whose mix it is.
+/// A law: on a good desk, a tick sends what it adds to a mix once, to the member whose mix it is.
 pub fn mixes_go_to_their_members()
-    ensures { (ssrc : ℕ) (before : List Given) (d : Desk) (moment : ℕ) → good d ≡ true → on_stream ssrc (sent_by before d moment) ≡ to_its_member (mix_member d ssrc) (mixes_at ssrc before d moment) }
+    ensures { (ssrc : ℕ) (before : List Given) (d : Desk) (moment : ℕ) → good d ≡ true
+        → on_stream ssrc (sent_by before d moment) ≡ to_its_member (mix_member d ssrc) (mixes_at ssrc before d moment) }
 {
     mixes_have_one_member();
 }

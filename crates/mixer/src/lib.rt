@@ -1,4 +1,18 @@
-//! The audio half of a lane: what members of a room hear, tick by tick (a media-mixing mixer, RFC 7667 section 3.6.1).
+//! The audio half of a lane (media worker): what the members of a room hear, tick by tick (a media-mixing mixer, RFC
+//! 7667 section 3.6.1).
+//!
+//! Begin with [`Mixer::new`]. Give each source's samples to [`Mixer::put`], and call [`Mixer::tick`] every 20 ms. A
+//! contract speaks of the list of samples and ticks so far.
+//!
+//! ```rust
+//! let place = LanePlace { lane: 0, lanes: 1 };
+//! let mut mixer = Mixer::new(alloc)?;
+//! mixer.put(alloc, 21, &address, 1_000, &samples)?; // at 8000 Hz
+//! let packets = mixer.tick(alloc, &place, &rows, 0)?; // none: samples wait 60 ms, which are three ticks
+//! ```
+//!
+//! `nobody_is_heard_before_60_ms` and `each_hears_the_other_two` of worked_media are such ticks, with their packets
+//! proved.
 #![tactic(auto)]
 
 mod hearing;

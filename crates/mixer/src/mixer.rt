@@ -1,4 +1,4 @@
-//! One lane's mixer.
+//! The mixer of a lane.
 
 ghost use Rattle.std.specs.Prelude.{◌≡◌, ℕ, ◌<◌, ◌≤◌, true, List, [], length, IfOk, OnOk, OnErr};
 ghost use Rattle.forward_rewrite.specs.OwnStreams.{is_mine};
@@ -17,13 +17,13 @@ use std::alloc::{AllocError, Allocator, Global};
 use std::marker::Model;
 use topology::{audio_sources, mixes_are_apart, rooms_are_small};
 
-/// The clock rate of audio in Hz (RFC 3551 section 4.5.14; that L16 has it too is own).
+/// The clock rate of audio in Hz (RFC 3551 section 4.5.14; for L16 it is the bridge's own choice).
 const RATE: usize = 8_000;
 
-/// The room for streams that a mixer has from the start.
+/// The number of streams to allocate for at first.
 const FIRST_STREAMS: usize = 16;
 
-/// The audio half of a lane: the playouts of all sources, and the mix streams of the lane that have begun.
+/// The audio half of a lane: the jitter buffers of all sources, and the lane's mix streams.
 #[derive(Drop)]
 pub struct Mixer<A: Allocator + Copy = Global> {
     playouts: Playouts<A>,
@@ -43,7 +43,7 @@ impl<A: Allocator + Copy> Model for Mixer<A> {
 }
 
 impl<A: Allocator + Copy> Mixer<A> {
-    /// A mixer that was given nothing.
+    /// A mixer without samples and streams. The only error is out of memory.
     pub fn new(alloc: A) -> Result<Self, AllocError>
         ensures nothing { IfOk result (λ mixer. (lane lanes : ℕ) → WasGiven lane lanes mixer []) }
     {
@@ -52,8 +52,10 @@ impl<A: Allocator + Copy> Mixer<A> {
         Ok(Self { playouts, streams })
     }
 
-    /// Puts samples of a source at 8000 Hz on their way, from this timestamp on: 1 to 1,600 of them (200 ms), whatever the desk says. The
-    /// first ones of a source take memory, and the error is want of it, which changes nothing.
+    /// Puts samples of a source into its jitter buffer, whatever the desk says.
+    ///
+    /// They are 1 to 1,600 samples (200 ms) at 8000 Hz, and `ts` is the first one's RTP timestamp. Only the first put
+    /// of a source takes memory. On out of memory, the only error, nothing changes.
     pub fn put(
         &mut self,
         alloc: A,
@@ -70,8 +72,10 @@ impl<A: Allocator + Copy> Mixer<A> {
         self.playouts.put(alloc, source, address, ts, samples)
     }
 
-    /// A tick of 20 ms at a moment, in nanoseconds since 1970: the packets of the mixes on the lane's streams, by place of the member. 160
-    /// samples of each source are taken, whatever the desk says. All memory is taken before that, and a refusal changes nothing.
+    /// Runs a tick of 20 ms, and returns the packets of the lane's mix streams, by place of the member.
+    ///
+    /// It takes 160 samples of each source, whatever the desk says. `moment` is in nanoseconds since 1970. On out of
+    /// memory, the only error, nothing changes.
     pub fn tick(
         &mut self,
         alloc: A,
@@ -79,7 +83,8 @@ impl<A: Allocator + Copy> Mixer<A> {
         rows: &Rows<A>,
         moment: u64,
     ) -> Result<Vec<MixPacket<A>, A>, AllocError>
-        ensures ticks { IfOk result (λ sent. Ticks place.now.lane place.now.lanes self.old self.new rows.now moment sent.items) }
+        ensures ticks { IfOk result
+            (λ sent. Ticks place.now.lane place.now.lanes self.old self.new rows.now moment sent.items) }
         ensures few { IfOk result (λ sent. length sent.items ≤ length rows.now.members) }
         ensures err { OnErr result (self.new ≡ self.old) }
     {
@@ -96,9 +101,10 @@ impl<A: Allocator + Copy> Mixer<A> {
         Ok(out)
     }
 
-    /// What a sender report tells of the mix stream of this SSRC (RFC 3550 section 6.4.1), if it is the lane's and has begun.
+    /// The counts of a mix stream for its sender report (RFC 3550 section 6.4.1), if it is the lane's and has begun.
     pub fn counts(&self, out_audio: u32) -> Option<Counts>
-        ensures { (lane lanes : ℕ) (given : List Given) → is_mine lane lanes out_audio ≡ true → WasGiven lane lanes self.now given → result ≡ counts_of out_audio (turns out_audio given) }
+        ensures { (lane lanes : ℕ) (given : List Given) → is_mine lane lanes out_audio ≡ true
+            → WasGiven lane lanes self.now given → result ≡ counts_of out_audio (turns out_audio given) }
     {
         self.streams.get(&out_audio)?.counts()
     }

@@ -1,4 +1,4 @@
-//! The voices of a room, as the inputs of its members' mixes.
+//! The inputs of a room's mixes.
 
 ghost use Rattle.std.specs.Prelude.{◌≡◌, ◌≤◌, ◌<◌, IfOk, OnOk, length, map, slice_index_or};
 ghost use Rattle.mix_minus.specs.Mix.{ReachTo};
@@ -12,12 +12,16 @@ use std::alloc::{AllocError, Allocator};
 use std::marker::Model;
 use topology::AudioSource;
 
-/// A room's sources and inputs, in the same order, and their total.
+/// The audio of a room in a tick.
 #[derive(Drop)]
 pub struct Room<'a, A: Allocator + Copy> {
+    /// The room's number.
     pub room: u32,
+    /// The room's audio sources.
     pub sources: Vec<AudioSource, A>,
+    /// The samples of each source, in the same order.
     pub inputs: Vec<Input<'a>, A>,
+    /// The sum of all samples.
     pub total: [i32; PLACES],
 }
 
@@ -29,7 +33,7 @@ impl<'a, A: Allocator + Copy> Model for Room<'a, A> {
     ghost view = { λ r. record { room = r.room; sources = r.sources.items; inputs = r.inputs.items; total = r.total } };
 }
 
-/// A voice as an input.
+/// A voice as an input of a mix.
 fn input_of(voice: &Voice) -> Input<'_>
     ensures same { plain result ≡ plain_voice voice.now }
     ensures reach { tick_length ≤ length result.samples.now }
@@ -42,7 +46,7 @@ fn input_of(voice: &Voice) -> Input<'_>
     }
 }
 
-/// The voices of a room as inputs.
+/// The voices of a room as inputs of a mix.
 fn inputs_of<A: Allocator + Copy>(
     alloc: A,
     voices: &[Voice],
@@ -75,7 +79,7 @@ fn sources_of<A: Allocator + Copy>(
         .collect(alloc)
 }
 
-/// A room with at most 64 of these voices.
+/// The audio of a room, with at most 64 of these voices.
 pub fn room_of<A: Allocator + Copy>(
     alloc: A,
     voices: &[Voice],
@@ -97,7 +101,7 @@ pub fn room_of<A: Allocator + Copy>(
     })
 }
 
-/// The place of a room among these, to which it is added where it is not there.
+/// The index of a room among these. A missing room is added.
 pub fn place_of<'a, A: Allocator + Copy>(
     alloc: A,
     rooms: &mut Vec<Room<'a, A>, A>,

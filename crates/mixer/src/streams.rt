@@ -1,12 +1,14 @@
-//! A lane's outgoing mix streams.
+//! The mix streams of a lane.
 
-ghost use Rattle.std.specs.Prelude.{◌≡◌, ◌≤◌, ◌<◌, ◌+◌, ◌++◌, ◌∷◌, [], ℕ, List, length, map, filter, IfOk, OnOk, IfSome, is_some, vec_len, vec_capacity};
+ghost use Rattle.std.specs.Prelude.{◌≡◌, ◌≤◌, ◌<◌, ◌+◌, ◌++◌, ◌∷◌, [], ℕ, List, length, map, filter, IfOk, OnOk};
+ghost use Rattle.std.specs.Prelude.{IfSome, is_some, vec_len, vec_capacity};
 ghost use Rattle.std.specs.List.{AllByRecursion};
 ghost use Rattle.indexmap.specs.IndexMap.{spare};
 ghost use Rattle.mixer.specs.declared.voices.Voice.{Voice};
 ghost use Rattle.mixer.specs.Mixers.{mix_at};
 ghost use Rattle.mixer.specs.inner.Rooms.{IsRoom, of_room};
-ghost use Rattle.mixer.specs.inner.Ready.{AreRooms, IsReady, Passes, current, hears_any, hearers, members_of, kept_after, kept_after_one, sent_of};
+ghost use Rattle.mixer.specs.inner.Ready.{AreRooms, IsReady, Passes, current, hears_any, hearers, members_of};
+ghost use Rattle.mixer.specs.inner.Ready.{kept_after, kept_after_one, sent_of};
 
 use crate::hearing::listen;
 use crate::rooms::{Room, place_of};
@@ -19,14 +21,17 @@ use std::alloc::{AllocError, Allocator, Global};
 use std::hash::{BuildHasherDefault, FoldHasher};
 use std::marker::Model;
 
-/// The streams by SSRC.
+/// The mix streams by SSRC.
 pub type Table<A> = IndexMap<u32, MixStream, BuildHasherDefault<FoldHasher>, A>;
 
 /// A packet of a member's mix.
 #[derive(Drop)]
 pub struct MixPacket<A: Allocator + Copy = Global> {
+    /// The member's address.
     pub to: Address,
+    /// The SSRC of the mix stream.
     pub ssrc: u32,
+    /// The packet.
     pub packet: OutPacket<A>,
 }
 
@@ -53,7 +58,7 @@ impl<A: Allocator + Copy> Model for Ready<A> {
     ghost view = { λ r. record { member = r.member; prepared = r.prepared } };
 }
 
-/// The stream of a member's mix, which may be a new one.
+/// The stream of a member's mix, or a new one.
 fn stream_for<A: Allocator + Copy>(streams: &Table<A>, member: &Member) -> MixStream
     ensures { result ≡ current (mix_at member.now.out_audio streams.now.entries) member.now }
 {
@@ -63,7 +68,7 @@ fn stream_for<A: Allocator + Copy>(streams: &Table<A>, member: &Member) -> MixSt
     }
 }
 
-/// What a member hears in a tick, ready to be sent, if it hears anything.
+/// The packet of what a member hears in a tick, if it hears anything.
 fn ready_for<A: Allocator + Copy>(
     alloc: A,
     streams: &Table<A>,
@@ -74,8 +79,12 @@ fn ready_for<A: Allocator + Copy>(
 ) -> Result<Option<Ready<A>>, AllocError>
     requires own { room.now.room ≡ member.now.room }
     requires is { (voices : List Voice) × IsRoom voices room.now }
-    ensures none { IfOk result (λ ready. (voices : List Voice) → IsRoom voices room.now → is_some ready ≡ hears_any rows.now voices member.now) }
-    ensures some { IfOk result (λ ready. IfSome ready (λ r. (r.member ≡ member.now) × ((voices : List Voice) → IsRoom voices room.now → IsReady rows.now voices moment streams.now.entries r))) }
+    ensures none { IfOk result (λ ready. (voices : List Voice) → IsRoom voices room.now
+        → is_some ready ≡ hears_any rows.now voices member.now) }
+    ensures some { IfOk result
+        (λ ready. IfSome ready
+        (λ r. (r.member ≡ member.now)
+        × ((voices : List Voice) → IsRoom voices room.now → IsReady rows.now voices moment streams.now.entries r))) }
 {
     let heard = listen(rows, member, room);
     let count = heard.named.count as usize;
@@ -96,7 +105,7 @@ fn ready_for<A: Allocator + Copy>(
     }))
 }
 
-/// Makes what a member hears ready, if it hears anything.
+/// Appends the packet of what a member hears, if it hears anything.
 fn add<'a, A: Allocator + Copy>(
     alloc: A,
     streams: &Table<A>,
@@ -110,8 +119,10 @@ fn add<'a, A: Allocator + Copy>(
     requires few { length (of_room member.now.room voices.now) ≤ 64 }
     requires rooms { AreRooms voices.now rooms.old.items }
     ensures rooms { OnOk result (AreRooms voices.now rooms.new.items) }
-    ensures members { OnOk result (members_of ready.new.items ≡ members_of ready.old.items ++ filter (hears_any rows.now voices.now) (member.now ∷ [])) }
-    ensures ready { OnOk result (AllByRecursion (IsReady rows.now voices.now moment streams.now.entries) ready.old.items → AllByRecursion (IsReady rows.now voices.now moment streams.now.entries) ready.new.items) }
+    ensures members { OnOk result (members_of ready.new.items
+        ≡ members_of ready.old.items ++ filter (hears_any rows.now voices.now) (member.now ∷ [])) }
+    ensures ready { OnOk result (AllByRecursion (IsReady rows.now voices.now moment streams.now.entries) ready.old.items
+        → AllByRecursion (IsReady rows.now voices.now moment streams.now.entries) ready.new.items) }
 {
     let place = place_of(alloc, rooms, voices, member.room)?;
     if let Some(one) = ready_for(alloc, streams, rows, &rooms[place], member, moment)? {
@@ -120,7 +131,7 @@ fn add<'a, A: Allocator + Copy>(
     Ok(())
 }
 
-/// Makes what the members of the lane's streams hear ready.
+/// The packets of what the members of the lane's streams hear.
 pub fn ready_all<A: Allocator + Copy>(
     alloc: A,
     streams: &Table<A>,
@@ -130,8 +141,10 @@ pub fn ready_all<A: Allocator + Copy>(
     moment: u64,
 ) -> Result<Vec<Ready<A>, A>, AllocError>
     requires few { (room : ℕ) → length (of_room room voices.now) ≤ 64 }
-    ensures members { IfOk result (λ rs. members_of rs.items ≡ hearers rows.now voices.now place.now.lane place.now.lanes rows.now.members) }
-    ensures ready { IfOk result (λ rs. AllByRecursion (IsReady rows.now voices.now moment streams.now.entries) rs.items) }
+    ensures members { IfOk result
+        (λ rs. members_of rs.items ≡ hearers rows.now voices.now place.now.lane place.now.lanes rows.now.members) }
+    ensures ready { IfOk result
+        (λ rs. AllByRecursion (IsReady rows.now voices.now moment streams.now.entries) rs.items) }
 {
     let mut rooms = Vec::new(alloc);
     let mut ready = Vec::new(alloc);
@@ -145,7 +158,7 @@ pub fn ready_all<A: Allocator + Copy>(
     Ok(ready)
 }
 
-/// All streams pass a tick without a packet. This takes no memory.
+/// Passes a silent tick on all streams. This takes no memory.
 pub fn pass_all<A: Allocator + Copy>(streams: &mut Table<A>, moment: u64)
     ensures streams { (ssrc : ℕ) → Passes moment (mix_at ssrc streams.old.entries) (mix_at ssrc streams.new.entries) }
     ensures spare { spare streams.new ≡ spare streams.old }
@@ -158,10 +171,11 @@ pub fn pass_all<A: Allocator + Copy>(streams: &mut Table<A>, moment: u64)
     }
 }
 
-/// Sends what is ready for a member. There is room for its stream.
+/// Sends a member's packet. There is room for its stream.
 fn commit_one<A: Allocator + Copy>(streams: &mut Table<A>, ready: Ready<A>) -> MixPacket<A>
     requires room { 0 < spare streams.old }
-    ensures streams { (ssrc : ℕ) → mix_at ssrc streams.new.entries ≡ kept_after_one ssrc ready (mix_at ssrc streams.old.entries) }
+    ensures streams { (ssrc : ℕ)
+        → mix_at ssrc streams.new.entries ≡ kept_after_one ssrc ready (mix_at ssrc streams.old.entries) }
     ensures packet { result ≡ sent_of ready }
     ensures spare { spare streams.old ≤ spare streams.new + 1 }
 {
@@ -177,7 +191,7 @@ fn commit_one<A: Allocator + Copy>(streams: &mut Table<A>, ready: Ready<A>) -> M
     }
 }
 
-/// Sends what is ready. There is room for all of it.
+/// Sends all packets. There is room for them and their streams.
 pub fn commit_all<A: Allocator + Copy>(
     streams: &mut Table<A>,
     ready: Vec<Ready<A>, A>,
@@ -185,7 +199,8 @@ pub fn commit_all<A: Allocator + Copy>(
 )
     requires room { vec_len ready ≤ spare streams.old }
     requires out_room { vec_len out.old + vec_len ready ≤ vec_capacity out.old }
-    ensures streams { (ssrc : ℕ) → mix_at ssrc streams.new.entries ≡ kept_after ssrc ready.items (mix_at ssrc streams.old.entries) }
+    ensures streams { (ssrc : ℕ)
+        → mix_at ssrc streams.new.entries ≡ kept_after ssrc ready.items (mix_at ssrc streams.old.entries) }
     ensures out { out.new.items ≡ out.old.items ++ map sent_of ready.items }
 {
     for one in ready {

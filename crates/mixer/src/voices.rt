@@ -1,4 +1,4 @@
-//! What sources sound like in a tick.
+//! The samples of sources in a tick.
 
 ghost use Rattle.std.specs.Prelude.{◌≡◌, IfOk, List, map};
 ghost use Rattle.playout.specs.Playouts.{Has};
@@ -9,23 +9,25 @@ use playout::Playouts;
 use std::alloc::{AllocError, Allocator};
 use topology::AudioSource;
 
-/// How many samples a tick has: 20 ms at 8000 Hz.
+/// The samples of a tick: 20 ms at 8000 Hz.
 pub const PLACES: usize = 160;
 
-/// A source, and its samples of a tick.
+/// The samples of a source in a tick.
 #[derive(Clone, Copy)]
 pub struct Voice {
+    /// The source.
     pub source: AudioSource,
-    /// The samples, 0 where none is there.
+    /// The samples. A missing sample is 0.
     pub samples: [i16; PLACES],
-    /// How many of them are there.
+    /// The number of samples that are present.
     pub filled: u32,
 }
 
-/// What a source sounds like in the next tick.
+/// The samples of a source in the next tick.
 fn voice_of<A: Allocator + Copy>(playouts: &Playouts<A>, source: &AudioSource) -> Voice
     requires { playouts.now.rate ≡ audio_rate }
-    ensures heard { (given : List Given) → Has playouts.now (map to_playouts given) → result ≡ voice_of given source.now }
+    ensures heard { (given : List Given) → Has playouts.now (map to_playouts given)
+        → result ≡ voice_of given source.now }
     ensures source { result.source ≡ source.now }
 {
     let mut voice = Voice {
@@ -38,14 +40,15 @@ fn voice_of<A: Allocator + Copy>(playouts: &Playouts<A>, source: &AudioSource) -
     voice
 }
 
-/// What sources sound like in the next tick.
+/// The samples of these sources in the next tick.
 pub fn voices_of<A: Allocator + Copy>(
     alloc: A,
     playouts: &Playouts<A>,
     sources: &[AudioSource],
 ) -> Result<Vec<Voice, A>, AllocError>
     requires { playouts.now.rate ≡ audio_rate }
-    ensures heard { IfOk result (λ v. (given : List Given) → Has playouts.now (map to_playouts given) → v.items ≡ map (voice_of given) sources.now) }
+    ensures heard { IfOk result (λ v. (given : List Given) → Has playouts.now (map to_playouts given)
+        → v.items ≡ map (voice_of given) sources.now) }
     ensures sources { IfOk result (λ v. map (λ v. v.source) v.items ≡ sources.now) }
 {
     let mut voices = Vec::with_capacity(alloc, sources.len())?;
