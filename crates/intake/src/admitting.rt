@@ -1,4 +1,4 @@
-//! A packet at its source's gate.
+//! Admits a packet at its source's gate.
 
 ghost use Rattle.std.specs.Prelude.{◌≡◌, ◌≤◌, IfOk, Some, None, true, is_some, option_copied, length};
 ghost use Rattle.frame_gate.specs.Epochs.{most_missing};
@@ -13,7 +13,7 @@ use std::marker::Model;
 /// A packet that is ready for a gate.
 #[derive(Drop)]
 pub(crate) struct Admission<A: Allocator + Copy = Global> {
-    /// A new gate, where there was none.
+    /// A new gate, if there was none.
     fresh: Option<Gate<A>>,
     prepared: Prepared<A>,
 }
@@ -27,7 +27,7 @@ impl<A: Allocator + Copy> Model for Admission<A> {
 }
 
 impl<A: Allocator + Copy> Admission<A> {
-    /// What the gate will answer.
+    /// The answer that the gate will give.
     pub(crate) fn answer(&self) -> &Admitted<A>
         ensures { result.now ≡ self.now.prepared.answer }
     {
@@ -35,7 +35,7 @@ impl<A: Allocator + Copy> Admission<A> {
     }
 }
 
-/// Makes a packet ready for the gate.
+/// Prepares a packet for the gate.
 pub(crate) fn admit<A: Allocator + Copy>(
     alloc: A,
     gate: Option<&Gate<A>>,
@@ -66,7 +66,7 @@ pub(crate) fn admit<A: Allocator + Copy>(
     }
 }
 
-/// Commits what is ready.
+/// Commits a prepared packet.
 #[inline(always)]
 pub(crate) fn settle<A: Allocator + Copy>(
     gate: &mut Option<Gate<A>>,

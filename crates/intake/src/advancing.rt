@@ -1,6 +1,7 @@
-//! A source with a judged packet.
+//! Takes a judged packet into its source.
 
-ghost use Rattle.std.specs.Prelude.{◌≡◌, ◌+◌, ◌&&◌, true, false, nat_eq, if◌then◌else◌, IfOk, OnOk, OnErr, IfSome, is_some, option_map, option_copied, None, map};
+ghost use Rattle.std.specs.Prelude.{◌≡◌, ◌+◌, ◌&&◌, true, false, nat_eq, if◌then◌else◌, IfOk, OnOk, OnErr, IfSome};
+ghost use Rattle.std.specs.Prelude.{is_some, option_map, option_copied, None, map};
 ghost use Rattle.std.specs.List.{list_all};
 ghost use Rattle.intake.specs.Inputs.{input_of, is_sized};
 ghost use Rattle.intake.specs.Ingested.{ingested_of, only, with_items};
@@ -22,7 +23,7 @@ use frame_gate::Admitted;
 use source_valid::{Source, Verdict};
 use std::alloc::{AllocError, Allocator};
 
-/// A source of what is kept.
+/// The state of a known source.
 fn source_in<A: Allocator + Copy>(kept: Option<&Kept<A>>) -> Option<Source>
     ensures { result ≡ source_in (option_copied kept.entry) }
 {
@@ -32,7 +33,7 @@ fn source_in<A: Allocator + Copy>(kept: Option<&Kept<A>>) -> Option<Source>
     }
 }
 
-/// The epoch of what is kept, 0 where nothing is.
+/// The epoch of a known source, 0 for an unknown one.
 fn epoch_in<A: Allocator + Copy>(kept: Option<&Kept<A>>) -> u64
     ensures { result ≡ epoch_in (option_copied kept.entry) }
 {
@@ -54,7 +55,7 @@ fn told(verdict: Verdict) -> Outcome
     }
 }
 
-/// How many epochs have begun, with one that begins or without.
+/// The number of epochs, with the one that begins now if any.
 fn counted(epochs: u64, begins: bool) -> u64
     requires { (begins && nat_eq epochs most_epochs) ≡ false }
     ensures { result ≡ (if begins then epochs + 1 else epochs) }
@@ -62,13 +63,14 @@ fn counted(epochs: u64, begins: bool) -> u64
     if begins { epochs + 1 } else { epochs }
 }
 
-/// What a source is to become with a judged packet, in this epoch.
+/// The next state of a source with a judged packet, in this epoch.
 fn next_with<A: Allocator + Copy>(
     judged: &Judged,
     epoch: u64,
     admission: Option<Admission<A>>,
 ) -> Next<A>
-    ensures { result ≡ record { source = judged.now.source; epoch = epoch; begins = judged.now.begins; admission = admission } }
+    ensures { result
+        ≡ record { source = judged.now.source; epoch = epoch; begins = judged.now.begins; admission = admission } }
 {
     Next {
         source: judged.source,
@@ -79,7 +81,7 @@ fn next_with<A: Allocator + Copy>(
 }
 
 impl<A: Allocator + Copy> Intake<A> {
-    /// A packet, judged by its source.
+    /// Judges a packet by its source.
     #[inline(always)]
     pub(crate) fn judged(&self, key: &Key, mark: Mark) -> Judged
         ensures judges { Judges (source_in (kept_at key.now self.now.entries)) mark result }
@@ -89,14 +91,14 @@ impl<A: Allocator + Copy> Intake<A> {
         judge(source_in(kept), epoch_in(kept), mark)
     }
 
-    /// Whether the packet would begin an epoch, and none is left.
+    /// Whether the packet would begin an epoch, but no number is left for it.
     pub(crate) fn is_spent(&self, judged: &Judged) -> bool
         ensures { result ≡ (judged.now.begins && nat_eq self.now.epochs most_epochs) }
     {
         judged.begins && self.epochs == u64::MAX
     }
 
-    /// The epoch of a source with the packet.
+    /// The epoch of a source after this packet.
     pub(crate) fn epoch_for(&self, judged: &Judged) -> u64
         requires { (judged.now.begins && nat_eq self.now.epochs most_epochs) ≡ false }
         ensures { result ≡ (if judged.now.begins then self.now.epochs + 1 else judged.now.epoch) }
@@ -107,11 +109,12 @@ impl<A: Allocator + Copy> Intake<A> {
         judged.epoch
     }
 
-    /// Keeps a source as what it is to become.
+    /// Keeps the next state of a source.
     #[inline(always)]
     fn keep(&mut self, key: Key, next: Next<A>) -> Result<Option<Admitted<A>>, AllocError>
         requires room { (next.begins && nat_eq self.old.epochs most_epochs) ≡ false }
-        requires ready { IfSome next.admission (λ a. is_some (base_of (gate_for (kept_at key self.old.entries) next.begins) a) ≡ true) }
+        requires ready { IfSome next.admission
+            (λ a. is_some (base_of (gate_for (kept_at key self.old.entries) next.begins) a) ≡ true) }
         ensures kept { OnOk result (IsKept self.old self.new key next) }
         ensures answer { IfOk result (λ answer. answer ≡ option_map (λ a. a.prepared.answer) next.admission) }
         ensures err { OnErr result (self.new ≡ self.old) }
@@ -123,7 +126,7 @@ impl<A: Allocator + Copy> Intake<A> {
         Ok(answer)
     }
 
-    /// Keeps a source with a judged packet.
+    /// Keeps a source after a judged packet.
     #[inline(always)]
     pub(crate) fn advance(
         &mut self,
@@ -133,7 +136,8 @@ impl<A: Allocator + Copy> Intake<A> {
     ) -> Result<Option<Admitted<A>>, AllocError>
         requires room { (judged.now.begins && nat_eq self.old.epochs most_epochs) ≡ false }
         requires epoch { judged.now.epoch ≡ epoch_in (kept_at key self.old.entries) }
-        requires ready { IfSome admission (λ a. is_some (base_of (gate_for (kept_at key self.old.entries) judged.now.begins) a) ≡ true) }
+        requires ready { IfSome admission
+            (λ a. is_some (base_of (gate_for (kept_at key self.old.entries) judged.now.begins) a) ≡ true) }
         ensures advances { OnOk result (Advances self.old self.new key judged.now admission) }
         ensures answer { IfOk result (λ answer. answer ≡ option_map (λ a. a.prepared.answer) admission) }
         ensures err { OnErr result (self.new ≡ self.old) }
@@ -143,7 +147,7 @@ impl<A: Allocator + Copy> Intake<A> {
         self.keep(key, next)
     }
 
-    /// Keeps a source whose packet asks for nothing, and answers its verdict and these items.
+    /// Keeps a source whose packet asks for nothing. Answers the verdict, with these items.
     pub(crate) fn telling(
         &mut self,
         alloc: A,
@@ -155,7 +159,8 @@ impl<A: Allocator + Copy> Intake<A> {
         requires epoch { judged.now.epoch ≡ epoch_in (kept_at key self.old.entries) }
         requires sized { list_all is_sized (map input_of items.items) ≡ true }
         ensures advances { OnOk result (Advances self.old self.new key judged.now None) }
-        ensures ingest { IfOk result (λ ingest. ingested_of ingest ≡ with_items (told judged.now.verdict) (map input_of items.items)) }
+        ensures ingest { IfOk result
+            (λ ingest. ingested_of ingest ≡ with_items (told judged.now.verdict) (map input_of items.items)) }
         ensures err { OnErr result (self.new ≡ self.old) }
         ensures asker { self.new.asker ≡ self.old.asker }
     {
@@ -167,7 +172,7 @@ impl<A: Allocator + Copy> Intake<A> {
         })
     }
 
-    /// Keeps a source whose packet has no other effect than its verdict.
+    /// Keeps a source whose packet has no effect but its verdict.
     pub(crate) fn plain(
         &mut self,
         alloc: A,

@@ -1,4 +1,4 @@
-//! What a compound asks the lanes for.
+//! Turns the packets of a compound into items.
 
 ghost use Rattle.std.specs.Prelude.{◌≡◌, ◌++◌, map, IfOk, OnOk};
 ghost use Rattle.std.specs.List.{flat_map};
@@ -18,7 +18,8 @@ fn put_blocks<A: Allocator + Copy>(
     from: &Address,
     blocks: &[ReportBlock],
 ) -> Result<(), AllocError>
-    ensures { OnOk result (map input_of items.new.items ≡ map input_of items.old.items ++ map (block_item from.now) blocks.now) }
+    ensures { OnOk result (map input_of items.new.items
+        ≡ map input_of items.old.items ++ map (block_item from.now) blocks.now) }
 {
     for block in blocks {
         items.push(Item::Block {
@@ -29,14 +30,15 @@ fn put_blocks<A: Allocator + Copy>(
     Ok(())
 }
 
-/// Appends the items that a packet makes.
+/// Appends the items of a packet.
 fn put_asked<A: Allocator + Copy>(
     alloc: A,
     items: &mut Vec<Item<A>, A>,
     from: &Address,
     packet: &Rtcp<A>,
 ) -> Result<(), AllocError>
-    ensures { OnOk result (map input_of items.new.items ≡ map input_of items.old.items ++ asks from.now (packet_of packet.now)) }
+    ensures { OnOk result (map input_of items.new.items
+        ≡ map input_of items.old.items ++ asks from.now (packet_of packet.now)) }
 {
     match packet {
         Rtcp::Nack(nack) => {
@@ -61,7 +63,7 @@ fn put_asked<A: Allocator + Copy>(
     }
 }
 
-/// The items that the packets of a compound make, in their order.
+/// The items of a compound's packets, in their order.
 pub(crate) fn asked_items<A: Allocator + Copy>(
     alloc: A,
     from: &Address,

@@ -1,4 +1,4 @@
-//! Compounds.
+//! Takes in RTCP compounds.
 
 ghost use Rattle.std.specs.Prelude.{◌≡◌, ◌≢◌, ℕ, IfOk, OnOk, OnErr, Some};
 ghost use Rattle.rtp_codec.specs.declared.class.Class.TheVariants as classes;
@@ -19,7 +19,7 @@ use rtp_codec::Address;
 use std::alloc::{AllocError, Allocator};
 use topology::member_from;
 
-/// The outcome of a datagram that is no compound. Want of memory is none.
+/// The outcome of a datagram that is no compound. Out of memory is an error, not an outcome.
 fn no_compound<A: Allocator + Copy>(alloc: A, fault: RtcpFault) -> Result<Ingest<A>, AllocError>
     ensures fault { OnOk result (fault ≢ RtcpFault.OutOfMemory) }
     ensures ingest { IfOk result (λ ingest. ingested_of ingest ≡ only (Outcome.BadRtcp fault)) }
@@ -44,7 +44,10 @@ impl<A: Allocator + Copy> Intake<A> {
         moment: u64,
         packets: &[Rtcp<A>],
     ) -> Result<Ingest<A>, AllocError>
-        ensures moves { (member : ℕ) → IfOk result (λ ingest. Moves self.old self.new (ingested_of ingest) (λ voice s. of_member (Some member) from.now moment (packets_of packets.now) s)) }
+        ensures moves { (member : ℕ)
+            → IfOk result
+            (λ ingest. Moves self.old self.new (ingested_of ingest)
+            (λ voice s. of_member (Some member) from.now moment (packets_of packets.now) s)) }
         ensures err { OnErr result (self.new ≡ self.old) }
         ensures asker { self.new.asker ≡ self.old.asker }
     {
@@ -59,7 +62,7 @@ impl<A: Allocator + Copy> Intake<A> {
         })
     }
 
-    /// Takes in a compound.
+    /// Takes in a compound. One from an address without a member is dropped.
     fn control(
         &mut self,
         alloc: A,
@@ -68,7 +71,9 @@ impl<A: Allocator + Copy> Intake<A> {
         moment: u64,
         packets: &[Rtcp<A>],
     ) -> Result<Ingest<A>, AllocError>
-        ensures moves { IfOk result (λ ingest. Moves self.old self.new (ingested_of ingest) (λ voice s. of_member (member_from rows.now from.now) from.now moment (packets_of packets.now) s)) }
+        ensures moves { IfOk result
+            (λ ingest. Moves self.old self.new (ingested_of ingest)
+            (λ voice s. of_member (member_from rows.now from.now) from.now moment (packets_of packets.now) s)) }
         ensures err { OnErr result (self.new ≡ self.old) }
         ensures asker { self.new.asker ≡ self.old.asker }
     {
@@ -78,7 +83,7 @@ impl<A: Allocator + Copy> Intake<A> {
         }
     }
 
-    /// Takes in a datagram that is RTCP by its first octets.
+    /// Takes in a datagram whose first octets say RTCP.
     pub(crate) fn rtcp(
         &mut self,
         alloc: A,
@@ -88,7 +93,9 @@ impl<A: Allocator + Copy> Intake<A> {
         octets: &[u8],
     ) -> Result<Ingest<A>, AllocError>
         requires { IsOf classes.Rtcp octets.now }
-        ensures takes { IfOk result (λ ingest. TakesIn self.old self.new (ingested_of ingest) octets.now (λ r. record { desk = rows.now; from = from.now; moment = moment; reading = r })) }
+        ensures takes { IfOk result
+            (λ ingest. TakesIn self.old self.new (ingested_of ingest) octets.now
+            (λ r. record { desk = rows.now; from = from.now; moment = moment; reading = r })) }
         ensures err { OnErr result (self.new ≡ self.old) }
         ensures asker { self.new.asker ≡ self.old.asker }
     {

@@ -1,6 +1,7 @@
-//! A video packet at its source's gate.
+//! Puts video packets through their source's gate.
 
-ghost use Rattle.std.specs.Prelude.{◌≡◌, ◌+◌, ◌≤◌, ◌||◌, ◌&&◌, ◌++◌, false, nat_eq, length, IfOk, OnErr, map, option_copied, vec_len, vec_capacity};
+ghost use Rattle.std.specs.Prelude.{◌≡◌, ◌+◌, ◌≤◌, ◌||◌, ◌&&◌, ◌++◌, false, nat_eq, length, IfOk, OnErr, map};
+ghost use Rattle.std.specs.Prelude.{option_copied, vec_len, vec_capacity};
 ghost use Rattle.rtp_codec.specs.View.{packet_of};
 ghost use Rattle.frame_gate.specs.Frame.{highest_pt};
 ghost use Rattle.frame_gate.specs.Packets.{IsExt, numbered};
@@ -27,7 +28,7 @@ use frame_gate::{Frame, Gate, Packet, Place};
 use rtp_codec::{Address, RtpView};
 use std::alloc::{AllocError, Allocator};
 
-/// The gate to which a packet comes: none yet, where an epoch begins with it.
+/// The gate for a packet. There is none yet if an epoch begins with it.
 fn gate_for<A: Allocator + Copy>(kept: Option<&Kept<A>>, begins: bool) -> Option<&Gate<A>>
     ensures { option_copied result ≡ gate_for (option_copied kept.entry) begins }
 {
@@ -40,7 +41,7 @@ fn gate_for<A: Allocator + Copy>(kept: Option<&Kept<A>>, begins: bool) -> Option
     }
 }
 
-/// The packet as its source's gate takes it, with a copy of its payload.
+/// The packet for its source's gate, with this payload.
 fn packet_with<A: Allocator + Copy>(view: &RtpView<'_>, payload: Bytes<A>) -> Packet<A>
     requires { payload ≡ view.now.payload.now }
     ensures { result ≡ gate_packet (packet_of view.now) }
@@ -67,7 +68,7 @@ fn outcome_at(restarts: bool, ext: i64, place: Place) -> Outcome
     }
 }
 
-/// Whether one of two holds.
+/// Whether either holds.
 fn either(a: bool, b: bool) -> bool
     ensures { result ≡ (a || b) }
 {
@@ -103,7 +104,9 @@ fn put_frames<A: Allocator + Copy>(
     frames: Vec<Frame<A>, A>,
 )
     requires { vec_len items.old + vec_len frames ≤ vec_capacity items.old }
-    ensures items { map input_of items.new.items ≡ map input_of items.old.items ++ frames_from (record { address = from.now; ssrc = source }) moment epoch frames.items }
+    ensures items { map input_of items.new.items
+        ≡ map input_of items.old.items
+        ++ frames_from (record { address = from.now; ssrc = source }) moment epoch frames.items }
     ensures len { vec_len items.new ≡ vec_len items.old + vec_len frames }
     ensures capacity { vec_capacity items.old ≤ vec_capacity items.new }
 {
@@ -113,7 +116,7 @@ fn put_frames<A: Allocator + Copy>(
 }
 
 impl<A: Allocator + Copy> Intake<A> {
-    /// The packet as its source's gate takes it. Its payload is copied here, and shared from here on.
+    /// The packet for its source's gate. This copies the payload, which is shared from here on.
     fn packet_of(&mut self, alloc: A, view: &RtpView<'_>) -> Result<Packet<A>, AllocError>
         ensures packet { IfOk result (λ p. p ≡ gate_packet (packet_of view.now)) }
         ensures same { self.new ≡ self.old }
@@ -122,7 +125,7 @@ impl<A: Allocator + Copy> Intake<A> {
         Ok(packet_with(view, payload))
     }
 
-    /// Makes a packet ready for its source's gate.
+    /// Prepares a packet for its source's gate.
     fn admission(
         &self,
         alloc: A,
@@ -134,7 +137,8 @@ impl<A: Allocator + Copy> Intake<A> {
         requires ext { IsExt ext }
         requires pt { packet.pt ≤ highest_pt }
         ensures few { IfOk result (λ a. length a.prepared.answer.nacks ≤ most_missing) }
-        ensures admits { IfOk result (λ a. Admits (gate_for (kept_at key.now self.now.entries) judged.now.begins) (numbered ext packet) a) }
+        ensures admits { IfOk result
+            (λ a. Admits (gate_for (kept_at key.now self.now.entries) judged.now.begins) (numbered ext packet) a) }
     {
         admit(
             alloc,
@@ -144,7 +148,7 @@ impl<A: Allocator + Copy> Intake<A> {
         )
     }
 
-    /// Puts a packet to its source's gate, as the gate takes it.
+    /// Puts a packet with its payload through its source's gate.
     fn at_gate(
         &mut self,
         alloc: A,
@@ -161,7 +165,10 @@ impl<A: Allocator + Copy> Intake<A> {
         requires epoch { judged.now.epoch ≡ epoch_in (kept_at key self.old.entries) }
         requires ext { IsExt ext }
         requires pt { packet.pt ≤ highest_pt }
-        ensures gates { IfOk result (λ ingest. Gates self.old self.new key judged.now (record { from = from.now; moment = moment; packet = packet_of view.now }) (numbered ext packet) ext restarts (ingested_of ingest)) }
+        ensures gates { IfOk result
+            (λ ingest. Gates self.old self.new key judged.now
+            (record { from = from.now; moment = moment; packet = packet_of view.now })
+            (numbered ext packet) ext restarts (ingested_of ingest)) }
         ensures err { OnErr result (self.new ≡ self.old) }
         ensures asker { self.new.asker ≡ self.old.asker }
     {
@@ -179,7 +186,7 @@ impl<A: Allocator + Copy> Intake<A> {
         Ok(Ingest { outcome, up, items })
     }
 
-    /// Puts a packet to its source's gate.
+    /// Copies a packet's payload, and puts it through its source's gate.
     pub(crate) fn gated(
         &mut self,
         alloc: A,
@@ -195,7 +202,10 @@ impl<A: Allocator + Copy> Intake<A> {
         requires epoch { judged.now.epoch ≡ epoch_in (kept_at key self.old.entries) }
         requires ext { IsExt ext }
         requires pt { view.now.pt ≤ highest_pt }
-        ensures gates { IfOk result (λ ingest. Gates self.old self.new key judged.now (record { from = from.now; moment = moment; packet = packet_of view.now }) (numbered ext (gate_packet (packet_of view.now))) ext restarts (ingested_of ingest)) }
+        ensures gates { IfOk result
+            (λ ingest. Gates self.old self.new key judged.now
+            (record { from = from.now; moment = moment; packet = packet_of view.now })
+            (numbered ext (gate_packet (packet_of view.now))) ext restarts (ingested_of ingest)) }
         ensures err { OnErr result (self.new ≡ self.old) }
         ensures asker { self.new.asker ≡ self.old.asker }
     {

@@ -1,4 +1,4 @@
-//! What the intake answers.
+//! The answer of the intake to a datagram.
 
 ghost use Rattle.std.specs.Prelude.{◌≡◌, true, map};
 ghost use Rattle.std.specs.List.{list_all};
@@ -9,22 +9,23 @@ use crate::outcome::Outcome;
 use rtp_codec::Address;
 use std::alloc::{Allocator, Global};
 
-/// What a datagram comes to.
+/// The answer to a datagram.
 #[derive(Drop)]
 pub struct Ingest<A: Allocator + Copy = Global> {
+    /// What became of it.
     pub outcome: Outcome,
-    /// The datagrams that are to be sent to these addresses.
+    /// Datagrams to send, with the addresses that they go to.
     pub up: Vec<(Address, Vec<u8, A>), A>,
-    /// What each lane is to be given, in this order.
+    /// The items for each lane, in this order.
     pub items: Vec<Item<A>, A>,
-    /// Sound has 1 to 1,600 samples.
+    /// Audio items have 1 to 1,600 samples.
     pub ghost sized: { list_all is_sized (map input_of items.items) ≡ true },
 }
 
 impl<A: Allocator + Copy> Ingest<A> {
     ghost use Rattle.intake.specs.Ingested.{only, ingested_of};
 
-    /// Nothing but an outcome.
+    /// An answer with nothing but an outcome.
     pub(crate) fn only(alloc: A, outcome: Outcome) -> Self
         ensures { ingested_of result ≡ only outcome }
     {

@@ -1,8 +1,8 @@
-//! The intake: what it keeps, and how a datagram is taken in.
+//! The intake: its state, and the way of a datagram.
 //!
-//! Its other methods: a media packet goes on in `media`, which turns to `advancing` for its source, to `gating` for the source's
-//! gate, and from there to `upward` for what the source is asked for; a compound goes on in `control`.
-//! What is told of sources is made in `reporting`.
+//! A media packet goes on in `media`, then in `advancing` for its source, in `gating` for the source's gate, and in
+//! `upward` for what the source is asked for. A compound goes on in `control`. Receiver reports are made in
+//! `reporting`.
 
 ghost use Rattle.std.specs.Prelude.{◌≡◌, true, map, IfOk, OnErr};
 ghost use Rattle.desk_rows.specs.Desk.{good};
@@ -25,16 +25,16 @@ use std::marker::Model;
 /// The most octets of a datagram.
 pub(crate) const MOST_OCTETS: usize = 8_192;
 
-/// Takes in what comes off the wire: judges each datagram, and turns it into items for the lanes and into what its sender is asked for.
+/// The receive side. It judges each datagram, and turns it into items for the lanes and datagrams for its sender.
 ///
-/// Contracts see the sources that it knows, as a function of the datagrams and reports so far. Begin with [`new`](Self::new).
+/// Contracts see the sources that it knows, as a function of the datagrams and reports so far.
 #[derive(Drop)]
 pub struct Intake<A: Allocator + Copy = Global> {
     pub(crate) settings: Settings<A>,
     pub(crate) known: Known<A>,
-    /// Where payloads of video are copied to.
+    /// Buffers for the payloads of video.
     pub(crate) payloads: PayloadRoom<A>,
-    /// How many epochs have begun.
+    /// The number of epochs that have begun.
     pub(crate) epochs: u64,
 }
 
@@ -45,17 +45,22 @@ impl<A: Allocator + Copy> Model for Intake<A> {
 
     ghost Value = { IntakeOf };
 
-    ghost view = { λ i. record { asker = record { ssrc = i.settings.bridge_ssrc; cname = i.settings.cname }; entries = i.known; epochs = i.epochs } };
+    ghost view = { λ i. record {
+      asker = record { ssrc = i.settings.bridge_ssrc; cname = i.settings.cname };
+      entries = i.known;
+      epochs = i.epochs;
+    } };
 
     ghost invariant = { λ i. is_name i.settings.cname ≡ true };
 }
 
 impl<A: Allocator + Copy> Intake<A> {
-    /// An intake to which nothing has come.
+    /// An intake that knows no source. The canonical name has 1 to 255 octets. The only error is out of memory.
     pub fn new(alloc: A, settings: Settings<A>) -> Result<Self, AllocError>
         requires { is_name settings.cname ≡ true }
         ensures knows { IfOk result (λ intake. Knows intake no_sources) }
-        ensures asker { IfOk result (λ intake. intake.asker ≡ record { ssrc = settings.bridge_ssrc; cname = settings.cname }) }
+        ensures asker { IfOk result
+            (λ intake. intake.asker ≡ record { ssrc = settings.bridge_ssrc; cname = settings.cname }) }
     {
         let known = Known::new(alloc)?;
         Ok(Self {
@@ -66,9 +71,10 @@ impl<A: Allocator + Copy> Intake<A> {
         })
     }
 
-    /// Takes in a datagram that came from an address at a moment, in nanoseconds since 1970, under the desk of these rows.
+    /// Takes in a datagram. The rows say whose it is.
     ///
-    /// An error says that memory was refused, and then nothing has changed.
+    /// `from` is the address that it came from, and `moment` is in nanoseconds since 1970. On out of memory, the only
+    /// error, nothing changes.
     pub fn datagram(
         &mut self,
         alloc: A,
@@ -77,7 +83,9 @@ impl<A: Allocator + Copy> Intake<A> {
         moment: u64,
         octets: &[u8],
     ) -> Result<Ingest<A>, AllocError>
-        ensures takes { IfOk result (λ ingest. TakesIn self.old self.new (ingested_of ingest) octets.now (λ r. record { desk = rows.now; from = from.now; moment = moment; reading = r })) }
+        ensures takes { IfOk result
+            (λ ingest. TakesIn self.old self.new (ingested_of ingest) octets.now
+            (λ r. record { desk = rows.now; from = from.now; moment = moment; reading = r })) }
         ensures err { OnErr result (self.new ≡ self.old) }
         ensures asker { self.new.asker ≡ self.old.asker }
     {
@@ -91,13 +99,14 @@ impl<A: Allocator + Copy> Intake<A> {
         }
     }
 
-    /// The receiver reports of the bridge at a moment, in nanoseconds since 1970: for each member, by place, of whose sources one at
-    /// least is known and past probation at the member's address, one datagram to this address (RFC 3550 section 6.4.2), a block
-    /// for each such source by SSRC, muted ones too.
+    /// Makes the bridge's receiver reports (RFC 3550 section 6.4.2), and begins a new interval for each reported
+    /// source.
     ///
-    /// For each source that is told of, and for no other, a new interval begins. The order of use stays.
+    /// Each member gets one datagram at its address, by place of the member. It has a block for each of the member's
+    /// sources that is known at this address and past probation, by SSRC; muted ones too. A member without such a
+    /// source gets none.
     ///
-    /// An error says that memory was refused, and then nothing has changed.
+    /// `moment` is in nanoseconds since 1970. On out of memory, the only error, nothing changes.
     pub fn reports(
         &mut self,
         alloc: A,

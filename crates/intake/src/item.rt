@@ -1,4 +1,4 @@
-//! What a lane is given.
+//! The input events of lanes.
 
 ghost use Rattle.std.specs.Prelude.{◌≡◌, IfOk};
 ghost use Rattle.intake.specs.Inputs.{input_of};
@@ -8,59 +8,61 @@ use rtcp_codec::ReportBlock;
 use rtp_codec::Address;
 use std::alloc::{AllocError, Allocator, Global};
 
-/// An input event of the lanes.
+/// An input event of the lanes (media workers).
 #[derive(Drop)]
 pub enum Item<A: Allocator + Copy = Global> {
     /// A whole video frame of a source.
     Frame(MediaFrame<A>),
-    /// The sound of an audio packet.
+    /// The samples of an audio packet.
     Audio {
-        /// The source.
+        /// The SSRC of the source.
         ssrc: u32,
-        /// From where it came.
+        /// The address that it came from.
         address: Address,
         /// The RTP timestamp of the first sample, at 8000 Hz.
         ts: u32,
-        /// 1 to 1,600 samples: 200 ms at most.
+        /// The samples, 1 to 1,600 (200 ms).
         samples: Vec<i16, A>,
     },
-    /// 20 ms have passed: mixes go out. The intake makes none.
+    /// A tick: mixes are sent every 20 ms. The intake makes none.
     Tick {
-        /// Nanoseconds since 1970.
+        /// The moment, in nanoseconds since 1970.
         moment: u64,
     },
-    /// A generic NACK (RFC 4585 section 6.2.1): packets that are asked for again.
+    /// A generic NACK (RFC 4585 section 6.2.1): a receiver asks for packets again.
     Nack {
-        /// From where it came.
+        /// The address that it came from.
         from: Address,
-        /// The outgoing stream whose packets are asked for.
+        /// The SSRC of the outgoing stream.
         out_ssrc: u32,
-        /// Their sequence numbers. Each counts at its first place.
+        /// The sequence numbers. A repeated number counts once.
         numbers: Vec<u16, A>,
     },
-    /// What a receiver tells of an outgoing stream: a report block (RFC 3550 section 6.4.1).
+    /// A receiver's report block about an outgoing stream (RFC 3550 section 6.4.1).
     Block {
-        /// From where it came.
+        /// The address that it came from.
         from: Address,
-        /// The block; its SSRC is that of the outgoing stream.
+        /// The block. Its SSRC is that of the outgoing stream.
         block: ReportBlock,
     },
-    /// A picture loss indication (RFC 4585 section 6.3.1): a receiver has lost the picture.
+    /// A picture loss indication (RFC 4585 section 6.3.1): a receiver lost the picture.
     Pli {
-        /// From where it came.
+        /// The address that it came from.
         from: Address,
-        /// The outgoing stream whose picture is lost.
+        /// The SSRC of the outgoing stream.
         out_ssrc: u32,
     },
     /// Sender reports of all streams are due. The intake makes none.
     Report {
-        /// Nanoseconds since 1970.
+        /// The moment, in nanoseconds since 1970.
         moment: u64,
     },
 }
 
 impl<A: Allocator + Copy> Item<A> {
-    /// The same item once more, as each lane takes one of its own. A frame's payloads are shared; samples and numbers are copied.
+    /// A copy, since each lane takes an item of its own. It shares a frame's payloads, and copies samples and numbers.
+    ///
+    /// The only error is out of memory.
     pub fn copy(&self, alloc: A) -> Result<Self, AllocError>
         ensures { IfOk result (λ item. input_of item ≡ input_of self.now) }
     {
@@ -100,7 +102,7 @@ impl<A: Allocator + Copy> Item<A> {
     }
 }
 
-/// The same numbers in a vector of their own.
+/// A copy of the numbers.
 fn copied<T: Copy, A: Allocator>(alloc: A, numbers: &[T]) -> Result<Vec<T, A>, AllocError>
     ensures { IfOk result (λ copy. copy.items ≡ numbers.now) }
 {

@@ -1,4 +1,4 @@
-//! A packet, judged by its source.
+//! Judges a packet by its source.
 
 ghost use Rattle.std.specs.Prelude.{◌≡◌, ◌≤◌, ◌++◌, List, [], ◌∷◌};
 ghost use Rattle.source_valid.specs.Histories.{Step, standing_of, past_probation_in};
@@ -13,14 +13,14 @@ use std::marker::Model;
 /// Nanoseconds in a second.
 const NANOSECONDS: u64 = 1_000_000_000;
 
-/// A source with one more packet, and the verdict on it.
+/// A source after a packet, and the verdict on the packet.
 #[derive(Clone, Copy)]
 pub(crate) struct Judged {
     pub(crate) source: Source,
     pub(crate) verdict: Verdict,
-    /// The source is initialised at the packet.
+    /// Whether the packet initialises the source.
     pub(crate) begins: bool,
-    /// The source's epoch before the packet.
+    /// The epoch of the source before the packet.
     pub(crate) epoch: u64,
 }
 
@@ -34,12 +34,12 @@ impl Model for Judged {
     ghost inverse = { λ j. record { source = j.source; verdict = j.verdict; begins = j.begins; epoch = j.epoch } };
 }
 
-/// A packet as its source judges it.
+/// The parts of a packet that its source judges.
 #[derive(Clone, Copy)]
 pub(crate) struct Mark {
     pub(crate) seq: u16,
     pub(crate) ts: u32,
-    /// Its arrival in units of the clock rate, modulo 2^32.
+    /// The moment of its arrival in units of the clock rate, modulo 2^32.
     pub(crate) units: u32,
 }
 
@@ -65,9 +65,10 @@ pub(crate) fn units_of(rate: u32, moment: u64) -> u32
     (units % (1 << 32)) as u32
 }
 
-/// Whether a source is initialised at a packet with this verdict, where it was past probation before or wasn't.
+/// Whether a packet with this verdict initialises its source. `was_past` tells whether probation was over before.
 fn initialises(was_past: bool, verdict: Verdict) -> bool
-    ensures { (given : List Step) → was_past ≡ past_probation_in (standing_of given) → result ≡ initialises (standing_of given) verdict }
+    ensures { (given : List Step) → was_past ≡ past_probation_in (standing_of given)
+        → result ≡ initialises (standing_of given) verdict }
 {
     match verdict {
         Verdict::Probation => false,
@@ -77,7 +78,7 @@ fn initialises(was_past: bool, verdict: Verdict) -> bool
     }
 }
 
-/// The source with the arrival of the packet, if it is accepted.
+/// The source after the packet's arrival, if the packet is accepted.
 fn arrived(source: Source, verdict: Verdict, mark: Mark) -> Source
     ensures { (given : List Step) → Represents source given → Represents result (given ++ arrival verdict mark) }
 {
@@ -91,7 +92,7 @@ fn arrived(source: Source, verdict: Verdict, mark: Mark) -> Source
     source
 }
 
-/// Judges a packet of a source that is known.
+/// Judges a packet of a known source.
 #[inline(always)]
 fn judge_known(source: Source, epoch: u64, mark: Mark) -> Judged
     ensures judges { Judges (Some source) mark result }
@@ -108,7 +109,7 @@ fn judge_known(source: Source, epoch: u64, mark: Mark) -> Judged
     }
 }
 
-/// Judges a packet of a source in this epoch. A source that isn't known is on probation with it.
+/// Judges a packet of a source in this epoch. An unknown source begins on probation.
 #[inline(always)]
 pub(crate) fn judge(source: Option<Source>, epoch: u64, mark: Mark) -> Judged
     ensures judges { Judges source mark result }

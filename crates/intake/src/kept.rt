@@ -1,4 +1,4 @@
-//! What is kept of a source.
+//! The state that the intake keeps of a source.
 
 ghost use Rattle.std.specs.Prelude.{◌≡◌, None, Some, true, is_some, IfSome, option_map};
 ghost use Rattle.rtcp_codec.specs.Report.{FitsLost};
@@ -14,7 +14,7 @@ use source_valid::Source;
 use std::alloc::{Allocator, Global};
 use std::marker::Model;
 
-/// A source, its epoch, and its gate, which it has from the first packet on that comes to it.
+/// A source with its epoch and its gate. The first packet that reaches the gate makes it.
 #[derive(Drop)]
 pub(crate) struct Kept<A: Allocator + Copy = Global> {
     pub(crate) source: Source,
@@ -30,14 +30,14 @@ impl<A: Allocator + Copy> Model for Kept<A> {
     ghost view = { λ k. record { source = k.source; epoch = k.epoch; gate = k.gate } };
 }
 
-/// What a source is to become.
+/// The next state of a source.
 #[derive(Drop)]
 pub(crate) struct Next<A: Allocator + Copy = Global> {
     pub(crate) source: Source,
     pub(crate) epoch: u64,
-    /// The epoch begins with the packet.
+    /// Whether the epoch begins with the packet.
     pub(crate) begins: bool,
-    /// What is ready for its gate.
+    /// The packet that is prepared for its gate.
     pub(crate) admission: Option<Admission<A>>,
 }
 
@@ -49,7 +49,7 @@ impl<A: Allocator + Copy> Model for Next<A> {
     ghost view = { λ n. record { source = n.source; epoch = n.epoch; begins = n.begins; admission = n.admission } };
 }
 
-/// Commits what is ready, if anything is.
+/// Commits the prepared packet, if there is one.
 #[inline(always)]
 fn settle_all<A: Allocator + Copy>(
     gate: &mut Option<Gate<A>>,
@@ -66,10 +66,11 @@ fn settle_all<A: Allocator + Copy>(
 }
 
 impl<A: Allocator + Copy> Kept<A> {
-    /// Becomes what was made ready, without memory, and gives the gate's answer.
+    /// Moves to the next state, and gives the gate's answer. This takes no memory.
     #[inline(always)]
     pub(crate) fn become_next(&mut self, next: Next<A>) -> Option<Admitted<A>>
-        requires ready { IfSome next.admission (λ a. is_some (base_of (gate_for (Some self.old) next.begins) a) ≡ true) }
+        requires ready { IfSome next.admission
+            (λ a. is_some (base_of (gate_for (Some self.old) next.begins) a) ≡ true) }
         ensures becomes { Becomes (Some self.old) next self.new }
         ensures answer { result ≡ option_map (λ a. a.prepared.answer) next.admission }
     {
@@ -87,16 +88,17 @@ impl<A: Allocator + Copy> Kept<A> {
         settle_all(&mut self.gate, admission)
     }
 
-    /// Hears a sender report, past probation.
+    /// Notes a sender report, if the source is past probation.
     pub(crate) fn hear(&mut self, ntp: u64, moment: u64)
-        ensures { (story : Story) → Keeps self.old story → Keeps self.new (heard_on (record { ntp = ntp; moment = moment }) story) }
+        ensures { (story : Story) → Keeps self.old story
+            → Keeps self.new (heard_on (record { ntp = ntp; moment = moment }) story) }
     {
         if self.source.past_probation() {
             self.source.sender_report(ntp, moment);
         }
     }
 
-    /// The report block at a moment, past probation.
+    /// The report block at a moment, if the source is past probation.
     pub(crate) fn block(&self, ssrc: u32, moment: u64) -> Option<ReportBlock>
         ensures block { (story : Story) → Keeps self.now story → result ≡ block_on ssrc moment story }
         ensures fits { IfSome result (λ b. FitsLost b.lost) }
@@ -108,13 +110,13 @@ impl<A: Allocator + Copy> Kept<A> {
         Some(source.block(ssrc, moment))
     }
 
-    /// Begins a new interval, past probation.
+    /// Begins a new interval, if the source is past probation.
     pub(crate) fn renew(&mut self)
         ensures { (story : Story) → Keeps self.old story → Keeps self.new (renewed story) }
     {
         let source = &mut self.source;
         if source.past_probation() {
-            // What the block says was told before.
+            // The block was made before.
             source.block(0, 0);
         }
     }

@@ -1,4 +1,4 @@
-//! The sources that are known.
+//! The known sources, an LRU cache.
 
 ghost use Rattle.std.specs.Prelude.{◌≡◌, [], IfOk, OnOk, OnErr, IfSome, None, true, is_some, option_copied, option_map};
 ghost use Rattle.std.specs.Prelude.{List};
@@ -19,10 +19,10 @@ use std::hash::{BuildHasherDefault, FoldHasher};
 use std::marker::Model;
 use std::num::NonZeroUsize;
 
-/// How many sources are known at most.
+/// The most known sources.
 const MOST_KNOWN: usize = 4_096;
 
-/// Where packets come from: the parts of an address, and an SSRC.
+/// The key of a source: the parts of an address, and an SSRC.
 #[derive(Clone, Copy, PartialEq, Eq, Hash)]
 pub(crate) struct Key {
     ip: [u8; 4],
@@ -30,7 +30,7 @@ pub(crate) struct Key {
     ssrc: u32,
 }
 
-/// The key of an origin.
+/// The key of a source.
 pub(crate) fn key_of(address: &Address, ssrc: u32) -> Key
     ensures { result ≡ key_of (record { address = address.now; ssrc = ssrc }) }
 {
@@ -43,7 +43,7 @@ pub(crate) fn key_of(address: &Address, ssrc: u32) -> Key
 
 type Cache<A> = LruCache<Key, Kept<A>, BuildHasherDefault<FoldHasher>, A>;
 
-/// What is kept of the sources that were used last.
+/// The state of the sources that were used last. A source that exceeds the limit drops the least recently used one.
 #[derive(Drop)]
 pub(crate) struct Known<A: Allocator + Copy = Global> {
     cache: Cache<A>,
@@ -63,7 +63,7 @@ impl<A: Allocator + Copy> Model for Known<A> {
 }
 
 impl<A: Allocator + Copy> Known<A> {
-    /// No source is known. All room is made for which there is a bound.
+    /// No known source. It preallocates for the most sources.
     pub(crate) fn new(alloc: A) -> Result<Self, AllocError>
         ensures { IfOk result (λ known. known ≡ []) }
     {
@@ -74,14 +74,14 @@ impl<A: Allocator + Copy> Known<A> {
         Ok(Self { cache })
     }
 
-    /// What is kept under a key.
+    /// The state of a source.
     pub(crate) fn at(&self, key: &Key) -> Option<&Kept<A>>
         ensures { option_copied result ≡ kept_at key.now self.now }
     {
         self.cache.peek(key)
     }
 
-    /// Keeps a source that isn't known.
+    /// Keeps a source that was unknown.
     fn begin(&mut self, key: Key, next: Next<A>) -> Result<Option<Admitted<A>>, AllocError>
         requires new { kept_at key self.old ≡ None }
         requires ready { IfSome next.admission (λ a. is_some (base_of (gate_for None next.begins) a) ≡ true) }
@@ -99,15 +99,17 @@ impl<A: Allocator + Copy> Known<A> {
         Ok(answer)
     }
 
-    /// Keeps a source as what it is to become, before the others. Only one that isn't known takes memory.
+    /// Keeps the next state of a source, as the most recently used. Only an unknown source takes memory.
     #[inline(always)]
     pub(crate) fn keep(
         &mut self,
         key: Key,
         next: Next<A>,
     ) -> Result<Option<Admitted<A>>, AllocError>
-        requires ready { IfSome next.admission (λ a. is_some (base_of (gate_for (kept_at key self.old) next.begins) a) ≡ true) }
-        ensures becomes { OnOk result ((k : KeptOf) × Becomes (kept_at key self.old) next k × (self.new ≡ put_first key k self.old)) }
+        requires ready { IfSome next.admission
+            (λ a. is_some (base_of (gate_for (kept_at key self.old) next.begins) a) ≡ true) }
+        ensures becomes { OnOk result ((k : KeptOf) × Becomes (kept_at key self.old) next k
+            × (self.new ≡ put_first key k self.old)) }
         ensures answer { IfOk result (λ answer. answer ≡ option_map (λ a. a.prepared.answer) next.admission) }
         ensures err { OnErr result (self.new ≡ self.old) }
     {
@@ -117,9 +119,12 @@ impl<A: Allocator + Copy> Known<A> {
         }
     }
 
-    /// Notes a sender report at its source, if that is known and past probation. The order of use stays.
+    /// Notes a sender report, if its source is known and past probation. The order of use stays.
     fn note(&mut self, from: &Address, ssrc: u32, ntp: u64, moment: u64)
-        ensures { (known : List KnownOf) → Holds self.old known → Holds self.new (retold (record { address = from.now; ssrc = ssrc }) (heard_on (record { ntp = ntp; moment = moment })) known) }
+        ensures { (known : List KnownOf) → Holds self.old known
+            → Holds self.new
+            (retold (record { address = from.now; ssrc = ssrc })
+            (heard_on (record { ntp = ntp; moment = moment })) known) }
     {
         let key = key_of(from, ssrc);
         match self.cache.peek_mut(&key) {
@@ -130,7 +135,8 @@ impl<A: Allocator + Copy> Known<A> {
 
     /// Begins a new interval of a source, if it is known and past probation. The order of use stays.
     pub(crate) fn renew(&mut self, from: &Address, ssrc: u32)
-        ensures { (known : List KnownOf) → Holds self.old known → Holds self.new (retold (record { address = from.now; ssrc = ssrc }) renewed known) }
+        ensures { (known : List KnownOf) → Holds self.old known
+            → Holds self.new (retold (record { address = from.now; ssrc = ssrc }) renewed known) }
     {
         match self.cache.peek_mut(&key_of(from, ssrc)) {
             Some(kept) => kept.renew(),
@@ -138,9 +144,10 @@ impl<A: Allocator + Copy> Known<A> {
         }
     }
 
-    /// Notes a packet that is a sender report.
+    /// Notes a packet, if it is a sender report.
     fn note_one(&mut self, from: &Address, moment: u64, packet: &Rtcp<A>)
-        ensures { (known : List KnownOf) → Holds self.old known → Holds self.new (noted from.now moment known (packet_of packet.now)) }
+        ensures { (known : List KnownOf) → Holds self.old known
+            → Holds self.new (noted from.now moment known (packet_of packet.now)) }
     {
         match packet {
             Rtcp::Sender(report) => self.note(from, report.ssrc, report.ntp, moment),
@@ -156,7 +163,8 @@ impl<A: Allocator + Copy> Known<A> {
 
     /// Notes the sender reports of a compound.
     pub(crate) fn note_all(&mut self, from: &Address, moment: u64, packets: &[Rtcp<A>])
-        ensures { (known : List KnownOf) → Holds self.old known → Holds self.new (noted_all from.now moment known (packets_of packets.now)) }
+        ensures { (known : List KnownOf) → Holds self.old known
+            → Holds self.new (noted_all from.now moment known (packets_of packets.now)) }
     {
         for packet in packets {
             self.note_one(from, moment, packet);

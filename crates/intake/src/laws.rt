@@ -1,4 +1,4 @@
-//! Laws of the definitions.
+//! Laws of the definitions: functions that do nothing when they run.
 
 ghost use Rattle.std.specs.Prelude.{◌≡◌, ℕ, true, if◌then◌else◌, List, map, IfSome, option_map};
 ghost use Rattle.rtp_codec.specs.declared.class.Class.TheVariants as classes;
@@ -16,12 +16,12 @@ use rtcp_codec::{numbers_have_words, read_compound};
 use rtp_codec::{Class, classify, read};
 use std::alloc::Allocator;
 
-/// Octets are one thing: two readings of a datagram are the same.
+/// A law: two readings of the same octets are equal.
 pub fn readings_agree()
     ensures { (octets : List ℕ) (r s : Reading) → IsReading octets r → IsReading octets s → r ≡ s }
 {}
 
-/// Octets that are RTP by the first of them are a packet, or no packet for a reason.
+/// Octets that look like RTP are a packet, or have a fault.
 fn rtp_is_read(octets: &[u8])
     requires { IsOf classes.Rtp octets.now }
     ensures { (r : Reading) × IsReading octets.now r }
@@ -32,7 +32,7 @@ fn rtp_is_read(octets: &[u8])
     }
 }
 
-/// Octets that are RTCP by the first of them are a compound, or no compound for a reason.
+/// Octets that look like RTCP are a compound, or have a fault.
 fn rtcp_is_read<A: Allocator + Copy>(alloc: A, octets: &[u8])
     requires { IsOf classes.Rtcp octets.now }
     ensures { (r : Reading) × IsReading octets.now r }
@@ -43,8 +43,8 @@ fn rtcp_is_read<A: Allocator + Copy>(alloc: A, octets: &[u8])
     }
 }
 
-/// Each datagram has a reading, whatever memory there is: it is too long, neither RTP nor RTCP, or a packet or a compound, or
-/// it is none for a reason.
+/// A law: each datagram has a reading, whatever memory there is. It is too long, neither RTP nor RTCP, a packet, a
+/// compound, or has a fault.
 pub fn datagrams_are_read<A: Allocator + Copy>(alloc: A, octets: &[u8])
     ensures { (r : Reading) × IsReading octets.now r }
 {
@@ -58,17 +58,21 @@ pub fn datagrams_are_read<A: Allocator + Copy>(alloc: A, octets: &[u8])
     }
 }
 
-/// Whoever asks for packets has words for them: there is a voice.
+/// A law: any sequence numbers have NACK words, so the bridge can ask for them.
 pub fn voices_are_there()
     ensures { (asker : Asker) → (voice : Voice) × IsVoice voice × (voice.asker ≡ asker) }
 {
     numbers_have_words();
 }
 
-/// When reports go out under a good desk, new intervals begin of just those known sources that a member of the desk sends from its
-/// address. The order of use stays. A source that is told of again at once has lost nothing since.
+/// A law of reports under a good desk. New intervals begin for exactly the known sources that a member sends from its
+/// address. The order of use stays. A source that is reported again at once has lost nothing since.
 pub fn reports_begin_intervals()
-    ensures just { (asker : Asker) (d : Desk) (moment : ℕ) (s : Sources) (o : Origin) → good d ≡ true → story_at o (reported asker d moment s).1.known ≡ (if comes_from d o.ssrc o.address then option_map renewed (story_at o s.known) else story_at o s.known) }
-    ensures order { (asker : Asker) (d : Desk) (moment : ℕ) (s : Sources) → map (λ k. k.origin) (reported asker d moment s).1.known ≡ map (λ k. k.origin) s.known }
-    ensures next { (ssrc moment : ℕ) (story : Story) → IfSome (block_on ssrc moment (renewed story)) (λ b. b.fraction ≡ 0) }
+    ensures just { (asker : Asker) (d : Desk) (moment : ℕ) (s : Sources) (o : Origin) → good d ≡ true
+        → story_at o (reported asker d moment s).1.known
+        ≡ (if comes_from d o.ssrc o.address then option_map renewed (story_at o s.known) else story_at o s.known) }
+    ensures order { (asker : Asker) (d : Desk) (moment : ℕ) (s : Sources)
+        → map (λ k. k.origin) (reported asker d moment s).1.known ≡ map (λ k. k.origin) s.known }
+    ensures next { (ssrc moment : ℕ) (story : Story)
+        → IfSome (block_on ssrc moment (renewed story)) (λ b. b.fraction ≡ 0) }
 {}

@@ -1,6 +1,17 @@
-//! What comes off the wire: each datagram gets one outcome, and gives what the lanes are to take and what its sender is asked for.
+//! The receive side. It takes datagrams from the wire, and gives each one outcome, the items that the lanes take, and
+//! the datagrams that ask its sender for something.
 //!
-//! Begin with [`Intake::new`].
+//! Begin with [`Intake::new`], then [`Intake::datagram`] and [`Intake::reports`]. A contract sees the sources that the
+//! intake knows, as a function of the datagrams and reports so far.
+//!
+//! ```rust
+//! let settings = Settings { bridge_ssrc: 1, cname: Bytes::from_static(b"bridge") };
+//! let mut intake = Intake::new(alloc, settings)?;
+//! let ingest = intake.datagram(alloc, &rows, &from, moment, &octets)?; // its outcome, items, and datagrams to send
+//! let reports = intake.reports(alloc, &rows, moment)?; // receiver reports, with the addresses that they go to
+//! ```
+//!
+//! `reports_leave_others_alone` of worked_bridge makes the last call, and has a law of it proved.
 #![tactic(auto)]
 
 mod admitting;

@@ -1,4 +1,4 @@
-//! Media packets.
+//! Takes in media packets.
 
 ghost use Rattle.std.specs.Prelude.{◌≡◌, ◌≤◌, true, length, IfOk, OnErr};
 ghost use Rattle.rtp_codec.specs.View.{packet_of};
@@ -24,16 +24,17 @@ use source_valid::Verdict;
 use std::alloc::{AllocError, Allocator};
 use topology::source_from;
 
-/// The clock rate of audio in Hz (RFC 3551 section 4.5.14; that L16 has it too is own).
+/// The clock rate of audio in Hz (RFC 3551 section 4.5.14; for L16 it is the bridge's own choice).
 const AUDIO_RATE: u32 = 8_000;
 
 /// The clock rate of video in Hz (RFC 3551 section 5).
 const VIDEO_RATE: u32 = 90_000;
 
-/// A packet as a source of this clock rate judges it.
+/// The parts of a packet that a source of this clock rate judges.
 fn mark_of(rate: u32, moment: u64, view: &RtpView<'_>) -> Mark
     requires { rate ≤ 90000 }
-    ensures { (from : Address) → result ≡ mark_of rate (record { from = from; moment = moment; packet = packet_of view.now }) }
+    ensures { (from : Address)
+        → result ≡ mark_of rate (record { from = from; moment = moment; packet = packet_of view.now }) }
 {
     Mark {
         seq: view.seq,
@@ -43,7 +44,7 @@ fn mark_of(rate: u32, moment: u64, view: &RtpView<'_>) -> Mark
 }
 
 impl<A: Allocator + Copy> Intake<A> {
-    /// Takes in an audio packet. The payload is of a kind that the bridge knows.
+    /// Takes in an audio packet. The bridge knows its payload type.
     fn audio(
         &mut self,
         alloc: A,
@@ -52,7 +53,11 @@ impl<A: Allocator + Copy> Intake<A> {
         view: &RtpView<'_>,
     ) -> Result<Ingest<A>, AllocError>
         requires { is_audio view.now.pt (length view.now.payload.now) ≡ true }
-        ensures moves { IfOk result (λ ingest. Moves self.old self.new (ingested_of ingest) (λ voice s. sourced voice audio_rate (audio_course (record { from = from.now; moment = moment; packet = packet_of view.now })) (record { from = from.now; moment = moment; packet = packet_of view.now }) s)) }
+        ensures moves { IfOk result
+            (λ ingest. Moves self.old self.new (ingested_of ingest)
+            (λ voice s. sourced voice audio_rate
+            (audio_course (record { from = from.now; moment = moment; packet = packet_of view.now }))
+            (record { from = from.now; moment = moment; packet = packet_of view.now }) s)) }
         ensures err { OnErr result (self.new ≡ self.old) }
         ensures asker { self.new.asker ≡ self.old.asker }
     {
@@ -74,7 +79,11 @@ impl<A: Allocator + Copy> Intake<A> {
         view: &RtpView<'_>,
     ) -> Result<Ingest<A>, AllocError>
         requires { view.now.pt ≤ highest_pt }
-        ensures moves { IfOk result (λ ingest. Moves self.old self.new (ingested_of ingest) (λ voice s. sourced voice video_rate (video_course (record { from = from.now; moment = moment; packet = packet_of view.now })) (record { from = from.now; moment = moment; packet = packet_of view.now }) s)) }
+        ensures moves { IfOk result
+            (λ ingest. Moves self.old self.new (ingested_of ingest)
+            (λ voice s. sourced voice video_rate
+            (video_course (record { from = from.now; moment = moment; packet = packet_of view.now }))
+            (record { from = from.now; moment = moment; packet = packet_of view.now }) s)) }
         ensures err { OnErr result (self.new ≡ self.old) }
         ensures asker { self.new.asker ≡ self.old.asker }
     {
@@ -105,7 +114,10 @@ impl<A: Allocator + Copy> Intake<A> {
         view: &RtpView<'_>,
     ) -> Result<Ingest<A>, AllocError>
         requires { view.now.pt ≤ highest_pt }
-        ensures moves { IfOk result (λ ingest. Moves self.old self.new (ingested_of ingest) (λ voice s. of_row voice (source_from rows.now view.now.ssrc from.now) (record { from = from.now; moment = moment; packet = packet_of view.now }) s)) }
+        ensures moves { IfOk result
+            (λ ingest. Moves self.old self.new (ingested_of ingest)
+            (λ voice s. of_row voice (source_from rows.now view.now.ssrc from.now)
+            (record { from = from.now; moment = moment; packet = packet_of view.now }) s)) }
         ensures err { OnErr result (self.new ≡ self.old) }
         ensures asker { self.new.asker ≡ self.old.asker }
     {
@@ -123,7 +135,7 @@ impl<A: Allocator + Copy> Intake<A> {
         }
     }
 
-    /// Takes in a datagram that is RTP by its first octets.
+    /// Takes in a datagram whose first octets say RTP.
     pub(crate) fn rtp(
         &mut self,
         alloc: A,
@@ -133,7 +145,9 @@ impl<A: Allocator + Copy> Intake<A> {
         octets: &[u8],
     ) -> Result<Ingest<A>, AllocError>
         requires { IsOf classes.Rtp octets.now }
-        ensures takes { IfOk result (λ ingest. TakesIn self.old self.new (ingested_of ingest) octets.now (λ r. record { desk = rows.now; from = from.now; moment = moment; reading = r })) }
+        ensures takes { IfOk result
+            (λ ingest. TakesIn self.old self.new (ingested_of ingest) octets.now
+            (λ r. record { desk = rows.now; from = from.now; moment = moment; reading = r })) }
         ensures err { OnErr result (self.new ≡ self.old) }
         ensures asker { self.new.asker ≡ self.old.asker }
     {

@@ -1,28 +1,28 @@
-//! Where payloads are kept.
+//! Copies payloads into shared blocks.
 
 ghost use Rattle.std.specs.Prelude.{◌≡◌, IfOk};
 
 use bytes::{Bytes, BytesMut};
 use std::alloc::{AllocError, Allocator, Global};
 
-/// How many octets of payloads share a block, unless one of them has more.
+/// The octets of a block of payloads. A longer payload has a block of its own.
 const ROOM: usize = 4_096;
 
-/// Room for payloads, which lie in it one behind the other, so that a block serves several of them.
+/// A block for payloads, which lie in it one behind the other. So one allocation serves several payloads.
 #[derive(Drop)]
 pub(crate) struct PayloadRoom<A: Allocator + Copy = Global> {
     room: BytesMut<A>,
 }
 
 impl<A: Allocator + Copy> PayloadRoom<A> {
-    /// No room yet.
+    /// No block yet.
     pub(crate) fn new(alloc: A) -> Self {
         Self {
             room: BytesMut::new(alloc),
         }
     }
 
-    /// A copy of the octets, which is shared from here on.
+    /// A copy of the octets, which is shared from here on. The only error is out of memory.
     pub(crate) fn copied(&mut self, alloc: A, octets: &[u8]) -> Result<Bytes<A>, AllocError>
         ensures { IfOk result (λ bytes. bytes ≡ octets.now) }
     {

@@ -1,4 +1,4 @@
-//! What is told of sources to the members that send them.
+//! Makes receiver reports.
 
 ghost use Rattle.std.specs.Prelude.{◌≡◌, ◌++◌, true, List, map, filter_map, IfOk, OnOk, IfSome};
 ghost use Rattle.std.specs.List.{AllByRecursion};
@@ -31,14 +31,14 @@ fn source_in(row: &Row) -> Option<Source>
     }
 }
 
-/// The sources in these rows.
+/// The sources in these rows, in their order.
 fn sources_in<A: Allocator>(alloc: A, these: &[Row]) -> Result<Vec<Source, A>, AllocError>
     ensures { IfOk result (λ v. v.items ≡ filter_map source_in these.now) }
 {
     these.iter().filter_map(|row| source_in(row)).collect(alloc)
 }
 
-/// The sources of the desk by SSRC.
+/// The sources of the desk, by SSRC.
 pub(crate) fn sources_of<A: Allocator + Copy>(
     alloc: A,
     rows: &Rows<A>,
@@ -50,9 +50,10 @@ pub(crate) fn sources_of<A: Allocator + Copy>(
 }
 
 impl<A: Allocator + Copy> Known<A> {
-    /// The block of a source at a moment, where it is this member's, known at the member's address, and past probation.
+    /// The report block of a source, if it is this member's, known at the member's address, and past probation.
     fn block_from(&self, member: &Member, source: &Source, moment: u64) -> Option<ReportBlock>
-        ensures block { (known : List KnownOf) → Holds self.now known → result ≡ block_from moment known member.now source.now }
+        ensures block { (known : List KnownOf) → Holds self.now known
+            → result ≡ block_from moment known member.now source.now }
         ensures fits { IfSome result (λ b. FitsLost b.lost) }
     {
         if source.member != member.member {
@@ -72,7 +73,8 @@ impl<A: Allocator + Copy> Known<A> {
         sources: &[Source],
         moment: u64,
     ) -> Result<Vec<ReportBlock, A>, AllocError>
-        ensures blocks { (known : List KnownOf) → Holds self.now known → IfOk result (λ v. v.items ≡ blocks_of sources.now moment known member.now) }
+        ensures blocks { (known : List KnownOf) → Holds self.now known
+            → IfOk result (λ v. v.items ≡ blocks_of sources.now moment known member.now) }
         ensures fits { IfOk result (λ v. AllByRecursion (λ b. FitsLost b.lost) v.items) }
     {
         let mut blocks = Vec::new(alloc);
@@ -84,18 +86,20 @@ impl<A: Allocator + Copy> Known<A> {
         Ok(blocks)
     }
 
-    /// Begins new intervals of those of these sources that are known at their members' addresses, and past probation.
+    /// Begins new intervals for the sources that are known at their members' addresses and past probation.
     pub(crate) fn renew_all(&mut self, rows: &Rows<A>, sources: &[Source])
-        ensures { (known : List KnownOf) → Holds self.old known → Holds self.new (all_renewed rows.now known sources.now) }
+        ensures { (known : List KnownOf) → Holds self.old known
+            → Holds self.new (all_renewed rows.now known sources.now) }
     {
         for source in sources {
             self.renew_on(rows, source);
         }
     }
 
-    /// Begins a new interval of a source, if it is known at its member's address, and past probation.
+    /// Begins a new interval for a source, if it is known at its member's address and past probation.
     fn renew_on(&mut self, rows: &Rows<A>, source: &Source)
-        ensures { (known : List KnownOf) → Holds self.old known → Holds self.new (renewed_on rows.now known source.now) }
+        ensures { (known : List KnownOf) → Holds self.old known
+            → Holds self.new (renewed_on rows.now known source.now) }
     {
         match member_at(rows, source.member) {
             None => {}
@@ -105,7 +109,7 @@ impl<A: Allocator + Copy> Known<A> {
 }
 
 impl<A: Allocator + Copy> Intake<A> {
-    /// Appends what a member is told of those of the sources that are its own, if there is anything.
+    /// Appends the report on a member's own sources, if there is a block.
     fn put_report(
         &self,
         alloc: A,
@@ -114,7 +118,10 @@ impl<A: Allocator + Copy> Intake<A> {
         sources: &[Source],
         moment: u64,
     ) -> Result<(), AllocError>
-        ensures { (known : List KnownOf) → Holds self.now.entries known → OnOk result (map datagram_of up.new.items ≡ map datagram_of up.old.items ++ report_to self.now.asker member.now.address (blocks_of sources.now moment known member.now)) }
+        ensures { (known : List KnownOf) → Holds self.now.entries known
+            → OnOk result (map datagram_of up.new.items
+            ≡ map datagram_of up.old.items
+            ++ report_to self.now.asker member.now.address (blocks_of sources.now moment known member.now)) }
     {
         let blocks = self.known.blocks_of(alloc, member, sources, moment)?;
         if blocks.is_empty() {
@@ -126,7 +133,7 @@ impl<A: Allocator + Copy> Intake<A> {
         Ok(())
     }
 
-    /// What the members are told of those of the sources that are theirs.
+    /// The reports to the members on their own sources.
     pub(crate) fn told_to(
         &self,
         alloc: A,
@@ -134,7 +141,9 @@ impl<A: Allocator + Copy> Intake<A> {
         sources: &[Source],
         moment: u64,
     ) -> Result<Vec<(Address, Vec<u8, A>), A>, AllocError>
-        ensures { (known : List KnownOf) → Holds self.now.entries known → IfOk result (λ up. map datagram_of up.items ≡ told_to_members self.now.asker sources.now moment known members.now) }
+        ensures { (known : List KnownOf) → Holds self.now.entries known
+            → IfOk result
+            (λ up. map datagram_of up.items ≡ told_to_members self.now.asker sources.now moment known members.now) }
     {
         let mut up = Vec::new(alloc);
         for member in members {

@@ -1,4 +1,4 @@
-//! Settings.
+//! The settings of the bridge's own RTCP.
 
 ghost use Rattle.std.specs.Prelude.{◌≡◌, IfOk};
 ghost use Rattle.intake.specs.Names.{is_name};
@@ -9,12 +9,12 @@ use std::alloc::{AllocError, Allocator, Global};
 /// The most octets of a canonical name.
 const NAME_OCTETS: usize = 255;
 
-/// How the bridge presents itself.
+/// How the bridge presents itself in RTCP.
 #[derive(Drop)]
 pub struct Settings<A: Allocator + Copy = Global> {
-    /// The SSRC under which the bridge itself speaks.
+    /// The SSRC of the bridge itself.
     pub bridge_ssrc: u32,
-    /// The canonical name of its source descriptions, 1 to 255 octets (RFC 3550 section 6.5.1).
+    /// The canonical name of the bridge, 1 to 255 octets (CNAME, RFC 3550 section 6.5.1).
     pub cname: Bytes<A>,
 }
 
@@ -27,7 +27,7 @@ impl<A: Allocator + Copy> Settings<A> {
         0 < octets && octets <= NAME_OCTETS
     }
 
-    /// The same settings again. The octets of the name are shared.
+    /// A copy that shares the octets of the name. The only error is out of memory.
     pub fn try_clone(&self) -> Result<Self, AllocError>
         ensures { IfOk result (λ s. (s.bridge_ssrc ≡ self.now.bridge_ssrc) × (s.cname ≡ self.now.cname)) }
     {

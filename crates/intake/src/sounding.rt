@@ -1,4 +1,4 @@
-//! Audio payloads, and their sound as items.
+//! Decodes audio payloads into items.
 
 ghost use Rattle.std.specs.Prelude.{◌≡◌, ℕ, true, length, map, IfOk};
 ghost use Rattle.std.specs.List.{list_all};
@@ -11,15 +11,15 @@ use rtp_codec::{Address, RtpView};
 use source_valid::Verdict;
 use std::alloc::{AllocError, Allocator};
 
-/// The most samples of an audio packet: 200 ms.
+/// The most samples of an audio packet: 200 ms at 8000 Hz.
 const MOST_SAMPLES: usize = 1_600;
 
-/// The payload types of audio.
+/// The payload types of audio: PCMU and L16.
 const PCMU: u8 = 0;
 
 const L16: u8 = 97;
 
-/// Whether the payload is audio: PCMU, or L16 in whole samples, of at most 200 ms.
+/// Whether the payload is audio: PCMU, or L16 in whole samples; at most 200 ms.
 pub(crate) fn is_audio(pt: u8, octets: usize) -> bool
     ensures { result ≡ is_audio pt octets }
 {
@@ -29,7 +29,7 @@ pub(crate) fn is_audio(pt: u8, octets: usize) -> bool
     pt == L16 && (octets % 2 == 0 && octets <= 2 * MOST_SAMPLES)
 }
 
-/// The samples of a payload that is audio.
+/// Decodes an audio payload.
 fn samples_of<A: Allocator + Copy>(
     alloc: A,
     pt: u8,
@@ -55,7 +55,10 @@ fn sound_of<A: Allocator + Copy>(
     view: &RtpView<'_>,
 ) -> Result<Vec<Item<A>, A>, AllocError>
     requires { is_audio view.now.pt (length view.now.payload.now) ≡ true }
-    ensures items { (moment : ℕ) → IfOk result (λ items. map input_of items.items ≡ sound_of (record { from = from.now; moment = moment; packet = packet_of view.now })) }
+    ensures items { (moment : ℕ)
+        → IfOk result
+        (λ items. map input_of items.items
+        ≡ sound_of (record { from = from.now; moment = moment; packet = packet_of view.now })) }
 {
     if view.payload.is_empty() {
         return Ok(Vec::new(alloc));
@@ -71,7 +74,7 @@ fn sound_of<A: Allocator + Copy>(
     Ok(items)
 }
 
-/// The items that a judged packet makes.
+/// The items of a judged packet.
 pub(crate) fn sounds<A: Allocator + Copy>(
     alloc: A,
     verdict: Verdict,
@@ -79,7 +82,10 @@ pub(crate) fn sounds<A: Allocator + Copy>(
     view: &RtpView<'_>,
 ) -> Result<Vec<Item<A>, A>, AllocError>
     requires { is_audio view.now.pt (length view.now.payload.now) ≡ true }
-    ensures items { (moment : ℕ) → IfOk result (λ items. map input_of items.items ≡ sounds (record { from = from.now; moment = moment; packet = packet_of view.now }) verdict) }
+    ensures items { (moment : ℕ)
+        → IfOk result
+        (λ items. map input_of items.items
+        ≡ sounds (record { from = from.now; moment = moment; packet = packet_of view.now }) verdict) }
     ensures sized { IfOk result (λ items. list_all is_sized (map input_of items.items) ≡ true) }
 {
     match verdict {

@@ -1,4 +1,4 @@
-//! What a source is asked for.
+//! Makes the datagrams that ask a source for packets or a picture.
 
 ghost use Rattle.std.specs.Prelude.{◌≡◌, ◌≤◌, [], ◌∷◌, length, IfOk, map};
 ghost use Rattle.feedback.specs.Upstream.{most_words};
@@ -11,7 +11,7 @@ use feedback::upstream;
 use rtp_codec::Address;
 use std::alloc::{AllocError, Allocator};
 
-/// The datagram that goes to an address.
+/// One datagram to an address.
 fn one_datagram<A: Allocator + Copy>(
     alloc: A,
     to: &Address,
@@ -25,7 +25,7 @@ fn one_datagram<A: Allocator + Copy>(
 }
 
 impl<A: Allocator + Copy> Intake<A> {
-    /// The octets in which the bridge asks a source for packets, and for a picture.
+    /// The octets that ask a source for packets, a picture or both.
     fn asking(
         &self,
         alloc: A,
@@ -34,13 +34,14 @@ impl<A: Allocator + Copy> Intake<A> {
         pli: bool,
     ) -> Result<Vec<u8, A>, AllocError>
         requires { length nacks.now ≤ most_words }
-        ensures { (voice : Voice) → IsVoice voice → voice.asker ≡ self.now.asker → IfOk result (λ octets. octets.items ≡ asking voice source nacks.now pli) }
+        ensures { (voice : Voice) → IsVoice voice → voice.asker ≡ self.now.asker
+            → IfOk result (λ octets. octets.items ≡ asking voice source nacks.now pli) }
     {
         let Settings { bridge_ssrc, cname } = &self.settings;
         upstream(alloc, *bridge_ssrc, cname, source, nacks, pli)
     }
 
-    /// What goes up to a source.
+    /// The datagram for a source, if it is asked for anything.
     pub(crate) fn asked(
         &self,
         alloc: A,
@@ -50,7 +51,10 @@ impl<A: Allocator + Copy> Intake<A> {
         pli: bool,
     ) -> Result<Vec<(Address, Vec<u8, A>), A>, AllocError>
         requires { length nacks.now ≤ most_words }
-        ensures { (voice : Voice) → IsVoice voice → voice.asker ≡ self.now.asker → IfOk result (λ up. map datagram_of up.items ≡ asked_of voice (record { address = from.now; ssrc = source }) nacks.now pli) }
+        ensures { (voice : Voice) → IsVoice voice → voice.asker ≡ self.now.asker
+            → IfOk result
+            (λ up. map datagram_of up.items
+            ≡ asked_of voice (record { address = from.now; ssrc = source }) nacks.now pli) }
     {
         if nacks.is_empty() && !pli {
             return Ok(Vec::new(alloc));
