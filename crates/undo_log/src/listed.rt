@@ -10,9 +10,7 @@ use crate::walking::{absorb_all, absorb_each, fit_all, invert_all, take_back};
 use std::alloc::{AllocError, Allocator, Global};
 use std::marker::Model;
 
-/// Edits that are absorbed together and taken back together.
-///
-/// Contracts see a list of edits.
+/// Edits that are absorbed and taken back together. Contracts see a list of edits.
 #[derive(Drop)]
 pub struct Edits<E, A: Allocator = Global> {
     items: Vec<E, A>,
@@ -25,18 +23,21 @@ impl<E, A: Allocator> Model for Edits<E, A> {
 }
 
 impl<E, A: Allocator> Edits<E, A> {
+    /// These edits as one.
     pub fn new(items: Vec<E, A>) -> Self
         ensures { result ≡ items.items }
     {
         Self { items }
     }
 
+    /// The edits, in their order.
     pub fn items(&self) -> &[E]
         ensures { result.now ≡ self.now }
     {
         &self.items
     }
 
+    /// The edits, in their order.
     pub fn into_items(self) -> Vec<E, A>
         ensures { result.items ≡ self }
     {
@@ -44,10 +45,9 @@ impl<E, A: Allocator> Edits<E, A> {
     }
 }
 
-/// A state that absorbs a list of edits as one edit. A list fits if each edit fits the state that
-/// those before it leave; a list that doesn't fit changes nothing.
+/// A state that absorbs a list of edits as one edit. Contracts see the state.
 ///
-/// Contracts see the state.
+/// A list fits if each edit fits the state that the edits before it leave. A list that does not fit changes nothing.
 #[derive(Drop)]
 pub struct Listed<S> {
     inner: S,
@@ -60,12 +60,14 @@ impl<S> Model for Listed<S> {
 }
 
 impl<S> Listed<S> {
+    /// The state, for lists of edits.
     pub fn new(inner: S) -> Self
         ensures { result ≡ inner }
     {
         Self { inner }
     }
 
+    /// The state.
     pub fn inner(&self) -> &S
         ensures { result.now ≡ self.now }
     {

@@ -1,4 +1,4 @@
-//! Lists of edits: absorbed, taken back and inverted one edit after another.
+//! Absorbs, takes back and inverts lists of edits, one edit after another.
 
 ghost use Rattle.std.specs.Prelude.{◌≡◌, ◌<◌, ◌≤◌, true, false, fold, length, take};
 ghost use Rattle.undo_log.specs.Timeline.{all_fit};
@@ -6,7 +6,7 @@ ghost use Rattle.undo_log.specs.Lists.{after_all, inverses};
 
 use crate::reversible::Reversible;
 
-/// Absorbs the edits one after another until one doesn't fit, and says how many it absorbed.
+/// Absorbs edits until one does not fit. Returns the number of absorbed ones.
 fn absorb_front<S: Reversible>(state: &mut S, edits: &[S::Edit]) -> usize
     ensures within { result ≤ length edits.now }
     ensures fit { all_fit S.can_absorb S.after state.old (take result edits.now) ≡ true }
@@ -34,6 +34,7 @@ pub(crate) fn take_back<S: Reversible>(state: &mut S, edits: &[S::Edit])
     }
 }
 
+/// Whether the edits fit, one after another. The state is as it was afterwards.
 pub(crate) fn fit_all<S: Reversible>(state: &mut S, edits: &[S::Edit]) -> bool
     ensures answer { result ≡ all_fit S.can_absorb S.after state.old edits.now }
     ensures same { state.new ≡ state.old }
@@ -43,7 +44,7 @@ pub(crate) fn fit_all<S: Reversible>(state: &mut S, edits: &[S::Edit]) -> bool
     done == edits.len()
 }
 
-/// Absorbs the edits; where one doesn't fit, those before it are taken back.
+/// Absorbs the edits. If one does not fit, those before it are taken back.
 pub(crate) fn absorb_all<S: Reversible>(state: &mut S, edits: &[S::Edit])
     ensures { state.new ≡ after_all S.can_absorb S.after state.old edits.now }
 {
@@ -53,7 +54,7 @@ pub(crate) fn absorb_all<S: Reversible>(state: &mut S, edits: &[S::Edit])
     }
 }
 
-/// Absorbs edits that fit one after another, without asking whether they do.
+/// Absorbs edits that fit one after another, without checking them again.
 pub(crate) fn absorb_each<S: Reversible>(state: &mut S, edits: &[S::Edit])
     requires { all_fit S.can_absorb S.after state.old edits.now ≡ true }
     ensures { state.new ≡ after_all S.can_absorb S.after state.old edits.now }
@@ -65,7 +66,7 @@ pub(crate) fn absorb_each<S: Reversible>(state: &mut S, edits: &[S::Edit])
     }
 }
 
-/// Inverts each edit and reverses their order, in place: it takes no memory.
+/// Inverts each edit and reverses their order, in place. It takes no memory.
 pub(crate) fn invert_all<S: Reversible>(items: &mut Vec<S::Edit, S::Alloc>)
     ensures { items.new.items ≡ inverses S.inverse items.old.items }
 {
