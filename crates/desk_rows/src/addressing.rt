@@ -1,4 +1,4 @@
-//! Members, found by their addresses.
+//! Finds members by their addresses.
 
 ghost use Rattle.std.specs.Prelude.{◌≡◌, ◌≤◌, true, false, length, Contains, IfSome, IfNone, vec_capacity};
 ghost use Rattle.std.specs.List.{list_any};
@@ -9,7 +9,7 @@ use crate::row::Member;
 use rtp_codec::Address;
 use std::alloc::Allocator;
 
-/// The member at this address, found by halving.
+/// The member at this address, by binary search.
 pub(crate) fn find_at(table: &[Member], address: &Address) -> Option<Member>
     requires { StandByAddress table.now }
     ensures there { IfSome result (Contains table.now) }
@@ -23,7 +23,7 @@ pub(crate) fn find_at(table: &[Member], address: &Address) -> Option<Member>
     }
 }
 
-/// Lists the members by address, in the room that there is.
+/// Lists the members by address, within the table's capacity.
 pub(crate) fn list_by_address<A: Allocator>(table: &mut Vec<Member, A>, members: &[Member])
     requires { length members.now ≤ vec_capacity table.old }
     ensures table { IsByAddress members.now table.new.items }

@@ -8,10 +8,8 @@ use crate::row::Row;
 use std::alloc::Allocator;
 use std::marker::Model;
 
-/// The lists of an edit, borrowed. They can be read as those of its inverse, so that no inverse has
-/// to be built.
-///
-/// Contracts see an edit.
+/// The lists of an edit, borrowed. Read backwards they are those of its inverse, which need not be built. Contracts see
+/// an edit.
 #[derive(Drop)]
 pub(crate) struct EditLists<'a> {
     taken_members: &'a [Placed],

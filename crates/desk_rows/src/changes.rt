@@ -1,4 +1,4 @@
-//! What an edit takes and puts, by key.
+//! Finds what an edit takes and puts, by key.
 
 ghost use Rattle.std.specs.Prelude.{◌≡◌, ◌<◌, ◌^◌, true, map};
 ghost use Rattle.std.specs.List.{find};
@@ -34,7 +34,7 @@ impl<A: Allocator + Copy> Edit<A> {
         find_change(self.put_members(), self.put_others(), self.new(), key)
     }
 
-    /// How many rows that come pass the test.
+    /// The number of rows that come and pass the test.
     #[tactic(auto, using(crate::proofs::Counts::two_counts, crate::proofs::Counts::count_of_both))]
     pub(crate) fn count_coming(&self, test: &Test) -> usize
         ensures count { result ≡ come_count (passes test.now) self.now }
@@ -44,7 +44,7 @@ impl<A: Allocator + Copy> Edit<A> {
             + (count_rows(self.put_others(), test) + count_rows(self.new(), test))
     }
 
-    /// How many rows that go pass the test.
+    /// The number of rows that go and pass the test.
     #[tactic(auto, using(crate::proofs::Counts::two_counts, crate::proofs::Counts::count_of_both))]
     pub(crate) fn count_going(&self, test: &Test) -> usize
         ensures count { result ≡ go_count (passes test.now) self.now }

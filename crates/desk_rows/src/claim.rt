@@ -1,4 +1,4 @@
-//! What a row has to itself.
+//! What a row shares with no other row.
 
 ghost use Rattle.std.specs.Prelude.{◌≡◌};
 ghost use Rattle.std.specs.List.{list_any};
@@ -9,19 +9,26 @@ use crate::few::Few;
 use crate::row::Key;
 use rtp_codec::Address;
 
-/// What no two rows of a desk may share.
+/// A value that only one row of a desk may have.
 #[derive(Clone, Copy)]
 pub enum Claim {
+    /// A key.
     Key(Key),
+    /// The address of a member.
     Address(Address),
-    /// An SSRC, of a source, of an outgoing stream or of the bridge.
+    /// An SSRC of a source, an outgoing stream or the bridge.
     Ssrc(u32),
-    /// A slot's place among those of its member.
-    Place { member: u32, index: u32 },
+    /// The index of a slot among those of its member.
+    Place {
+        /// The member.
+        member: u32,
+        /// The index, 0 to 15.
+        index: u32,
+    },
 }
 
 impl Claim {
-    /// The numbers that tell the claim from all others.
+    /// Numbers that are equal for equal claims only.
     fn numbers(&self) -> [u32; 6]
         ensures { result ≡ claim_numbers self.now }
     {
@@ -41,14 +48,14 @@ impl Claim {
         }
     }
 
-    /// Whether the other claim is the same.
+    /// Whether both claims are equal.
     fn is_same(&self, other: &Claim) -> bool
         ensures { result ≡ same_claim self.now other.now }
     {
         self.numbers() == other.numbers()
     }
 
-    /// Whether it is one of these.
+    /// Whether it is one of these claims.
     pub(crate) fn is_among(&self, claims: Few<Claim>) -> bool
         ensures { result ≡ list_any (same_claim self.now) (listed claims) }
     {

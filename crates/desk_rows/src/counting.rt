@@ -1,4 +1,4 @@
-//! Rows counted by what they are and by what they claim.
+//! Counts rows by kind and by claim.
 
 ghost use Rattle.std.specs.Prelude.{◌≡◌, count_by};
 ghost use Rattle.desk_rows.specs.declared.row.Row.TheVariants.{Member as MemberRow};
@@ -8,7 +8,7 @@ use crate::claim::Claim;
 use crate::edit::Placed;
 use crate::row::{Kind, Member, Row};
 
-/// What rows are counted by.
+/// The test by which rows are counted.
 #[derive(Clone, Copy)]
 pub(crate) enum Test {
     IsOf(Kind),

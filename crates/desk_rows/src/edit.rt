@@ -1,4 +1,4 @@
-//! An edit: the rows that it takes, puts and replaces.
+//! Edits: the rows that they take, put and replace.
 
 ghost use Rattle.std.specs.Prelude.{◌≡◌, [], IfOk};
 
@@ -6,14 +6,16 @@ use crate::row::{Member, Row};
 use std::alloc::{AllocError, Allocator, Global};
 use std::marker::Model;
 
-/// A member row with its place in the list of members, from 0.
+/// A member row with its place.
 #[derive(Clone, Copy)]
 pub struct Placed {
+    /// The place in joining order, from 0 on.
     pub place: usize,
+    /// The member.
     pub row: Member,
 }
 
-/// Rows of an edit.
+/// The rows that an edit takes, or those that it puts.
 #[derive(Drop)]
 pub struct Part<A: Allocator + Copy = Global> {
     pub(crate) members: Vec<Placed, A>,
@@ -29,7 +31,8 @@ impl<A: Allocator + Copy> Model for Part<A> {
 }
 
 impl<A: Allocator + Copy> Part<A> {
-    /// Members by rising place, and other rows in the order of kinds and keys.
+    /// These rows. An edit fits only if the members stand by rising place, and the others in the order of kinds and
+    /// keys.
     pub fn new(members: Vec<Placed, A>, others: Vec<Row, A>) -> Self
         ensures { result ≡ record { members = members.items; others = others.items } }
     {
@@ -56,8 +59,8 @@ impl<A: Allocator + Copy> Part<A> {
     }
 }
 
-/// Rows that are no member's, and the rows of the same keys in their stead, in the order of kinds
-/// and keys.
+/// Rows that an edit replaces by rows of the same keys. Both lists are in the order of kinds and keys. Members are not
+/// among them.
 #[derive(Drop)]
 pub struct Replaced<A: Allocator + Copy = Global> {
     pub(crate) old: Vec<Row, A>,
@@ -73,7 +76,7 @@ impl<A: Allocator + Copy> Model for Replaced<A> {
 }
 
 impl<A: Allocator + Copy> Replaced<A> {
-    /// The row at each place of `old` is replaced by the row at the same place of `new`.
+    /// Replaces each row of `old` by the row at the same place of `new`.
     pub fn new(old: Vec<Row, A>, new: Vec<Row, A>) -> Self
         ensures { result ≡ record { old = old.items; new = new.items } }
     {
@@ -100,14 +103,14 @@ impl<A: Allocator + Copy> Replaced<A> {
     }
 }
 
-/// The rows taken, members with their places before; the rows put, members with their places
-/// after; and the other rows replaced.
-///
-/// A member row that changes is taken and put at one place.
+/// An edit of the rows of a desk. A member row that changes is taken and put at one place.
 #[derive(Drop)]
 pub struct Edit<A: Allocator + Copy = Global> {
+    /// The rows that go, members with their places before.
     pub taken: Part<A>,
+    /// The rows that come, members with their places afterwards.
     pub put: Part<A>,
+    /// The rows that are replaced.
     pub replaced: Replaced<A>,
 }
 

@@ -1,6 +1,7 @@
-//! Rows, and an edit of them.
+//! Checks an edit of rows, and carries it out.
 
-ghost use Rattle.std.specs.Prelude.{◌≡◌, ℕ, ◌+◌, ◌≤◌, ◌&&◌, true, not, count_by, nat_eq, length, vec_len, vec_capacity, IfSome};
+ghost use Rattle.std.specs.Prelude.{◌≡◌, ℕ, ◌+◌, ◌≤◌, ◌&&◌, true, not, count_by, nat_eq, length, vec_len, vec_capacity};
+ghost use Rattle.std.specs.Prelude.{IfSome};
 ghost use Rattle.std.specs.List.{list_any, list_all};
 ghost use Rattle.desk_rows.specs.declared.limits.TheConstants.{MAX_MEMBERS, MAX_OTHERS};
 ghost use Rattle.desk_rows.specs.declared.row.Kind.TheVariants as kinds;
@@ -15,7 +16,8 @@ ghost use Rattle.desk_rows.specs.Desk.{good};
 ghost use Rattle.desk_rows.specs.inner.Index.{IsIndex};
 ghost use Rattle.desk_rows.specs.inner.Addressed.{IsByAddress};
 ghost use Rattle.desk_rows.specs.inner.Roomed.{IsByRoom};
-ghost use Rattle.desk_rows.specs.inner.Judged.{HasOrders, OnlyReplaces, takes, puts, coming, is_free, comes_once, keys_are_new};
+ghost use Rattle.desk_rows.specs.inner.Judged.{HasOrders, OnlyReplaces, takes, puts, coming, is_free, comes_once};
+ghost use Rattle.desk_rows.specs.inner.Judged.{keys_are_new};
 
 use crate::borrowed::EditLists;
 use crate::edit::{Edit, Placed};
@@ -29,8 +31,8 @@ use crate::sliding::replace_one;
 use crate::sweeping::{put_rows, take_rows};
 use std::alloc::Allocator;
 
-/// A desk, and an edit of it: the rows that go are there, those that come have places, and a row is
-/// replaced by one of its key.
+/// A desk and an edit of it. The rows that go are there, those that come have places, and each replaced row keeps its
+/// key.
 #[derive(Drop)]
 pub(crate) struct Exchange<'a, A: Allocator + Copy> {
     pub(crate) rows: &'a Rows<A>,
@@ -70,7 +72,7 @@ impl<A: Allocator + Copy> Exchange<'_, A> {
         self.rows.find(&key).is_none() || self.takes(key)
     }
 
-    /// Whether just one member that comes has this key.
+    /// Whether exactly one member that comes has this key.
     fn comes_once(&self, key: Key) -> bool
         ensures { result ≡ comes_once self.now.edit.now key }
     {
@@ -78,14 +80,19 @@ impl<A: Allocator + Copy> Exchange<'_, A> {
     }
 
     fn is_new_member(&self, placed: &Placed) -> bool
-        ensures { result ≡ (is_free self.now.rows.now self.now.edit.now (key_of (MemberRow placed.now.row)) && comes_once self.now.edit.now (key_of (MemberRow placed.now.row))) }
+        ensures { result
+            ≡ (is_free self.now.rows.now self.now.edit.now (key_of (MemberRow placed.now.row))
+            && comes_once self.now.edit.now (key_of (MemberRow placed.now.row))) }
     {
         let key = Key::Member(placed.row.member);
         self.is_free(key) && self.comes_once(key)
     }
 
     fn are_new_members(&self, placed: &[Placed]) -> bool
-        ensures { result ≡ list_all (λ p. is_free self.now.rows.now self.now.edit.now (key_of (MemberRow p.row)) && comes_once self.now.edit.now (key_of (MemberRow p.row))) placed.now }
+        ensures { result
+            ≡ list_all
+            (λ p. is_free self.now.rows.now self.now.edit.now (key_of (MemberRow p.row))
+            && comes_once self.now.edit.now (key_of (MemberRow p.row))) placed.now }
     {
         placed.iter().all(|one| self.is_new_member(one))
     }
@@ -98,7 +105,8 @@ impl<A: Allocator + Copy> Exchange<'_, A> {
 
     #[tactic(auto, using(crate::proofs::Counts::all_of_both))]
     fn are_new_others(&self) -> bool
-        ensures { result ≡ list_all (λ r. is_free self.now.rows.now self.now.edit.now (key_of r)) (ins self.now.edit.now) }
+        ensures { result
+            ≡ list_all (λ r. is_free self.now.rows.now self.now.edit.now (key_of r)) (ins self.now.edit.now) }
     {
         self.are_new(self.edit.new()) && self.are_new(self.edit.put_others())
     }
@@ -154,9 +162,11 @@ fn has_no_member(rows: &[Row]) -> bool
     rows.iter().all(|row| !row.is_of(Kind::Member))
 }
 
-/// Whether the members that go stand at their places, and there are places for those that come.
+/// Whether the members that go stand at their places, and those that come have places.
 fn can_move(members: &[Member], taken: &[Placed], put: &[Placed]) -> bool
-    ensures { result ≡ ((places_rise taken.now && can_take taken.now members.now) && (places_rise put.now && can_put put.now (take_at taken.now members.now))) }
+    ensures { result
+        ≡ ((places_rise taken.now && can_take taken.now members.now)
+        && (places_rise put.now && can_put put.now (take_at taken.now members.now))) }
 {
     if !can_be_taken(taken, members) {
         return false;
@@ -164,7 +174,7 @@ fn can_move(members: &[Member], taken: &[Placed], put: &[Placed]) -> bool
     can_be_put(put, members.len() - taken.len())
 }
 
-/// Whether the rows of both lists are there.
+/// Whether all rows of both lists are there.
 #[tactic(auto, using(crate::proofs::Counts::all_of_both))]
 fn are_there(others: &[Row], taken: &[Row], old: &[Row]) -> bool
     requires { in_order others.now ≡ true }
@@ -175,7 +185,10 @@ fn are_there(others: &[Row], taken: &[Row], old: &[Row]) -> bool
 
 fn can_exchange<A: Allocator + Copy>(others: &[Row], edit: &Edit<A>) -> bool
     requires { in_order others.now ≡ true }
-    ensures { result ≡ ((are_apart edit.now.taken.others edit.now.replaced.old && list_all (is_in others.now) (outs edit.now)) && (are_apart edit.now.put.others edit.now.replaced.new && have_same_keys edit.now.replaced.old edit.now.replaced.new)) }
+    ensures { result
+        ≡ ((are_apart edit.now.taken.others edit.now.replaced.old && list_all (is_in others.now) (outs edit.now))
+        && (are_apart edit.now.put.others edit.now.replaced.new
+        && have_same_keys edit.now.replaced.old edit.now.replaced.new)) }
 {
     let (taken, old) = (edit.taken_others(), edit.old());
     let (put, new) = (edit.put_others(), edit.new());
@@ -183,8 +196,7 @@ fn can_exchange<A: Allocator + Copy>(others: &[Row], edit: &Edit<A>) -> bool
     goes && (are_apart(put, new) && have_same_keys(old, new))
 }
 
-/// Whether the rows that go are there, those that come have places, and a row is replaced by one of
-/// its key.
+/// Whether the rows that go are there, those that come have places, and each replaced row keeps its key.
 #[tactic(auto, unfolding(crate::specs::Exchange::is_apt))]
 fn is_apt<A: Allocator + Copy>(rows: &Rows<A>, edit: &Edit<A>) -> bool
     ensures apt { result ≡ is_apt rows.now edit.now }
@@ -219,8 +231,11 @@ pub(crate) fn exchange_members<A: Allocator + Copy>(
     requires rooms { IsByRoom members.old.items by_room.old.items }
     requires take { can_take edit.now.taken.members members.old.items ≡ true }
     requires put { can_put edit.now.put.members (take_at edit.now.taken.members members.old.items) ≡ true }
-    requires numbers { (n : ℕ) → count_by (λ m. nat_eq m.member n) (put_at edit.now.put.members (take_at edit.now.taken.members members.old.items)) ≤ 1 }
-    requires few { length (take_at edit.now.taken.members members.old.items) + length edit.now.put.members ≤ MAX_MEMBERS }
+    requires numbers { (n : ℕ)
+        → count_by
+        (λ m. nat_eq m.member n) (put_at edit.now.put.members (take_at edit.now.taken.members members.old.items)) ≤ 1 }
+    requires few { length (take_at edit.now.taken.members members.old.items) + length edit.now.put.members
+        ≤ MAX_MEMBERS }
     requires room { (MAX_MEMBERS ≤ vec_capacity members.old) × (MAX_MEMBERS ≤ vec_capacity index.old)
         × (MAX_MEMBERS ≤ vec_capacity by_address.old) × (MAX_MEMBERS ≤ vec_capacity by_room.old) }
     ensures items { members.new.items ≡ put_at edit.now.put.members (take_at edit.now.taken.members members.old.items) }
@@ -234,8 +249,7 @@ pub(crate) fn exchange_members<A: Allocator + Copy>(
     move_members(members, index, by_address, by_room, taken, put);
 }
 
-/// The one row that is replaced, and the one in its stead, where the edit does nothing else to rows
-/// beside the members.
+/// The replaced row and its replacement, if the edit changes no other row beside the members.
 fn only_replaced(edit: &EditLists<'_>) -> Option<(Row, Row)>
     ensures { IfSome result (λ pair. OnlyReplaces edit.now pair.0 pair.1) }
 {
@@ -247,8 +261,7 @@ fn only_replaced(edit: &EditLists<'_>) -> Option<(Row, Row)>
     None
 }
 
-/// Takes the other rows that go, and puts those that come, each where it keeps the order. There is
-/// room for them.
+/// Takes the other rows that go, and puts those that come where they keep the order. There is room for them.
 #[tactic(auto, using(crate::proofs::Merging::put_in_turn, crate::proofs::SlidingLemmas::rest_in_order, crate::proofs::Counts::length_of_both))]
 fn move_rows<A: Allocator + Copy>(
     others: &mut Vec<Row, A>,
@@ -270,8 +283,7 @@ fn move_rows<A: Allocator + Copy>(
     put_rows(others, spare, edit.new());
 }
 
-/// Takes the other rows that go, and puts those that come. One that is replaced is overwritten where
-/// it stands. There is room for all.
+/// Takes the other rows that go, and puts those that come. A single replaced row is overwritten. There is room for all.
 pub(crate) fn exchange_rows<A: Allocator + Copy>(
     others: &mut Vec<Row, A>,
     spare: &mut Vec<Row, A>,

@@ -1,6 +1,6 @@
 //! Up to two things.
 
-/// Up to two things of a kind. Contracts see them as a list.
+/// Up to two things of one type. Contracts see a list.
 #[derive(Clone, Copy)]
 pub enum Few<T> {
     Nothing,

@@ -1,6 +1,7 @@
-//! Rows of one kind, listed once more in groups, so that a group is found by binary search.
+//! Tables of one kind of row in groups, which binary search finds.
 
-ghost use Rattle.std.specs.Prelude.{◌≡◌, ℕ, ◌+◌, ◌<◌, ◌≤◌, not, cond, slice_index_or, Bool, true, false, filter, length, count_by, nat_eq, Option, None, vec_len, vec_capacity, refl};
+ghost use Rattle.std.specs.Prelude.{◌≡◌, ℕ, ◌+◌, ◌<◌, ◌≤◌, not, cond, slice_index_or, Bool, true, false, filter};
+ghost use Rattle.std.specs.Prelude.{length, count_by, nat_eq, Option, None, vec_len, vec_capacity, refl};
 ghost use Rattle.std.specs.List.{filter_map};
 ghost use Rattle.desk_rows.specs.declared.row.Kind.TheVariants as kinds;
 ghost use Rattle.desk_rows.specs.declared.row.Row.TheVariants.{Member as MemberRow, Slot as SlotRow, Sub as SubRow};
@@ -37,7 +38,7 @@ pub(crate) trait Grouped: Copy {
     fn kind() -> Kind
         ensures { result ≡ kind };
 
-    /// The one in a row.
+    /// The entry in a row, if the row is of the kind.
     fn in_row(row: &Row) -> Option<Self>
         ensures { result ≡ in_row row.now };
 
@@ -45,7 +46,7 @@ pub(crate) trait Grouped: Copy {
     fn group(&self) -> u32
         ensures { result ≡ group self.now };
 
-    /// The number by which it stands in its group.
+    /// The number by which it is ordered in its group.
     fn turn(&self) -> u32
         ensures { result ≡ turn self.now };
 
@@ -207,7 +208,7 @@ pub(crate) fn group_of<T: Grouped>(table: &[T], number: u32) -> &[T]
     these
 }
 
-/// Lists what is in these rows, in the room that there is.
+/// Lists the entries of these rows, within the table's capacity.
 fn list_anew<T: Grouped, A: Allocator>(table: &mut Vec<T, A>, rows: &[Row])
     requires { length rows.now ≤ vec_capacity table.old }
     ensures items { table.new.items ≡ filter_map T.in_row rows.now }
@@ -223,7 +224,7 @@ fn list_anew<T: Grouped, A: Allocator>(table: &mut Vec<T, A>, rows: &[Row])
     }
 }
 
-/// Makes the table of these rows, in the room that it has.
+/// Makes the table of these rows anew, within its capacity.
 fn regroup<T: Grouped, A: Allocator>(table: &mut Vec<T, A>, rows: &[Row])
     requires { length rows.now ≤ vec_capacity table.old }
     ensures table { IsTableOf T.in_row T.group T.turn rows.now table.new.items }
@@ -233,7 +234,7 @@ fn regroup<T: Grouped, A: Allocator>(table: &mut Vec<T, A>, rows: &[Row])
     table.sort_unstable_by_key(|one| (one.group(), one.turn()));
 }
 
-/// Lists the members by room, and in a room by number, in the room that there is.
+/// Lists the members by room and then by number, within the table's capacity.
 pub(crate) fn list_by_room<A: Allocator>(table: &mut Vec<Member, A>, members: &[Member])
     requires { length members.now ≤ vec_capacity table.old }
     ensures table { IsByRoom members.now table.new.items }
@@ -257,7 +258,10 @@ fn has_none(rows: &[Row], kind: Kind) -> bool
 /// Whether the edit leaves all rows of the kind.
 fn leaves(edit: &EditLists<'_>, kind: Kind) -> bool
     requires { HasOrders edit.now }
-    ensures { result ≡ nat_eq (length (filter (is_of kind) edit.now.taken.others) + length (filter (is_of kind) edit.now.replaced.old) + (length (filter (is_of kind) edit.now.put.others) + length (filter (is_of kind) edit.now.replaced.new))) 0 }
+    ensures { result
+        ≡ nat_eq (length (filter (is_of kind) edit.now.taken.others)
+        + length (filter (is_of kind) edit.now.replaced.old)
+        + (length (filter (is_of kind) edit.now.put.others) + length (filter (is_of kind) edit.now.replaced.new))) 0 }
 {
     (has_none(edit.taken_others(), kind) && has_none(edit.old(), kind))
         && (has_none(edit.put_others(), kind) && has_none(edit.new(), kind))
@@ -304,12 +308,13 @@ fn put_entry<T: Grouped, A: Allocator>(table: &mut Vec<T, A>, one: &T)
     }
 }
 
-/// Takes out what is in these rows. The table has all of it.
+/// Takes out the entries of these rows. The table has them all.
 fn take_each<T: Grouped, A: Allocator>(table: &mut Vec<T, A>, rows: &[Row])
     requires order { stand_by (in_turn T.group T.turn) table.old.items ≡ true }
     requires there { (p : T → Bool) → count_by (passes_in T.in_row p) rows.now ≤ count_by p table.old.items }
     ensures order { stand_by (in_turn T.group T.turn) table.new.items ≡ true }
-    ensures taken { (p : T → Bool) → count_by p table.new.items + count_by (passes_in T.in_row p) rows.now ≡ count_by p table.old.items }
+    ensures taken { (p : T → Bool)
+        → count_by p table.new.items + count_by (passes_in T.in_row p) rows.now ≡ count_by p table.old.items }
     ensures capacity { vec_capacity table.old ≤ vec_capacity table.new }
 {
     let mut rest = rows;
@@ -321,12 +326,13 @@ fn take_each<T: Grouped, A: Allocator>(table: &mut Vec<T, A>, rows: &[Row])
     }
 }
 
-/// Puts what is in these rows in. There is room for it.
+/// Puts in the entries of these rows. There is room for them.
 fn put_each<T: Grouped, A: Allocator>(table: &mut Vec<T, A>, rows: &[Row])
     requires order { stand_by (in_turn T.group T.turn) table.old.items ≡ true }
     requires room { vec_len table.old + count_by (passes_in T.in_row (λ x. true)) rows.now ≤ vec_capacity table.old }
     ensures order { stand_by (in_turn T.group T.turn) table.new.items ≡ true }
-    ensures put { (p : T → Bool) → count_by p table.new.items ≡ count_by p table.old.items + count_by (passes_in T.in_row p) rows.now }
+    ensures put { (p : T → Bool)
+        → count_by p table.new.items ≡ count_by p table.old.items + count_by (passes_in T.in_row p) rows.now }
     ensures capacity { vec_capacity table.old ≤ vec_capacity table.new }
 {
     let mut rest = rows;
@@ -338,8 +344,8 @@ fn put_each<T: Grouped, A: Allocator>(table: &mut Vec<T, A>, rows: &[Row])
     }
 }
 
-/// Exchanges what is in the rows that go for what is in those that come, one by one. The table has all
-/// that goes, and room for what comes.
+/// Exchanges the entries of the rows that go for those of the rows that come, one by one. The table has the former, and
+/// room for the latter.
 fn exchange_each<T: Grouped, A: Allocator>(
     table: &mut Vec<T, A>,
     taken: &[Row],
@@ -348,10 +354,19 @@ fn exchange_each<T: Grouped, A: Allocator>(
     new: &[Row],
 )
     requires order { stand_by (in_turn T.group T.turn) table.old.items ≡ true }
-    requires there { (p : T → Bool) → count_by (passes_in T.in_row p) taken.now + count_by (passes_in T.in_row p) old.now ≤ count_by p table.old.items }
-    requires room { count_by (λ x. true) table.old.items + (count_by (passes_in T.in_row (λ x. true)) put.now + count_by (passes_in T.in_row (λ x. true)) new.now) ≤ vec_capacity table.old + (count_by (passes_in T.in_row (λ x. true)) taken.now + count_by (passes_in T.in_row (λ x. true)) old.now) }
+    requires there { (p : T → Bool)
+        → count_by (passes_in T.in_row p) taken.now + count_by (passes_in T.in_row p) old.now
+        ≤ count_by p table.old.items }
+    requires room { count_by (λ x. true) table.old.items
+        + (count_by (passes_in T.in_row (λ x. true)) put.now + count_by (passes_in T.in_row (λ x. true)) new.now)
+        ≤ vec_capacity table.old
+        + (count_by (passes_in T.in_row (λ x. true)) taken.now + count_by (passes_in T.in_row (λ x. true)) old.now) }
     ensures order { stand_by (in_turn T.group T.turn) table.new.items ≡ true }
-    ensures same { (p : T → Bool) → count_by p table.new.items + (count_by (passes_in T.in_row p) taken.now + count_by (passes_in T.in_row p) old.now) ≡ count_by p table.old.items + (count_by (passes_in T.in_row p) put.now + count_by (passes_in T.in_row p) new.now) }
+    ensures same { (p : T → Bool)
+        → count_by p table.new.items
+        + (count_by (passes_in T.in_row p) taken.now + count_by (passes_in T.in_row p) old.now)
+        ≡ count_by p table.old.items
+        + (count_by (passes_in T.in_row p) put.now + count_by (passes_in T.in_row p) new.now) }
     ensures capacity { vec_capacity table.old ≤ vec_capacity table.new }
 {
     take_each(table, taken);
@@ -364,16 +379,17 @@ fn exchange_each<T: Grouped, A: Allocator>(
 fn rows_in<T: Grouped>(rows: &[Row]) -> &[Row]
     requires { in_order rows.now ≡ true }
     ensures few { length result.now ≡ length (filter (is_of T.kind) rows.now) }
-    ensures same { (p : T → Bool) → count_by (passes_in T.in_row p) result.now ≡ count_by (passes_in T.in_row p) rows.now }
+    ensures same { (p : T → Bool)
+        → count_by (passes_in T.in_row p) result.now ≡ count_by (passes_in T.in_row p) rows.now }
 {
     rows_of_kind(rows, T::kind())
 }
 
-/// Of how many rows in each list of an edit the table is still changed entry by entry. To change one
-/// moves all entries behind it, so that for more rows it costs less to sort the table anew.
+/// The most rows of each list of an edit for which a table is changed entry by entry. Each entry moves all behind it,
+/// so for more rows sorting the table anew costs less.
 const FEW: usize = 32;
 
-/// Brings the table of the rows before an edit to those after it.
+/// Turns the table of the rows before an edit into that of the rows after it.
 pub(crate) fn follow<T: Grouped, A: Allocator + Copy>(
     table: &mut Vec<T, A>,
     others: &[Row],
@@ -382,8 +398,15 @@ pub(crate) fn follow<T: Grouped, A: Allocator + Copy>(
     requires order { stand_by (in_turn T.group T.turn) table.old.items ≡ true }
     requires rows { in_order others.now ≡ true }
     requires orders { HasOrders edit.now }
-    requires there { (p : T → Bool) → count_by (passes_in T.in_row p) edit.now.taken.others + count_by (passes_in T.in_row p) edit.now.replaced.old ≤ count_by p table.old.items }
-    requires before { (p : T → Bool) → count_by p table.old.items + (count_by (passes_in T.in_row p) edit.now.put.others + count_by (passes_in T.in_row p) edit.now.replaced.new) ≡ count_by (passes_in T.in_row p) others.now + (count_by (passes_in T.in_row p) edit.now.taken.others + count_by (passes_in T.in_row p) edit.now.replaced.old) }
+    requires there { (p : T → Bool)
+        → count_by (passes_in T.in_row p) edit.now.taken.others + count_by (passes_in T.in_row p) edit.now.replaced.old
+        ≤ count_by p table.old.items }
+    requires before { (p : T → Bool)
+        → count_by p table.old.items
+        + (count_by (passes_in T.in_row p) edit.now.put.others + count_by (passes_in T.in_row p) edit.now.replaced.new)
+        ≡ count_by (passes_in T.in_row p) others.now
+        + (count_by (passes_in T.in_row p) edit.now.taken.others
+        + count_by (passes_in T.in_row p) edit.now.replaced.old) }
     requires room { length (filter (is_of T.kind) others.now) ≤ vec_capacity table.old }
     ensures table { IsTableOf T.in_row T.group T.turn others.now table.new.items }
     ensures capacity { vec_capacity table.old ≤ vec_capacity table.new }

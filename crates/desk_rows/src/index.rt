@@ -1,4 +1,4 @@
-//! The places of members, found by their numbers.
+//! Finds the places of members by their numbers.
 
 ghost use Rattle.std.specs.Prelude.{◌≡◌, ℕ, ◌+◌, ◌≤◌, true, count_by, length, nat_eq, vec_capacity};
 ghost use Rattle.std.specs.List.Sorted.{IsNonDecreasingBy};
@@ -21,7 +21,7 @@ pub(crate) struct Entry {
     pub(crate) place: usize,
 }
 
-/// The entry of this number, found by halving.
+/// The entry of this number, by binary search.
 pub(crate) fn entry_of(index: &[Entry], member: u32) -> Option<Entry>
     requires { IsNonDecreasingBy (λ e. e.member) index.now }
     ensures { result ≡ entry_in index.now member }
@@ -38,8 +38,8 @@ pub(crate) fn entry_of(index: &[Entry], member: u32) -> Option<Entry>
     }
 }
 
-/// Takes member rows from their places and puts others at theirs. The index and the tables by address
-/// and by room are made anew if that moves any.
+/// Takes member rows from their places and puts others at theirs. If any row moves, the index and the tables by address
+/// and by room are made anew.
 pub(crate) fn move_members<A: Allocator>(
     members: &mut Vec<Member, A>,
     index: &mut Vec<Entry, A>,
@@ -53,13 +53,20 @@ pub(crate) fn move_members<A: Allocator>(
     requires rooms { IsByRoom members.old.items by_room.old.items }
     requires take { can_take taken.now members.old.items ≡ true }
     requires put { can_put put.now (take_at taken.now members.old.items) ≡ true }
-    requires numbers { (n : ℕ) → count_by (λ m. nat_eq m.member n) (put_at put.now (take_at taken.now members.old.items)) ≤ 1 }
-    requires room { (length (take_at taken.now members.old.items) + length put.now ≤ vec_capacity members.old) × (length (take_at taken.now members.old.items) + length put.now ≤ vec_capacity index.old) × (length (take_at taken.now members.old.items) + length put.now ≤ vec_capacity by_address.old) × (length (take_at taken.now members.old.items) + length put.now ≤ vec_capacity by_room.old) }
+    requires numbers { (n : ℕ)
+        → count_by (λ m. nat_eq m.member n) (put_at put.now (take_at taken.now members.old.items)) ≤ 1 }
+    requires room { (length (take_at taken.now members.old.items) + length put.now ≤ vec_capacity members.old)
+        × (length (take_at taken.now members.old.items) + length put.now ≤ vec_capacity index.old)
+        × (length (take_at taken.now members.old.items) + length put.now ≤ vec_capacity by_address.old)
+        × (length (take_at taken.now members.old.items) + length put.now ≤ vec_capacity by_room.old) }
     ensures items { members.new.items ≡ put_at put.now (take_at taken.now members.old.items) }
     ensures index { IsIndex members.new.items index.new.items }
     ensures addresses { IsByAddress members.new.items by_address.new.items }
     ensures rooms { IsByRoom members.new.items by_room.new.items }
-    ensures capacity { (vec_capacity members.old ≤ vec_capacity members.new) × (vec_capacity index.old ≤ vec_capacity index.new) × (vec_capacity by_address.old ≤ vec_capacity by_address.new) × (vec_capacity by_room.old ≤ vec_capacity by_room.new) }
+    ensures capacity { (vec_capacity members.old ≤ vec_capacity members.new)
+        × (vec_capacity index.old ≤ vec_capacity index.new)
+        × (vec_capacity by_address.old ≤ vec_capacity by_address.new)
+        × (vec_capacity by_room.old ≤ vec_capacity by_room.new) }
 {
     if taken.is_empty() && put.is_empty() {
         return;
@@ -71,7 +78,7 @@ pub(crate) fn move_members<A: Allocator>(
     list_by_room(by_room, members);
 }
 
-/// Makes the index of these members, in the room that it has.
+/// Makes the index of these members, within its capacity.
 fn index_members<A: Allocator>(index: &mut Vec<Entry, A>, members: &[Member])
     requires numbers { (n : ℕ) → count_by (λ m. nat_eq m.member n) members.now ≤ 1 }
     requires room { length members.now ≤ vec_capacity index.old }

@@ -1,4 +1,20 @@
 //! The rows of a desk, and edits of them that can be taken back.
+//!
+//! Begin with [`Rows::new`] and the kinds of [`Row`]. Rows change by absorbing an [`Edit`] and in no other way
+//! ([`Reversible`](undo_log::Reversible)). A contract sees [`Rows`] as a desk, which is always a good one: keys are
+//! distinct, what a row names is there, and all rules and limits hold (specs/Desk.antt).
+//!
+//! ```rust
+//! let mut rows = Rows::new(alloc, 1)?; // for a bridge of SSRC 1
+//! let mut others = Vec::with_capacity(alloc, 1)?;
+//! others.push(Row::Room(Room { room: 1 }))?;
+//! let put = Part::new(Vec::new(alloc), others);
+//! let edit = Edit { taken: Part::none(alloc), put, replaced: Replaced::none(alloc) };
+//! rows.absorb(&edit); // the desk has room 1
+//! let room = rows.find(&Key::Room(1)); // Some(Row::Room(Room { room: 1 }))
+//! ```
+//!
+//! `absorb`, `part`, `edit` and `find` of worked_desk are these calls, with their answers proved.
 #![tactic(auto)]
 
 mod addressing;

@@ -1,8 +1,9 @@
-//! Desks are asked by look-ups, those that are there and those that an edit would lead to.
+//! Questions to a desk by look-ups: to the present one, or to one that an edit would lead to.
 
 ghost use Rattle.std.specs.Prelude.{◌≡◌, count_by};
 ghost use Rattle.std.specs.List.{list_any, list_all};
-ghost use Rattle.desk_rows.specs.Desk.{Desk, row_at, room_of_member, room_of, room_of_found, room_at, same_room, are_together, all_suit, is_audio_in};
+ghost use Rattle.desk_rows.specs.Desk.{Desk, row_at, room_of_member, room_of, room_of_found, room_at, same_room};
+ghost use Rattle.desk_rows.specs.Desk.{are_together, all_suit, is_audio_in};
 ghost use Rattle.desk_rows.specs.Few.{listed};
 ghost use Rattle.desk_rows.specs.Keyed.{IsKeyed};
 ghost use Rattle.desk_rows.specs.Row.{names, suits, wants};
@@ -10,17 +11,18 @@ ghost use Rattle.desk_rows.specs.Row.{names, suits, wants};
 use crate::few::Few;
 use crate::row::{Key, Media, Row};
 
-/// What can be asked for the row of a key.
+/// A desk that can be asked for the row of a key.
 pub trait Look {
     /// The desk that is asked.
     ghost desk: { Self → Desk };
 
-    /// The row of this key. No two rows have one key.
+    /// The row of this key, if any. No two rows have one key.
     fn look(&self, key: Key) -> Option<Row>
         ensures found { result ≡ row_at (desk self.now) key }
         ensures keyed { IsKeyed (desk self.now) };
 }
 
+/// The room of a member row that was found.
 fn room_of_member(found: Option<Row>) -> Option<u32>
     ensures { result ≡ room_of_member found }
 {
@@ -30,7 +32,8 @@ fn room_of_member(found: Option<Row>) -> Option<u32>
     }
 }
 
-/// The room that the row is in: a source and a slot are in their member's.
+/// The room of a row. A source and a slot are in their member's room. Subscriptions, mutes, gains, pins and floors
+/// have none.
 pub fn room_of<D: Look>(rows: &D, row: &Row) -> Option<u32>
     ensures { result ≡ room_of (D.desk rows.now) row.now }
 {
@@ -43,6 +46,7 @@ pub fn room_of<D: Look>(rows: &D, row: &Row) -> Option<u32>
     }
 }
 
+/// The room of a row that was found.
 fn room_of_found<D: Look>(rows: &D, found: Option<Row>) -> Option<u32>
     ensures { result ≡ room_of_found (D.desk rows.now) found }
 {
@@ -52,13 +56,14 @@ fn room_of_found<D: Look>(rows: &D, found: Option<Row>) -> Option<u32>
     }
 }
 
-/// The room that the row of this key is in.
+/// The room of the row of this key, if there is one.
 pub fn room_at<D: Look>(rows: &D, key: Key) -> Option<u32>
     ensures { result ≡ room_at (D.desk rows.now) key }
 {
     room_of_found(rows, rows.look(key))
 }
 
+/// Whether both are in one room.
 fn same_room(a: Option<u32>, b: Option<u32>) -> bool
     ensures { result ≡ same_room a b }
 {
@@ -68,7 +73,7 @@ fn same_room(a: Option<u32>, b: Option<u32>) -> bool
     }
 }
 
-/// Whether the two rows that a row names are in one room.
+/// Whether the two rows that a row names are in one room. A row that names fewer passes.
 pub fn are_together<D: Look>(rows: &D, row: &Row) -> bool
     ensures { result ≡ are_together (D.desk rows.now) (names row.now) }
 {
@@ -78,14 +83,15 @@ pub fn are_together<D: Look>(rows: &D, row: &Row) -> bool
     }
 }
 
-/// Whether the row that a key finds is what this row wants.
+/// Whether the row of this key suits the row that names it.
 fn one_suits<D: Look>(rows: &D, row: &Row, key: Key) -> bool
     ensures { result ≡ suits (wants row.now) (row_at (D.desk rows.now) key) }
 {
     row.suits(rows.look(key))
 }
 
-/// Whether a source that the row names sends what it wants.
+/// Whether each source that the row names sends the media that the row needs: video for a subscription or a pin, audio
+/// for a gain.
 pub fn all_suit<D: Look>(rows: &D, row: &Row) -> bool
     ensures { result ≡ all_suit (D.desk rows.now) row.now }
 {
@@ -108,14 +114,14 @@ fn is_audio_in<D: Look>(rows: &D, room: u32, row: &Row) -> bool
     }
 }
 
-/// Whether some of these are audio sources of members of the room.
+/// Whether any of these is an audio source of the room.
 pub(crate) fn has_audio<D: Look>(rows: &D, these: &[Row], room: u32) -> bool
     ensures { result ≡ list_any (is_audio_in (D.desk rows.now) room) these.now }
 {
     these.iter().any(|row| is_audio_in(rows, room, row))
 }
 
-/// How many of these are audio sources of members of the room.
+/// The number of audio sources of the room among these.
 pub fn count_audio<D: Look>(rows: &D, these: &[Row], room: u32) -> usize
     ensures { result ≡ count_by (is_audio_in (D.desk rows.now) room) these.now }
 {

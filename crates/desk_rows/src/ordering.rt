@@ -1,4 +1,4 @@
-//! Rows in the order of kinds and keys, found by halving.
+//! Rows in the order of kinds and keys, found by binary search.
 
 ghost use Rattle.std.specs.Prelude.{◌≡◌, true, ◌&&◌, filter, take};
 ghost use Rattle.std.specs.List.{find, list_all};
@@ -19,6 +19,7 @@ pub(crate) fn precedes_first(row: &Row, rows: &[Row]) -> bool
     }
 }
 
+/// Whether the rows are in the order of kinds and keys.
 fn are_in_order(rows: &[Row]) -> bool
     ensures { result ≡ in_order rows.now }
 {
@@ -32,6 +33,7 @@ fn are_in_order(rows: &[Row]) -> bool
     true
 }
 
+/// Whether no row has this row's key.
 fn is_new(row: &Row, rows: &[Row]) -> bool
     ensures { result ≡ key_is_new row.now rows.now }
 {
@@ -39,6 +41,7 @@ fn is_new(row: &Row, rows: &[Row]) -> bool
         .all(|other| row.precedes(other) || other.precedes(row))
 }
 
+/// Whether no key of these rows is among the others.
 fn all_new(rows: &[Row], others: &[Row]) -> bool
     ensures { result ≡ list_all (λ r. key_is_new r others.now) rows.now }
 {
@@ -73,7 +76,7 @@ pub(crate) fn have_same_keys(rows: &[Row], others: &[Row]) -> bool
     left.is_empty()
 }
 
-/// The row of this key among rows in the order of kinds and keys, found by halving.
+/// The row of this key, by binary search. The rows are in the order of kinds and keys.
 pub fn find_row(rows: &[Row], key: Key) -> Option<Row>
     requires { in_order rows.now ≡ true }
     ensures { result ≡ find (has_key key) rows.now }

@@ -1,4 +1,4 @@
-//! The desk that an edit would lead to, without making it.
+//! Judges the desk that an edit would lead to, without making it.
 
 ghost use Rattle.std.specs.Prelude.{◌≡◌, ◌≤◌, ◌+◌, ◌&&◌, not, count_by, nat_eq, nat_le};
 ghost use Rattle.std.specs.List.{list_any, list_all};
@@ -7,13 +7,15 @@ ghost use Rattle.desk_rows.specs.Few.{listed};
 ghost use Rattle.desk_rows.specs.Limits.{gain_limit, room_audio_limit};
 ghost use Rattle.desk_rows.specs.Kinds.{is_of};
 ghost use Rattle.desk_rows.specs.Row.{has_key};
-ghost use Rattle.desk_rows.specs.Desk.{rows_of, row_at, is_bridges, is_within_limits, is_named_there, is_made_once, is_audio_in, has_few_audio, obeys};
+ghost use Rattle.desk_rows.specs.Desk.{rows_of, row_at, is_bridges, is_within_limits, is_named_there, is_made_once};
+ghost use Rattle.desk_rows.specs.Desk.{is_audio_in, has_few_audio, obeys};
 ghost use Rattle.desk_rows.specs.Edit.{ins};
 ghost use Rattle.desk_rows.specs.Exchange.{exchanged};
 ghost use Rattle.desk_rows.specs.Keyed.{IsKeyed};
 ghost use Rattle.desk_rows.specs.inner.Tests.{passes};
 ghost use Rattle.desk_rows.specs.inner.Found.{finds, is_elsewhere};
-ghost use Rattle.desk_rows.specs.inner.Judged.{takes, puts, keeps_names, moves, gains_audio, takes_either, is_room, is_pair, is_shaken, is_sound_beside, stays_sound, all_come, all_stay};
+ghost use Rattle.desk_rows.specs.inner.Judged.{takes, puts, keeps_names, moves, gains_audio, takes_either, is_room};
+ghost use Rattle.desk_rows.specs.inner.Judged.{is_pair, is_shaken, is_sound_beside, stays_sound, all_come, all_stay};
 
 use crate::claim::Claim;
 use crate::counting::{Test, count_members, count_rows};
@@ -25,7 +27,7 @@ use crate::looking::{Look, all_suit, are_together, count_audio, has_audio};
 use crate::row::{Key, Kind, Member, Row};
 use std::alloc::Allocator;
 
-/// A desk, and an edit of it by which no row comes under the key of another.
+/// A desk and an edit of it. No row comes under the key of another.
 #[derive(Drop)]
 pub(crate) struct Overlay<'a, A: Allocator + Copy> {
     pub(crate) of: Exchange<'a, A>,
@@ -49,12 +51,12 @@ impl<A: Allocator + Copy> Look for Overlay<'_, A> {
 impl<A: Allocator + Copy> Overlay<'_, A> {
     // ---- what comes
 
-    /// Whether the kind has no more rows than its limit: with what comes it has no more than the
-    /// limit and what goes.
+    /// Whether the kind keeps its limit. Its rows and those that come are no more than the limit and those that go.
     #[tactic(auto, using(crate::proofs::OverlayLemmas::most_is, crate::proofs::ExchangeLemmas::rows_few))]
     fn is_within(&self, kind: Kind, limit: usize) -> bool
         requires { limit ≤ gain_limit }
-        ensures { result ≡ nat_le (count_by (is_of kind) (rows_of (exchanged self.now.of.rows.now self.now.of.edit.now))) limit }
+        ensures { result
+            ≡ nat_le (count_by (is_of kind) (rows_of (exchanged self.now.of.rows.now self.now.of.edit.now))) limit }
     {
         let test = Test::IsOf(kind);
         self.of.rows.count(kind) + self.of.edit.count_coming(&test)
@@ -98,9 +100,11 @@ impl<A: Allocator + Copy> Overlay<'_, A> {
         }
     }
 
-    /// Whether just one row makes the claim: with what comes there is one and what goes.
+    /// Whether exactly one row makes the claim afterwards.
     fn has_one(&self, claim: Claim) -> bool
-        ensures { result ≡ nat_eq (count_by (passes (Test.Makes claim)) (rows_of (exchanged self.now.of.rows.now self.now.of.edit.now))) 1 }
+        ensures { result
+            ≡ nat_eq (count_by (passes (Test.Makes claim))
+            (rows_of (exchanged self.now.of.rows.now self.now.of.edit.now))) 1 }
     {
         let test = Test::Makes(claim);
         let before = count_members(self.of.rows.members(), &test)
@@ -115,7 +119,8 @@ impl<A: Allocator + Copy> Overlay<'_, A> {
     }
 
     fn are_made_once(&self, claims: Few<Claim>) -> bool
-        ensures { result ≡ list_all (is_made_once (exchanged self.now.of.rows.now self.now.of.edit.now)) (listed claims) }
+        ensures { result
+            ≡ list_all (is_made_once (exchanged self.now.of.rows.now self.now.of.edit.now)) (listed claims) }
     {
         match claims {
             Few::Nothing => true,
@@ -124,11 +129,13 @@ impl<A: Allocator + Copy> Overlay<'_, A> {
         }
     }
 
-    /// Whether the room has more audio sources than it may: with those that come there are more than
-    /// may be and go.
+    /// Whether the room has more audio sources than the limit afterwards.
     #[tactic(auto, using(crate::proofs::OverlayLemmas::over_is))]
     fn is_room_full(&self, room: u32) -> bool
-        ensures { result ≡ not (nat_le (count_by (is_audio_in (exchanged self.now.of.rows.now self.now.of.edit.now) room) (exchanged self.now.of.rows.now self.now.of.edit.now).others) room_audio_limit) }
+        ensures { result
+            ≡ not (nat_le
+            (count_by (is_audio_in (exchanged self.now.of.rows.now self.now.of.edit.now) room)
+            (exchanged self.now.of.rows.now self.now.of.edit.now).others) room_audio_limit) }
     {
         let coming = count_audio(self, self.of.edit.put_others(), room)
             + count_audio(self, self.of.edit.new(), room);
@@ -162,7 +169,10 @@ impl<A: Allocator + Copy> Overlay<'_, A> {
     }
 
     fn all_members_come(&self) -> bool
-        ensures { result ≡ list_all (λ p. is_sound_beside (exchanged self.now.of.rows.now self.now.of.edit.now) (MemberRow p.row)) self.now.of.edit.now.put.members }
+        ensures { result
+            ≡ list_all
+            (λ p. is_sound_beside (exchanged self.now.of.rows.now self.now.of.edit.now)
+            (MemberRow p.row)) self.now.of.edit.now.put.members }
     {
         self.of
             .edit
@@ -179,7 +189,9 @@ impl<A: Allocator + Copy> Overlay<'_, A> {
 
     #[tactic(auto, using(crate::proofs::Counts::all_of_both))]
     fn all_others_come(&self) -> bool
-        ensures { result ≡ list_all (is_sound_beside (exchanged self.now.of.rows.now self.now.of.edit.now)) (ins self.now.of.edit.now) }
+        ensures { result
+            ≡ list_all (is_sound_beside (exchanged self.now.of.rows.now self.now.of.edit.now))
+            (ins self.now.of.edit.now) }
     {
         self.are_sound(self.of.edit.new()) && self.are_sound(self.of.edit.put_others())
     }
@@ -187,7 +199,8 @@ impl<A: Allocator + Copy> Overlay<'_, A> {
     /// Whether each row that comes is sound.
     #[tactic(auto, using(crate::proofs::Counts::two_alls))]
     pub(crate) fn all_come(&self) -> bool
-        ensures { result ≡ all_come (is_sound_beside (exchanged self.now.of.rows.now self.now.of.edit.now)) self.now.of.edit.now }
+        ensures { result
+            ≡ all_come (is_sound_beside (exchanged self.now.of.rows.now self.now.of.edit.now)) self.now.of.edit.now }
     {
         self.all_members_come() && self.all_others_come()
     }
@@ -213,7 +226,9 @@ impl<A: Allocator + Copy> Overlay<'_, A> {
 
     /// Whether the member was in another room.
     fn is_moved(&self, placed: &Placed) -> bool
-        ensures { result ≡ finds (is_elsewhere placed.now.row.room) (row_at self.now.of.rows.now (Key.Member placed.now.row.member)) }
+        ensures { result
+            ≡ finds (is_elsewhere placed.now.row.room)
+            (row_at self.now.of.rows.now (Key.Member placed.now.row.member)) }
     {
         let found = self.of.rows.find(&Key::Member(placed.row.member));
         is_elsewhere(found, placed.row.room)
@@ -233,7 +248,9 @@ impl<A: Allocator + Copy> Overlay<'_, A> {
     /// Whether an audio source comes into the room.
     #[tactic(auto, using(crate::proofs::Counts::any_of_both))]
     fn audio_comes(&self, room: u32) -> bool
-        ensures { result ≡ list_any (is_audio_in (exchanged self.now.of.rows.now self.now.of.edit.now) room) (ins self.now.of.edit.now) }
+        ensures { result
+            ≡ list_any (is_audio_in (exchanged self.now.of.rows.now self.now.of.edit.now) room)
+            (ins self.now.of.edit.now) }
     {
         has_audio(self, self.of.edit.new(), room)
             || has_audio(self, self.of.edit.put_others(), room)
@@ -275,7 +292,8 @@ impl<A: Allocator + Copy> Overlay<'_, A> {
     }
 
     fn count_unsound(&self, rows: &[Row], moved: bool) -> usize
-        ensures { result ≡ count_by (λ r. not (stays_sound moved self.now.of.rows.now self.now.of.edit.now r)) rows.now }
+        ensures { result
+            ≡ count_by (λ r. not (stays_sound moved self.now.of.rows.now self.now.of.edit.now r)) rows.now }
     {
         rows.iter()
             .filter(|row| !self.stays_sound(row, moved))
@@ -283,7 +301,9 @@ impl<A: Allocator + Copy> Overlay<'_, A> {
     }
 
     fn count_unsound_members(&self, members: &[Member], moved: bool) -> usize
-        ensures { result ≡ count_by (λ m. not (stays_sound moved self.now.of.rows.now self.now.of.edit.now (MemberRow m))) members.now }
+        ensures { result
+            ≡ count_by
+            (λ m. not (stays_sound moved self.now.of.rows.now self.now.of.edit.now (MemberRow m))) members.now }
     {
         members
             .iter()
@@ -292,7 +312,9 @@ impl<A: Allocator + Copy> Overlay<'_, A> {
     }
 
     fn count_unsound_placed(&self, placed: &[Placed], moved: bool) -> usize
-        ensures { result ≡ count_by (λ p. not (stays_sound moved self.now.of.rows.now self.now.of.edit.now (MemberRow p.row))) placed.now }
+        ensures { result
+            ≡ count_by
+            (λ p. not (stays_sound moved self.now.of.rows.now self.now.of.edit.now (MemberRow p.row))) placed.now }
     {
         placed
             .iter()
@@ -301,24 +323,40 @@ impl<A: Allocator + Copy> Overlay<'_, A> {
     }
 
     fn members_stay(&self, moved: bool) -> bool
-        ensures { result ≡ nat_eq (count_by (λ m. not (stays_sound moved self.now.of.rows.now self.now.of.edit.now (MemberRow m))) self.now.of.rows.now.members) (count_by (λ p. not (stays_sound moved self.now.of.rows.now self.now.of.edit.now (MemberRow p.row))) self.now.of.edit.now.taken.members) }
+        ensures { result
+            ≡ nat_eq (count_by
+            (λ m. not
+            (stays_sound moved self.now.of.rows.now self.now.of.edit.now (MemberRow m))) self.now.of.rows.now.members)
+            (count_by
+            (λ p. not
+            (stays_sound moved self.now.of.rows.now self.now.of.edit.now
+            (MemberRow p.row))) self.now.of.edit.now.taken.members) }
     {
         self.count_unsound_members(self.of.rows.members(), moved)
             == self.count_unsound_placed(self.of.edit.taken_members(), moved)
     }
 
     fn others_stay(&self, moved: bool) -> bool
-        ensures { result ≡ nat_eq (count_by (λ r. not (stays_sound moved self.now.of.rows.now self.now.of.edit.now r)) self.now.of.rows.now.others) (count_by (λ r. not (stays_sound moved self.now.of.rows.now self.now.of.edit.now r)) self.now.of.edit.now.taken.others + count_by (λ r. not (stays_sound moved self.now.of.rows.now self.now.of.edit.now r)) self.now.of.edit.now.replaced.old) }
+        ensures { result
+            ≡ nat_eq (count_by
+            (λ r. not (stays_sound moved self.now.of.rows.now self.now.of.edit.now r)) self.now.of.rows.now.others)
+            (count_by
+            (λ r. not (stays_sound moved self.now.of.rows.now self.now.of.edit.now r)) self.now.of.edit.now.taken.others
+            + count_by
+            (λ r. not
+            (stays_sound moved self.now.of.rows.now self.now.of.edit.now r)) self.now.of.edit.now.replaced.old) }
     {
         let going = self.count_unsound(self.of.edit.taken_others(), moved)
             + self.count_unsound(self.of.edit.old(), moved);
         self.count_unsound(self.of.rows.others(), moved) == going
     }
 
-    /// Whether each row that stays is sound: those that are not all go.
+    /// Whether each row that stays is sound.
     #[tactic(auto, using(crate::proofs::OverlayLemmas::stay_test))]
     pub(crate) fn all_stay(&self, moved: bool) -> bool
-        ensures { result ≡ all_stay (stays_sound moved self.now.of.rows.now self.now.of.edit.now) self.now.of.rows.now self.now.of.edit.now }
+        ensures { result
+            ≡ all_stay
+            (stays_sound moved self.now.of.rows.now self.now.of.edit.now) self.now.of.rows.now self.now.of.edit.now }
     {
         self.members_stay(moved) && self.others_stay(moved)
     }

@@ -1,4 +1,4 @@
-//! Member rows taken from their places and put at places.
+//! Takes member rows from their places, and puts them at places.
 
 ghost use Rattle.std.specs.Prelude.{◌≡◌, ℕ, ◌+◌, ◌<◌, ◌≤◌, ◌^◌, true, ◌&&◌, length, nat_lt, vec_len, vec_capacity};
 ghost use Rattle.std.specs.List.{list_all};

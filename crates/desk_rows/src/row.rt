@@ -1,10 +1,12 @@
-//! The kinds of row.
+//! The kinds of rows.
 
 ghost use Rattle.std.specs.Prelude.{◌≡◌, ◌∷◌, []};
 ghost use Rattle.desk_rows.specs.Few.{listed};
 ghost use Rattle.desk_rows.specs.Kinds.{is_of};
 ghost use Rattle.desk_rows.specs.Order.{key_precedes, precedes};
-ghost use Rattle.desk_rows.specs.Row.{codec_number, media_number, same_media, row_numbers, same_row, kind_of, key_of, rank, key_numbers, same_key, has_key, names, owner_of, wants, suits, is_in_range, other_claims, makes};
+ghost use Rattle.desk_rows.specs.Row.{codec_number, media_number, same_media, row_numbers, same_row, kind_of, key_of};
+ghost use Rattle.desk_rows.specs.Row.{rank, key_numbers, same_key, has_key, names, owner_of, wants, suits, is_in_range};
+ghost use Rattle.desk_rows.specs.Row.{other_claims, makes};
 
 use crate::claim::Claim;
 use crate::few::Few;
@@ -23,87 +25,106 @@ pub enum Codec {
 /// What a source sends.
 #[derive(Clone, Copy, PartialEq, Eq)]
 pub enum Media {
+    /// Samples.
     Audio,
+    /// Pictures.
     Video,
 }
 
 /// A room, within which members hear and see each other.
 #[derive(Clone, Copy, PartialEq, Eq)]
 pub struct Room {
+    /// The room's number.
     pub room: u32,
 }
 
-/// A member of a room, with the address that it sends from and is sent to, and its mix: an
-/// outgoing audio stream.
+/// A member of a room, with its address and its mix, an outgoing audio stream.
 #[derive(Clone, Copy, PartialEq, Eq)]
 pub struct Member {
+    /// The member's number.
     pub member: u32,
+    /// The room that it is in.
     pub room: u32,
+    /// The address that it sends from, and that it is sent to. The port is not 0.
     pub address: Address,
+    /// How its mix is encoded.
     pub codec: Codec,
     /// The SSRC of the mix.
     pub out_audio: u32,
     /// The sequence number of the mix's first packet.
     pub first_seq: u16,
-    /// The timestamp of the mix's first packet.
+    /// The RTP timestamp of the mix's first packet, at 8000 Hz.
     pub first_ts: u32,
 }
 
-/// What a member sends under one SSRC.
+/// A source: what a member sends under one SSRC.
 #[derive(Clone, Copy, PartialEq, Eq)]
 pub struct Source {
+    /// The SSRC of the source.
     pub ssrc: u32,
+    /// The member that sends it.
     pub member: u32,
+    /// Whether it is audio or video.
     pub media: Media,
 }
 
-/// An outgoing video stream of a member.
+/// A slot: an outgoing video stream of a member.
 #[derive(Clone, Copy, PartialEq, Eq)]
 pub struct Slot {
+    /// The SSRC of the outgoing stream.
     pub out_ssrc: u32,
+    /// The member that gets the stream.
     pub member: u32,
-    /// The slot's place among those of its member, 0 to 15.
+    /// The slot's index among those of its member, 0 to 15.
     pub index: u32,
     /// The sequence number of the stream's first packet.
     pub first_seq: u16,
-    /// The timestamp of the stream's first packet.
+    /// The RTP timestamp of the stream's first frame, at 90000 Hz.
     pub first_ts: u32,
 }
 
 /// A slot's subscription to a video source.
 #[derive(Clone, Copy, PartialEq, Eq)]
 pub struct Sub {
+    /// The SSRC of the slot's stream.
     pub out_ssrc: u32,
+    /// The SSRC of the source.
     pub source: u32,
 }
 
-/// A source that nobody hears or sees.
+/// A mute: nobody hears or sees the source.
 #[derive(Clone, Copy, PartialEq, Eq)]
 pub struct Mute {
+    /// The SSRC of the source.
     pub source: u32,
 }
 
-/// How loud a member hears an audio source.
+/// A gain: how loud a member hears an audio source.
 #[derive(Clone, Copy, PartialEq, Eq)]
 pub struct Gain {
     /// The member that hears.
     pub member: u32,
+    /// The SSRC of the source.
     pub source: u32,
-    /// 256 times the factor, 0 to 1,024.
+    /// The gain in 256ths, 0 to 1,024.
     pub q8: u32,
 }
 
-/// The video source that a room's first slots show, where they have no subscription.
+/// A pin: the video source for the room's slots of index 0 that have no subscription.
 #[derive(Clone, Copy, PartialEq, Eq)]
 pub struct Pin {
+    /// The room.
     pub room: u32,
+    /// The SSRC of the source.
     pub source: u32,
 }
 
-/// The member that has a room's floor.
+/// A floor: the member whose first video source a room shows if it has no pin.
 #[derive(Clone, Copy, PartialEq, Eq)]
 pub struct Floor {
+    /// The room.
     pub room: u32,
+    /// The member that has the floor.
     pub member: u32,
 }
 
@@ -121,7 +142,7 @@ pub enum Row {
     Floor(Floor),
 }
 
-/// What names a row among all rows.
+/// The key of a row: its kind and one number, or two for a gain. No two rows of a desk have one key.
 #[derive(Clone, Copy)]
 pub enum Key {
     Room(u32),
@@ -170,7 +191,7 @@ impl Media {
         }
     }
 
-    /// Whether the other is the same.
+    /// Whether both are equal.
     pub fn is_same(self, other: Media) -> bool
         ensures { result ≡ same_media self other }
     {
@@ -242,7 +263,7 @@ impl Row {
         }
     }
 
-    /// The numbers that tell the row from all others.
+    /// Numbers that are equal for equal rows only.
     fn numbers(&self) -> [u32; 12]
         ensures { result ≡ row_numbers self.now }
     {
@@ -262,7 +283,7 @@ impl Row {
         }
     }
 
-    /// The keys of the rows that it names, by rising kind.
+    /// The keys of the rows that this row names, by rising kind.
     pub fn names(&self) -> Few<Key>
         ensures { listed result ≡ names self.now }
     {
@@ -279,7 +300,7 @@ impl Row {
         }
     }
 
-    /// What a source that it names has to send.
+    /// The media that a source must send if this row names it.
     fn wants(&self) -> Option<Media>
         ensures { result ≡ wants self.now }
     {
@@ -295,7 +316,7 @@ impl Row {
         }
     }
 
-    /// Whether the row that was found under a name is what this row wants.
+    /// Whether the row that was found under a name suits this row.
     pub(crate) fn suits(&self, found: Option<Row>) -> bool
         ensures { result ≡ suits (wants self.now) found }
     {
@@ -305,8 +326,7 @@ impl Row {
         }
     }
 
-    /// Whether its values are in their ranges: a port is not 0, a slot's index is 15 at most and a
-    /// gain 1,024.
+    /// Whether its values are in range: a port is not 0, a slot's index is at most 15, and a gain is at most 1,024.
     pub fn is_in_range(&self) -> bool
         ensures { result ≡ is_in_range self.now }
     {
@@ -323,7 +343,7 @@ impl Row {
         }
     }
 
-    /// What it has to itself beside its key.
+    /// The values beside its key that no other row may have.
     pub fn claims(&self) -> Few<Claim>
         ensures { listed result ≡ other_claims self.now }
     {
@@ -351,7 +371,7 @@ impl Row {
         }
     }
 
-    /// Whether the other row is the same.
+    /// Whether both rows are equal.
     pub fn is_same(&self, other: &Row) -> bool
         ensures { result ≡ same_row self.now other.now }
     {
@@ -391,8 +411,8 @@ impl Row {
 }
 
 impl Kind {
-    /// The place of the kind among the kinds: gains, which may be many, stand first, so that only a
-    /// gain that comes or goes moves them.
+    /// The place of the kind among all kinds. Gains may be many, so they stand first: only a change of a gain moves
+    /// them.
     pub(crate) fn rank(self) -> u32
         ensures { result ≡ rank self }
     {
@@ -428,8 +448,7 @@ impl Key {
         }
     }
 
-    /// The numbers that tell the key from all others: its kind's, and its own one or two, behind a
-    /// 0 where it is one.
+    /// Numbers that are equal for equal keys only: the kind's rank, then 0 or a gain's member, then the other number.
     pub(crate) fn numbers(self) -> [u32; 3]
         ensures { result ≡ key_numbers self }
     {
@@ -447,8 +466,8 @@ impl Key {
         }
     }
 
-    /// The key whose number it has: a sub's is its slot's, a mute's its source's, a pin's and a
-    /// floor's its room's. Any other key is its own.
+    /// The key of the row whose number this key has: the slot of a subscription, the source of a mute, the room of a
+    /// pin or a floor. Any other key is its own owner.
     pub fn owner(self) -> Key
         ensures { result ≡ owner_of self }
     {
@@ -462,14 +481,14 @@ impl Key {
         }
     }
 
-    /// Whether the other key is the same.
+    /// Whether both keys are equal.
     pub fn is_same(self, other: Key) -> bool
         ensures { result ≡ same_key self other }
     {
         self.numbers() == other.numbers()
     }
 
-    /// Whether this key stands before the other: the first numbers that differ decide.
+    /// Whether this key stands before the other. The first numbers that differ decide.
     pub(crate) fn precedes(self, other: Key) -> bool
         ensures { result ≡ key_precedes self other }
     {

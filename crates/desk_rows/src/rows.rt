@@ -1,6 +1,7 @@
-//! The rows of a desk.
+//! The rows of a desk, with look-ups.
 
-ghost use Rattle.std.specs.Prelude.{◌≡◌, ℕ, ◌++◌, ◌≤◌, true, IfOk, IfNone, length, map, filter, nat_eq, slice_get, vec_capacity, refl};
+ghost use Rattle.std.specs.Prelude.{◌≡◌, ℕ, ◌++◌, ◌≤◌, true, IfOk, IfNone, length, map, filter, nat_eq, slice_get};
+ghost use Rattle.std.specs.Prelude.{vec_capacity, refl};
 ghost use Rattle.std.specs.List.{find};
 ghost use Rattle.std.specs.List.Sorted.{IsNonDecreasingBy};
 ghost use Rattle.desk_rows.specs.declared.row.Row.TheVariants.{Member as MemberRow};
@@ -30,11 +31,10 @@ use std::alloc::{AllocError, Allocator, Global};
 use std::marker::Model;
 use undo_log::Reversible;
 
-/// The rows of a desk, in room that was reserved for all that there may be.
+/// The rows of a desk. All memory is allocated at first, so absorbing an edit takes none.
 ///
-/// Contracts see the desk: the members in joining order, and the set of all other rows, listed by
-/// kind and key. Each value is a good desk: keys are distinct, what its rows name is there, and rules
-/// and limits hold. What gives rows out ensures it.
+/// Contracts see the desk: the members in joining order, and all other rows by kind and key. Each value is a good desk:
+/// keys are distinct, what a row names is there, and all rules and limits hold. Calls that give rows out ensure it.
 #[derive(Drop)]
 pub struct Rows<A: Allocator + Copy = Global> {
     bridge_ssrc: u32,
@@ -42,7 +42,7 @@ pub struct Rows<A: Allocator + Copy = Global> {
     /// The members' places, by their numbers.
     index: Vec<Entry, A>,
     others: Vec<Row, A>,
-    /// Room in which an edit puts other rows together.
+    /// A buffer in which an edit merges other rows.
     spare: Vec<Row, A>,
     /// The subscriptions once more, by the sources that they name.
     subs: Vec<Sub, A>,
@@ -87,7 +87,7 @@ impl<A: Allocator + Copy> Model for Rows<A> {
 }
 
 impl<A: Allocator + Copy> Rows<A> {
-    /// The desk without rows, for a bridge that speaks under this SSRC.
+    /// A desk without rows, for a bridge of this SSRC. It allocates for all limits. The only error is out of memory.
     pub fn new(alloc: A, bridge_ssrc: u32) -> Result<Self, AllocError>
         ensures desk { IfOk result (λ rows. rows ≡ blank bridge_ssrc) }
         ensures good { IfOk result (λ rows. good rows ≡ true) }
@@ -105,7 +105,7 @@ impl<A: Allocator + Copy> Rows<A> {
         })
     }
 
-    /// The same rows again, in room of their own.
+    /// A copy, which allocates for all limits too. The only error is out of memory.
     pub fn copy(&self, alloc: A) -> Result<Self, AllocError>
         ensures { IfOk result (λ rows. rows ≡ self.now) }
     {
@@ -122,14 +122,14 @@ impl<A: Allocator + Copy> Rows<A> {
         })
     }
 
-    /// The SSRC under which the bridge itself speaks.
+    /// The SSRC of the bridge itself.
     pub fn bridge_ssrc(&self) -> u32
         ensures { result ≡ self.now.bridge_ssrc }
     {
         self.bridge_ssrc
     }
 
-    /// The members of all rooms in joining order.
+    /// The members of all rooms, in joining order.
     pub fn members(&self) -> &[Member]
         ensures members { result.now ≡ self.now.members }
         ensures good { good self.now ≡ true }
@@ -146,14 +146,14 @@ impl<A: Allocator + Copy> Rows<A> {
         &self.others
     }
 
-    /// Whether the desk has the row.
+    /// Whether the desk has this very row.
     pub fn holds(&self, row: &Row) -> bool
         ensures { result ≡ holds self.now row.now }
     {
         is_among(&self.members, self.others(), row)
     }
 
-    /// The row with this key.
+    /// The row with this key, by binary search.
     pub fn find(&self, key: &Key) -> Option<Row>
         ensures row { result ≡ row_at self.now key.now }
         ensures good { good self.now ≡ true }
@@ -161,7 +161,7 @@ impl<A: Allocator + Copy> Rows<A> {
         row_with(&self.members, &self.index, self.others(), *key)
     }
 
-    /// The place of the member of this number, from 0.
+    /// The place of a member in joining order, from 0 on.
     pub fn place_of(&self, member: u32) -> Option<usize>
         ensures place { result ≡ place_in self.now.members member }
         ensures good { good self.now ≡ true }
@@ -179,7 +179,7 @@ impl<A: Allocator + Copy> Rows<A> {
         find_at(&self.by_address, address)
     }
 
-    /// How many rows of the kind there are.
+    /// The number of rows of this kind.
     pub fn count(&self, kind: Kind) -> usize
         ensures { result ≡ count_of kind self.now }
     {
@@ -189,8 +189,8 @@ impl<A: Allocator + Copy> Rows<A> {
         }
     }
 
-    /// The rows of the kind one by one, members by place and all others by key; none from
-    /// `count` on.
+    /// The row of this kind at index `i`. Members stand by place, all others by key. `None` from [`count`](Self::count)
+    /// on.
     pub fn at(&self, kind: Kind, i: usize) -> Option<Row>
         ensures { result ≡ slice_get (rows_of_kind kind self.now) i }
     {
@@ -200,7 +200,7 @@ impl<A: Allocator + Copy> Rows<A> {
         }
     }
 
-    /// The rows of the kind by key. Members aren't among them.
+    /// The rows of this kind, by key. For members the list is empty: see [`members`](Self::members).
     pub fn others_of(&self, kind: Kind) -> &[Row]
         ensures rows { result.now ≡ filter (is_of kind) self.now.others }
         ensures good { good self.now ≡ true }
@@ -208,9 +208,11 @@ impl<A: Allocator + Copy> Rows<A> {
         rows_of_kind(self.others(), kind)
     }
 
-    /// The members of this room, each once.
+    /// The members of this room, each once, in no stated order.
     pub fn members_of(&self, room: u32) -> &[Member]
-        ensures { (member : ℕ) → filter (λ m. nat_eq m.member member) result.now ≡ filter (λ m. nat_eq m.member member) (members_in self.now room) }
+        ensures { (member : ℕ)
+            → filter (λ m. nat_eq m.member member) result.now
+            ≡ filter (λ m. nat_eq m.member member) (members_in self.now room) }
     {
         group_of(&self.by_room, room)
     }
@@ -223,16 +225,18 @@ impl<A: Allocator + Copy> Rows<A> {
         group_of(&self.subs, source)
     }
 
-    /// The slots of this member by index.
+    /// The slots of this member, by index.
     pub fn slots_of(&self, member: u32) -> &[Slot]
         ensures rising { IsNonDecreasingBy (λ s. s.index) result.now }
-        ensures exactly { (index : ℕ) → filter (λ s. nat_eq s.index index) result.now ≡ filter (λ s. nat_eq s.index index) (slots_naming self.now member) }
+        ensures exactly { (index : ℕ)
+            → filter (λ s. nat_eq s.index index) result.now
+            ≡ filter (λ s. nat_eq s.index index) (slots_naming self.now member) }
         ensures good { good self.now ≡ true }
     {
         group_of(&self.slots, member)
     }
 
-    /// The gains of this member by the SSRC of their sources.
+    /// The gains of this member, by the SSRC of their sources.
     pub fn gains_of(&self, member: u32) -> &[Row]
         ensures gains { result.now ≡ gains_naming self.now member }
         ensures good { good self.now ≡ true }
@@ -240,14 +244,14 @@ impl<A: Allocator + Copy> Rows<A> {
         gains_of(self.others(), member)
     }
 
-    /// The numbers of the room's members by place.
+    /// The numbers of the room's members, by place. The only error is out of memory.
     pub fn roster(&self, alloc: A, room: u32) -> Result<Vec<u32, A>, AllocError>
         ensures { IfOk result (λ numbers. numbers.items ≡ roster self.now room) }
     {
         numbers_in(alloc, &self.members, room)
     }
 
-    /// Takes the rows that go and puts those that come. It takes no memory.
+    /// Takes the rows that go, and puts those that come. It takes no memory.
     fn exchange(&mut self, edit: &EditLists<'_>)
         requires { fits self.old edit.now ≡ true }
         ensures { self.new ≡ after self.old edit.now }
@@ -265,7 +269,7 @@ impl<A: Allocator + Copy> Rows<A> {
     }
 }
 
-/// The same items, in room for so many.
+/// A copy of the items, with this capacity.
 fn copied<T: Copy, A: Allocator>(
     alloc: A,
     items: &[T],
@@ -300,7 +304,8 @@ fn numbers_in<A: Allocator>(
     members: &[Member],
     room: u32,
 ) -> Result<Vec<u32, A>, AllocError>
-    ensures { IfOk result (λ numbers. numbers.items ≡ map (λ m. m.member) (filter (λ m. nat_eq m.room room) members.now)) }
+    ensures { IfOk result
+        (λ numbers. numbers.items ≡ map (λ m. m.member) (filter (λ m. nat_eq m.room room) members.now)) }
 {
     members
         .iter()

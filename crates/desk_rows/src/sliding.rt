@@ -1,4 +1,4 @@
-//! One row, put in, taken out or replaced at its place.
+//! Puts in, takes out or replaces one row at its place.
 
 ghost use Rattle.std.specs.Prelude.{◌≡◌, ◌+◌, ◌≤◌, ◌∷◌, [], true, not, length, slice_get, vec_len, vec_capacity};
 ghost use Rattle.desk_rows.specs.Row.{key_of, same_key};

@@ -1,4 +1,4 @@
-//! Rows taken out and put in by one sweep, from the first of them on.
+//! Takes rows out and puts rows in by one sweep, from the first of them on.
 
 ghost use Rattle.std.specs.Prelude.{◌≡◌, ◌+◌, ◌≤◌, ◌++◌, true, not, length, vec_len, vec_capacity, ◌∷◌, [], IfSome};
 ghost use Rattle.std.specs.List.{list_all};
@@ -22,7 +22,7 @@ fn is_left(row: &Row, taken: &[Row], old: &[Row]) -> bool
     !contains(taken, row)
 }
 
-/// The one row of two lists, if there is just one.
+/// The one row of two lists, if there is exactly one.
 fn only_row(taken: &[Row], old: &[Row]) -> Option<Row>
     ensures { IfSome result (λ row. with_rows old.now taken.now ≡ row ∷ []) }
 {
@@ -110,14 +110,14 @@ fn leave_out<A: Allocator>(out: &mut Vec<Row, A>, rows: &[Row], taken: &[Row])
     append(out, rest);
 }
 
-/// Takes these rows out by one sweep through the spare room. What stands before the first of them
-/// stays where it is.
+/// Takes these rows out by one sweep through the spare buffer. Rows before the first of them stay in place.
 fn sweep_out<A: Allocator>(rows: &mut Vec<Row, A>, spare: &mut Vec<Row, A>, taken: &[Row])
     requires rows { in_order rows.old.items ≡ true }
     requires taken { in_order taken.now ≡ true }
     requires room { vec_len rows.old ≤ vec_capacity spare.old }
     ensures items { rows.new.items ≡ without_rows taken.now rows.old.items }
-    ensures capacity { (vec_capacity rows.old ≤ vec_capacity rows.new) × (vec_capacity spare.old ≤ vec_capacity spare.new) }
+    ensures capacity { (vec_capacity rows.old ≤ vec_capacity rows.new)
+        × (vec_capacity spare.old ≤ vec_capacity spare.new) }
 {
     if let Some((first, _)) = taken.split_first() {
         let (stay, others) = parted_at(rows, first);
@@ -141,7 +141,8 @@ fn take_many<A: Allocator>(
     requires old { in_order old.now ≡ true }
     requires room { vec_len rows.old ≤ vec_capacity spare.old }
     ensures items { rows.new.items ≡ without_rows (with_rows old.now taken.now) rows.old.items }
-    ensures capacity { (vec_capacity rows.old ≤ vec_capacity rows.new) × (vec_capacity spare.old ≤ vec_capacity spare.new) }
+    ensures capacity { (vec_capacity rows.old ≤ vec_capacity rows.new)
+        × (vec_capacity spare.old ≤ vec_capacity spare.new) }
 {
     if old.is_empty() {
         sweep_out(rows, spare, taken);
@@ -150,7 +151,7 @@ fn take_many<A: Allocator>(
     }
 }
 
-/// Takes out the rows of two lists: one at its place, more by one sweep.
+/// Takes out the rows of two lists: a single one at its place, more by one sweep.
 pub(crate) fn take_rows<A: Allocator>(
     rows: &mut Vec<Row, A>,
     spare: &mut Vec<Row, A>,
@@ -162,7 +163,8 @@ pub(crate) fn take_rows<A: Allocator>(
     requires old { in_order old.now ≡ true }
     requires room { vec_len rows.old ≤ vec_capacity spare.old }
     ensures items { rows.new.items ≡ without_rows (with_rows old.now taken.now) rows.old.items }
-    ensures capacity { (vec_capacity rows.old ≤ vec_capacity rows.new) × (vec_capacity spare.old ≤ vec_capacity spare.new) }
+    ensures capacity { (vec_capacity rows.old ≤ vec_capacity rows.new)
+        × (vec_capacity spare.old ≤ vec_capacity spare.new) }
 {
     match only_row(taken, old) {
         Some(row) => take_one(rows, &row),
@@ -186,7 +188,7 @@ fn parted_before<'a>(rows: &'a [Row], row: &Row) -> (&'a [Row], &'a [Row])
     rows.split_at(place_before(rows, row))
 }
 
-/// Appends both lists in one, with the rows that are put each where it keeps the order.
+/// Merges both lists, so that the rows keep their order.
 fn merge<A: Allocator>(out: &mut Vec<Row, A>, rows: &[Row], put: &[Row])
     requires rows { in_order rows.now ≡ true }
     requires order { in_order put.now ≡ true }
@@ -206,14 +208,16 @@ fn merge<A: Allocator>(out: &mut Vec<Row, A>, rows: &[Row], put: &[Row])
     append(out, rest);
 }
 
-/// Puts these rows in, each where it keeps the order, by one sweep through the spare room. What
-/// stands before the first of them stays where it is.
+/// Puts these rows in by one sweep through the spare buffer, so that all keep their order. Rows before the first of
+/// them stay in place.
 fn sweep_in<A: Allocator>(rows: &mut Vec<Row, A>, spare: &mut Vec<Row, A>, put: &[Row])
     requires rows { in_order rows.old.items ≡ true }
     requires order { in_order put.now ≡ true }
-    requires room { (vec_len rows.old + length put.now ≤ vec_capacity rows.old) × (vec_len rows.old + length put.now ≤ vec_capacity spare.old) }
+    requires room { (vec_len rows.old + length put.now ≤ vec_capacity rows.old)
+        × (vec_len rows.old + length put.now ≤ vec_capacity spare.old) }
     ensures items { rows.new.items ≡ with_rows put.now rows.old.items }
-    ensures capacity { (vec_capacity rows.old ≤ vec_capacity rows.new) × (vec_capacity spare.old ≤ vec_capacity spare.new) }
+    ensures capacity { (vec_capacity rows.old ≤ vec_capacity rows.new)
+        × (vec_capacity spare.old ≤ vec_capacity spare.new) }
 {
     if let Some((first, _)) = put.split_first() {
         let (front, others) = parted_before(rows, first);
@@ -225,13 +229,15 @@ fn sweep_in<A: Allocator>(rows: &mut Vec<Row, A>, spare: &mut Vec<Row, A>, put: 
     }
 }
 
-/// Puts these rows into rows in order, one at its place, more by one sweep into the spare room.
+/// Puts these rows in: a single one at its place, more by one sweep through the spare buffer.
 pub(crate) fn put_rows<A: Allocator>(rows: &mut Vec<Row, A>, spare: &mut Vec<Row, A>, put: &[Row])
     requires rows { in_order rows.old.items ≡ true }
     requires order { in_order put.now ≡ true }
-    requires room { (vec_len rows.old + length put.now ≤ vec_capacity rows.old) × (vec_len rows.old + length put.now ≤ vec_capacity spare.old) }
+    requires room { (vec_len rows.old + length put.now ≤ vec_capacity rows.old)
+        × (vec_len rows.old + length put.now ≤ vec_capacity spare.old) }
     ensures items { rows.new.items ≡ with_rows put.now rows.old.items }
-    ensures capacity { (vec_capacity rows.old ≤ vec_capacity rows.new) × (vec_capacity spare.old ≤ vec_capacity spare.new) }
+    ensures capacity { (vec_capacity rows.old ≤ vec_capacity rows.new)
+        × (vec_capacity spare.old ≤ vec_capacity spare.new) }
 {
     match only_row(put, &[]) {
         Some(row) => put_one(rows, &row),
