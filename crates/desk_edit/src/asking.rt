@@ -1,4 +1,4 @@
-//! What commands ask of a desk.
+//! Questions of commands to a desk.
 
 ghost use Rattle.std.specs.Prelude.{◌≡◌, true, ◌<◌, ◌^◌, not, ◌&&◌, ◌||◌, count_by, map};
 ghost use Rattle.std.specs.List.{list_any};
@@ -6,7 +6,8 @@ ghost use Rattle.desk_rows.specs.declared.row.Row.TheVariants.{Member as MemberR
 ghost use Rattle.desk_rows.specs.Row.{makes, other_claims};
 ghost use Rattle.desk_rows.specs.Few.{listed};
 ghost use Rattle.desk_rows.specs.Desk.{good, is_audio_in, is_bridges, room_of_member, row_at};
-ghost use Rattle.desk_edit.specs.Refusals.{has, is_claimed, is_ssrc, is_replaced, is_there, is_other_claimed, is_ssrc_taken, ssrc_is_taken, room_is_full, is_audio_of};
+ghost use Rattle.desk_edit.specs.Refusals.{has, is_claimed, is_ssrc, is_replaced, is_there, is_other_claimed};
+ghost use Rattle.desk_edit.specs.Refusals.{is_ssrc_taken, ssrc_is_taken, room_is_full, is_audio_of};
 
 use desk_rows::{
     Claim, Few, Key, Kind, Look, MAX_ROOM_AUDIO, Media, Member, Row, Rows, count_audio,
@@ -35,7 +36,7 @@ fn is_stream<A: Allocator + Copy>(rows: &Rows<A>, ssrc: u32) -> bool
     has(rows, Key::Source(ssrc)) || has(rows, Key::Slot(ssrc))
 }
 
-/// Whether some row makes this claim. Only rows of the kinds that may make it are asked.
+/// Whether any row makes this claim. It looks only at the kinds that may make it.
 #[tactic(auto, using(crate::proofs::Claimed::address_claimed, crate::proofs::Claimed::place_claimed, crate::proofs::Claimed::ssrc_claimed))]
 fn is_claimed<A: Allocator + Copy>(rows: &Rows<A>, claim: &Claim) -> bool
     ensures { result ≡ is_claimed rows.now claim.now }
@@ -57,7 +58,7 @@ pub(crate) fn has<A: Allocator + Copy>(rows: &Rows<A>, key: Key) -> bool
     rows.find(&key).is_some()
 }
 
-/// Whether a row of this kind is put in place of the one of its key.
+/// Whether a row of this kind replaces the one of its key.
 fn is_replaced(row: &Row) -> bool
     ensures { result ≡ is_replaced row.now }
 {
@@ -76,14 +77,14 @@ fn is_ssrc(claim: &Claim) -> bool
     }
 }
 
-/// Whether it is no SSRC, and some row claims it.
+/// Whether any row makes this claim, and it is no SSRC.
 fn is_other_claimed<A: Allocator + Copy>(rows: &Rows<A>, claim: &Claim) -> bool
     ensures { result ≡ is_other_claimed rows.now claim.now }
 {
     !is_ssrc(claim) && is_claimed(rows, claim)
 }
 
-/// Whether a row of its key is there that it doesn't replace, or another has its address or place.
+/// Whether the row exists and is not replaced, or another row has its address or index.
 pub(crate) fn is_there<A: Allocator + Copy>(rows: &Rows<A>, row: &Row) -> bool
     ensures { result ≡ is_there rows.now row.now }
 {
@@ -108,7 +109,7 @@ fn is_bridges<A: Allocator + Copy>(rows: &Rows<A>, claim: &Claim) -> bool
     }
 }
 
-/// Whether it is an SSRC that the bridge, a source or an outgoing stream has.
+/// Whether the claim is an SSRC of the bridge, a source or an outgoing stream.
 fn is_ssrc_taken<A: Allocator + Copy>(rows: &Rows<A>, claim: &Claim) -> bool
     ensures { result ≡ is_ssrc_taken rows.now claim.now }
 {
@@ -126,7 +127,7 @@ pub(crate) fn ssrc_is_taken<A: Allocator + Copy>(rows: &Rows<A>, row: &Row) -> b
     }
 }
 
-/// How many audio sources the room has.
+/// The number of audio sources of the room.
 pub(crate) fn count_audio_in<A: Allocator + Copy>(rows: &Rows<A>, room: u32) -> usize
     ensures few { result < 2 ^ 62 }
     ensures count { result ≡ count_by (is_audio_in rows.now room) rows.now.others }
@@ -134,7 +135,7 @@ pub(crate) fn count_audio_in<A: Allocator + Copy>(rows: &Rows<A>, room: u32) -> 
     count_audio(rows, rows.others_of(Kind::Source), room)
 }
 
-/// Whether the room has all the audio sources that it may have.
+/// Whether the room has as many audio sources as it may have.
 pub(crate) fn room_is_full<A: Allocator + Copy>(rows: &Rows<A>, room: Option<u32>) -> bool
     ensures { result ≡ room_is_full rows.now room }
 {
@@ -169,7 +170,7 @@ fn count_these_of(rows: &[Row], member: u32) -> usize
     rows.iter().filter(|row| is_audio_of(row, member)).count()
 }
 
-/// How many audio sources the member has.
+/// The number of audio sources of the member.
 pub(crate) fn count_audio_of<A: Allocator + Copy>(rows: &Rows<A>, member: u32) -> usize
     ensures few { result < 2 ^ 62 }
     ensures count { result ≡ count_by (is_audio_of member) rows.now.others }

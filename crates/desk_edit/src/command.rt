@@ -1,4 +1,4 @@
-//! Commands, calls and refusals.
+//! Commands and calls.
 
 ghost use Rattle.std.specs.Prelude.{◌≡◌};
 ghost use Rattle.desk_edit.specs.Forms.{form_of};
@@ -6,52 +6,98 @@ ghost use Rattle.desk_edit.specs.Forms.{form_of};
 use desk_rows::{Floor, Gain, Key, Member, Mute, Pin, Room, Row, Slot, Source, Sub};
 use std::alloc::{Allocator, Global};
 
-/// What an operator asks of the desk. A row that is taken takes all rows with it that name it,
-/// directly or through others.
+/// A command of an operator. A removed row takes along all rows that name it, directly or through others.
 #[derive(Clone, Copy)]
 pub enum Command {
+    /// Adds a room.
     AddRoom(Room),
-    RemoveRoom { room: u32 },
-    /// The member joins its room, last of all members.
+    /// Removes a room, with its members and all that names them.
+    RemoveRoom {
+        /// The room.
+        room: u32,
+    },
+    /// Adds a member to its room. It stands last of all members.
     AddMember(Member),
-    RemoveMember { member: u32 },
-    /// The member keeps its place among the members. The rows whose two sides would then be in
-    /// different rooms go: its subscriptions and gains across rooms, in both directions, the pin of
-    /// its source and the floor that it has.
-    MoveMember { member: u32, room: u32 },
+    /// Removes a member, with its sources, its slots and all that names them.
+    RemoveMember {
+        /// The member.
+        member: u32,
+    },
+    /// Moves a member to another room. It keeps its place among the members.
+    ///
+    /// Rows that name two different rooms then go: subscriptions and gains of the member and of its sources, the pin of
+    /// its source, and its floor.
+    MoveMember {
+        /// The member.
+        member: u32,
+        /// The room that it moves to.
+        room: u32,
+    },
+    /// Adds a source to a member.
     AddSource(Source),
-    RemoveSource { ssrc: u32 },
+    /// Removes a source, with all that names it.
+    RemoveSource {
+        /// The SSRC of the source.
+        ssrc: u32,
+    },
+    /// Adds a slot, an outgoing video stream, to a member.
     AddSlot(Slot),
-    RemoveSlot { out_ssrc: u32 },
-    /// Subscribes a slot to a video source, in place of the one before.
+    /// Removes a slot, with its subscription.
+    RemoveSlot {
+        /// The SSRC of the slot's stream.
+        out_ssrc: u32,
+    },
+    /// Subscribes a slot to a video source. It replaces the subscription before.
     Subscribe(Sub),
-    Unsubscribe { out_ssrc: u32 },
-    /// Sets how loud a member hears an audio source, in place of the gain before. Without a gain it
-    /// is 256, which leaves samples as they are.
+    /// Ends a slot's subscription.
+    Unsubscribe {
+        /// The SSRC of the slot's stream.
+        out_ssrc: u32,
+    },
+    /// Sets how loud a member hears an audio source. It replaces the gain before. Without a gain it is 256, which
+    /// leaves samples as they are.
     SetGain(Gain),
+    /// Mutes a source, so that nobody hears or sees it.
     Mute(Mute),
-    Unmute { source: u32 },
-    /// Pins a video source in a room, in place of the one before.
+    /// Ends the mute of a source.
+    Unmute {
+        /// The SSRC of the source.
+        source: u32,
+    },
+    /// Pins a video source in a room. It replaces the pin before.
     Pin(Pin),
-    Unpin { room: u32 },
-    /// Gives a room's floor to a member, in place of the one before.
+    /// Ends the pin of a room.
+    Unpin {
+        /// The room.
+        room: u32,
+    },
+    /// Gives a room's floor to a member. It replaces the floor before.
     GiveFloor(Floor),
-    TakeFloor { room: u32 },
+    /// Takes the floor of a room from its member.
+    TakeFloor {
+        /// The room.
+        room: u32,
+    },
 }
 
-/// What a command does to rows.
+/// What a command does to the rows.
 #[derive(Clone, Copy)]
 pub enum Form {
-    /// Puts the row, a member last of all, any other in place of the one of its key.
+    /// Puts the row. A member stands last of all; any other row replaces the one of its key.
     Put(Row),
-    /// Takes the row of this key, and all that depends on it.
+    /// Takes the row of this key, and all rows that depend on it.
     Remove(Key),
-    /// Puts the member into the room.
-    Move { member: u32, room: u32 },
+    /// Moves the member to the room.
+    Move {
+        /// The member.
+        member: u32,
+        /// The room.
+        room: u32,
+    },
 }
 
 impl Command {
-    /// What the command does to rows.
+    /// What the command does to the rows.
     pub fn form(&self) -> Form
         ensures { result ≡ form_of self.now }
     {
@@ -84,11 +130,18 @@ impl Command {
 /// A call of an operator.
 #[derive(Drop)]
 pub enum Call<A: Allocator + Copy = Global> {
+    /// Carries out a command.
     Apply(Command),
-    /// Does the commands one after another as one call: all of them or none.
+    /// Carries out 1 to 64 commands as one call: all of them or none.
     Group(Vec<Command, A>),
-    /// Takes the last command back. It names the last accepted call of any kind.
-    Undo { last: u64 },
-    /// Does the command that was undone last again. It names the last accepted call of any kind.
-    Redo { last: u64 },
+    /// Takes the last command or group back.
+    Undo {
+        /// The number of the last accepted call of any kind. Another number is refused.
+        last: u64,
+    },
+    /// Carries out the command or group again that was undone last.
+    Redo {
+        /// The number of the last accepted call of any kind. Another number is refused.
+        last: u64,
+    },
 }

@@ -1,4 +1,4 @@
-//! The edits that carry commands out.
+//! Makes the edits that carry commands out.
 
 ghost use Rattle.std.specs.Prelude.{◌≡◌, true, ◌++◌, OnOk, ◌∷◌, [], map, filter, length, IfOk, nat_eq, not};
 ghost use Rattle.desk_rows.specs.declared.row.Row.TheVariants.{Member as MemberRow};
@@ -8,7 +8,8 @@ ghost use Rattle.desk_rows.specs.Desk.{are_together, good, row_at};
 ghost use Rattle.desk_edit.specs.Depends.{goes_with};
 ghost use Rattle.desk_edit.specs.Commands.{with_member_in};
 ghost use Rattle.desk_edit.specs.inner.Levels.{found_list};
-ghost use Rattle.desk_edit.specs.inner.Edits.{puts_other, puts_member, replaces, puts_in_place, puts, placed_from, takes_all, placed_in, moves_member, edit_for};
+ghost use Rattle.desk_edit.specs.inner.Edits.{puts_other, puts_member, replaces, puts_in_place, puts, placed_from};
+ghost use Rattle.desk_edit.specs.inner.Edits.{takes_all, placed_in, moves_member, edit_for};
 
 use crate::command::Form;
 use crate::moving::Moved;
@@ -33,7 +34,7 @@ fn one_member<A: Allocator>(alloc: A, placed: Placed) -> Result<Vec<Placed, A>, 
     Ok(members)
 }
 
-/// Puts a row that is no member's.
+/// Puts a row that is not a member.
 fn put_other<A: Allocator + Copy>(alloc: A, row: Row) -> Result<Edit<A>, AllocError>
     ensures { IfOk result (λ edit. edit ≡ puts_other row) }
 {
@@ -59,7 +60,7 @@ fn put_member<A: Allocator + Copy>(
     })
 }
 
-/// Puts a row in place of another of its key.
+/// Replaces a row by another of its key.
 fn replace<A: Allocator + Copy>(alloc: A, old: Row, new: Row) -> Result<Edit<A>, AllocError>
     ensures { IfOk result (λ edit. edit ≡ replaces old new) }
 {
@@ -83,7 +84,7 @@ fn put_in_place<A: Allocator + Copy>(
     }
 }
 
-/// Puts the row, a member last of all, any other in place of the one that there is of its key.
+/// Puts the row. A member stands last of all; any other row replaces the one of its key.
 fn put<A: Allocator + Copy>(alloc: A, rows: &Rows<A>, row: Row) -> Result<Edit<A>, AllocError>
     ensures edit { IfOk result (λ edit. edit ≡ puts rows.now row) }
     ensures good { good rows.now ≡ true }
@@ -94,7 +95,7 @@ fn put<A: Allocator + Copy>(alloc: A, rows: &Rows<A>, row: Row) -> Result<Edit<A
     }
 }
 
-/// Takes the row of this key, and all that depends on it.
+/// Takes the row of this key, and all rows that depend on it.
 fn remove<A: Allocator + Copy>(alloc: A, rows: &Rows<A>, key: Key) -> Result<Edit<A>, AllocError>
     ensures edit { IfOk result (λ edit. edit ≡ takes_all rows.now (goes_with rows.now key)) }
     ensures good { good rows.now ≡ true }
@@ -108,13 +109,16 @@ fn remove<A: Allocator + Copy>(alloc: A, rows: &Rows<A>, key: Key) -> Result<Edi
     })
 }
 
-/// The rows of these whose two sides are in different rooms.
+/// The rows among these that name two different rooms.
 fn parted<A: Allocator + Copy>(
     alloc: A,
     moved: &Moved<'_, A>,
     others: &[Row],
 ) -> Result<Vec<Row, A>, AllocError>
-    ensures { IfOk result (λ v. v.items ≡ filter (λ r. not (are_together (with_member_in moved.now.rows.now moved.now.member moved.now.room) (names r))) others.now) }
+    ensures { IfOk result
+        (λ v. v.items
+        ≡ filter (λ r. not
+        (are_together (with_member_in moved.now.rows.now moved.now.member moved.now.room) (names r))) others.now) }
 {
     others
         .iter()
@@ -123,20 +127,22 @@ fn parted<A: Allocator + Copy>(
         .collect(alloc)
 }
 
-/// The rows whose two sides are then in different rooms. They depend on the member.
+/// The rows that name two different rooms after the move. They depend on the member.
 fn others_parted<A: Allocator + Copy>(
     alloc: A,
     rows: &Rows<A>,
     member: u32,
     room: u32,
 ) -> Result<Vec<Row, A>, AllocError>
-    ensures { IfOk result (λ v. v.items ≡ filter (λ r. not (are_together (with_member_in rows.now member room) (names r))) rows.now.others) }
+    ensures { IfOk result
+        (λ v. v.items
+        ≡ filter (λ r. not (are_together (with_member_in rows.now member room) (names r))) rows.now.others) }
 {
     let dependent = others_going(alloc, rows, Key::Member(member), false)?;
     parted(alloc, &Moved { rows, member, room }, &dependent)
 }
 
-/// Puts the member into the room, and takes the rows whose two sides are then in different rooms.
+/// Moves the member to the room, and takes the rows that name two different rooms then.
 fn move_member<A: Allocator + Copy>(
     alloc: A,
     rows: &Rows<A>,
@@ -155,7 +161,7 @@ fn move_member<A: Allocator + Copy>(
     })
 }
 
-/// The edit that carries out what a command does to rows.
+/// The edit that does this to the rows.
 #[tactic(auto, unfolding(crate::specs::inner::Edits::edit_for))]
 pub(crate) fn edit_for<A: Allocator + Copy>(
     alloc: A,

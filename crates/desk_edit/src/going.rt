@@ -1,4 +1,4 @@
-//! What goes with a row: all that names it, directly or through others.
+//! Finds the rows that go with a row: all that name it, directly or through others.
 
 ghost use Rattle.std.specs.Prelude.{◌≡◌, true, ◌&&◌, ℕ, IfSome};
 ghost use Rattle.std.specs.List.{list_any};
@@ -13,7 +13,7 @@ use crate::asking::has;
 use desk_rows::{Few, Key, Kind, Look, Row, Rows};
 use std::alloc::Allocator;
 
-/// How many rows there can be below a row of this kind, each named by the one above it.
+/// The most rows that can follow below a row of this kind, each named by the one above it.
 pub(crate) fn level(kind: Kind) -> u32
     ensures { result ≡ level kind }
 {
@@ -42,12 +42,12 @@ pub(crate) fn can_go(kind: Kind, top: Kind) -> bool
     }
 }
 
-/// A desk, and the key of a row that is to go.
+/// A desk, and the key of a row to remove.
 #[derive(Drop)]
 pub(crate) struct Going<'a, A: Allocator + Copy> {
     pub(crate) rows: &'a Rows<A>,
     pub(crate) key: Key,
-    /// Whether the row of the key is there, so that it isn't looked for again.
+    /// Whether the row of the key exists, so that it isn't looked for again.
     pub(crate) is_there: bool,
     ghost there: { is_there ≡ has rows.now key },
     ghost good: { good rows.now ≡ true },
@@ -73,10 +73,14 @@ impl<'a, A: Allocator + Copy> Going<'a, A> {
         level(self.key.kind()) < level(name.kind())
     }
 
-    /// Whether a row of this name goes, as far as the key alone tells it: the row of the key does, if it
-    /// is there, and none that stands no higher.
+    /// Whether a row of this name goes, if the key alone decides it. The row of the key goes if it exists. A row that
+    /// does not stand below it stays.
     fn told(&self, name: Key) -> Option<bool>
-        ensures { (n : ℕ) → IfSome result (λ told. told ≡ list_any (λ s. has_key name s && goes_within n self.now.rows.now self.now.key s) (rows_of self.now.rows.now)) }
+        ensures { (n : ℕ)
+            → IfSome result
+            (λ told. told
+            ≡ list_any
+            (λ s. has_key name s && goes_within n self.now.rows.now self.now.key s) (rows_of self.now.rows.now)) }
     {
         if name.is_same(self.key) {
             return Some(self.is_there);
@@ -99,7 +103,9 @@ impl<'a, A: Allocator + Copy> Going<'a, A> {
 
     /// Whether a room goes.
     fn room_goes(&self, name: Key) -> bool
-        ensures { result ≡ list_any (λ s. has_key name s && goes_within 0 self.now.rows.now self.now.key s) (rows_of self.now.rows.now) }
+        ensures { result
+            ≡ list_any
+            (λ s. has_key name s && goes_within 0 self.now.rows.now self.now.key s) (rows_of self.now.rows.now) }
     {
         match self.told(name) {
             Some(goes) => goes,
@@ -131,7 +137,9 @@ impl<'a, A: Allocator + Copy> Going<'a, A> {
 
     /// Whether a member goes.
     fn member_goes(&self, name: Key) -> bool
-        ensures { result ≡ list_any (λ s. has_key name s && goes_within 1 self.now.rows.now self.now.key s) (rows_of self.now.rows.now) }
+        ensures { result
+            ≡ list_any
+            (λ s. has_key name s && goes_within 1 self.now.rows.now self.now.key s) (rows_of self.now.rows.now) }
     {
         match self.told(name) {
             Some(goes) => goes,
@@ -163,7 +171,9 @@ impl<'a, A: Allocator + Copy> Going<'a, A> {
 
     /// Whether a row goes that other rows than rooms name.
     pub(crate) fn stream_goes(&self, name: Key) -> bool
-        ensures { result ≡ list_any (λ s. has_key name s && goes_within 2 self.now.rows.now self.now.key s) (rows_of self.now.rows.now) }
+        ensures { result
+            ≡ list_any
+            (λ s. has_key name s && goes_within 2 self.now.rows.now self.now.key s) (rows_of self.now.rows.now) }
     {
         match self.told(name) {
             Some(goes) => goes,

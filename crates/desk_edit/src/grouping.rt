@@ -1,6 +1,7 @@
 //! Plans a group: several commands that are one call.
 
-ghost use Rattle.std.specs.Prelude.{◌≡◌, ◌≢◌, ◌+◌, ◌≤◌, ◌<◌, ◌^◌, ◌++◌, ◌∷◌, [], true, List, length, fold, take, vec_len, vec_capacity, None, Some, IfOk, IfErr, OnOk};
+ghost use Rattle.std.specs.Prelude.{◌≡◌, ◌≢◌, ◌+◌, ◌≤◌, ◌<◌, ◌^◌, ◌++◌, ◌∷◌, [], true, List, length, fold, take};
+ghost use Rattle.std.specs.Prelude.{vec_len, vec_capacity, None, Some, IfOk, IfErr, OnOk};
 ghost use Rattle.undo_log.specs.Timeline.{all_fit};
 ghost use Rattle.desk_rows.specs.Edit.{EditOf};
 ghost use Rattle.desk_rows.specs.Exchange.{fits, after};
@@ -20,7 +21,7 @@ use undo_log::Reversible;
 /// The most commands of a group.
 pub const MAX_GROUP: usize = 64;
 
-/// What is wrong with the number of commands: none, or more than 64.
+/// The refusal of a group of this size: none, or more than 64 commands.
 pub fn size_refused(count: usize) -> Option<GroupRefusal>
     ensures { result ≡ size_refused count }
 {
@@ -33,7 +34,7 @@ pub fn size_refused(count: usize) -> Option<GroupRefusal>
     }
 }
 
-/// Plans one command of a group. Its number in the group counts from 0.
+/// Plans one command of a group, which numbers them from 0.
 fn plan_part<A: Allocator + Copy>(
     alloc: A,
     rows: &Rows<A>,
@@ -43,7 +44,8 @@ fn plan_part<A: Allocator + Copy>(
     ensures fits { IfOk result (λ edit. fits rows.now edit ≡ true) }
     ensures carries_out { IfOk result (λ edit. after rows.now edit ≡ desk_after rows.now command.now) }
     ensures accepted { OnOk result (reason_against rows.now command.now ≡ None) }
-    ensures first { IfErr result (λ why. why ≢ GroupRefusal.OutOfMemory → part_refused part rows.now (command.now ∷ []) ≡ Some why) }
+    ensures first { IfErr result (λ why. why ≢ GroupRefusal.OutOfMemory
+        → part_refused part rows.now (command.now ∷ []) ≡ Some why) }
     ensures memory { result ≡ Err GroupRefusal.OutOfMemory → reason_against rows.now command.now ≡ None }
 {
     if let Some(why) = reason_against(rows, command) {
@@ -55,7 +57,7 @@ fn plan_part<A: Allocator + Copy>(
     }
 }
 
-/// Plans each command on the desk that those before it leave, and appends its edit.
+/// Plans each command on the desk after those before it, and appends its edit.
 fn plan_parts<A: Allocator + Copy>(
     alloc: A,
     rows: &mut Rows<A>,
@@ -66,7 +68,8 @@ fn plan_parts<A: Allocator + Copy>(
     requires room { MAX_GROUP ≤ vec_capacity edits.old }
     ensures carries_out { OnOk result (Carries rows.old commands.now edits.old.items edits.new.items) }
     ensures accepted { OnOk result (part_refused (vec_len edits.old) rows.old commands.now ≡ None) }
-    ensures first { IfErr result (λ why. why ≢ GroupRefusal.OutOfMemory → part_refused (vec_len edits.old) rows.old commands.now ≡ Some why) }
+    ensures first { IfErr result (λ why. why ≢ GroupRefusal.OutOfMemory
+        → part_refused (vec_len edits.old) rows.old commands.now ≡ Some why) }
 {
     let mut rest = commands;
     while let Some((command, later)) = rest.split_first() {
@@ -79,7 +82,7 @@ fn plan_parts<A: Allocator + Copy>(
     Ok(())
 }
 
-/// Plans the commands behind the first one on a copy of the rows. The first one's edit is given.
+/// Plans the commands behind the first one on a copy of the rows, with the first one's edit absorbed.
 fn plan_later<A: Allocator + Copy>(
     alloc: A,
     rows: &Rows<A>,
@@ -90,7 +93,8 @@ fn plan_later<A: Allocator + Copy>(
     requires fits { fits rows.now first ≡ true }
     ensures carries_out { IfOk result (λ edits. Carries (after rows.now first) later.now (first ∷ []) edits.items) }
     ensures accepted { OnOk result (part_refused 1 (after rows.now first) later.now ≡ None) }
-    ensures first { IfErr result (λ why. why ≢ GroupRefusal.OutOfMemory → part_refused 1 (after rows.now first) later.now ≡ Some why) }
+    ensures first { IfErr result (λ why. why ≢ GroupRefusal.OutOfMemory
+        → part_refused 1 (after rows.now first) later.now ≡ Some why) }
 {
     let Ok(mut edits) = Vec::with_capacity(alloc, MAX_GROUP) else {
         return Err(GroupRefusal::OutOfMemory);
@@ -108,20 +112,24 @@ fn plan_later<A: Allocator + Copy>(
     Ok(edits)
 }
 
-/// The edits that carry a group out, one for each command, or its first refusal. `OutOfMemory` comes
-/// only where the size is right and the first command is not refused: memory may run out before
-/// later commands are judged.
+/// Plans a group: one edit for each command, or the group's first refusal. Nothing changes.
+///
+/// Each command is judged on the desk after those before it. Out of memory is reported only if the size is good and the
+/// first command is not refused; later commands may not have been judged then.
 pub fn plan_group<A: Allocator + Copy>(
     alloc: A,
     rows: &Rows<A>,
     commands: &[Command],
 ) -> Result<Vec<Edit<A>, A>, GroupRefusal>
     ensures fits { IfOk result (λ edits. all_fit fits after rows.now edits.items ≡ true) }
-    ensures carries_out { IfOk result (λ edits. fold after rows.now edits.items ≡ desk_after_all rows.now commands.now) }
+    ensures carries_out { IfOk result
+        (λ edits. fold after rows.now edits.items ≡ desk_after_all rows.now commands.now) }
     ensures each { IfOk result (λ edits. length edits.items ≡ length commands.now) }
     ensures accepted { OnOk result (group_refused rows.now commands.now ≡ None) }
-    ensures first { IfErr result (λ why. why ≢ GroupRefusal.OutOfMemory → group_refused rows.now commands.now ≡ Some why) }
-    ensures memory { result ≡ Err GroupRefusal.OutOfMemory → (size_refused (length commands.now) ≡ None) × (part_refused 0 rows.now (take 1 commands.now) ≡ None) }
+    ensures first { IfErr result (λ why. why ≢ GroupRefusal.OutOfMemory
+        → group_refused rows.now commands.now ≡ Some why) }
+    ensures memory { result ≡ Err GroupRefusal.OutOfMemory
+        → (size_refused (length commands.now) ≡ None) × (part_refused 0 rows.now (take 1 commands.now) ≡ None) }
 {
     if let Some(why) = size_refused(commands.len()) {
         return Err(why);

@@ -1,4 +1,16 @@
-//! The commands of a desk, and the edits of its rows that carry them out.
+//! The commands of a desk, their refusals, and the edits of its rows that carry them out.
+//!
+//! Begin with [`plan`] for a command and [`plan_group`] for a group of them. Neither changes anything: the caller
+//! absorbs the edit. A contract states the desk after a command as an equation, and the first refusal by the order of
+//! its number.
+//!
+//! ```rust
+//! let command = Command::AddRoom(Room { room: 1 });
+//! let edit = plan(alloc, &rows, &command)?; // or the first refusal, as Exists
+//! rows.absorb(&edit); // the desk with room 1
+//! ```
+//!
+//! `carry_out` of worked_desk is this pair of calls, with the desk afterwards proved.
 #![tactic(auto)]
 
 mod asking;

@@ -1,4 +1,4 @@
-//! The desk with a member in another room.
+//! A desk with a member in another room.
 
 ghost use Rattle.std.specs.Prelude.{◌≡◌, not};
 ghost use Rattle.desk_rows.specs.Row.{names};
@@ -46,9 +46,10 @@ impl<A: Allocator + Copy> Look for Moved<'_, A> {
 }
 
 impl<A: Allocator + Copy> Moved<'_, A> {
-    /// Whether the row's two sides are then in different rooms.
+    /// Whether the row names two different rooms then.
     pub(crate) fn parts(&self, row: &Row) -> bool
-        ensures { result ≡ not (are_together (with_member_in self.now.rows.now self.now.member self.now.room) (names row.now)) }
+        ensures { result
+            ≡ not (are_together (with_member_in self.now.rows.now self.now.member self.now.room) (names row.now)) }
     {
         !are_together(self, row)
     }

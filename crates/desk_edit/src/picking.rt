@@ -1,4 +1,4 @@
-//! Members picked with their places.
+//! Picks members with their places.
 
 ghost use Rattle.std.specs.Prelude.{◌≡◌, ◌++◌, [], ◌∷◌, map, IfOk, OnOk};
 ghost use Rattle.desk_edit.specs.inner.Edits.{placed_from, placed_in};
@@ -10,15 +10,15 @@ use std::alloc::{AllocError, Allocator};
 /// Which members are picked.
 #[derive(Clone, Copy)]
 pub(crate) enum Picked {
-    /// Those of this room.
+    /// The members of this room.
     In(u32),
-    /// The one of this number.
+    /// The member of this number.
     Only(u32),
     Nobody,
 }
 
 impl Picked {
-    /// Those that go with the row of this key.
+    /// The members that go with the row of this key.
     pub(crate) fn with(key: Key) -> Self
         ensures { result ≡ picked_with key }
     {
@@ -86,7 +86,7 @@ fn placed_in(room: u32, placed: &Placed) -> Placed
     }
 }
 
-/// The same members at the same places, in this room.
+/// The same members at the same places, moved to this room.
 pub(crate) fn all_placed_in<A: Allocator>(
     alloc: A,
     room: u32,

@@ -1,4 +1,4 @@
-//! Plans.
+//! Plans a command: judges it, and makes its edit.
 
 ghost use Rattle.std.specs.Prelude.{◌≡◌, ◌≢◌, true, None, Some, IfOk, IfErr, OnOk};
 ghost use Rattle.desk_rows.specs.Exchange.{fits, after};
@@ -12,8 +12,9 @@ use crate::refusing::reason_against;
 use desk_rows::{Edit, Rows};
 use std::alloc::Allocator;
 
-/// The edit that carries a command out, or its first refusal. `OutOfMemory` comes only where no other
-/// refusal holds.
+/// Plans a command: the edit that carries it out, or its first refusal. Nothing changes.
+///
+/// Out of memory is reported only if no other refusal holds.
 #[tactic(auto, using(crate::proofs::Outcomes::refused_for))]
 pub fn plan<A: Allocator + Copy>(
     alloc: A,

@@ -1,4 +1,4 @@
-//! Why calls are refused, and how each refusal is told.
+//! The refusals of calls, with their numbers and names.
 
 ghost use Rattle.std.specs.Prelude.{◌≡◌};
 ghost use Rattle.desk_edit.specs.Reasons.{refusal_for, refusal_of_group};
@@ -7,7 +7,7 @@ ghost use Rattle.desk_edit.specs.Told.{table_text, told_in, told_of};
 use crate::grouping::MAX_GROUP;
 use thiserror::Error;
 
-/// What can be full.
+/// What can be full, with a limit.
 #[derive(Clone, Copy, Debug, PartialEq, Eq)]
 pub enum Table {
     Rooms,
@@ -19,32 +19,42 @@ pub enum Table {
     RoomAudio,
 }
 
-/// What stands against a command. The first that holds is told.
+/// A reason against a command. The first that holds is reported.
 #[derive(Clone, Copy, Debug, PartialEq, Eq)]
 pub enum Reason {
-    /// The row is there, or another one stands in its place.
+    /// The row exists, or another one has its address or index.
     Exists,
+    /// There is no such room.
     NoRoom,
+    /// There is no such member.
     NoMember,
+    /// There is no such source.
     NoSource,
+    /// There is no such slot.
     NoSlot,
-    /// The source is not of the kind that is wanted.
+    /// The source sends other media than the row needs.
     WrongKind,
-    /// The two sides are in different rooms.
+    /// The row would name two different rooms.
     OtherRoom,
-    /// The SSRC is used already.
+    /// The bridge, a source or a stream has the SSRC.
     SsrcTaken,
-    /// A value is out of its range.
+    /// A value is out of range.
     BadValue,
-    /// The row stands already as it would be.
+    /// The row is already as it would be.
     Already,
-    /// There is no such row to take.
+    /// There is no such row to remove.
     NotThere,
-    Full { table: Table, limit: u32 },
+    /// A table is full.
+    Full {
+        /// The table.
+        table: Table,
+        /// Its limit.
+        limit: u32,
+    },
 }
 
 impl Reason {
-    /// What a command is refused by for this reason.
+    /// The refusal of a command for this reason.
     pub fn refusal(self) -> Refusal
         ensures { result ≡ refusal_for self }
     {
@@ -65,10 +75,9 @@ impl Reason {
     }
 }
 
-/// Why a call is refused. The first that holds is told, but for `OutOfMemory`, which comes last.
+/// Why a call is refused. Nothing changes then. The first that holds is reported, but `OutOfMemory` comes last.
 #[derive(Clone, Copy, Debug, PartialEq, Eq, Error)]
 pub enum Refusal {
-    /// The row is there, or another one stands in its place.
     #[error("it is there, or another stands in its place")]
     Exists,
     #[error("there is no such room")]
@@ -79,44 +88,36 @@ pub enum Refusal {
     NoSource,
     #[error("there is no such slot")]
     NoSlot,
-    /// The source is not of the kind that is wanted.
     #[error("the source is of another kind")]
     WrongKind,
-    /// The two sides are in different rooms.
     #[error("the two sides are in different rooms")]
     OtherRoom,
-    /// The SSRC is used already.
     #[error("the SSRC is used already")]
     SsrcTaken,
-    /// A value is out of its range.
     #[error("a value is out of its range")]
     BadValue,
-    /// The row stands already as it would be.
     #[error("it stands already as it would be")]
     Already,
-    /// There is no such row to take.
     #[error("there is nothing to take")]
     NotThere,
     #[error("there are {limit} already")]
     Full { table: Table, limit: u32 },
     #[error("out of memory")]
     OutOfMemory,
-    /// The named call is not the last accepted one, which is this.
+    /// An undo or redo names another call than the last accepted one.
     #[error("the last accepted call is {last}")]
     NewerCommand { last: u64 },
     #[error("no command is done")]
     NothingToUndo,
     #[error("no command is undone")]
     NothingToRedo,
-    /// 1,048,576 calls were accepted.
     #[error("1,048,576 calls were accepted")]
     LogFull,
     #[error("the group has no command")]
     EmptyGroup,
     #[error("the group has more than {limit} commands")]
     GroupTooLong { limit: u32 },
-    /// Something stands against this command of the group, the first one being 0, at the desk after
-    /// those before it.
+    /// A command of the group is refused on the desk after those before it. Commands count from 0.
     #[error("command {part} of the group is refused")]
     PartRefused { part: u32, why: Reason },
 }
@@ -128,7 +129,7 @@ pub enum GroupRefusal {
     Empty,
     #[error("it has more than 64 commands")]
     TooLong,
-    /// Something stands against this command, the first one being 0, at the desk after those before it.
+    /// A command is refused on the desk after those before it. Commands count from 0.
     #[error("command {part} is refused")]
     Part { part: u32, why: Reason },
     #[error("out of memory")]
@@ -136,7 +137,7 @@ pub enum GroupRefusal {
 }
 
 impl GroupRefusal {
-    /// What the call is refused by.
+    /// The refusal of the call.
     pub fn refusal(self) -> Refusal
         ensures { result ≡ refusal_of_group self }
     {
@@ -151,30 +152,34 @@ impl GroupRefusal {
     }
 }
 
-/// What a refusal carries behind its name.
+/// The values that a refusal carries behind its name.
 #[derive(Clone, Copy)]
 pub enum Carried {
+    /// No value.
     Nothing,
-    /// What is full, and how much it holds.
+    /// The table that is full, and its limit.
     Limit(Table, u32),
-    /// The last accepted call.
+    /// The number of the last accepted call.
     Last(u64),
     /// The most commands of a group.
     Most(u32),
-    /// Which command of a group, and what stands against it.
+    /// The command of the group, from 0 on, and the reason against it.
     Part(u32, Reason),
 }
 
-/// How a refusal is told.
+/// A refusal as its texts have it.
 #[derive(Clone, Copy)]
 pub struct RefusalRow {
+    /// The number, 1 to 20.
     pub number: u16,
+    /// The name.
     pub name: &'static [u8],
+    /// The values behind the name.
     pub carried: Carried,
 }
 
 impl Table {
-    /// The name of what is full.
+    /// The name of the table in texts.
     pub fn text(self) -> &'static [u8]
         ensures { result.now ≡ table_text self }
     {
@@ -201,7 +206,7 @@ fn bare(number: u16, name: &'static [u8]) -> RefusalRow
 }
 
 impl Refusal {
-    /// The refusal by its number, its name and what it carries.
+    /// The number, the name and the values of the refusal.
     pub fn told(self) -> RefusalRow
         ensures { told_in result ≡ told_of self }
     {

@@ -4,7 +4,9 @@ ghost use Rattle.std.specs.Prelude.{◌≡◌, None, Some, ◌<◌, ◌^◌, ◌
 ghost use Rattle.std.specs.Option.{option_or};
 ghost use Rattle.desk_rows.specs.Few.{listed};
 ghost use Rattle.desk_rows.specs.Row.{names};
-ghost use Rattle.desk_edit.specs.Refusals.{missing, table_of, has, is_full, first_case, lacking, rule_cases, full_cases, audio_cases, put_cases, remove_cases, move_cases, cases_of, reason_against};
+ghost use Rattle.desk_edit.specs.Refusals.{missing, table_of, has, is_full, first_case, lacking, rule_cases};
+ghost use Rattle.desk_edit.specs.Refusals.{full_cases, audio_cases, put_cases, remove_cases, move_cases, cases_of};
+ghost use Rattle.desk_edit.specs.Refusals.{reason_against};
 
 use crate::asking::{
     count_audio_in, count_audio_of, has, is_there, room_is_full, room_of_member, ssrc_is_taken,
@@ -17,7 +19,7 @@ use desk_rows::{
 };
 use std::alloc::Allocator;
 
-/// What a row of this kind is refused for where it isn't there.
+/// The reason if a row of this kind is missing.
 fn missing(kind: Kind) -> Reason
     ensures { result ≡ missing kind }
 {
@@ -50,7 +52,7 @@ fn lacks<A: Allocator + Copy>(rows: &Rows<A>, key: Key) -> Option<Reason>
     }
 }
 
-/// Against rows that have to be there.
+/// The reason against the first of these rows that is missing.
 fn lacks_any<A: Allocator + Copy>(rows: &Rows<A>, names: Few<Key>) -> Option<Reason>
     ensures { result ≡ first_case (lacking rows.now (listed names)) }
 {
@@ -61,7 +63,7 @@ fn lacks_any<A: Allocator + Copy>(rows: &Rows<A>, names: Few<Key>) -> Option<Rea
     }
 }
 
-/// Against a row whose names are there.
+/// The reason against a row if all rows that it names exist.
 #[tactic(auto, unfolding(crate::specs::Refusals::rule_cases))]
 fn breaks_rules<A: Allocator + Copy>(rows: &Rows<A>, row: &Row) -> Option<Reason>
     ensures { result ≡ first_case (rule_cases rows.now row.now) }
@@ -84,7 +86,7 @@ fn breaks_rules<A: Allocator + Copy>(rows: &Rows<A>, row: &Row) -> Option<Reason
     None
 }
 
-/// Whether a row that isn't there is one too many of its kind.
+/// Whether a new row would exceed the limit of its kind.
 fn is_full<A: Allocator + Copy>(rows: &Rows<A>, row: &Row, kind: Kind, limit: usize) -> bool
     ensures { result ≡ is_full rows.now row.now (kind, limit) }
 {
@@ -101,7 +103,7 @@ fn full(table: Table, limit: usize) -> Option<Reason>
     })
 }
 
-/// Against a row for which its table has no room.
+/// The reason against a row whose table is full.
 fn fills_table<A: Allocator + Copy>(rows: &Rows<A>, row: &Row) -> Option<Reason>
     ensures { result ≡ first_case (full_cases rows.now row.now) }
 {
@@ -123,7 +125,7 @@ fn fills_table<A: Allocator + Copy>(rows: &Rows<A>, row: &Row) -> Option<Reason>
     None
 }
 
-/// Against an audio source for which its room has no room.
+/// The reason against an audio source whose room has as many as it may have.
 fn fills_room<A: Allocator + Copy>(rows: &Rows<A>, row: &Row) -> Option<Reason>
     ensures { result ≡ first_case (audio_cases rows.now row.now) }
 {
@@ -139,7 +141,7 @@ fn fills_room<A: Allocator + Copy>(rows: &Rows<A>, row: &Row) -> Option<Reason>
     }
 }
 
-/// Against a row that is to be put.
+/// The first reason against putting a row.
 fn against_put<A: Allocator + Copy>(rows: &Rows<A>, row: &Row) -> Option<Reason>
     ensures { result ≡ first_case (put_cases rows.now row.now) }
 {
@@ -153,7 +155,7 @@ fn against_put<A: Allocator + Copy>(rows: &Rows<A>, row: &Row) -> Option<Reason>
     )
 }
 
-/// Against taking the row of this key.
+/// The first reason against removing the row of this key.
 fn against_removal<A: Allocator + Copy>(rows: &Rows<A>, key: Key) -> Option<Reason>
     ensures { result ≡ first_case (remove_cases rows.now key) }
 {
@@ -167,7 +169,7 @@ fn against_removal<A: Allocator + Copy>(rows: &Rows<A>, key: Key) -> Option<Reas
     None
 }
 
-/// Against putting a member into a room.
+/// The first reason against moving a member to a room.
 fn against_move<A: Allocator + Copy>(rows: &Rows<A>, member: u32, room: u32) -> Option<Reason>
     ensures { result ≡ first_case (move_cases rows.now member room) }
 {
@@ -186,7 +188,7 @@ fn against_move<A: Allocator + Copy>(rows: &Rows<A>, member: u32, room: u32) -> 
     None
 }
 
-/// The first reason against a command, want of memory apart.
+/// The first reason against a command. Out of memory is none of them.
 #[tactic(auto, unfolding(crate::specs::Refusals::reason_against))]
 pub(crate) fn reason_against<A: Allocator + Copy>(
     rows: &Rows<A>,

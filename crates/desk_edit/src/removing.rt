@@ -1,5 +1,5 @@
-//! What a removal takes. Sources and slots that go are listed first: whatever else goes is told by them, by the
-//! members and by the key.
+//! Finds what a removal takes. It lists the sources and slots that go first. The members, these and the key decide what
+//! else goes.
 
 ghost use Rattle.std.specs.Prelude.{◌≡◌, ◌≤◌, ◌&&◌, ◌||◌, ◌++◌, true, false, [], filter, IfOk, OnOk};
 ghost use Rattle.std.specs.List.{list_any};
@@ -25,13 +25,14 @@ pub(crate) fn members_going<A: Allocator + Copy>(
     rows: &Rows<A>,
     key: Key,
 ) -> Result<Vec<Placed, A>, AllocError>
-    ensures members { IfOk result (λ v. v.items ≡ placed_from 0 (λ m. goes_with rows.now key (MemberRow m)) rows.now.members) }
+    ensures members { IfOk result
+        (λ v. v.items ≡ placed_from 0 (λ m. goes_with rows.now key (MemberRow m)) rows.now.members) }
     ensures good { good rows.now ≡ true }
 {
     members_picked(alloc, rows.members(), Picked::with(key))
 }
 
-/// The row that was found, if there is one.
+/// The row that was found, as a list.
 fn found_alone<A: Allocator>(alloc: A, found: Option<Row>) -> Result<Vec<Row, A>, AllocError>
     ensures { IfOk result (λ v. v.items ≡ found_list found) }
 {
@@ -41,7 +42,7 @@ fn found_alone<A: Allocator>(alloc: A, found: Option<Row>) -> Result<Vec<Row, A>
     }
 }
 
-/// The rows of these that name members at most and go.
+/// The rows among these that go, of kinds that name members at most.
 fn going_by_members<A: Allocator + Copy>(
     alloc: A,
     going: &Going<'_, A>,
@@ -65,8 +66,11 @@ fn streams_going<A: Allocator + Copy>(
 ) -> Result<Vec<Row, A>, AllocError>
     requires kind { level kind ≡ 2 }
     requires low { level (kind_of going.now.key) ≤ 2 }
-    requires nobody { nobody ≡ true → list_any (λ m. goes_with going.now.rows.now going.now.key (MemberRow m)) going.now.rows.now.members ≡ false }
-    ensures { IfOk result (λ v. v.items ≡ filter (goes_with going.now.rows.now going.now.key) (filter (is_of kind) going.now.rows.now.others)) }
+    requires nobody { nobody ≡ true
+        → list_any (λ m. goes_with going.now.rows.now going.now.key (MemberRow m)) going.now.rows.now.members ≡ false }
+    ensures { IfOk result
+        (λ v. v.items
+        ≡ filter (goes_with going.now.rows.now going.now.key) (filter (is_of kind) going.now.rows.now.others)) }
 {
     if !can_go(kind, going.key.kind()) {
         return Ok(Vec::new(alloc));
@@ -80,7 +84,7 @@ fn streams_going<A: Allocator + Copy>(
     going_by_members(alloc, going, going.rows.others_of(kind))
 }
 
-/// What goes with a row, as far as other rows name it: the sources and the slots.
+/// A removal, with the sources and slots that go.
 #[derive(Drop)]
 pub(crate) struct Gone<'a, A: Allocator + Copy> {
     going: Going<'a, A>,
@@ -89,15 +93,19 @@ pub(crate) struct Gone<'a, A: Allocator + Copy> {
     sources: Vec<Row, A>,
     slots: Vec<Row, A>,
     ghost low: { level (kind_of going.key) ≤ 2 },
-    ghost members: { nobody ≡ true → list_any (λ m. goes_with going.rows.now going.key (MemberRow m)) going.rows.now.members ≡ false },
-    ghost sources_go: { sources.items ≡ filter (goes_with going.rows.now going.key) (filter (is_of kinds.Source) going.rows.now.others) },
-    ghost slots_go: { slots.items ≡ filter (goes_with going.rows.now going.key) (filter (is_of kinds.Slot) going.rows.now.others) },
+    ghost members: { nobody ≡ true
+        → list_any (λ m. goes_with going.rows.now going.key (MemberRow m)) going.rows.now.members ≡ false },
+    ghost sources_go: { sources.items
+        ≡ filter (goes_with going.rows.now going.key) (filter (is_of kinds.Source) going.rows.now.others) },
+    ghost slots_go: { slots.items
+        ≡ filter (goes_with going.rows.now going.key) (filter (is_of kinds.Slot) going.rows.now.others) },
 }
 
 impl<'a, A: Allocator + Copy> Gone<'a, A> {
     fn with(alloc: A, going: Going<'a, A>, nobody: bool) -> Result<Self, AllocError>
         requires low { level (kind_of going.key) ≤ 2 }
-        requires nobody { nobody ≡ true → list_any (λ m. goes_with going.rows.now going.key (MemberRow m)) going.rows.now.members ≡ false }
+        requires nobody { nobody ≡ true
+            → list_any (λ m. goes_with going.rows.now going.key (MemberRow m)) going.rows.now.members ≡ false }
         ensures rows { IfOk result (λ x. x.going.rows.now ≡ going.entry.rows.now) }
         ensures key { IfOk result (λ x. x.going.key ≡ going.entry.key) }
     {
@@ -113,7 +121,10 @@ impl<'a, A: Allocator + Copy> Gone<'a, A> {
 
     /// Whether a row of this name goes.
     fn goes(&self, name: Key) -> bool
-        ensures { result ≡ list_any (λ s. has_key name s && goes_within 2 self.now.going.rows.now self.now.going.key s) (rows_of self.now.going.rows.now) }
+        ensures { result
+            ≡ list_any
+            (λ s. has_key name s
+            && goes_within 2 self.now.going.rows.now self.now.going.key s) (rows_of self.now.going.rows.now) }
     {
         match name {
             Key::Source(_) => find_row(&self.sources, name).is_some(),
@@ -134,9 +145,12 @@ impl<'a, A: Allocator + Copy> Gone<'a, A> {
         row.has_key(self.going.key) || named
     }
 
-    /// Whether a member goes that hears.
+    /// Whether the member that hears goes.
     fn listener_goes(&self, member: u32) -> bool
-        ensures { result ≡ list_any (λ s. has_key (Key.Member member) s && goes_within 2 self.now.going.rows.now self.now.going.key s) (rows_of self.now.going.rows.now) }
+        ensures { result
+            ≡ list_any
+            (λ s. has_key (Key.Member member) s
+            && goes_within 2 self.now.going.rows.now self.now.going.key s) (rows_of self.now.going.rows.now) }
     {
         match self.going.key {
             Key::Member(number) => number == member && self.going.is_there,
@@ -144,9 +158,12 @@ impl<'a, A: Allocator + Copy> Gone<'a, A> {
         }
     }
 
-    /// Whether a source goes that is heard. Few are gone over, many are halved.
+    /// Whether the source that is heard goes: linear search up to 8 sources, binary search beyond.
     fn sound_goes(&self, ssrc: u32) -> bool
-        ensures { result ≡ list_any (λ s. has_key (Key.Source ssrc) s && goes_within 2 self.now.going.rows.now self.now.going.key s) (rows_of self.now.going.rows.now) }
+        ensures { result
+            ≡ list_any
+            (λ s. has_key (Key.Source ssrc) s
+            && goes_within 2 self.now.going.rows.now self.now.going.key s) (rows_of self.now.going.rows.now) }
     {
         if self.sources.len() > FEW {
             return self.goes(Key::Source(ssrc));
@@ -154,7 +171,7 @@ impl<'a, A: Allocator + Copy> Gone<'a, A> {
         any_source(&self.sources, ssrc)
     }
 
-    /// Whether the gain goes, with who hears or with what is heard.
+    /// Whether the gain goes, with its member or with its source.
     fn takes_gain(&self, row: &Row) -> bool
         ensures { result ≡ goes_with self.now.going.rows.now self.now.going.key row.now }
     {
@@ -166,7 +183,8 @@ impl<'a, A: Allocator + Copy> Gone<'a, A> {
 
     /// The rows of these that go.
     fn among(&self, alloc: A, others: &[Row]) -> Result<Vec<Row, A>, AllocError>
-        ensures { IfOk result (λ v. v.items ≡ filter (goes_with self.now.going.rows.now self.now.going.key) others.now) }
+        ensures { IfOk result
+            (λ v. v.items ≡ filter (goes_with self.now.going.rows.now self.now.going.key) others.now) }
     {
         others
             .iter()
@@ -175,9 +193,12 @@ impl<'a, A: Allocator + Copy> Gone<'a, A> {
             .collect(alloc)
     }
 
-    /// The subscriptions that go: none where no source and no slot does.
+    /// The subscriptions that go: none if no source and no slot goes.
     fn subs(&self, alloc: A) -> Result<Vec<Row, A>, AllocError>
-        ensures { IfOk result (λ v. v.items ≡ filter (goes_with self.now.going.rows.now self.now.going.key) (filter (is_of kinds.Sub) self.now.going.rows.now.others)) }
+        ensures { IfOk result
+            (λ v. v.items
+            ≡ filter (goes_with self.now.going.rows.now self.now.going.key)
+            (filter (is_of kinds.Sub) self.now.going.rows.now.others)) }
     {
         if self.sources.is_empty() && self.slots.is_empty() {
             return Ok(Vec::new(alloc));
@@ -185,9 +206,12 @@ impl<'a, A: Allocator + Copy> Gone<'a, A> {
         self.among(alloc, self.going.rows.others_of(Kind::Sub))
     }
 
-    /// The mutes that go: none where no source does.
+    /// The mutes that go: none if no source goes.
     fn mutes(&self, alloc: A) -> Result<Vec<Row, A>, AllocError>
-        ensures { IfOk result (λ v. v.items ≡ filter (goes_with self.now.going.rows.now self.now.going.key) (filter (is_of kinds.Mute) self.now.going.rows.now.others)) }
+        ensures { IfOk result
+            (λ v. v.items
+            ≡ filter (goes_with self.now.going.rows.now self.now.going.key)
+            (filter (is_of kinds.Mute) self.now.going.rows.now.others)) }
     {
         if self.sources.is_empty() {
             return Ok(Vec::new(alloc));
@@ -195,9 +219,12 @@ impl<'a, A: Allocator + Copy> Gone<'a, A> {
         self.among(alloc, self.going.rows.others_of(Kind::Mute))
     }
 
-    /// The gains that go, each asked.
+    /// The gains that go, by a test of each.
     fn gains_asked(&self, alloc: A) -> Result<Vec<Row, A>, AllocError>
-        ensures { IfOk result (λ v. v.items ≡ filter (goes_with self.now.going.rows.now self.now.going.key) (filter (is_of kinds.Gain) self.now.going.rows.now.others)) }
+        ensures { IfOk result
+            (λ v. v.items
+            ≡ filter (goes_with self.now.going.rows.now self.now.going.key)
+            (filter (is_of kinds.Gain) self.now.going.rows.now.others)) }
     {
         self.going
             .rows
@@ -208,9 +235,12 @@ impl<'a, A: Allocator + Copy> Gone<'a, A> {
             .collect(alloc)
     }
 
-    /// The gains that go. Where no source that can be heard does, they are the member's own.
+    /// The gains that go. If no audio source goes, they are the member's own.
     fn gains(&self, alloc: A) -> Result<Vec<Row, A>, AllocError>
-        ensures { IfOk result (λ v. v.items ≡ filter (goes_with self.now.going.rows.now self.now.going.key) (filter (is_of kinds.Gain) self.now.going.rows.now.others)) }
+        ensures { IfOk result
+            (λ v. v.items
+            ≡ filter (goes_with self.now.going.rows.now self.now.going.key)
+            (filter (is_of kinds.Gain) self.now.going.rows.now.others)) }
     {
         if any_sound(&self.sources) {
             return self.gains_asked(alloc);
@@ -226,7 +256,10 @@ impl<'a, A: Allocator + Copy> Gone<'a, A> {
 
     /// The rows of this kind that go.
     fn of_kind(&self, alloc: A, kind: Kind) -> Result<Vec<Row, A>, AllocError>
-        ensures { IfOk result (λ v. v.items ≡ filter (goes_with self.now.going.rows.now self.now.going.key) (filter (is_of kind) self.now.going.rows.now.others)) }
+        ensures { IfOk result
+            (λ v. v.items
+            ≡ filter (goes_with self.now.going.rows.now self.now.going.key)
+            (filter (is_of kind) self.now.going.rows.now.others)) }
     {
         match kind {
             Kind::Source => Vec::from_slice(alloc, &self.sources),
@@ -240,15 +273,20 @@ impl<'a, A: Allocator + Copy> Gone<'a, A> {
 
     /// Appends the rows of this kind that go.
     fn append(&self, alloc: A, kind: Kind, out: &mut Vec<Row, A>) -> Result<(), AllocError>
-        ensures { OnOk result (out.new.items ≡ out.old.items ++ filter (goes_with self.now.going.rows.now self.now.going.key) (filter (is_of kind) self.now.going.rows.now.others)) }
+        ensures { OnOk result (out.new.items
+            ≡ out.old.items
+            ++ filter (goes_with self.now.going.rows.now self.now.going.key)
+            (filter (is_of kind) self.now.going.rows.now.others)) }
     {
         let these = self.of_kind(alloc, kind)?;
         out.extend_from_slice(&these)
     }
 
-    /// All that goes beside members.
+    /// All other rows that go.
     fn all(&self, alloc: A) -> Result<Vec<Row, A>, AllocError>
-        ensures { IfOk result (λ v. v.items ≡ filter (goes_with self.now.going.rows.now self.now.going.key) self.now.going.rows.now.others) }
+        ensures { IfOk result
+            (λ v. v.items
+            ≡ filter (goes_with self.now.going.rows.now self.now.going.key) self.now.going.rows.now.others) }
     {
         let mut out = Vec::new(alloc);
         self.append(alloc, Kind::Gain, &mut out)?;
@@ -263,7 +301,7 @@ impl<'a, A: Allocator + Copy> Gone<'a, A> {
     }
 }
 
-/// How many sources are gone over one by one.
+/// The most sources for a linear search.
 const FEW: usize = 8;
 
 fn is_source(row: &Row, ssrc: u32) -> bool
@@ -297,7 +335,7 @@ fn any_sound(rows: &[Row]) -> bool
     rows.iter().any(|row| is_sound(row))
 }
 
-/// The other rows that go: of a kind that no row names, the row of the key alone.
+/// The rows beside members that go. If no row can name the key's kind, that is its row alone.
 pub(crate) fn others_going<A: Allocator + Copy>(
     alloc: A,
     rows: &Rows<A>,
