@@ -1,6 +1,6 @@
 //! What an operator has not read yet.
 
-ghost use Rattle.std.specs.Prelude.{◌≡◌, ◌++◌, ◌≤◌, ℕ, List, [], length, take, drop, nat_eq, OnOk, OnErr};
+ghost use Rattle.std.specs.Prelude.{◌≡◌, ◌++◌, ◌≤◌, ◌+◌, ℕ, List, [], length, take, drop, nat_eq, OnOk, OnErr};
 ghost use Rattle.udp_front.specs.Outbound.{piece, is_too_much};
 
 use std::alloc::{AllocError, Allocator, Global};
@@ -12,8 +12,8 @@ const UNREAD_LIMIT: usize = 4_194_304;
 /// How many octets are written at a time at most.
 const PIECE: usize = 65_536;
 
-/// The octets that wait to be written to an operator.
-/// Contracts see those, oldest first.
+/// The octets that wait to be written to an operator. The buffer holds no more written octets than waiting ones.
+/// Contracts see those that wait, oldest first.
 #[derive(Drop)]
 pub struct Outgoing<A: Allocator + Copy = Global> {
     octets: Vec<u8, A>,
@@ -26,7 +26,7 @@ impl<A: Allocator + Copy> Model for Outgoing<A> {
 
     ghost view = { λ o. drop o.written o.octets.items };
 
-    ghost invariant = { λ o. o.written ≤ length o.octets.items };
+    ghost invariant = { λ o. o.written + o.written ≤ length o.octets.items };
 }
 
 impl<A: Allocator + Copy> Outgoing<A> {
@@ -73,25 +73,11 @@ impl<A: Allocator + Copy> Outgoing<A> {
         self.waiting().len() > UNREAD_LIMIT
     }
 
-    /// Forgets what is written, in place.
-    fn compact(&mut self)
-        ensures { self.new ≡ self.old }
-    {
-        let waiting = self.octets.len() - self.written;
-        self.octets.copy_within(self.written.., 0);
-        self.octets.truncate(waiting);
-        self.written = 0;
-    }
-
     /// Lets more wait, behind the rest. An `Err` changes nothing.
     pub fn append(&mut self, text: &[u8]) -> Result<(), AllocError>
         ensures ok { OnOk result (self.new ≡ self.old ++ text.now) }
         ensures err { OnErr result (self.new ≡ self.old) }
     {
-        // So each octet is moved once at most, whatever is appended.
-        if self.written > self.octets.len() / 2 {
-            self.compact();
-        }
         self.octets.extend_from_slice(text)
     }
 
@@ -99,11 +85,16 @@ impl<A: Allocator + Copy> Outgoing<A> {
     pub fn took(&mut self, count: usize)
         ensures { self.new ≡ drop count self.old }
     {
-        if count < self.waiting().len() {
-            self.written += count;
-        } else {
-            self.octets.clear();
+        let waiting = self.waiting().len();
+        let left = waiting.saturating_sub(count);
+        let written = self.octets.len() - left;
+        // So no more octets are moved than are written.
+        if written > left {
+            self.octets.copy_within(written.., 0);
+            self.octets.truncate(left);
             self.written = 0;
+        } else {
+            self.written = written;
         }
     }
 }
