@@ -1,0 +1,6 @@
+pub mod Edits
+pub mod Desk
+pub mod Following
+pub mod Accepted
+pub mod laws
+pub mod inner

@@ -1,0 +1,265 @@
+//! The desk, and the two halves of a call.
+
+ghost use Rattle.std.specs.Prelude.{◌≡◌, ◌+◌, ◌++◌, ◌∷◌, ◌<◌, ◌≤◌, true, [], length, None, IfOk, IfErr, OnOk, OnErr};
+ghost use Rattle.desk_rows.specs.Desk.{good};
+ghost use Rattle.desk_edit.specs.Asked.{asked_by, CallOf};
+ghost use Rattle.desk_edit.specs.Calls.{call_limit, CallHistory, no_calls, after_call, refusal_of};
+ghost use Rattle.desk_calls.specs.Edits.{fits, after};
+ghost use Rattle.desk_calls.specs.Desk.{DeskOf, IsReason, IsReady, Does, UndoesEdit, RedoesEdit};
+ghost use Rattle.desk_calls.specs.Following.{HasCalled, IsTold};
+
+use crate::judging::log_is_full;
+use crate::prepared::Prepared;
+use desk_edit::{Call, Command, Refusal};
+use desk_rows::{Edit, Rows};
+use std::alloc::{AllocError, Allocator, Global};
+use std::marker::Model;
+use undo_log::{Edits, History, Listed, Reversible};
+
+/// The rows of a desk with the history of its calls. Version n is the desk after n accepted calls.
+///
+/// A call has two halves. `prepare` judges it and takes all memory that it needs, and changes no row;
+/// `commit` then carries it out without memory. Between the two a caller can publish what `edit_of`
+/// gives, or give the call up.
+#[derive(Drop)]
+pub struct Desk<A: Allocator + Copy = Global> {
+    version: u64,
+    history: History<Listed<Rows<A>>>,
+}
+
+impl<A: Allocator + Copy> Model for Desk<A> {
+    ghost use Rattle.desk_calls.specs.Desk.{DeskOf};
+    ghost use Rattle.desk_calls.specs.inner.Sound.{IsSound};
+
+    ghost Value = { DeskOf };
+
+    ghost view = { λ d. record {
+      version = d.version;
+      desk = d.history.state;
+      done = d.history.done;
+      undone = d.history.undone;
+      room = d.history.room;
+    } };
+
+    ghost invariant = { λ d. IsSound d.version d.history.state d.history.done };
+}
+
+impl<A: Allocator + Copy> Desk<A> {
+    /// The desk before any call.
+    pub fn new(alloc: A, rows: Rows<A>) -> Self
+        ensures begins { HasCalled result (no_calls rows) }
+        ensures lists { (result.done ≡ []) × (result.undone ≡ []) }
+    {
+        // Rows are good, which is known where the members are read.
+        let _members = rows.members();
+        Self {
+            version: 0,
+            history: History::new(alloc, Listed::new(rows)),
+        }
+    }
+
+    pub fn rows(&self) -> &Rows<A>
+        ensures rows { result.now ≡ self.now.desk }
+        ensures good { good self.now.desk ≡ true }
+    {
+        self.history.state().inner()
+    }
+
+    /// How many calls were accepted.
+    pub fn version(&self) -> u64
+        ensures version { result ≡ self.now.version }
+        ensures limit { result ≤ call_limit }
+    {
+        self.version
+    }
+
+    /// Judges a call and takes all memory that it needs, or answers the first reason against it. The
+    /// rows and what is done and undone stay as they are.
+    ///
+    /// A command is refused by the first reason that `plan` finds, then because of the log, then on
+    /// out of memory; a group because of its size, then because of the log, then by what
+    /// `plan_group` finds; an undo because a newer call was accepted, then because nothing is
+    /// left to undo, then because of the log; a redo alike, where nothing is undone.
+    pub fn prepare(&mut self, alloc: A, call: &Call<A>) -> Result<Prepared<A>, Refusal>
+        ensures ready { IfOk result (λ prepared. IsReady self.new (asked_by call.now) prepared) }
+        ensures free { OnOk result ((h : CallHistory) → HasCalled self.old h →
+            refusal_of h (asked_by call.now) ≡ None) }
+        ensures why { IfErr result (λ why. IsReason self.old (asked_by call.now) why) }
+        ensures told { IfErr result (λ why. (h : CallHistory) → HasCalled self.old h →
+            IsTold h (asked_by call.now) why) }
+        ensures same { self.new ≡ record self.old { room = self.new.room } }
+        ensures good { good self.new.desk ≡ true }
+        ensures history { (h : CallHistory) → HasCalled self.old h → HasCalled self.new h }
+    {
+        // A desk is good, which is known where a field is read.
+        let _version = self.version;
+        self.judge(alloc, call)
+    }
+
+    /// Judges a call and takes its memory.
+    fn judge(&mut self, alloc: A, call: &Call<A>) -> Result<Prepared<A>, Refusal>
+        ensures ready { IfOk result (λ prepared. IsReady self.new (asked_by call.now) prepared) }
+        ensures why { IfErr result (λ why. IsReason self.old (asked_by call.now) why) }
+        ensures same { self.new ≡ record self.old { room = self.new.room } }
+    {
+        match call {
+            Call::Apply(command) => self.judge_command(alloc, command),
+            Call::Group(commands) => self.judge_group(alloc, commands),
+            Call::Undo { last } => self.judge_undo(*last),
+            Call::Redo { last } => self.judge_redo(*last),
+        }
+    }
+
+    fn judge_command(&mut self, alloc: A, command: &Command) -> Result<Prepared<A>, Refusal>
+        ensures ready { IfOk result (λ prepared. IsReady self.new (CallOf.Apply command.now) prepared) }
+        ensures why { IfErr result (λ why. IsReason self.old (CallOf.Apply command.now) why) }
+        ensures same { self.new ≡ record self.old { room = self.new.room } }
+    {
+        let edits = self.planned(alloc, command)?;
+        self.reserve()?;
+        Ok(Prepared::Apply(edits))
+    }
+
+    fn judge_group(&mut self, alloc: A, commands: &[Command]) -> Result<Prepared<A>, Refusal>
+        ensures ready { IfOk result (λ prepared. IsReady self.new (CallOf.Group commands.now) prepared) }
+        ensures why { IfErr result (λ why. IsReason self.old (CallOf.Group commands.now) why) }
+        ensures same { self.new ≡ record self.old { room = self.new.room } }
+    {
+        let edits = self.planned_group(alloc, commands)?;
+        self.reserve()?;
+        Ok(Prepared::Apply(edits))
+    }
+
+    /// Takes the memory of one more entry of the history.
+    fn reserve(&mut self) -> Result<(), Refusal>
+        ensures room { OnOk result (0 < self.new.room) }
+        ensures memory { OnErr result (result ≡ Err Refusal.OutOfMemory) }
+        ensures same { self.new ≡ record self.old { room = self.new.room } }
+    {
+        // No more calls are done than were accepted, so a log that was judged has capacity.
+        match self.history.reserve() {
+            Ok(()) => Ok(()),
+            Err(_) => Err(Refusal::OutOfMemory),
+        }
+    }
+
+    fn judge_undo(&self, last: u64) -> Result<Prepared<A>, Refusal>
+        ensures ready { IfOk result (λ prepared. IsReady self.now (CallOf.Undo last) prepared) }
+        ensures why { IfErr result (λ why. IsReason self.now (CallOf.Undo last) why) }
+    {
+        let version = self.version;
+        if last != version {
+            return Err(Refusal::NewerCommand { last: version });
+        }
+        if self.history.done_len() == 0 {
+            return Err(Refusal::NothingToUndo);
+        }
+        if log_is_full(version) {
+            return Err(Refusal::LogFull);
+        }
+        Ok(Prepared::Undo)
+    }
+
+    fn judge_redo(&self, last: u64) -> Result<Prepared<A>, Refusal>
+        ensures ready { IfOk result (λ prepared. IsReady self.now (CallOf.Redo last) prepared) }
+        ensures why { IfErr result (λ why. IsReason self.now (CallOf.Redo last) why) }
+    {
+        let version = self.version;
+        if last != version {
+            return Err(Refusal::NewerCommand { last: version });
+        }
+        if self.history.undone_len() == 0 {
+            return Err(Refusal::NothingToRedo);
+        }
+        if log_is_full(version) {
+            return Err(Refusal::LogFull);
+        }
+        Ok(Prepared::Redo)
+    }
+
+    /// A copy of the edits that `commit` will absorb, for whoever publishes them.
+    pub fn edit_of(
+        &self,
+        alloc: A,
+        call: &Call<A>,
+        prepared: &Prepared<A>,
+    ) -> Result<Edits<Edit<A>, A>, AllocError>
+        requires { IsReady self.now (asked_by call.now) prepared.now }
+        ensures leads { IfOk result (λ edits.
+            (new : DeskOf) → Does self.now new (asked_by call.now) → after self.now.desk edits ≡ new.desk) }
+    {
+        match prepared {
+            Prepared::Apply(edits) => <Listed<Rows<A>> as Reversible>::copy(alloc, edits),
+            Prepared::Undo => match self.history.undo_edit(alloc) {
+                Ok(edits) => Ok(edits),
+                Err(_) => Err(AllocError),
+            },
+            Prepared::Redo => match self.history.redo_edit(alloc) {
+                Ok(edits) => Ok(edits),
+                Err(_) => Err(AllocError),
+            },
+        }
+    }
+
+    /// Carries out a call that was prepared, without memory, and answers its number.
+    pub fn commit(&mut self, call: &Call<A>, prepared: Prepared<A>) -> u64
+        requires { IsReady self.old (asked_by call.now) prepared }
+        ensures does { Does self.old self.new (asked_by call.now) }
+        ensures version { (result ≡ self.old.version + 1) × (self.new.version ≡ result) }
+        ensures history { (h : CallHistory) → HasCalled self.old h →
+            HasCalled self.new (after_call h (asked_by call.now)) }
+        ensures good { good self.new.desk ≡ true }
+    {
+        self.carry_out(call, prepared);
+        self.version
+    }
+
+    fn carry_out(&mut self, call: &Call<A>, prepared: Prepared<A>)
+        requires { IsReady self.old (asked_by call.now) prepared }
+        ensures does { Does self.old self.new (asked_by call.now) }
+        ensures version { self.new.version ≡ self.old.version + 1 }
+    {
+        match prepared {
+            Prepared::Apply(edits) => self.apply(edits),
+            Prepared::Undo => self.undo(),
+            Prepared::Redo => self.redo(),
+        }
+    }
+
+    fn apply(&mut self, edits: Edits<Edit<A>, A>)
+        requires fits { fits self.old.desk edits ≡ true }
+        requires room { (0 < self.old.room) × (self.old.version < call_limit) }
+        ensures does { (self.new.desk ≡ after self.old.desk edits)
+            × (self.new.done ≡ self.old.done ++ edits ∷ [])
+            × (self.new.undone ≡ []) }
+        ensures version { self.new.version ≡ self.old.version + 1 }
+    {
+        // The history has room for the edits, and no more calls are done than were accepted.
+        if self.history.push(edits).is_err() {
+            unreachable!();
+        }
+        self.version += 1;
+    }
+
+    fn undo(&mut self)
+        requires some { (0 < length self.old.done) × (self.old.version < call_limit) }
+        ensures does { UndoesEdit self.old self.new }
+        ensures version { self.new.version ≡ self.old.version + 1 }
+    {
+        if self.history.undo().is_err() {
+            unreachable!();
+        }
+        self.version += 1;
+    }
+
+    fn redo(&mut self)
+        requires some { (0 < length self.old.undone) × (self.old.version < call_limit) }
+        ensures does { RedoesEdit self.old self.new }
+        ensures version { self.new.version ≡ self.old.version + 1 }
+    {
+        if self.history.redo().is_err() {
+            unreachable!();
+        }
+        self.version += 1;
+    }
+}
