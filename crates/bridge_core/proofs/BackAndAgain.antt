@@ -7,17 +7,17 @@ use Rattle.std.proofs.Math.Seq.{drop-append_seam}
 use Rattle.undo_log.specs.Timeline.{rewound}
 use Rattle.desk_rows.specs.Desk.{Desk}
 use Rattle.desk_rows.specs.Edit.{EditOf}
-use Rattle.bridge_core.specs.Edits.{fits, after, inverse}
-use Rattle.bridge_core.proofs.EditLaws.{undoes}
+use Rattle.desk_calls.specs.Edits.{fits, after, inverse}
+use Rattle.desk_calls.specs.laws.EditLaws.{undoes, rewound_one_more}
+use Rattle.desk_calls.specs.Desk.{Does, DoesEdit, UndoesEdit, RedoesEdit}
 use Rattle.desk_edit.specs.Asked.{CallOf as Call}
 use Rattle.desk_edit.specs.Asked.CallOf.{Apply, Group, Undo, Redo}
 use Rattle.desk_edit.specs.Calls.{call_limit, refusal_at}
 use Rattle.bridge_core.specs.declared.reply.Reply.{Reply}
 use Rattle.bridge_core.specs.declared.reply.Reply.TheVariants.{Accepted, Refused}
-use Rattle.bridge_core.specs.Steps.{CoreOf}
-use Rattle.bridge_core.specs.Calls.{Answers, Does, DoesEdit, UndoesEdit, RedoesEdit}
+use Rattle.bridge_core.specs.Steps.{CoreOf, core_desk}
+use Rattle.bridge_core.specs.Calls.{Answers}
 use Rattle.bridge_core.specs.UndoRuns.{AnswersAll, HasCommands, AcceptsAll, UndoesInARow, RedoesInARow, IsAsWas, undos, redos, all_accepted}
-use Rattle.bridge_core.proofs.FollowLaws.{rewound_one_more}
 
 -- ---- one call
 
@@ -28,14 +28,14 @@ free_redo : (version done undone : ℕ) (d : Desk) → 0 < undone → version < 
 free_redo version done undone d some room = grind arith
 
 undo_accepted : (old new : CoreOf) (reply : Reply) → Answers old new (Undo old.version) reply → 0 < length old.done → old.version < call_limit
-    → (reply ≡ Accepted (old.version + 1)) × (new.version ≡ old.version + 1) × UndoesEdit old new
+    → (reply ≡ Accepted (old.version + 1)) × (new.version ≡ old.version + 1) × UndoesEdit (core_desk old) (core_desk new)
 undo_accepted old new (Accepted number) by some room = (ap Accepted by.0, by.1 ∙ by.0, by.4)
 undo_accepted old new (Refused at why) by some room =
     let no : None ≡ Some why = sym (free_undo old.version (length old.done) (length old.undone) old.desk some room) ∙ by.2 in
     absurd cc
 
 redo_accepted : (old new : CoreOf) (reply : Reply) → Answers old new (Redo old.version) reply → 0 < length old.undone → old.version < call_limit
-    → (reply ≡ Accepted (old.version + 1)) × (new.version ≡ old.version + 1) × RedoesEdit old new
+    → (reply ≡ Accepted (old.version + 1)) × (new.version ≡ old.version + 1) × RedoesEdit (core_desk old) (core_desk new)
 redo_accepted old new (Accepted number) by some room = (ap Accepted by.0, by.1 ∙ by.0, by.4)
 redo_accepted old new (Refused at why) by some room =
     let no : None ≡ Some why = sym (free_redo old.version (length old.done) (length old.undone) old.desk some room) ∙ by.2 in
@@ -100,7 +100,7 @@ one_more_done first next last n es e fit desk done rest = record {
       ∙ undoes first.desk e fit;
 }
 
-one_more_undone : (first next last : CoreOf) (n : ℕ) (es : List (List EditOf)) (does : UndoesEdit first next) → HasUndone next last n es → HasUndone first last (suc n) (es ++ does.0 ∷ [])
+one_more_undone : (first next last : CoreOf) (n : ℕ) (es : List (List EditOf)) (does : UndoesEdit (core_desk first) (core_desk next)) → HasUndone next last n es → HasUndone first last (suc n) (es ++ does.0 ∷ [])
 one_more_undone first next last n es does rest =
     let e = does.0 in
     record {
@@ -111,7 +111,7 @@ one_more_undone first next last n es does rest =
       back = rest.back ∙ ap (λ d. rewound after inverse d (reverse es)) does.4 ∙ ap (rewound after inverse first.desk) (sym (reverse_pushed es e));
     }
 
-one_more_redone : (first next last : CoreOf) (n : ℕ) (es : List (List EditOf)) (does : RedoesEdit first next) → HasRedone next last n es → HasRedone first last (suc n) (does.0 ∷ es)
+one_more_redone : (first next last : CoreOf) (n : ℕ) (es : List (List EditOf)) (does : RedoesEdit (core_desk first) (core_desk next)) → HasRedone next last n es → HasRedone first last (suc n) (does.0 ∷ es)
 one_more_redone first next last n es does rest =
     let e = does.0 in
     record {
@@ -126,7 +126,7 @@ one_more_accepted : (version next n : ℕ) (reply : Reply) (replies later : List
 one_more_accepted version next n reply replies later is first takes rest =
     is ∙ ap (λ r. r ∷ later) first ∙ ap (λ rs. Accepted (version + 1) ∷ rs) (rest ∙ ap (λ v. all_accepted v n) takes)
 
-does_edit : (old new : CoreOf) (call : Call) → HasCommands call → Does old new call → DoesEdit old new
+does_edit : (old new : CoreOf) (call : Call) → HasCommands call → Does (core_desk old) (core_desk new) call → DoesEdit (core_desk old) (core_desk new)
 does_edit old new (Apply command) has does = does.1
 does_edit old new (Group commands) has does = does.1
 does_edit old new (Undo last) has does = absurd has

@@ -18,6 +18,5 @@ pub mod MixesHeard
 pub mod WholeRunLaws
 pub mod LaneCount
 pub mod EveryLaneLaws
-pub mod EditLaws
-mod FollowLaws
+mod DeskCalls
 mod BackAndAgain

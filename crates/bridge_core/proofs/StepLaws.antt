@@ -1,15 +1,9 @@
 -- One more step.
-use Rattle.std.proofs.Common.{◌≡◌, ℕ, ◌+◌, Bool, true, false, cond, nat_eq, nat_lt, ◌≤◌, List, [], ◌∷◌, ◌++◌, length, set, None, Some, refl, sym, ap, subst, ◌∙◌, arith, append-nil, append_assoc, inl, inr, ◌⊎◌, ◌≢◌, zero, suc, eq-eqb, length-set}
-use Rattle.std.specs.Prelude.{slice_get, OnOk, Result, Ok, Err}
-use Rattle.std.specs.Result.{is_err}
+use Rattle.std.proofs.Common.{◌≡◌, ℕ, ◌+◌, true, false, cond, nat_eq, nat_lt, ◌≤◌, List, [], ◌∷◌, ◌++◌, length, set, None, Some, refl, sym, ap, subst, ◌∙◌, arith, append-nil, append_assoc, inl, inr, ◌⊎◌, ◌≢◌, zero, suc, eq-eqb, length-set}
+use Rattle.std.specs.Prelude.{slice_get}
 use Rattle.std.proofs.lemmas.Bool.Decides.{nat_tests}
 use Rattle.std.proofs.lemmas.List.{length_push}
-use Rattle.desk_rows.specs.Edit.{EditOf}
-use Rattle.desk_rows.specs.Desk.{Desk, good}
-use Rattle.desk_rows.specs.Exchange.{fits, exchanged, after}
-use Rattle.desk_rows.specs.laws.Laws.{fits_parts}
-use Rattle.desk_edit.specs.Asked.CallOf.{Undo, Redo}
-use Rattle.desk_edit.specs.Calls.{call_limit, refusal_at}
+use Rattle.desk_rows.specs.Desk.{Desk}
 use Rattle.mixer.specs.Mixers.{WasGiven}
 use Rattle.intake.specs.Inputs.{Input}
 use Rattle.feedback.specs.Upstream.{Asker}
@@ -17,7 +11,7 @@ use Rattle.bridge_core.specs.Sent.{Sent}
 use Rattle.bridge_core.specs.Lanes.{Visit, given_of, sends_at}
 use Rattle.bridge_core.specs.LaneState.{LaneOf, visit_of, AreLeft, HasHandled, Handles}
 use Rattle.bridge_core.specs.inner.Parts.{PartsAnswer}
-use Rattle.bridge_core.specs.Sound.{IsSound, AreFresh}
+use Rattle.bridge_core.specs.Sound.{HavePlaces, AreFresh}
 use Rattle.bridge_core.specs.Calls.{core_fault, most_lanes}
 use Rattle.intake.specs.Names.{is_name}
 use Rattle.bridge_core.specs.Steps.{Step, version_of, desk_of, count_of, along, visit_at, visits, visit_after, CoreOf, Takes}
@@ -82,10 +76,6 @@ published old new version lanes start before taken = (
   },
 )
 
-pub published_if : {E : Type 0} (old new : CoreOf) (result : Result (Unit {0}) E) → OnOk result ((new.version ≡ old.version + 1) × (new.lanes ≡ old.lanes)) → OnOk result (Takes old new (Step.publish new.desk) [])
-published_if old new (Ok u) h = published old new h.0 h.1
-published_if old new (Err e) h = tt
-
 slice_get-set : (xs : List LaneOf) (i j : ℕ) (x y : LaneOf) → slice_get (set xs i x) j ≡ Some y → ((i ≡ j) × (x ≡ y)) ⊎ ((i ≢ j) × (slice_get xs j ≡ Some y))
 slice_get-set [] i j x y e = absurd (cc)
 slice_get-set (z ∷ xs) zero zero x y e = inl (refl, (cc))
@@ -111,11 +101,11 @@ handles old new version desk input sent does lane lanes handled before stands =
 
 -- an item that a lane handles
 pub handled : (old new : CoreOf) (lane : ℕ) (state after : LaneOf) (input : Input) (sent : List Sent)
-    → IsSound old.version old.desk old.done old.lanes old.intake.asker → slice_get old.lanes lane ≡ Some state → Handles state after old.version old.desk input sent
+    → HavePlaces old.lanes old.intake.asker → slice_get old.lanes lane ≡ Some state → Handles state after old.version old.desk input sent
     → new.version ≡ old.version → new.desk ≡ old.desk → new.lanes ≡ set old.lanes lane after
     → Takes old new (Step.item lane input) (sent ∷ [])
 handled old new lane state after input sent sound at does version desk lanes start before taken =
-    let place = sound.places lane state at in
+    let place = sound lane state at in
     let vs = visits lane start before in
     let done = does vs (taken.lanes lane state at) in
     let v = visit_after start before lane input in
@@ -140,29 +130,15 @@ handled old new lane state after input sent sound at does version desk lanes sta
       },
     )
 
--- a good desk stays good, whatever the edit
-pub still_good : (d : Desk) (e : EditOf) → good d ≡ true → good (after d e) ≡ true
-unfolding after
-still_good d e begins = by (fits d e) refl
-  where
-    by : (b : Bool) → fits d e ≡ b → good (cond b (exchanged d e) d) ≡ true
-    by true h = (fits_parts d e h).later
-    by false h = begins
-
 -- a lane keeps its place
-pub still_sound : (version : ℕ) (desk : Desk) (done : List (List EditOf)) (who : Asker) (old new : List LaneOf) (lane : ℕ) (state after : LaneOf) → IsSound version desk done old who → slice_get old lane ≡ Some state
-    → after.lane ≡ state.lane → after.lanes ≡ state.lanes → after.who ≡ state.who → new ≡ set old lane after → IsSound version desk done new who
-still_sound version desk done who old new lane state after sound at place places name lanes = record {
-  good = sound.good;
-  places = λ i s there.
-      let size : length new ≡ length old = ap length lanes ∙ length-set old lane after in
-      elim (slice_get-set old lane i after s (ap (λ xs. slice_get xs i) (sym lanes) ∙ there)) [
-        | inl p ↦ (let was = sound.places lane state at in (ap (λ (t : LaneOf). t.lane) (sym p.1) ∙ place ∙ was.0 ∙ p.0, ap (λ (t : LaneOf). t.lanes) (sym p.1) ∙ places ∙ was.1 ∙ sym size, ap (λ (t : LaneOf). t.who) (sym p.1) ∙ name ∙ was.2))
-        | inr p ↦ (let was = sound.places i s p.1 in (was.0, was.1 ∙ sym size, was.2))
-      ];
-  fewer = sound.fewer;
-  limit = sound.limit;
-}
+pub still_placed : (who : Asker) (old new : List LaneOf) (lane : ℕ) (state after : LaneOf) → HavePlaces old who → slice_get old lane ≡ Some state
+    → after.lane ≡ state.lane → after.lanes ≡ state.lanes → after.who ≡ state.who → new ≡ set old lane after → HavePlaces new who
+still_placed who old new lane state after placed at place places name lanes i s there =
+    let size : length new ≡ length old = ap length lanes ∙ length-set old lane after in
+    elim (slice_get-set old lane i after s (ap (λ xs. slice_get xs i) (sym lanes) ∙ there)) [
+      | inl p ↦ (let was = placed lane state at in (ap (λ (t : LaneOf). t.lane) (sym p.1) ∙ place ∙ was.0 ∙ p.0, ap (λ (t : LaneOf). t.lanes) (sym p.1) ∙ places ∙ was.1 ∙ sym size, ap (λ (t : LaneOf). t.who) (sym p.1) ∙ name ∙ was.2))
+      | inr p ↦ (let was = placed i s p.1 in (was.0, was.1 ∙ sym size, was.2))
+    ]
 
 slice_get-push : (xs : List LaneOf) (x y : LaneOf) (j : ℕ) → slice_get (xs ++ x ∷ []) j ≡ Some y → ((j ≡ length xs) × (x ≡ y)) ⊎ (slice_get xs j ≡ Some y)
 slice_get-push [] x y zero e = inl (refl, (cc))
@@ -179,14 +155,9 @@ AreFresh-push lanes who states state fresh place places name nothing lane s at =
       | inr there ↦ fresh lane s there
     ]
 
--- fresh lanes make a sound core
-pub sound_at_first : (lanes : ℕ) (who : Asker) (states : List LaneOf) (desk : Desk) (done : List (List EditOf)) → good desk ≡ true → AreFresh lanes who states → length states ≡ lanes → done ≡ [] → IsSound 0 desk done states who
-sound_at_first lanes who states desk done begins fresh count none = record {
-  good = begins;
-  places = λ lane state at. let f = fresh lane state at in (f.0, f.1 ∙ sym count, f.2);
-  fewer = omega (arith, ap length none);
-  limit = omega arith;
-}
+-- fresh lanes have their places
+pub placed_at_first : (lanes : ℕ) (who : Asker) (states : List LaneOf) → AreFresh lanes who states → length states ≡ lanes → HavePlaces states who
+placed_at_first lanes who states fresh count lane state at = let f = fresh lane state at in (f.0, f.1 ∙ sym count, f.2)
 
 -- lanes that are neither none nor too many, and a name
 pub no_fault : (lanes : ℕ) (cname : List ℕ) → lanes ≢ 0 → lanes ≤ most_lanes → is_name cname ≡ true → core_fault lanes cname ≡ None
@@ -194,27 +165,3 @@ no_fault lanes cname some few named =
     let first : nat_eq lanes 0 ≡ false = grind (arith, nat_tests) in
     let second : nat_lt most_lanes lanes ≡ false = grind (arith, nat_tests) in
     rw first (rw second (rw named refl))
-
--- nothing stands against a call that names the last one, where something is left and the log has room
-pub undo_free : (last version done undone : ℕ) (d : Desk) → last ≡ version → done ≢ 0 → nat_eq version call_limit ≡ false → refusal_at version d done undone (Undo last) ≡ None
-undo_free last version done undone d same some room =
-    let first : nat_eq last version ≡ true = grind (arith, nat_tests) in
-    let second : nat_eq done 0 ≡ false = grind (arith, nat_tests) in
-    rw first (rw second (rw room refl))
-
-pub redo_free : (last version done undone : ℕ) (d : Desk) → last ≡ version → undone ≢ 0 → nat_eq version call_limit ≡ false → refusal_at version d done undone (Redo last) ≡ None
-redo_free last version done undone d same some room =
-    let first : nat_eq last version ≡ true = grind (arith, nat_tests) in
-    let second : nat_eq undone 0 ≡ false = grind (arith, nat_tests) in
-    rw first (rw second (rw room refl))
-
--- there is room for one more
-pub one_more_call : (version : ℕ) → version ≤ call_limit → nat_eq version call_limit ≡ false → version + 1 ≤ call_limit
-one_more_call version few room =
-    let other : version ≢ call_limit = λ same. (let full : nat_eq version call_limit ≡ true = eq-eqb version call_limit same in cc) in
-    omega (arith, few, other)
-
--- what holds of an answer that is no refusal
-pub of_ok : {T E : Type 0} (P : Type 0) (r : Result T E) → false ≡ is_err r → OnOk r P → P
-of_ok P (Ok x) e h = h
-of_ok P (Err x) e h = absurd cc

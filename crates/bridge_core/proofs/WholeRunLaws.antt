@@ -6,9 +6,11 @@ use Rattle.desk_edit.specs.Calls.{CallHistory, desk_now, after_call}
 use Rattle.feedback.specs.Upstream.{Asker}
 use Rattle.bridge_core.specs.Sent.{Sent}
 use Rattle.bridge_core.specs.Steps.{Step, along, sent_at, desk_of, CoreOf, HasTaken}
-use Rattle.bridge_core.specs.Following.{Follows, HasCalled}
+use Rattle.desk_calls.specs.Following.{Follows}
+use Rattle.desk_calls.specs.Accepted.{after_calls, AreAccepted}
+use Rattle.bridge_core.specs.Following.{HasCalled}
 use Rattle.bridge_core.specs.Headline.{AreGood}
-use Rattle.bridge_core.specs.Events.{Event, Plays, steps_of}
+use Rattle.bridge_core.specs.Events.{Event, Plays, steps_of, calls_among}
 
 -- an item leaves the calls
 called_still : (old new : CoreOf) (h : CallHistory) → new.version ≡ old.version → new.desk ≡ old.desk → new.done ≡ old.done → new.undone ≡ old.undone → HasCalled old h → HasCalled new h
@@ -43,6 +45,17 @@ played start before h (Event.item lane input ∷ events) sent first last taken c
           ∙ ap (λ (who : Asker). along (sent_at who (length first.lanes) start) (before ++ Step.item lane input ∷ []) (steps_of h events)) sends.who),
       (tt, rest.1),
     )
+
+-- the calls among what a core takes are accepted one after another, and its desk goes where they lead
+pub calls_legal : (first last : CoreOf) (h : CallHistory) (events : List Event) (sent : List (List Sent)) → HasCalled first h → Plays first events sent last
+    → AreAccepted h (calls_among events) × HasCalled last (after_calls h (calls_among events))
+calls_legal first last h [] sent called plays = (tt, subst (λ (core : CoreOf). HasCalled core h) (sym plays.1) called)
+calls_legal first last h (Event.called call ∷ events) sent called (next, accepts, plays) =
+    let after = accepts.answered h called in
+    let rest = calls_legal next last (after_call h call) events sent after.2 plays in
+    ((after.0, rest.0), rest.1)
+calls_legal first last h (Event.item lane input ∷ events) sent called (next, now, later, is, sends, plays) =
+    calls_legal next last h events later (called_still first next h sends.version sends.desk sends.done sends.undone called) plays
 
 -- the steps before one are good
 pub good_before : (before after : List Step) → AreGood (before ++ after) → AreGood before

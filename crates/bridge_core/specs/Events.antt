@@ -20,6 +20,12 @@ steps_of h [] = []
 steps_of h (Event.called call ∷ events) = Step.publish (desk_now (after_call h call)) ∷ steps_of (after_call h call) events
 steps_of h (Event.item lane input ∷ events) = Step.item lane input ∷ steps_of h events
 
+-- the calls among events, in order
+abbrev pub calls_among : List Event → List Call
+calls_among [] = []
+calls_among (Event.called call ∷ events) = call ∷ calls_among events
+calls_among (Event.item lane input ∷ events) = calls_among events
+
 -- This is what a core answers to a call that it accepts: whatever history of calls has led to it, the call is the history's next, and the desk is good.
 pub record Accepts (old new : CoreOf) (call : Call) : Type 0 where
   pub number : ℕ

@@ -1,40 +1,15 @@
 -- How a core stands to the history of its calls (own).
-use Rattle.std.specs.Prelude.{◌≡◌, ◌≢◌, ◌+◌, true, List, [], ◌∷◌, reverse, None, Some}
-use Rattle.desk_rows.specs.Desk.{Desk}
-use Rattle.desk_rows.specs.Edit.{EditOf}
-use Rattle.bridge_core.specs.Edits.{fits, after}
-use Rattle.desk_edit.specs.declared.command.Command.{Command}
+use Rattle.std.specs.Prelude.{◌≡◌, ◌+◌, None}
 use Rattle.desk_edit.specs.Asked.{CallOf as Call}
-use Rattle.desk_edit.specs.Asked.CallOf.{Apply, Group, Undo, Redo}
-use Rattle.desk_edit.specs.declared.refusal.Refusal.{Refusal}
-use Rattle.desk_edit.specs.declared.refusal.Refusal.TheVariants.{OutOfMemory}
-use Rattle.desk_edit.specs.Groups.{desk_after_all}
-use Rattle.desk_edit.specs.Calls.{CallHistory, desk_now, refusal_of, early_refusal_of, after_call}
+use Rattle.desk_edit.specs.Calls.{CallHistory, refusal_of, after_call}
+use Rattle.desk_calls.specs.Following.{HasCalled as DeskHasCalled, IsTold}
 use Rattle.bridge_core.specs.declared.reply.Reply.{Reply}
 use Rattle.bridge_core.specs.declared.reply.Reply.TheVariants.{Accepted, Refused}
-use Rattle.bridge_core.specs.Steps.{CoreOf}
+use Rattle.bridge_core.specs.Steps.{CoreOf, core_desk}
 
--- one list of edits for each group of commands, in order: it fits the desk that those before it leave, and makes of it what the commands' equations say
-abbrev pub Follows : Desk → List (List Command) → List (List EditOf) → Type 0
-Follows d [] [] = Unit {0}
-Follows d (group ∷ groups) (e ∷ es) = (fits d e ≡ true) × (after d e ≡ desk_after_all d group) × Follows (desk_after_all d group) groups es
-Follows d [] (e ∷ es) = ⊥
-Follows d (group ∷ groups) [] = ⊥
-
--- the core is where this history of calls leads: its version and its desk, with one list of edits for each group that is done, and one for each that is undone, which from the last one on lead ahead from the desk
-pub record HasCalled (core : CoreOf) (h : CallHistory) : Type 0 where
-  pub version : core.version ≡ h.accepted
-  pub desk : core.desk ≡ desk_now h
-  pub follows : Follows h.start h.done core.done
-  pub ahead : Follows (desk_now h) (reverse h.undone) (reverse core.undone)
-
--- this is why the call is refused by its history: the first reason, or else want of memory, which an undo or a redo never has
-abbrev pub IsTold : CallHistory → Call → Refusal → Type 0
-IsTold h (Apply command) why = (why ≢ OutOfMemory → refusal_of h (Apply command) ≡ Some why) × (why ≡ OutOfMemory → refusal_of h (Apply command) ≡ None)
-IsTold h (Group commands) why =
-    (why ≢ OutOfMemory → refusal_of h (Group commands) ≡ Some why) × (why ≡ OutOfMemory → early_refusal_of h (Group commands) ≡ None)
-IsTold h (Undo last) why = refusal_of h (Undo last) ≡ Some why
-IsTold h (Redo last) why = refusal_of h (Redo last) ≡ Some why
+-- the core's desk is where this history of calls leads
+abbrev pub HasCalled : CoreOf → CallHistory → Type 0
+HasCalled core h = DeskHasCalled (core_desk core) h
 
 -- a call is answered by the history of those before it, and the core goes where the history with it leads
 abbrev pub IsAnswered : CallHistory → CoreOf → Call → Reply → Type 0

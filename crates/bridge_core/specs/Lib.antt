@@ -3,7 +3,6 @@ pub mod Lanes
 pub mod LaneState
 pub mod Steps
 pub mod Named
-pub mod Edits
 pub mod Calls
 pub mod Sound
 pub mod Runs

@@ -2,6 +2,7 @@
 use Rattle.std.specs.Prelude.{◌≡◌, ℕ, ◌+◌, ◌-◌, ◌^◌, nat_eq, if◌then◌else◌, List, [], ◌∷◌, ◌++◌, length, Some, slice_get}
 use Rattle.desk_rows.specs.Edit.{EditOf}
 use Rattle.desk_rows.specs.Desk.{Desk}
+use Rattle.desk_calls.specs.Desk.{DeskOf}
 use Rattle.feedback.specs.Upstream.{Asker}
 use Rattle.intake.specs.Inputs.{Input}
 use Rattle.intake.specs.inner.Holding.{IntakeOf}
@@ -68,6 +69,10 @@ pub record CoreOf : Type 0 where
   pub undone : List (List EditOf)
   pub lanes : List LaneOf
   pub intake : IntakeOf
+
+-- the desk of a core, with its calls; how much memory it has is not told
+abbrev pub core_desk : CoreOf → DeskOf
+core_desk core = record { version = core.version; desk = core.desk; done = core.done; undone = core.undone; room = 0 }
 
 -- The core has taken these steps, from this desk on.
 pub record HasTaken (core : CoreOf) (start : Desk) (steps : List Step) : Type 0 where

@@ -1,12 +1,9 @@
 //! The desk and the lanes together.
 
-ghost use Rattle.std.specs.Prelude.{◌≡◌, ◌+◌, ◌<◌, ◌≤◌, ◌≢◌, ◌↔◌, true, nat_eq, [], ◌∷◌, map, length, None, Some, IfOk, IfErr, OnOk, OnErr};
+ghost use Rattle.std.specs.Prelude.{◌≡◌, ◌+◌, ◌<◌, ◌≤◌, ◌≢◌, ◌↔◌, true, [], ◌∷◌, map, length, None, Some, IfOk, IfErr, OnOk, OnErr};
 ghost use Rattle.desk_rows.specs.Desk.{blank, good};
-ghost use Rattle.desk_edit.specs.Commands.{desk_after};
-ghost use Rattle.desk_edit.specs.Groups.{desk_after_all};
-ghost use Rattle.desk_edit.specs.Asked.{asked_by, CallOf};
-ghost use Rattle.bridge_core.specs.Edits.{fits, after};
-ghost use Rattle.desk_edit.specs.Calls.{call_limit, CallHistory, no_calls};
+ghost use Rattle.desk_edit.specs.Asked.{asked_by};
+ghost use Rattle.desk_edit.specs.Calls.{CallHistory, no_calls};
 ghost use Rattle.intake.specs.Inputs.{input_of, is_sized};
 ghost use Rattle.intake.specs.Sources.{no_sources};
 ghost use Rattle.intake.specs.Ingested.{ingested_of, datagram_of};
@@ -16,47 +13,46 @@ ghost use Rattle.bridge_core.specs.Sent.{sent_of};
 ghost use Rattle.bridge_core.specs.Sound.{AreFresh};
 ghost use Rattle.bridge_core.specs.Steps.{CoreOf, HasTaken, Takes, Step, IsSpent};
 ghost use Rattle.bridge_core.specs.Following.{HasCalled, IsAnswered};
-ghost use Rattle.bridge_core.specs.Calls.{core_fault, most_lanes, Answers, Does, IsReason, OnAccepted, UndoesEdit, RedoesEdit, call_refused, early_call_refused, DoesEdit, before_memory};
+ghost use Rattle.bridge_core.specs.Calls.{core_fault, most_lanes, Answers, OnAccepted};
 
 use crate::egress::Egress;
 use crate::fault::{CoreFault, LaneFault};
 use crate::lane::{LANES, LaneState};
 use crate::reply::Reply;
-use desk_edit::{Call, Command, Refusal, plan, plan_group, size_refused};
-use desk_rows::{Edit, Rows};
+use desk_calls::Desk;
+use desk_edit::Call;
+use desk_rows::Rows;
 use intake::{Ingest, Intake, Item, Settings};
 use rtp_codec::Address;
 use std::alloc::{AllocError, Allocator, Global};
 use std::marker::Model;
-use undo_log::{Edits, History, HistoryFault, LIMIT, Listed};
 
 /// The desk with its history, the lanes that send by it, and the intake of what comes off the wire.
 ///
 /// Version n of the desk is the one after n accepted calls.
 #[derive(Drop)]
 pub struct Core<A: Allocator + Copy = Global> {
-    version: u64,
-    history: History<Listed<Rows<A>>>,
+    desk: Desk<A>,
     lanes: Vec<LaneState<A>, A>,
     intake: Intake<A>,
 }
 
 impl<A: Allocator + Copy> Model for Core<A> {
     ghost use Rattle.bridge_core.specs.Steps.{CoreOf};
-    ghost use Rattle.bridge_core.specs.Sound.{IsSound};
+    ghost use Rattle.bridge_core.specs.Sound.{HavePlaces};
 
     ghost Value = { CoreOf };
 
     ghost view = { λ c. record {
-      version = c.version;
-      desk = c.history.state;
-      done = c.history.done;
-      undone = c.history.undone;
+      version = c.desk.version;
+      desk = c.desk.desk;
+      done = c.desk.done;
+      undone = c.desk.undone;
       lanes = c.lanes.items;
       intake = c.intake;
     } };
 
-    ghost invariant = { λ c. IsSound c.version c.history.state c.history.done c.lanes.items c.intake.asker };
+    ghost invariant = { λ c. HavePlaces c.lanes.items c.intake.asker };
 }
 
 impl<A: Allocator + Copy> Core<A> {
@@ -89,8 +85,7 @@ impl<A: Allocator + Copy> Core<A> {
             return Err(CoreFault::OutOfMemory);
         };
         Ok(Self {
-            version: 0,
-            history: History::new(alloc, Listed::new(rows)),
+            desk: Desk::new(alloc, rows),
             lanes: states,
             intake,
         })
@@ -100,14 +95,14 @@ impl<A: Allocator + Copy> Core<A> {
     pub fn rows(&self) -> &Rows<A>
         ensures { result.now ≡ self.now.desk }
     {
-        self.history.state().inner()
+        self.desk.rows()
     }
 
     /// How many calls of the desk were accepted.
     pub fn version(&self) -> u64
         ensures { result ≡ self.now.version }
     {
-        self.version
+        self.desk.version()
     }
 
     /// How many lanes there are.
@@ -117,12 +112,8 @@ impl<A: Allocator + Copy> Core<A> {
         self.lanes.len()
     }
 
-    /// A call of an operator. Who calls has no effect on the desk.
-    ///
-    /// A command is refused by the first reason that `plan` finds, then because of the log, then
-    /// for want of memory; a group because of its size, then because of the log, then by what
-    /// `plan_group` finds; an undo because a newer call was accepted, then because nothing is
-    /// left to undo, then because of the log; a redo alike, where nothing is undone.
+    /// A call of an operator. Who calls has no effect on the desk. `Desk::prepare` of desk_calls says
+    /// what it is refused by first.
     pub fn desk(&mut self, alloc: A, _op: u8, call: Call<A>) -> Reply
         ensures answer { Answers self.old self.new (asked_by call) result }
         ensures takes { OnAccepted result (Takes self.old self.new (Step.publish self.new.desk) []) }
@@ -130,168 +121,15 @@ impl<A: Allocator + Copy> Core<A> {
         ensures history { (h : CallHistory) → HasCalled self.old h → IsAnswered h self.new (asked_by call) result }
         ensures intake { self.new.intake ≡ self.old.intake }
     {
-        let done = self.call(alloc, call);
-        let version = self.version;
-        match done {
-            Ok(()) => Reply::Accepted { no: version },
-            Err(why) => Reply::Refused { at: version, why },
+        match self.desk.prepare(alloc, &call) {
+            Ok(prepared) => Reply::Accepted {
+                no: self.desk.commit(&call, prepared),
+            },
+            Err(why) => Reply::Refused {
+                at: self.desk.version(),
+                why,
+            },
         }
-    }
-
-    /// Carries out a call.
-    fn call(&mut self, alloc: A, call: Call<A>) -> Result<(), Refusal>
-        ensures does { OnOk result ((call_refused self.old (asked_by call) ≡ None) × Does self.old self.new (asked_by call)) }
-        ensures version { OnOk result ((self.new.version ≡ self.old.version + 1) × (self.new.lanes ≡ self.old.lanes)) }
-        ensures takes { OnOk result (Takes self.old self.new (Step.publish self.new.desk) []) }
-        ensures intake { self.new.intake ≡ self.old.intake }
-        ensures err { OnErr result (self.new ≡ self.old) }
-        ensures why { IfErr result (λ why. IsReason self.old (asked_by call) why) }
-    {
-        match call {
-            Call::Apply(command) => self.apply(alloc, &command),
-            Call::Group(commands) => self.apply_group(alloc, &commands),
-            Call::Undo { last } => self.undo(last),
-            Call::Redo { last } => self.redo(last),
-        }
-    }
-
-    /// Carries out a command.
-    fn apply(&mut self, alloc: A, command: &Command) -> Result<(), Refusal>
-        ensures does { OnOk result ((call_refused self.old (CallOf.Apply command.now) ≡ None) × Does self.old self.new (CallOf.Apply command.now)) }
-        ensures version { OnOk result ((self.new.version ≡ self.old.version + 1) × (self.new.lanes ≡ self.old.lanes)) }
-        ensures intake { self.new.intake ≡ self.old.intake }
-        ensures err { OnErr result (self.new ≡ self.old) }
-        ensures why { IfErr result (λ why. IsReason self.old (CallOf.Apply command.now) why) }
-    {
-        let edits = self.planned(alloc, command)?;
-        self.carry_out(edits)
-    }
-
-    /// Carries out a group.
-    fn apply_group(&mut self, alloc: A, commands: &[Command]) -> Result<(), Refusal>
-        ensures does { OnOk result ((call_refused self.old (CallOf.Group commands.now) ≡ None) × Does self.old self.new (CallOf.Group commands.now)) }
-        ensures version { OnOk result ((self.new.version ≡ self.old.version + 1) × (self.new.lanes ≡ self.old.lanes)) }
-        ensures intake { self.new.intake ≡ self.old.intake }
-        ensures err { OnErr result (self.new ≡ self.old) }
-        ensures why { IfErr result (λ why. IsReason self.old (CallOf.Group commands.now) why) }
-    {
-        let edits = self.planned_group(alloc, commands)?;
-        self.carry_out(edits)
-    }
-
-    /// Absorbs the edits as one entry of the history.
-    fn carry_out(&mut self, edits: Edits<Edit<A>, A>) -> Result<(), Refusal>
-        requires fits { fits self.old.desk edits ≡ true }
-        requires room { self.old.version < call_limit }
-        ensures does { OnOk result (DoesEdit self.old self.new × (self.new.desk ≡ after self.old.desk edits)) }
-        ensures version { OnOk result ((self.new.version ≡ self.old.version + 1) × (self.new.lanes ≡ self.old.lanes)) }
-        ensures intake { self.new.intake ≡ self.old.intake }
-        ensures err { OnErr result (self.new ≡ self.old) }
-        ensures memory { OnErr result (result ≡ Err Refusal.OutOfMemory) }
-    {
-        match self.history.push(edits) {
-            Ok(()) => {}
-            Err(HistoryFault::OutOfMemory) => return Err(Refusal::OutOfMemory),
-            // No more edits are done than calls were accepted.
-            Err(HistoryFault::LogFull) => unreachable!(),
-            Err(HistoryFault::NothingToUndo) => unreachable!(),
-            Err(HistoryFault::NothingToRedo) => unreachable!(),
-        }
-        self.version += 1;
-        Ok(())
-    }
-
-    /// The edits that carry the command out, if nothing stands against it.
-    fn planned(&self, alloc: A, command: &Command) -> Result<Edits<Edit<A>, A>, Refusal>
-        ensures fits { IfOk result (λ edits. fits self.now.desk edits ≡ true) }
-        ensures does { IfOk result (λ edits. after self.now.desk edits ≡ desk_after self.now.desk command.now) }
-        ensures free { OnOk result (call_refused self.now (CallOf.Apply command.now) ≡ None) }
-        ensures room { OnOk result (self.now.version < call_limit) }
-        ensures why { IfErr result (λ why. IsReason self.now (CallOf.Apply command.now) why) }
-    {
-        let version = self.version;
-        let edit = match plan(alloc, self.history.state().inner(), command) {
-            Ok(edit) => edit,
-            Err(why) => return Err(before_memory(why, version)),
-        };
-        if log_is_full(version) {
-            return Err(Refusal::LogFull);
-        }
-        let Ok(edits) = one_edit(alloc, edit) else {
-            return Err(Refusal::OutOfMemory);
-        };
-        Ok(edits)
-    }
-
-    /// The edits that carry the group out, if nothing stands against it.
-    fn planned_group(&self, alloc: A, commands: &[Command]) -> Result<Edits<Edit<A>, A>, Refusal>
-        ensures fits { IfOk result (λ edits. fits self.now.desk edits ≡ true) }
-        ensures does { IfOk result (λ edits. after self.now.desk edits ≡ desk_after_all self.now.desk commands.now) }
-        ensures free { OnOk result (call_refused self.now (CallOf.Group commands.now) ≡ None) }
-        ensures room { OnOk result (self.now.version < call_limit) }
-        ensures early { OnOk result (early_call_refused self.now (CallOf.Group commands.now) ≡ None) }
-        ensures why { IfErr result (λ why. IsReason self.now (CallOf.Group commands.now) why) }
-    {
-        if let Some(why) = size_refused(commands.len()) {
-            return Err(why.refusal());
-        }
-        if log_is_full(self.version) {
-            return Err(Refusal::LogFull);
-        }
-        match plan_group(alloc, self.history.state().inner(), commands) {
-            Ok(edits) => Ok(Edits::new(edits)),
-            Err(why) => Err(why.refusal()),
-        }
-    }
-
-    /// Takes the last edit back. The call names the last accepted one.
-    fn undo(&mut self, last: u64) -> Result<(), Refusal>
-        ensures does { OnOk result ((call_refused self.old (CallOf.Undo last) ≡ None) × UndoesEdit self.old self.new) }
-        ensures version { OnOk result ((self.new.version ≡ self.old.version + 1) × (self.new.lanes ≡ self.old.lanes)) }
-        ensures intake { self.new.intake ≡ self.old.intake }
-        ensures err { OnErr result (self.new ≡ self.old) }
-        ensures why { IfErr result (λ why. IsReason self.old (CallOf.Undo last) why) }
-    {
-        let version = self.version;
-        if last != version {
-            return Err(Refusal::NewerCommand { last: version });
-        }
-        if self.history.done_len() == 0 {
-            return Err(Refusal::NothingToUndo);
-        }
-        if log_is_full(version) {
-            return Err(Refusal::LogFull);
-        }
-        if self.history.undo().is_err() {
-            unreachable!();
-        }
-        self.version += 1;
-        Ok(())
-    }
-
-    /// Does the edit that was undone last again. The call names the last accepted one.
-    fn redo(&mut self, last: u64) -> Result<(), Refusal>
-        ensures does { OnOk result ((call_refused self.old (CallOf.Redo last) ≡ None) × RedoesEdit self.old self.new) }
-        ensures version { OnOk result ((self.new.version ≡ self.old.version + 1) × (self.new.lanes ≡ self.old.lanes)) }
-        ensures intake { self.new.intake ≡ self.old.intake }
-        ensures err { OnErr result (self.new ≡ self.old) }
-        ensures why { IfErr result (λ why. IsReason self.old (CallOf.Redo last) why) }
-    {
-        let version = self.version;
-        if last != version {
-            return Err(Refusal::NewerCommand { last: version });
-        }
-        if self.history.undone_len() == 0 {
-            return Err(Refusal::NothingToRedo);
-        }
-        if log_is_full(version) {
-            return Err(Refusal::LogFull);
-        }
-        if self.history.redo().is_err() {
-            unreachable!();
-        }
-        self.version += 1;
-        Ok(())
     }
 
     /// A lane handles an item under the desk of this version. Sound has 1 to 1,600 samples, as what the
@@ -312,8 +150,8 @@ impl<A: Allocator + Copy> Core<A> {
         ensures history { (self.new.done ≡ self.old.done) × (self.new.undone ≡ self.old.undone) }
         ensures intake { self.new.intake ≡ self.old.intake }
     {
-        let rows = self.history.state().inner();
-        self.lanes[lane as usize].step(alloc, self.version, rows, item)
+        let rows = self.desk.rows();
+        self.lanes[lane as usize].step(alloc, self.desk.version(), rows, item)
     }
 
     /// Takes in a datagram that came from an address at a moment, in nanoseconds since 1970.
@@ -332,7 +170,7 @@ impl<A: Allocator + Copy> Core<A> {
         ensures asker { self.new.intake.asker ≡ self.old.intake.asker }
         ensures err { OnErr result (self.new ≡ self.old) }
     {
-        let rows = self.history.state().inner();
+        let rows = self.desk.rows();
         self.intake.datagram(alloc, rows, from, moment, octets)
     }
 
@@ -349,34 +187,8 @@ impl<A: Allocator + Copy> Core<A> {
         ensures asker { self.new.intake.asker ≡ self.old.intake.asker }
         ensures err { OnErr result (self.new ≡ self.old) }
     {
-        let rows = self.history.state().inner();
+        let rows = self.desk.rows();
         self.intake.reports(alloc, rows, moment)
-    }
-}
-
-/// One edit as a list.
-fn one_edit<A: Allocator + Copy>(alloc: A, edit: Edit<A>) -> Result<Edits<Edit<A>, A>, AllocError>
-    ensures { IfOk result (λ edits. edits ≡ edit ∷ []) }
-{
-    let mut items = Vec::with_capacity(alloc, 1)?;
-    items.push_reserved(edit);
-    Ok(Edits::new(items))
-}
-
-/// Whether as many calls were accepted as the log can hold.
-fn log_is_full(version: u64) -> bool
-    ensures { result ≡ nat_eq version call_limit }
-{
-    version == LIMIT as u64
-}
-
-/// Want of memory is told after the log.
-fn before_memory(why: Refusal, version: u64) -> Refusal
-    ensures { result ≡ before_memory why version }
-{
-    match why {
-        Refusal::OutOfMemory if log_is_full(version) => Refusal::LogFull,
-        _ => why,
     }
 }
 

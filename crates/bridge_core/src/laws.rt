@@ -5,7 +5,8 @@ ghost use Rattle.std.specs.List.{AllByRecursion};
 ghost use Rattle.desk_rows.specs.declared.row.Member.{Member};
 ghost use Rattle.desk_rows.specs.Desk.{Desk, good};
 ghost use Rattle.undo_log.specs.Timeline.{rewound};
-ghost use Rattle.bridge_core.specs.Edits.{after, inverse};
+ghost use Rattle.desk_calls.specs.Edits.{after, inverse};
+ghost use Rattle.desk_calls.specs.Accepted.{after_calls, AreAccepted};
 ghost use Rattle.desk_edit.specs.Asked.{CallOf};
 ghost use Rattle.desk_edit.specs.Calls.{CallHistory, no_calls};
 ghost use Rattle.topology.specs.declared.receivers.Receiver.{Receiver};
@@ -26,7 +27,7 @@ ghost use Rattle.bridge_core.specs.Following.{HasCalled};
 ghost use Rattle.bridge_core.specs.UndoRuns.{AcceptsAll, UndoesInARow, RedoesInARow, IsAsWas, all_accepted};
 ghost use Rattle.bridge_core.specs.Runs.{Runs};
 ghost use Rattle.bridge_core.specs.EveryLane.{to_every};
-ghost use Rattle.bridge_core.specs.Events.{Event, Plays, steps_of};
+ghost use Rattle.bridge_core.specs.Events.{Event, Plays, steps_of, calls_among};
 ghost use Rattle.bridge_core.specs.WholeRuns.{Holds};
 ghost use Rattle.bridge_core.specs.Named.{Name, Kind, is_on, sent_on, firsts};
 ghost use Rattle.bridge_core.specs.Headline.{AreGood, HaveNoGap, numbers, numbered_of, IsChosenOf, GoesWhole, IsMixOf, GoesOnce, LeadsBack};
@@ -159,6 +160,14 @@ pub fn picture_losses_go_to_the_chosen()
 pub fn edits_lead_back()
     ensures leads { (core : CoreOf) (h : CallHistory) → HasCalled core h → fold after h.start core.done ≡ core.desk }
     ensures back { (core : CoreOf) (h : CallHistory) → HasCalled core h → rewound after inverse core.desk (reverse core.done) ≡ h.start }
+{
+    desk_calls::edits_lead_back();
+}
+
+/// The calls among what cores take one by one are a legal list of calls, and the last core's desk is
+/// where that list leads.
+pub fn calls_are_legal()
+    ensures { (first last : CoreOf) (h : CallHistory) (events : List Event) (sent : List (List Sent)) → HasCalled first h → Plays first events sent last → AreAccepted h (calls_among events) × HasCalled last (after_calls h (calls_among events)) }
 {}
 
 /// Undos in a row, each of which names the last accepted call, are all accepted while so many

@@ -17,7 +17,8 @@ use Rattle.bridge_core.specs.Sent.{Sent}
 use Rattle.std.specs.Prelude.{slice_get}
 use Rattle.bridge_core.specs.LaneState.{LaneOf}
 use Rattle.bridge_core.specs.Calls.{Answers, OnAccepted}
-use Rattle.bridge_core.specs.Following.{HasCalled, IsTold, IsAnswered}
+use Rattle.desk_calls.specs.Following.{IsTold}
+use Rattle.bridge_core.specs.Following.{HasCalled, IsAnswered}
 use Rattle.bridge_core.specs.Steps.{CoreOf, Step, HasTaken, Takes, sent_at, visits, visit_after}
 use Rattle.std.specs.List.{flat_map, list_all}
 use Rattle.std.proofs.lemmas.Bool.{and_parts}

@@ -2,7 +2,7 @@
 
 ghost use Rattle.std.specs.Prelude.{◌≡◌, ◌+◌, ◌≤◌, true, fold, length, reverse, IfSome};
 ghost use Rattle.undo_log.specs.Timeline.{rewound};
-ghost use Rattle.bridge_core.specs.Edits.{after, inverse};
+ghost use Rattle.desk_calls.specs.Edits.{after, inverse};
 ghost use Rattle.desk_edit.specs.Calls.{call_limit, CallHistory};
 ghost use Rattle.bridge_core.specs.Following.{HasCalled};
 

@@ -1,6 +1,6 @@
 use Rattle.std.proofs.Common.{◌≡◌, refl, ap, sym, ◌∙◌, fold}
 use Rattle.desk_rows.specs.Desk.{Desk}
-use Rattle.bridge_core.specs.Edits.{after}
+use Rattle.desk_calls.specs.Edits.{after}
 use Rattle.desk_edit.specs.Calls.{CallHistory, after_call}
 use Rattle.desk_edit.specs.Asked.{CallOf, asked_by}
 use Rattle.desk_edit.specs.Asked.CallOf.{Apply, Group, Undo, Redo}

@@ -1,4 +1,4 @@
-use Rattle.std.proofs.Common.{◌≡◌, ap, List, [], ◌∷◌, Some, refl, sym, map, subst, length, set, ◌<◌, ◌-◌, ◌^◌, ◌∙◌}
+use Rattle.std.proofs.Common.{◌≡◌, ℕ, ap, List, [], ◌∷◌, Some, refl, sym, map, subst, length, set, ◌<◌, ◌-◌, ◌^◌, ◌∙◌}
 use Rattle.std.specs.Prelude.{slice_get}
 use Rattle.std.proofs.lemmas.Result.{on_err_weaker}
 use Rattle.std.proofs.lemmas.List.{set-get_or}
@@ -9,7 +9,7 @@ use Rattle.intake.specs.Inputs.{input_of}
 use Rattle.bridge_core.specs.Sent.{sent_of}
 use Rattle.bridge_core.specs.LaneState.{LaneOf, Handles}
 use Rattle.bridge_core.specs.Steps.{CoreOf, Step, Takes}
-use Rattle.bridge_core.proofs.StepLaws.{handled, still_sound}
+use Rattle.bridge_core.proofs.StepLaws.{handled, still_placed}
 use Rattle.bridge_core.proofs.bridge.Core.item.Given.{Over}
 use Rattle.bridge_core.proofs.bridge.Core.item.Goals as goal
 
@@ -20,16 +20,18 @@ there g c =
 
 pub invariant_of-self : goal.invariant_of-self
 invariant_of-self g c =
-    still_sound c.self.inside.version c.self.inside.history.state c.self.inside.history.done c.self.inside.intake.asker c.self.inside.lanes.items _ c.args.lane c.index_mut.result.now c.step.new.self c.self.invariant (there g c) c.step.ensures.place.0 c.step.ensures.place.1 c.step.ensures.place.2 refl
+    still_placed c.self.inside.intake.asker c.self.inside.lanes.items _ c.args.lane c.index_mut.result.now c.step.new.self c.self.invariant (there g c) c.step.ensures.place.0 c.step.ensures.place.1 c.step.ensures.place.2 refl
 
 pub returns-clause-takes : goal.returns-clause-takes
 returns-clause-takes g c =
-    let old : CoreOf = record { version = c.self.inside.version; desk = c.self.inside.history.state; done = c.self.inside.history.done; undone = c.self.inside.history.undone; lanes = c.self.inside.lanes.items; intake = c.self.inside.intake } in
-    let new : CoreOf = record { version = c.self.inside.version; desk = c.self.inside.history.state; done = c.self.inside.history.done; undone = c.self.inside.history.undone; lanes = set c.self.inside.lanes.items c.args.lane c.step.new.self; intake = c.self.inside.intake } in
+    let was = c.self.inside in
+    let old : CoreOf = record { version = was.desk.version; desk = was.desk.desk; done = was.desk.done; undone = was.desk.undone; lanes = was.lanes.items; intake = was.intake } in
+    let new : CoreOf = record { version = was.desk.version; desk = was.desk.desk; done = was.desk.done; undone = was.desk.undone; lanes = set was.lanes.items c.args.lane c.step.new.self; intake = was.intake } in
     IfOk-weaker c.step.result _ _ (λ sent does.
     subst (λ (core : CoreOf). Takes core new (Step.item c.args.lane (input_of c.args.item.now)) (map sent_of sent.items ∷ [])) c.self.view_is
     (handled old new c.args.lane c.index_mut.result.now c.step.new.self (input_of c.args.item.now) (map sent_of sent.items) c.self.invariant (there g c)
-    (subst (λ (d : Desk). Handles c.index_mut.result.now c.step.new.self c.self.inside.version d (input_of c.args.item.now) (map sent_of sent.items)) (c.inner-rows.ensures ∙ c.state.ensures) does) refl refl refl)) c.step.ensures.sends
+    (subst (λ (n : ℕ). Handles c.index_mut.result.now c.step.new.self n was.desk.desk (input_of c.args.item.now) (map sent_of sent.items)) c.version.ensures.version
+    (subst (λ (d : Desk). Handles c.index_mut.result.now c.step.new.self c.version.result d (input_of c.args.item.now) (map sent_of sent.items)) c.rows-rows.ensures.rows does)) refl refl refl)) c.step.ensures.sends
 
 pub returns-clause-spent : goal.returns-clause-spent
 returns-clause-spent g c =
@@ -39,7 +41,8 @@ returns-clause-spent g c =
 
 pub returns-clause-err : goal.returns-clause-err
 returns-clause-err g c =
-    let lanes = c.self.inside.lanes.items in
-    let core = λ (ls : List LaneOf). let k : CoreOf = record { version = c.self.inside.version; desk = c.self.inside.history.state; done = c.self.inside.history.done; undone = c.self.inside.history.undone; lanes = ls; intake = c.self.inside.intake } in k in
+    let was = c.self.inside in
+    let lanes = was.lanes.items in
+    let core = λ (ls : List LaneOf). let k : CoreOf = record { version = was.desk.version; desk = was.desk.desk; done = was.desk.done; undone = was.desk.undone; lanes = ls; intake = was.intake } in k in
     on_err_weaker c.step.result (λ same.
     ap core (ap (set lanes c.args.lane) (same ∙ c.index_mut.ensures.value) ∙ set-get_or lanes c.args.lane _) ∙ c.self.view_is) c.step.ensures.err
