@@ -9,7 +9,7 @@ use std::test::Fail;
 use undo_log::{Edits, History, Listed};
 
 /// Member 10 goes, and member 12 comes in its place with a source of audio.
-fn handing_over() -> [Command; 3] {
+pub(crate) fn handing_over() -> [Command; 3] {
     [
         Command::RemoveMember { member: 10 },
         member(12, 5000),
@@ -22,7 +22,7 @@ fn handing_over() -> [Command; 3] {
 }
 
 /// The place of the member, and how many sources and gains there are.
-fn told<'a>(rows: &Rows<&'a LocalHeap>, member: u32) -> (Option<usize>, usize, usize) {
+pub(crate) fn told<'a>(rows: &Rows<&'a LocalHeap>, member: u32) -> (Option<usize>, usize, usize) {
     (
         rows.place_of(member),
         rows.count(Kind::Source),
