@@ -1,0 +1,3 @@
+pub mod BookRule
+pub mod Page
+pub mod ReaderRule

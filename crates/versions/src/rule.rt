@@ -1,0 +1,48 @@
+//! The rule over what is shown, and over what readers and the publisher have seen of it.
+
+ghost use Rattle.std.specs.Prelude.{None};
+ghost use Rattle.versions.specs.Published.{after_list};
+ghost use Rattle.versions.specs.inner.ReaderRule.{Kept, Sees};
+
+use crate::notice::Notice;
+use crate::shelf::Shelf;
+use atomic_table::{Join, Split};
+use crossbeam_utils::rule::{Outcome, Protocol};
+use desk_rows::Rows;
+
+/// What was shown when its owner last looked, and the first desk. No value of it is made.
+pub struct Sight<S, N> {
+    pub start: S,
+    pub notice: N,
+}
+
+/// What an owner has seen, if anything, goes on to what is shown.
+pub struct Follows;
+
+impl Protocol<Shelf, Option<Sight<Rows, Notice>>> for Follows {
+    ghost holds = { Kept after_list };
+
+    ghost first = { None };
+}
+
+/// A step that shows a page or looks at it.
+pub struct Looks;
+
+impl Outcome<Shelf, Option<Sight<Rows, Notice>>> for Looks {
+    ghost then = { Sees after_list };
+}
+
+/// The publisher gives a new reader what it has seen itself.
+pub struct Shares;
+
+impl Split<Option<Sight<Rows, Notice>>> for Shares {
+    ghost left = { λ v. v };
+
+    ghost right = { λ v. v };
+}
+
+impl Join<Option<Sight<Rows, Notice>>> for Shares {
+    ghost both = { λ v w. w };
+
+    ghost spent = { None };
+}

@@ -1,0 +1,156 @@
+//! How a publisher is started with its readers.
+
+ghost use Rattle.std.specs.Prelude.{◌≡◌, ◌↔◌, ◌⊎◌, ◌<◌, ◌≤◌, [], Err, All, length, fold, drop, IfOk};
+ghost use Rattle.left_right.specs.Sides.{view as sight_of};
+ghost use Rattle.versions.specs.Published.{after_list, new_publisher, new_reader, reader_limit};
+ghost use Rattle.versions.specs.inner.Page.{next_page};
+ghost use Rattle.versions.specs.inner.ReaderRule.{IsOf, first_sight, reader_of};
+
+use crate::notice::{Notice, Opened};
+use crate::publisher::{Lead, Publisher};
+use crate::reader::LaneReader;
+use crate::rule::{Looks, Shares};
+use crate::shelf::{Change, Shelf};
+use desk_rows::Rows;
+use left_right::writer::Writer;
+use std::alloc::{AllocError, Global};
+use std::sync::Wait;
+use thiserror::Error;
+use undo_log::Edits;
+
+/// How many readers a publisher may have.
+pub const MAX_READERS: usize = 17;
+
+/// Why no publisher is started. The first that holds is reported.
+#[derive(Clone, Copy, Debug, PartialEq, Eq, Error)]
+pub enum VersionFault {
+    #[error("readers are not 1 to 17")]
+    Places = 1,
+    #[error("out of memory")]
+    OutOfMemory = 2,
+}
+
+/// Starts a publisher of these rows, with so many readers. Version 0 is published.
+pub fn start<R: Wait>(
+    alloc: Global,
+    rt: &R,
+    opened: Opened,
+    rows: Rows,
+    readers: usize,
+) -> Result<(Publisher, Vec<LaneReader>), VersionFault>
+    ensures places { result ≡ Err VersionFault.Places ↔ ((readers ≡ 0) ⊎ (reader_limit < readers)) }
+    ensures publisher { IfOk result (λ r. r.0 ≡ new_publisher opened rows) }
+    ensures count { IfOk result (λ r. length r.1.items ≡ readers) }
+    ensures readers { IfOk result (λ r. All (λ reader. reader ≡ new_reader opened rows) r.1.items) }
+{
+    if readers == 0 || readers > MAX_READERS {
+        return Err(VersionFault::Places);
+    }
+    match made(alloc, rt, opened, rows, readers) {
+        Ok(made) => Ok(made),
+        Err(_) => Err(VersionFault::OutOfMemory),
+    }
+}
+
+fn made<R: Wait>(
+    alloc: Global,
+    rt: &R,
+    opened: Opened,
+    rows: Rows,
+    readers: usize,
+) -> Result<(Publisher, Vec<LaneReader>), AllocError>
+    requires readers { (0 < readers) × (readers ≤ reader_limit) }
+    ensures publisher { IfOk result (λ r. r.0 ≡ new_publisher opened rows) }
+    ensures count { IfOk result (λ r. length r.1.items ≡ readers) }
+    ensures readers { IfOk result (λ r. All (λ reader. reader ≡ new_reader opened rows) r.1.items) }
+{
+    let (head, notice) = opened.into_parts();
+    let second = Shelf::new(rows.copy(alloc)?, notice.again());
+    let first = Shelf::new(rows, notice.again());
+    let writer: Lead = Writer::new(alloc, first, second, readers)?;
+    let mut writer = begun(alloc, rt, writer)?;
+    match seats(alloc, &mut writer, &notice, readers) {
+        Ok(lanes) => {
+            let publisher = Publisher {
+                writer: Some(writer),
+                head,
+                notice,
+                staged: None,
+            };
+            Ok((publisher, lanes))
+        }
+        Err(error) => {
+            writer.take(rt);
+            Err(error)
+        }
+    }
+}
+
+// Gives the log its room, and the publisher a sight of the first page.
+fn begun<R: Wait>(alloc: Global, rt: &R, writer: Lead) -> Result<Lead, AllocError>
+    requires settled { drop writer.behind writer.log.items ≡ [] }
+    requires none { writer.desk.shown.value.notice.lists ≡ [] }
+    ensures same { IfOk result (λ w. w.desk.shown.value ≡ writer.desk.shown.value) }
+    ensures settled { IfOk result (λ w. drop w.behind w.log.items ≡ []) }
+    ensures seen { IfOk result (λ w. sight_of w.desk.place ≡ first_sight writer.desk.shown.value) }
+{
+    let mut writer = writer;
+    for _ in 0..2 {
+        let change = Change {
+            edits: Edits::new(Vec::new(alloc)),
+            notice: writer.published().notice().again(),
+        };
+        if writer.append(change).is_err() {
+            writer.take(rt);
+            return Err(AllocError);
+        }
+    }
+    let writer = turned(rt, writer);
+    Ok(turned(rt, writer))
+}
+
+// Shows the other copy, where what waits changes nothing.
+fn turned<R: Wait>(rt: &R, writer: Lead) -> Lead
+    requires idle { fold (λ page change. next_page after_list page change.edits change.notice)
+        writer.desk.shown.value (drop writer.behind writer.log.items) ≡ writer.desk.shown.value }
+    requires none { writer.desk.shown.value.notice.lists ≡ [] }
+    ensures same { result.desk.shown.value ≡ writer.desk.shown.value }
+    ensures settled { drop result.behind result.log.items ≡ [] }
+    ensures seen { sight_of result.desk.place ≡ first_sight writer.desk.shown.value }
+{
+    let (writer, _) = writer.publish_as::<Looks, R>(rt);
+    writer
+}
+
+fn seats(
+    alloc: Global,
+    writer: &mut Lead,
+    notice: &Notice,
+    readers: usize,
+) -> Result<Vec<LaneReader>, AllocError>
+    requires seen { IsOf notice.now.publisher (sight_of writer.old.desk.place) }
+    ensures same { (writer.new.desk.shown ≡ writer.old.desk.shown) × (writer.new.log ≡ writer.old.log)
+        × (writer.new.behind ≡ writer.old.behind) × (sight_of writer.new.desk.place ≡ sight_of writer.old.desk.place) }
+    ensures count { IfOk result (λ lanes. length lanes.items ≡ readers) }
+    ensures lanes { IfOk result (λ lanes. All (λ l. l ≡ reader_of notice.now (sight_of writer.old.desk.place)) lanes.items) }
+{
+    let mut lanes = Vec::with_capacity(alloc, readers)?;
+    for _ in 0..readers {
+        lanes.push_reserved(seat(writer, notice)?);
+    }
+    Ok(lanes)
+}
+
+fn seat(writer: &mut Lead, notice: &Notice) -> Result<LaneReader, AllocError>
+    requires seen { IsOf notice.now.publisher (sight_of writer.old.desk.place) }
+    ensures same { (writer.new.desk.shown ≡ writer.old.desk.shown) × (writer.new.log ≡ writer.old.log)
+        × (writer.new.behind ≡ writer.old.behind) × (sight_of writer.new.desk.place ≡ sight_of writer.old.desk.place) }
+    ensures lane { IfOk result (λ l. l ≡ reader_of notice.now (sight_of writer.old.desk.place)) }
+{
+    let mut inner = writer.factory().reader()?;
+    inner.learn::<Shares>(writer.tell::<Shares>());
+    Ok(LaneReader {
+        inner,
+        known: notice.again(),
+    })
+}
