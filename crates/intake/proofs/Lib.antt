@@ -11,5 +11,6 @@ pub mod Happens
 pub mod Results
 pub mod Turns
 pub mod Read
+pub mod Readable
 pub mod Sized
 pub mod UnitLemmas

@@ -23,7 +23,7 @@ use std::alloc::{AllocError, Allocator, Global};
 use std::marker::Model;
 
 /// The most octets of a datagram.
-pub(crate) const MOST_OCTETS: usize = 8_192;
+const MOST_OCTETS: usize = 8_192;
 
 /// The receive side. It judges each datagram, and turns it into items for the lanes and datagrams for its sender.
 ///

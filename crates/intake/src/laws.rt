@@ -1,61 +1,30 @@
 //! Laws of the definitions: functions that do nothing when they run.
 
 ghost use Rattle.std.specs.Prelude.{◌≡◌, ℕ, true, if◌then◌else◌, List, map, IfSome, option_map};
-ghost use Rattle.rtp_codec.specs.declared.class.Class.TheVariants as classes;
+ghost use Rattle.rtp_codec.specs.Octets.{AreOctets};
 ghost use Rattle.desk_rows.specs.Desk.{Desk, good};
 ghost use Rattle.topology.specs.Looking.{comes_from};
 ghost use Rattle.feedback.specs.Upstream.{Asker};
-ghost use Rattle.intake.specs.Readings.{Reading, IsOf, IsReading};
+ghost use Rattle.intake.specs.Readings.{Reading, IsReading};
 ghost use Rattle.intake.specs.Stories.{Story};
 ghost use Rattle.intake.specs.Sources.{Origin, Sources, story_at};
 ghost use Rattle.intake.specs.Taking.{Voice, IsVoice};
 ghost use Rattle.intake.specs.Reported.{block_on, renewed, reported};
 
-use crate::intake::MOST_OCTETS;
-use rtcp_codec::{numbers_have_words, read_compound};
-use rtp_codec::{Class, classify, read};
-use std::alloc::Allocator;
+use rtcp_codec::{compound_or_fault, numbers_have_words};
+use rtp_codec::faultless_is_packet;
 
 /// A law: two readings of the same octets are equal.
 pub fn readings_agree()
     ensures { (octets : List ℕ) (r s : Reading) → IsReading octets r → IsReading octets s → r ≡ s }
 {}
 
-/// Octets that look like RTP are a packet, or have a fault.
-fn rtp_is_read(octets: &[u8])
-    requires { IsOf classes.Rtp octets.now }
-    ensures { (r : Reading) × IsReading octets.now r }
+/// A law: any octets have a reading. They are too many, neither RTP nor RTCP, a packet, a compound, or have a fault.
+pub fn datagrams_are_read()
+    ensures { (octets : List ℕ) → AreOctets octets → (r : Reading) × IsReading octets r }
 {
-    match read(octets) {
-        Err(fault) => {}
-        Ok(view) => {}
-    }
-}
-
-/// Octets that look like RTCP are a compound, or have a fault.
-fn rtcp_is_read<A: Allocator + Copy>(alloc: A, octets: &[u8])
-    requires { IsOf classes.Rtcp octets.now }
-    ensures { (r : Reading) × IsReading octets.now r }
-{
-    match read_compound(alloc, octets) {
-        Err(fault) => {}
-        Ok(packets) => {}
-    }
-}
-
-/// A law: each datagram has a reading, whatever memory there is. It is too long, neither RTP nor RTCP, a packet, a
-/// compound, or has a fault.
-pub fn datagrams_are_read<A: Allocator + Copy>(alloc: A, octets: &[u8])
-    ensures { (r : Reading) × IsReading octets.now r }
-{
-    if octets.len() > MOST_OCTETS {
-        return;
-    }
-    match classify(octets) {
-        Class::Neither => {}
-        Class::Rtp => rtp_is_read(octets),
-        Class::Rtcp => rtcp_is_read(alloc, octets),
-    }
+    faultless_is_packet();
+    compound_or_fault();
 }
 
 /// A law: any sequence numbers have NACK words, so the bridge can ask for them.
