@@ -1,0 +1,26 @@
+//! What waits for nobody: a function without a handle calls it.
+
+ghost use Rattle.std.specs.Prelude.{◌≡◌, None, IfOk};
+ghost use mathlib.Core.List.{IsPrefix};
+
+use desk_rows::{Edit, Kind};
+use undo_log::Edits;
+use versions::{LaneReader, Publisher};
+
+/// Stages a list, tells, learns, enters and leaves.
+pub fn waits_for_nobody(
+    publisher: &mut Publisher,
+    reader: LaneReader,
+    edits: Edits<Edit>,
+) -> Result<(usize, LaneReader), LaneReader>
+    requires none { publisher.old.staged ≡ None }
+    requires publisher { publisher.old.publisher ≡ reader.publisher }
+    ensures { IfOk result (λ r. IsPrefix publisher.old.lists r.1.lists) }
+{
+    let mut reader = reader;
+    let _staged = publisher.stage(edits);
+    reader.learn(publisher.tell());
+    let entered = reader.enter()?;
+    let members = entered.rows().count(Kind::Member);
+    Ok((members, entered.leave()))
+}
