@@ -4,8 +4,8 @@ A body that always gives up for lack of memory meets any contract. So each publi
 allocator has to run once where memory is ample: from a test, from a program of cases, or from the program itself on its stored
 input. Each such function has a line with what runs it, or NOWHERE; the status is 1 where one has nothing.
 
-Calls are found in the text, by names: `Type::name(..)`, `name(..)`, and `x.name(..)` where the type of x is told nearby or one
-type alone has such a method. What can't be told counts as no call.
+Calls are found in the text, by names: `Type::name(..)`, `module::name(..)`, `name(..)`, and `x.name(..)` where the type of x is
+told nearby or one type alone has such a method. What can't be told counts as no call.
 """
 
 import re
@@ -16,7 +16,7 @@ from lib.shared import CRATES, crates
 NEEDS = "nothing"
 
 TESTS = {"codec_tests", "desk_tests", "bridge_tests"}
-PROGRAMS = {"confbridge", "codec_cases", "source_cases", "script_cases", "front_cases"}
+PROGRAMS = {"confbridge", "worked_versions", "codec_cases", "source_cases", "script_cases", "front_cases"}
 
 FN = re.compile(r"(?P<vis>pub(?:\(crate\))? |)(?:const )?fn (?P<name>\w+)\s*(?:<[^(]*>)?\(")
 IMPL = re.compile(r"^(?:impl|pub trait|trait)\b(?:<[^{]*?>)?\s*(?:[\w:]+(?:<[^{]*>)? for )?(?P<owner>\w+)[^{]*\{", re.M)
@@ -163,7 +163,7 @@ class Sources:
             found = self.candidates(f, name)
             owner = f.owner if owner == "Self" else owner
             if owner:
-                yield from [g for g in found if g.owner == owner or (owner == g.crate and not g.owner)]
+                yield from [g for g in found if g.owner == owner or (owner.islower() and not g.owner)]
             elif head:
                 kind = self.type_of_path(known, head[:-1].split("."))
                 yield from self.only_method(found) or [g for g in found if g.owner and g.owner == kind]
