@@ -40,3 +40,8 @@ Hears wire (Err e) = Unit {0}
 abbrev pub HearsAll : Wire → List (List ℕ) → Type 0
 HearsAll wire [] = Unit {0}
 HearsAll wire (line ∷ lines) = Hears wire (request_of line) × HearsAll wire lines
+
+-- it is so on each wire that hears these lines, and there is such a wire
+pub record OnWires (lines : List (List ℕ)) (IsSo : Wire → Type 0) : Type 0 where
+  pub each : (wire : Wire) → HearsAll wire lines → IsSo wire
+  pub some : (wire : Wire) × HearsAll wire lines × IsSo wire

@@ -2,11 +2,12 @@
 
 ghost use Rattle.std.specs.Prelude.{◌≡◌, ℕ, ℤ, pos, ◌^◌, ◌<◌, ◌≤◌, List, ◌∷◌, map, Some, Ok, codes};
 ghost use Rattle.std.specs.Fmt.{decimal, signed_decimal};
-ghost use Rattle.std.specs.List.{join_with_byte, flat_map, All, AllByRecursion};
+ghost use Rattle.std.specs.List.{join_with_byte, flat_map, All};
 ghost use Rattle.hex.specs.Hex.{IsBytes, decode_of, encode_lower};
 ghost use Rattle.rtp_codec.specs.declared.address.Address.{Address};
+ghost use Rattle.rtp_codec.specs.Octets.{AreOctets};
 ghost use Rattle.desk_rows.specs.Desk.{Desk as Rows, blank};
-ghost use Rattle.script_text.specs.Wire.{Wire, script_asker, IsHeard, Hears, HearsAll};
+ghost use Rattle.script_text.specs.Wire.{Wire, script_asker, IsHeard, HearsAll};
 ghost use Rattle.script_text.specs.Bridge.{first_desk, text_of};
 ghost use Rattle.script_text.specs.Output.{output_of};
 ghost use Rattle.script_text.specs.Scripts.{answers_of, sent_in, steps_of};
@@ -27,12 +28,11 @@ ghost use Rattle.script_text.specs.Addresses.{address_of, address_text, IsAddres
 ghost use Rattle.frame_gate.specs.Frame.{SourcePacket};
 ghost use Rattle.forward_rewrite.specs.Frame.{SourceFrame};
 ghost use Rattle.intake.specs.Inputs.Input.{frame, tick};
-ghost use Rattle.intake.specs.Readings.{Reading, IsReading};
 ghost use Rattle.desk_edit.specs.Asked.{CallOf};
 ghost use Rattle.desk_edit.specs.Asked.CallOf.{Group};
 ghost use Rattle.desk_edit.specs.declared.command.Command.{Command};
 ghost use Rattle.script_text.specs.Calls.{call_of, call_line, IsCall};
-ghost use Rattle.script_text.specs.Requests.{request_of, words_request, Desk, desk_line, Item, frame_words, frame_line, IsFrame, Rx, rx_words, rx_line, IsDatagram, tick_line, Report, report_line};
+ghost use Rattle.script_text.specs.Requests.{words_request, Desk, desk_line, Item, frame_words, frame_line, IsFrame, Rx, rx_words, rx_line, IsDatagram, tick_line, Report, report_line};
 ghost use Rattle.script_text.specs.Packets.{SpellPackets, packet_of, packet_text, SpellsExt, SpellsHex, SpellsPacket, IsReadable};
 ghost use Rattle.script_text.specs.Lines.{parts_of};
 
@@ -40,7 +40,6 @@ use crate::script::{BRIDGE_SSRC, CNAME};
 use bridge_core::streams_have_no_gap;
 use desk_edit::good_desks_stay_good;
 use intake::{datagrams_are_read, voices_are_there};
-use std::alloc::Allocator;
 
 /// The words of a line have no space, and with single spaces between them they are the line; no
 /// others do. So it is with the parts of a script between its LFs.
@@ -156,23 +155,19 @@ pub fn refusal_words()
     ensures part { (why : Reason) → reason_words why ≡ told_words (told_of (refusal_for why)) }
 {}
 
-/// Each datagram is heard, whatever memory there is: its octets have a reading, and the bridge has words for lost packets.
-pub fn datagrams_are_heard<A: Allocator + Copy>(alloc: A, octets: &[u8])
-    ensures { (wire : Wire) × IsHeard wire octets.now }
+/// One wire hears every datagram: any octets have a reading, and the bridge has words for lost packets.
+pub fn datagrams_are_heard()
+    ensures { (wire : Wire) × ((octets : List ℕ) → AreOctets octets → IsHeard wire octets) }
 {
     voices_are_there();
-    datagrams_are_read(alloc, octets);
+    datagrams_are_read();
 }
 
-/// Where each line of a script is heard, one wire hears them all. Only datagrams have to be heard.
-/// So where all octets have readings, each script has a wire that hears it.
+/// One wire hears all lines of every script: only datagrams have to be heard.
 pub fn scripts_are_heard()
-    ensures each { (lines : List (List ℕ)) → AllByRecursion (λ line. (wire : Wire) × Hears wire (request_of line)) lines
-        → (wire : Wire) × HearsAll wire lines }
-    ensures all { ((octets : List ℕ) → IsBytes octets → (r : Reading) × IsReading octets r)
-        → (lines : List (List ℕ)) → (wire : Wire) × HearsAll wire lines }
+    ensures { (wire : Wire) × ((lines : List (List ℕ)) → HearsAll wire lines) }
 {
-    voices_are_there();
+    datagrams_are_heard();
 }
 
 /// The output of a script is what its requests are answered, and what goes out among it is all that

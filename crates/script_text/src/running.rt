@@ -1,13 +1,14 @@
 //! A run over a source and a sink.
 
 ghost use Rattle.std.specs.Prelude.{◌≡◌, ◌≢◌, ◌⊎◌, ℕ, ◌^◌, ◌<◌, ◌≤◌, length, IfSome, IfOk};
-ghost use Rattle.script_text.specs.Wire.{Wire, HearsAll};
+ghost use Rattle.script_text.specs.Wire.{Wire, HearsAll, OnWires};
 ghost use Rattle.script_text.specs.Lines.{lines_of};
 ghost use Rattle.script_text.specs.Output.{output_of, RunEnds};
 ghost use Rattle.script_text.specs.declared.fault.Fault.{Fault};
 ghost use Rattle.script_text.specs.inner.Steps.{IsOpening, IsMidLine};
 
 use crate::fault::RunFault;
+use crate::laws::scripts_are_heard;
 use crate::script::Script;
 use crate::sending::MOST_CALLS;
 use crate::sink::Sink;
@@ -51,15 +52,8 @@ fn run_with<A: Allocator + Copy, S: Source, T: Sink>(
     Err(RunFault::Read)
 }
 
-/// Reads a script to its end or its first fault, over a new bridge with one lane, and writes what
-/// its lines give and nothing else.
-///
-/// Lines before a fault are answered, the faulty line and what follows are not. Where memory runs
-/// out, what was written is that of the lines before. A reader fails where a call of it does, or
-/// where 2^32 calls have not told the end; a writer where a call fails or takes nothing, where
-/// 2^32 calls have not taken a line's text, or where memory runs out behind a part of it. Only
-/// want of memory may be told at any time.
-pub fn run<A: Allocator + Copy, S: Source, T: Sink>(
+/// Reads a script to its end or its first fault.
+fn run_script<A: Allocator + Copy, S: Source, T: Sink>(
     alloc: A,
     reader: &mut S,
     writer: &mut T,
@@ -79,9 +73,31 @@ pub fn run<A: Allocator + Copy, S: Source, T: Sink>(
     }
 }
 
-/// The output of a script that is in memory, or why the run over it ended: a fault of the script, or
-/// want of memory.
-pub fn output<A: Allocator + Copy>(alloc: A, script: &[u8]) -> Result<Vec<u8, A>, RunFault>
+/// Reads a script to its end or its first fault, over a new bridge with one lane, and writes what
+/// its lines give and nothing else.
+///
+/// Lines before a fault are answered, the faulty line and what follows are not. Where memory runs
+/// out, what was written is that of the lines before. A reader fails where a call of it does, or
+/// where 2^32 calls have not told the end; a writer where a call fails or takes nothing, where
+/// 2^32 calls have not taken a line's text, or where memory runs out behind a part of it. Only
+/// want of memory may be told at any time.
+pub fn run<A: Allocator + Copy, S: Source, T: Sink>(
+    alloc: A,
+    reader: &mut S,
+    writer: &mut T,
+) -> Result<(), RunFault>
+    ensures run { IfSome (S.rest reader.old) (λ input. OnWires (lines_of input)
+        (λ wire. RunEnds wire input (S.rest reader.new) (T.held writer.old) (T.held writer.new) result)) }
+    ensures read { result ≡ Err RunFault.Read → S.may_fail ⊎ S.goes_on (2 ^ 32) reader.old reader.new }
+    ensures write { result ≡ Err RunFault.Write →
+        T.may_fail ⊎ (T.may_starve × T.may_split) ⊎ ((first : T) × T.goes_on (2 ^ 32) first writer.new) }
+{
+    scripts_are_heard();
+    run_script(alloc, reader, writer)
+}
+
+/// The output of a script that is in memory.
+fn script_output<A: Allocator + Copy>(alloc: A, script: &[u8]) -> Result<Vec<u8, A>, RunFault>
     ensures ok { (wire : Wire) → HearsAll wire (lines_of script.now) → IfOk result (λ out. ((output_of wire script.now).fault ≡ None) × (out.items
         ≡ (output_of wire script.now).text)) }
     ensures fault { (wire : Wire) (line word : ℕ) (fault : Fault) → HearsAll wire (lines_of script.now) → result ≡ Err (RunFault.Script line word fault)
@@ -100,4 +116,18 @@ pub fn output<A: Allocator + Copy>(alloc: A, script: &[u8]) -> Result<Vec<u8, A>
         return Err(fault);
     }
     Ok(out)
+}
+
+/// The output of a script that is in memory, or why the run over it ended: a fault of the script, or
+/// want of memory.
+pub fn output<A: Allocator + Copy>(alloc: A, script: &[u8]) -> Result<Vec<u8, A>, RunFault>
+    ensures ok { OnWires (lines_of script.now) (λ wire. IfOk result (λ out.
+        ((output_of wire script.now).fault ≡ None) × (out.items ≡ (output_of wire script.now).text))) }
+    ensures fault { (line word : ℕ) (fault : Fault) → result ≡ Err (RunFault.Script line word fault)
+        → OnWires (lines_of script.now) (λ wire. (output_of wire script.now).fault ≡ Some (line, word, fault)) }
+    ensures read { result ≢ Err RunFault.Read }
+    ensures write { result ≢ Err RunFault.Write }
+{
+    scripts_are_heard();
+    script_output(alloc, script)
 }

@@ -1,8 +1,10 @@
-use Rattle.script_text.proofs.RunLemmas.{no_room_exit}
+use Rattle.script_text.specs.Output.{RunEnds}
+use Rattle.script_text.proofs.HeardLaws.{input_on_wires}
 use Rattle.script_text.proofs.running.run.Goals as goal
 
-pub returns-in_default-clause-run : goal.returns-in_default-clause-run
-returns-in_default-clause-run g c = no_room_exit (g.S.Source.rest c.args.reader.now) (g.T.Sink.held c.args.writer.now)
-
-pub returns-in-Err-clause-run : goal.returns-in-Err-clause-run
-returns-in-Err-clause-run g c = no_room_exit (g.S.Source.rest c.args.reader.now) (g.T.Sink.held c.args.writer.now)
+pub returns-clause-run : goal.returns-clause-run
+returns-clause-run g c =
+    let left = g.S.Source.rest c.run_script.new.reader in
+    let before = g.T.Sink.held c.args.writer.now in
+    let now = g.T.Sink.held c.run_script.new.writer in
+    input_on_wires c.scripts_are_heard.ensures (g.S.Source.rest c.args.reader.now) (λ input wire. RunEnds wire input left before now c.run_script.result) c.run_script.ensures.run
