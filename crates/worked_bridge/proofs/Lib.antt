@@ -1,4 +1,5 @@
 pub mod Wires
 pub mod Answered
 pub mod Spoken
+pub mod SliceOctets
 pub mod Given

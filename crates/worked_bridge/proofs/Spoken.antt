@@ -1,17 +1,12 @@
--- What texts spell, and the one line of a script.
-use Rattle.std.proofs.Common.{rules, ◌≡◌, ◌==◌, ℕ, Bool, true, false, nat_lt, if◌then◌else◌, List, [], ◌∷◌, length, map, Ok, Err, sym, ap, subst, ◌∙◌, arith}
+-- What texts spell.
+use Rattle.std.proofs.Common.{rules, ◌≡◌, ◌==◌, ℕ, Bool, true, false, nat_lt, if◌then◌else◌, List, [], ◌∷◌, length, Ok, Err, sym, ap, subst, ◌∙◌}
 use Rattle.std.specs.Prelude.{Result, OnOk}
-use Rattle.std.specs.List.{AllByRecursion}
-use Rattle.rtp_codec.specs.declared.address.Address.{Address}
 use Rattle.desk_edit.specs.Asked.{CallOf}
 use Rattle.script_text.specs.declared.fault.Fault.{Fault}
 use Rattle.script_text.specs.declared.fault.Fault.TheVariants.{LineTooLong}
 use Rattle.script_text.specs.declared.line.TheConstants.{LINE_LIMIT}
 use Rattle.script_text.specs.Words.{words_of}
 use Rattle.script_text.specs.Calls.{call_of, spoken_words, spoken_call}
-use Rattle.script_text.specs.Requests.{Rx, request_of}
-use Rattle.script_text.specs.Wire.{Wire, IsHeard, Hears}
-use Rattle.worked_bridge.proofs.Answered.{first_or}
 
 abbrev Fails : {A : Type 0} → Result A (ℕ × Fault) → Type 0
 Fails (Ok x) = ⊥
@@ -33,13 +28,6 @@ within true read call is = absurd (subst Fails is tt)
 -- a text that spells a call has words
 pub spoken : (text : List ℕ) (call : CallOf) → spoken_call text ≡ Ok call → call_of 0 (words_of text) ≡ Ok call
 spoken text call is = in_words text call (within (nat_lt LINE_LIMIT (length text)) (call_of 0 (spoken_words text)) call is)
-
--- the one line of a script is heard on the wire of its datagram
-pub one_is_heard : (lines : List (List ℕ)) (moment : ℕ) (from : Address) (octets : List ℕ) → map request_of lines ≡ Ok (Rx moment from octets) ∷ [] → (wire : Wire) → IsHeard wire octets
-    → AllByRecursion (λ line. (wire : Wire) × Hears wire (request_of line)) lines
-one_is_heard [] moment from octets is wire heard = absurd (omega (arith, ap length is))
-one_is_heard (line ∷ []) moment from octets is wire heard = ((wire, subst (Hears wire) (sym (ap (first_or (request_of line)) is)) heard), tt)
-one_is_heard (line ∷ next ∷ lines) moment from octets is wire heard = absurd (omega (arith, ap length is))
 
 -- what follows holds too where it went well
 pub on_ok : {A E : Type 0} {P Q : Type 0} (r : Result A E) → (P → Q) → OnOk r P → OnOk r Q

@@ -12,11 +12,11 @@ use rtp_codec::Address;
 use std::alloc::{AllocError, Global};
 
 /// The octets of a datagram are read in one way, and in no other.
-pub fn octets_are_one_thing(alloc: Global, octets: &[u8])
+pub fn octets_are_one_thing(octets: &[u8])
     ensures { (r : Reading) × IsReading octets.now r × ((s : Reading) → IsReading octets.now s → s ≡ r) }
 {
     readings_agree();
-    datagrams_are_read(alloc, octets);
+    datagrams_are_read();
 }
 
 /// Reports leave the order of use as it is, and sources alone that no member sends.

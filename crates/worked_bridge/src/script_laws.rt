@@ -1,6 +1,6 @@
 //! What the laws of scripts tell a caller, whatever the words are.
 
-ghost use Rattle.std.specs.Prelude.{◌≡◌, ◌≢◌, pos, ◌≤◌, ◌<◌, ◌+◌, ◌%◌, ◌^◌, ◌++◌, ◌∷◌, ℕ, ℤ, true, List, [], codes, length, map, Some, Ok, IfSome, IfOk, OnOk};
+ghost use Rattle.std.specs.Prelude.{◌≡◌, ◌≢◌, pos, ◌≤◌, ◌<◌, ◌+◌, ◌%◌, ◌^◌, ◌++◌, ◌∷◌, ℕ, ℤ, true, List, [], codes, length, Some, IfSome, IfOk, OnOk};
 ghost use Rattle.rtp_codec.specs.declared.address.Address.{Address};
 ghost use Rattle.desk_rows.specs.Desk.{Desk, blank, good};
 ghost use Rattle.frame_gate.specs.Frame.{SourcePacket};
@@ -16,9 +16,9 @@ ghost use Rattle.script_text.specs.Words.{words_of};
 ghost use Rattle.script_text.specs.Lines.{lines_of, parts_of};
 ghost use Rattle.script_text.specs.Numbers.{number_of, ext_of, IsExt};
 ghost use Rattle.script_text.specs.Packets.{IsReadable, packet_text};
-ghost use Rattle.script_text.specs.Requests.{Rx, IsFrame, IsDatagram, frame_line, report_line, request_of, rx_line, tick_line};
+ghost use Rattle.script_text.specs.Requests.{IsFrame, IsDatagram, frame_line, report_line, rx_line, tick_line};
 ghost use Rattle.script_text.specs.Judged.{call_cases};
-ghost use Rattle.script_text.specs.Wire.{Wire, HearsAll, script_asker};
+ghost use Rattle.script_text.specs.Wire.{Wire, IsHeard, HearsAll, script_asker};
 ghost use Rattle.script_text.specs.Scripts.{answers_of, sent_in, steps_of};
 ghost use Rattle.script_text.specs.Output.{output_of};
 
@@ -131,20 +131,32 @@ pub fn tells_the_first_reason(alloc: Global, core: &mut Core, call: Call) -> Rep
     core.desk(alloc, 0, call)
 }
 
-/// The output of a script of one datagram is that of a wire on which it is heard, whatever its octets are.
-pub fn a_datagram_has_an_output(
-    alloc: Global,
-    script: &[u8],
-    moment: u64,
-    from: &Address,
-    octets: &[u8],
-) -> Result<Vec<u8>, RunFault>
-    requires { map request_of (lines_of script.now) ≡ Ok (Rx moment from.now octets.now) ∷ [] }
+/// The octets of a datagram are heard, whatever they are.
+pub fn a_datagram_is_heard(octets: &[u8])
+    ensures { (wire : Wire) × IsHeard wire octets.now }
+{
+    datagrams_are_heard();
+}
+
+/// The output of a script is that of a wire on which the script is heard, whatever its lines are.
+pub fn a_script_has_an_output(alloc: Global, script: &[u8]) -> Result<Vec<u8>, RunFault>
     ensures { IfOk result (λ out. (wire : Wire) × HearsAll wire (lines_of script.now) × (out.items ≡ (output_of wire script.now).text)) }
 {
-    datagrams_are_heard(alloc, octets);
-    scripts_are_heard();
     output(alloc, script)
+}
+
+/// The outputs of two scripts are those of one wire.
+pub fn two_scripts_have_one_wire(
+    alloc: Global,
+    first: &[u8],
+    second: &[u8],
+) -> Result<(Vec<u8>, Vec<u8>), RunFault>
+    ensures { IfOk result (λ both. (wire : Wire) × (both.0.items ≡ (output_of wire first.now).text) × (both.1.items ≡ (output_of wire second.now).text)) }
+{
+    scripts_are_heard();
+    let one = output(alloc, first)?;
+    let other = output(alloc, second)?;
+    Ok((one, other))
 }
 
 /// What a script sends is what the core sends over its steps, from the blank desk of SSRC 1 and under the name `bridge`.

@@ -12,4 +12,4 @@ use Rattle.worked_bridge.proofs.answering.a_script_shows_rows.Goals as goal
 
 pub returns : goal.returns
 unfolding digits desk_after after_call refused outcome_of request_of words_request call_of single command_of values_of address_of field_of
-returns c = (c.in_ok-out.ensures.ok no_wire (tt, (tt, (tt, (tt, (tt, (tt, (tt, (tt, tt))))))))).1
+returns c = (c.in_ok-out.ensures.ok.each no_wire (tt, (tt, (tt, (tt, (tt, (tt, (tt, (tt, tt))))))))).1

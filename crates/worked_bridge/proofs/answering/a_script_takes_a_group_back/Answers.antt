@@ -11,4 +11,4 @@ use Rattle.worked_bridge.proofs.answering.a_script_takes_a_group_back.Goals as g
 
 pub returns : goal.returns
 unfolding digits desk_after after_call reason_against outcome_of request_of words_request call_of headed last_of commands_of command_of values_of
-returns c = (c.in_ok-out.ensures.ok no_wire (tt, (tt, (tt, (tt, tt))))).1
+returns c = (c.in_ok-out.ensures.ok.each no_wire (tt, (tt, (tt, (tt, tt))))).1

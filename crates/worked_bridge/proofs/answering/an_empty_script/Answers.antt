@@ -5,4 +5,4 @@ use Rattle.worked_bridge.proofs.answering.an_empty_script.Goals as goal
 
 pub returns : goal.returns
 unfolding outcome_of request_of words_request
-returns c = (c.in_ok-out.ensures.ok no_wire (tt, tt)).1
+returns c = (c.in_ok-out.ensures.ok.each no_wire (tt, tt)).1
