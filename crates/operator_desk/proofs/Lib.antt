@@ -1,0 +1,4 @@
+pub mod TokenLemmas
+pub mod LogLemmas
+pub mod AnswerLemmas
+pub mod SeatLemmas

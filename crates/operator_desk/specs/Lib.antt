@@ -1,0 +1,9 @@
+pub mod Entry
+pub mod LegalLogs
+pub mod OwnCalls
+pub mod Published
+pub mod Seats
+pub mod Answers
+pub mod Opening
+pub mod Gathering
+pub mod inner

@@ -1,0 +1,79 @@
+//! Entries of the log.
+
+ghost use Rattle.std.specs.Prelude.{◌≡◌, IfOk};
+ghost use Rattle.desk_edit.specs.Asked.{asked_by};
+
+use desk_edit::Call;
+use std::alloc::{AllocError, Global};
+use std::marker::Model;
+
+/// An accepted call, and the operator who made it.
+///
+/// Contracts see the operator, and what the call asks.
+#[derive(Drop)]
+pub struct LogEntry {
+    op: u32,
+    call: Call,
+}
+
+impl Model for LogEntry {
+    ghost use Rattle.desk_edit.specs.Asked.{asked_by};
+    ghost use Rattle.operator_desk.specs.Entry.{EntryOf};
+
+    ghost Value = { EntryOf };
+
+    ghost view = { λ e. record { op = e.op; call = asked_by e.call } };
+}
+
+impl LogEntry {
+    pub(crate) fn new(op: u32, call: Call) -> LogEntry
+        ensures { result ≡ record { op = op; call = asked_by call } }
+    {
+        LogEntry { op, call }
+    }
+
+    /// The operator who made the call.
+    pub fn op(&self) -> u32
+        ensures { result ≡ self.now.op }
+    {
+        self.op
+    }
+
+    pub fn call(&self) -> &Call
+        ensures { asked_by result.now ≡ self.now.call }
+    {
+        &self.call
+    }
+
+    pub fn into_call(self) -> Call
+        ensures { asked_by result ≡ self.call }
+    {
+        self.call
+    }
+
+    /// The same entry again.
+    pub fn copy(&self, alloc: Global) -> Result<LogEntry, AllocError>
+        ensures { IfOk result (λ entry. entry ≡ self.now) }
+    {
+        Ok(LogEntry {
+            op: self.op,
+            call: copied(alloc, &self.call)?,
+        })
+    }
+}
+
+/// A call that asks the same.
+fn copied(alloc: Global, call: &Call) -> Result<Call, AllocError>
+    ensures { IfOk result (λ copy. asked_by copy ≡ asked_by call.now) }
+{
+    match call {
+        Call::Apply(command) => Ok(Call::Apply(*command)),
+        Call::Group(commands) => {
+            let mut parts = Vec::new(alloc);
+            parts.extend_from_slice(commands)?;
+            Ok(Call::Group(parts))
+        }
+        Call::Undo { last } => Ok(Call::Undo { last: *last }),
+        Call::Redo { last } => Ok(Call::Redo { last: *last }),
+    }
+}

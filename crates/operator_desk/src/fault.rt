@@ -1,0 +1,27 @@
+//! Why a desk is not made, and why a log is not handed out.
+
+use thiserror::Error;
+
+/// Why a desk is not made. The first that holds is reported.
+#[derive(Clone, Copy, Debug, PartialEq, Eq, Error)]
+pub enum DeskFault {
+    #[error("the number of operators is not 1 to 16")]
+    Count,
+    #[error("the number of readers is not 1 to 17")]
+    Places,
+    #[error("out of memory")]
+    OutOfMemory,
+}
+
+/// Why a log is not handed out. The first that holds is reported.
+#[derive(Clone, Copy, Debug, PartialEq, Eq, Error)]
+pub enum GatherFault {
+    /// The seat of this operator was not handed in, and of no operator with a lesser number.
+    #[error("the seat of operator {op} is missing")]
+    SeatMissing { op: u32 },
+    /// The log has an entry behind those of this desk, as by another desk over the same log.
+    #[error("the log has entries of another desk")]
+    LogTaken,
+    #[error("out of memory")]
+    OutOfMemory,
+}

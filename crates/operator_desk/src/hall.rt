@@ -1,0 +1,35 @@
+//! What desk, seats and notices of one bridge have in common.
+
+use std::marker::Brand;
+use std::sync::ledger::Ledger;
+
+/// A hall, where one desk stands: the cells of its log, the name of its publisher, the desk that it begins with, and
+/// how many seats it has. It exists in proofs alone. A caller is generic over it, and its own caller picks it
+/// by calling it with `Brand`.
+pub trait Hall: Ledger {
+    ghost use Rattle.std.specs.Prelude.{ℕ, List};
+    ghost use Rattle.logbook.specs.Pages.{Book};
+    ghost use Rattle.desk_rows.specs.Desk.{Desk};
+
+    ghost cells: { List ℕ };
+
+    ghost publisher: { Book };
+
+    ghost start: { Desk };
+
+    /// As many as the ledger has parts.
+    ghost seats: { ℕ };
+}
+
+impl Hall for Brand {
+    ghost use Rattle.std.specs.Prelude.{[]};
+    ghost use Rattle.desk_rows.specs.Desk.{blank};
+
+    ghost cells = { [] };
+
+    ghost publisher = { record { number = 0; log_name = 0; cells_name = 0 } };
+
+    ghost start = { blank 0 };
+
+    ghost seats = { 0 };
+}

@@ -1,0 +1,214 @@
+//! The desk that operators share.
+
+ghost use Rattle.std.specs.Prelude.{◌≡◌, ◌≢◌, true, length, None, Some, Err, IfOk, IfErr, OnOk};
+ghost use Rattle.std.specs.List.{All, sum_by};
+ghost use mathlib.Core.List.{IsPrefix};
+ghost use Rattle.desk_rows.specs.Desk.{blank as no_rows, good};
+ghost use Rattle.desk_edit.specs.Asked.{asked_by};
+ghost use Rattle.versions.specs.Published.{new_reader};
+ghost use Rattle.operator_desk.specs.LegalLogs.{IsLegal};
+ghost use Rattle.operator_desk.specs.Seats.{SeatOf, new_seats};
+ghost use Rattle.operator_desk.specs.Answers.{IsAnswered, IsNotice, IsCopy};
+ghost use Rattle.operator_desk.specs.Opening.{desk_fault};
+ghost use Rattle.operator_desk.specs.Gathering.{IsFault};
+
+use crate::answer::Answer;
+use crate::entry::LogEntry;
+use crate::fault::{DeskFault, GatherFault};
+use crate::gathering::judged;
+use crate::hall::Hall;
+use crate::held::Held;
+use crate::log::Log;
+use crate::seat::{Seat, seats_for};
+use crate::waiting::never;
+use desk_calls::Desk;
+use desk_edit::Call;
+use desk_rows::Rows;
+use std::alloc::{AllocError, Global};
+use std::sync::ledger::Blank;
+use std::sync::{Mutex, MutexGuard, Wait};
+use versions::{LaneReader, MAX_READERS, Notice, Opened, start};
+
+/// The most operators of a desk.
+pub const MAX_OPERATORS: u32 = 16;
+
+/// A desk that up to sixteen operators share. It is not `Drop`: end it by [`SharedDesk::gather`] or
+/// [`SharedDesk::end`].
+pub struct SharedDesk<'a, H: Hall> {
+    inner: Mutex<Held<'a, H>>,
+    seats: u32,
+    ghost all: { seats ≡ H.seats },
+}
+
+impl<'a, H: Hall> SharedDesk<'a, H> {
+    /// A desk without rows over a log in which nothing is written, with a seat for each of 1 to 16 operators, and 1 to
+    /// 17 readers of what it publishes. The ledger has a part for each operator.
+    pub fn new<R: Wait>(
+        rt: &R,
+        alloc: Global,
+        log: &'a Log,
+        blank: Blank,
+        opened: Opened,
+        bridge_ssrc: u32,
+        operators: u32,
+        readers: usize,
+    ) -> Result<(SharedDesk<'a, H>, Vec<Seat<'a, H>>, Vec<LaneReader>), DeskFault>
+        requires log { log.now ≡ H.cells }
+        requires blank { (blank.name ≡ H.name) × (blank.parts ≡ H.parts) }
+        requires publisher { opened ≡ H.publisher }
+        requires start { no_rows bridge_ssrc ≡ H.start }
+        requires seats { (operators ≡ H.seats) × (H.seats ≡ H.parts) }
+        ensures seats { IfOk result (λ r. r.1.items ≡ new_seats operators) }
+        ensures readers { IfOk result (λ r.
+            (length r.2.items ≡ readers) × All (λ l. l ≡ new_reader H.publisher H.start) r.2.items) }
+        ensures good { OnOk result (desk_fault operators readers ≡ None) }
+        ensures fault { IfErr result (λ fault.
+            fault ≢ DeskFault.OutOfMemory → desk_fault operators readers ≡ Some fault) }
+        ensures memory { result ≡ Err DeskFault.OutOfMemory → desk_fault operators readers ≡ None }
+    {
+        if operators == 0 || operators > MAX_OPERATORS {
+            return Err(DeskFault::Count);
+        }
+        if readers == 0 || readers > MAX_READERS {
+            return Err(DeskFault::Places);
+        }
+        let made = SharedDesk::made(
+            rt,
+            alloc,
+            log,
+            blank,
+            opened,
+            bridge_ssrc,
+            operators,
+            readers,
+        );
+        match made {
+            Ok(made) => Ok(made),
+            Err(_) => Err(DeskFault::OutOfMemory),
+        }
+    }
+
+    fn made<R: Wait>(
+        rt: &R,
+        alloc: Global,
+        log: &'a Log,
+        blank: Blank,
+        opened: Opened,
+        bridge_ssrc: u32,
+        operators: u32,
+        readers: usize,
+    ) -> Result<(SharedDesk<'a, H>, Vec<Seat<'a, H>>, Vec<LaneReader>), AllocError>
+        requires log { log.now ≡ H.cells }
+        requires blank { (blank.name ≡ H.name) × (blank.parts ≡ H.parts) }
+        requires publisher { opened ≡ H.publisher }
+        requires start { no_rows bridge_ssrc ≡ H.start }
+        requires seats { (operators ≡ H.seats) × (H.seats ≡ H.parts) }
+        ensures seats { IfOk result (λ r. r.1.items ≡ new_seats operators) }
+        ensures readers { IfOk result (λ r.
+            (length r.2.items ≡ readers) × All (λ l. l ≡ new_reader H.publisher H.start) r.2.items) }
+    {
+        let (calls, mut rest) = blank.open::<H>();
+        let seats = seats_for(alloc, log, &mut rest, operators)?;
+        let entries = Vec::with_capacity(alloc, log.len())?;
+        let desk = Desk::new(alloc, Rows::new(alloc, bridge_ssrc)?);
+        let rows = Rows::new(alloc, bridge_ssrc)?;
+        // A publisher can't be dropped, so it comes last.
+        match start(alloc, rt, opened, rows, readers) {
+            Ok((publisher, lanes)) => {
+                let held = Held {
+                    log,
+                    entries,
+                    next: None,
+                    desk,
+                    publisher,
+                    calls,
+                    rest,
+                };
+                Ok((SharedDesk::around(held, operators), seats, lanes))
+            }
+            Err(_) => Err(AllocError),
+        }
+    }
+
+    fn around(held: Held<'a, H>, seats: u32) -> SharedDesk<'a, H>
+        requires { seats ≡ H.seats }
+    {
+        SharedDesk {
+            inner: Mutex::new(held),
+            seats,
+        }
+    }
+
+    /// Answers a call of one of this desk's seats.
+    ///
+    /// A seat that isn't this desk's waits for ever: where it has seen more than the desk's log, or where that log has
+    /// calls of its operator that it didn't make.
+    pub fn call<R: Wait>(&self, rt: &R, alloc: Global, seat: &mut Seat<'a, H>, call: Call) -> Answer
+        ensures { IsAnswered H.start H.publisher seat.old seat.new (asked_by call) result }
+    {
+        let mut held = self.inner.lock(rt);
+        let answer = held.call(rt, alloc, seat, call);
+        MutexGuard::unlock(held);
+        match answer {
+            Some(answer) => answer,
+            None => never(rt),
+        }
+    }
+
+    /// The notice of what is published now.
+    pub fn notice<R: Wait>(&self, rt: &R) -> Notice
+        ensures { IsNotice H.start H.publisher result }
+    {
+        let held = self.inner.lock(rt);
+        let notice = held.notice();
+        MutexGuard::unlock(held);
+        notice
+    }
+
+    /// The version, and a copy of its rows.
+    pub fn rows<R: Wait>(&self, rt: &R, alloc: Global) -> Result<(u64, Rows), AllocError>
+        ensures copy { IfOk result (λ r. IsCopy H.start r.0 r.1) }
+        ensures good { IfOk result (λ r. good r.1 ≡ true) }
+    {
+        let held = self.inner.lock(rt);
+        let rows = held.rows(alloc);
+        MutexGuard::unlock(held);
+        rows
+    }
+
+    /// The whole log, once all seats are back. Readers find no rows from then on.
+    ///
+    /// It waits for ever where a seat isn't this desk's.
+    pub fn gather<R: Wait>(
+        self,
+        rt: &R,
+        alloc: Global,
+        seats: Vec<Seat<'a, H>>,
+    ) -> Result<Vec<LogEntry>, (SharedDesk<'a, H>, Vec<Seat<'a, H>>, GatherFault)>
+        requires parts { H.seats ≡ H.parts }
+        ensures legal { IfOk result (λ log. IsLegal H.start log.items) }
+        ensures begins { IfOk result (λ log. All (λ (s : SeatOf). IsPrefix s.seen log.items) seats.entry.items) }
+        ensures sum { IfOk result (λ log. length log.items ≡ sum_by (λ (s : SeatOf). s.count) seats.entry.items) }
+        ensures back { IfErr result (λ e. e.1 ≡ seats.entry) }
+        ensures fault { IfErr result (λ e. IsFault H.seats seats.entry.items e.2) }
+    {
+        let SharedDesk {
+            inner,
+            seats: count,
+        } = self;
+        let held = inner.into_inner();
+        match judged(&held, alloc, &seats, count) {
+            Ok(log) => {
+                held.settle(rt, seats);
+                Ok(log)
+            }
+            Err(fault) => Err((SharedDesk::around(held, count), seats, fault)),
+        }
+    }
+
+    /// Gives the log up. Readers find no rows from then on.
+    pub fn end<R: Wait>(self, rt: &R) {
+        let SharedDesk { inner, seats: _ } = self;
+        inner.into_inner().end(rt);
+    }
+}
