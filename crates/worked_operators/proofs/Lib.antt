@@ -1,0 +1,3 @@
+pub mod Both
+pub mod Fronts
+pub mod Leading

@@ -1,0 +1,37 @@
+//! Operators at one desk: calls in turn and at once, a used log, and a reader that is told of calls.
+#![tactic(auto)]
+
+mod saying;
+mod telling;
+mod together;
+mod turns;
+mod used;
+
+use crate::telling::reader_is_told;
+use crate::together::two_at_once;
+use crate::turns::two_in_turn;
+use crate::used::used_log;
+use operator_desk::Log;
+use std::alloc::{AllocError, Global};
+use std::io;
+use std::marker::Brand;
+use std::sync::ledger::Blank;
+use versions::Opened;
+
+fn main(rt: HostRuntime) -> io::Result<()> {
+    let alloc: Global = rt.alloc();
+    let log = made(alloc)?;
+    two_in_turn::<Brand, _>(&rt, alloc, &log, Blank::new(2), Opened::new())?;
+    used_log::<Brand, _>(&rt, alloc, &log, Blank::new(1), Opened::new())?;
+    let log = made(alloc)?;
+    reader_is_told::<Brand, _>(&rt, alloc, &log, Blank::new(1), Opened::new())?;
+    let log = made(alloc)?;
+    two_at_once::<Brand, _>(&rt, alloc, &log, Blank::new(2), Opened::new())
+}
+
+fn made(alloc: Global) -> io::Result<Log> {
+    match Log::new(alloc) {
+        Ok(log) => Ok(log),
+        Err(_) => Err(io::Error::from(AllocError)),
+    }
+}

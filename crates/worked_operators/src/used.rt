@@ -1,0 +1,46 @@
+//! A desk over a log that another desk has used.
+
+ghost use Rattle.std.specs.Prelude.{◌≡◌, vec_len};
+ghost use Rattle.desk_rows.specs.Desk.{blank as no_rows};
+
+use crate::saying::{say_fault, says};
+use desk_edit::{Call, Command};
+use desk_rows::Room;
+use operator_desk::{Hall, Log, SharedDesk};
+use std::alloc::Global;
+use std::io;
+use std::sync::Wait;
+use std::sync::ledger::Blank;
+use versions::Opened;
+
+/// Its calls are refused, and its log is not handed out.
+pub fn used_log<H: Hall, R: Wait + Print>(
+    rt: &R,
+    alloc: Global,
+    log: &Log,
+    blank: Blank,
+    opened: Opened,
+) -> io::Result<()>
+    requires log { log.now ≡ H.cells }
+    requires blank { (blank.name ≡ H.name) × (blank.parts ≡ H.parts) }
+    requires publisher { opened ≡ H.publisher }
+    requires start { no_rows 1 ≡ H.start }
+    requires seats { (1 ≡ H.seats) × (H.seats ≡ H.parts) }
+{
+    match SharedDesk::<H>::new(rt, alloc, log, blank, opened, 1, 1, 1) {
+        Ok((desk, mut seats, _readers)) => {
+            let call = Call::Apply(Command::AddRoom(Room { room: 1 }));
+            let called = says(rt, alloc, &desk, &mut seats[0], call);
+            let gathered = match desk.gather(rt, alloc, seats) {
+                Ok(log) => println!(rt; "gathered {}", log.len()),
+                Err((desk, _seats, fault)) => {
+                    desk.end(rt);
+                    say_fault(rt, fault)
+                }
+            };
+            called?;
+            gathered
+        }
+        Err(_) => println!(rt; "no desk"),
+    }
+}
