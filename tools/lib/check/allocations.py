@@ -30,6 +30,7 @@ VARIANT = re.compile(r"(\w+)::(\w+)\((?:mut )?(\w+)\)")
 LET = re.compile(r"let (?:mut )?((?:Ok|Some|Err)?\(?(?:mut )?\w+)\)? = ([^;{]*)")
 CALL = re.compile(r"([\w.]+\.|)(?:(\w+)(?:::<[^>(]*>)?::)?(\w+)(?:::<[^>(]*>)?\(")
 CHAINED = re.compile(r"(?:\)\??|\])\s*\.(\w+)\(")
+CHAIN = re.compile(r"\b(\w+(?:\.\w+)*)\.(\w+)\([^()]*\)\.(\w+)\(")
 
 
 def options(parser):
@@ -171,6 +172,10 @@ class Sources:
                 yield from [g for g in found if not g.owner]
         for name in CHAINED.findall(f.body):
             yield from self.only_method(self.candidates(f, name))
+        for head, first, name in CHAIN.findall(f.body):
+            kind = self.type_of_path(known, head.split("."))
+            given = {self.type_in(g.gives) for g in self.candidates(f, first) if g.owner and g.owner == kind}
+            yield from [g for g in self.candidates(f, name) if g.owner and g.owner in given]
 
     def run_by(self):
         """Each function that is run, with the test or the program that runs it."""
