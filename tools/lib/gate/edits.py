@@ -1,6 +1,6 @@
 """Tries wrong bodies, each of which the prover has to refuse.
 
-An edit is a file edits/CRATE/NAME.edit, in the form of crates/CRATE/must-fail/*.edit: a line 'file: src/lib.rt' and pairs of
+An edit is a file crates/CRATE/edits/NAME.edit, in the form of crates/CRATE/must-fail/*.edit: a line 'file: src/lib.rt' and pairs of
 lines 'old: TEXT' and 'new: TEXT'. Each old text stands once in that file. Without names all edits of all crates are tried.
 Crates are tried side by side, each in a copy of the repository that is removed afterwards, over what earlier checks kept in
 out/. An edit takes 10 to 80 seconds of a processor, and its crate's first one a whole proof.
@@ -33,9 +33,9 @@ def options(parser):
 def edits_of(names, gate):
     """The edits that are asked for, by their crate."""
     found = {}
-    folders = sorted((ROOT / "edits").glob("*/")) + sorted(CRATES.glob("*/must-fail/")) * gate
+    folders = sorted(CRATES.glob("*/edits/")) + sorted(CRATES.glob("*/must-fail/")) * gate
     for folder in folders:
-        crate = folder.name if folder.parent.name == "edits" else folder.parent.name
+        crate = folder.parent.name
         for edit in sorted(folder.glob("*.edit")):
             if not names or crate in names or f"{crate}/{edit.stem}" in names:
                 found.setdefault(crate, []).append(edit)
@@ -46,7 +46,7 @@ def copy_crates(crate, edits, top):
     """Makes a repository of the crate and those below it, with these edits alone in its must-fail/."""
     needed = crates_below(crate)
     for name in needed:
-        leave = shutil.ignore_patterns("must-fail", "out") if name == crate else shutil.ignore_patterns("must-fail")
+        leave = shutil.ignore_patterns("must-fail", "edits", *["out"] * (name == crate))
         shutil.copytree(CRATES / name, top / "crates" / name, ignore=leave)
     folder = top / "crates" / crate / "must-fail"
     folder.mkdir()
