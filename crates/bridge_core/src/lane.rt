@@ -73,6 +73,13 @@ impl<A: Allocator + Copy> LaneState<A> {
         })
     }
 
+    /// The lane's number among its lanes, from 0.
+    pub fn lane(&self) -> u32
+        ensures { result ≡ self.now.lane }
+    {
+        self.place.lane
+    }
+
     /// Handles one more item under a version of the desk; sound has 1 to 1,600 samples. A refusal changes nothing.
     pub fn step(
         &mut self,
