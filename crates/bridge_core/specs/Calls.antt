@@ -16,12 +16,14 @@ most_lanes = 16
 -- the first fault of what a core is to be made of
 abbrev pub core_fault : ℕ → List ℕ → Option CoreFault
 core_fault lanes cname =
-    if nat_eq lanes 0 || nat_lt most_lanes lanes then Some BadLanes else (if not (is_name cname) then Some BadSettings else None)
+    if nat_eq lanes 0 || nat_lt most_lanes lanes then Some BadLanes
+    else (if not (is_name cname) then Some BadSettings else None)
 
 -- an accepted call takes the next number; a refused one names the version and changes nothing
 abbrev pub Answers : CoreOf → CoreOf → Call → Reply → Type 0
 Answers old new call (Accepted number) =
-    (number ≡ old.version + 1) × (new.version ≡ number) × (new.lanes ≡ old.lanes) × (call_refused (core_desk old) call ≡ None) × Does (core_desk old) (core_desk new) call
+    (number ≡ old.version + 1) × (new.version ≡ number) × (new.lanes ≡ old.lanes)
+    × (call_refused (core_desk old) call ≡ None) × Does (core_desk old) (core_desk new) call
 Answers old new call (Refused at why) = (at ≡ old.version) × (new ≡ old) × IsReason (core_desk old) call why
 
 -- the fact holds where the call was accepted

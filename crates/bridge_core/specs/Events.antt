@@ -14,10 +14,12 @@ pub data Event : Type 0 where
   called : Call → Event
   item : ℕ → Input → Event
 
--- the steps that events are, after a history of calls: an accepted call publishes the desk to which the history with it leads
+-- the steps that events are, after a history of calls: an accepted call publishes the desk to which the history with it
+-- leads
 abbrev pub steps_of : CallHistory → List Event → List Step
 steps_of h [] = []
-steps_of h (Event.called call ∷ events) = Step.publish (desk_now (after_call h call)) ∷ steps_of (after_call h call) events
+steps_of h (Event.called call ∷ events) =
+    Step.publish (desk_now (after_call h call)) ∷ steps_of (after_call h call) events
 steps_of h (Event.item lane input ∷ events) = Step.item lane input ∷ steps_of h events
 
 -- the calls among events, in order
@@ -26,7 +28,8 @@ calls_among [] = []
 calls_among (Event.called call ∷ events) = call ∷ calls_among events
 calls_among (Event.item lane input ∷ events) = calls_among events
 
--- This is what a core answers to a call that it accepts: whatever history of calls has led to it, the call is the history's next, and the desk is good.
+-- This is what a core answers to a call that it accepts: whatever history of calls has led to it, the call is the
+-- history's next, and the desk is good.
 pub record Accepts (old new : CoreOf) (call : Call) : Type 0 where
   pub number : ℕ
   pub answered : (h : CallHistory) → HasCalled old h → IsAnswered h new call (Accepted number)
@@ -48,6 +51,8 @@ pub record Sends (old new : CoreOf) (lane : ℕ) (input : Input) (sent : List Se
 -- From the first core to the last, each takes one of the events; this is what is sent for the items, in order.
 abbrev pub Plays : CoreOf → List Event → List (List Sent) → CoreOf → Type 0
 Plays first [] sent last = (sent ≡ []) × (last ≡ first)
-Plays first (Event.called call ∷ events) sent last = (next : CoreOf) × Accepts first next call × Plays next events sent last
+Plays first (Event.called call ∷ events) sent last =
+    (next : CoreOf) × Accepts first next call × Plays next events sent last
 Plays first (Event.item lane input ∷ events) sent last =
-    (next : CoreOf) × (now : List Sent) × (later : List (List Sent)) × (sent ≡ now ∷ later) × Sends first next lane input now × Plays next events later last
+    (next : CoreOf) × (now : List Sent) × (later : List (List Sent)) × (sent ≡ now ∷ later)
+    × Sends first next lane input now × Plays next events later last

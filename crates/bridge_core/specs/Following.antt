@@ -13,5 +13,6 @@ HasCalled core h = DeskHasCalled (core_desk core) h
 
 -- a call is answered by the history of those before it, and the core goes where the history with it leads
 abbrev pub IsAnswered : CallHistory → CoreOf → Call → Reply → Type 0
-IsAnswered h new call (Accepted number) = (refusal_of h call ≡ None) × (number ≡ h.accepted + 1) × HasCalled new (after_call h call)
+IsAnswered h new call (Accepted number) =
+    (refusal_of h call ≡ None) × (number ≡ h.accepted + 1) × HasCalled new (after_call h call)
 IsAnswered h new call (Refused at why) = (at ≡ h.accepted) × IsTold h call why × HasCalled new h

@@ -1,4 +1,5 @@
--- Each stream numbers without a gap, each packet is its version's choice, each frame goes whole to all who chose it, and what is sent again was sent before (RFC 3550 section 5.1 for the numbers; all else is own).
+-- Each stream numbers without a gap, each packet is its version's choice, each frame goes whole to all who chose it,
+-- and what is sent again was sent before (RFC 3550 section 5.1 for the numbers; all else is own).
 use Rattle.std.specs.Prelude.{◌≡◌, ℕ, ◌+◌, ◌%◌, ◌^◌, true, Bool, List, [], ◌∷◌, map, Some, None, option_map}
 use Rattle.std.specs.List.{AllByRecursion, Contains}
 use Rattle.desk_rows.specs.declared.row.Member.{Member as MemberRow}
@@ -58,7 +59,8 @@ IsGood (Step.item lane input) = Unit {0}
 abbrev pub AreGood : List Step → Type 0
 AreGood steps = AllByRecursion IsGood steps
 
--- The packet is sent first at this visit; by its version's desk, its stream chose the frame's source, which is at the frame's address, and it goes to its slot's member.
+-- The packet is sent first at this visit; by its version's desk, its stream chose the frame's source, which is at the
+-- frame's address, and it goes to its slot's member.
 pub record IsChosen (visit : Visit) (f : SourceFrame) (p : MediaPacket) : Type 0 where
   pub version : p.version ≡ visit.version
   pub item : p.item ≡ visit.item
@@ -73,7 +75,9 @@ IsChosenOf visit f (media p) = IsChosen visit f p
 IsChosenOf visit f (control c) = ⊥
 IsChosenOf visit f (note n) = ⊥
 
--- The packet is sent first at this visit, after what the mixer was given; by its version's desk, it goes to the member whose mix its stream is, at its address, and carries what the member hears, under some number and timestamp, with or without the marker.
+-- The packet is sent first at this visit, after what the mixer was given; by its version's desk, it goes to the member
+-- whose mix its stream is, at its address, and carries what the member hears, under some number and timestamp, with or
+-- without the marker.
 pub record IsMix (before : List Given) (visit : Visit) (p : MediaPacket) : Type 0 where
   pub version : p.version ≡ visit.version
   pub item : p.item ≡ visit.item
@@ -101,17 +105,23 @@ pub record GoesOnce (visit : Visit) (m : MemberRow) (sound : Sound) (sent : List
   pub marker : Bool
   pub once : sent ≡ mix_goes visit (to_member m (mix_packet m.out_audio number ts marker sound)) ∷ []
 
--- What is sent on a stream is all packets of this frame, in order, numbered in a row and with one timestamp, for the first time.
+-- What is sent on a stream is all packets of this frame, in order, numbered in a row and with one timestamp, for the
+-- first time.
 pub record GoesWhole (ssrc : ℕ) (sending : Sending) (sent : List Sent) : Type 0 where
   pub number : ℕ
   pub ts : ℕ
-  pub whole : sent ≡ map (goes ssrc None) (numbered ssrc number (map (part_of record { sending = sending; ts = ts }) sending.frame.frame.packets))
+  pub whole : sent
+      ≡ map (goes ssrc None)
+      (numbered ssrc number (map (part_of record { sending = sending; ts = ts }) sending.frame.frame.packets))
 
--- What is sent again is, octet for octet, one of the last 512 packets that were sent on the stream for the first time; who asks is a member at the address to which it went then.
-pub record LeadsBack (who : Asker) (lanes : ℕ) (start : Desk) (before : List Step) (lane : ℕ) (visit : Visit) (request : Request) (sent : Sent) : Type 0 where
+-- What is sent again is, octet for octet, one of the last 512 packets that were sent on the stream for the first time;
+-- who asks is a member at the address to which it went then.
+pub record LeadsBack (who : Asker) (lanes : ℕ) (start : Desk) (before : List Step) (lane : ℕ) (visit : Visit)
+    (request : Request) (sent : Sent) : Type 0 where
   pub packet : SentPacket
   pub same : sent ≡ goes request.out_ssrc (Some visit.version) packet
-  pub sent_before : Contains (firsts who lanes start (record { kind = Kind.video; ssrc = request.out_ssrc }) before) (goes request.out_ssrc None packet)
+  pub sent_before : Contains (firsts who lanes start (record { kind = Kind.video; ssrc = request.out_ssrc }) before)
+      (goes request.out_ssrc None packet)
   pub recent : Contains (latest room (packets request.out_ssrc (visits lane start before))) packet
   pub address : packet.owner.address ≡ request.from
   pub member : member_from visit.desk request.from ≡ Some packet.owner.member

@@ -14,7 +14,8 @@ use Rattle.bridge_core.specs.Lanes.{Visit, routed, stream_of, given_of, sends_at
 abbrev pub StreamList : Type 0
 StreamList = List (ℕ × StreamOf)
 
--- the lane, how many lanes there are, who the bridge is, how many items it has handled, its video streams, and its mixer
+-- the lane, how many lanes there are, who the bridge is, how many items it has handled, its video streams, and its
+-- mixer
 pub record LaneOf : Type 0 where
   pub lane : ℕ
   pub lanes : ℕ
@@ -27,9 +28,11 @@ pub record LaneOf : Type 0 where
 abbrev pub stream_at : ℕ → StreamList → Option StreamOf
 stream_at ssrc streams = lookup (nat_eq ssrc) streams
 
--- The streams are where these items leave them: each of the lane's is there if it sent any of them, and stands as they leave it.
+-- The streams are where these items leave them: each of the lane's is there if it sent any of them, and stands as they
+-- leave it.
 abbrev pub AreLeft : ℕ → ℕ → StreamList → List Visit → Type 0
-AreLeft lane lanes streams visits = (ssrc : ℕ) → is_mine lane lanes ssrc ≡ true → stream_at ssrc streams ≡ stream_of ssrc (routed ssrc visits)
+AreLeft lane lanes streams visits =
+    (ssrc : ℕ) → is_mine lane lanes ssrc ≡ true → stream_at ssrc streams ≡ stream_of ssrc (routed ssrc visits)
 
 -- The lane has handled these items.
 pub record HasHandled (state : LaneOf) (visits : List Visit) : Type 0 where

@@ -1,5 +1,7 @@
--- What a lane sends, as a function of all its items, in their order, and of who the bridge is (RFC 7667 sections 3.6.1 and 3.6.2; the order of what is sent is own).
-use Rattle.std.specs.Prelude.{ℕ, Bool, true, List, [], ◌∷◌, ◌++◌, length, map, filter, drop, Option, None, Some, option_map}
+-- What a lane sends, as a function of all its items, in their order, and of who the bridge is (RFC 7667 sections 3.6.1
+-- and 3.6.2; the order of what is sent is own).
+use Rattle.std.specs.Prelude.{ℕ, Bool, true, List, [], ◌∷◌, ◌++◌, length}
+use Rattle.std.specs.Prelude.{map, filter, drop, Option, None, Some, option_map}
 use Rattle.std.specs.List.{flat_map, filter_map}
 use Rattle.desk_rows.specs.declared.row.Slot.{Slot as SlotRow}
 use Rattle.desk_rows.specs.Desk.{Desk}
@@ -57,7 +59,8 @@ routed_to visit f r = record {
   sending = record { frame = f; version = visit.version; item = visit.item; owner = owner_of r };
 }
 
--- what an input brings to a stream: a frame where the desk has the stream's slot, this chose the frame's source, and the source's member has the frame's address
+-- what an input brings to a stream: a frame where the desk has the stream's slot, this chose the frame's source, and
+-- the source's member has the frame's address
 abbrev pub routed_of : ℕ → Visit → Input → Option Routed
 routed_of ssrc visit (frame f) = option_map (routed_to visit f) (receiver_on visit.desk f.source f.address ssrc)
 routed_of ssrc visit (audio sound) = None
@@ -79,7 +82,8 @@ routed ssrc visits = filter_map (routed_at ssrc) visits
 abbrev pub sendings : List Routed → List Sending
 sendings rs = map (λ r. r.sending) rs
 
--- all packets of a routed list: the stream begins with the first frame, and takes its first number and timestamp from the slot row of then
+-- all packets of a routed list: the stream begins with the first frame, and takes its first number and timestamp from
+-- the slot row of then
 abbrev pub packets_sent : ℕ → List Routed → List SentPacket
 packets_sent ssrc [] = []
 packets_sent ssrc (r ∷ rs) = packets_of ssrc r.slot.first_seq r.slot.first_ts (sendings (r ∷ rs))
@@ -143,19 +147,26 @@ mix_goes visit p = media record {
 
 -- a compound for a stream, by the version and as the item of the visit
 abbrev pub controls : Visit → (ssrc : ℕ) → Address → List ℕ → Sent
-controls visit ssrc to bytes = control record { version = visit.version; item = visit.item; to = to; ssrc = ssrc; bytes = bytes }
+controls visit ssrc to bytes =
+    control record { version = visit.version; item = visit.item; to = to; ssrc = ssrc; bytes = bytes }
 
 -- a lost picture is asked for again where it is to be passed up: a PLI to that address about that source
 abbrev pub passed_up : Asker → Visit → Loss → Option (Address × ℕ) → List Sent
 passed_up who visit loss None = []
-passed_up who visit loss (Some up) = controls visit loss.out_ssrc up.0 (written (upstream_packets who up.1 [] true)) ∷ []
+passed_up who visit loss (Some up) =
+    controls visit loss.out_ssrc up.0 (written (upstream_packets who up.1 [] true)) ∷ []
 
 -- what a member tells of a stream, as the items before leave it, if it has begun
 abbrev pub notes : Visit → Told → Option ℕ → Option StreamOf → List Sent
 notes visit told None stream = []
 notes visit told (Some member) None = []
 notes visit told (Some member) (Some stream) =
-    note record { version = visit.version; item = visit.item; from = told.from; note = note_of told.block (record { member = member; address = told.from }) stream.window } ∷ []
+    note record {
+      version = visit.version;
+      item = visit.item;
+      from = told.from;
+      note = note_of told.block (record { member = member; address = told.from }) stream.window;
+    } ∷ []
 
 -- what a sender report tells of a video stream, if it has begun
 abbrev pub video_counts : ℕ → List Routed → Option Counts
@@ -165,13 +176,15 @@ video_counts ssrc (r ∷ rs) = counts_of ssrc r.slot.first_ts (sendings (r ∷ r
 -- a stream's sender report of a moment, to a member
 abbrev pub tells : Asker → Visit → (moment : ℕ) → MemberRow → (ssrc : ℕ) → Option Counts → List Sent
 tells who visit moment m ssrc None = []
-tells who visit moment m ssrc (Some counts) = controls visit ssrc m.address (written (sender_packets counts moment who.cname)) ∷ []
+tells who visit moment m ssrc (Some counts) =
+    controls visit ssrc m.address (written (sender_packets counts moment who.cname)) ∷ []
 
 -- the sender reports to a member: of its mix, then of its slots' streams
 abbrev pub reports_to : Asker → List Visit → Visit → (moment : ℕ) → MemberRow → List Sent
 reports_to who before visit moment m =
     tells who visit moment m m.out_audio (mix_counts_of m.out_audio (turns m.out_audio (given_of before)))
-    ++ flat_map (λ s. tells who visit moment m s.out_ssrc (video_counts s.out_ssrc (routed s.out_ssrc before))) (slots_to visit.desk m.member)
+    ++ flat_map (λ s. tells who visit moment m s.out_ssrc (video_counts s.out_ssrc (routed s.out_ssrc before)))
+    (slots_to visit.desk m.member)
 
 -- ---- all that is sent
 
@@ -179,16 +192,19 @@ reports_to who before visit moment m =
 abbrev pub sent_of_input : Asker → List Visit → Visit → Input → List Sent
 -- a frame: to each of its receivers its packets, by place and index
 sent_of_input who before visit (frame f) =
-    flat_map (λ r. map (goes r.slot.out_ssrc None) (packets_at r.slot.out_ssrc before visit)) (receivers visit.desk f.source f.address)
+    flat_map (λ r. map (goes r.slot.out_ssrc None) (packets_at r.slot.out_ssrc before visit))
+    (receivers visit.desk f.source f.address)
 -- sound: nothing, before the next tick
 sent_of_input who before visit (audio sound) = []
 -- a tick: to each member what it hears, by place
 sent_of_input who before visit (tick moment) = map (mix_goes visit) (sent_by (given_of before) visit.desk moment)
 -- numbers that are asked for again: to who asks, what it was sent of the stream's last 512 packets
 sent_of_input who before visit (nack request) =
-    map (goes request.out_ssrc (Some visit.version)) (resends visit.desk request.from request.numbers (latest room (packets request.out_ssrc before)))
+    map (goes request.out_ssrc (Some visit.version))
+    (resends visit.desk request.from request.numbers (latest room (packets request.out_ssrc before)))
 -- a report block: what its member tells of the stream, which goes to nobody
-sent_of_input who before visit (block told) = notes visit told (member_from visit.desk told.from) (stream_of told.block.ssrc (routed told.block.ssrc before))
+sent_of_input who before visit (block told) =
+    notes visit told (member_from visit.desk told.from) (stream_of told.block.ssrc (routed told.block.ssrc before))
 -- a lost picture: to the member of the source that the slot chose, that it is lost
 sent_of_input who before visit (pli loss) = passed_up who visit loss (pli_up visit.desk loss.from loss.out_ssrc)
 -- a report: to each member the sender reports of its streams, by place

@@ -1,4 +1,5 @@
--- Outgoing streams by name, and what is sent on them for the first time (own; two streams of one SSRC are told apart by what they carry).
+-- Outgoing streams by name, and what is sent on them for the first time (own; two streams of one SSRC are told apart by
+-- what they carry).
 use Rattle.std.specs.Prelude.{ℕ, Bool, true, false, if◌then◌else◌, nat_eq, List, [], filter}
 use Rattle.std.specs.List.{flat_map}
 use Rattle.desk_rows.specs.Desk.{Desk}
@@ -27,7 +28,8 @@ is_on ssrc sent = nat_eq (about sent) ssrc
 abbrev pub sent_on : ℕ → List (List Sent) → List Sent
 sent_on ssrc sent = filter (is_on ssrc) (flat_map (λ es. es) sent)
 
--- an input of which packets go out on streams of this kind for the first time: a frame goes out on video streams and a tick on mixes, and no other input on any
+-- an input of which packets go out on streams of this kind for the first time: a frame goes out on video streams and a
+-- tick on mixes, and no other input on any
 abbrev pub begins : Kind → Input → Bool
 begins Kind.video (frame f) = true
 begins Kind.video (audio sound) = false
@@ -48,7 +50,9 @@ begins Kind.mix (report moment) = false
 abbrev pub firsts_at : Asker → ℕ → Desk → Name → List Step → Step → List Sent
 firsts_at who lanes start name before (Step.publish next) = []
 firsts_at who lanes start name before (Step.item lane input) =
-    if begins name.kind input then filter (is_on name.ssrc) (sends_at who lane lanes (visits lane start before) (visit_after start before lane input)) else []
+    if begins name.kind input
+    then filter (is_on name.ssrc)
+    (sends_at who lane lanes (visits lane start before) (visit_after start before lane input)) else []
 
 -- what is sent on a stream for the first time, in order
 abbrev pub firsts : Asker → ℕ → Desk → Name → List Step → List Sent

@@ -5,7 +5,8 @@ use Rattle.reports.specs.declared.noting.LossNote.{LossNote}
 use Rattle.bridge_core.specs.declared.egress.Egress.{Egress}
 use Rattle.bridge_core.specs.declared.egress.Egress.TheVariants.{Media, Control, Note}
 
--- an RTP packet of an outgoing stream: by which version of the desk and as which item of its lane it was sent first, to where, and by which version it is sent again, if it is
+-- an RTP packet of an outgoing stream: by which version of the desk and as which item of its lane it was sent first, to
+-- where, and by which version it is sent again, if it is
 pub record MediaPacket : Type 0 where
   pub version : ℕ
   pub item : ℕ
@@ -15,7 +16,8 @@ pub record MediaPacket : Type 0 where
   pub bytes : List ℕ
   pub resent_by : Option ℕ
 
--- an RTCP compound: by which version of the desk and as which item of its lane it is sent, to where, and for which outgoing stream
+-- an RTCP compound: by which version of the desk and as which item of its lane it is sent, to where, and for which
+-- outgoing stream
 pub record ControlPacket : Type 0 where
   pub version : ℕ
   pub item : ℕ
@@ -45,7 +47,15 @@ about (note n) = n.note.out_ssrc
 -- what a lane sends, without where its octets lie
 abbrev pub sent_of : {A : Type 0} → Egress A → Sent
 sent_of (Media version item to ssrc number bytes resent_by) =
-    Sent.media record { version = version; item = item; to = to; ssrc = ssrc; number = number; bytes = bytes; resent_by = resent_by }
+    Sent.media record {
+      version = version;
+      item = item;
+      to = to;
+      ssrc = ssrc;
+      number = number;
+      bytes = bytes;
+      resent_by = resent_by;
+    }
 sent_of (Control version item to ssrc bytes) =
     Sent.control record { version = version; item = item; to = to; ssrc = ssrc; bytes = bytes.items }
 sent_of (Note version item from told) = Sent.note record { version = version; item = item; from = from; note = told }

@@ -1,5 +1,6 @@
 -- Calls of the desk and items of the lanes, in any order (own).
-use Rattle.std.specs.Prelude.{◌≡◌, ℕ, ◌+◌, ◌-◌, ◌^◌, nat_eq, if◌then◌else◌, List, [], ◌∷◌, ◌++◌, length, Some, slice_get}
+use Rattle.std.specs.Prelude.{◌≡◌, ℕ, ◌+◌, ◌-◌, ◌^◌, nat_eq, if◌then◌else◌}
+use Rattle.std.specs.Prelude.{List, [], ◌∷◌, ◌++◌, length, Some, slice_get}
 use Rattle.desk_rows.specs.Edit.{EditOf}
 use Rattle.desk_rows.specs.Desk.{Desk}
 use Rattle.desk_calls.specs.Desk.{DeskOf}
@@ -38,14 +39,17 @@ abbrev pub along : {X : Type 0} → (List Step → Step → List X) → List Ste
 along at before [] = []
 along at before (step ∷ steps) = at before step ++ along at (before ++ step ∷ []) steps
 
--- an item that comes to a lane after these steps: with its version, its number in the lane, and the desk of that version
+-- an item that comes to a lane after these steps: with its version, its number in the lane, and the desk of that
+-- version
 abbrev pub visit_after : Desk → List Step → ℕ → Input → Visit
-visit_after start before lane input = visit_of (version_of before) (count_of lane before + 1) (desk_of start before) input
+visit_after start before lane input =
+    visit_of (version_of before) (count_of lane before + 1) (desk_of start before) input
 
 -- the visit that a step is to a lane, if it is one
 abbrev pub visit_at : ℕ → Desk → List Step → Step → List Visit
 visit_at lane start before (Step.publish next) = []
-visit_at lane start before (Step.item to input) = if nat_eq to lane then visit_after start before lane input ∷ [] else []
+visit_at lane start before (Step.item to input) =
+    if nat_eq to lane then visit_after start before lane input ∷ [] else []
 
 -- the items of a lane
 abbrev pub visits : ℕ → Desk → List Step → List Visit
@@ -78,7 +82,8 @@ core_desk core = record { version = core.version; desk = core.desk; done = core.
 pub record HasTaken (core : CoreOf) (start : Desk) (steps : List Step) : Type 0 where
   pub version : core.version ≡ version_of steps
   pub desk : core.desk ≡ desk_of start steps
-  pub lanes : (lane : ℕ) (state : LaneOf) → slice_get core.lanes lane ≡ Some state → HasHandled state (visits lane start steps)
+  pub lanes : (lane : ℕ) (state : LaneOf) → slice_get core.lanes lane ≡ Some state
+      → HasHandled state (visits lane start steps)
 
 -- Whatever steps the old core has taken, this is what is sent at one more, and the new core has taken it too.
 abbrev pub Takes : CoreOf → CoreOf → Step → List (List Sent) → Type 0

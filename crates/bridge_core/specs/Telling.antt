@@ -1,5 +1,7 @@
--- What is told of outgoing streams: reports count what was sent first, notes lead back to it, and a lost picture is asked for where it comes from (RFC 3550 section 6.4, RFC 4585 section 6.3.1; that notes name the packet is own).
-use Rattle.std.specs.Prelude.{◌≡◌, ℕ, ◌+◌, ◌-◌, ◌*◌, ◌%◌, ◌^◌, true, List, [], ◌∷◌, length, map, sum_by, Some, None, IfSome, option_and_then}
+-- What is told of outgoing streams: reports count what was sent first, notes lead back to it, and a lost picture is
+-- asked for where it comes from (RFC 3550 section 6.4, RFC 4585 section 6.3.1; that notes name the packet is own).
+use Rattle.std.specs.Prelude.{◌≡◌, ℕ, ◌+◌, ◌-◌, ◌*◌, ◌%◌, ◌^◌, true, List}
+use Rattle.std.specs.Prelude.{[], ◌∷◌, length, map, sum_by, Some, None, IfSome, option_and_then}
 use Rattle.std.specs.List.{Contains}
 use Rattle.rtcp_codec.specs.Compound.{written}
 use Rattle.rtcp_codec.specs.declared.report.ReportBlock.{ReportBlock}
@@ -28,13 +30,16 @@ abbrev pub IsOwnStream : Desk → MemberRow → Kind → ℕ → Type 0
 IsOwnStream d m Kind.video ssrc = (slot : SlotRow) × Contains (slots_to d m.member) slot × (slot.out_ssrc ≡ ssrc)
 IsOwnStream d m Kind.mix ssrc = m.out_audio ≡ ssrc
 
--- how many octets of payload a packet without padding and extension has: what is behind the twelve that each begins with and the contributing sources that its first octet counts (RFC 3550 section 5.1)
+-- how many octets of payload a packet without padding and extension has: what is behind the twelve that each begins
+-- with and the contributing sources that its first octet counts (RFC 3550 section 5.1)
 abbrev pub payload_size : List ℕ → ℕ
 payload_size [] = 0
 payload_size (first ∷ more) = length (first ∷ more) - (12 + 4 * (first % 16))
 
--- At this visit a member is sent the sender report of one of its streams. It counts the packets that were sent on the stream for the first time and their octets of payload, and no others.
-pub record IsSenderReport (who : Asker) (lanes : ℕ) (start : Desk) (before : List Step) (visit : Visit) (moment : ℕ) (c : ControlPacket) : Type 0 where
+-- At this visit a member is sent the sender report of one of its streams. It counts the packets that were sent on the
+-- stream for the first time and their octets of payload, and no others.
+pub record IsSenderReport (who : Asker) (lanes : ℕ) (start : Desk) (before : List Step) (visit : Visit) (moment : ℕ)
+    (c : ControlPacket) : Type 0 where
   pub version : c.version ≡ visit.version
   pub item : c.item ≡ visit.item
   pub member : MemberRow
@@ -46,7 +51,9 @@ pub record IsSenderReport (who : Asker) (lanes : ℕ) (start : Desk) (before : L
   pub bytes : c.bytes ≡ written (sender_packets counts moment who.cname)
   pub ssrc : counts.ssrc ≡ c.ssrc
   pub packets : counts.packets ≡ length (firsts who lanes start (record { kind = kind; ssrc = c.ssrc }) before) % 2 ^ 32
-  pub octets : counts.octets ≡ sum_by (λ p. payload_size p.bytes) (map numbered_of (firsts who lanes start (record { kind = kind; ssrc = c.ssrc }) before)) % 2 ^ 32
+  pub octets : counts.octets
+      ≡ sum_by (λ p. payload_size p.bytes)
+      (map numbered_of (firsts who lanes start (record { kind = kind; ssrc = c.ssrc }) before)) % 2 ^ 32
 
 -- What is sent at a report is a sender report.
 abbrev pub IsSenderReportOf : Asker → ℕ → Desk → List Step → Visit → (moment : ℕ) → Sent → Type 0
@@ -54,15 +61,20 @@ IsSenderReportOf who lanes start before visit moment (media p) = ⊥
 IsSenderReportOf who lanes start before visit moment (control c) = IsSenderReport who lanes start before visit moment c
 IsSenderReportOf who lanes start before visit moment (note n) = ⊥
 
--- The block's highest number is that of this packet, which went to this owner for the first time, and is among the last 512 of the stream.
-pub record IsReached (who : Asker) (lanes : ℕ) (start : Desk) (before : List Step) (lane : ℕ) (block : ReportBlock) (owner : Owner) (p : SentPacket) : Type 0 where
+-- The block's highest number is that of this packet, which went to this owner for the first time, and is among the last
+-- 512 of the stream.
+pub record IsReached (who : Asker) (lanes : ℕ) (start : Desk) (before : List Step) (lane : ℕ) (block : ReportBlock)
+    (owner : Owner) (p : SentPacket) : Type 0 where
   pub number : p.number ≡ block.highest % 2 ^ 16
   pub its_owner : p.owner ≡ owner
-  pub sent_before : Contains (firsts who lanes start (record { kind = Kind.video; ssrc = block.ssrc }) before) (goes block.ssrc None p)
+  pub sent_before : Contains (firsts who lanes start (record { kind = Kind.video; ssrc = block.ssrc }) before)
+      (goes block.ssrc None p)
   pub recent : Contains (latest room (packets block.ssrc (visits lane start before))) p
 
--- At this visit a note says what the block of a member says: its losses, and the source packet that it reaches, where there is one.
-pub record IsNote (who : Asker) (lanes : ℕ) (start : Desk) (before : List Step) (lane : ℕ) (visit : Visit) (told : Told) (n : Notice) : Type 0 where
+-- At this visit a note says what the block of a member says: its losses, and the source packet that it reaches, where
+-- there is one.
+pub record IsNote (who : Asker) (lanes : ℕ) (start : Desk) (before : List Step) (lane : ℕ) (visit : Visit) (told : Told)
+    (n : Notice) : Type 0 where
   pub version : n.version ≡ visit.version
   pub item : n.item ≡ visit.item
   pub from : n.from ≡ told.from
@@ -71,8 +83,11 @@ pub record IsNote (who : Asker) (lanes : ℕ) (start : Desk) (before : List Step
   pub ssrc : n.note.out_ssrc ≡ told.block.ssrc
   pub fraction : n.note.fraction ≡ told.block.fraction
   pub lost : n.note.lost ≡ told.block.lost
-  pub reached : IfSome n.note.source (λ s. (p : SentPacket) × ((p.source, p.ext) ≡ s) × IsReached who lanes start before lane told.block (record { member = member; address = told.from }) p)
-  pub unreached : n.note.source ≡ None → (p : SentPacket) → IsReached who lanes start before lane told.block (record { member = member; address = told.from }) p → ⊥
+  pub reached : IfSome n.note.source (λ s.
+      (p : SentPacket) × ((p.source, p.ext) ≡ s)
+      × IsReached who lanes start before lane told.block (record { member = member; address = told.from }) p)
+  pub unreached : n.note.source ≡ None → (p : SentPacket)
+      → IsReached who lanes start before lane told.block (record { member = member; address = told.from }) p → ⊥
 
 -- What is sent of a block is a note.
 abbrev pub IsNoteOf : Asker → ℕ → Desk → List Step → ℕ → Visit → Told → Sent → Type 0
@@ -80,7 +95,8 @@ IsNoteOf who lanes start before lane visit told (media p) = ⊥
 IsNoteOf who lanes start before lane visit told (control c) = ⊥
 IsNoteOf who lanes start before lane visit told (note n) = IsNote who lanes start before lane visit told n
 
--- At this visit the slot's member tells that it lost the picture, and the source that the slot chose is asked for one: a PLI to the address of the source's member.
+-- At this visit the slot's member tells that it lost the picture, and the source that the slot chose is asked for one:
+-- a PLI to the address of the source's member.
 pub record IsPassedUp (who : Asker) (visit : Visit) (loss : Loss) (c : ControlPacket) : Type 0 where
   pub version : c.version ≡ visit.version
   pub item : c.item ≡ visit.item

@@ -26,7 +26,8 @@ HasCommands (Redo last) = ⊥
 abbrev pub AcceptsAll : CoreOf → List Call → CoreOf → Type 0
 AcceptsAll first [] last = last ≡ first
 AcceptsAll first (call ∷ calls) last =
-    (next : CoreOf) × Answers first next call (Accepted (first.version + 1)) × HasCommands call × AcceptsAll next calls last
+    (next : CoreOf) × Answers first next call (Accepted (first.version + 1)) × HasCommands call
+    × AcceptsAll next calls last
 
 -- so many undos in a row, from this version on: each names the last accepted call
 abbrev pub undos : ℕ → ℕ → List Call
@@ -45,11 +46,13 @@ all_accepted version (suc n) = Accepted (version + 1) ∷ all_accepted (version 
 
 -- this is how a core answers so many undos in a row, for which its log has room
 abbrev pub UndoesInARow : CoreOf → ℕ → List Reply → CoreOf → Type 0
-UndoesInARow first n replies last = (first.version + n ≤ call_limit) × AnswersAll first (undos first.version n) replies last
+UndoesInARow first n replies last =
+    (first.version + n ≤ call_limit) × AnswersAll first (undos first.version n) replies last
 
 -- this is how a core answers so many redos in a row, for which its log has room
 abbrev pub RedoesInARow : CoreOf → ℕ → List Reply → CoreOf → Type 0
-RedoesInARow first n replies last = (first.version + n ≤ call_limit) × AnswersAll first (redos first.version n) replies last
+RedoesInARow first n replies last =
+    (first.version + n ≤ call_limit) × AnswersAll first (redos first.version n) replies last
 
 -- the desk, what is done and what is undone are the same
 abbrev pub IsAsWas : CoreOf → CoreOf → Type 0

@@ -24,7 +24,8 @@ pub fn put_sound<A: Allocator + Copy>(
     ts: u32,
     samples: &[i16],
 ) -> Result<Vec<Egress<A>, A>, AllocError>
-    requires sized { is_sized (audio_input (record { source = source; address = address.now; ts = ts; samples = samples.now })) ≡ true }
+    requires sized { is_sized
+        (audio_input (record { source = source; address = address.now; ts = ts; samples = samples.now })) ≡ true }
     ensures given { OnOk result (IsGiven mixer.old mixer.new (Given.put source address.now ts samples.now)) }
     ensures nothing { IfOk result (λ sent. map sent_of sent.items ≡ []) }
     ensures err { OnErr result (mixer.new ≡ mixer.old) }
@@ -73,7 +74,8 @@ pub fn send_mixes<A: Allocator + Copy>(
     rows: &Rows<A>,
     moment: u64,
 ) -> Result<Vec<Egress<A>, A>, AllocError>
-    ensures ticks { IfOk result (λ sent. TicksAs place.now.lane place.now.lanes mixer.old mixer.new stamp rows.now moment (map sent_of sent.items)) }
+    ensures ticks { IfOk result (λ sent.
+        TicksAs place.now.lane place.now.lanes mixer.old mixer.new stamp rows.now moment (map sent_of sent.items)) }
     ensures err { OnErr result (mixer.new ≡ mixer.old) }
 {
     let mut out = Vec::with_capacity(alloc, rows.members().len())?;

@@ -1,6 +1,7 @@
 //! The desk and the lanes together.
 
-ghost use Rattle.std.specs.Prelude.{◌≡◌, ◌+◌, ◌<◌, ◌≤◌, ◌≢◌, ◌↔◌, true, [], ◌∷◌, map, length, None, Some, IfOk, IfErr, OnOk, OnErr};
+ghost use Rattle.std.specs.Prelude.{◌≡◌, ◌+◌, ◌<◌, ◌≤◌, ◌≢◌, ◌↔◌, true, [], ◌∷◌};
+ghost use Rattle.std.specs.Prelude.{map, length, None, Some, IfOk, IfErr, OnOk, OnErr};
 ghost use Rattle.desk_rows.specs.Desk.{blank, good};
 ghost use Rattle.desk_edit.specs.Asked.{asked_by};
 ghost use Rattle.desk_edit.specs.Calls.{CallHistory, no_calls};
@@ -64,9 +65,11 @@ impl<A: Allocator + Copy> Core<A> {
         ensures lists { IfOk result (λ core. (core.done ≡ []) × (core.undone ≡ [])) }
         ensures lanes { IfOk result (λ core. length core.lanes ≡ lanes) }
         ensures sources { IfOk result (λ core. Knows core.intake no_sources) }
-        ensures asker { IfOk result (λ core. core.intake.asker ≡ record { ssrc = settings.bridge_ssrc; cname = settings.cname }) }
+        ensures asker { IfOk result
+            (λ core. core.intake.asker ≡ record { ssrc = settings.bridge_ssrc; cname = settings.cname }) }
         ensures good { OnOk result (core_fault lanes settings.cname ≡ None) }
-        ensures fault { IfErr result (λ fault. fault ≢ CoreFault.OutOfMemory → core_fault lanes settings.cname ≡ Some fault) }
+        ensures fault { IfErr result
+            (λ fault. fault ≢ CoreFault.OutOfMemory → core_fault lanes settings.cname ≡ Some fault) }
         ensures memory { result ≡ Err CoreFault.OutOfMemory → core_fault lanes settings.cname ≡ None }
     {
         if lanes == 0 || lanes > LANES {
@@ -142,7 +145,8 @@ impl<A: Allocator + Copy> Core<A> {
     ) -> Result<Vec<Egress<A>, A>, LaneFault>
         requires lane { lane < length self.old.lanes }
         requires sized { is_sized (input_of item.now) ≡ true }
-        ensures takes { IfOk result (λ sent. Takes self.old self.new (Step.item lane (input_of item.now)) (map sent_of sent.items ∷ [])) }
+        ensures takes { IfOk result
+            (λ sent. Takes self.old self.new (Step.item lane (input_of item.now)) (map sent_of sent.items ∷ [])) }
         ensures spent { (result ≡ Err LaneFault.Spent) ↔ IsSpent self.old lane }
         ensures err { OnErr result (self.new ≡ self.old) }
         ensures lanes { length self.new.lanes ≡ length self.old.lanes }
@@ -165,8 +169,12 @@ impl<A: Allocator + Copy> Core<A> {
         moment: u64,
         octets: &[u8],
     ) -> Result<Ingest<A>, AllocError>
-        ensures takes { IfOk result (λ ingest. TakesIn self.old.intake self.new.intake (ingested_of ingest) octets.now (λ r. record { desk = self.old.desk; from = from.now; moment = moment; reading = r })) }
-        ensures others { (self.new.version ≡ self.old.version) × (self.new.desk ≡ self.old.desk) × (self.new.done ≡ self.old.done) × (self.new.undone ≡ self.old.undone) × (self.new.lanes ≡ self.old.lanes) }
+        ensures takes { IfOk result (λ ingest.
+            TakesIn self.old.intake self.new.intake (ingested_of ingest) octets.now
+            (λ r. record { desk = self.old.desk; from = from.now; moment = moment; reading = r })) }
+        ensures others { (self.new.version ≡ self.old.version) × (self.new.desk ≡ self.old.desk)
+            × (self.new.done ≡ self.old.done) × (self.new.undone ≡ self.old.undone)
+            × (self.new.lanes ≡ self.old.lanes) }
         ensures asker { self.new.intake.asker ≡ self.old.intake.asker }
         ensures err { OnErr result (self.new ≡ self.old) }
     {
@@ -174,16 +182,19 @@ impl<A: Allocator + Copy> Core<A> {
         self.intake.datagram(alloc, rows, from, moment, octets)
     }
 
-    /// The receiver reports of the bridge at a moment, in nanoseconds since 1970: one datagram for each member of whose sources one
-    /// at least is known and past probation, with a block for each such source (RFC 3550 section 6.4.2). These sources begin a new
-    /// interval. An error says that memory was refused, and then nothing has changed.
+    /// The receiver reports of the bridge at a moment, in nanoseconds since 1970: one datagram for each member of whose
+    /// sources one at least is known and past probation, with a block for each such source (RFC 3550 section 6.4.2).
+    /// These sources begin a new interval. An error says that memory was refused, and then nothing has changed.
     pub fn reports(
         &mut self,
         alloc: A,
         moment: u64,
     ) -> Result<Vec<(Address, Vec<u8, A>), A>, AllocError>
-        ensures tells { IfOk result (λ up. Tells self.old.intake self.new.intake (map datagram_of up.items) self.old.desk moment) }
-        ensures others { (self.new.version ≡ self.old.version) × (self.new.desk ≡ self.old.desk) × (self.new.done ≡ self.old.done) × (self.new.undone ≡ self.old.undone) × (self.new.lanes ≡ self.old.lanes) }
+        ensures tells { IfOk result
+            (λ up. Tells self.old.intake self.new.intake (map datagram_of up.items) self.old.desk moment) }
+        ensures others { (self.new.version ≡ self.old.version) × (self.new.desk ≡ self.old.desk)
+            × (self.new.done ≡ self.old.done) × (self.new.undone ≡ self.old.undone)
+            × (self.new.lanes ≡ self.old.lanes) }
         ensures asker { self.new.intake.asker ≡ self.old.intake.asker }
         ensures err { OnErr result (self.new ≡ self.old) }
     {
@@ -200,7 +211,8 @@ fn lane_states<A: Allocator + Copy>(
 ) -> Result<Vec<LaneState<A>, A>, AllocError>
     requires lanes { lanes ≤ most_lanes }
     requires name { is_name settings.now.cname ≡ true }
-    ensures fresh { IfOk result (λ v. AreFresh lanes (record { ssrc = settings.now.bridge_ssrc; cname = settings.now.cname }) v.items) }
+    ensures fresh { IfOk result
+        (λ v. AreFresh lanes (record { ssrc = settings.now.bridge_ssrc; cname = settings.now.cname }) v.items) }
     ensures count { IfOk result (λ v. length v.items ≡ lanes) }
 {
     let mut states = Vec::with_capacity(alloc, lanes as usize)?;

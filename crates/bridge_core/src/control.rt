@@ -42,7 +42,14 @@ pub fn note_block<A: Allocator + Copy>(
     from: &Address,
     block: &ReportBlock,
 ) -> Result<Vec<Egress<A>, A>, AllocError>
-    ensures { IfOk result (λ sent. map sent_of sent.items ≡ (if is_mine place.now.lane place.now.lanes block.now.ssrc then notes (visit_of stamp.version stamp.item rows.now (block_input (record { from = from.now; block = block.now }))) (record { from = from.now; block = block.now }) (member_from rows.now from.now) (stream_at block.now.ssrc video.now) else [])) }
+    ensures { IfOk result (λ sent.
+        map sent_of sent.items
+        ≡ (if is_mine place.now.lane place.now.lanes block.now.ssrc
+        then notes
+        (visit_of stamp.version stamp.item rows.now
+        (block_input (record { from = from.now; block = block.now })))
+        (record { from = from.now; block = block.now }) (member_from rows.now from.now)
+        (stream_at block.now.ssrc video.now) else [])) }
 {
     if !place.is_mine(block.ssrc) {
         return Ok(Vec::new(alloc));
@@ -68,8 +75,8 @@ pub fn note_block<A: Allocator + Copy>(
     )
 }
 
-/// A receiver's picture loss on a stream of the lane, passed up to the member of the source that the stream's slot chose, if the
-/// receiver is the slot's member (RFC 4585 section 6.3.1).
+/// A receiver's picture loss on a stream of the lane, passed up to the member of the source that the stream's slot
+/// chose, if the receiver is the slot's member (RFC 4585 section 6.3.1).
 pub fn pass_up<A: Allocator + Copy>(
     alloc: A,
     settings: &Settings<A>,
@@ -80,7 +87,14 @@ pub fn pass_up<A: Allocator + Copy>(
     out_ssrc: u32,
 ) -> Result<Vec<Egress<A>, A>, AllocError>
     requires { is_name settings.now.cname ≡ true }
-    ensures { IfOk result (λ sent. map sent_of sent.items ≡ (if is_mine place.now.lane place.now.lanes out_ssrc then passed_up (record { ssrc = settings.now.bridge_ssrc; cname = settings.now.cname }) (visit_of stamp.version stamp.item rows.now (pli_input (record { from = from.now; out_ssrc = out_ssrc }))) (record { from = from.now; out_ssrc = out_ssrc }) (pli_up rows.now from.now out_ssrc) else [])) }
+    ensures { IfOk result (λ sent.
+        map sent_of sent.items
+        ≡ (if is_mine place.now.lane place.now.lanes out_ssrc
+        then passed_up (record { ssrc = settings.now.bridge_ssrc; cname = settings.now.cname })
+        (visit_of stamp.version stamp.item rows.now
+        (pli_input (record { from = from.now; out_ssrc = out_ssrc })))
+        (record { from = from.now; out_ssrc = out_ssrc }) (pli_up rows.now from.now out_ssrc)
+        else [])) }
 {
     if !place.is_mine(out_ssrc) {
         return Ok(Vec::new(alloc));

@@ -32,7 +32,8 @@ pub enum Egress<A: Allocator + Copy = Global> {
         ssrc: u32,
         bytes: Vec<u8, A>,
     },
-    /// What a receiver tells of an outgoing stream. It goes to nobody by itself: whoever runs the core shows it or drops it.
+    /// What a receiver tells of an outgoing stream. It goes to nobody by itself: whoever runs the core shows it or
+    /// drops it.
     Note {
         /// The desk version by which it is told.
         version: u64,

@@ -60,7 +60,8 @@ impl<A: Allocator + Copy> LaneState<A> {
         requires name { is_name settings.cname ≡ true }
         ensures nothing_handled { IfOk result (λ state. HasHandled state []) }
         ensures place { IfOk result (λ state. (state.lane ≡ lane) × (state.lanes ≡ lanes)) }
-        ensures who { IfOk result (λ state. state.who ≡ record { ssrc = settings.bridge_ssrc; cname = settings.cname }) }
+        ensures who { IfOk result
+            (λ state. state.who ≡ record { ssrc = settings.bridge_ssrc; cname = settings.cname }) }
     {
         let video = VideoStreams::new(alloc)?;
         let audio = Mixer::new(alloc)?;
@@ -89,8 +90,10 @@ impl<A: Allocator + Copy> LaneState<A> {
         item: &Item<A>,
     ) -> Result<Vec<Egress<A>, A>, LaneFault>
         requires sized { is_sized (input_of item.now) ≡ true }
-        ensures sends { IfOk result (λ sent. Handles self.old self.new version rows.now (input_of item.now) (map sent_of sent.items)) }
-        ensures place { (self.new.lane ≡ self.old.lane) × (self.new.lanes ≡ self.old.lanes) × (self.new.who ≡ self.old.who) }
+        ensures sends { IfOk result
+            (λ sent. Handles self.old self.new version rows.now (input_of item.now) (map sent_of sent.items)) }
+        ensures place { (self.new.lane ≡ self.old.lane) × (self.new.lanes ≡ self.old.lanes)
+            × (self.new.who ≡ self.old.who) }
         ensures count { OnOk result (self.new.handled ≡ self.old.handled + 1) }
         ensures spent { (result ≡ Err LaneFault.Spent) ↔ (self.old.handled ≡ 2 ^ 64 - 1) }
         ensures err { OnErr result (self.new ≡ self.old) }
@@ -116,8 +119,11 @@ impl<A: Allocator + Copy> LaneState<A> {
         item: &Item<A>,
     ) -> Result<Vec<Egress<A>, A>, AllocError>
         requires sized { is_sized (input_of item.now) ≡ true }
-        ensures sends { IfOk result (λ sent. PartsAnswer self.old self.new (visit_of stamp.version stamp.item rows.now (input_of item.now)) (map sent_of sent.items)) }
-        ensures place { (self.new.lane ≡ self.old.lane) × (self.new.lanes ≡ self.old.lanes) × (self.new.who ≡ self.old.who) }
+        ensures sends { IfOk result (λ sent.
+            PartsAnswer self.old self.new (visit_of stamp.version stamp.item rows.now (input_of item.now))
+            (map sent_of sent.items)) }
+        ensures place { (self.new.lane ≡ self.old.lane) × (self.new.lanes ≡ self.old.lanes)
+            × (self.new.who ≡ self.old.who) }
         ensures count { self.new.handled ≡ self.old.handled }
         ensures err { OnErr result (self.new ≡ self.old) }
     {

@@ -1,6 +1,7 @@
 //! Laws of all that the lanes send, whatever the order of calls and items, and of all that calls do.
 
-ghost use Rattle.std.specs.Prelude.{◌≡◌, ℕ, ◌+◌, ◌%◌, ◌<◌, ◌≤◌, true, List, [], ◌∷◌, length, map, filter, fold, reverse, None, Some};
+ghost use Rattle.std.specs.Prelude.{◌≡◌, ℕ, ◌+◌, ◌%◌, ◌<◌, ◌≤◌, true, List, []};
+ghost use Rattle.std.specs.Prelude.{◌∷◌, length, map, filter, fold, reverse, None, Some};
 ghost use Rattle.std.specs.List.{AllByRecursion};
 ghost use Rattle.desk_rows.specs.declared.row.Member.{Member};
 ghost use Rattle.desk_rows.specs.Desk.{Desk, good};
@@ -30,7 +31,8 @@ ghost use Rattle.bridge_core.specs.EveryLane.{to_every};
 ghost use Rattle.bridge_core.specs.Events.{Event, Plays, steps_of, calls_among};
 ghost use Rattle.bridge_core.specs.WholeRuns.{Holds};
 ghost use Rattle.bridge_core.specs.Named.{Name, Kind, is_on, sent_on, firsts};
-ghost use Rattle.bridge_core.specs.Headline.{AreGood, HaveNoGap, numbers, numbered_of, IsChosenOf, GoesWhole, IsMixOf, GoesOnce, LeadsBack};
+ghost use Rattle.bridge_core.specs.Headline.{AreGood, HaveNoGap, numbers, numbered_of, IsChosenOf};
+ghost use Rattle.bridge_core.specs.Headline.{GoesWhole, IsMixOf, GoesOnce, LeadsBack};
 ghost use Rattle.bridge_core.specs.Telling.{IsSenderReportOf, IsNoteOf, IsPassedUpOf};
 
 use forward_rewrite::{each_frame_goes_whole, found_is_what_was_sent, numbers_in_a_row};
@@ -40,13 +42,18 @@ use topology::{all_who_chose_receive, mixes_are_apart, receivers_are_distinct};
 /// Over any steps that cores take one by one, from a core that has taken nothing on: what is sent,
 /// joined in order, is what `sends` gives for the whole list, and the last core has taken all of it.
 pub fn all_that_is_sent()
-    ensures { (start : Desk) (steps : List Step) (sent : List (List Sent)) (first last : CoreOf) → HasTaken first start [] → Runs first steps sent last → (sent ≡ sends first.intake.asker (length first.lanes) start steps) × HasTaken last start steps }
+    ensures { (start : Desk) (steps : List Step) (sent : List (List Sent)) (first last : CoreOf)
+        → HasTaken first start [] → Runs first steps sent last
+        → (sent ≡ sends first.intake.asker (length first.lanes) start steps) × HasTaken last start steps }
 {}
 
 /// What is sent on a video stream for the first time, over all versions of the desk and however many
 /// lanes there are, is its routed list: all packets of all frames that the items of its lane bring it.
 pub fn streams_are_routed_lists()
-    ensures { (who : Asker) (lanes : ℕ) (start : Desk) (steps : List Step) (ssrc : ℕ) → good start ≡ true → AreGood steps → firsts who lanes start (record { kind = Kind.video; ssrc = ssrc }) steps ≡ map (goes ssrc None) (packets ssrc (visits (ssrc % lanes) start steps)) }
+    ensures { (who : Asker) (lanes : ℕ) (start : Desk) (steps : List Step) (ssrc : ℕ) → good start ≡ true
+        → AreGood steps
+        → firsts who lanes start (record { kind = Kind.video; ssrc = ssrc }) steps
+        ≡ map (goes ssrc None) (packets ssrc (visits (ssrc % lanes) start steps)) }
 {
     each_frame_goes_whole();
     receivers_are_distinct();
@@ -56,7 +63,10 @@ pub fn streams_are_routed_lists()
 /// What is sent on a mix stream for the first time, over all versions of the desk and however many lanes
 /// there are, is its mix list: the packets of all ticks of its lane.
 pub fn mixes_are_mix_lists()
-    ensures { (who : Asker) (lanes : ℕ) (start : Desk) (steps : List Step) (ssrc : ℕ) → good start ≡ true → AreGood steps → map numbered_of (firsts who lanes start (record { kind = Kind.mix; ssrc = ssrc }) steps) ≡ mixes ssrc (given_of (visits (ssrc % lanes) start steps)) }
+    ensures { (who : Asker) (lanes : ℕ) (start : Desk) (steps : List Step) (ssrc : ℕ) → good start ≡ true
+        → AreGood steps
+        → map numbered_of (firsts who lanes start (record { kind = Kind.mix; ssrc = ssrc }) steps)
+        ≡ mixes ssrc (given_of (visits (ssrc % lanes) start steps)) }
 {
     ticks_add_what_is_heard();
     mixes_go_to_their_members();
@@ -65,7 +75,8 @@ pub fn mixes_are_mix_lists()
 /// Each outgoing stream numbers its packets without a gap modulo 65536, over all versions of the
 /// desk and however many lanes there are. What is sent again has the number that it had.
 pub fn streams_have_no_gap()
-    ensures { (who : Asker) (lanes : ℕ) (start : Desk) (steps : List Step) (name : Name) → good start ≡ true → AreGood steps → HaveNoGap (numbers (firsts who lanes start name steps)) }
+    ensures { (who : Asker) (lanes : ℕ) (start : Desk) (steps : List Step) (name : Name) → good start ≡ true
+        → AreGood steps → HaveNoGap (numbers (firsts who lanes start name steps)) }
 {
     streams_are_routed_lists();
     numbers_in_a_row();
@@ -77,14 +88,21 @@ pub fn streams_have_no_gap()
 /// any number of lanes, and the other lanes may be given anything. So it is the same on any number of
 /// lanes that are all given every item.
 pub fn lane_count_does_not_matter()
-    ensures same_items { (who : Asker) (few many : ℕ) (start : Desk) (these those : List Step) (ssrc : ℕ) → visits (ssrc % few) start these ≡ visits (ssrc % many) start those → sent_on ssrc (sends who few start these) ≡ sent_on ssrc (sends who many start those) }
-    ensures every_lane { (who : Asker) (few many : ℕ) (start : Desk) (steps : List Step) (ssrc : ℕ) → 0 < few → 0 < many → sent_on ssrc (sends who few start (to_every few steps)) ≡ sent_on ssrc (sends who many start (to_every many steps)) }
+    ensures same_items { (who : Asker) (few many : ℕ) (start : Desk) (these those : List Step) (ssrc : ℕ)
+        → visits (ssrc % few) start these ≡ visits (ssrc % many) start those
+        → sent_on ssrc (sends who few start these) ≡ sent_on ssrc (sends who many start those) }
+    ensures every_lane { (who : Asker) (few many : ℕ) (start : Desk) (steps : List Step) (ssrc : ℕ) → 0 < few → 0 < many
+        → sent_on ssrc (sends who few start (to_every few steps))
+        ≡ sent_on ssrc (sends who many start (to_every many steps)) }
 {}
 
 /// Each packet that is sent for a frame names the version and the item, and goes where the desk of
 /// that version has it go: its stream chose the frame's source, and its slot's member has the address.
 pub fn packets_are_chosen()
-    ensures { (who : Asker) (lanes lane : ℕ) (start : Desk) (before : List Step) (f : SourceFrame) → good (desk_of start before) ≡ true → AllByRecursion (AllByRecursion (IsChosenOf (visit_after start before lane (Input.frame f)) f)) (sent_at who lanes start before (Step.item lane (Input.frame f))) }
+    ensures { (who : Asker) (lanes lane : ℕ) (start : Desk) (before : List Step) (f : SourceFrame)
+        → good (desk_of start before) ≡ true
+        → AllByRecursion (AllByRecursion (IsChosenOf (visit_after start before lane (Input.frame f)) f))
+        (sent_at who lanes start before (Step.item lane (Input.frame f))) }
 {
     each_frame_goes_whole();
     receivers_are_distinct();
@@ -94,7 +112,12 @@ pub fn packets_are_chosen()
 /// All whose streams are the lane's and chose the frame's source at its address get all packets of
 /// the frame, in order, with its payloads, markers and payload types.
 pub fn frames_go_whole()
-    ensures { (who : Asker) (lanes lane : ℕ) (start : Desk) (before : List Step) (f : SourceFrame) (ssrc : ℕ) (r : Receiver) → good (desk_of start before) ≡ true → is_mine lane lanes ssrc ≡ true → receiver_on (desk_of start before) f.source f.address ssrc ≡ Some r → (let visit = visit_after start before lane (Input.frame f) in GoesWhole ssrc (routed_to visit f r).sending (filter (is_on ssrc) (sends_at who lane lanes (visits lane start before) visit))) }
+    ensures { (who : Asker) (lanes lane : ℕ) (start : Desk) (before : List Step) (f : SourceFrame) (ssrc : ℕ)
+        (r : Receiver) → good (desk_of start before) ≡ true → is_mine lane lanes ssrc ≡ true
+        → receiver_on (desk_of start before) f.source f.address ssrc ≡ Some r
+        → (let visit = visit_after start before lane (Input.frame f) in
+        GoesWhole ssrc (routed_to visit f r).sending
+        (filter (is_on ssrc) (sends_at who lane lanes (visits lane start before) visit))) }
 {
     each_frame_goes_whole();
     receivers_are_distinct();
@@ -105,7 +128,13 @@ pub fn frames_go_whole()
 /// version has it go: to the member whose mix its stream is, at its address. It carries what the member
 /// hears of all that the lane was given before.
 pub fn mixes_are_heard()
-    ensures { (who : Asker) (lanes lane : ℕ) (start : Desk) (before : List Step) (moment : ℕ) → good (desk_of start before) ≡ true → AllByRecursion (AllByRecursion (IsMixOf (given_of (visits lane start before)) (visit_after start before lane (Input.tick moment)))) (sent_at who lanes start before (Step.item lane (Input.tick moment))) }
+    ensures { (who : Asker) (lanes lane : ℕ) (start : Desk) (before : List Step) (moment : ℕ)
+        → good (desk_of start before) ≡ true
+        → AllByRecursion
+        (AllByRecursion
+        (IsMixOf (given_of (visits lane start before))
+        (visit_after start before lane (Input.tick moment))))
+        (sent_at who lanes start before (Step.item lane (Input.tick moment))) }
 {
     ticks_add_what_is_heard();
     mixes_go_to_their_members();
@@ -114,7 +143,14 @@ pub fn mixes_are_heard()
 
 /// At a tick, each member who hears anything and whose mix is on a stream of the lane gets one packet of it.
 pub fn all_who_hear_get_it()
-    ensures { (who : Asker) (lanes lane : ℕ) (start : Desk) (before : List Step) (moment : ℕ) (m : Member) (sound : Sound) → good (desk_of start before) ≡ true → is_mine lane lanes m.out_audio ≡ true → mix_member (desk_of start before) m.out_audio ≡ Some m → sound_for (voices_of (given_of (visits lane start before)) (desk_of start before)) (desk_of start before) m ≡ Some sound → (let visit = visit_after start before lane (Input.tick moment) in GoesOnce visit m sound (filter (is_on m.out_audio) (sends_at who lane lanes (visits lane start before) visit))) }
+    ensures { (who : Asker) (lanes lane : ℕ) (start : Desk) (before : List Step) (moment : ℕ) (m : Member)
+        (sound : Sound) → good (desk_of start before) ≡ true → is_mine lane lanes m.out_audio ≡ true
+        → mix_member (desk_of start before) m.out_audio ≡ Some m
+        → sound_for (voices_of (given_of (visits lane start before)) (desk_of start before)) (desk_of start before) m
+        ≡ Some sound
+        → (let visit = visit_after start before lane (Input.tick moment) in
+        GoesOnce visit m sound
+        (filter (is_on m.out_audio) (sends_at who lane lanes (visits lane start before) visit))) }
 {
     ticks_add_what_is_heard();
     mixes_go_to_their_members();
@@ -124,42 +160,60 @@ pub fn all_who_hear_get_it()
 /// were sent on its stream; and who asks for it is the member to whom it went, at the address to which
 /// it went. It names the version and the item by which it was sent first.
 pub fn resends_lead_back()
-    ensures { (who : Asker) (lanes lane : ℕ) (start : Desk) (before : List Step) (request : Request) → good start ≡ true → AreGood before → (let visit = visit_after start before lane (Input.nack request) in AllByRecursion (AllByRecursion (LeadsBack who lanes start before lane visit request)) (sent_at who lanes start before (Step.item lane (Input.nack request)))) }
+    ensures { (who : Asker) (lanes lane : ℕ) (start : Desk) (before : List Step) (request : Request) → good start ≡ true
+        → AreGood before
+        → (let visit = visit_after start before lane (Input.nack request) in
+        AllByRecursion (AllByRecursion (LeadsBack who lanes start before lane visit request))
+        (sent_at who lanes start before (Step.item lane (Input.nack request)))) }
 {
     streams_are_routed_lists();
     found_is_what_was_sent();
 }
 
-/// What is sent at a report is sender reports, to members of its version's desk at their addresses, of their own streams. Each counts
-/// all packets that were sent on its stream for the first time and their octets of payload, modulo 2^32, and none that was sent again.
+/// What is sent at a report is sender reports, to members of its version's desk at their addresses, of their own
+/// streams. Each counts all packets that were sent on its stream for the first time and their octets of payload, modulo
+/// 2^32, and none that was sent again.
 pub fn reports_count_first_sendings()
-    ensures { (who : Asker) (lanes lane : ℕ) (start : Desk) (before : List Step) (moment : ℕ) → good start ≡ true → AreGood before → AllByRecursion (AllByRecursion (IsSenderReportOf who lanes start before (visit_after start before lane (Input.report moment)) moment)) (sent_at who lanes start before (Step.item lane (Input.report moment))) }
+    ensures { (who : Asker) (lanes lane : ℕ) (start : Desk) (before : List Step) (moment : ℕ) → good start ≡ true
+        → AreGood before
+        → AllByRecursion
+        (AllByRecursion
+        (IsSenderReportOf who lanes start before (visit_after start before lane (Input.report moment))
+        moment)) (sent_at who lanes start before (Step.item lane (Input.report moment))) }
 {
     streams_are_routed_lists();
     mixes_are_mix_lists();
 }
 
-/// What a note tells of a receiver's report block is its losses, and which source packet its highest number reaches: the one
-/// that went to this member at this address under that number, of the last 512 that were sent on the stream for the first time. Where
-/// no packet is told, there is none.
+/// What a note tells of a receiver's report block is its losses, and which source packet its highest number reaches:
+/// the one that went to this member at this address under that number, of the last 512 that were sent on the stream for
+/// the first time. Where no packet is told, there is none.
 pub fn notes_lead_back()
-    ensures { (who : Asker) (lanes lane : ℕ) (start : Desk) (before : List Step) (told : Told) → good start ≡ true → AreGood before → AllByRecursion (AllByRecursion (IsNoteOf who lanes start before lane (visit_after start before lane (Input.block told)) told)) (sent_at who lanes start before (Step.item lane (Input.block told))) }
+    ensures { (who : Asker) (lanes lane : ℕ) (start : Desk) (before : List Step) (told : Told) → good start ≡ true
+        → AreGood before
+        → AllByRecursion
+        (AllByRecursion
+        (IsNoteOf who lanes start before lane (visit_after start before lane (Input.block told)) told))
+        (sent_at who lanes start before (Step.item lane (Input.block told))) }
 {
     streams_are_routed_lists();
     found_is_what_was_sent();
 }
 
-/// A receiver's picture loss is passed up by a PLI about the source that its slot chose, to the address of the source's member, and
-/// by nothing else; and only where the slot's member is who tells of it.
+/// A receiver's picture loss is passed up by a PLI about the source that its slot chose, to the address of the source's
+/// member, and by nothing else; and only where the slot's member is who tells of it.
 pub fn picture_losses_go_to_the_chosen()
-    ensures { (who : Asker) (lanes lane : ℕ) (start : Desk) (before : List Step) (loss : Loss) → AllByRecursion (AllByRecursion (IsPassedUpOf who (visit_after start before lane (Input.pli loss)) loss)) (sent_at who lanes start before (Step.item lane (Input.pli loss))) }
+    ensures { (who : Asker) (lanes lane : ℕ) (start : Desk) (before : List Step) (loss : Loss)
+        → AllByRecursion (AllByRecursion (IsPassedUpOf who (visit_after start before lane (Input.pli loss)) loss))
+        (sent_at who lanes start before (Step.item lane (Input.pli loss))) }
 {}
 
 /// The edits that are kept lead from the start to the desk of the command equations; taken back,
 /// the last one first, they lead to the start again, whatever the commands removed.
 pub fn edits_lead_back()
     ensures leads { (core : CoreOf) (h : CallHistory) → HasCalled core h → fold after h.start core.done ≡ core.desk }
-    ensures back { (core : CoreOf) (h : CallHistory) → HasCalled core h → rewound after inverse core.desk (reverse core.done) ≡ h.start }
+    ensures back { (core : CoreOf) (h : CallHistory) → HasCalled core h
+        → rewound after inverse core.desk (reverse core.done) ≡ h.start }
 {
     desk_calls::edits_lead_back();
 }
@@ -167,28 +221,40 @@ pub fn edits_lead_back()
 /// The calls among what cores take one by one are a legal list of calls, and the last core's desk is
 /// where that list leads.
 pub fn calls_are_legal()
-    ensures { (first last : CoreOf) (h : CallHistory) (events : List Event) (sent : List (List Sent)) → HasCalled first h → Plays first events sent last → AreAccepted h (calls_among events) × HasCalled last (after_calls h (calls_among events)) }
+    ensures { (first last : CoreOf) (h : CallHistory) (events : List Event) (sent : List (List Sent))
+        → HasCalled first h → Plays first events sent last
+        → AreAccepted h (calls_among events) × HasCalled last (after_calls h (calls_among events)) }
 {}
 
 /// Undos in a row, each of which names the last accepted call, are all accepted while so many
 /// commands are done and the log has room. Redos are while so many are undone.
 pub fn undos_and_redos_are_accepted()
-    ensures undos { (first last : CoreOf) (n : ℕ) (replies : List Reply) → n ≤ length first.done → UndoesInARow first n replies last → replies ≡ all_accepted first.version n }
-    ensures redos { (first last : CoreOf) (n : ℕ) (replies : List Reply) → n ≤ length first.undone → RedoesInARow first n replies last → replies ≡ all_accepted first.version n }
+    ensures undos { (first last : CoreOf) (n : ℕ) (replies : List Reply) → n ≤ length first.done
+        → UndoesInARow first n replies last → replies ≡ all_accepted first.version n }
+    ensures redos { (first last : CoreOf) (n : ℕ) (replies : List Reply) → n ≤ length first.undone
+        → RedoesInARow first n replies last → replies ≡ all_accepted first.version n }
 {}
 
 /// Commands are accepted one after another, whatever was called before, and undone by as many undos:
 /// these are accepted while the log has room, and the desk is the one before the commands, members
 /// at their places. By as many redos it is the one after them again.
 pub fn commands_come_back()
-    ensures back { (first middle last : CoreOf) (commands : List CallOf) (replies : List Reply) → AcceptsAll first commands middle → UndoesInARow middle (length commands) replies last → (replies ≡ all_accepted middle.version (length commands)) × (last.desk ≡ first.desk) × (last.done ≡ first.done) }
-    ensures again { (first middle back last : CoreOf) (commands : List CallOf) (replies later : List Reply) → AcceptsAll first commands middle → UndoesInARow middle (length commands) replies back → RedoesInARow back (length commands) later last → (later ≡ all_accepted back.version (length commands)) × IsAsWas last middle }
+    ensures back { (first middle last : CoreOf) (commands : List CallOf) (replies : List Reply)
+        → AcceptsAll first commands middle → UndoesInARow middle (length commands) replies last
+        → (replies ≡ all_accepted middle.version (length commands)) × (last.desk ≡ first.desk)
+        × (last.done ≡ first.done) }
+    ensures again { (first middle back last : CoreOf) (commands : List CallOf) (replies later : List Reply)
+        → AcceptsAll first commands middle → UndoesInARow middle (length commands) replies back
+        → RedoesInARow back (length commands) later last
+        → (later ≡ all_accepted back.version (length commands)) × IsAsWas last middle }
 {}
 
 /// Undos of so many commands as are done, whatever was called before, and as many redos: these are
 /// accepted while the log has room, and all is as it was before the undos.
 pub fn undos_are_redone()
-    ensures { (first back last : CoreOf) (n : ℕ) (replies later : List Reply) → n ≤ length first.done → UndoesInARow first n replies back → RedoesInARow back n later last → (later ≡ all_accepted back.version n) × IsAsWas last first }
+    ensures { (first back last : CoreOf) (n : ℕ) (replies later : List Reply) → n ≤ length first.done
+        → UndoesInARow first n replies back → RedoesInARow back n later last
+        → (later ≡ all_accepted back.version n) × IsAsWas last first }
 {}
 
 /// The headline. For a first desk, any list of accepted calls and items in any order, and any number of
@@ -200,13 +266,21 @@ pub fn undos_are_redone()
 ///   gets what it hears, which is what a mix packet carries;
 /// - each stream numbers without a gap modulo 65536;
 /// - a number asked for again leads back to just the packet that had it, for its owner alone;
-/// - a sender report counts just what was sent on its stream for the first time, a note leads back to the packet that the receiver
-///   had last, and a lost picture is asked for from the source that the slot chose;
+/// - a sender report counts just what was sent on its stream for the first time, a note leads back to the packet that
+///   the receiver had last, and a lost picture is asked for from the source that the slot chose;
 /// - the number of lanes makes no difference to a stream.
 pub fn the_headline()
-    ensures undone { (first middle last : CoreOf) (commands : List CallOf) (replies : List Reply) → AcceptsAll first commands middle → UndoesInARow middle (length commands) replies last → (replies ≡ all_accepted middle.version (length commands)) × (last.desk ≡ first.desk) × (last.done ≡ first.done) }
-    ensures holds { (start : Desk) (events : List Event) (sent : List (List Sent)) (first last : CoreOf) → good start ≡ true → HasTaken first start [] → HasCalled first (no_calls start) → Plays first events sent last → Holds first.intake.asker (length first.lanes) start (steps_of (no_calls start) events) sent }
-    ensures lanes { (who : Asker) (few many : ℕ) (start : Desk) (events : List Event) (ssrc : ℕ) → 0 < few → 0 < many → (let steps = steps_of (no_calls start) events in sent_on ssrc (sends who few start (to_every few steps)) ≡ sent_on ssrc (sends who many start (to_every many steps))) }
+    ensures undone { (first middle last : CoreOf) (commands : List CallOf) (replies : List Reply)
+        → AcceptsAll first commands middle → UndoesInARow middle (length commands) replies last
+        → (replies ≡ all_accepted middle.version (length commands)) × (last.desk ≡ first.desk)
+        × (last.done ≡ first.done) }
+    ensures holds { (start : Desk) (events : List Event) (sent : List (List Sent)) (first last : CoreOf)
+        → good start ≡ true → HasTaken first start [] → HasCalled first (no_calls start) → Plays first events sent last
+        → Holds first.intake.asker (length first.lanes) start (steps_of (no_calls start) events) sent }
+    ensures lanes { (who : Asker) (few many : ℕ) (start : Desk) (events : List Event) (ssrc : ℕ) → 0 < few → 0 < many
+        → (let steps = steps_of (no_calls start) events in
+        sent_on ssrc (sends who few start (to_every few steps))
+        ≡ sent_on ssrc (sends who many start (to_every many steps))) }
 {
     commands_come_back();
     streams_are_routed_lists();

@@ -1,4 +1,18 @@
-//! The core of the bridge: the desk, and the lanes that send by it.
+//! The core of the bridge: the desk, the receive side, and the lanes that send by the desk's versions.
+//!
+//! Begin with [`Core::new`]. [`Core::desk`] takes calls, [`Core::datagram`] takes datagrams, and [`Core::item`] takes
+//! an item for a lane. A contract sees a core as its desk, its version, its lists of edits, its intake and its lanes.
+//! The core has no socket, clock or thread: moments and octets come in, and lists go out. A bridge whose lanes run
+//! apart takes [`LaneState`] alone.
+//!
+//! ```rust
+//! let settings = Settings { bridge_ssrc: 1, cname: Bytes::from_static(b"bridge") };
+//! let mut core = Core::new(alloc, 1, settings)?;
+//! let reply = core.desk(alloc, 1, call); // the version that the call led to, or why it is refused
+//! let ingest = core.datagram(alloc, &from, moment, &octets)?; // its outcome, items, and datagrams to send
+//! let sent = core.item(alloc, 0, &item)?; // what lane 0 sends for one of the items
+//! let reports = core.reports(alloc, moment)?; // receiver reports, with the addresses that they go to
+//! ```
 #![tactic(auto)]
 
 mod audio;

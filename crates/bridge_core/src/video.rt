@@ -1,6 +1,7 @@
 //! A lane's outgoing video streams.
 
-ghost use Rattle.std.specs.Prelude.{◌≡◌, ℕ, ◌+◌, ◌*◌, ◌≤◌, ◌<◌, ◌++◌, [], length, map, filter, IfOk, OnErr, vec_len, vec_capacity, Some, option_copied};
+ghost use Rattle.std.specs.Prelude.{◌≡◌, ℕ, ◌+◌, ◌*◌, ◌≤◌, ◌<◌, ◌++◌, [], length};
+ghost use Rattle.std.specs.Prelude.{map, filter, IfOk, OnErr, vec_len, vec_capacity, Some, option_copied};
 ghost use Rattle.indexmap.specs.IndexMap.{spare};
 ghost use Rattle.topology.specs.Receivers.{AreDistinct};
 ghost use Rattle.forward_rewrite.specs.Sending.{out_of};
@@ -11,7 +12,10 @@ ghost use Rattle.bridge_core.specs.Sent.{sent_of};
 ghost use Rattle.intake.specs.Inputs.Input.{frame as frame_input, nack as nack_input};
 ghost use Rattle.bridge_core.specs.Lanes.{goes};
 ghost use Rattle.bridge_core.specs.LaneState.{stream_at, visit_of};
-ghost use Rattle.bridge_core.specs.inner.Readies.{Fits, AllFit, IsNext, AreNext, receivers_of as ready_receivers, kept_after, kept_after_one, first_to, sent_for, packet_count, ssrc_of};
+ghost use Rattle.bridge_core.specs.inner.Readies.{Fits, AllFit, IsNext};
+ghost use Rattle.bridge_core.specs.inner.Readies.{AreNext, receivers_of as ready_receivers, kept_after};
+ghost use Rattle.bridge_core.specs.inner.Readies.{kept_after_one, first_to, sent_for};
+ghost use Rattle.bridge_core.specs.inner.Readies.{packet_count, ssrc_of};
 ghost use Rattle.bridge_core.specs.inner.VideoStreams.{Answers};
 
 use crate::egress::Egress;
@@ -64,7 +68,8 @@ impl<A: Allocator + Copy> Model for Ready<A> {
 
 /// Leaves of the receivers those whose streams are the lane's.
 fn keep_mine<A: Allocator>(place: &LanePlace, receivers: &mut Vec<Receiver, A>)
-    ensures { receivers.new.items ≡ filter (λ r. is_mine place.now.lane place.now.lanes r.slot.out_ssrc) receivers.old.items }
+    ensures { receivers.new.items
+        ≡ filter (λ r. is_mine place.now.lane place.now.lanes r.slot.out_ssrc) receivers.old.items }
 {
     receivers.retain(|receiver| place.is_mine(receiver.slot.out_ssrc));
 }
@@ -133,7 +138,8 @@ fn prepare_all<A: Allocator + Copy>(
 fn commit_one<A: Allocator + Copy>(table: &mut Table<A>, ready: Ready<A>) -> Vec<OutPacket<A>, A>
     requires fits { Fits (stream_at (ssrc_of ready) table.old.entries) ready }
     requires room { 0 < spare table.old }
-    ensures streams { (ssrc : ℕ) → stream_at ssrc table.new.entries ≡ kept_after_one ssrc ready (stream_at ssrc table.old.entries) }
+    ensures streams { (ssrc : ℕ)
+        → stream_at ssrc table.new.entries ≡ kept_after_one ssrc ready (stream_at ssrc table.old.entries) }
     ensures packets { result.items ≡ map out_of ready.prepared.packets }
     ensures spare { spare table.old ≤ spare table.new + 1 }
 {
@@ -166,7 +172,8 @@ fn emit<A: Allocator + Copy>(
     packets: Vec<OutPacket<A>, A>,
 )
     requires { vec_len out.old + vec_len packets ≤ vec_capacity out.old }
-    ensures items { map sent_of out.new.items ≡ map sent_of out.old.items ++ map (first_to stamp receiver.now) packets.items }
+    ensures items { map sent_of out.new.items
+        ≡ map sent_of out.old.items ++ map (first_to stamp receiver.now) packets.items }
     ensures len { vec_len out.new ≡ vec_len out.old + vec_len packets }
     ensures capacity { vec_capacity out.old ≤ vec_capacity out.new }
 {
@@ -203,7 +210,8 @@ fn commit_all<A: Allocator + Copy>(
     requires next { AreNext table.old.entries stamp frame.now ready.items }
     requires room { vec_len ready ≤ spare table.old }
     requires out_room { vec_len out.old + packet_count ready.items ≤ vec_capacity out.old }
-    ensures streams { (ssrc : ℕ) → stream_at ssrc table.new.entries ≡ kept_after ssrc ready.items (stream_at ssrc table.old.entries) }
+    ensures streams { (ssrc : ℕ)
+        → stream_at ssrc table.new.entries ≡ kept_after ssrc ready.items (stream_at ssrc table.old.entries) }
     ensures out { map sent_of out.new.items ≡ map sent_of out.old.items ++ sent_for ready.items }
 {
     for one in ready {
@@ -270,7 +278,10 @@ impl<A: Allocator + Copy> VideoStreams<A> {
         rows: &Rows<A>,
         frame: &MediaFrame<A>,
     ) -> Result<Vec<Egress<A>, A>, AllocError>
-        ensures sends { (who : Asker) → IfOk result (λ sent. Answers who place.now.lane place.now.lanes self.old self.new (visit_of stamp.version stamp.item rows.now (frame_input frame.now)) (map sent_of sent.items)) }
+        ensures sends { (who : Asker)
+            → IfOk result (λ sent.
+            Answers who place.now.lane place.now.lanes self.old self.new
+            (visit_of stamp.version stamp.item rows.now (frame_input frame.now)) (map sent_of sent.items)) }
         ensures err { OnErr result (self.new ≡ self.old) }
     {
         receivers_are_distinct();
@@ -299,7 +310,12 @@ impl<A: Allocator + Copy> VideoStreams<A> {
         out_ssrc: u32,
         numbers: &[u16],
     ) -> Result<Vec<Egress<A>, A>, AllocError>
-        ensures sends { (who : Asker) → IfOk result (λ sent. Answers who place.now.lane place.now.lanes self.now self.now (visit_of stamp.version stamp.item rows.now (nack_input (record { from = from.now; out_ssrc = out_ssrc; numbers = numbers.now }))) (map sent_of sent.items)) }
+        ensures sends { (who : Asker)
+            → IfOk result (λ sent.
+            Answers who place.now.lane place.now.lanes self.now self.now
+            (visit_of stamp.version stamp.item rows.now
+            (nack_input (record { from = from.now; out_ssrc = out_ssrc; numbers = numbers.now })))
+            (map sent_of sent.items)) }
     {
         if !place.is_mine(out_ssrc) {
             return Ok(Vec::new(alloc));

@@ -8,7 +8,8 @@ use Rattle.script_text.specs.Numbers.{number_of}
 -- how an address is written
 abbrev pub address_text : Address → List ℕ
 address_text a =
-    decimal (slice_index a.ip 0) ++ codes "." ++ decimal (slice_index a.ip 1) ++ codes "." ++ decimal (slice_index a.ip 2) ++ codes "." ++ decimal (slice_index a.ip 3)
+    decimal (slice_index a.ip 0) ++ codes "." ++ decimal (slice_index a.ip 1) ++ codes "."
+    ++ decimal (slice_index a.ip 2) ++ codes "." ++ decimal (slice_index a.ip 3)
     ++ codes ":" ++ decimal a.port
 
 -- the numbers of an address are in range

@@ -25,7 +25,8 @@ use Rattle.script_text.specs.Datagrams.{outcome_text, up_text}
 use Rattle.script_text.specs.Wire.{Wire, script_asker, voice_of}
 use Rattle.script_text.specs.RowLines.{show_text}
 
--- the bridge between two lines: how it reads the wire, what its calls have come to, the accepted calls and the items so far, and the sources that it knows
+-- the bridge between two lines: how it reads the wire, what its calls have come to, the accepted calls and the items so
+-- far, and the sources that it knows
 pub record Bridge : Type 0 where
   pub wire : Wire
   pub calls : CallHistory
@@ -40,7 +41,8 @@ first_desk = blank BRIDGE_SSRC
 abbrev pub opening_bridge : Wire → Bridge
 opening_bridge wire = record { wire = wire; calls = no_calls first_desk; steps = []; sources = no_sources }
 
--- what is answered to a request: nothing, a reply, what goes out, a datagram's outcome with what goes up and what goes out for each item, receiver reports that go up with the sender reports that go out, or a desk with its version
+-- what is answered to a request: nothing, a reply, what goes out, a datagram's outcome with what goes up and what goes
+-- out for each item, receiver reports that go up with the sender reports that go out, or a desk with its version
 pub data Answer : Type 0 where
   silence : Answer
   replied : Reply → Answer
@@ -62,14 +64,19 @@ text_of (heard outcome up out) = outcome_text outcome ++ flat_map up_text up ++ 
 text_of (reports up out) = flat_map up_text up ++ flat_map sent_text out
 text_of (shown desk version) = show_text desk version
 
--- an accepted call takes the next number and publishes the desk that it leaves; a refused one names the version and changes nothing
+-- an accepted call takes the next number and publishes the desk that it leaves; a refused one names the version and
+-- changes nothing
 abbrev pub answer_call : Bridge → CallHistory → Option Refusal → Answer × Bridge
-answer_call bridge next None = (replied (Accepted (bridge.calls.accepted + 1)), record bridge { calls = next; steps = bridge.steps ++ Step.publish (desk_now next) ∷ [] })
+answer_call bridge next None = (
+  replied (Accepted (bridge.calls.accepted + 1)),
+  record bridge { calls = next; steps = bridge.steps ++ Step.publish (desk_now next) ∷ [] },
+)
 answer_call bridge next (Some why) = (replied (Refused bridge.calls.accepted why), bridge)
 
 -- what lane 0 of 1 sends for an item
 abbrev pub item_sent : Bridge → Input → List Sent
-item_sent bridge item = sends_at script_asker 0 1 (visits 0 first_desk bridge.steps) (visit_after first_desk bridge.steps 0 item)
+item_sent bridge item =
+    sends_at script_asker 0 1 (visits 0 first_desk bridge.steps) (visit_after first_desk bridge.steps 0 item)
 
 -- the bridge after an item
 abbrev pub after_item : Bridge → Input → Bridge
@@ -97,17 +104,20 @@ answer_datagram bridge ingested sources = (
 
 -- a datagram that comes at a moment from an address, under the desk as it is
 abbrev pub datagram_at : Bridge → (moment : ℕ) → Address → List ℕ → Datagram
-datagram_at bridge moment from octets = record { desk = desk_now bridge.calls; from = from; moment = moment; reading = bridge.wire.reading octets }
+datagram_at bridge moment from octets =
+    record { desk = desk_now bridge.calls; from = from; moment = moment; reading = bridge.wire.reading octets }
 
 -- what it comes to, and the sources after it
 abbrev pub taken_at : Bridge → (moment : ℕ) → Address → List ℕ → Ingested × Sources
-taken_at bridge moment from octets = taken_in (voice_of bridge.wire) bridge.sources (datagram_at bridge moment from octets)
+taken_at bridge moment from octets =
+    taken_in (voice_of bridge.wire) bridge.sources (datagram_at bridge moment from octets)
 
 -- what the senders are told of their sources at a moment, and the sources after it
 abbrev pub reported_at : Bridge → (moment : ℕ) → List (Address × List ℕ) × Sources
 reported_at bridge moment = reported script_asker (desk_now bridge.calls) moment bridge.sources
 
--- what is answered where the senders are told so, and the bridge knows these sources from then on: the lane is given the report as an item
+-- what is answered where the senders are told so, and the bridge knows these sources from then on: the lane is given
+-- the report as an item
 abbrev pub answer_report : Bridge → (moment : ℕ) → List (Address × List ℕ) → Sources → Answer × Bridge
 answer_report bridge moment up sources = (
   reports up (item_sent (knowing sources bridge) (report moment)),
@@ -117,9 +127,11 @@ answer_report bridge moment up sources = (
 -- the answer to a request, and the bridge after it
 abbrev pub answer : Bridge → Request → Answer × Bridge
 answer bridge Nothing = (silence, bridge)
-answer bridge (DeskRequest op call) = answer_call bridge (history_after bridge.calls call) (refusal_of bridge.calls call)
+answer bridge (DeskRequest op call) =
+    answer_call bridge (history_after bridge.calls call) (refusal_of bridge.calls call)
 answer bridge (Item item) = (sent (item_sent bridge item), after_item bridge item)
-answer bridge (Rx moment from octets) = answer_datagram bridge (taken_at bridge moment from octets).0 (taken_at bridge moment from octets).1
+answer bridge (Rx moment from octets) =
+    answer_datagram bridge (taken_at bridge moment from octets).0 (taken_at bridge moment from octets).1
 answer bridge (Report moment) = answer_report bridge moment (reported_at bridge moment).0 (reported_at bridge moment).1
 answer bridge Show = (shown (desk_now bridge.calls) bridge.calls.accepted, bridge)
 

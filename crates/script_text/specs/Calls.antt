@@ -1,11 +1,17 @@
--- The lines of calls (own): the tables of their first words, of the fields behind each, and of what these are in a call.
-use Rattle.std.specs.Prelude.{ℕ, ◌+◌, ◌==◌, Bool, List, [], ◌∷◌, ◌++◌, map, length, nat_lt, codes, Option, Some, None, Result, Ok, Err, if◌then◌else◌}
+-- The lines of calls (own): the tables of their first words, of the fields behind each, and of what these are in a
+-- call.
+use Rattle.std.specs.Prelude.{ℕ, ◌+◌, ◌==◌, Bool, List, [], ◌∷◌, ◌++◌, map, length}
+use Rattle.std.specs.Prelude.{nat_lt, codes, Option, Some, None, Result, Ok, Err, if◌then◌else◌}
 use Rattle.std.specs.List.{find, join_with_byte, slice_split}
 use Rattle.std.specs.Str.{bytes_eq}
 use Rattle.desk_edit.specs.Asked.{CallOf}
 use Rattle.desk_edit.specs.Asked.CallOf.{Apply, Group, Undo, Redo}
 use Rattle.desk_edit.specs.declared.command.Command.{Command}
-use Rattle.desk_edit.specs.declared.command.Command.TheVariants.{AddRoom, RemoveRoom, AddMember, RemoveMember, MoveMember, AddSource, RemoveSource, AddSlot, RemoveSlot, Subscribe, Unsubscribe, SetGain, Mute, Unmute, Pin, Unpin, GiveFloor, TakeFloor}
+use Rattle.desk_edit.specs.declared.command.Command.TheVariants.{AddRoom, RemoveRoom, AddMember, RemoveMember}
+use Rattle.desk_edit.specs.declared.command.Command.TheVariants.{MoveMember, AddSource, RemoveSource, AddSlot}
+use Rattle.desk_edit.specs.declared.command.Command.TheVariants.{RemoveSlot, Subscribe, Unsubscribe, SetGain}
+use Rattle.desk_edit.specs.declared.command.Command.TheVariants.{Mute, Unmute, Pin, Unpin}
+use Rattle.desk_edit.specs.declared.command.Command.TheVariants.{GiveFloor, TakeFloor}
 use Rattle.script_text.specs.declared.fault.Fault.{Fault}
 use Rattle.script_text.specs.declared.fault.Fault.TheVariants.{LineTooLong, UnknownWord}
 use Rattle.script_text.specs.declared.value.Field.{Field}
@@ -70,7 +76,8 @@ all_names =
 abbrev pub shape_of : Name → List Field
 shape_of names.AddRoom = fields.U32 ∷ []
 shape_of names.RemoveRoom = fields.U32 ∷ []
-shape_of names.AddMember = fields.U32 ∷ fields.U32 ∷ fields.Address ∷ fields.Codec ∷ fields.U32 ∷ fields.U16 ∷ fields.U32 ∷ []
+shape_of names.AddMember =
+    fields.U32 ∷ fields.U32 ∷ fields.Address ∷ fields.Codec ∷ fields.U32 ∷ fields.U16 ∷ fields.U32 ∷ []
 shape_of names.RemoveMember = fields.U32 ∷ []
 shape_of names.MoveMember = fields.U32 ∷ fields.U32 ∷ []
 shape_of names.AddSource = fields.U32 ∷ fields.U32 ∷ fields.Media ∷ []
@@ -96,12 +103,19 @@ pub record Spelt : Type 0 where
 abbrev pub fields_of : Command → Spelt
 fields_of (AddRoom r) = record { name = names.AddRoom; values = U32 r.room ∷ [] }
 fields_of (RemoveRoom room) = record { name = names.RemoveRoom; values = U32 room ∷ [] }
-fields_of (AddMember m) = record { name = names.AddMember; values = U32 m.member ∷ U32 m.room ∷ Address m.address ∷ Codec m.codec ∷ U32 m.out_audio ∷ U16 m.first_seq ∷ U32 m.first_ts ∷ [] }
+fields_of (AddMember m) = record {
+  name = names.AddMember;
+  values = U32 m.member ∷ U32 m.room ∷ Address m.address ∷ Codec m.codec ∷ U32 m.out_audio ∷ U16 m.first_seq
+      ∷ U32 m.first_ts ∷ [];
+}
 fields_of (RemoveMember member) = record { name = names.RemoveMember; values = U32 member ∷ [] }
 fields_of (MoveMember member room) = record { name = names.MoveMember; values = U32 member ∷ U32 room ∷ [] }
 fields_of (AddSource s) = record { name = names.AddSource; values = U32 s.ssrc ∷ U32 s.member ∷ Media s.media ∷ [] }
 fields_of (RemoveSource ssrc) = record { name = names.RemoveSource; values = U32 ssrc ∷ [] }
-fields_of (AddSlot s) = record { name = names.AddSlot; values = U32 s.out_ssrc ∷ U32 s.member ∷ U32 s.index ∷ U16 s.first_seq ∷ U32 s.first_ts ∷ [] }
+fields_of (AddSlot s) = record {
+  name = names.AddSlot;
+  values = U32 s.out_ssrc ∷ U32 s.member ∷ U32 s.index ∷ U16 s.first_seq ∷ U32 s.first_ts ∷ [];
+}
 fields_of (RemoveSlot out_ssrc) = record { name = names.RemoveSlot; values = U32 out_ssrc ∷ [] }
 fields_of (Subscribe s) = record { name = names.Subscribe; values = U32 s.out_ssrc ∷ U32 s.source ∷ [] }
 fields_of (Unsubscribe out_ssrc) = record { name = names.Unsubscribe; values = U32 out_ssrc ∷ [] }
@@ -117,16 +131,34 @@ fields_of (TakeFloor room) = record { name = names.TakeFloor; values = U32 room 
 abbrev pub command_with : Name → List Value → Command
 command_with names.AddRoom vs = AddRoom (record { room = number_at 0 vs })
 command_with names.RemoveRoom vs = RemoveRoom (number_at 0 vs)
-command_with names.AddMember vs = AddMember (record { member = number_at 0 vs; room = number_at 1 vs; address = address_at 2 vs; codec = codec_at 3 vs; out_audio = number_at 4 vs; first_seq = number_at 5 vs; first_ts = number_at 6 vs })
+command_with names.AddMember vs =
+    AddMember (record {
+      member = number_at 0 vs;
+      room = number_at 1 vs;
+      address = address_at 2 vs;
+      codec = codec_at 3 vs;
+      out_audio = number_at 4 vs;
+      first_seq = number_at 5 vs;
+      first_ts = number_at 6 vs;
+    })
 command_with names.RemoveMember vs = RemoveMember (number_at 0 vs)
 command_with names.MoveMember vs = MoveMember (number_at 0 vs) (number_at 1 vs)
-command_with names.AddSource vs = AddSource (record { ssrc = number_at 0 vs; member = number_at 1 vs; media = media_at 2 vs })
+command_with names.AddSource vs =
+    AddSource (record { ssrc = number_at 0 vs; member = number_at 1 vs; media = media_at 2 vs })
 command_with names.RemoveSource vs = RemoveSource (number_at 0 vs)
-command_with names.AddSlot vs = AddSlot (record { out_ssrc = number_at 0 vs; member = number_at 1 vs; index = number_at 2 vs; first_seq = number_at 3 vs; first_ts = number_at 4 vs })
+command_with names.AddSlot vs =
+    AddSlot (record {
+      out_ssrc = number_at 0 vs;
+      member = number_at 1 vs;
+      index = number_at 2 vs;
+      first_seq = number_at 3 vs;
+      first_ts = number_at 4 vs;
+    })
 command_with names.RemoveSlot vs = RemoveSlot (number_at 0 vs)
 command_with names.Subscribe vs = Subscribe (record { out_ssrc = number_at 0 vs; source = number_at 1 vs })
 command_with names.Unsubscribe vs = Unsubscribe (number_at 0 vs)
-command_with names.SetGain vs = SetGain (record { member = number_at 0 vs; source = number_at 1 vs; q8 = number_at 2 vs })
+command_with names.SetGain vs =
+    SetGain (record { member = number_at 0 vs; source = number_at 1 vs; q8 = number_at 2 vs })
 command_with names.Mute vs = Mute (record { source = number_at 0 vs })
 command_with names.Unmute vs = Unmute (number_at 0 vs)
 command_with names.Pin vs = Pin (record { room = number_at 0 vs; source = number_at 1 vs })

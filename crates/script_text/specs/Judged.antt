@@ -8,7 +8,8 @@ use Rattle.desk_edit.specs.Asked.{CallOf}
 use Rattle.desk_edit.specs.Asked.CallOf.{Apply, Group, Undo, Redo}
 use Rattle.desk_edit.specs.declared.refusal.Reason.{Reason}
 use Rattle.desk_edit.specs.declared.refusal.Refusal.{Refusal}
-use Rattle.desk_edit.specs.declared.refusal.Refusal.TheVariants.{NewerCommand, NothingToUndo, NothingToRedo, LogFull, EmptyGroup, GroupTooLong, PartRefused}
+use Rattle.desk_edit.specs.declared.refusal.Refusal.TheVariants.{NewerCommand, NothingToUndo, NothingToRedo, LogFull}
+use Rattle.desk_edit.specs.declared.refusal.Refusal.TheVariants.{EmptyGroup, GroupTooLong, PartRefused}
 use Rattle.desk_edit.specs.Commands.{desk_after}
 use Rattle.desk_edit.specs.Forms.{form_of}
 use Rattle.desk_edit.specs.Reasons.{refusal_for}
@@ -41,8 +42,10 @@ call_cases version d done undone (Apply command) =
     told_as refusal_for (cases_of d (form_of command)) ++ log_case version ∷ []
 call_cases version d done undone (Group commands) =
     size_cases (length commands) ++ log_case version ∷ part_cases 0 d commands
-call_cases version d done undone (Undo last) = (not (nat_eq last version), NewerCommand version) ∷ (nat_eq done 0, NothingToUndo) ∷ log_case version ∷ []
-call_cases version d done undone (Redo last) = (not (nat_eq last version), NewerCommand version) ∷ (nat_eq undone 0, NothingToRedo) ∷ log_case version ∷ []
+call_cases version d done undone (Undo last) =
+    (not (nat_eq last version), NewerCommand version) ∷ (nat_eq done 0, NothingToUndo) ∷ log_case version ∷ []
+call_cases version d done undone (Redo last) =
+    (not (nat_eq last version), NewerCommand version) ∷ (nat_eq undone 0, NothingToRedo) ∷ log_case version ∷ []
 
 -- a call that is no group
 abbrev pub IsSingle : CallOf → Type 0

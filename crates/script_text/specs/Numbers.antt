@@ -1,5 +1,6 @@
 -- Decimal numbers without leading zeros (own).
-use Rattle.std.specs.Prelude.{ℕ, ℤ, pos, negsuc, neg_ℤ, ◌<◌, ◌+◌, ◌-◌, ◌^◌, ◌==◌, ◌&&◌, ◌||◌, not, Bool, List, [], ◌∷◌, length, slice_index, nat_lt, Option, Some, None, if◌then◌else◌}
+use Rattle.std.specs.Prelude.{ℕ, ℤ, pos, negsuc, neg_ℤ, ◌<◌, ◌+◌, ◌-◌, ◌^◌, ◌==◌, ◌&&◌, ◌||◌}
+use Rattle.std.specs.Prelude.{not, Bool, List, [], ◌∷◌, length, slice_index, nat_lt, Option, Some, None, if◌then◌else◌}
 use Rattle.std.specs.List.{list_all}
 use Rattle.std.specs.Option.{option_map}
 use Rattle.std.specs.Char.{is_ascii_digit}
@@ -7,7 +8,9 @@ use Rattle.std.specs.Str.Parse.{digits_value}
 
 -- digits, with no zero (48) in front of others
 abbrev pub is_number : List ℕ → Bool
-is_number word = list_all is_ascii_digit word && (nat_lt 0 (length word) && (nat_lt (length word) 2 || not (slice_index word 0 == 48)))
+is_number word =
+    list_all is_ascii_digit word
+    && (nat_lt 0 (length word) && (nat_lt (length word) 2 || not (slice_index word 0 == 48)))
 
 -- n, if it is below the limit
 abbrev pub below : ℕ → ℕ → Option ℕ

@@ -34,7 +34,8 @@ continues number bridge (Ok request) others = told (answer_text bridge request) 
 -- what lines give, from this bridge on and with the first of them under this number
 unfoldable pub outcome_of : Bridge → ℕ → List (List ℕ) → Outcome
 outcome_of bridge number [] = nothing
-outcome_of bridge number (line ∷ lines) = continues number bridge (request_of line) (λ b. outcome_of b (number + 1) lines)
+outcome_of bridge number (line ∷ lines) =
+    continues number bridge (request_of line) (λ b. outcome_of b (number + 1) lines)
 
 -- what a script gives
 abbrev pub output_of : Wire → List ℕ → Outcome
@@ -53,9 +54,17 @@ abbrev pub IsCutOf : List ℕ → List ℕ → Type 0
 IsCutOf front all = (next : ℕ) × (rest : List ℕ) × (all ≡ front ++ next ∷ rest)
 
 -- what a run over this input leaves: what the reader still has, and what the writer held before and holds now
-abbrev pub RunEnds : Wire → List ℕ → Option (List ℕ) → Option (List ℕ) → Option (List ℕ) → Result (Unit {0}) RunFault → Type 0
-RunEnds wire input left before now (Ok u) = IsAtEnd left × ((output_of wire input).fault ≡ None) × Appends before now (output_of wire input).text
-RunEnds wire input left before now (Err (errors.Script line word fault)) = ((output_of wire input).fault ≡ Some (line, word, fault)) × Appends before now (output_of wire input).text
-RunEnds wire input left before now (Err errors.Write) = (sent : List ℕ) × IsCutOf sent (output_of wire input).text × Appends before now sent
-RunEnds wire input left before now (Err errors.Read) = (seen : List ℕ) × Consumes (Some input) left seen × ((ended_output_of wire seen).fault ≡ None) × Appends before now (ended_output_of wire seen).text
-RunEnds wire input left before now (Err errors.OutOfMemory) = (seen : List ℕ) × Consumes (Some input) left seen × (front : List ℕ) × IsFrontOf front seen × ((ended_output_of wire front).fault ≡ None) × Appends before now (ended_output_of wire front).text
+abbrev pub RunEnds : Wire → List ℕ → Option (List ℕ) → Option (List ℕ) → Option (List ℕ) → Result (Unit {0}) RunFault
+    → Type 0
+RunEnds wire input left before now (Ok u) =
+    IsAtEnd left × ((output_of wire input).fault ≡ None) × Appends before now (output_of wire input).text
+RunEnds wire input left before now (Err (errors.Script line word fault)) =
+    ((output_of wire input).fault ≡ Some (line, word, fault)) × Appends before now (output_of wire input).text
+RunEnds wire input left before now (Err errors.Write) =
+    (sent : List ℕ) × IsCutOf sent (output_of wire input).text × Appends before now sent
+RunEnds wire input left before now (Err errors.Read) =
+    (seen : List ℕ) × Consumes (Some input) left seen × ((ended_output_of wire seen).fault ≡ None)
+    × Appends before now (ended_output_of wire seen).text
+RunEnds wire input left before now (Err errors.OutOfMemory) =
+    (seen : List ℕ) × Consumes (Some input) left seen × (front : List ℕ) × IsFrontOf front seen
+    × ((ended_output_of wire front).fault ≡ None) × Appends before now (ended_output_of wire front).text

@@ -1,5 +1,6 @@
 -- Words that spell a packet, EXT/M/PT/HEX, and octets in hexadecimal (own).
-use Rattle.std.specs.Prelude.{◌≡◌, ◌⊎◌, ◌≤◌, ℕ, ℤ, pos, ◌+◌, ◌==◌, List, [], ◌∷◌, Result, Ok, Err, ◌++◌, codes, Bool, if◌then◌else◌}
+use Rattle.std.specs.Prelude.{◌≡◌, ◌⊎◌, ◌≤◌, ℕ, ℤ, pos, ◌+◌, ◌==◌, List}
+use Rattle.std.specs.Prelude.{[], ◌∷◌, Result, Ok, Err, ◌++◌, codes, Bool, if◌then◌else◌}
 use Rattle.std.specs.List.{slice_split}
 use Rattle.std.specs.Fmt.{decimal, signed_decimal}
 use Rattle.std.specs.Str.{str_to_ascii_lowercase}
@@ -17,7 +18,9 @@ marker_text marker = if marker then decimal 1 else decimal 0
 
 -- how a packet is written
 abbrev pub packet_text : SourcePacket → List ℕ
-packet_text p = signed_decimal p.ext ++ codes "/" ++ marker_text p.marker ++ codes "/" ++ decimal p.pt ++ codes "/" ++ encode_lower p.payload
+packet_text p =
+    signed_decimal p.ext ++ codes "/" ++ marker_text p.marker ++ codes "/" ++ decimal p.pt ++ codes "/"
+    ++ encode_lower p.payload
 
 -- how a sequence number may be written: `-0` is 0 too
 abbrev pub SpellsExt : List ℕ → ℤ → Type 0

@@ -1,5 +1,7 @@
 -- What a line asks for (own).
-use Rattle.std.specs.Prelude.{◌≡◌, ◌≢◌, ℕ, Bool, ◌&&◌, ◌||◌, ◌==◌, not, List, [], ◌∷◌, ◌++◌, map, length, nat_lt, nat_le, slice_index, codes, Option, Some, None, Result, Ok, Err, if◌then◌else◌}
+use Rattle.std.specs.Prelude.{◌≡◌, ◌≢◌, ℕ, Bool, ◌&&◌, ◌||◌, ◌==◌, not, List}
+use Rattle.std.specs.Prelude.{[], ◌∷◌, ◌++◌, map, length, nat_lt, nat_le, slice_index, codes}
+use Rattle.std.specs.Prelude.{Option, Some, None, Result, Ok, Err, if◌then◌else◌}
 use Rattle.std.specs.List.{list_all, find, join_with_byte}
 use Rattle.std.specs.Str.{bytes_eq}
 use Rattle.desk_edit.specs.Asked.{CallOf}
@@ -11,7 +13,8 @@ use Rattle.forward_rewrite.specs.Frame.{SourceFrame}
 use Rattle.intake.specs.Inputs.{Input}
 use Rattle.intake.specs.Inputs.Input.{frame, tick}
 use Rattle.script_text.specs.declared.fault.Fault.{Fault}
-use Rattle.script_text.specs.declared.fault.Fault.TheVariants.{LineTooLong, BadByte, UnknownWord, MissingWord, BadHex, BadFrame}
+use Rattle.script_text.specs.declared.fault.Fault.TheVariants.{LineTooLong, BadByte, UnknownWord}
+use Rattle.script_text.specs.declared.fault.Fault.TheVariants.{MissingWord, BadHex, BadFrame}
 use Rattle.script_text.specs.declared.value.Field.{Field}
 use Rattle.script_text.specs.declared.value.Field.TheVariants as fields
 use Rattle.script_text.specs.declared.value.Value.{Value}
@@ -24,7 +27,8 @@ use Rattle.script_text.specs.Values.{value_text, values_of, number_at, address_a
 use Rattle.script_text.specs.Packets.{packet_text, octets_or, packets_of, AllReadable}
 use Rattle.script_text.specs.Calls.{call_of, call_words}
 
--- nothing, an operator's call, an item for the lane, a datagram from an address at a moment, the reports of a moment, or the desk's rows
+-- nothing, an operator's call, an item for the lane, a datagram from an address at a moment, the reports of a moment,
+-- or the desk's rows
 pub data Request : Type 0 where
   Nothing : Request
   Desk : (op : ℕ) (call : CallOf) → Request
@@ -83,7 +87,13 @@ frame_of sighted words = do
 
 -- the frame of these packets, with the values MOMENT ADDRESS SSRC EPOCH TS
 abbrev pub sighted : List Value → List SourcePacket → SourceFrame
-sighted vs packets = record { moment = number_at 0 vs; address = address_at 1 vs; source = number_at 2 vs; epoch = number_at 3 vs; frame = record { ts = number_at 4 vs; packets = packets } }
+sighted vs packets = record {
+  moment = number_at 0 vs;
+  address = address_at 1 vs;
+  source = number_at 2 vs;
+  epoch = number_at 3 vs;
+  frame = record { ts = number_at 4 vs; packets = packets };
+}
 
 -- the octets that a word at this place spells: there is one at least
 abbrev pub some_octets : ℕ → List ℕ → Result (List ℕ) (ℕ × Fault)

@@ -23,8 +23,11 @@ row_words place (Member m) =
     ∷ value (U16 m.first_seq)
     ∷ value (U32 m.first_ts)
     ∷ []
-row_words place (Source s) = fixed (codes "source") ∷ value (U32 s.ssrc) ∷ value (U32 s.member) ∷ value (Media s.media) ∷ []
-row_words place (Slot s) = fixed (codes "slot") ∷ value (U32 s.out_ssrc) ∷ value (U32 s.member) ∷ value (U32 s.index) ∷ value (U16 s.first_seq) ∷ value (U32 s.first_ts) ∷ []
+row_words place (Source s) =
+    fixed (codes "source") ∷ value (U32 s.ssrc) ∷ value (U32 s.member) ∷ value (Media s.media) ∷ []
+row_words place (Slot s) =
+    fixed (codes "slot") ∷ value (U32 s.out_ssrc) ∷ value (U32 s.member) ∷ value (U32 s.index) ∷ value (U16 s.first_seq)
+    ∷ value (U32 s.first_ts) ∷ []
 row_words place (Sub s) = fixed (codes "sub") ∷ value (U32 s.out_ssrc) ∷ value (U32 s.source) ∷ []
 row_words place (Mute m) = fixed (codes "mute") ∷ value (U32 m.source) ∷ []
 row_words place (Gain g) = fixed (codes "gain") ∷ value (U32 g.member) ∷ value (U32 g.source) ∷ value (U32 g.q8) ∷ []

@@ -6,7 +6,8 @@ use Rattle.script_text.specs.declared.fault.Fault.{Fault}
 use Rattle.script_text.specs.Requests.{Request, request_of}
 use Rattle.script_text.specs.Lines.{lines_of}
 use Rattle.script_text.specs.Wire.{Wire}
-use Rattle.script_text.specs.Bridge.{Bridge, opening_bridge, Answer, silence, replied, sent, heard, reports, shown, answer, after}
+use Rattle.script_text.specs.Bridge.{Bridge, opening_bridge, Answer, silence, replied, sent}
+use Rattle.script_text.specs.Bridge.{heard, reports, shown, answer, after}
 
 -- a request before others; a line with a fault ends them
 abbrev pub followed : Result Request (ℕ × Fault) → List Request → List Request

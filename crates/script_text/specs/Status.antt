@@ -38,7 +38,8 @@ exit_of (outcomes.Ran answer) = status_of answer
 
 -- why a run ended
 abbrev pub run_text : RunFault → List ℕ
-run_text (errors.Script line word fault) = codes "line " ++ decimal line ++ codes " word " ++ decimal word ++ codes ": " ++ fault_text fault
+run_text (errors.Script line word fault) =
+    codes "line " ++ decimal line ++ codes " word " ++ decimal word ++ codes ": " ++ fault_text fault
 run_text errors.Read = codes "input or output failed"
 run_text errors.Write = codes "input or output failed"
 run_text errors.OutOfMemory = codes "out of memory"

@@ -16,7 +16,9 @@ use Rattle.reports.specs.declared.noting.LossNote.{LossNote}
 use Rattle.bridge_core.specs.Sent.{MediaPacket, ControlPacket, Notice, Sent}
 use Rattle.bridge_core.specs.Sent.Sent.{media, control, note}
 use Rattle.script_text.specs.declared.fault.Fault.{Fault}
-use Rattle.script_text.specs.declared.fault.Fault.TheVariants.{LineTooLong, BadByte, UnknownWord, MissingWord, ExtraWord, BadNumber, BadAddress, BadHex, BadFrame}
+use Rattle.script_text.specs.declared.fault.Fault.TheVariants.{LineTooLong, BadByte, UnknownWord}
+use Rattle.script_text.specs.declared.fault.Fault.TheVariants.{MissingWord, ExtraWord, BadNumber}
+use Rattle.script_text.specs.declared.fault.Fault.TheVariants.{BadAddress, BadHex, BadFrame}
 use Rattle.script_text.specs.declared.value.Value.{Value}
 use Rattle.script_text.specs.declared.value.Value.TheVariants.{U16, U32, U64, Address}
 use Rattle.script_text.specs.Values.{value_text}
@@ -92,7 +94,8 @@ reply_words (Refused at why) = fixed (codes "no") ∷ value (U64 at) ∷ told_wo
 abbrev pub head_words : (version item : ℕ) → Endpoint → List Word
 head_words version item address = value (U64 version) ∷ value (U64 item) ∷ value (Address address) ∷ []
 
--- the words of a packet: the version by which it was sent first, the number of its item, where it goes, its stream's SSRC, its number there, and its octets
+-- the words of a packet: the version by which it was sent first, the number of its item, where it goes, its stream's
+-- SSRC, its number there, and its octets
 abbrev pub packet_words : MediaPacket → List Word
 packet_words p = head_words p.version p.item p.to ++ value (U32 p.ssrc) ∷ value (U16 p.number) ∷ hex p.bytes ∷ []
 
@@ -110,7 +113,8 @@ abbrev pub source_words : Option (ℕ × ℤ) → List Word
 source_words None = fixed (codes "-") ∷ fixed (codes "-") ∷ []
 source_words (Some source) = value (U32 source.0) ∷ signed source.1 ∷ []
 
--- the words of a receiver's losses: the stream's SSRC, the share and the number of lost packets, and the source's packet that was the highest
+-- the words of a receiver's losses: the stream's SSRC, the share and the number of lost packets, and the source's
+-- packet that was the highest
 abbrev pub loss_words : LossNote → List Word
 loss_words n = value (U32 n.out_ssrc) ∷ value (U16 n.fraction) ∷ signed n.lost ∷ source_words n.source
 

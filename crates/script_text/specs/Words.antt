@@ -1,5 +1,6 @@
 -- Words of a line, from left to right, with the first fault that is met (own).
-use Rattle.std.specs.Prelude.{◌≡◌, ◌≢◌, ℕ, ◌+◌, ◌==◌, List, [], ◌∷◌, take, drop, position, Option, Some, None, Result, Ok, Err}
+use Rattle.std.specs.Prelude.{◌≡◌, ◌≢◌, ℕ, ◌+◌, ◌==◌, List, [], ◌∷◌, take}
+use Rattle.std.specs.Prelude.{drop, position, Option, Some, None, Result, Ok, Err}
 use Rattle.std.specs.List.{slice_split, All}
 use Rattle.std.specs.Option.{option_map}
 use Rattle.script_text.specs.declared.fault.Fault.{Fault}

@@ -8,7 +8,8 @@ ghost use Rattle.bridge_core.specs.Sent.{sent_of};
 ghost use Rattle.script_text.specs.Text.{sent_text};
 ghost use Rattle.script_text.specs.Requests.{Desk, Rx, Report as ReportRequest, Show as ShowRequest};
 ghost use Rattle.script_text.specs.inner.Cursor.{view};
-ghost use Rattle.script_text.specs.inner.Steps.{HasLane, wants_memory, HandsItem, HandsItems, AnswersRequest, AnswersLine};
+ghost use Rattle.script_text.specs.inner.Steps.{HasLane, wants_memory, HandsItem};
+ghost use Rattle.script_text.specs.inner.Steps.{HandsItems, AnswersRequest, AnswersLine};
 
 use crate::fault::{ParseFault, RunFault};
 use crate::line::{Line, parse_line};

@@ -5,7 +5,8 @@ ghost use Rattle.desk_edit.specs.Asked.{asked_by};
 ghost use Rattle.script_text.specs.Words.{Gives};
 ghost use Rattle.script_text.specs.inner.Cursor.{words_in, size_of};
 ghost use Rattle.script_text.specs.inner.Parts.{parts_in, size_of_parts, TakesCommand};
-ghost use Rattle.script_text.specs.Calls.{command_of, commands_of, last_of, headed, single, call_of, spoken_words, spoken_call};
+ghost use Rattle.script_text.specs.Calls.{command_of, commands_of, last_of, headed};
+ghost use Rattle.script_text.specs.Calls.{single, call_of, spoken_words, spoken_call};
 
 use crate::building::command;
 use crate::fault::{Fault, ParseFault};

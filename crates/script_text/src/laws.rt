@@ -32,8 +32,10 @@ ghost use Rattle.desk_edit.specs.Asked.{CallOf};
 ghost use Rattle.desk_edit.specs.Asked.CallOf.{Group};
 ghost use Rattle.desk_edit.specs.declared.command.Command.{Command};
 ghost use Rattle.script_text.specs.Calls.{call_of, call_line, IsCall};
-ghost use Rattle.script_text.specs.Requests.{words_request, Desk, desk_line, Item, frame_words, frame_line, IsFrame, Rx, rx_words, rx_line, IsDatagram, tick_line, Report, report_line};
-ghost use Rattle.script_text.specs.Packets.{SpellPackets, packet_of, packet_text, SpellsExt, SpellsHex, SpellsPacket, IsReadable};
+ghost use Rattle.script_text.specs.Requests.{words_request, Desk, desk_line, Item, frame_words, frame_line, IsFrame};
+ghost use Rattle.script_text.specs.Requests.{Rx, rx_words, rx_line, IsDatagram, tick_line, Report, report_line};
+ghost use Rattle.script_text.specs.Packets.{SpellPackets, packet_of, packet_text, SpellsExt};
+ghost use Rattle.script_text.specs.Packets.{SpellsHex, SpellsPacket, IsReadable};
 ghost use Rattle.script_text.specs.Lines.{parts_of};
 
 use crate::script::{BRIDGE_SSRC, CNAME};
@@ -78,7 +80,8 @@ pub fn address_words()
 /// for all commands. So it is with an operator's line of a script.
 pub fn call_lines()
     ensures read { (c : CallOf) → IsCall c → call_of 0 (words_of (call_line c)) ≡ Ok c }
-    ensures spelled { (line : List ℕ) (c : CallOf) → call_of 0 (words_of line) ≡ Ok c → (line ≡ call_line c) × IsCall c }
+    ensures spelled { (line : List ℕ) (c : CallOf) → call_of 0 (words_of line) ≡ Ok c
+        → (line ≡ call_line c) × IsCall c }
     ensures desk_read { (op : ℕ) (c : CallOf) → op ≤ last_operator → IsCall c
         → words_request (words_of (desk_line op c)) ≡ Ok (Desk op c) }
     ensures desk_spelled { (line : List ℕ) (op : ℕ) (c : CallOf) → words_request (words_of line) ≡ Ok (Desk op c)
@@ -121,7 +124,8 @@ pub fn datagram_lines()
 
 /// The words of a tick's line are that tick, and what is read as a tick is spelled by its line.
 pub fn tick_lines()
-    ensures read { (moment : ℕ) → moment < 2 ^ 64 → words_request (words_of (tick_line moment)) ≡ Ok (Item (tick moment)) }
+    ensures read { (moment : ℕ) → moment < 2 ^ 64
+        → words_request (words_of (tick_line moment)) ≡ Ok (Item (tick moment)) }
     ensures spelled { (line : List ℕ) (moment : ℕ) → words_request (words_of line) ≡ Ok (Item (tick moment))
         → (line ≡ tick_line moment) × (moment < 2 ^ 64) }
 {}
@@ -174,15 +178,18 @@ pub fn scripts_are_heard()
 /// the core's definition sends over the script's accepted calls and items: so the core's laws on
 /// streams and choices speak of scripts.
 pub fn script_sends()
-    ensures text { (wire : Wire) (input : List ℕ) → (output_of wire input).text ≡ flat_map text_of (answers_of wire input) }
-    ensures sends { (wire : Wire) (input : List ℕ) → sent_in (answers_of wire input) ≡ sends script_asker 1 first_desk (steps_of wire input) }
+    ensures text { (wire : Wire) (input : List ℕ)
+        → (output_of wire input).text ≡ flat_map text_of (answers_of wire input) }
+    ensures sends { (wire : Wire) (input : List ℕ)
+        → sent_in (answers_of wire input) ≡ sends script_asker 1 first_desk (steps_of wire input) }
 {}
 
 /// Each desk that a script publishes is good, so the core's laws on good desks speak of scripts: each
 /// stream of a script numbers the packets that it sends for the first time without a gap modulo 65536.
 pub fn script_streams_have_no_gap()
     ensures good { (wire : Wire) (input : List ℕ) → AreGood (steps_of wire input) }
-    ensures no_gap { (wire : Wire) (input : List ℕ) (name : Name) → HaveNoGap (numbers (firsts script_asker 1 first_desk name (steps_of wire input))) }
+    ensures no_gap { (wire : Wire) (input : List ℕ) (name : Name)
+        → HaveNoGap (numbers (firsts script_asker 1 first_desk name (steps_of wire input))) }
 {
     good_desks_stay_good();
     streams_have_no_gap();

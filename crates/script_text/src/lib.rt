@@ -1,5 +1,15 @@
-//! Scripts of a bridge: their lines, what is printed for each, and the run that answers a whole
-//! script.
+//! Scripts of a bridge: how their lines are read, what is printed for each, and the run that answers a whole script.
+//!
+//! Begin with [`run`] for a script from a reader, or [`output`] for one in memory. [`parse_desk`] reads one call.
+//! [`print_reply`], [`print_rows`] and [`print_egress`] append lines of output. A contract sees a text as its octets.
+//! The crate opens no file and no socket: a script comes from a [`Source`], and its output goes to a [`Sink`].
+//!
+//! ```rust
+//! let call = parse_desk(alloc, b"pin 1 101")?;
+//! let mut out = Vec::new(alloc);
+//! print_reply(&core.desk(alloc, 1, call), &mut out)?; // the line of the reply
+//! run(alloc, &mut reader, &mut writer)?; // a whole script, over a new bridge with one lane
+//! ```
 #![tactic(auto)]
 
 mod answer;

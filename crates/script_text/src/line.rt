@@ -6,7 +6,9 @@ ghost use Rattle.frame_gate.specs.Frame.{fault_of};
 ghost use Rattle.script_text.specs.Words.{Gives};
 ghost use Rattle.script_text.specs.inner.Cursor.{words_in, size_of, view, sighting};
 ghost use Rattle.script_text.specs.Values.{field_of};
-ghost use Rattle.script_text.specs.Requests.{is_printable, some_packets, framed, frame_of, desk_of, some_octets, rx_of, tick_of, report_of, show_of, front_of, request_with, words_request, request_of};
+ghost use Rattle.script_text.specs.Requests.{is_printable, some_packets, framed, frame_of, desk_of};
+ghost use Rattle.script_text.specs.Requests.{some_octets, rx_of, tick_of, report_of, show_of};
+ghost use Rattle.script_text.specs.Requests.{front_of, request_with, words_request, request_of};
 
 use crate::calling::call;
 use crate::fault::{Fault, ParseFault};

@@ -43,7 +43,9 @@ fn rtcp_fault_text(fault: RtcpFault) -> &'static [u8]
 
 /// Appends the line of a datagram that was dropped for this reason.
 fn print_dropped<A: Allocator>(name: &[u8], out: &mut Vec<u8, A>) -> Result<(), AllocError>
-    ensures { OnOk result (out.new.items ≡ out.old.items ++ line_text (fixed (codes "rx") ∷ fixed (codes "dropped") ∷ fixed name.now ∷ [])) }
+    ensures { OnOk result
+        (out.new.items
+        ≡ out.old.items ++ line_text (fixed (codes "rx") ∷ fixed (codes "dropped") ∷ fixed name.now ∷ [])) }
 {
     print_line(b"rx", &[Word::Fixed(b"dropped"), Word::Fixed(name)], out)
 }
@@ -67,7 +69,8 @@ fn print_refused<'a, A: Allocator>(
 
 /// Appends the line of a packet that was given an extended sequence number.
 fn print_placed<A: Allocator>(name: &[u8], ext: i64, out: &mut Vec<u8, A>) -> Result<(), AllocError>
-    ensures { OnOk result (out.new.items ≡ out.old.items ++ line_text (fixed (codes "rx") ∷ fixed name.now ∷ signed ext ∷ [])) }
+    ensures { OnOk result
+        (out.new.items ≡ out.old.items ++ line_text (fixed (codes "rx") ∷ fixed name.now ∷ signed ext ∷ [])) }
 {
     print_line(b"rx", &[Word::Fixed(name), Word::Signed(ext)], out)
 }

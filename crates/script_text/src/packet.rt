@@ -81,7 +81,8 @@ fn packet_from<A: Allocator + Copy>(
     parts: Parts<'_>,
     place: u32,
 ) -> Result<FramePacket<A>, ParseFault>
-    ensures { Gives (λ x. x) result (packet_from place parts.entry.ext.now parts.entry.marker.now parts.entry.pt.now parts.entry.payload.now) }
+    ensures { Gives (λ x. x) result
+        (packet_from place parts.entry.ext.now parts.entry.marker.now parts.entry.pt.now parts.entry.payload.now) }
 {
     let Some(ext) = parse_ext(parts.ext) else {
         return Err(Fault::BadNumber.at(place));

@@ -2,7 +2,8 @@
 
 ghost use Rattle.std.specs.Prelude.{◌≡◌, ◌+◌, ◌<◌, ◌∷◌, ◌++◌, codes, length, map, OnOk, OnErr, vec_len, vec_capacity};
 ghost use Rattle.script_text.specs.declared.value.Value.TheVariants.{U64};
-ghost use Rattle.script_text.specs.Text.{fixed, value, line_text, told_words, reason_words, reply_text, head_words, media_words, source_words, loss_words, sent_text};
+ghost use Rattle.script_text.specs.Text.{fixed, value, line_text, told_words, reason_words, reply_text};
+ghost use Rattle.script_text.specs.Text.{head_words, media_words, source_words, loss_words, sent_text};
 ghost use Rattle.script_text.specs.inner.Shown.{said};
 ghost use Rattle.desk_edit.specs.Told.{told_in};
 ghost use Rattle.bridge_core.specs.Sent.{sent_of};
@@ -111,7 +112,8 @@ fn print_media<A: Allocator>(
     resent_by: Option<u64>,
     out: &mut Vec<u8, A>,
 ) -> Result<(), AllocError>
-    ensures ok { OnOk result (out.new.items ≡ out.old.items ++ line_text (media_words resent_by (map said words.entry))) }
+    ensures ok { OnOk result
+        (out.new.items ≡ out.old.items ++ line_text (media_words resent_by (map said words.entry))) }
     ensures err { OnErr result (out.new.items ≡ out.old.items) }
     ensures full { OnErr result (vec_capacity out.old
         < vec_len out.old + length (line_text (media_words resent_by (map said words.entry)))) }

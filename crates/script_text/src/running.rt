@@ -98,9 +98,11 @@ pub fn run<A: Allocator + Copy, S: Source, T: Sink>(
 
 /// The output of a script that is in memory.
 fn script_output<A: Allocator + Copy>(alloc: A, script: &[u8]) -> Result<Vec<u8, A>, RunFault>
-    ensures ok { (wire : Wire) → HearsAll wire (lines_of script.now) → IfOk result (λ out. ((output_of wire script.now).fault ≡ None) × (out.items
-        ≡ (output_of wire script.now).text)) }
-    ensures fault { (wire : Wire) (line word : ℕ) (fault : Fault) → HearsAll wire (lines_of script.now) → result ≡ Err (RunFault.Script line word fault)
+    ensures ok { (wire : Wire) → HearsAll wire (lines_of script.now)
+        → IfOk result
+        (λ out. ((output_of wire script.now).fault ≡ None) × (out.items ≡ (output_of wire script.now).text)) }
+    ensures fault { (wire : Wire) (line word : ℕ) (fault : Fault) → HearsAll wire (lines_of script.now)
+        → result ≡ Err (RunFault.Script line word fault)
         → (output_of wire script.now).fault ≡ Some (line, word, fault) }
     ensures read { result ≢ Err RunFault.Read }
     ensures write { result ≢ Err RunFault.Write }

@@ -13,7 +13,9 @@ use std::io::{ErrorKind, Write};
 pub enum Portion {
     /// It took this many octets from the front.
     Octets(usize),
+    /// It took nothing, and may be called again.
     Interrupted,
+    /// It wanted memory and took nothing.
     OutOfMemory,
     /// It failed or took nothing.
     Failed,

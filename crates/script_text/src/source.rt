@@ -12,9 +12,13 @@ use std::io::{ErrorKind, Read};
 pub enum Piece {
     /// This many octets stand at the chunk's front.
     Octets(usize),
+    /// There is nothing more to come.
     End,
+    /// It gave nothing, and may be called again.
     Interrupted,
+    /// It wanted memory and gave nothing.
     OutOfMemory,
+    /// It failed.
     Failed,
 }
 

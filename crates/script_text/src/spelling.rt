@@ -24,8 +24,8 @@ fn field(text: &[u8], octet: u8) -> Option<(u8, &[u8])>
     }
 }
 
-/// The address that a word spells: four numbers up to 255 with dots between, a colon, and a port up to 65535, all decimal without leading
-/// zeros.
+/// The address that a word spells: four numbers up to 255 with dots between, a colon, and a port up to 65535, all
+/// decimal without leading zeros.
 #[tactic(auto, unfolding(crate::specs::Addresses::address_of))]
 pub fn parse_address(word: &[u8]) -> Option<Address>
     ensures { result ≡ address_of word.now }

@@ -33,9 +33,11 @@ with_tried tried attempts = option_map (λ before. before ++ tried) attempts
 -- the attempts grew by what goes out of each egress, in order, and so many of them failed
 abbrev pub GrewBy : {A : Type 0} → List (Egress A) → Option (List Attempt) → Option (List Attempt) → ℕ → Type 0
 GrewBy egresses old new failed =
-    (tried : List Attempt) × (new ≡ with_tried tried old) × (map tried_of tried ≡ flat_map datagrams_of egresses) × (failed ≡ failures tried)
+    (tried : List Attempt) × (new ≡ with_tried tried old) × (map tried_of tried ≡ flat_map datagrams_of egresses)
+    × (failed ≡ failures tried)
 
 -- the attempts grew by this one datagram, and so many failed
 abbrev pub Tried : Address → List ℕ → Option (List Attempt) → Option (List Attempt) → ℕ → Type 0
 Tried to octets old new failed =
-    (sent : Bool) × (new ≡ with_tried (record { to = to; octets = octets; sent = sent } ∷ []) old) × (failed ≡ (if sent then 0 else 1))
+    (sent : Bool) × (new ≡ with_tried (record { to = to; octets = octets; sent = sent } ∷ []) old)
+    × (failed ≡ (if sent then 0 else 1))

@@ -15,7 +15,8 @@ uncut = record { ended = []; rest = [] }
 -- the parts with one more octet
 abbrev pub with_octet : Cut → ℕ → Cut
 with_octet c x =
-    if nat_eq x 10 then record { ended = c.ended ++ c.rest ∷ []; rest = [] } else record { ended = c.ended; rest = c.rest ++ x ∷ [] }
+    if nat_eq x 10 then record { ended = c.ended ++ c.rest ∷ []; rest = [] }
+    else record { ended = c.ended; rest = c.rest ++ x ∷ [] }
 
 -- the stream, cut at each LF
 abbrev pub cut : List ℕ → Cut

@@ -1,5 +1,6 @@
 -- What operators' lines ask for, and what they are answered (own).
-use Rattle.std.specs.Prelude.{◌≡◌, ℕ, Bool, not, if◌then◌else◌, List, [], ◌∷◌, ◌++◌, take, codes, decimal, Option, Some, None, Result, Ok, Err}
+use Rattle.std.specs.Prelude.{◌≡◌, ℕ, Bool, not, if◌then◌else◌, List, [], ◌∷◌, ◌++◌}
+use Rattle.std.specs.Prelude.{take, codes, decimal, Option, Some, None, Result, Ok, Err}
 use Rattle.std.specs.List.{list_all}
 use Rattle.std.specs.Str.{bytes_eq}
 use Rattle.desk_edit.specs.Asked.{CallOf, asked_by}
@@ -92,13 +93,15 @@ AppendsReply old new call before after = (text : List ℕ) × (after ≡ before 
 abbrev pub IsAnswered : CoreOf → Result AskOf (ℕ × Fault) → CoreOf → List ℕ → Next → Type 0
 IsAnswered old (Err fault) new text becomes = (new ≡ old) × (text ≡ fault_line fault.0 fault.1) × (becomes ≡ next.Stay)
 IsAnswered old (Ok (spoken call)) new text becomes = Replies old new call text × (becomes ≡ next.Stay)
-IsAnswered old (Ok (alone Show)) new text becomes = (new ≡ old) × (text ≡ show_text old.desk old.version) × (becomes ≡ next.Stay)
+IsAnswered old (Ok (alone Show)) new text becomes =
+    (new ≡ old) × (text ≡ show_text old.desk old.version) × (becomes ≡ next.Stay)
 IsAnswered old (Ok (alone Quit)) new text becomes = (new ≡ old) × (text ≡ []) × (becomes ≡ next.Quit)
 IsAnswered old (Ok (alone Stop)) new text becomes = (new ≡ old) × (text ≡ []) × (becomes ≡ next.Stop)
 
 -- what was read is answered so, and the text is appended
 abbrev pub AppendsAnswer : CoreOf → Result AskOf (ℕ × Fault) → CoreOf → List ℕ → List ℕ → Next → Type 0
-AppendsAnswer old read new before after becomes = (text : List ℕ) × (after ≡ before ++ text) × IsAnswered old read new text becomes
+AppendsAnswer old read new before after becomes =
+    (text : List ℕ) × (after ≡ before ++ text) × IsAnswered old read new text becomes
 
 -- a line is answered so, and the text is appended
 abbrev pub AnswersLine : CoreOf → CoreOf → List ℕ → List ℕ → List ℕ → Next → Type 0

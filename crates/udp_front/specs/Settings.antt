@@ -1,5 +1,6 @@
 -- The settings that a table of TOML gives, or its first fault (own).
-use Rattle.std.specs.Prelude.{◌^◌, ◌-◌, ℕ, Bool, not, if◌then◌else◌, List, [], ◌∷◌, filter, fold, codes, Option, Some, None, Result, Ok, Err}
+use Rattle.std.specs.Prelude.{◌^◌, ◌-◌, ℕ, Bool, not, if◌then◌else◌, List, [], ◌∷◌}
+use Rattle.std.specs.Prelude.{filter, fold, codes, Option, Some, None, Result, Ok, Err}
 use Rattle.std.specs.List.{list_any}
 use Rattle.std.specs.Ordering.{nat_cmp, is_lt}
 use Rattle.std.specs.Cmp.Lexicographic.{slice_cmp}
@@ -90,7 +91,13 @@ settings_of table = do
   bridge_ssrc ← given BridgeSsrc (number_in 0 (2 ^ 32 - 1)) 1 (value BridgeSsrc)
   cname ← given Cname cname_in (codes "bridge") (value Cname)
   none_left ← none_unknown (unknown_in table)
-  Ok (record { udp = udp; tcp = tcp; lanes = lanes; operators = operators; bridge = record { bridge_ssrc = bridge_ssrc; cname = cname } })
+  Ok (record {
+    udp = udp;
+    tcp = tcp;
+    lanes = lanes;
+    operators = operators;
+    bridge = record { bridge_ssrc = bridge_ssrc; cname = cname };
+  })
 
 -- the settings of a text, by the table that it is, if it is one
 abbrev pub read_of : Option Members → Result FrontSettings Trouble

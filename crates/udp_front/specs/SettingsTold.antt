@@ -1,7 +1,8 @@
 -- How a fault of the settings is told (own).
 use Rattle.std.specs.Prelude.{◌≡◌, ℕ, List, ◌++◌, codes, string_bytes, Result, Ok, Err}
 use Rattle.udp_front.specs.declared.fault.SettingsFault.{SettingsFault}
-use Rattle.udp_front.specs.declared.fault.SettingsFault.TheVariants.{BadToml, MissingKey, BadValue, UnknownKey, OutOfMemory}
+use Rattle.udp_front.specs.declared.fault.SettingsFault.TheVariants.{BadToml, MissingKey, BadValue}
+use Rattle.udp_front.specs.declared.fault.SettingsFault.TheVariants.{UnknownKey, OutOfMemory}
 use Rattle.udp_front.specs.Settings.{Trouble, bad_toml, missing_key, bad_value, unknown_key, key_text}
 
 -- a fault tells the trouble that was read, unless memory ran out

@@ -110,7 +110,8 @@ impl<A: Allocator + Copy> Lines<A> {
     ) -> Result<bool, AllocError>
         ensures { IfOk result (λ ended. (before : List (List ℕ)) (c : Cut)
             → Holds before c (in_place carried.now self.old) (texts lines.old.items)
-            → Holds before (with_octet c octet) (in_place (unless ended carried.now) self.new) (texts lines.new.items)) }
+            → Holds before (with_octet c octet) (in_place (unless ended carried.now) self.new)
+            (texts lines.new.items)) }
     {
         if self.too_long {
             return Ok(false);

@@ -3,6 +3,12 @@
 //!
 //! Begin with [`settings`] and [`Front::bind`], then [`Lines::feed`] and [`answer`]. A [`Front`] becomes a [`Serving`],
 //! which runs round by round. Contracts say nothing of sockets, and so nothing of `bind`, `run` and `round`.
+//!
+//! ```rust
+//! let front = Front::bind(&rt, settings(alloc, text)?)?;
+//! println!(rt; "{}", front.listening()?)?;
+//! front.run(&rt)?; // until an operator stops it
+//! ```
 #![tactic(auto)]
 
 mod answering;

@@ -1,5 +1,6 @@
 -- What is made ready for the receivers of a frame, and what sending it leaves.
-use Rattle.std.specs.Prelude.{◌≡◌, ℕ, if◌then◌else◌, nat_eq, List, [], ◌∷◌, length, map, Option, None, Some, unwrap_or, sum_by}
+use Rattle.std.specs.Prelude.{◌≡◌, ℕ, if◌then◌else◌, nat_eq, List, [], ◌∷◌}
+use Rattle.std.specs.Prelude.{length, map, Option, None, Some, unwrap_or, sum_by}
 use Rattle.std.specs.List.{flat_map, AllByRecursion}
 use Rattle.desk_rows.specs.declared.row.Slot.{Slot as SlotRow}
 use Rattle.topology.specs.declared.receivers.Receiver.{Receiver}
@@ -37,7 +38,8 @@ new_one (Some stream) slot = None
 
 -- What is ready goes on from this stream of its receiver, which is a new one where there was none.
 abbrev pub Fits : Option StreamOf → ReadyOf → Type 0
-Fits kept ready = (ready.begun ≡ new_one kept ready.receiver.slot) × (ready.prepared.first ≡ (current kept ready.receiver.slot).next)
+Fits kept ready =
+    (ready.begun ≡ new_one kept ready.receiver.slot) × (ready.prepared.first ≡ (current kept ready.receiver.slot).next)
 
 -- What is ready is for each receiver such that its stream can go on with it.
 abbrev pub AllFit : StreamList → List ReadyOf → Type 0
@@ -48,7 +50,8 @@ abbrev pub IsNext : StreamList → Stamp → SourceFrame → ReadyOf → Type 0
 IsNext streams stamp f ready =
     let s = current (stream_at (ssrc_of ready) streams) ready.receiver.slot in
     let sending = sending_of f stamp (owner_of ready.receiver) in
-    SendsNext s (committed s ready.prepared) sending ready.prepared.packets × AllByRecursion (IsOf sending) ready.prepared.packets
+    SendsNext s (committed s ready.prepared) sending ready.prepared.packets
+    × AllByRecursion (IsOf sending) ready.prepared.packets
 
 -- What is ready is for each receiver the next frame of its stream.
 abbrev pub AreNext : StreamList → Stamp → SourceFrame → List ReadyOf → Type 0
@@ -60,7 +63,8 @@ receivers_of rs = map (λ r. r.receiver) rs
 
 -- a stream after this is committed, if it is its stream
 abbrev pub kept_after_one : ℕ → ReadyOf → Option StreamOf → Option StreamOf
-kept_after_one ssrc r kept = if nat_eq (ssrc_of r) ssrc then Some (committed (current kept r.receiver.slot) r.prepared) else kept
+kept_after_one ssrc r kept =
+    if nat_eq (ssrc_of r) ssrc then Some (committed (current kept r.receiver.slot) r.prepared) else kept
 
 -- a stream after all of this is committed
 abbrev pub kept_after : ℕ → List ReadyOf → Option StreamOf → Option StreamOf
@@ -70,7 +74,15 @@ kept_after ssrc (r ∷ rs) kept = kept_after ssrc rs (kept_after_one ssrc r kept
 -- a packet as it goes to a receiver for the first time
 abbrev pub first_to : Stamp → Receiver → Numbered → Sent
 first_to stamp r p =
-    media record { version = stamp.version; item = stamp.item; to = r.address; ssrc = r.slot.out_ssrc; number = p.number; bytes = p.bytes; resent_by = None }
+    media record {
+      version = stamp.version;
+      item = stamp.item;
+      to = r.address;
+      ssrc = r.slot.out_ssrc;
+      number = p.number;
+      bytes = p.bytes;
+      resent_by = None;
+    }
 
 -- all that is ready, as it goes to its receivers
 abbrev pub sent_for : List ReadyOf → List Sent

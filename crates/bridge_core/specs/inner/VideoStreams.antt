@@ -8,4 +8,5 @@ use Rattle.bridge_core.specs.LaneState.{StreamList, AreLeft}
 -- Whatever items have left the old streams, this is what the lane sends for one more, which leaves the new ones.
 abbrev pub Answers : Asker → ℕ → ℕ → StreamList → StreamList → Visit → List Sent → Type 0
 Answers who lane lanes old new visit sent =
-    (before : List Visit) → AreLeft lane lanes old before → (sent ≡ sends_at who lane lanes before visit) × AreLeft lane lanes new (before ++ visit ∷ [])
+    (before : List Visit) → AreLeft lane lanes old before
+    → (sent ≡ sends_at who lane lanes before visit) × AreLeft lane lanes new (before ++ visit ∷ [])

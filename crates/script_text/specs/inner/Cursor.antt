@@ -31,7 +31,13 @@ view lines.Show = Show
 
 -- the frame of these packets, with what stands before them
 abbrev pub sighting : FrameHead → List SourcePacket → SourceFrame
-sighting h packets = record { source = h.source; address = h.address; epoch = h.epoch; moment = h.moment; frame = record { ts = h.ts; packets = packets } }
+sighting h packets = record {
+  source = h.source;
+  address = h.address;
+  epoch = h.epoch;
+  moment = h.moment;
+  frame = record { ts = h.ts; packets = packets };
+}
 
 -- these are the four parts, or there are not four
 abbrev pub are_parts : Option Parts → List (List ℕ) → Type 0
@@ -45,5 +51,6 @@ size_of (Some text) = length text.now + 1
 
 -- the packet that the word at this place spells stands behind the others, or its fault was told
 abbrev pub TakesPacket : ℕ → List ℕ → List SourcePacket → List SourcePacket → Result (Unit {0}) ParseFault → Type 0
-TakesPacket place word old new (Ok u) = (packet : SourcePacket) × (packet_of place word ≡ Ok packet) × (new ≡ old ++ packet ∷ [])
+TakesPacket place word old new (Ok u) =
+    (packet : SourcePacket) × (packet_of place word ≡ Ok packet) × (new ≡ old ++ packet ∷ [])
 TakesPacket place word old new (Err e) = Fails e (packet_of place word)

@@ -15,5 +15,7 @@ room_of v = record { items = v.items; len = vec_len v; capacity = vec_capacity v
 
 -- a text was appended, or a front of it, as there was no room for all
 abbrev pub Grows : Room → Room → List ℕ → Result (Unit {0}) AllocError → Type 0
-Grows old new text (Ok u) = (new.items ≡ old.items ++ text) × (new.len ≡ old.len + length text) × (old.capacity ≤ new.capacity)
-Grows old new text (Err e) = (front : List ℕ) × (new.items ≡ old.items ++ front) × (old.capacity < old.len + length text)
+Grows old new text (Ok u) =
+    (new.items ≡ old.items ++ text) × (new.len ≡ old.len + length text) × (old.capacity ≤ new.capacity)
+Grows old new text (Err e) =
+    (front : List ℕ) × (new.items ≡ old.items ++ front) × (old.capacity < old.len + length text)

@@ -1,6 +1,7 @@
 -- A run between two octets: what the functions inside it say to one another.
 use Rattle.std.specs.List.{All, flat_map}
-use Rattle.std.specs.Prelude.{◌≡◌, ◌==◌, ◌<◌, Bool, true, false, ℕ, length, List, [], ◌++◌, Option, None, Result, Ok, Err}
+use Rattle.std.specs.Prelude.{◌≡◌, ◌==◌, ◌<◌, Bool, true, false, ℕ, length}
+use Rattle.std.specs.Prelude.{List, [], ◌++◌, Option, None, Result, Ok, Err}
 use Rattle.std.specs.Io.KnownBytes.{Appends}
 use Rattle.desk_edit.specs.declared.refusal.Refusal.TheVariants.{OutOfMemory}
 use Rattle.intake.specs.Inputs.{Input}
@@ -15,7 +16,8 @@ use Rattle.script_text.specs.Requests.{Request, request_of}
 use Rattle.script_text.specs.Wire.{Wire, Hears, HearsAll, script_asker}
 use Rattle.script_text.specs.Lines.{lines_by, whole, ended, parts_of}
 use Rattle.script_text.specs.Text.{sent_text}
-use Rattle.script_text.specs.Bridge.{Bridge, first_desk, opening_bridge, answer_text, after, item_sent, after_item, items_sent, items_text, after_items}
+use Rattle.script_text.specs.Bridge.{Bridge, first_desk, opening_bridge, answer_text, after}
+use Rattle.script_text.specs.Bridge.{item_sent, after_item, items_sent, items_text, after_items}
 use Rattle.script_text.specs.Output.{Outcome, told, stopped, outcome_of, IsFrontOf, IsCutOf}
 
 -- the reply tells of want of memory
@@ -69,14 +71,18 @@ to_come last place text = outcome_of place.bridge place.line (lines_by last (par
 
 -- the octets led from one place to the other, and this was sent
 abbrev pub Goes : Place → List ℕ → Place → List ℕ → Type 0
-Goes old octets new sent = (last : List ℕ → List (List ℕ)) (tail : List ℕ) → to_come last old (octets ++ tail) ≡ told sent (to_come last new tail)
+Goes old octets new sent =
+    (last : List ℕ → List (List ℕ)) (tail : List ℕ)
+    → to_come last old (octets ++ tail) ≡ told sent (to_come last new tail)
 
 -- why a step over octets failed, and what was sent, whatever comes behind them
 abbrev pub StepFails : Place → List ℕ → List ℕ → RunFault → Type 0
-StepFails old octets sent (errors.Script line word fault) = (tail : List ℕ) → to_come whole old (octets ++ tail) ≡ told sent (stopped line word fault)
+StepFails old octets sent (errors.Script line word fault) =
+    (tail : List ℕ) → to_come whole old (octets ++ tail) ≡ told sent (stopped line word fault)
 StepFails old octets sent errors.Write = (tail : List ℕ) → IsCutOf sent (to_come whole old (octets ++ tail)).text
 StepFails old octets sent errors.Read = ⊥
-StepFails old octets sent errors.OutOfMemory = (front : List ℕ) × IsFrontOf front octets × (to_come ended old front ≡ record { text = sent; fault = None })
+StepFails old octets sent errors.OutOfMemory =
+    (front : List ℕ) × IsFrontOf front octets × (to_come ended old front ≡ record { text = sent; fault = None })
 
 -- all datagrams are heard that come with these octets
 abbrev pub HearsComing : Wire → Held → List ℕ → Type 0
@@ -84,12 +90,16 @@ HearsComing wire held text = HearsAll wire (lines_by whole (parts_of (held.pendi
 
 -- how a step over octets ended before others that come behind them, and what is held then
 abbrev pub StepEnds : Place → List ℕ → List ℕ → Held → List ℕ → Result (Unit {0}) RunFault → Type 0
-StepEnds old octets tail new sent (Ok u) = (bridge : Bridge) × Stands new.core bridge × Goes old octets (place_of new bridge) sent × HearsComing bridge.wire new tail
+StepEnds old octets tail new sent (Ok u) =
+    (bridge : Bridge) × Stands new.core bridge × Goes old octets (place_of new bridge) sent
+    × HearsComing bridge.wire new tail
 StepEnds old octets tail new sent (Err e) = StepFails old octets sent e
 
 -- a step over octets that sends nothing, whatever comes behind them
 abbrev pub Keeps : Held → List ℕ → Held → Result (Unit {0}) RunFault → Type 0
-Keeps old octets new result = (bridge : Bridge) (tail : List ℕ) → HearsComing bridge.wire old (octets ++ tail) → Stands old.core bridge → StepEnds (place_of old bridge) octets tail new [] result
+Keeps old octets new result =
+    (bridge : Bridge) (tail : List ℕ) → HearsComing bridge.wire old (octets ++ tail) → Stands old.core bridge
+    → StepEnds (place_of old bridge) octets tail new [] result
 
 -- a step over octets, and what the writer held before and holds now, whatever comes behind them
 abbrev pub Steps : Held → List ℕ → Held → Option (List ℕ) → Option (List ℕ) → Result (Unit {0}) RunFault → Type 0
@@ -99,27 +109,40 @@ Steps old octets new before now result =
 
 -- a request was answered by this text
 abbrev pub AnswersRequest : CoreOf → Request → CoreOf → List ℕ → Type 0
-AnswersRequest old request new text = (bridge : Bridge) → Hears bridge.wire (Ok request) → Stands old bridge → Stands new (after bridge request) × (text ≡ answer_text bridge request)
+AnswersRequest old request new text =
+    (bridge : Bridge) → Hears bridge.wire (Ok request) → Stands old bridge
+    → Stands new (after bridge request) × (text ≡ answer_text bridge request)
 
 -- the lane was handed an item, and this was written behind what stood before
 abbrev pub HandsItem : CoreOf → Input → CoreOf → List ℕ → List ℕ → Type 0
-HandsItem old item new before now = (bridge : Bridge) → Stands old bridge → Stands new (after_item bridge item) × (now ≡ before ++ flat_map sent_text (item_sent bridge item))
+HandsItem old item new before now =
+    (bridge : Bridge) → Stands old bridge
+    → Stands new (after_item bridge item) × (now ≡ before ++ flat_map sent_text (item_sent bridge item))
 
 -- the same for items, one after another
 abbrev pub HandsItems : CoreOf → List Input → CoreOf → List ℕ → List ℕ → Type 0
-HandsItems old items new before now = (bridge : Bridge) → Stands old bridge → Stands new (after_items bridge items) × (now ≡ before ++ items_text (items_sent bridge items))
+HandsItems old items new before now =
+    (bridge : Bridge) → Stands old bridge
+    → Stands new (after_items bridge items) × (now ≡ before ++ items_text (items_sent bridge items))
 
 -- how the answer to one line ended, of which no other is known
 abbrev pub LineEnds : Bridge → ℕ → List ℕ → CoreOf → List ℕ → Result (Unit {0}) RunFault → Type 0
-LineEnds old number line new sent (Ok u) = (request : Request) × (request_of line ≡ Ok request) × Stands new (after old request) × (sent ≡ answer_text old request)
-LineEnds old number line new sent (Err (errors.Script n word fault)) = (n ≡ number) × (request_of line ≡ Err (word, fault)) × (sent ≡ [])
-LineEnds old number line new sent (Err errors.Write) = (request : Request) × (request_of line ≡ Ok request) × IsCutOf sent (answer_text old request)
+LineEnds old number line new sent (Ok u) =
+    (request : Request) × (request_of line ≡ Ok request) × Stands new (after old request)
+    × (sent ≡ answer_text old request)
+LineEnds old number line new sent (Err (errors.Script n word fault)) =
+    (n ≡ number) × (request_of line ≡ Err (word, fault)) × (sent ≡ [])
+LineEnds old number line new sent (Err errors.Write) =
+    (request : Request) × (request_of line ≡ Ok request) × IsCutOf sent (answer_text old request)
 LineEnds old number line new sent (Err errors.Read) = ⊥
 LineEnds old number line new sent (Err errors.OutOfMemory) = sent ≡ []
 
 -- the answer to one line, and what the writer held before and holds now
-abbrev pub AnswersLine : CoreOf → ℕ → List ℕ → CoreOf → Option (List ℕ) → Option (List ℕ) → Result (Unit {0}) RunFault → Type 0
-AnswersLine old number line new before now result = (bridge : Bridge) → Hears bridge.wire (request_of line) → Stands old bridge → (sent : List ℕ) × Appends before now sent × LineEnds bridge number line new sent result
+abbrev pub AnswersLine : CoreOf → ℕ → List ℕ → CoreOf → Option (List ℕ) → Option (List ℕ) → Result (Unit {0}) RunFault
+    → Type 0
+AnswersLine old number line new before now result =
+    (bridge : Bridge) → Hears bridge.wire (request_of line) → Stands old bridge
+    → (sent : List ℕ) × Appends before now sent × LineEnds bridge number line new sent result
 
 -- all was sent, or a front and not all, or nothing for want of memory
 abbrev pub SendEnds : List ℕ → List ℕ → Result (Unit {0}) RunFault → Type 0
@@ -142,4 +165,6 @@ FinishEnds old sent (Err errors.OutOfMemory) = to_come ended old [] ≡ record {
 
 -- the end of the input, and what the writer held before and holds now
 abbrev pub Finishes : Held → Option (List ℕ) → Option (List ℕ) → Result (Unit {0}) RunFault → Type 0
-Finishes old before now result = (bridge : Bridge) → HearsComing bridge.wire old [] → Stands old.core bridge → (sent : List ℕ) × Appends before now sent × FinishEnds (place_of old bridge) sent result
+Finishes old before now result =
+    (bridge : Bridge) → HearsComing bridge.wire old [] → Stands old.core bridge
+    → (sent : List ℕ) × Appends before now sent × FinishEnds (place_of old bridge) sent result
