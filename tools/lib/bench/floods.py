@@ -1,0 +1,60 @@
+"""Floods a bridge over loopback beside a call of two members, and measures that call.
+
+FLOOD is one of
+  strangers    random octets from addresses that are no member's
+  noise        random octets from a member's address
+  sources      good RTP packets from a member, each with a random SSRC
+  asks         compounds of 8,192 octets from a receiver: 31 blocks, 100 PLIs, and NACKs of numbers in and out of its window
+  restarts     two members whose video restarts at every second packet
+  open-frames  packets of 2,044 video sources, none of which ends a frame
+  gaps         packets of one octet of which each asks the bridge for the 249 numbers before it
+
+A flood holds where at least 99 in 100 of the call's packets that reached the bridge come to the listener, the ticks are late by
+at most 10 ms (99th percentile), memory is flat after the first minute, and the control that goes out to the flood's senders has at
+most 1.5 octets for each of theirs. The status is 0 where all floods held.
+"""
+
+import pathlib
+import shutil
+import subprocess
+import tempfile
+
+from lib.shared import add_program, fail, release_program
+
+NEEDS = "the program, `cc`, a minute or more a flood; root for large socket buffers"
+
+HERE = pathlib.Path(__file__).resolve().parent
+# How many datagrams a second each flood sends.
+RATES = {
+    "strangers": 200_000,
+    "noise": 200_000,
+    "sources": 200_000,
+    "asks": 1_000,
+    "restarts": 20_000,
+    "open-frames": 50_000,
+    "gaps": 20_000,
+}
+
+
+def options(parser):
+    parser.add_argument("--flood", choices=RATES, metavar="FLOOD", help="this one alone; all, one after another, if none is given")
+    parser.add_argument("--seconds", type=float, default=600, help="how long each lasts (%(default)s)")
+    parser.add_argument("--rate", type=int, help="how many datagrams a second, in place of the flood's own; 0 is the call alone")
+    add_program(parser)
+
+
+def run(args):
+    program = release_program(args.binary)
+    if not shutil.which("cc"):
+        fail("there is no command `cc`")
+    has_held = True
+    with tempfile.TemporaryDirectory() as folder:
+        flood = f"{folder}/flood"
+        subprocess.run(["cc", "-O2", "-o", flood, HERE / "flood.c"], check=True)
+        for name in [args.flood] if args.flood else RATES:
+            rate = RATES[name] if args.rate is None else args.rate
+            print(f"{name}, {rate} datagrams a second", flush=True)
+            ran = subprocess.run([flood, program, name, str(args.seconds), str(rate)], capture_output=True, text=True, check=False)
+            print(ran.stdout, ran.stderr, sep="", flush=True)
+            has_held = has_held and ran.returncode == 0 and ran.stdout.endswith("\nheld\n")
+    return 0 if has_held else 1
