@@ -28,10 +28,10 @@ def free_port(kind):
         return port_of(one)
 
 
-def settings(folder, udp=0, tcp=0):
-    """The path of a settings file with these ports, which is written to a folder."""
+def settings(folder, udp=0, tcp=0, operators=2):
+    """The path of a settings file with these ports and so many seats, which is written to a folder."""
     path = pathlib.Path(folder) / "serve.toml"
-    path.write_text(f'udp = "127.0.0.1:{udp}"\ntcp = "127.0.0.1:{tcp}"\noperators = 2\n')
+    path.write_text(f'udp = "127.0.0.1:{udp}"\ntcp = "127.0.0.1:{tcp}"\noperators = {operators}\n')
     return path
 
 
