@@ -1,0 +1,183 @@
+"""Compares what the bridge says of mutated input with readers of its own.
+
+INPUT is one of
+  datagrams   RTP packets and RTCP compounds, by `rx` lines of `replay`
+  lines       operators' lines, over a connection to a served bridge
+  settings    TOML texts, by the program of crates/front_cases
+
+Each input is a case of the repository that is changed at one to four places, or joined with another. The readers are plain: those
+of tools/lib/models, and Python's `tomllib`. The first differences are printed. The status is 0 where there is none.
+"""
+
+import random
+import re
+import socket
+import subprocess
+import tempfile
+
+from lib.models.codec import Dropped, read_rtcp, read_rtp
+from lib.models.lines import fault_of_line, settings_of
+from lib.serving import settings, started
+from lib.shared import CRATES, add_program, fail, release_program
+
+NEEDS = "the program, of front_cases for settings; 25 s a million"
+
+BATCH = 20_000
+MOST_SHOWN = 20
+TELLING = [0, 1, 2, 3, 7, 8, 31, 32, 127, 128, 129, 192, 200, 201, 202, 203, 204, 205, 206, 207, 223, 224, 254, 255]
+PRINTED = b" /.:-0123456789abcdefghijklmnopqrstuvwxyz\t\r\x00\x7f\xc3"
+TOML = b' \t\n\r"\'=.[]{},#_+-:\\0123456789abcdefxounitrlsTZ\xc3\xa9'
+
+
+def options(parser):
+    parser.add_argument("input", choices=["datagrams", "lines", "settings"], metavar="INPUT")
+    parser.add_argument("--count", type=int, default=1_000_000, help="how many inputs (%(default)s)")
+    parser.add_argument("--seed", type=int, default=1)
+    add_program(parser)
+
+
+# Mutation
+
+
+def changed_at(draw, data, octets):
+    """A datum with one place changed."""
+    at, kind = draw.randrange(len(data) + 1), draw.randrange(6)
+    if kind == 0:
+        return data[:at]
+    if kind == 1:
+        return data[:at] + bytes([draw.choice(octets)]) + data[at:]
+    if kind == 2:
+        return data[:at] + data[at + 1 :]
+    if kind == 3:
+        size = draw.randrange(1, 9)
+        return data[:at] + data[at : at + size] + data[at:]
+    if not data:
+        return bytes([draw.choice(octets)])
+    at = draw.randrange(len(data))
+    new = draw.choice(octets) if kind == 4 else data[at] ^ 1 << draw.randrange(8)
+    return data[:at] + bytes([new]) + data[at + 1 :]
+
+
+def mutant(draw, corpus, octets):
+    data = draw.choice(corpus)
+    if draw.randrange(8) == 0:
+        other = draw.choice(corpus)
+        data = data[: draw.randrange(len(data) + 1)] + other[draw.randrange(len(other) + 1) :]
+    for _ in range(draw.randrange(1, 5)):
+        data = changed_at(draw, data, octets)
+    return data
+
+
+# Datagrams
+
+
+def said_of_datagram(data):
+    """What `replay` says of a datagram from an address that is no member's."""
+    if len(data) > 8192:
+        return "rx dropped TooLong"
+    if len(data) < 2 or data[0] >> 6 != 2:
+        return "rx dropped Neither"
+    try:
+        (read_rtcp if 192 <= data[1] <= 223 else read_rtp)(data)
+    except Dropped as dropped:
+        return f"rx dropped {dropped}"
+    return "rx dropped Unknown"
+
+
+def datagrams(draw, count, program):
+    texts = [path.read_text() for path in (CRATES / "codec_cases" / "data").glob("*.txt")]
+    corpus = [bytes.fromhex(word) for text in texts for word in re.findall(r"\b(?:[0-9a-f]{2}){8,400}\b", text)]
+    for data in batches(count, lambda: mutant(draw, corpus, TELLING) or b"\x80"):
+        script = "".join(f"rx 0 9.9.9.9:9 {it.hex()}\n" for it in data)
+        run = subprocess.run([program, "replay"], input=script, capture_output=True, text=True, check=False)
+        yield [it.hex() for it in data], [said_of_datagram(it) for it in data], run.stdout.splitlines()
+
+
+# Lines
+
+
+def is_alone(line):
+    """Whether a line asks for more or less than one line."""
+    return line in (b"show", b"quit", b"stop")
+
+
+def said_to(answer):
+    """An answer without what only a model of the desk knows."""
+    return "a reply" if answer.startswith(("ok ", "no ")) else answer
+
+
+def lines(draw, count, program):
+    words = (CRATES / "script_cases" / "stdin").read_text().splitlines()
+    corpus = list({re.sub(r"^\S+ \S+ ", "", it).encode() for it in words if it.startswith("desk ") and len(it) < 200})
+
+    def line():
+        while True:
+            found = mutant(draw, corpus, PRINTED).replace(b"\n", b"")
+            found = found[:-1] if found.endswith(b"\r") else found
+            if not is_alone(found) and len(found) < 4096:
+                return found
+
+    with tempfile.TemporaryDirectory() as folder:
+        bridge, _, port = started(program, settings(folder))
+        with socket.create_connection(("127.0.0.1", port)) as connection:
+            answers = connection.makefile("r", newline="\n")
+            for data in batches(count, line, 2_000):
+                connection.sendall(b"".join(it + b"\n" for it in data))
+                got = [said_to(answers.readline().rstrip("\n")) for _ in data]
+                yield [repr(it) for it in data], [fault_of_line(it) or "a reply" for it in data], got
+            connection.sendall(b"stop\n")
+        bridge.wait(10)
+
+
+# Settings
+
+
+def escaped(text):
+    return text.replace("\\", "\\\\").replace("\r", "\\r").replace("\n", "\\n") + "\\"
+
+
+def texts(draw, count, program):
+    cases = (CRATES / "front_cases" / "stdin").read_text().splitlines()
+    given = [it[9:].split(" > ")[0] for it in cases if it.startswith("settings ") and " > " in it]
+    corpus = [it.replace("\\n", "\n").replace("\\\\", "\\").encode() for it in given if len(it) < 300]
+
+    def text():
+        while True:
+            found = mutant(draw, corpus, TOML).decode(errors="ignore")
+            if " > " not in found and not re.search("[\x85\u2028\u2029\x0b\x0c\x1c-\x1e]", found):
+                return found
+
+    for data in batches(count, text):
+        wanted = [settings_of(it) for it in data]
+        asked = [f"settings {escaped(it)} > {says}" for it, says in zip(data, wanted)]
+        script = "".join(f"{it}\n" for it in asked)
+        run = subprocess.run([program], input=script.encode(), capture_output=True, check=False)
+        differ = set(run.stdout.decode(errors="replace").split("\n")[:-2])
+        yield asked, wanted, ["another" if it in differ else says for it, says in zip(asked, wanted)]
+
+
+# All
+
+
+def batches(count, made, size=BATCH):
+    """Lists of made inputs, of so many in all."""
+    for at in range(0, count, size):
+        yield [made() for _ in range(min(size, count - at))]
+
+
+def run(args):
+    draw = random.Random(args.seed)
+    kinds = {"datagrams": datagrams, "lines": lines, "settings": texts}
+    program = release_program(args.binary, "front_cases" if args.input == "settings" else "confbridge")
+    tried = differ = 0
+    for data, wanted, got in kinds[args.input](draw, args.count, program):
+        if len(got) != len(data):
+            fail(f"{len(data)} inputs have {len(got)} answers")
+        for one, says, said in zip(data, wanted, got):
+            if says != said:
+                differ += 1
+                if differ <= MOST_SHOWN:
+                    print(f"{one}: wanted {says}, got {said}", flush=True)
+        tried += len(data)
+    print(f"{tried} inputs, {differ} differ")
+    return 1 if differ else 0

@@ -1,0 +1,161 @@
+"""What a line of a desk call spells, or its first fault, and what settings a text gives, as docs/FORMATS.md says."""
+
+import re
+import tomllib
+
+NUMBER, NAMES = "number", ("pcmu", "l16", "audio", "video")
+FAULTS = {1: "LineTooLong", 2: "BadByte", 3: "UnknownWord", 4: "MissingWord", 5: "ExtraWord", 6: "BadNumber", 7: "BadAddress"}
+# What each word behind a command's name is: the greatest number, an address, or one of some words.
+U32, U16, U64 = 2**32 - 1, 2**16 - 1, 2**64 - 1
+CODEC, KIND, ADDRESS = ("pcmu", "l16"), ("audio", "video"), "address"
+COMMANDS = {
+    "add-room": [U32],
+    "remove-room": [U32],
+    "add-member": [U32, U32, ADDRESS, CODEC, U32, U16, U32],
+    "remove-member": [U32],
+    "move-member": [U32, U32],
+    "add-source": [U32, U32, KIND],
+    "remove-source": [U32],
+    "add-slot": [U32, U32, U32, U16, U32],
+    "remove-slot": [U32],
+    "subscribe": [U32, U32],
+    "unsubscribe": [U32],
+    "set-gain": [U32, U32, U32],
+    "mute": [U32],
+    "unmute": [U32],
+    "pin": [U32, U32],
+    "unpin": [U32],
+    "give-floor": [U32, U32],
+    "take-floor": [U32],
+}
+TURNS = {"undo": [U64], "redo": [U64]}
+
+
+class Fault(Exception):
+    """A word's place, from 1, and the number of its fault."""
+
+
+def number_of(text, most):
+    """A number without leading zeros, or None."""
+    return int(text) if re.fullmatch("0|[1-9][0-9]*", text, re.A) and int(text) <= most else None
+
+
+def address_of(text):
+    """An address as its four numbers and its port, or None."""
+    parts = re.split("[.:]", text)
+    if not re.fullmatch(r"[0-9]+\.[0-9]+\.[0-9]+\.[0-9]+:[0-9]+", text, re.A):
+        return None
+    numbers = [number_of(part, 255) for part in parts[:4]] + [number_of(parts[4], 65535)]
+    return None if None in numbers else numbers
+
+
+def judge(word, kind, place):
+    """Raises the fault of a word that has to be of a kind."""
+    if kind == ADDRESS:
+        if address_of(word) is None:
+            raise Fault(place, 7)
+    elif isinstance(kind, tuple):
+        if word not in kind:
+            raise Fault(place, 3)
+    elif number_of(word, kind) is None:
+        raise Fault(place, 6)
+
+
+def read_part(words, place, commands):
+    """Raises the first fault of a command's words, of which the first stands at a place."""
+    if not words:
+        raise Fault(place, 4)
+    if words[0] not in commands:
+        raise Fault(place, 3)
+    kinds = commands[words[0]]
+    for at, kind in enumerate(kinds, 1):
+        if at >= len(words):
+            raise Fault(place + at, 4)
+        judge(words[at], kind, place + at)
+    if len(words) > 1 + len(kinds):
+        raise Fault(place + 1 + len(kinds), 5)
+
+
+def read_call(words):
+    """Raises the first fault of a call's words."""
+    if words[:1] != ["group"]:
+        return read_part(words, 1, COMMANDS | TURNS)
+    place, part = 2, []
+    for word in [*words[1:], "/"]:
+        if word == "/":
+            read_part(part, place, COMMANDS)
+            place, part = place + len(part) + 1, []
+        else:
+            part.append(word)
+    return None
+
+
+def fault_of_line(line):
+    """What an operator is told of the fault of a line (bytes, without LF), or None where it is a call or a word of its own."""
+    if any(not 32 <= octet <= 126 for octet in line):
+        return "fault 0 2 BadByte"
+    words = line.decode().split(" ") if line else []
+    if words and words[0] in ("show", "quit", "stop"):
+        return "fault 2 5 ExtraWord" if len(words) > 1 else None
+    try:
+        read_call(words)
+    except Fault as fault:
+        place, number = fault.args
+        return f"fault {place} {number} {FAULTS[number]}"
+    return None
+
+
+# Settings
+
+
+def is_small(value):
+    """Whether each whole number in a TOML value has at most 64 bits."""
+    if isinstance(value, dict):
+        return all(is_small(it) for it in value.values())
+    if isinstance(value, list):
+        return all(is_small(it) for it in value)
+    return isinstance(value, bool) or not isinstance(value, int) or -(2**63) <= value < 2**63
+
+
+def good_address(value, is_loopback):
+    parts = address_of(value) if isinstance(value, str) else None
+    return parts is not None and (not is_loopback or parts[0] == 127)
+
+
+def good_number(value, least, most):
+    return isinstance(value, int) and not isinstance(value, bool) and least <= value <= most
+
+
+def good_name(value):
+    return isinstance(value, str) and 1 <= len(value) <= 255 and all(32 <= ord(it) <= 126 for it in value)
+
+
+KEYS = {
+    "udp": (None, lambda value: good_address(value, False)),
+    "tcp": (None, lambda value: good_address(value, True)),
+    "lanes": (1, lambda value: good_number(value, 1, 16)),
+    "operators": (1, lambda value: good_number(value, 1, 16)),
+    "bridge_ssrc": (1, lambda value: good_number(value, 0, U32)),
+    "cname": ("bridge", good_name),
+}
+
+
+def settings_of(text):
+    """What crates/front_cases prints of the settings of a text."""
+    try:
+        table = tomllib.loads(text)
+    except (tomllib.TOMLDecodeError, RecursionError):
+        return "1 BadToml"
+    if not is_small(table):
+        return "1 BadToml"
+    found = {}
+    for key, (usual, is_good) in KEYS.items():
+        if key not in table and usual is None:
+            return f"2 MissingKey {key}"
+        found[key] = table.get(key, usual)
+        if not is_good(found[key]):
+            return f"3 BadValue {key}"
+    others = sorted((key.encode(), key) for key in table if key not in KEYS)
+    if others:
+        return f"4 UnknownKey {others[0][1]}"
+    return "udp {udp} and tcp {tcp} {lanes} {operators} {bridge_ssrc} {cname}".format(**found)
