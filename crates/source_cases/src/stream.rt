@@ -49,41 +49,57 @@ impl Stream {
     ///     sr NS ntp=HEX                                           a sender report
     ///     rules NS fraction= lost= highest= jitter= lsr= dlsr=    a report, after which a new interval begins
     pub(crate) fn line(&mut self, line: &str) -> Option<bool> {
-        let mut words = line.split(' ');
-        match words.next()? {
-            "stream" => {
-                self.rate = field(words.next(), "rate")?.parse().ok()?;
-                self.ssrc = field(words.next(), "ssrc")?.parse().ok()?;
-                self.source = None;
-                Some(true)
-            }
-            "rtp" => {
-                let moment = words.next()?.parse().ok()?;
-                let seq = field(words.next(), "seq")?.parse().ok()?;
-                let ts = field(words.next(), "ts")?.parse().ok()?;
-                let wanted = field(words.next(), "expect")?;
-                Some(name(self.packet(moment, seq, ts)) == wanted)
-            }
-            "sr" => {
-                let moment = words.next()?.parse().ok()?;
-                let ntp = u64::from_str_radix(field(words.next(), "ntp")?, 16).ok()?;
-                self.report(moment, ntp)
-            }
-            "rules" => {
-                let moment = words.next()?.parse().ok()?;
-                let wanted = ReportBlock {
-                    ssrc: self.ssrc,
-                    fraction: field(words.next(), "fraction")?.parse().ok()?,
-                    lost: field(words.next(), "lost")?.parse().ok()?,
-                    highest: field(words.next(), "highest")?.parse().ok()?,
-                    jitter: field(words.next(), "jitter")?.parse().ok()?,
-                    lsr: field(words.next(), "lsr")?.parse().ok()?,
-                    dlsr: field(words.next(), "dlsr")?.parse().ok()?,
-                };
-                Some(self.block(moment)? == wanted)
-            }
+        let (verb, rest) = line.split_once(' ')?;
+        match verb {
+            "stream" => self.begin(rest),
+            "rtp" => self.expect_verdict(rest),
+            "sr" => self.note_report(rest),
+            "rules" => self.expect_block(rest),
             _ => None,
         }
+    }
+
+    /// Begins a stream.
+    fn begin(&mut self, line: &str) -> Option<bool> {
+        let mut words = line.split(' ');
+        self.rate = field(words.next(), "rate")?.parse().ok()?;
+        self.ssrc = field(words.next(), "ssrc")?.parse().ok()?;
+        self.source = None;
+        Some(true)
+    }
+
+    /// Whether a packet has the verdict that the line names.
+    fn expect_verdict(&mut self, line: &str) -> Option<bool> {
+        let mut words = line.split(' ');
+        let moment = words.next()?.parse().ok()?;
+        let seq = field(words.next(), "seq")?.parse().ok()?;
+        let ts = field(words.next(), "ts")?.parse().ok()?;
+        let wanted = field(words.next(), "expect")?;
+        Some(name(self.packet(moment, seq, ts)) == wanted)
+    }
+
+    /// Notes a sender report.
+    fn note_report(&mut self, line: &str) -> Option<bool> {
+        let mut words = line.split(' ');
+        let moment = words.next()?.parse().ok()?;
+        let ntp = u64::from_str_radix(field(words.next(), "ntp")?, 16).ok()?;
+        self.report(moment, ntp)
+    }
+
+    /// Whether the block at a moment is the one that the line has.
+    fn expect_block(&mut self, line: &str) -> Option<bool> {
+        let mut words = line.split(' ');
+        let moment = words.next()?.parse().ok()?;
+        let wanted = ReportBlock {
+            ssrc: self.ssrc,
+            fraction: field(words.next(), "fraction")?.parse().ok()?,
+            lost: field(words.next(), "lost")?.parse().ok()?,
+            highest: field(words.next(), "highest")?.parse().ok()?,
+            jitter: field(words.next(), "jitter")?.parse().ok()?,
+            lsr: field(words.next(), "lsr")?.parse().ok()?,
+            dlsr: field(words.next(), "dlsr")?.parse().ok()?,
+        };
+        Some(self.block(moment)? == wanted)
     }
 
     /// A packet that came.
