@@ -5,7 +5,7 @@
 mod ending;
 
 use crate::ending::{ServeFault, serve_status};
-use script_text::{Ask, Outcome, Reader, Writer, asked, exit_status, run, unread};
+use script_text::{Ask, Exit, Reader, Writer, asked, exit_status, run, unread};
 use std::alloc::AllocGlobal;
 use std::fs::Files;
 use std::net::Net;
@@ -44,20 +44,20 @@ fn arguments(rt: &HostRuntime) -> Task {
 }
 
 /// Does what needs no more than standard input.
-fn outcome(rt: &HostRuntime, ask: Ask) -> Outcome {
+fn outcome(rt: &HostRuntime, ask: Ask) -> Exit {
     match ask {
         Ask::Replay => {
             let mut reader = Reader(rt.reader());
             let mut writer = Writer(io::writer(rt));
-            Outcome::Ran(run(rt.alloc(), &mut reader, &mut writer))
+            Exit::Ran(run(rt.alloc(), &mut reader, &mut writer))
         }
-        Ask::Unknown => Outcome::Usage,
-        Ask::OutOfMemory => Outcome::OutOfMemory,
+        Ask::Unknown => Exit::Usage,
+        Ask::OutOfMemory => Exit::OutOfMemory,
     }
 }
 
 /// Tells how a script ended: on standard error unless it ended well, and by the exit status.
-fn tell(rt: &HostRuntime, outcome: &Outcome) -> ExitCode {
+fn tell(rt: &HostRuntime, outcome: &Exit) -> ExitCode {
     let status = exit_status(outcome);
     if status != 0 {
         let _ = eprintln!(rt; "{outcome}");

@@ -11,7 +11,7 @@ use Rattle.std.proofs.lemmas.Fmt.{digits_decimal}
 use Rattle.std.proofs.lemmas.Bool.{cases_Bool, cases_lt, lt-ltb, eqb-true}
 use Rattle.rtp_codec.specs.declared.address.Address.{Address}
 use Rattle.script_text.specs.Words.{cut_of}
-use Rattle.script_text.specs.Numbers.{number_of}
+use Rattle.script_text.specs.Numbers.{decimal_of}
 use Rattle.script_text.specs.Addresses.{◌>>=◌, address_text, IsAddress, field_of, address_of}
 use Rattle.script_text.proofs.Cuts.{cut_found, cut_none}
 use Rattle.script_text.proofs.NumberLemmas.{own, spelled, read}
@@ -63,8 +63,8 @@ bind_some None f y e = absurd cc
 pub field_spelled : (c : ℕ) (text : List ℕ) (x : ℕ × List ℕ) → field_of c text ≡ Some x → (text ≡ decimal x.0 ++ c ∷ x.1) × (x.0 ≤ 255)
 unfolding field_of
 field_spelled c text x e =
-    let a = bind_some (cut_of c text) (λ parts. number_of 255 parts.0 >>= λ n. Some (n, parts.1)) x e in
-    let b = bind_some (number_of 255 a.0.0) (λ n. Some (n, a.0.1)) x a.2 in
+    let a = bind_some (cut_of c text) (λ parts. decimal_of 255 parts.0 >>= λ n. Some (n, parts.1)) x e in
+    let b = bind_some (decimal_of 255 a.0.0) (λ n. Some (n, a.0.1)) x a.2 in
     let word = spelled 255 b.0 a.0.0 (omega arith) b.1 in
     let is : (b.0, a.0.1) ≡ x = some_of _ _ b.2 in
     subst (λ (p : ℕ × List ℕ). (text ≡ decimal p.0 ++ c ∷ p.1) × (p.0 ≤ 255)) is (cut_parts c text a.0 a.1 ∙ ap (λ (t : List ℕ). t ++ c ∷ a.0.1) word.0, word.1)
@@ -108,7 +108,7 @@ four_small a b c d ha hb hc hd (suc (suc (suc zero))) = hd
 four_small a b c d ha hb hc hd (suc (suc (suc (suc k)))) = omega arith
 
 abbrev with_port : ℕ → ℕ → ℕ → ℕ × List ℕ → Option Address
-with_port a b c d = number_of 65535 d.1 >>= λ port. Some (record { ip = a ∷ b ∷ c ∷ d.0 ∷ []; port = port })
+with_port a b c d = decimal_of 65535 d.1 >>= λ port. Some (record { ip = a ∷ b ∷ c ∷ d.0 ∷ []; port = port })
 
 abbrev with_d : ℕ → ℕ → ℕ × List ℕ → Option Address
 with_d a b c = field_of 58 c.1 >>= with_port a b c.0
@@ -126,7 +126,7 @@ address_spelled word x e =
     let b = bind_some (field_of 46 a.0.1) (with_c a.0.0) x a.2 in
     let c = bind_some (field_of 46 b.0.1) (with_d a.0.0 b.0.0) x b.2 in
     let d = bind_some (field_of 58 c.0.1) (with_port a.0.0 b.0.0 c.0.0) x c.2 in
-    let port = bind_some (number_of 65535 d.0.1) (λ n. Some (record { ip = a.0.0 ∷ b.0.0 ∷ c.0.0 ∷ d.0.0 ∷ []; port = n })) x d.2 in
+    let port = bind_some (decimal_of 65535 d.0.1) (λ n. Some (record { ip = a.0.0 ∷ b.0.0 ∷ c.0.0 ∷ d.0.0 ∷ []; port = n })) x d.2 in
     let made : Address = record { ip = a.0.0 ∷ b.0.0 ∷ c.0.0 ∷ d.0.0 ∷ []; port = port.0 } in
     let pa = field_spelled 46 word a.0 a.1 in
     let pb = field_spelled 46 a.0.1 b.0 b.1 in

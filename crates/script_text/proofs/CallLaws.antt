@@ -20,7 +20,7 @@ use Rattle.frame_gate.specs.declared.frame.FrameFault.{FrameFault}
 use Rattle.frame_gate.specs.Frame.{fault_of}
 use Rattle.forward_rewrite.specs.Frame.{SourceFrame}
 use Rattle.rtp_codec.specs.declared.address.Address.{Address as Endpoint}
-use Rattle.script_text.specs.Requests.{Desk, kind_text, kind_of, line_kinds, front_of, some_packets, sighted, framed, frame_of, some_octets, rx_of, request_with, words_request, desk_line}
+use Rattle.script_text.specs.Requests.{Desk, kind_text, line_kind_of, line_kinds, front_of, some_packets, sighted, framed, frame_of, some_octets, rx_of, request_with, words_request, desk_line}
 use Rattle.script_text.proofs.Joined.{AllFree, free_test, parts_joined}
 use Rattle.script_text.proofs.PartLemmas.{some_parts}
 use Rattle.script_text.proofs.ValueLaws.{found_text, free_values, bind_ok, word_back, or_back, values_back, values_again}
@@ -204,14 +204,14 @@ pub desk_back : (line : List ℕ) (op : ℕ) (c : CallOf) → words_request (wor
 unfolding words_request
 desk_back line op c e =
     let w = bind_ok (word_at 1 (words_of line)) _ (Desk op c) e in
-    let k = bind_ok (value_or 1 UnknownWord (kind_of w.0.0)) _ (Desk op c) w.2 in
+    let k = bind_ok (value_or 1 UnknownWord (line_kind_of w.0.0)) _ (Desk op c) w.2 in
     let r = bind_ok (values_of 2 (front_of k.0) w.0.1) _ (Desk op c) k.2 in
     let d = desk_by k.0 r.0.0 r.0.1 op c r.2 in
     let v = values_back 2 (front_of k.0) w.0.1 r.0 r.1 in
     let b = call_back 2 r.0.1 c d.2 in
     let o = operator_of r.0.0 (v.1 ∙ ap front_of d.0) v.2 in
     let same : o.0 ≡ op = ap (λ (vs : List Value). number_in (value_at 0 vs)) (sym o.1) ∙ d.1 in
-    let first : w.0.0 ≡ kind_text kinds.Desk = found_text kind_text w.0.0 line_kinds k.0 (or_back 1 UnknownWord (kind_of w.0.0) k.0 k.1) ∙ ap kind_text d.0 in
+    let first : w.0.0 ≡ kind_text kinds.Desk = found_text kind_text w.0.0 line_kinds k.0 (or_back 1 UnknownWord (line_kind_of w.0.0) k.0 k.1) ∙ ap kind_text d.0 in
     let others : w.0.1 ≡ value_text (values.Operator op) ∷ call_words c =
     v.0 ∙ (ap (λ (vs : List Value). map value_text vs ++ r.0.1) o.1 ∙ (ap (λ (n : ℕ). value_text (values.Operator n) ∷ r.0.1) same ∙ ap (λ (t : List (List ℕ)). value_text (values.Operator op) ∷ t) b.0)) in
     let all : words_of line ≡ kind_text kinds.Desk ∷ value_text (values.Operator op) ∷ call_words c =

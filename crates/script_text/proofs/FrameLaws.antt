@@ -15,11 +15,11 @@ use Rattle.script_text.specs.declared.value.Value.{Value}
 use Rattle.script_text.specs.declared.name.Kind.{Kind}
 use Rattle.script_text.specs.declared.name.Kind.TheVariants as kinds
 use Rattle.script_text.specs.Words.{words_of, word_at, none_left, value_or}
-use Rattle.script_text.specs.Numbers.{IsExt}
+use Rattle.script_text.specs.Numbers.{FitsExt}
 use Rattle.script_text.specs.Values.{field_of, value_text, AllFit, values_of}
-use Rattle.script_text.specs.Packets.{marker_text, packet_text, packet_of, packets_of, IsReadable, AllReadable, SpellPackets}
+use Rattle.script_text.specs.Packets.{marker_text, packet_text, packet_of, source_packets_of, IsReadable, AllReadable, SpellPackets}
 use Rattle.script_text.specs.Calls.{call_of}
-use Rattle.script_text.specs.Requests.{Request, Item, kind_text, kind_of, line_kinds, front_of, some_packets, some_octets, rx_of, sighted, framed, frame_of, request_with, words_request, front_values, frame_words, frame_line, IsFrame}
+use Rattle.script_text.specs.Requests.{Request, Item, kind_text, line_kind_of, line_kinds, front_of, some_packets, some_octets, rx_of, sighted, framed, frame_of, request_with, words_request, front_values, frame_words, frame_line, IsFrame}
 use Rattle.script_text.proofs.Joined.{Free, AllFree, free_test, free_append, free_number, parts_joined}
 use Rattle.script_text.proofs.ValueLaws.{found_text, free_values, bind_ok, word_back, or_back, values_back, values_again}
 use Rattle.script_text.proofs.PacketLaws.{packet_read, packet_spelled}
@@ -41,7 +41,7 @@ unfolding encode_with
 hex_free [] = tt
 hex_free (b ∷ rest) = (digit_free lower_digits (b / 16) refl, (digit_free lower_digits (b % 16) refl, hex_free rest))
 
-ext_free : (z : ℤ) → IsExt z → Free 32 (signed_decimal z)
+ext_free : (z : ℤ) → FitsExt z → Free 32 (signed_decimal z)
 ext_free (pos n) small = free_number n (omega (arith, small))
 ext_free (negsuc n) small = (refl, free_number (suc n) (omega (arith, small)))
 
@@ -65,28 +65,28 @@ all_append (w ∷ ws) vs h k = (h.0, all_append ws vs h.1 k)
 
 -- ---- packets, word by word
 
-packets_again : (place : ℕ) (ps : List SourcePacket) → AllReadable ps → packets_of place (map packet_text ps) ≡ Ok ps
-unfolding packets_of
+packets_again : (place : ℕ) (ps : List SourcePacket) → AllReadable ps → source_packets_of place (map packet_text ps) ≡ Ok ps
+unfolding source_packets_of
 packets_again place [] h = refl
 packets_again place (p ∷ ps) h = rw (packet_read place p h.0, packets_again (place + 1) ps h.1) refl
 
-packets_back : (place : ℕ) (words : List (List ℕ)) (ps : List SourcePacket) → packets_of place words ≡ Ok ps → SpellPackets words ps × AllReadable ps
-unfolding packets_of
+packets_back : (place : ℕ) (words : List (List ℕ)) (ps : List SourcePacket) → source_packets_of place words ≡ Ok ps → SpellPackets words ps × AllReadable ps
+unfolding source_packets_of
 packets_back place [] ps e = let none : [] ≡ ps = cc in subst (λ (x : List SourcePacket). SpellPackets [] x × AllReadable x) none (tt, tt)
 packets_back place (word ∷ words) ps e =
     let p = bind_ok (packet_of place word) _ ps e in
-    let o = bind_ok (packets_of (place + 1) words) _ ps p.2 in
+    let o = bind_ok (source_packets_of (place + 1) words) _ ps p.2 in
     let is : p.0 ∷ o.0 ≡ ps = cc (o.2) in
     let first = packet_spelled place word p.0 p.1 in
     let others = packets_back (place + 1) words o.0 o.1 in
     subst (λ (x : List SourcePacket). SpellPackets (word ∷ words) x × AllReadable x) is ((first.0, others.0), (first.1, others.1))
 
-some_again : (place : ℕ) (ps : List SourcePacket) → fault_of ps ≡ None → some_packets place (map packet_text ps) ≡ packets_of place (map packet_text ps)
+some_again : (place : ℕ) (ps : List SourcePacket) → fault_of ps ≡ None → some_packets place (map packet_text ps) ≡ source_packets_of place (map packet_text ps)
 unfolding fault_of
 some_again place [] made = absurd cc
 some_again place (p ∷ ps) made = refl
 
-some_back : (place : ℕ) (words : List (List ℕ)) (ps : List SourcePacket) → some_packets place words ≡ Ok ps → packets_of place words ≡ Ok ps
+some_back : (place : ℕ) (words : List (List ℕ)) (ps : List SourcePacket) → some_packets place words ≡ Ok ps → source_packets_of place words ≡ Ok ps
 some_back place [] ps e = absurd cc
 some_back place (word ∷ words) ps e = e
 
@@ -114,7 +114,7 @@ framed_back : (sighting f : SourceFrame) (fault : Option FrameFault) → framed 
 framed_back sighting f None e = (refl, same_frame sighting f (same_item (frame sighting) (frame f) _ refl e))
 framed_back sighting f (Some fault) e = absurd cc
 
-frame_by : (kind : Kind) (vs : List Value) (words : List (List ℕ)) (f : SourceFrame) → request_with kind vs words ≡ Ok (Item (frame f)) → (kind ≡ kinds.Frame) × (ps : List SourcePacket) × (packets_of 7 words ≡ Ok ps) × (fault_of ps ≡ None) × (sighted vs ps ≡ f)
+frame_by : (kind : Kind) (vs : List Value) (words : List (List ℕ)) (f : SourceFrame) → request_with kind vs words ≡ Ok (Item (frame f)) → (kind ≡ kinds.Frame) × (ps : List SourcePacket) × (source_packets_of 7 words ≡ Ok ps) × (fault_of ps ≡ None) × (sighted vs ps ≡ f)
 unfolding frame_of rx_of
 frame_by kinds.Desk vs words f e = let c = bind_ok (call_of 2 words) _ (Item (frame f)) e in absurd cc
 frame_by kinds.Rx vs words f e =
@@ -139,14 +139,14 @@ pub frame_back : (line : List ℕ) (f : SourceFrame) → words_request (words_of
 unfolding words_request
 frame_back line f e =
     let w = bind_ok (word_at 1 (words_of line)) _ (Item (frame f)) e in
-    let k = bind_ok (value_or 1 UnknownWord (kind_of w.0.0)) _ (Item (frame f)) w.2 in
+    let k = bind_ok (value_or 1 UnknownWord (line_kind_of w.0.0)) _ (Item (frame f)) w.2 in
     let r = bind_ok (values_of 2 (front_of k.0) w.0.1) _ (Item (frame f)) k.2 in
     let d = frame_by k.0 r.0.0 r.0.1 f r.2 in
     let v = values_back 2 (front_of k.0) w.0.1 r.0 r.1 in
     let front : r.0.0 ≡ front_values f = front_is r.0.0 d.1 (v.1 ∙ ap front_of d.0) ∙ ap front_values d.4 in
     let packets = packets_back 7 r.0.1 d.1 d.2 in
     let same : d.1 ≡ f.frame.packets = ap (λ (g : SourceFrame). g.frame.packets) d.4 in
-    let first : w.0.0 ≡ kind_text kinds.Frame = found_text kind_text w.0.0 line_kinds k.0 (or_back 1 UnknownWord (kind_of w.0.0) k.0 k.1) ∙ ap kind_text d.0 in
+    let first : w.0.0 ≡ kind_text kinds.Frame = found_text kind_text w.0.0 line_kinds k.0 (or_back 1 UnknownWord (line_kind_of w.0.0) k.0 k.1) ∙ ap kind_text d.0 in
     let others : w.0.1 ≡ map value_text (front_values f) ++ r.0.1 = v.0 ∙ ap (λ (vs : List Value). map value_text vs ++ r.0.1) front in
     let all : words_of line ≡ frame_words f r.0.1 =
     word_back 1 (words_of line) w.0 w.1 ∙ (ap (λ (t : List ℕ). t ∷ w.0.1) first ∙ ap (λ (t : List (List ℕ)). kind_text kinds.Frame ∷ t) others) in (

@@ -11,7 +11,7 @@ use Rattle.std.proofs.lemmas.Bool.Decides.{nat_tests}
 use Rattle.std.specs.Fmt.{decimal}
 use Rattle.std.proofs.lemmas.Str.{IsUtf8-from_ascii}
 use Rattle.std.proofs.lemmas.Bool.{lt-ltb, le-ltb, ltb-true, cases_lt}
-use Rattle.script_text.specs.Numbers.{is_number, below, number_of}
+use Rattle.script_text.specs.Numbers.{is_number, below, decimal_of}
 
 tells : IsDigitsTest (λ ds. list_all is_ascii_digit ds ≡ true)
 tells = search rules
@@ -47,7 +47,7 @@ outer false o n e = absurd cc
 no_zero_first : (word : List ℕ) → is_number word ≡ true → get_or word 0 0 ≡ 48 → length word ≡ 1
 no_zero_first word h z = grind (arith, nat_tests)
 
-pub spelled : (max n : ℕ) (word : List ℕ) → max < 2 ^ 64 → number_of max word ≡ Some n → (word ≡ decimal n) × (n ≤ max)
+pub spelled : (max n : ℕ) (word : List ℕ) → max < 2 ^ 64 → decimal_of max word ≡ Some n → (word ≡ decimal n) × (n ≤ max)
 spelled max n word small e =
     let a = outer (is_number word) (below (max + 1) (digits_value 10 word)) n e in
     let b = some_is (ltb (digits_value 10 word) (max + 1)) (digits_value 10 word) n a.1 in
@@ -69,7 +69,7 @@ zero_alone n small e =
 is_number_decimal : (n : ℕ) → n < 2 ^ 64 → is_number (decimal n) ≡ true
 is_number_decimal n small = number_from (decimal n) (digits_decimal own n small) (decimal_nonempty n small) (zero_alone n small)
 
-pub read : (max n : ℕ) → max < 2 ^ 64 → n ≤ max → number_of max (decimal n) ≡ Some n
+pub read : (max n : ℕ) → max < 2 ^ 64 → n ≤ max → decimal_of max (decimal n) ≡ Some n
 read max n small le =
     let low : n < 2 ^ 64 = omega arith in
     let v : digits_value 10 (decimal n) ≡ n = digits_value-decimal own n low in

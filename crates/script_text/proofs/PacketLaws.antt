@@ -15,7 +15,7 @@ use Rattle.hex.proofs.HexLemmas.{decode_of-encode_lower, decode_of-even, decode_
 use Rattle.script_text.specs.declared.fault.Fault.TheVariants.{BadNumber}
 use Rattle.script_text.specs.Words.{value_or}
 use Rattle.frame_gate.specs.Frame.{SourcePacket}
-use Rattle.script_text.specs.Numbers.{IsExt, number_of, ext_of}
+use Rattle.script_text.specs.Numbers.{FitsExt, decimal_of, ext_of}
 use Rattle.script_text.specs.Packets.{packet_from, packet_of, packet_of_parts, packet_text, marker_text, octets_or, SpellsHex, SpellsPacket, IsReadable}
 use Rattle.script_text.proofs.NumberLemmas.{read, spelled}
 use Rattle.script_text.proofs.AddressLemmas.{digits_free}
@@ -53,7 +53,7 @@ hex_free (b ∷ rest) =
 number_free : (n : ℕ) → n < 2 ^ 64 → StrokeFree (decimal n)
 number_free n small = digits_free 47 n (λ h. omega arith) small
 
-ext_free : (z : ℤ) → IsExt z → StrokeFree (signed_decimal z)
+ext_free : (z : ℤ) → FitsExt z → StrokeFree (signed_decimal z)
 ext_free (pos n) small = number_free n (omega (arith, small))
 ext_free (negsuc n) small = All-cons (λ c. eqb c 47 ≡ false) 45 (decimal (suc n)) refl (number_free (suc n) (omega (arith, small)))
 
@@ -76,17 +76,17 @@ split_four a b c d ha hb hc hd =
 grouped : (a b c d : List ℕ) → a ++ codes "/" ++ b ++ codes "/" ++ c ++ codes "/" ++ d ≡ a ++ 47 ∷ (b ++ 47 ∷ (c ++ 47 ∷ d))
 grouped a b c d = simp append_assoc
 
-marker_read : (marker : Bool) → (n : ℕ) × (number_of 1 (marker_text marker) ≡ Some n) × (eqb n 1 ≡ marker)
+marker_read : (marker : Bool) → (n : ℕ) × (decimal_of 1 (marker_text marker) ≡ Some n) × (eqb n 1 ≡ marker)
 marker_read true = (1, read 1 1 (omega arith) (omega arith), refl)
 marker_read false = (0, read 1 0 (omega arith) (omega arith), refl)
 
-from_parts : (place : ℕ) (p : SourcePacket) → IsExt p.ext → p.pt ≤ 255 → IsBytes p.payload → packet_from place (signed_decimal p.ext) (marker_text p.marker) (decimal p.pt) (encode_lower p.payload) ≡ Ok p
+from_parts : (place : ℕ) (p : SourcePacket) → FitsExt p.ext → p.pt ≤ 255 → IsBytes p.payload → packet_from place (signed_decimal p.ext) (marker_text p.marker) (decimal p.pt) (encode_lower p.payload) ≡ Ok p
 unfolding packet_from
 from_parts place p ext pt payload =
     let m = marker_read p.marker in
     rw (ext_read p.ext ext, m.1, read 255 p.pt (omega arith) pt, decode_of-encode_lower p.payload payload, m.2) refl
 
-packet_again : (place : ℕ) (p : SourcePacket) → IsExt p.ext → p.pt ≤ 255 → IsBytes p.payload → packet_of place (packet_text p) ≡ Ok p
+packet_again : (place : ℕ) (p : SourcePacket) → FitsExt p.ext → p.pt ≤ 255 → IsBytes p.payload → packet_of place (packet_text p) ≡ Ok p
 packet_again place p ext pt payload =
     ap (packet_of place) (grouped (signed_decimal p.ext) (marker_text p.marker) (decimal p.pt) (encode_lower p.payload))
     ∙ (ap (packet_of_parts place) (split_four (signed_decimal p.ext) (marker_text p.marker) (decimal p.pt) (encode_lower p.payload) (ext_free p.ext ext) (marker_free p.marker) (number_free p.pt (omega (arith, pt))) (hex_free p.payload))
@@ -187,14 +187,14 @@ unfolding packet_from
 packet_spelled place word p e =
     let f = four_of place (slice_split (λ b. eqb b 47) word) p e in
     let x = bind_ok (value_or place BadNumber (ext_of f.0)) _ p f.5 in
-    let m = bind_ok (value_or place BadNumber (number_of 1 f.1)) _ p x.2 in
-    let n = bind_ok (value_or place BadNumber (number_of 255 f.2)) _ p m.2 in
+    let m = bind_ok (value_or place BadNumber (decimal_of 1 f.1)) _ p x.2 in
+    let n = bind_ok (value_or place BadNumber (decimal_of 255 f.2)) _ p m.2 in
     let o = bind_ok (octets_or place (decode_of f.3)) _ p n.2 in
     let made : SourcePacket = record { ext = x.0; marker = eqb m.0 1; pt = n.0; payload = o.0 } in
     let is : made ≡ p = cc (o.2) in
     let ext = ext_spelled f.0 x.0 (or_back place BadNumber (ext_of f.0) x.0 x.1) in
-    let marker = spelled 1 m.0 f.1 (omega arith) (or_back place BadNumber (number_of 1 f.1) m.0 m.1) in
-    let pt = spelled 255 n.0 f.2 (omega arith) (or_back place BadNumber (number_of 255 f.2) n.0 n.1) in
+    let marker = spelled 1 m.0 f.1 (omega arith) (or_back place BadNumber (decimal_of 1 f.1) m.0 m.1) in
+    let pt = spelled 255 n.0 f.2 (omega arith) (or_back place BadNumber (decimal_of 255 f.2) n.0 n.1) in
     let hex = hex_spelled f.3 o.0 (octets_back place (decode_of f.3) o.0 o.1) in
     let joined : word ≡ f.0 ++ 47 ∷ (f.1 ++ 47 ∷ (f.2 ++ 47 ∷ f.3)) = sym (join_with_byte-slice_split 47 word) ∙ ap (join_with_byte 47) f.4 in
     let text : word ≡ f.0 ++ codes "/" ++ marker_text made.marker ++ codes "/" ++ decimal made.pt ++ codes "/" ++ f.3 =

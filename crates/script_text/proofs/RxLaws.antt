@@ -18,7 +18,7 @@ use Rattle.script_text.specs.Words.{words_of, word_at, none_left, value_or}
 use Rattle.script_text.specs.Values.{field_of, value_text, AllFit, values_of, number_at, address_at}
 use Rattle.script_text.specs.Packets.{octets_or, SpellsHex}
 use Rattle.script_text.specs.Calls.{call_of}
-use Rattle.script_text.specs.Requests.{Rx, kind_text, kind_of, line_kinds, front_of, some_packets, sighted, framed, frame_of, some_octets, rx_of, request_with, words_request, rx_words, rx_line, IsDatagram}
+use Rattle.script_text.specs.Requests.{Rx, kind_text, line_kind_of, line_kinds, front_of, some_packets, sighted, framed, frame_of, some_octets, rx_of, request_with, words_request, rx_words, rx_line, IsDatagram}
 use Rattle.script_text.proofs.Joined.{free_test, parts_joined}
 use Rattle.script_text.proofs.ValueLaws.{found_text, free_values, bind_ok, word_back, or_back, values_back, values_again}
 use Rattle.script_text.proofs.PacketLaws.{hex_spelled, octets_back}
@@ -94,11 +94,11 @@ pub rx_back : (line : List ℕ) (moment : ℕ) (from : Address) (octets : List �
 unfolding words_request
 rx_back line moment from octets e =
     let w = bind_ok (word_at 1 (words_of line)) _ (Rx moment from octets) e in
-    let k = bind_ok (value_or 1 UnknownWord (kind_of w.0.0)) _ (Rx moment from octets) w.2 in
+    let k = bind_ok (value_or 1 UnknownWord (line_kind_of w.0.0)) _ (Rx moment from octets) w.2 in
     let r = bind_ok (values_of 2 (front_of k.0) w.0.1) _ (Rx moment from octets) k.2 in
     let d = rx_by k.0 r.0.0 r.0.1 moment from octets r.2 in
     let v = values_back 2 (front_of k.0) w.0.1 r.0 r.1 in
-    let first : w.0.0 ≡ kind_text kinds.Rx = found_text kind_text w.0.0 line_kinds k.0 (or_back 1 UnknownWord (kind_of w.0.0) k.0 k.1) ∙ ap kind_text d.0 in
+    let first : w.0.0 ≡ kind_text kinds.Rx = found_text kind_text w.0.0 line_kinds k.0 (or_back 1 UnknownWord (line_kind_of w.0.0) k.0 k.1) ∙ ap kind_text d.0 in
     let values : r.0.0 ≡ front moment from = front_of_two r.0.0 (v.1 ∙ ap front_of d.0) ∙ (ap (λ (n : ℕ). front n (address_at 1 r.0.0)) d.4 ∙ ap (front moment) d.5) in
     let others : w.0.1 ≡ map value_text (front moment from) ++ d.1 ∷ [] = v.0 ∙ (ap (λ (vs : List Value). map value_text vs ++ r.0.1) values ∙ ap (λ (t : List (List ℕ)). map value_text (front moment from) ++ t) d.2) in
     let all : words_of line ≡ rx_words moment from d.1 =

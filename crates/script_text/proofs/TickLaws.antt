@@ -15,7 +15,7 @@ use Rattle.script_text.specs.declared.name.Kind.TheVariants as kinds
 use Rattle.script_text.specs.Words.{words_of, word_at, none_left, value_or}
 use Rattle.script_text.specs.Values.{field_of, value_text, AllFit, values_of, number_at}
 use Rattle.script_text.specs.Calls.{call_of}
-use Rattle.script_text.specs.Requests.{Item, kind_text, kind_of, line_kinds, front_of, some_packets, sighted, framed, frame_of, some_octets, rx_of, request_with, words_request, tick_words, tick_line}
+use Rattle.script_text.specs.Requests.{Item, kind_text, line_kind_of, line_kinds, front_of, some_packets, sighted, framed, frame_of, some_octets, rx_of, request_with, words_request, tick_words, tick_line}
 use Rattle.script_text.proofs.Joined.{free_test, parts_joined}
 use Rattle.script_text.proofs.ValueLaws.{found_text, free_values, bind_ok, word_back, or_back, values_back, values_again}
 use Rattle.script_text.proofs.CommandLaws.{kind_free, read_from, with_field, read_all}
@@ -70,11 +70,11 @@ pub tick_back : (line : List ℕ) (moment : ℕ) → words_request (words_of lin
 unfolding words_request
 tick_back line moment e =
     let w = bind_ok (word_at 1 (words_of line)) _ (Item (tick moment)) e in
-    let k = bind_ok (value_or 1 UnknownWord (kind_of w.0.0)) _ (Item (tick moment)) w.2 in
+    let k = bind_ok (value_or 1 UnknownWord (line_kind_of w.0.0)) _ (Item (tick moment)) w.2 in
     let r = bind_ok (values_of 2 (front_of k.0) w.0.1) _ (Item (tick moment)) k.2 in
     let d = tick_by k.0 r.0.0 r.0.1 moment r.2 in
     let v = values_back 2 (front_of k.0) w.0.1 r.0 r.1 in
-    let first : w.0.0 ≡ kind_text kinds.Tick = found_text kind_text w.0.0 line_kinds k.0 (or_back 1 UnknownWord (kind_of w.0.0) k.0 k.1) ∙ ap kind_text d.0 in
+    let first : w.0.0 ≡ kind_text kinds.Tick = found_text kind_text w.0.0 line_kinds k.0 (or_back 1 UnknownWord (line_kind_of w.0.0) k.0 k.1) ∙ ap kind_text d.0 in
     let values : r.0.0 ≡ front moment = front_of_one r.0.0 (v.1 ∙ ap front_of d.0) ∙ ap front d.2 in
     let others : w.0.1 ≡ map value_text (front moment) ++ [] = v.0 ∙ (ap (λ (vs : List Value). map value_text vs ++ r.0.1) values ∙ ap (λ (t : List (List ℕ)). map value_text (front moment) ++ t) d.1) in
     let all : words_of line ≡ tick_words moment =

@@ -14,7 +14,7 @@ use Rattle.script_text.specs.declared.value.Field.TheVariants as fields
 use Rattle.script_text.specs.declared.value.Value.{Value}
 use Rattle.script_text.specs.declared.value.Value.TheVariants as values
 use Rattle.script_text.specs.Words.{◌>>=◌, word_at, value_or}
-use Rattle.script_text.specs.Numbers.{number_of}
+use Rattle.script_text.specs.Numbers.{decimal_of}
 use Rattle.script_text.specs.Addresses.{address_of}
 use Rattle.script_text.specs.Kinds.{codec_text, codec_of, media_text, media_of}
 use Rattle.script_text.specs.Values.{field_of, value_text, Fits, AllFit, value_of, values_of}
@@ -46,9 +46,9 @@ found_text text word xs y e = (bytes_eq-Decides word (text y)).0 (found (λ x. b
 abbrev pub Back : Field → List ℕ → Value → Type 0
 Back f word v = (word ≡ value_text v) × (field_of v ≡ f) × Fits v
 
-by_number : (max : ℕ) → max < 2 ^ 64 → (make : ℕ → Value) (f : Field) (word : List ℕ) (v : Value) → ((n : ℕ) → (word ≡ decimal n) × (n ≤ max) → Back f word (make n)) → option_map make (number_of max word) ≡ Some v → Back f word v
+by_number : (max : ℕ) → max < 2 ^ 64 → (make : ℕ → Value) (f : Field) (word : List ℕ) (v : Value) → ((n : ℕ) → (word ≡ decimal n) × (n ≤ max) → Back f word (make n)) → option_map make (decimal_of max word) ≡ Some v → Back f word v
 by_number max small make f word v h e =
-    let m = map_some make (number_of max word) v e in
+    let m = map_some make (decimal_of max word) v e in
     subst (λ (x : Value). Back f word x) m.2 (h m.0 (spelled max m.0 word small m.1))
 
 value_back : (f : Field) (word : List ℕ) (v : Value) → value_of f word ≡ Some v → Back f word v

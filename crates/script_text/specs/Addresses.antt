@@ -3,7 +3,7 @@ use Rattle.std.specs.Prelude.{◌≡◌, ℕ, ◌≤◌, length, List, [], ◌�
 use Rattle.std.specs.Fmt.{decimal}
 use Rattle.rtp_codec.specs.declared.address.Address.{Address}
 use Rattle.script_text.specs.Words.{cut_of}
-use Rattle.script_text.specs.Numbers.{number_of}
+use Rattle.script_text.specs.Numbers.{decimal_of}
 
 -- how an address is written
 abbrev pub address_text : Address → List ℕ
@@ -28,7 +28,7 @@ None >>= f = None
 unfoldable pub field_of : ℕ → List ℕ → Option (ℕ × List ℕ)
 field_of octet text = do
   parts ← cut_of octet text
-  n ← number_of 255 parts.0
+  n ← decimal_of 255 parts.0
   Some (n, parts.1)
 
 -- the address that a word spells: 46 is the dot, 58 the colon
@@ -38,5 +38,5 @@ address_of word = do
   b ← field_of 46 a.1
   c ← field_of 46 b.1
   d ← field_of 58 c.1
-  port ← number_of 65535 d.1
+  port ← decimal_of 65535 d.1
   Some (record { ip = a.0 ∷ b.0 ∷ c.0 ∷ d.0 ∷ []; port = port })

@@ -17,21 +17,21 @@ abbrev pub below : ℕ → ℕ → Option ℕ
 below limit n = if nat_lt n limit then Some n else None
 
 -- the number that a word spells, if it is at most max
-abbrev pub number_of : ℕ → List ℕ → Option ℕ
-number_of max word = if is_number word then below (max + 1) (digits_value 10 word) else None
+abbrev pub decimal_of : ℕ → List ℕ → Option ℕ
+decimal_of max word = if is_number word then below (max + 1) (digits_value 10 word) else None
 
 -- as far below 0
 abbrev pub negative : ℕ → ℤ
 negative n = neg_ℤ (pos n)
 
 -- the numbers of 64 bits with a sign
-abbrev pub IsExt : ℤ → Type 0
-IsExt (pos n) = n < 2 ^ 63
-IsExt (negsuc n) = n < 2 ^ 63
+abbrev pub FitsExt : ℤ → Type 0
+FitsExt (pos n) = n < 2 ^ 63
+FitsExt (negsuc n) = n < 2 ^ 63
 
 -- the signed number of 64 bits that a word spells; only here may a `-` (45) stand in front
 unfoldable pub ext_of : List ℕ → Option ℤ
 ext_of [] = None
 ext_of (first ∷ rest) =
-    if first == 45 then option_map negative (number_of (2 ^ 63) rest)
-    else option_map pos (number_of (2 ^ 63 - 1) (first ∷ rest))
+    if first == 45 then option_map negative (decimal_of (2 ^ 63) rest)
+    else option_map pos (decimal_of (2 ^ 63 - 1) (first ∷ rest))

@@ -10,7 +10,7 @@ use Rattle.frame_gate.specs.Frame.{SourcePacket}
 use Rattle.script_text.specs.declared.fault.Fault.{Fault}
 use Rattle.script_text.specs.declared.fault.Fault.TheVariants.{BadNumber, BadHex}
 use Rattle.script_text.specs.Words.{◌>>=◌, value_or}
-use Rattle.script_text.specs.Numbers.{number_of, ext_of, IsExt}
+use Rattle.script_text.specs.Numbers.{decimal_of, ext_of, FitsExt}
 
 -- how a marker is written
 abbrev pub marker_text : Bool → List ℕ
@@ -38,7 +38,7 @@ SpellsPacket word p =
 
 -- the numbers of a packet are in range
 pub record IsReadable (p : SourcePacket) : Type 0 where
-  pub ext : IsExt p.ext
+  pub ext : FitsExt p.ext
   pub pt : p.pt ≤ 255
   pub payload : IsBytes p.payload
 
@@ -63,8 +63,8 @@ octets_or place (Err e) = Err (place, BadHex)
 unfoldable pub packet_from : ℕ → List ℕ → List ℕ → List ℕ → List ℕ → Result SourcePacket (ℕ × Fault)
 packet_from place ext marker pt payload = do
   e ← value_or place BadNumber (ext_of ext)
-  m ← value_or place BadNumber (number_of 1 marker)
-  p ← value_or place BadNumber (number_of 255 pt)
+  m ← value_or place BadNumber (decimal_of 1 marker)
+  p ← value_or place BadNumber (decimal_of 255 pt)
   octets ← octets_or place (decode_of payload)
   Ok (record { ext = e; marker = m == 1; pt = p; payload = octets })
 
@@ -78,9 +78,9 @@ abbrev pub packet_of : ℕ → List ℕ → Result SourcePacket (ℕ × Fault)
 packet_of place word = packet_of_parts place (slice_split (λ b. b == 47) word)
 
 -- the packets of words, the first of them at this place; the first fault from left to right
-unfoldable pub packets_of : ℕ → List (List ℕ) → Result (List SourcePacket) (ℕ × Fault)
-packets_of place [] = Ok []
-packets_of place (word ∷ words) = do
+unfoldable pub source_packets_of : ℕ → List (List ℕ) → Result (List SourcePacket) (ℕ × Fault)
+source_packets_of place [] = Ok []
+source_packets_of place (word ∷ words) = do
   packet ← packet_of place word
-  packets ← packets_of (place + 1) words
+  packets ← source_packets_of (place + 1) words
   Ok (packet ∷ packets)

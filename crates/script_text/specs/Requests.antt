@@ -24,7 +24,7 @@ use Rattle.script_text.specs.declared.name.Kind.TheVariants as kinds
 use Rattle.script_text.specs.declared.line.TheConstants.{LINE_LIMIT}
 use Rattle.script_text.specs.Words.{◌>>=◌, words_of, word_at, none_left, value_or}
 use Rattle.script_text.specs.Values.{value_text, values_of, number_at, address_at, AllFit}
-use Rattle.script_text.specs.Packets.{packet_text, octets_or, packets_of, AllReadable}
+use Rattle.script_text.specs.Packets.{packet_text, octets_or, source_packets_of, AllReadable}
 use Rattle.script_text.specs.Calls.{call_of, call_words}
 
 -- nothing, an operator's call, an item for the lane, a datagram from an address at a moment, the reports of a moment,
@@ -51,8 +51,8 @@ abbrev pub line_kinds : List Kind
 line_kinds = kinds.Desk ∷ kinds.Frame ∷ kinds.Rx ∷ kinds.Tick ∷ kinds.Report ∷ kinds.Show ∷ []
 
 -- the kind of line that a word begins
-abbrev pub kind_of : List ℕ → Option Kind
-kind_of word = find (λ kind. bytes_eq word (kind_text kind)) line_kinds
+abbrev pub line_kind_of : List ℕ → Option Kind
+line_kind_of word = find (λ kind. bytes_eq word (kind_text kind)) line_kinds
 
 -- the fields that stand first behind it: OP; MOMENT ADDRESS SSRC EPOCH TS; MOMENT ADDRESS; MOMENT; MOMENT
 abbrev pub front_of : Kind → List Field
@@ -66,7 +66,7 @@ front_of kinds.Show = []
 -- at least one packet
 abbrev pub some_packets : ℕ → List (List ℕ) → Result (List SourcePacket) (ℕ × Fault)
 some_packets place [] = Err (place, MissingWord)
-some_packets place (word ∷ words) = packets_of place (word ∷ words)
+some_packets place (word ∷ words) = source_packets_of place (word ∷ words)
 
 -- packets that make no frame are told last, at the place of the first of them
 abbrev pub framed : SourceFrame → Option FrameFault → Result Request (ℕ × Fault)
@@ -138,7 +138,7 @@ request_with kinds.Show vs words = show_of words
 unfoldable pub words_request : List (List ℕ) → Result Request (ℕ × Fault)
 words_request words = do
   word ← word_at 1 words
-  kind ← value_or 1 UnknownWord (kind_of word.0)
+  kind ← value_or 1 UnknownWord (line_kind_of word.0)
   read ← values_of 2 (front_of kind) word.1
   request_with kind read.0 read.1
 

@@ -8,8 +8,8 @@ use Rattle.script_text.specs.declared.fault.RunFault.{RunFault}
 use Rattle.script_text.specs.declared.fault.RunFault.TheVariants as errors
 use Rattle.script_text.specs.declared.exits.Ask.{Ask}
 use Rattle.script_text.specs.declared.exits.Ask.TheVariants as asks
-use Rattle.script_text.specs.declared.exits.Outcome.{Outcome}
-use Rattle.script_text.specs.declared.exits.Outcome.TheVariants as outcomes
+use Rattle.script_text.specs.declared.exits.Exit.{Exit}
+use Rattle.script_text.specs.declared.exits.Exit.TheVariants as outcomes
 use Rattle.script_text.specs.Text.{fault_text}
 
 -- 0, 1 for a fault of the script, 2 for want of memory, 3 for a reader or writer that failed
@@ -31,7 +31,7 @@ unread_by kinds.OutOfMemory = asks.OutOfMemory
 unread_by _ = asks.Unknown
 
 -- the exit status: that of the run, 2 where memory ran out before it, 4 for arguments that are not known
-abbrev pub exit_of : Outcome → ℕ
+abbrev pub exit_of : Exit → ℕ
 exit_of outcomes.Usage = 4
 exit_of outcomes.OutOfMemory = 2
 exit_of (outcomes.Ran answer) = status_of answer
@@ -45,7 +45,7 @@ run_text errors.Write = codes "input or output failed"
 run_text errors.OutOfMemory = codes "out of memory"
 
 -- what is told of it on standard error; nothing of a run to its end
-abbrev pub outcome_text : Outcome → List ℕ
+abbrev pub outcome_text : Exit → List ℕ
 outcome_text outcomes.Usage = codes "usage: confbridge replay | confbridge serve FILE"
 outcome_text outcomes.OutOfMemory = codes "confbridge: out of memory"
 outcome_text (outcomes.Ran (Ok u)) = []

@@ -13,7 +13,7 @@ use Rattle.script_text.specs.declared.value.Field.TheVariants as fields
 use Rattle.script_text.specs.declared.value.Value.{Value}
 use Rattle.script_text.specs.declared.value.Value.TheVariants as values
 use Rattle.script_text.specs.Words.{◌>>=◌, word_at, value_or}
-use Rattle.script_text.specs.Numbers.{number_of}
+use Rattle.script_text.specs.Numbers.{decimal_of}
 use Rattle.script_text.specs.Addresses.{address_text, address_of, IsAddress}
 use Rattle.script_text.specs.Kinds.{codec_text, codec_of, media_text, media_of}
 
@@ -58,10 +58,10 @@ AllFit (value ∷ values) = Fits value × AllFit values
 
 -- the value of a field that a word spells
 abbrev pub value_of : Field → List ℕ → Option Value
-value_of fields.U16 word = option_map values.U16 (number_of 65535 word)
-value_of fields.U32 word = option_map values.U32 (number_of 4294967295 word)
-value_of fields.U64 word = option_map values.U64 (number_of 18446744073709551615 word)
-value_of fields.Operator word = option_map values.Operator (number_of last_operator word)
+value_of fields.U16 word = option_map values.U16 (decimal_of 65535 word)
+value_of fields.U32 word = option_map values.U32 (decimal_of 4294967295 word)
+value_of fields.U64 word = option_map values.U64 (decimal_of 18446744073709551615 word)
+value_of fields.Operator word = option_map values.Operator (decimal_of last_operator word)
 value_of fields.Address word = option_map values.Address (address_of word)
 value_of fields.Codec word = option_map values.Codec (codec_of word)
 value_of fields.Media word = option_map values.Media (media_of word)

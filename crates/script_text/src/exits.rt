@@ -20,7 +20,7 @@ pub enum Ask {
 
 /// How the program ended.
 #[derive(Clone, Copy, PartialEq, Eq)]
-pub enum Outcome {
+pub enum Exit {
     /// The arguments are not known.
     Usage,
     /// Memory ran out before a run.
@@ -63,26 +63,26 @@ pub fn status(answer: &Result<(), RunFault>) -> u8
 
 /// The exit status of the program: that of its run, 2 for want of memory before it, 4 for arguments
 /// that it does not know.
-pub fn exit_status(outcome: &Outcome) -> u8
+pub fn exit_status(outcome: &Exit) -> u8
     ensures { result ≡ exit_of outcome.now }
 {
     match outcome {
-        Outcome::Usage => 4,
-        Outcome::OutOfMemory => 2,
-        Outcome::Ran(answer) => status(answer),
+        Exit::Usage => 4,
+        Exit::OutOfMemory => 2,
+        Exit::Ran(answer) => status(answer),
     }
 }
 
 /// What the program says on standard error.
-impl fmt::Display for Outcome {
+impl fmt::Display for Exit {
     ghost output = { λ outcome. Some (outcome_text outcome) };
 
     fn fmt<W: fmt::Write>(&self, f: &mut fmt::Formatter<W>) -> fmt::Result {
         match self {
-            Outcome::Usage => write!(f, "usage: confbridge replay | confbridge serve FILE"),
-            Outcome::OutOfMemory => write!(f, "confbridge: out of memory"),
-            Outcome::Ran(Ok(())) => Ok(()),
-            Outcome::Ran(Err(fault)) => write!(f, "confbridge: {fault}"),
+            Exit::Usage => write!(f, "usage: confbridge replay | confbridge serve FILE"),
+            Exit::OutOfMemory => write!(f, "confbridge: out of memory"),
+            Exit::Ran(Ok(())) => Ok(()),
+            Exit::Ran(Err(fault)) => write!(f, "confbridge: {fault}"),
         }
     }
 }

@@ -23,7 +23,7 @@ ghost use Rattle.script_text.specs.Judged.{part_cases, call_cases, case_numbers,
 ghost use Rattle.script_text.specs.Text.{told_words, reason_words};
 ghost use Rattle.script_text.specs.Values.{last_operator};
 ghost use Rattle.script_text.specs.Words.{words_of, Lacks};
-ghost use Rattle.script_text.specs.Numbers.{number_of, ext_of, IsExt};
+ghost use Rattle.script_text.specs.Numbers.{decimal_of, ext_of, FitsExt};
 ghost use Rattle.script_text.specs.Addresses.{address_of, address_text, IsAddress};
 ghost use Rattle.frame_gate.specs.Frame.{SourcePacket};
 ghost use Rattle.forward_rewrite.specs.Frame.{SourceFrame};
@@ -58,15 +58,15 @@ pub fn pieces_join()
 
 /// A word spells a number where it is what is printed of it, and the number is in range.
 pub fn number_words()
-    ensures spelled { (max n : ℕ) (word : List ℕ) → max < 2 ^ 64 → number_of max word ≡ Some n
+    ensures spelled { (max n : ℕ) (word : List ℕ) → max < 2 ^ 64 → decimal_of max word ≡ Some n
         → (word ≡ decimal n) × (n ≤ max) }
-    ensures read { (max n : ℕ) → max < 2 ^ 64 → n ≤ max → number_of max (decimal n) ≡ Some n }
+    ensures read { (max n : ℕ) → max < 2 ^ 64 → n ≤ max → decimal_of max (decimal n) ≡ Some n }
 {}
 
 /// A word spells an extended sequence number where it is what is printed of it; `-0` spells 0 too.
 pub fn ext_words()
-    ensures spelled { (word : List ℕ) (z : ℤ) → ext_of word ≡ Some z → IsExt z × SpellsExt word z }
-    ensures read { (z : ℤ) → IsExt z → ext_of (signed_decimal z) ≡ Some z }
+    ensures spelled { (word : List ℕ) (z : ℤ) → ext_of word ≡ Some z → FitsExt z × SpellsExt word z }
+    ensures read { (z : ℤ) → FitsExt z → ext_of (signed_decimal z) ≡ Some z }
     ensures minus_zero { ext_of (codes "-0") ≡ Some (pos 0) }
 {}
 

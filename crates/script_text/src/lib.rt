@@ -38,7 +38,7 @@ mod value;
 mod words;
 
 pub use self::calling::parse_desk;
-pub use self::exits::{Ask, Outcome, asked, exit_status, status, unread};
+pub use self::exits::{Ask, Exit, asked, exit_status, status, unread};
 pub use self::fault::{Fault, ParseFault, RunFault};
 pub use self::laws::{
     address_words, call_lines, datagram_lines, datagrams_are_heard, ext_words, frame_lines,

@@ -2,7 +2,7 @@
 
 ghost use Rattle.std.specs.Prelude.{◌≡◌, ◌≤◌, length};
 ghost use Rattle.script_text.specs.Calls.{name_of, shape_of, head_of};
-ghost use Rattle.script_text.specs.Requests.{kind_of, front_of};
+ghost use Rattle.script_text.specs.Requests.{line_kind_of, front_of};
 
 use crate::value::Field;
 
@@ -19,7 +19,7 @@ pub(crate) enum Kind {
 
 /// The kind of line that a word begins.
 pub(crate) fn parse_kind(word: &[u8]) -> Option<Kind>
-    ensures { result ≡ kind_of word.now }
+    ensures { result ≡ line_kind_of word.now }
 {
     if word == b"desk".as_slice() {
         Some(Kind::Desk)

@@ -4,7 +4,7 @@ ghost use Rattle.std.specs.Prelude.{◌≡◌, ◌^◌, ◌≤◌, IfSome, true}
 ghost use Rattle.std.specs.List.{list_all};
 ghost use Rattle.std.specs.Char.{is_ascii_digit};
 ghost use Rattle.std.specs.Str.Parse.{digits_value};
-ghost use Rattle.script_text.specs.Numbers.{is_number, below, number_of, negative, ext_of};
+ghost use Rattle.script_text.specs.Numbers.{is_number, below, decimal_of, negative, ext_of};
 
 /// Whether each octet is a digit.
 fn all_digits(word: &[u8]) -> bool
@@ -36,7 +36,7 @@ fn value_of(word: &[u8]) -> Option<u64>
 
 /// The number that a word spells, if it is at most `max`.
 pub(crate) fn number(word: &[u8], max: u64) -> Option<u64>
-    ensures value { result ≡ number_of max word.now }
+    ensures value { result ≡ decimal_of max word.now }
     ensures small { IfSome result (λ n. n ≤ max) }
 {
     if !is_number(word) {

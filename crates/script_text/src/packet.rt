@@ -3,7 +3,7 @@
 ghost use Rattle.std.specs.Prelude.{◌+◌, ◌==◌, ◌≤◌};
 ghost use Rattle.std.specs.List.{slice_split};
 ghost use Rattle.script_text.specs.Words.{Gives};
-ghost use Rattle.script_text.specs.Packets.{octets_or, packet_from, packet_of, packets_of};
+ghost use Rattle.script_text.specs.Packets.{octets_or, packet_from, packet_of, source_packets_of};
 ghost use Rattle.hex.specs.Hex.{decode_of};
 ghost use Rattle.script_text.specs.inner.Cursor.{are_parts, words_in, size_of, TakesPacket};
 
@@ -138,7 +138,7 @@ pub(crate) fn packets<A: Allocator + Copy>(
     words: Option<&[u8]>,
 ) -> Result<Vec<FramePacket<A>, A>, ParseFault>
     requires { size_of words ≤ LINE_LIMIT + 1 }
-    ensures { Gives (λ v. v.items) result (packets_of 7 (words_in words.entry)) }
+    ensures { Gives (λ v. v.items) result (source_packets_of 7 (words_in words.entry)) }
 {
     let mut packets = Vec::new(alloc);
     let mut left = words;

@@ -18,10 +18,10 @@ pub record Stands (c : Cut) (k : Kept) : Type 0 where
   pub pending : k.too_long ≡ false → k.pending ≡ c.rest
 
 -- kept of this stream
-abbrev pub Represents : Kept → List ℕ → Type 0
-Represents k before = Stands (cut before) k
+abbrev pub StandsFor : Kept → List ℕ → Type 0
+StandsFor k before = Stands (cut before) k
 
 -- the answer to these octets after that stream: the lines that they add to it, and whether one is too long now
-pub record Answers (before octets : List ℕ) (lines : List (List ℕ)) (too_long : Bool) : Type 0 where
+pub record Brings (before octets : List ℕ) (lines : List (List ℕ)) (too_long : Bool) : Type 0 where
   pub new_lines : lines_of (before ++ octets) ≡ lines_of before ++ lines
   pub is_long : too_long ≡ is_too_long (before ++ octets)

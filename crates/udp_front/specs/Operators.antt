@@ -90,18 +90,18 @@ abbrev pub AppendsReply : CoreOf → CoreOf → CallOf → List ℕ → List ℕ
 AppendsReply old new call before after = (text : List ℕ) × (after ≡ before ++ text) × Replies old new call text
 
 -- what was read of a line is answered so, and this becomes of the connection
-abbrev pub IsAnswered : CoreOf → Result AskOf (ℕ × Fault) → CoreOf → List ℕ → Next → Type 0
-IsAnswered old (Err fault) new text becomes = (new ≡ old) × (text ≡ fault_line fault.0 fault.1) × (becomes ≡ next.Stay)
-IsAnswered old (Ok (spoken call)) new text becomes = Replies old new call text × (becomes ≡ next.Stay)
-IsAnswered old (Ok (alone Show)) new text becomes =
+abbrev pub AnswersAsk : CoreOf → Result AskOf (ℕ × Fault) → CoreOf → List ℕ → Next → Type 0
+AnswersAsk old (Err fault) new text becomes = (new ≡ old) × (text ≡ fault_line fault.0 fault.1) × (becomes ≡ next.Stay)
+AnswersAsk old (Ok (spoken call)) new text becomes = Replies old new call text × (becomes ≡ next.Stay)
+AnswersAsk old (Ok (alone Show)) new text becomes =
     (new ≡ old) × (text ≡ show_text old.desk old.version) × (becomes ≡ next.Stay)
-IsAnswered old (Ok (alone Quit)) new text becomes = (new ≡ old) × (text ≡ []) × (becomes ≡ next.Quit)
-IsAnswered old (Ok (alone Stop)) new text becomes = (new ≡ old) × (text ≡ []) × (becomes ≡ next.Stop)
+AnswersAsk old (Ok (alone Quit)) new text becomes = (new ≡ old) × (text ≡ []) × (becomes ≡ next.Quit)
+AnswersAsk old (Ok (alone Stop)) new text becomes = (new ≡ old) × (text ≡ []) × (becomes ≡ next.Stop)
 
 -- what was read is answered so, and the text is appended
 abbrev pub AppendsAnswer : CoreOf → Result AskOf (ℕ × Fault) → CoreOf → List ℕ → List ℕ → Next → Type 0
 AppendsAnswer old read new before after becomes =
-    (text : List ℕ) × (after ≡ before ++ text) × IsAnswered old read new text becomes
+    (text : List ℕ) × (after ≡ before ++ text) × AnswersAsk old read new text becomes
 
 -- a line is answered so, and the text is appended
 abbrev pub AnswersLine : CoreOf → CoreOf → List ℕ → List ℕ → List ℕ → Next → Type 0

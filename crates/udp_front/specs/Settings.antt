@@ -8,19 +8,19 @@ use Rattle.std.specs.Str.{bytes_eq}
 use Rattle.toml.specs.Data.{Data, Members, no_members, member, get_member}
 use Rattle.bridge_core.specs.Calls.{most_lanes}
 use Rattle.udp_front.specs.declared.setup.FrontSettings.{FrontSettings}
-use Rattle.udp_front.specs.declared.setup.Key.{Key}
-use Rattle.udp_front.specs.declared.setup.Key.TheVariants.{Udp, Tcp, Lanes, Operators, BridgeSsrc, Cname}
+use Rattle.udp_front.specs.declared.setup.SettingKey.{SettingKey}
+use Rattle.udp_front.specs.declared.setup.SettingKey.TheVariants.{Udp, Tcp, Lanes, Operators, BridgeSsrc, Cname}
 use Rattle.udp_front.specs.SettingValues.{address_in, loopback_in, number_in, cname_in}
 
 -- what is wrong with settings; a key that is none of them stands there by its octets
 pub data Trouble : Type 0 where
   bad_toml : Trouble
-  missing_key : Key → Trouble
-  bad_value : Key → Trouble
+  missing_key : SettingKey → Trouble
+  bad_value : SettingKey → Trouble
   unknown_key : List ℕ → Trouble
 
 -- how a key is written
-abbrev pub key_text : Key → List ℕ
+abbrev pub key_text : SettingKey → List ℕ
 key_text Udp = codes "udp"
 key_text Tcp = codes "tcp"
 key_text Lanes = codes "lanes"
@@ -35,17 +35,17 @@ abbrev ◌>>=◌ : {A B : Type 0} → Result A Trouble → (A → Result B Troub
 (Err e) >>= f = Err e
 
 -- what a value is, if it is good
-abbrev pub good_value : {A : Type 0} → Key → Option A → Result A Trouble
+abbrev pub good_value : {A : Type 0} → SettingKey → Option A → Result A Trouble
 good_value key None = Err (bad_value key)
 good_value key (Some x) = Ok x
 
 -- what the value at a key is, which has to be there
-abbrev pub needed : {A : Type 0} → Key → (Data → Option A) → Option Data → Result A Trouble
+abbrev pub needed : {A : Type 0} → SettingKey → (Data → Option A) → Option Data → Result A Trouble
 needed key read None = Err (missing_key key)
 needed key read (Some value) = good_value key (read value)
 
 -- what the value at a key is, with a default where it is left out
-abbrev pub given : {A : Type 0} → Key → (Data → Option A) → A → Option Data → Result A Trouble
+abbrev pub given : {A : Type 0} → SettingKey → (Data → Option A) → A → Option Data → Result A Trouble
 given key read default None = Ok default
 given key read default (Some value) = good_value key (read value)
 
@@ -83,7 +83,7 @@ most_operators = 16
 -- the settings of a table, or its first trouble: key by key, and then the keys that are left
 unfoldable pub settings_of : Members → Result FrontSettings Trouble
 settings_of table = do
-  let value : Key → Option Data = λ key. get_member (key_text key) table
+  let value : SettingKey → Option Data = λ key. get_member (key_text key) table
   udp ← needed Udp address_in (value Udp)
   tcp ← needed Tcp loopback_in (value Tcp)
   lanes ← given Lanes (number_in 1 most_lanes) 1 (value Lanes)

@@ -3,7 +3,7 @@
 ghost use Rattle.std.specs.Prelude.{◌≡◌, Some};
 ghost use Rattle.udp_front.specs.SettingsTold.{settings_text};
 
-use crate::setup::Key;
+use crate::setup::SettingKey;
 use std::alloc::AllocError;
 use std::error::Error;
 use std::fmt;
@@ -14,9 +14,9 @@ pub enum SettingsFault {
     /// 1: the text is no TOML.
     BadToml,
     /// 2: a key that has to be there is not.
-    MissingKey { key: Key },
+    MissingKey { key: SettingKey },
     /// 3: a value of another type, or out of its range.
-    BadValue { key: Key },
+    BadValue { key: SettingKey },
     /// 4: a key that is no setting's, the least by its octets.
     UnknownKey { key: String },
     /// 5: nothing was judged, or a text could not be copied.

@@ -3,7 +3,7 @@
 ghost use Rattle.std.specs.Prelude.{◌≡◌, ◌++◌, ℕ, List, [], IfOk, OnErr};
 ghost use Rattle.std.specs.Str.Lines.{strip_carriage_return};
 ghost use Rattle.udp_front.specs.Cut.{Cut, with_octet};
-ghost use Rattle.udp_front.specs.Fed.{Kept, Represents, Answers, texts};
+ghost use Rattle.udp_front.specs.Fed.{Kept, StandsFor, Brings, texts};
 ghost use Rattle.udp_front.specs.inner.Holds.{Holds, in_place, unless};
 
 use std::alloc::{AllocError, Allocator, Global};
@@ -64,7 +64,7 @@ fn line_of<A: Allocator + Copy>(
 impl<A: Allocator + Copy> Lines<A> {
     /// A stream of which nothing has come.
     pub fn new(alloc: A) -> Self
-        ensures { Represents result [] }
+        ensures { StandsFor result [] }
     {
         Self {
             pending: Vec::new(alloc),
@@ -132,10 +132,10 @@ impl<A: Allocator + Copy> Lines<A> {
 
     /// Takes the next piece of the stream. An `Err` changes nothing.
     pub fn feed(&mut self, alloc: A, octets: &[u8]) -> Result<Fed<A>, AllocError>
-        ensures fed { IfOk result (λ fed. (before : List ℕ) → Represents self.old before
-            → Answers before octets.now (texts fed.lines.items) fed.too_long) }
-        ensures kept { IfOk result (λ fed. (before : List ℕ) → Represents self.old before
-            → Represents self.new (before ++ octets.now)) }
+        ensures fed { IfOk result (λ fed. (before : List ℕ) → StandsFor self.old before
+            → Brings before octets.now (texts fed.lines.items) fed.too_long) }
+        ensures kept { IfOk result (λ fed. (before : List ℕ) → StandsFor self.old before
+            → StandsFor self.new (before ++ octets.now)) }
         ensures err { OnErr result (self.new ≡ self.old) }
     {
         // What this piece brings stands apart, so that want of memory changes nothing.

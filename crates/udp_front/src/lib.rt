@@ -42,5 +42,5 @@ pub use pacing::{ReportTimer, Ticks};
 pub use reading::settings;
 pub use seats::free_seat;
 pub use serving::Serving;
-pub use setup::{FrontSettings, Key};
+pub use setup::{FrontSettings, SettingKey};
 pub use wire::{Wire, send_all};

@@ -9,7 +9,7 @@ ghost use Rattle.udp_front.specs.Settings.{unknown_in, none_unknown, settings_of
 ghost use Rattle.udp_front.specs.SettingsTold.{Gives};
 
 use crate::fault::SettingsFault;
-use crate::setup::{FrontSettings, Key};
+use crate::setup::{FrontSettings, SettingKey};
 use crate::values::{cname_of, number_of, tcp_of, udp_of, unknown_in};
 use bridge_core::Settings;
 use bytes::Bytes;
@@ -42,9 +42,9 @@ fn from_table(alloc: Global, table: &Table) -> Result<FrontSettings, SettingsFau
 {
     let udp = udp_of(table)?;
     let tcp = tcp_of(table)?;
-    let lanes = number_of(table, Key::Lanes, 1, MOST_LANES)?;
-    let operators = number_of(table, Key::Operators, 1, MOST_OPERATORS)?;
-    let bridge_ssrc = number_of(table, Key::BridgeSsrc, 0, u32::MAX)?;
+    let lanes = number_of(table, SettingKey::Lanes, 1, MOST_LANES)?;
+    let operators = number_of(table, SettingKey::Operators, 1, MOST_OPERATORS)?;
+    let bridge_ssrc = number_of(table, SettingKey::BridgeSsrc, 0, u32::MAX)?;
     let cname = cname_of(table)?;
     none_unknown(alloc, table)?;
     let cname = Bytes::copy_from_slice(alloc, cname)?;

@@ -24,7 +24,7 @@ pub struct FrontSettings {
 
 /// A key of the settings. They are judged in this order.
 #[derive(Clone, Copy, Debug)]
-pub enum Key {
+pub enum SettingKey {
     Udp,
     Tcp,
     Lanes,
@@ -33,23 +33,23 @@ pub enum Key {
     Cname,
 }
 
-impl Key {
+impl SettingKey {
     /// How it is written.
     pub(crate) fn text(self) -> &'static str
         ensures { result.now ≡ key_text self }
     {
         match self {
-            Key::Udp => "udp",
-            Key::Tcp => "tcp",
-            Key::Lanes => "lanes",
-            Key::Operators => "operators",
-            Key::BridgeSsrc => "bridge_ssrc",
-            Key::Cname => "cname",
+            SettingKey::Udp => "udp",
+            SettingKey::Tcp => "tcp",
+            SettingKey::Lanes => "lanes",
+            SettingKey::Operators => "operators",
+            SettingKey::BridgeSsrc => "bridge_ssrc",
+            SettingKey::Cname => "cname",
         }
     }
 }
 
-impl fmt::Display for Key {
+impl fmt::Display for SettingKey {
     ghost output = { λ key. Some (key_text key) };
 
     fn fmt<W: fmt::Write>(&self, f: &mut fmt::Formatter<W>) -> fmt::Result {

@@ -11,7 +11,7 @@ ghost use Rattle.udp_front.specs.Settings.{key_text, needed, given, is_known, un
 ghost use Rattle.udp_front.specs.SettingsTold.{Gives};
 
 use crate::fault::SettingsFault;
-use crate::setup::Key;
+use crate::setup::SettingKey;
 use rtp_codec::Address;
 use script_text::parse_address;
 use toml::{Table, Value};
@@ -71,7 +71,7 @@ fn cname(value: &Value) -> Option<&[u8]>
 }
 
 /// The value at a key.
-fn value_at(table: &Table, key: Key) -> Option<&Value>
+fn value_at(table: &Table, key: SettingKey) -> Option<&Value>
     ensures { option_map (λ x. view x.now) result ≡ get_member (key_text key) (table_view table.now) }
 {
     table.get(key.text())
@@ -81,9 +81,9 @@ fn value_at(table: &Table, key: Key) -> Option<&Value>
 pub(crate) fn udp_of(table: &Table) -> Result<Address, SettingsFault>
     ensures memory { result ≢ Err SettingsFault.OutOfMemory }
     ensures answer { Gives (λ x. x) result
-        (needed Key.Udp address_in (get_member (codes "udp") (table_view table.now))) }
+        (needed SettingKey.Udp address_in (get_member (codes "udp") (table_view table.now))) }
 {
-    let key = Key::Udp;
+    let key = SettingKey::Udp;
     let Some(value) = value_at(table, key) else {
         return Err(SettingsFault::MissingKey { key });
     };
@@ -92,9 +92,9 @@ pub(crate) fn udp_of(table: &Table) -> Result<Address, SettingsFault>
 
 /// The address of the operators' listener.
 pub(crate) fn tcp_of(table: &Table) -> Result<Address, SettingsFault>
-    ensures { Gives (λ x. x) result (needed Key.Tcp loopback_in (get_member (codes "tcp") (table_view table.now))) }
+    ensures { Gives (λ x. x) result (needed SettingKey.Tcp loopback_in (get_member (codes "tcp") (table_view table.now))) }
 {
-    let key = Key::Tcp;
+    let key = SettingKey::Tcp;
     let Some(value) = value_at(table, key) else {
         return Err(SettingsFault::MissingKey { key });
     };
@@ -102,7 +102,12 @@ pub(crate) fn tcp_of(table: &Table) -> Result<Address, SettingsFault>
 }
 
 /// The number at a key, from `low` to `high`, or 1.
-pub(crate) fn number_of(table: &Table, key: Key, low: u32, high: u32) -> Result<u32, SettingsFault>
+pub(crate) fn number_of(
+    table: &Table,
+    key: SettingKey,
+    low: u32,
+    high: u32,
+) -> Result<u32, SettingsFault>
     ensures { Gives (λ x. x) result
         (given key (number_in low high) 1 (get_member (key_text key) (table_view table.now))) }
 {
@@ -115,11 +120,13 @@ pub(crate) fn number_of(table: &Table, key: Key, low: u32, high: u32) -> Result<
 /// The canonical name, or `bridge`.
 pub(crate) fn cname_of(table: &Table) -> Result<&[u8], SettingsFault>
     ensures { Gives (λ x. x.now) result
-        (given Key.Cname cname_in (codes "bridge") (get_member (codes "cname") (table_view table.now))) }
+        (given SettingKey.Cname cname_in (codes "bridge") (get_member (codes "cname") (table_view table.now))) }
 {
-    match value_at(table, Key::Cname) {
+    match value_at(table, SettingKey::Cname) {
         None => Ok(b"bridge"),
-        Some(value) => cname(value).ok_or(SettingsFault::BadValue { key: Key::Cname }),
+        Some(value) => cname(value).ok_or(SettingsFault::BadValue {
+            key: SettingKey::Cname,
+        }),
     }
 }
 

@@ -2,7 +2,7 @@
 
 ghost use Rattle.std.specs.Prelude.{◌≡◌, true, List, ℕ, [], IfOk};
 ghost use Rattle.udp_front.specs.Cut.{cut, is_too_long};
-ghost use Rattle.udp_front.specs.Fed.{Represents, texts};
+ghost use Rattle.udp_front.specs.Fed.{StandsFor, texts};
 
 use std::alloc::{AllocError, Global};
 use udp_front::{Fed, Lines, cuts_are_whole, too_long_for_good};
@@ -13,8 +13,8 @@ pub fn hears_nothing_behind_too_long_a_line(
     alloc: Global,
     octets: &[u8],
 ) -> Result<Fed, AllocError>
-    ensures none { IfOk result (λ fed. (before : List ℕ) → Represents lines.old before → is_too_long before ≡ true → texts fed.lines.items ≡ []) }
-    ensures long { IfOk result (λ fed. (before : List ℕ) → Represents lines.old before → is_too_long before ≡ true → fed.too_long ≡ true) }
+    ensures none { IfOk result (λ fed. (before : List ℕ) → StandsFor lines.old before → is_too_long before ≡ true → texts fed.lines.items ≡ []) }
+    ensures long { IfOk result (λ fed. (before : List ℕ) → StandsFor lines.old before → is_too_long before ≡ true → fed.too_long ≡ true) }
 {
     too_long_for_good();
     lines.feed(alloc, octets)

@@ -14,7 +14,7 @@ ghost use Rattle.bridge_core.specs.Headline.{numbers};
 ghost use Rattle.bridge_core.specs.Steps.{Step, sends};
 ghost use Rattle.script_text.specs.Words.{words_of};
 ghost use Rattle.script_text.specs.Lines.{lines_of, parts_of};
-ghost use Rattle.script_text.specs.Numbers.{number_of, ext_of, IsExt};
+ghost use Rattle.script_text.specs.Numbers.{decimal_of, ext_of, FitsExt};
 ghost use Rattle.script_text.specs.Packets.{IsReadable, packet_text};
 ghost use Rattle.script_text.specs.Requests.{IsFrame, IsDatagram, frame_line, report_line, rx_line, tick_line};
 ghost use Rattle.script_text.specs.Judged.{call_cases};
@@ -74,7 +74,7 @@ pub fn one_address_is_spelt_in_one_way(first: &[u8], second: &[u8]) -> Option<(A
 /// The number of an accepted call reads back from its line.
 pub fn reads_back_the_number_of_a_call(no: u64, out: &mut Vec<u8>) -> Result<(), AllocError>
     requires { out.old.items ≡ [] }
-    ensures { OnOk result ((word : List ℕ) × (out.new.items ≡ codes "ok " ++ word ++ 10 ∷ []) × (number_of 18446744073709551615 word ≡ Some no)) }
+    ensures { OnOk result ((word : List ℕ) × (out.new.items ≡ codes "ok " ++ word ++ 10 ∷ []) × (decimal_of 18446744073709551615 word ≡ Some no)) }
 {
     number_words();
     print_reply(&Reply::Accepted { no }, out)
@@ -88,7 +88,7 @@ pub fn reads_back_the_number_of_a_noted_packet(
 ) -> Result<(), AllocError>
     requires note { sent_of egress.now ≡ Sent.note record { version = 6; item = 2; from = record { ip = 10 ∷ 0 ∷ 0 ∷ 2 ∷ []; port = 5000 }; note = record { out_ssrc = 501; fraction = 0; lost = pos 0; source = Some (101, ext) } } }
     requires behind { out.old.items ≡ [] }
-    ensures { OnOk result ((word : List ℕ) × (out.new.items ≡ codes "note 6 2 10.0.0.2:5000 501 0 0 101 " ++ word ++ 10 ∷ []) × (IsExt ext → ext_of word ≡ Some ext)) }
+    ensures { OnOk result ((word : List ℕ) × (out.new.items ≡ codes "note 6 2 10.0.0.2:5000 501 0 0 101 " ++ word ++ 10 ∷ []) × (FitsExt ext → ext_of word ≡ Some ext)) }
 {
     ext_words();
     print_egress(egress, out)

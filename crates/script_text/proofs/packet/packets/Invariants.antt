@@ -1,6 +1,6 @@
 use Rattle.std.proofs.Common.{◌≡◌, ◌+◌, ◌≤◌}
 use Rattle.script_text.specs.inner.Cursor.{words_in, size_of}
-use Rattle.script_text.specs.Packets.{packets_of}
+use Rattle.script_text.specs.Packets.{source_packets_of}
 use Rattle.script_text.proofs.PacketLemmas.{behind}
 use Rattle.script_text.proofs.packet.packets.Given as goal
 
@@ -8,7 +8,7 @@ use Rattle.script_text.proofs.packet.packets.Given as goal
 abbrev pub invariant-loop-left : goal.invariant-loop-left
 invariant-loop-left g l = record {
   place : l.place + size_of l.left ≤ 65544;
-  packets : packets_of 7 (words_in l.fn.words) ≡ behind l.packets.items (packets_of l.place (words_in l.left));
+  packets : source_packets_of 7 (words_in l.fn.words) ≡ behind l.packets.items (source_packets_of l.place (words_in l.left));
 }
 
 abbrev pub decreases-loop-left : goal.decreases-loop-left
