@@ -1,0 +1,322 @@
+//! A bridge that is called by lines.
+
+ghost use Rattle.std.specs.Prelude.{◌≡◌, true, OnTrue};
+ghost use Rattle.intake.specs.Inputs.{input_of, is_sized};
+
+use crate::direct::{mix, plan, stream};
+use crate::halves::Halves;
+use crate::lines::{MOST, arrival_of, first_word, nack};
+use crate::saying::{say, say_egress, say_outcome, say_reply, say_up};
+use bridge_core::{Core, Item, Reply, Settings};
+use bytes::Bytes;
+use desk_edit::{Call, Refusal};
+use refusing::Refusing;
+use script_text::{ParseFault, parse_desk, print_rows};
+use std::alloc::Global;
+use std::collections::VecDeque;
+use std::io;
+
+/// A bridge, the items that wait for its lanes, and a desk besides whose calls are made in halves.
+#[derive(Drop)]
+pub struct Bridge<'a> {
+    alloc: Global,
+    heap: &'a Refusing,
+    core: Core<&'a Refusing>,
+    waiting: VecDeque<Item<&'a Refusing>, &'a Refusing>,
+    halves: Option<Halves<'a>>,
+}
+
+/// What a line of the desk comes to.
+enum Judged {
+    Told(Reply),
+    Refused,
+    Unread,
+}
+
+/// Whether lanes may handle an item: sound has 1 to 1,600 samples.
+fn is_fit<'a>(item: &Item<&'a Refusing>) -> bool
+    ensures { OnTrue result (is_sized (input_of item.now) ≡ true) }
+{
+    match item {
+        Item::Audio { samples, .. } => !samples.is_empty() && samples.len() <= 1_600,
+        _ => true,
+    }
+}
+
+/// A line that can't be read is answered so.
+fn unread(out: &mut String) -> io::Result<bool> {
+    out.push_str("unread\n")?;
+    Ok(true)
+}
+
+impl<'a> Bridge<'a> {
+    /// A bridge without rooms, as that of a script but for the number of its lanes.
+    pub fn new(alloc: Global, heap: &'a Refusing, lanes: u32) -> Option<Self> {
+        let settings = Settings {
+            bridge_ssrc: 1,
+            cname: Bytes::copy_from_slice(heap, b"bridge").ok()?,
+        };
+        Some(Self {
+            alloc,
+            heap,
+            core: Core::new(heap, lanes, settings).ok()?,
+            waiting: VecDeque::new(heap),
+            halves: None,
+        })
+    }
+
+    /// Answers a line, whose request for memory of this number is refused. False where the bridge has refused the line.
+    pub fn line(&mut self, nth: u64, line: &str, out: &mut String) -> io::Result<bool> {
+        let (word, words) = first_word(line);
+        match word {
+            "" | "#" => Ok(true),
+            "desk" => self.desk(nth, words, out),
+            "rx" => self.datagram(nth, words, out),
+            "reports" => self.reports(nth, words, out),
+            "item" => self.next_item(nth, out),
+            "copy" => self.copy(nth),
+            "stream" | "mix" | "plan" => self.direct(nth, word, words, out),
+            "halves" => self.in_halves(nth, words, out),
+            "halved" => self.both_rows(out),
+            "show" => self.show(nth, out),
+            "undone" => self.all_back(out),
+            "redone" => self.all_again(out),
+            _ => match self.item_of(word, words) {
+                Some(item) => self.item(nth, &item, out),
+                None => unread(out),
+            },
+        }
+    }
+
+    /// The item of a line that names one.
+    fn item_of(&self, word: &str, words: &str) -> Option<Item<&'a Refusing>> {
+        match word {
+            "tick" => Some(Item::Tick {
+                moment: words.parse().ok()?,
+            }),
+            "report" => Some(Item::Report {
+                moment: words.parse().ok()?,
+            }),
+            "nack" => nack(self.heap, words),
+            _ => None,
+        }
+    }
+
+    /// A call of an operator.
+    fn desk(&mut self, nth: u64, words: &str, out: &mut String) -> io::Result<bool> {
+        self.heap.refuse(nth);
+        let asked = self.asked(words);
+        self.heap.refuse(0);
+        match asked {
+            Judged::Told(reply) => {
+                say_reply(self.heap, &reply, out)?;
+                Ok(true)
+            }
+            Judged::Refused => Ok(false),
+            Judged::Unread => unread(out),
+        }
+    }
+
+    fn asked(&mut self, words: &str) -> Judged {
+        let (op, text) = first_word(words);
+        let Ok(op) = op.parse::<u8>() else {
+            return Judged::Unread;
+        };
+        let call = match parse_desk(self.heap, text.as_bytes()) {
+            Ok(call) => call,
+            Err(ParseFault::OutOfMemory) => return Judged::Refused,
+            Err(_) => return Judged::Unread,
+        };
+        match self.core.desk(self.heap, op, call) {
+            Reply::Refused {
+                why: Refusal::OutOfMemory,
+                ..
+            } => Judged::Refused,
+            reply => Judged::Told(reply),
+        }
+    }
+
+    /// A datagram, whose items wait.
+    fn datagram(&mut self, nth: u64, words: &str, out: &mut String) -> io::Result<bool> {
+        let Some(arrival) = arrival_of(self.alloc, words) else {
+            return unread(out);
+        };
+        self.heap.refuse(nth);
+        let taken = self
+            .core
+            .datagram(self.heap, &arrival.from, arrival.moment, &arrival.octets);
+        self.heap.refuse(0);
+        let Ok(ingest) = taken else {
+            return Ok(false);
+        };
+        say_outcome(ingest.outcome, out)?;
+        for (to, octets) in &ingest.up {
+            say_up(self.alloc, to, octets, out)?;
+        }
+        for item in ingest.items {
+            self.waiting.push_back(item)?;
+        }
+        Ok(true)
+    }
+
+    /// The receiver reports of a moment.
+    fn reports(&mut self, nth: u64, words: &str, out: &mut String) -> io::Result<bool> {
+        let Ok(moment) = words.parse::<u64>() else {
+            return unread(out);
+        };
+        self.heap.refuse(nth);
+        let told = self.core.reports(self.heap, moment);
+        self.heap.refuse(0);
+        let Ok(up) = told else {
+            return Ok(false);
+        };
+        for (to, octets) in &up {
+            say_up(self.alloc, to, octets, out)?;
+        }
+        Ok(true)
+    }
+
+    /// All lanes handle an item, one after another.
+    fn item(&mut self, nth: u64, item: &Item<&'a Refusing>, out: &mut String) -> io::Result<bool> {
+        if !is_fit(item) {
+            return unread(out);
+        }
+        for lane in 0..16u32 {
+            if lane as usize >= self.core.lanes() {
+                break;
+            }
+            self.heap.refuse(nth);
+            let sent = self.core.item(self.heap, lane, item);
+            self.heap.refuse(0);
+            let Ok(sent) = sent else {
+                return Ok(false);
+            };
+            for egress in &sent {
+                say_egress(self.heap, egress, out)?;
+            }
+        }
+        Ok(true)
+    }
+
+    /// The lanes handle the item that waits first. It goes on waiting where they refuse it.
+    fn next_item(&mut self, nth: u64, out: &mut String) -> io::Result<bool> {
+        let Some(item) = self.waiting.pop_front() else {
+            return unread(out);
+        };
+        let is_handled = self.item(nth, &item, out)?;
+        if !is_handled {
+            self.waiting.push_front(item)?;
+        }
+        Ok(is_handled)
+    }
+
+    /// A copy waits in place of the item that waits first.
+    fn copy(&mut self, nth: u64) -> io::Result<bool> {
+        let Some(item) = self.waiting.pop_front() else {
+            return Ok(true);
+        };
+        self.heap.refuse(nth);
+        let copied = item.copy(self.heap);
+        self.heap.refuse(0);
+        match copied {
+            Ok(copy) => {
+                self.waiting.push_front(copy)?;
+                Ok(true)
+            }
+            Err(_) => {
+                self.waiting.push_front(item)?;
+                Ok(false)
+            }
+        }
+    }
+
+    /// A call that a bridge makes in parts.
+    fn direct(&self, nth: u64, word: &str, words: &str, out: &mut String) -> io::Result<bool> {
+        let is_answered = match (word, self.waiting.front(), words.parse::<u32>()) {
+            ("mix", _, _) => mix(self.alloc, self.heap, nth, out)?,
+            ("plan", _, Ok(member)) => plan(self.heap, self.core.rows(), nth, member, out)?,
+            ("stream", Some(item), _) => stream(self.alloc, self.heap, nth, item, out)?,
+            _ => return unread(out),
+        };
+        Ok(is_answered)
+    }
+
+    /// A call of the desk whose calls are made in halves.
+    fn in_halves(&mut self, nth: u64, words: &str, out: &mut String) -> io::Result<bool> {
+        if self.halves.is_none() {
+            self.halves = Some(Halves::new(self.heap)?);
+        }
+        let Some(halves) = &mut self.halves else {
+            return unread(out);
+        };
+        let Ok(call) = parse_desk(self.heap, words.as_bytes()) else {
+            return unread(out);
+        };
+        self.heap.refuse(nth);
+        let answer = halves.call(&call);
+        self.heap.refuse(0);
+        let reply = match answer {
+            Ok(no) => Reply::Accepted { no },
+            Err(Refusal::OutOfMemory) => return Ok(false),
+            Err(why) => Reply::Refused {
+                at: halves.version(),
+                why,
+            },
+        };
+        say_reply(self.heap, &reply, out)?;
+        Ok(true)
+    }
+
+    /// The rows of the desk whose calls are made in halves, and of the rows that follow it.
+    fn both_rows(&self, out: &mut String) -> io::Result<bool> {
+        let mut text = Vec::new(self.heap);
+        if let Some(halves) = &self.halves {
+            halves.print(&mut text)?;
+        }
+        say(&text, out)?;
+        Ok(true)
+    }
+
+    /// The rows of the desk.
+    fn show(&self, nth: u64, out: &mut String) -> io::Result<bool> {
+        let mut text = Vec::new(self.heap);
+        text.push(b'|')?;
+        self.heap.refuse(nth);
+        let is_shown = print_rows(self.core.rows(), self.core.version(), &mut text).is_ok();
+        self.heap.refuse(0);
+        if is_shown {
+            say(text.get(1..).unwrap_or(b""), out)?;
+        } else if text.as_slice() != b"|".as_slice() {
+            out.push_str("a part of ")?;
+        }
+        Ok(is_shown)
+    }
+
+    /// Undoes all that is done, and says how much that was.
+    fn all_back(&mut self, out: &mut String) -> io::Result<bool> {
+        let mut count: u64 = 0;
+        for _ in 0..MOST {
+            let last = self.core.version();
+            if let Reply::Refused { .. } = self.core.desk(self.heap, 0, Call::Undo { last }) {
+                break;
+            }
+            count = count.saturating_add(1);
+        }
+        write!(out, "undone {count}\n")?;
+        Ok(true)
+    }
+
+    /// Does again all that was undone, and says how much that was.
+    fn all_again(&mut self, out: &mut String) -> io::Result<bool> {
+        let mut count: u64 = 0;
+        for _ in 0..MOST {
+            let last = self.core.version();
+            if let Reply::Refused { .. } = self.core.desk(self.heap, 0, Call::Redo { last }) {
+                break;
+            }
+            count = count.saturating_add(1);
+        }
+        write!(out, "redone {count}\n")?;
+        Ok(true)
+    }
+}

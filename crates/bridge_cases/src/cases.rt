@@ -1,0 +1,96 @@
+//! Cases one after another.
+
+use crate::case::Case;
+use crate::runs::is_run;
+use crate::trying::is_tried;
+use std::alloc::Global;
+use std::io;
+
+/// What is being read.
+#[derive(Drop)]
+enum Reading {
+    /// What stands before the first case.
+    Head,
+    /// What the cases behind it begin with.
+    Base(Case),
+    Case(Case),
+}
+
+/// The cases that were read.
+#[derive(Drop)]
+pub struct Cases {
+    alloc: Global,
+    base: Option<Case>,
+    reading: Reading,
+    tried: u64,
+    differ: u64,
+}
+
+impl Cases {
+    pub fn new(alloc: Global) -> Self {
+        Self {
+            alloc,
+            base: None,
+            reading: Reading::Head,
+            tried: 0,
+            differ: 0,
+        }
+    }
+
+    /// Takes one more line: `** NAME` begins what all cases from there on begin with, `== NAME` a case, `%% NAME` a case that is a
+    /// script, and any other line belongs to what is being read.
+    pub fn line(&mut self, rt: &HostRuntime, line: &str) -> io::Result<()> {
+        if let Some(name) = line.strip_prefix("** ") {
+            self.end(rt)?;
+            self.reading = Reading::Base(Case::new(self.alloc, name)?);
+        } else if let Some(name) = line.strip_prefix("== ") {
+            self.end(rt)?;
+            self.reading = Reading::Case(self.begun(name)?);
+        } else if let Some(name) = line.strip_prefix("%% ") {
+            self.end(rt)?;
+            let mut case = Case::new(self.alloc, name)?;
+            case.is_script = true;
+            self.reading = Reading::Case(case);
+        } else {
+            match &mut self.reading {
+                Reading::Head => {}
+                Reading::Base(case) | Reading::Case(case) => case.line(line)?,
+            }
+        }
+        Ok(())
+    }
+
+    /// A case of this name.
+    fn begun(&self, name: &str) -> io::Result<Case> {
+        let case = match &self.base {
+            None => Case::new(self.alloc, name)?,
+            Some(base) => base.from_here(self.alloc, name)?,
+        };
+        Ok(case)
+    }
+
+    /// Ends what is being read, and tries it if it is a case.
+    pub fn end(&mut self, rt: &HostRuntime) -> io::Result<()> {
+        match std::mem::replace(&mut self.reading, Reading::Head) {
+            Reading::Head => {}
+            Reading::Base(case) => self.base = Some(case),
+            Reading::Case(case) => {
+                self.tried = self.tried.saturating_add(1);
+                let is_good = if case.is_script {
+                    is_run(rt, self.alloc, &case)?
+                } else {
+                    is_tried(rt, self.alloc, &case)?
+                };
+                if !is_good {
+                    self.differ = self.differ.saturating_add(1);
+                }
+            }
+        }
+        Ok(())
+    }
+
+    /// How many cases were tried, and how many of them were answered otherwise.
+    pub fn counts(&self) -> (u64, u64) {
+        (self.tried, self.differ)
+    }
+}

@@ -1,0 +1,49 @@
+//! Lines to a bridge.
+
+use bridge_core::Item;
+use refusing::Refusing;
+use rtp_codec::Address;
+use script_text::parse_address;
+use std::alloc::Global;
+
+/// More requests than any call makes.
+pub const MOST: u64 = 100_000;
+
+/// A line is cut into its first word and the rest.
+pub fn first_word(line: &str) -> (&str, &str) {
+    line.split_once(" ").unwrap_or((line, ""))
+}
+
+/// A datagram that comes.
+#[derive(Drop)]
+pub struct Arrival {
+    pub moment: u64,
+    pub from: Address,
+    pub octets: Vec<u8>,
+}
+
+/// The datagram of `MOMENT ADDRESS HEX`.
+pub fn arrival_of(alloc: Global, words: &str) -> Option<Arrival> {
+    let (moment, words) = words.split_once(" ")?;
+    let (from, digits) = words.split_once(" ")?;
+    Some(Arrival {
+        moment: moment.parse().ok()?,
+        from: parse_address(from.as_bytes())?,
+        octets: hex::decode(alloc, digits).ok()?,
+    })
+}
+
+/// The item of `ADDRESS OUT_SSRC NUMBER ..`: a NACK of these numbers.
+pub fn nack<'a>(heap: &'a Refusing, words: &str) -> Option<Item<&'a Refusing>> {
+    let (from, words) = words.split_once(" ")?;
+    let (out_ssrc, words) = words.split_once(" ")?;
+    let mut numbers = Vec::new(heap);
+    for number in words.split(' ') {
+        numbers.push(number.parse().ok()?).ok()?;
+    }
+    Some(Item::Nack {
+        from: parse_address(from.as_bytes())?,
+        out_ssrc: out_ssrc.parse().ok()?,
+        numbers,
+    })
+}
