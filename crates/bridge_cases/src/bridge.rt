@@ -5,7 +5,7 @@ ghost use Rattle.intake.specs.Inputs.{input_of, is_sized};
 
 use crate::direct::{mix, plan, stream};
 use crate::halves::Halves;
-use crate::lines::{MOST, arrival_of, first_word, nack};
+use crate::lines::{Answer, MOST, arrival_of, first_word, nack};
 use crate::saying::{say, say_egress, say_outcome, say_reply, say_up};
 use bridge_core::{Core, Item, Reply, Settings};
 use bytes::Bytes;
@@ -44,9 +44,9 @@ fn is_fit<'a>(item: &Item<&'a Refusing>) -> bool
 }
 
 /// A line that can't be read is answered so.
-fn unread(out: &mut String) -> io::Result<bool> {
+fn unread(out: &mut String) -> io::Result<Answer> {
     out.push_str("unread\n")?;
-    Ok(true)
+    Ok(Answer::Whole)
 }
 
 impl<'a> Bridge<'a> {
@@ -65,11 +65,11 @@ impl<'a> Bridge<'a> {
         })
     }
 
-    /// Answers a line, whose request for memory of this number is refused. False where the bridge has refused the line.
-    pub fn line(&mut self, nth: u64, line: &str, out: &mut String) -> io::Result<bool> {
+    /// Answers a line, whose request for memory of this number is refused.
+    pub fn line(&mut self, nth: u64, line: &str, out: &mut String) -> io::Result<Answer> {
         let (word, words) = first_word(line);
         match word {
-            "" | "#" => Ok(true),
+            "" | "#" => Ok(Answer::Whole),
             "desk" => self.desk(nth, words, out),
             "rx" => self.datagram(nth, words, out),
             "reports" => self.reports(nth, words, out),
@@ -103,16 +103,16 @@ impl<'a> Bridge<'a> {
     }
 
     /// A call of an operator.
-    fn desk(&mut self, nth: u64, words: &str, out: &mut String) -> io::Result<bool> {
+    fn desk(&mut self, nth: u64, words: &str, out: &mut String) -> io::Result<Answer> {
         self.heap.refuse(nth);
         let asked = self.asked(words);
-        self.heap.refuse(0);
+        let met = self.heap.end(nth);
         match asked {
             Judged::Told(reply) => {
                 say_reply(self.heap, &reply, out)?;
-                Ok(true)
+                Ok(Answer::after(met))
             }
-            Judged::Refused => Ok(false),
+            Judged::Refused => Ok(Answer::Refused),
             Judged::Unread => unread(out),
         }
     }
@@ -137,7 +137,7 @@ impl<'a> Bridge<'a> {
     }
 
     /// A datagram, whose items wait.
-    fn datagram(&mut self, nth: u64, words: &str, out: &mut String) -> io::Result<bool> {
+    fn datagram(&mut self, nth: u64, words: &str, out: &mut String) -> io::Result<Answer> {
         let Some(arrival) = arrival_of(self.alloc, words) else {
             return unread(out);
         };
@@ -145,9 +145,9 @@ impl<'a> Bridge<'a> {
         let taken = self
             .core
             .datagram(self.heap, &arrival.from, arrival.moment, &arrival.octets);
-        self.heap.refuse(0);
+        let met = self.heap.end(nth);
         let Ok(ingest) = taken else {
-            return Ok(false);
+            return Ok(Answer::Refused);
         };
         say_outcome(ingest.outcome, out)?;
         for (to, octets) in &ingest.up {
@@ -156,93 +156,100 @@ impl<'a> Bridge<'a> {
         for item in ingest.items {
             self.waiting.push_back(item)?;
         }
-        Ok(true)
+        Ok(Answer::after(met))
     }
 
     /// The receiver reports of a moment.
-    fn reports(&mut self, nth: u64, words: &str, out: &mut String) -> io::Result<bool> {
+    fn reports(&mut self, nth: u64, words: &str, out: &mut String) -> io::Result<Answer> {
         let Ok(moment) = words.parse::<u64>() else {
             return unread(out);
         };
         self.heap.refuse(nth);
         let told = self.core.reports(self.heap, moment);
-        self.heap.refuse(0);
+        let met = self.heap.end(nth);
         let Ok(up) = told else {
-            return Ok(false);
+            return Ok(Answer::Refused);
         };
         for (to, octets) in &up {
             say_up(self.alloc, to, octets, out)?;
         }
-        Ok(true)
+        Ok(Answer::after(met))
     }
 
     /// All lanes handle an item, one after another.
-    fn item(&mut self, nth: u64, item: &Item<&'a Refusing>, out: &mut String) -> io::Result<bool> {
+    fn item(
+        &mut self,
+        nth: u64,
+        item: &Item<&'a Refusing>,
+        out: &mut String,
+    ) -> io::Result<Answer> {
         if !is_fit(item) {
             return unread(out);
         }
+        let mut answer = Answer::Whole;
         for lane in 0..16u32 {
             if lane as usize >= self.core.lanes() {
                 break;
             }
             self.heap.refuse(nth);
             let sent = self.core.item(self.heap, lane, item);
-            self.heap.refuse(0);
+            if self.heap.end(nth) {
+                answer = Answer::Anyway;
+            }
             let Ok(sent) = sent else {
-                return Ok(false);
+                return Ok(Answer::Refused);
             };
             for egress in &sent {
                 say_egress(self.heap, egress, out)?;
             }
         }
-        Ok(true)
+        Ok(answer)
     }
 
     /// The lanes handle the item that waits first. It goes on waiting where they refuse it.
-    fn next_item(&mut self, nth: u64, out: &mut String) -> io::Result<bool> {
+    fn next_item(&mut self, nth: u64, out: &mut String) -> io::Result<Answer> {
         let Some(item) = self.waiting.pop_front() else {
             return unread(out);
         };
-        let is_handled = self.item(nth, &item, out)?;
-        if !is_handled {
+        let answer = self.item(nth, &item, out)?;
+        if answer == Answer::Refused {
             self.waiting.push_front(item)?;
         }
-        Ok(is_handled)
+        Ok(answer)
     }
 
     /// A copy waits in place of the item that waits first.
-    fn copy(&mut self, nth: u64) -> io::Result<bool> {
+    fn copy(&mut self, nth: u64) -> io::Result<Answer> {
         let Some(item) = self.waiting.pop_front() else {
-            return Ok(true);
+            return Ok(Answer::Whole);
         };
         self.heap.refuse(nth);
         let copied = item.copy(self.heap);
-        self.heap.refuse(0);
+        let met = self.heap.end(nth);
         match copied {
             Ok(copy) => {
                 self.waiting.push_front(copy)?;
-                Ok(true)
+                Ok(Answer::after(met))
             }
             Err(_) => {
                 self.waiting.push_front(item)?;
-                Ok(false)
+                Ok(Answer::Refused)
             }
         }
     }
 
     /// A call that a bridge makes in parts.
-    fn direct(&self, nth: u64, word: &str, words: &str, out: &mut String) -> io::Result<bool> {
-        let is_answered = match (word, self.waiting.front(), words.parse::<u32>()) {
-            ("mix", _, _) => mix(self.alloc, self.heap, nth, out)?,
-            ("plan", _, Ok(member)) => plan(self.heap, self.core.rows(), nth, member, out)?,
-            ("stream", Some(item), _) => stream(self.alloc, self.heap, nth, item, out)?,
-            _ => return unread(out),
-        };
-        Ok(is_answered)
+    fn direct(&self, nth: u64, word: &str, words: &str, out: &mut String) -> io::Result<Answer> {
+        match (word, self.waiting.front(), words.parse::<u32>()) {
+            ("mix", _, _) => mix(self.alloc, self.heap, nth, out),
+            ("plan", _, Ok(member)) => plan(self.heap, self.core.rows(), nth, member, out),
+            ("stream", Some(item), _) => stream(self.alloc, self.heap, nth, item, out),
+            _ => unread(out),
+        }
     }
 
     /// A call of the desk whose calls are made in halves.
-    fn in_halves(&mut self, nth: u64, words: &str, out: &mut String) -> io::Result<bool> {
+    fn in_halves(&mut self, nth: u64, words: &str, out: &mut String) -> io::Result<Answer> {
         if self.halves.is_none() {
             self.halves = Some(Halves::new(self.heap)?);
         }
@@ -254,46 +261,48 @@ impl<'a> Bridge<'a> {
         };
         self.heap.refuse(nth);
         let answer = halves.call(&call);
-        self.heap.refuse(0);
+        let met = self.heap.end(nth);
         let reply = match answer {
             Ok(no) => Reply::Accepted { no },
-            Err(Refusal::OutOfMemory) => return Ok(false),
+            Err(Refusal::OutOfMemory) => return Ok(Answer::Refused),
             Err(why) => Reply::Refused {
                 at: halves.version(),
                 why,
             },
         };
         say_reply(self.heap, &reply, out)?;
-        Ok(true)
+        Ok(Answer::after(met))
     }
 
     /// The rows of the desk whose calls are made in halves, and of the rows that follow it.
-    fn both_rows(&self, out: &mut String) -> io::Result<bool> {
+    fn both_rows(&self, out: &mut String) -> io::Result<Answer> {
         let mut text = Vec::new(self.heap);
         if let Some(halves) = &self.halves {
             halves.print(&mut text)?;
         }
         say(&text, out)?;
-        Ok(true)
+        Ok(Answer::Whole)
     }
 
     /// The rows of the desk.
-    fn show(&self, nth: u64, out: &mut String) -> io::Result<bool> {
+    fn show(&self, nth: u64, out: &mut String) -> io::Result<Answer> {
         let mut text = Vec::new(self.heap);
         text.push(b'|')?;
         self.heap.refuse(nth);
         let is_shown = print_rows(self.core.rows(), self.core.version(), &mut text).is_ok();
-        self.heap.refuse(0);
+        let met = self.heap.end(nth);
         if is_shown {
             say(text.get(1..).unwrap_or(b""), out)?;
-        } else if text.as_slice() != b"|".as_slice() {
+            return Ok(Answer::after(met));
+        }
+        if text.as_slice() != b"|".as_slice() {
             out.push_str("a part of ")?;
         }
-        Ok(is_shown)
+        Ok(Answer::Refused)
     }
 
     /// Undoes all that is done, and says how much that was.
-    fn all_back(&mut self, out: &mut String) -> io::Result<bool> {
+    fn all_back(&mut self, out: &mut String) -> io::Result<Answer> {
         let mut count: u64 = 0;
         for _ in 0..MOST {
             let last = self.core.version();
@@ -303,11 +312,11 @@ impl<'a> Bridge<'a> {
             count = count.saturating_add(1);
         }
         write!(out, "undone {count}\n")?;
-        Ok(true)
+        Ok(Answer::Whole)
     }
 
     /// Does again all that was undone, and says how much that was.
-    fn all_again(&mut self, out: &mut String) -> io::Result<bool> {
+    fn all_again(&mut self, out: &mut String) -> io::Result<Answer> {
         let mut count: u64 = 0;
         for _ in 0..MOST {
             let last = self.core.version();
@@ -317,6 +326,6 @@ impl<'a> Bridge<'a> {
             count = count.saturating_add(1);
         }
         write!(out, "redone {count}\n")?;
-        Ok(true)
+        Ok(Answer::Whole)
     }
 }

@@ -1,11 +1,13 @@
 //! Calls that a bridge makes in parts, each on its own.
 
+use crate::lines::Answer;
 use bridge_core::{Item, PacketBytes};
 use desk_rows::{Codec, Rows};
 use forward_rewrite::{MixStream, Owner, Stamp, Stream};
 use refusing::Refusing;
 use rtp_codec::Address;
 use std::alloc::{AllocError, Global};
+use std::io;
 use topology::mix_plan;
 
 /// Appends the line of a packet.
@@ -21,17 +23,16 @@ fn say_packet<'a>(
     write!(out, "packet {number} {header}{rest}\n")
 }
 
-/// Appends the packets of a frame on a new stream, of the SSRC 501 with the number 65535 and the timestamp 1000 first. False where memory
-/// is refused.
+/// Appends the packets of a frame on a new stream, of the SSRC 501 with the number 65535 and the timestamp 1000 first.
 pub fn stream<'a>(
     alloc: Global,
     heap: &'a Refusing,
     nth: u64,
     item: &Item<&'a Refusing>,
     out: &mut String,
-) -> Result<bool, AllocError> {
+) -> io::Result<Answer> {
     let Item::Frame(frame) = item else {
-        return Ok(true);
+        return Ok(Answer::Whole);
     };
     let stamp = Stamp {
         version: 6,
@@ -50,52 +51,52 @@ pub fn stream<'a>(
         Ok(mut stream) => stream.send(heap, frame, stamp, owner),
         Err(error) => Err(error),
     };
-    heap.refuse(0);
+    let met = heap.end(nth);
     let Ok(sent) = sent else {
-        return Ok(false);
+        return Ok(Answer::Refused);
     };
     for packet in &sent {
         say_packet(alloc, packet.number, &packet.bytes, out)?;
     }
-    Ok(true)
+    Ok(Answer::after(met))
 }
 
 /// Appends the packet of a mix of two samples of the source 102 on a new stream, of the SSRC 9002 with the number 65535 and the timestamp
-/// 1000 first. False where memory is refused.
+/// 1000 first.
 pub fn mix<'a>(
     alloc: Global,
     heap: &'a Refusing,
     nth: u64,
     out: &mut String,
-) -> Result<bool, AllocError> {
+) -> io::Result<Answer> {
     let mut stream = MixStream::new(9_002, 65_535, 1_000);
     heap.refuse(nth);
     let sent = stream.send(heap, Codec::L16, &[102], &[1, -2], 0);
-    heap.refuse(0);
+    let met = heap.end(nth);
     let Ok(packet) = sent else {
-        return Ok(false);
+        return Ok(Answer::Refused);
     };
     say_packet(alloc, packet.number, &packet.bytes, out)?;
-    Ok(true)
+    Ok(Answer::after(met))
 }
 
-/// Appends the sources of a member's mix, each with its gain. False where memory is refused.
+/// Appends the sources of a member's mix, each with its gain.
 pub fn plan<'a>(
     heap: &'a Refusing,
     rows: &Rows<&'a Refusing>,
     nth: u64,
     member: u32,
     out: &mut String,
-) -> Result<bool, AllocError> {
+) -> io::Result<Answer> {
     heap.refuse(nth);
     let planned = mix_plan(heap, rows, member);
-    heap.refuse(0);
+    let met = heap.end(nth);
     let Ok(sources) = planned else {
-        return Ok(false);
+        return Ok(Answer::Refused);
     };
     for source in &sources {
         let (ssrc, gain) = (source.ssrc, source.gain);
         write!(out, "hears {ssrc} {gain}\n")?;
     }
-    Ok(true)
+    Ok(Answer::after(met))
 }

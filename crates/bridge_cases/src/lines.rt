@@ -9,6 +9,28 @@ use std::alloc::Global;
 /// More requests than any call makes.
 pub const MOST: u64 = 100_000;
 
+/// How a line was answered while a request for memory was refused.
+#[derive(Clone, Copy, PartialEq, Eq)]
+pub enum Answer {
+    /// The bridge refuses the line for want of memory.
+    Refused,
+    /// The line is answered, though a request was refused: there was another way.
+    Anyway,
+    /// The line makes fewer requests.
+    Whole,
+}
+
+impl Answer {
+    /// The answer of a line that is answered, after a request was refused or not.
+    pub fn after(is_refused: bool) -> Self {
+        if is_refused {
+            Answer::Anyway
+        } else {
+            Answer::Whole
+        }
+    }
+}
+
 /// A line is cut into its first word and the rest.
 pub fn first_word(line: &str) -> (&str, &str) {
     line.split_once(" ").unwrap_or((line, ""))

@@ -34,7 +34,7 @@ pub fn say_egress<'a>(
         text.push(b'|')?;
         heap.refuse(nth);
         let is_printed = print_egress(egress, &mut text).is_ok();
-        heap.refuse(0);
+        heap.end(nth);
         if is_printed {
             return say(text.get(1..).unwrap_or(b""), out);
         }

@@ -2,7 +2,7 @@
 
 use crate::bridge::Bridge;
 use crate::case::Case;
-use crate::lines::MOST;
+use crate::lines::{Answer, MOST};
 use refusing::Refusing;
 use std::alloc::{AllocError, Global};
 use std::io;
@@ -10,12 +10,12 @@ use std::io;
 /// What a bridge has answered.
 #[derive(Drop)]
 struct Told {
-    /// Whether it has refused a line for want of memory.
-    is_refused: bool,
+    /// How it has answered the line whose request was refused.
+    answer: Answer,
     text: String,
 }
 
-/// A new bridge answers the case's first lines, then its refused line with the request of this number refused, and then others.
+/// A new bridge answers the case's first lines, then one with the request of this number refused, and then others.
 fn said(alloc: Global, case: &Case, line: &str, nth: u64, others: &str) -> io::Result<Told> {
     let heap = Refusing::new(alloc);
     let Some(mut bridge) = Bridge::new(alloc, &heap, case.lanes) else {
@@ -25,19 +25,16 @@ fn said(alloc: Global, case: &Case, line: &str, nth: u64, others: &str) -> io::R
     for line in case.before.lines() {
         bridge.line(0, line, &mut text)?;
     }
-    let is_answered = bridge.line(nth, line, &mut text)?;
+    let answer = bridge.line(nth, line, &mut text)?;
     for line in others.lines() {
         bridge.line(0, line, &mut text)?;
     }
-    Ok(Told {
-        is_refused: !is_answered,
-        text,
-    })
+    Ok(Told { answer, text })
 }
 
-/// The answer of one bridge that refuses the line at each of its requests in turn, until it makes no more, and how often it does.
-/// Where a refusal shows, the answer has that.
-fn said_at_last(alloc: Global, case: &Case) -> io::Result<(String, u64)> {
+/// The answer of one bridge that refuses the line at each of its requests in turn, until it answers. Where other rows are shown after a
+/// refusal, the answer has that.
+fn said_at_last(alloc: Global, case: &Case) -> io::Result<String> {
     let heap = Refusing::new(alloc);
     let Some(mut bridge) = Bridge::new(alloc, &heap, case.lanes) else {
         return Err(io::Error::from(AllocError));
@@ -48,12 +45,10 @@ fn said_at_last(alloc: Global, case: &Case) -> io::Result<(String, u64)> {
     }
     let mut before = String::new(alloc);
     bridge.line(0, "show", &mut before)?;
-    let mut refusals: u64 = 0;
     for nth in 1..MOST {
-        if bridge.line(nth, case.refused.as_str(), &mut text)? {
+        if bridge.line(nth, case.refused.as_str(), &mut text)? != Answer::Refused {
             break;
         }
-        refusals = nth;
         let mut shown = String::new(alloc);
         bridge.line(0, "show", &mut shown)?;
         if shown != before {
@@ -63,7 +58,7 @@ fn said_at_last(alloc: Global, case: &Case) -> io::Result<(String, u64)> {
     for line in case.after.lines() {
         bridge.line(0, line, &mut text)?;
     }
-    Ok((text, refusals))
+    Ok(text)
 }
 
 /// Prints the first line that is another one than is wanted.
@@ -86,15 +81,23 @@ fn print_difference(
     println!(rt; "{name}, {when}: the end is wanted, and not {line}")
 }
 
-/// The number of the first request that is refused without the bridge being as before, if there is one, and what it says then.
-fn first_change(alloc: Global, case: &Case, before: &str) -> io::Result<Option<(u64, String)>> {
+/// How many requests the line makes, if the bridge is as before after each refusal, or as after an answer where it answers anyway.
+/// Prints what isn't.
+fn requests(rt: &HostRuntime, alloc: Global, case: &Case) -> io::Result<Option<u64>> {
+    let line = case.refused.as_str();
+    let before = said(alloc, case, "", 0, case.asked.as_str())?;
+    let after = said(alloc, case, line, 0, case.asked.as_str())?;
     for nth in 1..MOST {
-        let said = said(alloc, case, case.refused.as_str(), nth, case.asked.as_str())?;
-        if !said.is_refused {
+        let told = said(alloc, case, line, nth, case.asked.as_str())?;
+        let want = match told.answer {
+            Answer::Whole => return Ok(Some(nth - 1)),
+            Answer::Anyway => after.text.as_str(),
+            Answer::Refused => before.text.as_str(),
+        };
+        if told.text.as_str() != want {
+            let when = format!(in alloc; "asked after refusal {nth}")?;
+            print_difference(rt, case, when.as_str(), want, told.text.as_str())?;
             return Ok(None);
-        }
-        if said.text.as_str() != before {
-            return Ok(Some((nth, said.text)));
         }
     }
     Ok(None)
@@ -111,16 +114,13 @@ pub fn is_tried(rt: &HostRuntime, alloc: Global, case: &Case) -> io::Result<bool
     if case.refused.is_empty() {
         return Ok(true);
     }
-    let before = said(alloc, case, "", 0, case.asked.as_str())?;
-    if let Some((nth, text)) = first_change(alloc, case, before.text.as_str())? {
-        let when = format!(in alloc; "asked after refusal {nth}")?;
-        print_difference(rt, case, when.as_str(), before.text.as_str(), text.as_str())?;
+    let Some(requests) = requests(rt, alloc, case)? else {
         return Ok(false);
-    }
-    let (text, refusals) = said_at_last(alloc, case)?;
+    };
+    let text = said_at_last(alloc, case)?;
     let name = case.name.as_str();
-    eprintln!(rt; "{name}: {refusals} requests")?;
-    if text.as_str() != wanted || (refusals == 0) != case.takes_none {
+    eprintln!(rt; "{name}: {requests} requests")?;
+    if text.as_str() != wanted || (requests == 0) != case.takes_none {
         print_difference(rt, case, "after all refusals", wanted, text.as_str())?;
         return Ok(false);
     }

@@ -25,9 +25,11 @@ impl<B: Allocator> Refusing<B> {
         self.left.set(nth);
     }
 
-    /// How many requests were made since `refuse` was called with this number.
-    pub fn asked(&self, nth: u64) -> u64 {
-        nth.wrapping_sub(self.left.get())
+    /// From now on none is refused. Tells whether the request of this number was, which `refuse` was called with last.
+    pub fn end(&self, nth: u64) -> bool {
+        let asked = nth.wrapping_sub(self.left.get());
+        self.left.set(0);
+        nth != 0 && nth <= asked
     }
 }
 
