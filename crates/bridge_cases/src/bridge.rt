@@ -3,16 +3,16 @@
 ghost use Rattle.std.specs.Prelude.{◌≡◌, true, OnTrue};
 ghost use Rattle.intake.specs.Inputs.{input_of, is_sized};
 
-use crate::direct::{mix, plan, stream};
-use crate::halves::Halves;
-use crate::lines::{Answer, MOST, arrival_of, first_word, nack};
+use crate::direct::direct;
+use crate::halves::Besides;
+use crate::lines::{Answer, MOST, arrival_of, first_word, nack, unread};
 use crate::saying::{say, say_egress, say_outcome, say_reply, say_up};
 use bridge_core::{Core, Item, Reply, Settings};
 use bytes::Bytes;
 use desk_edit::{Call, Refusal};
 use refusing::Refusing;
 use script_text::{ParseFault, parse_desk, print_rows};
-use std::alloc::Global;
+use std::alloc::{AllocError, Global};
 use std::collections::VecDeque;
 use std::io;
 
@@ -23,7 +23,7 @@ pub struct Bridge<'a> {
     heap: &'a Refusing,
     core: Core<&'a Refusing>,
     waiting: VecDeque<Item<&'a Refusing>, &'a Refusing>,
-    halves: Option<Halves<'a>>,
+    halves: Besides<'a>,
 }
 
 /// What a line of the desk comes to.
@@ -43,10 +43,11 @@ fn is_fit<'a>(item: &Item<&'a Refusing>) -> bool
     }
 }
 
-/// A line that can't be read is answered so.
-fn unread(out: &mut String) -> io::Result<Answer> {
-    out.push_str("unread\n")?;
-    Ok(Answer::Whole)
+fn copied<'a>(
+    heap: &'a Refusing,
+    item: &Item<&'a Refusing>,
+) -> Result<Item<&'a Refusing>, AllocError> {
+    item.copy(heap)
 }
 
 impl<'a> Bridge<'a> {
@@ -61,7 +62,7 @@ impl<'a> Bridge<'a> {
             heap,
             core: Core::new(heap, lanes, settings).ok()?,
             waiting: VecDeque::new(heap),
-            halves: None,
+            halves: Besides::new(heap),
         })
     }
 
@@ -75,9 +76,12 @@ impl<'a> Bridge<'a> {
             "reports" => self.reports(nth, words, out),
             "item" => self.next_item(nth, out),
             "copy" => self.copy(nth),
-            "stream" | "mix" | "plan" => self.direct(nth, word, words, out),
-            "halves" => self.in_halves(nth, words, out),
-            "halved" => self.both_rows(out),
+            "gate" | "mix" | "plan" | "roster" | "stream" => {
+                let first = self.waiting.front();
+                let rows = self.core.rows();
+                direct(self.alloc, self.heap, rows, first, nth, word, words, out)
+            }
+            "halves" | "halved" => self.halves.line(nth, word, words, out),
             "show" => self.show(nth, out),
             "undone" => self.all_back(out),
             "redone" => self.all_again(out),
@@ -224,7 +228,7 @@ impl<'a> Bridge<'a> {
             return Ok(Answer::Whole);
         };
         self.heap.refuse(nth);
-        let copied = item.copy(self.heap);
+        let copied = copied(self.heap, &item);
         let met = self.heap.end(nth);
         match copied {
             Ok(copy) => {
@@ -236,52 +240,6 @@ impl<'a> Bridge<'a> {
                 Ok(Answer::Refused)
             }
         }
-    }
-
-    /// A call that a bridge makes in parts.
-    fn direct(&self, nth: u64, word: &str, words: &str, out: &mut String) -> io::Result<Answer> {
-        match (word, self.waiting.front(), words.parse::<u32>()) {
-            ("mix", _, _) => mix(self.alloc, self.heap, nth, out),
-            ("plan", _, Ok(member)) => plan(self.heap, self.core.rows(), nth, member, out),
-            ("stream", Some(item), _) => stream(self.alloc, self.heap, nth, item, out),
-            _ => unread(out),
-        }
-    }
-
-    /// A call of the desk whose calls are made in halves.
-    fn in_halves(&mut self, nth: u64, words: &str, out: &mut String) -> io::Result<Answer> {
-        if self.halves.is_none() {
-            self.halves = Some(Halves::new(self.heap)?);
-        }
-        let Some(halves) = &mut self.halves else {
-            return unread(out);
-        };
-        let Ok(call) = parse_desk(self.heap, words.as_bytes()) else {
-            return unread(out);
-        };
-        self.heap.refuse(nth);
-        let answer = halves.call(&call);
-        let met = self.heap.end(nth);
-        let reply = match answer {
-            Ok(no) => Reply::Accepted { no },
-            Err(Refusal::OutOfMemory) => return Ok(Answer::Refused),
-            Err(why) => Reply::Refused {
-                at: halves.version(),
-                why,
-            },
-        };
-        say_reply(self.heap, &reply, out)?;
-        Ok(Answer::after(met))
-    }
-
-    /// The rows of the desk whose calls are made in halves, and of the rows that follow it.
-    fn both_rows(&self, out: &mut String) -> io::Result<Answer> {
-        let mut text = Vec::new(self.heap);
-        if let Some(halves) = &self.halves {
-            halves.print(&mut text)?;
-        }
-        say(&text, out)?;
-        Ok(Answer::Whole)
     }
 
     /// The rows of the desk.

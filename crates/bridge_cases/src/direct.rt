@@ -1,9 +1,11 @@
 //! Calls that a bridge makes in parts, each on its own.
 
-use crate::lines::Answer;
+use crate::lines::{Answer, unread};
 use bridge_core::{Item, PacketBytes};
+use bytes::Bytes;
 use desk_rows::{Codec, Rows};
-use forward_rewrite::{MixStream, Owner, Stamp, Stream};
+use forward_rewrite::{MediaFrame, MixStream, OutPacket, Owner, Stamp, Stream};
+use frame_gate::{Gate, Packet};
 use refusing::Refusing;
 use rtp_codec::Address;
 use std::alloc::{AllocError, Global};
@@ -23,8 +25,19 @@ fn say_packet<'a>(
     write!(out, "packet {number} {header}{rest}\n")
 }
 
+/// A frame's packets as the first ones of a stream.
+fn sent_first<'a>(
+    heap: &'a Refusing,
+    frame: &MediaFrame<&'a Refusing>,
+    stamp: Stamp,
+    owner: Owner,
+) -> Result<Vec<OutPacket<&'a Refusing>, &'a Refusing>, AllocError> {
+    let mut stream = Stream::new(heap, 501, 65_535, 1_000)?;
+    stream.send(heap, frame, stamp, owner)
+}
+
 /// Appends the packets of a frame on a new stream, of the SSRC 501 with the number 65535 and the timestamp 1000 first.
-pub fn stream<'a>(
+fn stream<'a>(
     alloc: Global,
     heap: &'a Refusing,
     nth: u64,
@@ -46,11 +59,7 @@ pub fn stream<'a>(
         },
     };
     heap.refuse(nth);
-    let made = Stream::new(heap, 501, 65_535, 1_000);
-    let sent = match made {
-        Ok(mut stream) => stream.send(heap, frame, stamp, owner),
-        Err(error) => Err(error),
-    };
+    let sent = sent_first(heap, frame, stamp, owner);
     let met = heap.end(nth);
     let Ok(sent) = sent else {
         return Ok(Answer::Refused);
@@ -63,12 +72,7 @@ pub fn stream<'a>(
 
 /// Appends the packet of a mix of two samples of the source 102 on a new stream, of the SSRC 9002 with the number 65535 and the timestamp
 /// 1000 first.
-pub fn mix<'a>(
-    alloc: Global,
-    heap: &'a Refusing,
-    nth: u64,
-    out: &mut String,
-) -> io::Result<Answer> {
+fn mix<'a>(alloc: Global, heap: &'a Refusing, nth: u64, out: &mut String) -> io::Result<Answer> {
     let mut stream = MixStream::new(9_002, 65_535, 1_000);
     heap.refuse(nth);
     let sent = stream.send(heap, Codec::L16, &[102], &[1, -2], 0);
@@ -80,8 +84,29 @@ pub fn mix<'a>(
     Ok(Answer::after(met))
 }
 
+/// Answers the line of such a call.
+pub fn direct<'a>(
+    alloc: Global,
+    heap: &'a Refusing,
+    rows: &Rows<&'a Refusing>,
+    first: Option<&Item<&'a Refusing>>,
+    nth: u64,
+    word: &str,
+    words: &str,
+    out: &mut String,
+) -> io::Result<Answer> {
+    match (word, first, words.parse::<u32>()) {
+        ("gate", _, _) => gate(heap, nth, out),
+        ("mix", _, _) => mix(alloc, heap, nth, out),
+        ("plan", _, Ok(member)) => plan(heap, rows, nth, member, out),
+        ("roster", _, Ok(room)) => roster(heap, rows, nth, room, out),
+        ("stream", Some(item), _) => stream(alloc, heap, nth, item, out),
+        _ => unread(out),
+    }
+}
+
 /// Appends the sources of a member's mix, each with its gain.
-pub fn plan<'a>(
+fn plan<'a>(
     heap: &'a Refusing,
     rows: &Rows<&'a Refusing>,
     nth: u64,
@@ -97,6 +122,63 @@ pub fn plan<'a>(
     for source in &sources {
         let (ssrc, gain) = (source.ssrc, source.gain);
         write!(out, "hears {ssrc} {gain}\n")?;
+    }
+    Ok(Answer::after(met))
+}
+
+/// Appends the members of a room, by place.
+fn roster<'a>(
+    heap: &'a Refusing,
+    rows: &Rows<&'a Refusing>,
+    nth: u64,
+    room: u32,
+    out: &mut String,
+) -> io::Result<Answer> {
+    heap.refuse(nth);
+    let listed = rows.roster(heap, room);
+    let met = heap.end(nth);
+    let Ok(members) = listed else {
+        return Ok(Answer::Refused);
+    };
+    for member in &members {
+        write!(out, "has {member}\n")?;
+    }
+    Ok(Answer::after(met))
+}
+
+/// How many frames a gate closes and how many numbers it finds missing, at the end of a frame, at the last packet of a frame of two, and at
+/// its first one.
+fn admitted<'a>(heap: &'a Refusing) -> Result<Vec<(usize, usize), &'a Refusing>, AllocError> {
+    let mut gate = Gate::new(heap)?;
+    let mut counts = Vec::new(heap);
+    let packets = [
+        (101, true, 9_000),
+        (103, true, 12_000),
+        (102, false, 12_000),
+    ];
+    for (ext, marker, ts) in packets {
+        let packet = Packet {
+            marker,
+            pt: 100,
+            ts,
+            payload: Bytes::copy_from_slice(heap, &[0xaa])?,
+        };
+        let admitted = gate.admit(heap, ext, packet).map_err(|_| AllocError)?;
+        counts.push((admitted.frames.len(), admitted.nacks.len()))?;
+    }
+    Ok(counts)
+}
+
+/// Appends what a new gate makes of three packets.
+fn gate<'a>(heap: &'a Refusing, nth: u64, out: &mut String) -> io::Result<Answer> {
+    heap.refuse(nth);
+    let told = admitted(heap);
+    let met = heap.end(nth);
+    let Ok(counts) = told else {
+        return Ok(Answer::Refused);
+    };
+    for (frames, missing) in &counts {
+        write!(out, "gate {frames} {missing}\n")?;
     }
     Ok(Answer::after(met))
 }

@@ -5,6 +5,7 @@ use refusing::Refusing;
 use rtp_codec::Address;
 use script_text::parse_address;
 use std::alloc::Global;
+use std::io;
 
 /// More requests than any call makes.
 pub const MOST: u64 = 100_000;
@@ -29,6 +30,12 @@ impl Answer {
             Answer::Whole
         }
     }
+}
+
+/// A line that can't be read is answered so.
+pub fn unread(out: &mut String) -> io::Result<Answer> {
+    out.push_str("unread\n")?;
+    Ok(Answer::Whole)
 }
 
 /// A line is cut into its first word and the rest.

@@ -3,7 +3,7 @@
 use crate::case::Case;
 use crate::lines::MOST;
 use refusing::Refusing;
-use script_text::{RunFault, run};
+use script_text::{RunFault, output, run};
 use std::alloc::Global;
 use std::io;
 
@@ -24,7 +24,8 @@ pub fn is_run(rt: &HostRuntime, alloc: Global, case: &Case) -> io::Result<bool> 
         last = out.len();
         if answer == Ok(()) {
             eprintln!(rt; "{name}: {nth} requests")?;
-            return Ok(out.as_slice() == wanted && nth > 1);
+            let is_output = is_output(alloc, case);
+            return Ok(out.as_slice() == wanted && is_output && nth > 1);
         }
         if answer != Err(RunFault::OutOfMemory) || !wanted.starts_with(&out) || !is_next {
             println!(rt; "{name}: after {last} octets at request {nth}")?;
@@ -38,4 +39,12 @@ pub fn is_run(rt: &HostRuntime, alloc: Global, case: &Case) -> io::Result<bool> 
 /// Whether the answer to a line ends between two places.
 fn is_one_between(case: &Case, last: usize, next: usize) -> bool {
     case.ends.iter().any(|end| last < *end && *end < next)
+}
+
+/// Whether the script's output at once is the wanted one.
+fn is_output(alloc: Global, case: &Case) -> bool {
+    match output(alloc, case.before.as_bytes()) {
+        Ok(text) => text.as_slice() == case.wanted.as_bytes(),
+        Err(_) => false,
+    }
 }

@@ -15,8 +15,8 @@ from lib.shared import CRATES, crates
 
 NEEDS = "nothing"
 
-TESTS = {"codec_tests", "desk_tests", "version_tests", "bridge_tests"}
-PROGRAMS = {"confbridge", "worked_versions", "worked_operators", "codec_cases", "source_cases", "script_cases", "front_cases"}
+TESTS = {"desk_tests", "version_tests", "bridge_tests"}
+PROGRAMS = {"confbridge", "worked_versions", "worked_operators", "codec_cases", "source_cases", "script_cases", "bridge_cases", "front_cases"}
 
 FN = re.compile(r"(?P<vis>pub(?:\(crate\))? |)(?:const )?fn (?P<name>\w+)\s*(?:<[^(]*>)?\(")
 IMPL = re.compile(r"^(?:impl|pub trait|trait)\b(?:<[^{]*?>)?\s*(?:[\w:]+(?:<[^{]*>)? for )?(?P<owner>\w+)[^{]*\{", re.M)
