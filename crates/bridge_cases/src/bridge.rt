@@ -1,6 +1,7 @@
 //! A bridge that is called by lines.
 
-ghost use Rattle.std.specs.Prelude.{◌≡◌, true, OnTrue};
+ghost use Rattle.std.specs.Prelude.{◌≡◌, true};
+ghost use Rattle.std.specs.Bool.{OnTrue};
 ghost use Rattle.intake.specs.Inputs.{input_of, is_sized};
 
 use crate::direct::direct;

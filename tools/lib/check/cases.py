@@ -1,13 +1,13 @@
-"""Tries the cases of scripts and codecs.
+"""Tries the cases of scripts, calls and codecs.
 
-The programs of script_cases and codec_cases are built without proofs. Sections that take them too long are left out: those
+The programs of script_cases, bridge_cases and codec_cases are built without proofs. Sections that take them too long are left out: those
 that fill the desk's tables and its log, and those of many datagrams and random calls. A program that doesn't answer within
 the toolchain's time, as on a busy machine, says nothing of its cases: this is printed, and is no failure.
 """
 
 from lib.shared import CRATES, tried
 
-NEEDS = "`rt`, two minutes"
+NEEDS = "`rt`, three minutes"
 
 # Sections of crates/script_cases/stdin that take too long.
 LONG = {"no desk", "many datagrams", "large requests and reports", "random calls"}
@@ -46,5 +46,9 @@ def are_good(crate, text):
 def run(_args):
     scripts = short_sections((CRATES / "script_cases" / "stdin").read_text())
     paths = sorted((CRATES / "codec_cases" / "data").glob("*.txt"))
-    good = [are_good("script_cases", scripts), are_good("codec_cases", "".join(f"{path}\n" for path in paths))]
+    good = [
+        are_good("script_cases", scripts),
+        are_good("bridge_cases", (CRATES / "bridge_cases" / "stdin").read_text()),
+        are_good("codec_cases", "".join(f"{path}\n" for path in paths)),
+    ]
     return 0 if all(good) else 1
