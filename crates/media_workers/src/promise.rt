@@ -1,0 +1,27 @@
+//! What a lane's thread promises.
+
+ghost use Rattle.media_workers.specs.inner.Threads.{IsRunOf};
+
+use crate::lane::Lane;
+use crate::lane_end::LaneEnd;
+use crate::pace::Pace;
+use crate::parcel::{FitParcels, Parcel};
+use crate::publisher_name::PublisherName;
+use bridge_core::Egress;
+use rtrb::{Consumer, Producer};
+use std::alloc::Global;
+use std::snapshot::Snapshot;
+use std::thread::Promise;
+
+/// What a lane's run began with.
+#[derive(Drop)]
+pub struct RunOf<N: PublisherName, P: Pace> {
+    pub lane: Snapshot<Lane>,
+    pub consumer: Snapshot<Consumer<Parcel, Global, FitParcels<N>>>,
+    pub sink: Snapshot<Producer<Egress>>,
+    pub pace: Snapshot<P>,
+}
+
+impl<N: PublisherName, P: Pace> Promise<LaneEnd<N, Producer<Egress>>> for RunOf<N, P> {
+    ghost kept_by = { λ p r. IsRunOf P.answers p.lane.value p.consumer.value p.sink.value p.pace.value r };
+}

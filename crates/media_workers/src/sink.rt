@@ -1,0 +1,55 @@
+//! Where a lane puts what it sends.
+
+ghost use Rattle.std.specs.Prelude.{◌≡◌, List, [], ◌∷◌, ◌++◌};
+ghost use Rattle.std.specs.declared.alloc.Global.{Global};
+ghost use Rattle.rtrb.specs.Ring.{sent, IsPair};
+ghost use Rattle.rtrb.specs.declared.consumer.Consumer.{Consumer};
+ghost use Rattle.rtrb.specs.declared.AnyItems.{AnyItems};
+ghost use Rattle.bridge_core.specs.declared.egress.Egress.{Egress};
+
+use bridge_core::Egress;
+use rtrb::{Producer, PushError};
+use std::sync::Wait;
+use std::thread;
+
+/// Takes what a lane sends. Contracts see it as the list of what it took.
+pub trait Sink {
+    ghost taken: { Self → List (Egress Global) };
+
+    /// What it takes comes out there.
+    ghost feeds: { Self → Consumer (Egress Global) Global AnyItems → Type 0 };
+
+    /// Takes one more. It may wait.
+    fn put<R: Wait>(&mut self, rt: &R, egress: Egress)
+        ensures taken { taken self.new ≡ taken self.old ++ egress ∷ [] }
+        ensures feeds { (c : Consumer (Egress Global) Global AnyItems) → feeds self.old c → feeds self.new c };
+}
+
+/// A ring, which waits while it is full.
+impl Sink for Producer<Egress> {
+    ghost taken = { sent };
+
+    ghost feeds = { IsPair };
+
+    fn put<R: Wait>(&mut self, rt: &R, egress: Egress) {
+        let mut egress = egress;
+        for _ in rt.forever() {
+            match self.push(egress) {
+                Ok(()) => return,
+                Err(PushError::Full(back)) => egress = back,
+            }
+            thread::yield_now();
+        }
+        unreachable!()
+    }
+}
+
+/// Puts all of these, in their order.
+pub(crate) fn put_all<R: Wait, S: Sink>(rt: &R, sink: &mut S, all: Vec<Egress>)
+    ensures taken { S.taken sink.new ≡ S.taken sink.old ++ all.items }
+    ensures feeds { (c : Consumer (Egress Global) Global AnyItems) → S.feeds sink.old c → S.feeds sink.new c }
+{
+    for egress in all {
+        sink.put(rt, egress);
+    }
+}
