@@ -1,0 +1,119 @@
+-- A lane's ring ends, and what was given and accepted.
+use Rattle.std.proofs.Common.{◌≡◌, ℕ, Bool, true, false, List, [], ◌∷◌, ◌++◌, map, Option, Some, None, is_some, option_map, refl, ap, sym, subst, ◌∙◌, append_assoc}
+use Rattle.std.proofs.lemmas.List.{append-nil}
+use Rattle.std.specs.declared.alloc.Global.{Global}
+use mathlib.Core.List.{IsPrefix}
+use Rattle.rtrb.specs.Ring.{IsPair, SameProducer, SameConsumer}
+use Rattle.rtrb.specs.declared.producer.Producer.{Producer}
+use Rattle.rtrb.specs.declared.consumer.Consumer.{Consumer}
+use Rattle.bridge_core.specs.Sent.{sent_of}
+use Rattle.bridge_core.specs.declared.egress.Egress.{Egress}
+use Rattle.media_workers.specs.declared.parcel.Parcel.{Parcel}
+use Rattle.media_workers.specs.declared.parcel.Parcel.TheVariants.{Work, End}
+use Rattle.media_workers.specs.Parcels.{works}
+use Rattle.media_workers.specs.LaneRuns.{LaneNow, Ran, RunEnd, Traffic}
+use Rattle.media_workers.specs.Ports.{PortOf, accept, Ended}
+use Rattle.media_workers.specs.Bridges.{EndOf}
+use Rattle.media_workers.specs.inner.Threads.{is_end, ending, ParcelsIn, EgressOut, IsRunOf, IsTied, popped_by}
+use Rattle.media_workers.proofs.Prefixes.{IsPrefix-refl, IsPrefix-trans}
+
+-- ---- rings
+
+pub IsPair-sent : {T A P : Type 0} (p q : Producer T A P) (c : Consumer T A P) → IsPair p c → SameProducer p q → IsPair q c
+IsPair-sent p q c pair same = (pair.0 ∙ sym same.0.0, pair.1 ∙ sym same.0.1, pair.2 ∙ sym same.0.2, pair.3 ∙ sym same.0.3)
+
+-- ---- what was accepted
+
+works-append : (xs ys : List Parcel) → works (xs ++ ys) ≡ works xs ++ works ys
+works-append [] ys = refl
+works-append (Work item notice ∷ xs) ys = ap (λ w. Work item notice ∷ w) (works-append xs ys)
+works-append (End ∷ xs) ys = works-append xs ys
+
+-- no parcel is an End
+abbrev HaveNoEnd : List Parcel → Type 0
+HaveNoEnd [] = Unit {0}
+HaveNoEnd (p ∷ ps) = (is_end p ≡ false) × HaveNoEnd ps
+
+works_have_no_end : (ps : List Parcel) → HaveNoEnd (works ps)
+works_have_no_end [] = tt
+works_have_no_end (Work item notice ∷ ps) = (refl, works_have_no_end ps)
+works_have_no_end (End ∷ ps) = works_have_no_end ps
+
+something_ends : (front after : List Parcel) → front ++ End ∷ after ≡ [] → ⊥
+something_ends [] after e = cc (e)
+something_ends (p ∷ front) after e = cc (e)
+
+-- nothing follows an End
+end_is_last : (front after ws : List Parcel) (closed : Bool) → HaveNoEnd ws → front ++ End ∷ after ≡ ws ++ ending closed → after ≡ []
+end_is_last [] after [] true clean e = cc (e)
+end_is_last [] after [] false clean e = absurd (something_ends [] after e)
+end_is_last (p ∷ front) after [] true clean e = absurd (something_ends front after (cc (e)))
+end_is_last (p ∷ front) after [] false clean e = absurd (something_ends (p ∷ front) after e)
+end_is_last [] after (w ∷ ws) closed clean e =
+    let f : End ≡ w = cc (e) in
+    let last : true ≡ is_end w = ap is_end f in
+    absurd (cc (clean.0, last))
+end_is_last (p ∷ front) after (w ∷ ws) closed clean e = end_is_last front after ws closed clean.1 (cc (e))
+
+pub tied_pushed : (pushed : List Parcel) (p : Parcel) (got : List (Egress Global)) (given : Option (List (Egress Global))) (closed : Bool)
+    → closed ≡ is_end p → IsTied pushed false got given → IsTied (pushed ++ p ∷ []) closed got given
+tied_pushed pushed (Work item notice) got given closed is tied =
+    let none : pushed ≡ works pushed = tied.whole ∙ append-nil _ in
+    record {
+      whole = rw (is, works-append pushed (Work item notice ∷ [])) (ap (λ w. w ++ Work item notice ∷ []) none ∙ sym (append-nil _));
+      before = tied.before;
+    }
+tied_pushed pushed End got given closed is tied =
+    let none : pushed ≡ works pushed = tied.whole ∙ append-nil _ in
+    record {
+      whole = rw (is, works-append pushed (End ∷ [])) (ap (λ w. w ++ End ∷ []) (none ∙ sym (append-nil _)));
+      before = tied.before;
+    }
+
+-- what was pushed is accepted
+pub accepts : {P : Type 0} (old : PortOf P) (pushed now : List Parcel) (p : Parcel) (closed : Bool)
+    → old.accepted ≡ works pushed → old.closed ≡ false → closed ≡ is_end p → now ≡ pushed ++ p ∷ []
+    → record { lane = old.lane; pace = old.pace; accepted = works now; closed = closed; popped = old.popped; quiet = old.quiet } ≡ accept p old
+accepts old pushed now (Work item notice) closed acc was is now_is =
+    let w : works now ≡ old.accepted ++ Work item notice ∷ [] = ap works now_is ∙ (works-append pushed (Work item notice ∷ []) ∙ ap (λ w. w ++ Work item notice ∷ []) (sym acc)) in
+    let c : closed ≡ old.closed = is ∙ sym was in
+    cc
+accepts old pushed now End closed acc was is now_is =
+    let w : works now ≡ old.accepted = ap works now_is ∙ (works-append pushed (End ∷ []) ∙ (append-nil _ ∙ sym acc)) in
+    cc
+
+-- ---- the end
+
+given_before : (pushed : List Parcel) (closed : Bool) (got : List (Egress Global)) (given : Option (List (Egress Global))) → IsTied pushed closed got given → IsPrefix (popped_by given got) got
+given_before pushed closed got None tied = IsPrefix-refl got
+given_before pushed closed got (Some front) tied = tied.before front refl
+
+pub port_ended : {P : Type 0} (port : PortOf P) (answers : ℕ → Bool → Type 0) (ran : Traffic) (shown : Traffic) (ks pushed : List Parcel) (known got : List (Egress Global))
+    (closed : Bool) (given : Option (List (Egress Global))) (told : RunEnd)
+    → Ran port.lane answers ran.parcels (map sent_of ran.egress) told → shown.parcels ≡ ran.parcels → shown.egress ≡ ran.egress
+    → shown.parcels ++ ks ≡ pushed → got ++ known ≡ shown.egress → IsTied pushed closed got given
+    → port.accepted ≡ works pushed → port.popped ≡ popped_by given got
+    → Ended port answers shown told
+port_ended port answers ran shown ks pushed known got closed given told run parcels_are egress_is down back tied accepted popped =
+    let run' : Ran port.lane answers shown.parcels (map sent_of shown.egress) told =
+    subst (λ (w : List Parcel). Ran port.lane answers w (map sent_of shown.egress) told) (sym parcels_are)
+    (subst (λ (w : List (Egress Global)). Ran port.lane answers ran.parcels (map sent_of w) told) (sym egress_is) run) in
+    let all : works shown.parcels ++ works ks ≡ port.accepted = sym (works-append shown.parcels ks) ∙ (ap works down ∙ sym accepted) in
+    record {
+      ran = run';
+      some = (works ks, all);
+      all = λ (front : List Parcel) (e : shown.parcels ≡ front ++ End ∷ []).
+          let last : front ++ End ∷ ks ≡ works pushed ++ ending closed = sym (append_assoc front (End ∷ []) ks) ∙ (ap (λ w. w ++ ks) (sym e) ∙ (down ∙ tied.whole)) in
+          let none : ks ≡ [] = end_is_last front ks (works pushed) closed (works_have_no_end pushed) last in
+          sym (append-nil _) ∙ (ap (λ w. works shown.parcels ++ works w) (sym none) ∙ all);
+      given = subst (λ (w : List (Egress Global)). IsPrefix w shown.egress) (sym popped) (IsPrefix-trans _ _ _ (given_before pushed closed got given tied) (known, back));
+    }
+
+-- a run of one beginning is a run of an equal one
+pub run_of_same : {N P : Type 0} (answers : P → ℕ → Bool → Type 0) (l1 l : LaneNow) (c1 c : ParcelsIn N) (s1 s : EgressOut) (p1 p : P) (r : EndOf N)
+    → l1 ≡ l → c1 ≡ c → s1 ≡ s → p1 ≡ p → IsRunOf answers l c s p r → IsRunOf answers l1 c1 s1 p1 r
+run_of_same {N} {P} answers l1 l c1 c s1 s p1 p r el ec es ep run =
+    subst (λ (x : LaneNow). IsRunOf answers x c1 s1 p1 r) (sym el)
+    (subst (λ (x : ParcelsIn N). IsRunOf answers l x s1 p1 r) (sym ec)
+    (subst (λ (x : EgressOut). IsRunOf answers l c x p1 r) (sym es)
+    (subst (λ (x : P). IsRunOf answers l c s x r) (sym ep) run)))

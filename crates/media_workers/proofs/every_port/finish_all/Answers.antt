@@ -1,0 +1,11 @@
+use Rattle.std.proofs.Common.{◌≡◌, ◌∙◌, ◌+◌, List, [], ◌∷◌, subst, sym, arith, length-append}
+use Rattle.media_workers.specs.Bridges.{EndOf, AllEnded}
+use Rattle.media_workers.proofs.BridgeLemmas.{AllEnded-push}
+use Rattle.media_workers.proofs.every_port.finish_all.Goals as goal
+
+pub loop-port-preserved : goal.loop-port-preserved
+loop-port-preserved g c = record {
+  ended = subst (AllEnded g.P.Pace.answers _) (sym c.push_reserved.ensures.items) (AllEnded-push g.P.Pace.answers c.loop-port.yielded c.loop-port.ends.items c.in-Some.port c.finish.result c.loop-port.invariant.ended c.finish.ensures);
+  len = omega (arith, c.push_reserved.ensures.len, c.loop-port.invariant.len, length-append c.loop-port.yielded (c.in-Some.port ∷ []));
+  room = c.push_reserved.ensures.capacity ∙ c.loop-port.invariant.room;
+}
