@@ -1,5 +1,5 @@
 -- A run, one item at a time.
-use Rattle.std.proofs.Common.{◌≡◌, ◌+◌, ◌-◌, ◌^◌, ◌⊎◌, ◌<◌, ◌≤◌, ℕ, Bool, true, ⊎_elim, min, List, [], ◌∷◌, ◌++◌, length, map, Option, refl, ap, sym, subst, ◌∙◌, arith, append_assoc, length-append}
+use Rattle.std.proofs.Common.{◌≡◌, ◌+◌, ◌-◌, ◌^◌, ◌⊎◌, ◌<◌, ◌≤◌, ℕ, Bool, true, ⊎_elim, min, List, [], ◌∷◌, ◌++◌, length, map, Option, Some, None, IfSome, refl, ap, sym, subst, ◌∙◌, arith, append_assoc, length-append}
 use Rattle.std.proofs.lemmas.List.{append-nil, map-append}
 use Rattle.std.proofs.lemmas.Bool.{cases_lt}
 use Rattle.std.specs.declared.alloc.Global.{Global}
@@ -13,10 +13,10 @@ use Rattle.intake.specs.declared.item.Item.{Item}
 use Rattle.bridge_core.specs.Sent.{Sent, sent_of}
 use Rattle.bridge_core.specs.declared.egress.Egress.{Egress}
 use Rattle.bridge_core.specs.Lanes.{Visit, sends_at}
-use Rattle.bridge_core.specs.LaneState.{HasHandled, visit_of}
+use Rattle.bridge_core.specs.LaneState.{LaneOf, HasHandled, Handles, visit_of}
 use Rattle.media_workers.specs.declared.parcel.Parcel.{Parcel}
 use Rattle.media_workers.specs.declared.parcel.Parcel.TheVariants.{Work}
-use Rattle.media_workers.specs.LaneRuns.{LaneNow, Served, IsServed, AreServed, visit_by, visits_from, all_sent, SendsFor, next_number, Traffic}
+use Rattle.media_workers.specs.LaneRuns.{LaneNow, Served, IsServed, AreServed, visit_by, visits_from, all_sent, SendsFor, next_number, IsSameLane, EndsBy, RunEnd, Traffic, HasRun}
 use Rattle.media_workers.specs.inner.Running.{known_after, Running, HandlesOne, IsRunning}
 use Rattle.media_workers.proofs.Prefixes.{IsPrefix-refl, IsPrefix-trans}
 
@@ -49,6 +49,32 @@ all_sent-push who lane lanes before (w ∷ vs) v =
     ap (λ es. sends_at who lane lanes before w ++ es) (all_sent-push who lane lanes (before ++ w ∷ []) vs v
     ∙ ap (λ b. all_sent who lane lanes (before ++ w ∷ []) vs ++ sends_at who lane lanes b v) (append_assoc before (w ∷ []) vs))
     ∙ sym (append_assoc (sends_at who lane lanes before w) _ _)
+
+IsSameLane-trans : (a b c : LaneNow) → IsSameLane a b → IsSameLane b c → IsSameLane a c
+IsSameLane-trans a b c one two = record {
+  lane = two.lane ∙ one.lane;
+  lanes = two.lanes ∙ one.lanes;
+  who = two.who ∙ one.who;
+  publisher = two.publisher ∙ one.publisher;
+  start = two.start ∙ one.start;
+}
+
+told_later : (notice : Option NoticeOf) (xs ys : List (List EditOf)) → IfSome notice (λ (n : NoticeOf). IsPrefix n.lists xs) → IsPrefix xs ys → IfSome notice (λ (n : NoticeOf). IsPrefix n.lists ys)
+told_later None xs ys told later = tt
+told_later (Some n) xs ys told later = IsPrefix-trans n.lists xs ys told later
+
+-- A notice is learnt, and then an item is handled.
+pub one_handled : (old told new : LaneNow) (item : Item Global) (notice : Option NoticeOf) (sent : List Sent)
+    → told.state ≡ old.state → IsSameLane old told → IsPrefix old.reader.lists told.reader.lists → IfSome notice (λ (n : NoticeOf). IsPrefix n.lists told.reader.lists)
+    → IsSameLane told new → IsPrefix told.reader.lists new.reader.lists
+    → Handles told.state new.state (length new.reader.lists) (after_lists new.reader.start new.reader.lists) (input_of item) sent
+    → HandlesOne old new item notice sent
+one_handled old told new item notice sent state same kept learnt same' later sends = record {
+  later = IsPrefix-trans old.reader.lists told.reader.lists new.reader.lists kept later;
+  told = told_later notice told.reader.lists new.reader.lists learnt later;
+  sends = subst (λ (s : LaneOf). Handles s new.state (length new.reader.lists) (after_lists new.reader.start new.reader.lists) (input_of item) sent) state sends;
+  same = IsSameLane-trans old told new same same';
+}
 
 -- A run begins with nothing.
 pub run_begins : (lane : LaneNow) (before : Traffic) → IsRunning lane lane before before 0
@@ -103,13 +129,7 @@ turns old lane new ps ss sent more item notice run turn =
       handled = (λ (before : List Visit) (has : HasHandled old.state before).
           let here = turn.sends _ (run.handled before has) in
           subst (HasHandled new.state) (append_assoc before _ _ ∙ ap (λ vs. before ++ vs) (sym (visits before))) here.1);
-      same = record {
-        lane = turn.same.lane ∙ run.same.lane;
-        lanes = turn.same.lanes ∙ run.same.lanes;
-        who = turn.same.who ∙ run.same.who;
-        publisher = turn.same.publisher ∙ run.same.publisher;
-        start = begun;
-      };
+      same = IsSameLane-trans old lane new run.same turn.same;
     }
 
 -- A run goes on by a turn.
@@ -135,3 +155,27 @@ pub passed_more : (answers : ℕ → Bool → Type 0) (n m : ℕ) → m ≡ n + 
     → (k : ℕ) → k < m → answers (next_number k) true
 passed_more answers n m more old one k lt =
     ⊎_elim (λ (a : k < n). old k a) (λ (b : n ≤ k). let e : n ≡ k = omega arith in subst (λ (j : ℕ). answers (next_number j) true) e one) (cases_lt k n)
+
+-- A run ends.
+pub run_ends : (old lane : LaneNow) (answers : ℕ → Bool → Type 0) (before was now : Traffic) (n : ℕ) (last : List Parcel) (told : RunEnd)
+    → IsRunning old lane before was n → now.parcels ≡ was.parcels ++ last → now.egress ≡ was.egress
+    → told.lane ≡ old.state.lane → told.handled ≡ n → ((k : ℕ) → k < n → answers (next_number k) true) → EndsBy answers last told
+    → HasRun old answers before now told
+run_ends old lane answers before was now n last told run got took number count passed ended = record {
+  parcels = run.parcels ++ last;
+  egress = run.egress;
+  received = got ∙ (ap (λ w. w ++ last) run.received ∙ append_assoc before.parcels run.parcels last);
+  taken = took ∙ run.taken;
+  ran = record {
+    served = run.served;
+    done = run.parcels;
+    last = last;
+    received = refl;
+    in_order = run.running.in_order;
+    sends = run.running.sends;
+    number = number;
+    count = count ∙ run.count;
+    passed = subst (λ (m : ℕ). (k : ℕ) → k < m → answers (next_number k) true) (sym count) passed;
+    ended = ended;
+  };
+}

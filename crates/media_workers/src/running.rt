@@ -1,6 +1,7 @@
 //! The run of a lane: it handles what comes off a ring.
 
-ghost use Rattle.std.specs.Prelude.{◌≡◌, ◌+◌, ◌-◌, ◌^◌, true, [], ◌∷◌, ◌++◌, List, map, IfOk, OnOk, OnErr, IfSome};
+ghost use Rattle.std.specs.Prelude.{◌≡◌, ◌+◌, true, [], ◌∷◌, ◌++◌, List, map, IfOk, OnOk, OnErr, IfSome};
+ghost use mathlib.Core.List.{IsPrefix};
 ghost use Rattle.std.specs.declared.alloc.Global.{Global};
 ghost use Rattle.rtrb.specs.Ring.{received, SameConsumer};
 ghost use Rattle.rtrb.specs.declared.consumer.Consumer.{Consumer};
@@ -10,7 +11,7 @@ ghost use Rattle.intake.specs.Inputs.{input_of, is_sized};
 ghost use Rattle.bridge_core.specs.Sent.{sent_of};
 ghost use Rattle.bridge_core.specs.declared.egress.Egress.{Egress};
 ghost use Rattle.media_workers.specs.Parcels.{IsFit};
-ghost use Rattle.media_workers.specs.LaneRuns.{HasRun, run_end};
+ghost use Rattle.media_workers.specs.LaneRuns.{IsSameLane, HasRun, run_end};
 ghost use Rattle.media_workers.specs.inner.Running.{HandlesOne};
 
 use crate::fault::HandleFault;
@@ -56,6 +57,19 @@ fn counted(handled: u64) -> Result<u64, HandleFault>
 }
 
 impl Lane {
+    /// Learns a notice, if there is one.
+    fn learn_if(&mut self, notice: Option<Notice>)
+        requires publisher { IfSome notice (λ (n : NoticeOf). n.publisher ≡ self.old.reader.publisher) }
+        ensures state { self.new.state ≡ self.old.state }
+        ensures same { IsSameLane self.old self.new }
+        ensures kept { IsPrefix self.old.reader.lists self.new.reader.lists }
+        ensures told { IfSome notice (λ (n : NoticeOf). IsPrefix n.lists self.new.reader.lists) }
+    {
+        if let Some(notice) = notice {
+            self.learn(notice);
+        }
+    }
+
     /// Learns what the parcel tells, handles its item, and puts what that sends. It answers the count with this item.
     fn turn<R: Wait, S: Sink>(
         &mut self,
@@ -75,12 +89,46 @@ impl Lane {
         ensures feeds { (c : Consumer (Egress Global) Global AnyItems) → S.feeds sink.old c → S.feeds sink.new c }
     {
         let count = counted(handled)?;
-        if let Some(notice) = notice {
-            self.learn(notice);
-        }
+        self.learn_if(notice);
         let sent = self.handle(alloc, item)?;
         put_all(rt, sink, sent);
         Ok(count)
+    }
+
+    /// Handles what comes, until the run ends. It answers how many items it handled, and the one that it refused.
+    fn handle_all<N: PublisherName, R: Wait, S: Sink, P: Pace>(
+        &mut self,
+        rt: &R,
+        alloc: Global,
+        consumer: &mut Consumer<Parcel, Global, FitParcels<N>>,
+        sink: &mut S,
+        pace: &mut P,
+    ) -> (u64, Option<(Item, HandleFault)>)
+        requires publisher { self.old.reader.publisher ≡ N.publisher }
+        ensures ran { HasRun self.old (P.answers pace.old)
+            (record { parcels = received consumer.old; egress = S.taken sink.old })
+            (record { parcels = received consumer.new; egress = S.taken sink.new })
+            (record { lane = self.old.state.lane; handled = result.0; refused = result.1 }) }
+        ensures ring { SameConsumer consumer.old consumer.new }
+        ensures feeds { (c : Consumer (Egress Global) Global AnyItems) → S.feeds sink.old c → S.feeds sink.new c }
+    {
+        let mut handled = 0u64;
+        for _ in rt.forever() {
+            if !pace.pass(handled.saturating_add(1)) {
+                return (handled, None);
+            }
+            match next_parcel(rt, consumer) {
+                Parcel::Work { item, notice } => {
+                    match self.turn(rt, alloc, &item, notice, sink, handled) {
+                        Ok(count) => handled = count,
+                        Err(fault) => return (handled, Some((item, fault))),
+                    }
+                    drop(item);
+                }
+                Parcel::End => return (handled, None),
+            }
+        }
+        unreachable!()
     }
 
     /// Handles what comes, until an `End` comes, an item is refused, or the pace answers `false` before an item. Each
@@ -104,42 +152,13 @@ impl Lane {
         let mut sink = sink;
         let mut pace = pace;
         let number = lane.number();
-        let mut handled = 0u64;
-        for _ in rt.forever() {
-            if !pace.pass(handled.saturating_add(1)) {
-                return end_of(number, handled, None, consumer, sink);
-            }
-            match next_parcel(rt, &mut consumer) {
-                Parcel::Work { item, notice } => {
-                    match lane.turn(rt, alloc, &item, notice, &mut sink, handled) {
-                        Ok(count) => handled = count,
-                        Err(fault) => {
-                            return end_of(number, handled, Some((item, fault)), consumer, sink);
-                        }
-                    }
-                }
-                Parcel::End => return end_of(number, handled, None, consumer, sink),
-            }
+        let (handled, refused) = lane.handle_all(rt, alloc, &mut consumer, &mut sink, &mut pace);
+        LaneEnd {
+            lane: number,
+            handled,
+            refused,
+            consumer,
+            sink,
         }
-        unreachable!()
-    }
-}
-
-/// An end with these parts.
-fn end_of<N: PublisherName, S>(
-    lane: u32,
-    handled: u64,
-    refused: Option<(Item, HandleFault)>,
-    consumer: Consumer<Parcel, Global, FitParcels<N>>,
-    sink: S,
-) -> LaneEnd<N, S>
-    ensures { result ≡ record { lane = lane; handled = handled; refused = refused; consumer = consumer; sink = sink } }
-{
-    LaneEnd {
-        lane,
-        handled,
-        refused,
-        consumer,
-        sink,
     }
 }
