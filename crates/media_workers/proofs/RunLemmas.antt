@@ -16,7 +16,7 @@ use Rattle.bridge_core.specs.Lanes.{Visit, sends_at}
 use Rattle.bridge_core.specs.LaneState.{LaneOf, HasHandled, Handles, visit_of}
 use Rattle.media_workers.specs.declared.parcel.Parcel.{Parcel}
 use Rattle.media_workers.specs.declared.parcel.Parcel.TheVariants.{Work}
-use Rattle.media_workers.specs.LaneRuns.{LaneNow, Served, IsServed, AreServed, visit_by, visits_from, all_sent, SendsFor, next_number, IsSameLane, EndsBy, RunEnd, Traffic, HasRun}
+use Rattle.media_workers.specs.LaneRuns.{LaneNow, Served, IsServed, AreServed, visit_by, visits_from, all_sent, SendsFor, next_number, IsSameLane, Traffic}
 use Rattle.media_workers.specs.inner.Running.{known_after, Running, HandlesOne, IsRunning}
 use Rattle.media_workers.proofs.Prefixes.{IsPrefix-refl, IsPrefix-trans}
 
@@ -155,27 +155,3 @@ pub passed_more : (answers : ℕ → Bool → Type 0) (n m : ℕ) → m ≡ n + 
     → (k : ℕ) → k < m → answers (next_number k) true
 passed_more answers n m more old one k lt =
     ⊎_elim (λ (a : k < n). old k a) (λ (b : n ≤ k). let e : n ≡ k = omega arith in subst (λ (j : ℕ). answers (next_number j) true) e one) (cases_lt k n)
-
--- A run ends.
-pub run_ends : (old lane : LaneNow) (answers : ℕ → Bool → Type 0) (before was now : Traffic) (n : ℕ) (last : List Parcel) (told : RunEnd)
-    → IsRunning old lane before was n → now.parcels ≡ was.parcels ++ last → now.egress ≡ was.egress
-    → told.lane ≡ old.state.lane → told.handled ≡ n → ((k : ℕ) → k < n → answers (next_number k) true) → EndsBy answers last told
-    → HasRun old answers before now told
-run_ends old lane answers before was now n last told run got took number count passed ended = record {
-  parcels = run.parcels ++ last;
-  egress = run.egress;
-  received = got ∙ (ap (λ w. w ++ last) run.received ∙ append_assoc before.parcels run.parcels last);
-  taken = took ∙ run.taken;
-  ran = record {
-    served = run.served;
-    done = run.parcels;
-    last = last;
-    received = refl;
-    in_order = run.running.in_order;
-    sends = run.running.sends;
-    number = number;
-    count = count ∙ run.count;
-    passed = subst (λ (m : ℕ). (k : ℕ) → k < m → answers (next_number k) true) (sym count) passed;
-    ended = ended;
-  };
-}
