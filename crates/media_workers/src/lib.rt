@@ -11,8 +11,11 @@
 //! its ring of egress.
 //!
 //! ```
-//! let lanes = one_lane(alloc, reader, LaneState::new(alloc, 0, 1, settings)?)?;
-//! let mut bridge = Bridge::<N, P>::start(rt, alloc, lanes, paces)?;
+//! let mut lanes = Vec::new(alloc);
+//! lanes.push(Lane::new(reader, LaneState::new(alloc, 0, 1, settings)?))?;
+//! let Ok(mut bridge) = Bridge::<N, P>::start(rt, alloc, lanes, paces) else {
+//!     return println!(rt; "no bridge");
+//! };
 //! let parcel = Parcel::Work { item, notice: Some(publisher.tell()) };
 //! if bridge.push(0, parcel).is_err() {
 //!     println!(rt; "the ring is full")?;

@@ -107,6 +107,7 @@ impl<N: PublisherName + Send + Sync + 'static, P: Pace + Send + Drop + 'static> 
         };
         let own = *rt;
         let run = move || -> LaneEnd<N, Producer<Egress>>
+            requires { lane.reader.publisher ≡ N.publisher }
             ensures { IsRunOf P.answers lane consumer sink pace result }
         {
             let end = lane.run(&own, alloc, consumer, sink, pace);
