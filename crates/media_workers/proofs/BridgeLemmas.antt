@@ -1,6 +1,6 @@
 -- All lanes of a bridge.
-use Rattle.std.proofs.Common.{Bool, ◌≡◌, ◌⊎◌, ◌<◌, ◌+◌, ℕ, min, zip, length-append, zero, suc, true, List, [], ◌∷◌, ◌++◌, length, map, take, drop, All, Some, get_or, set, slice_get, slice_set, refl, ap, sym, subst, ◌∙◌, ⊎_elim, inl, inr, arith}
-use Rattle.std.proofs.lemmas.List.Elements.{All-set, All-cons, All-nil}
+use Rattle.std.proofs.Common.{Bool, ◌≡◌, ◌⊎◌, ◌<◌, ℕ, min, zip, length-append, zero, suc, List, [], ◌∷◌, ◌++◌, length, map, take, drop, All, Some, get_or, slice_get, slice_set, refl, ap, sym, subst, ◌∙◌, ⊎_elim, arith}
+use Rattle.std.proofs.lemmas.List.Elements.{All-set}
 use Rattle.std.proofs.lemmas.Option.{slice_get-get_or}
 use Rattle.std.proofs.lemmas.List.{append-nil}
 use Rattle.std.proofs.lemmas.Slice.Zip.{length-zip}

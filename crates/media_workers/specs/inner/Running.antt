@@ -1,5 +1,5 @@
 -- A lane in a run.
-use Rattle.std.specs.Prelude.{◌≡◌, ◌+◌, ℕ, List, [], ◌∷◌, ◌++◌, length, map, Option, Some, None, IfSome}
+use Rattle.std.specs.Prelude.{◌≡◌, ℕ, List, [], ◌∷◌, ◌++◌, length, map, Option, Some, None, IfSome}
 use Rattle.std.specs.declared.alloc.Global.{Global}
 use mathlib.Core.List.{IsPrefix}
 use Rattle.desk_rows.specs.Desk.{blank}
@@ -10,7 +10,7 @@ use Rattle.intake.specs.declared.item.Item.{Item}
 use Rattle.bridge_core.specs.Sent.{Sent, sent_of}
 use Rattle.bridge_core.specs.declared.egress.Egress.{Egress}
 use Rattle.bridge_core.specs.Lanes.{Visit}
-use Rattle.bridge_core.specs.LaneState.{LaneOf, HasHandled, Handles}
+use Rattle.bridge_core.specs.LaneState.{HasHandled, Handles}
 use Rattle.media_workers.specs.declared.parcel.Parcel.{Parcel}
 use Rattle.media_workers.specs.LaneRuns.{LaneNow, IsSameLane, Served, AreServed, visits_from, SendsFor, Traffic}
 

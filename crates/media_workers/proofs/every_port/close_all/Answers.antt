@@ -1,7 +1,6 @@
-use Rattle.std.proofs.Common.{◌≡◌, ◌∙◌, ◌++◌, List, length, take, drop, map, ap, subst, sym, arith}
+use Rattle.std.proofs.Common.{◌≡◌, ◌∙◌, ◌++◌, List, length, take, drop, map, ap, sym, arith}
 use Rattle.std.proofs.lemmas.Grind.{common_steps}
 use Rattle.media_workers.specs.Ports.{PortOf}
-use Rattle.media_workers.specs.Bridges.{AllEnded}
 use Rattle.media_workers.specs.inner.Threads.{lasting}
 use Rattle.media_workers.proofs.BridgeLemmas.{AllEnded-alike}
 use Rattle.media_workers.proofs.every_port.close_all.Goals as goal

@@ -1,4 +1,4 @@
-use Rattle.std.proofs.Common.{◌≡◌, ◌∙◌, arith}
+use Rattle.std.proofs.Common.{◌∙◌, arith}
 use Rattle.media_workers.proofs.BridgeLemmas.{one_ends}
 use Rattle.media_workers.proofs.every_port.end_each.Goals as goal
 

@@ -1,4 +1,4 @@
-use Rattle.std.proofs.Common.{◌≡◌, All, map, length}
+use Rattle.std.proofs.Common.{◌≡◌, All, map}
 use Rattle.media_workers.specs.inner.Threads.{lasting, is_quiet}
 use Rattle.media_workers.proofs.every_port.end_each.Given as goal
 

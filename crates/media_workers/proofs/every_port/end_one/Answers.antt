@@ -1,10 +1,9 @@
-use Rattle.std.proofs.Common.{◌≡◌, ◌⊎◌, ◌∙◌, List, All, Some, map, option_map, slice_get, slice_set, ap, subst, sym, ⊎_elim, inl, inr}
+use Rattle.std.proofs.Common.{◌≡◌, ◌∙◌, List, All, Some, option_map, slice_get, slice_set, ap, subst, sym, ⊎_elim, inl, inr}
 use Rattle.std.proofs.lemmas.Option.{slice_get-map}
 use Rattle.media_workers.specs.Ports.{PortOf, quieten, accept}
 use Rattle.media_workers.specs.declared.parcel.Parcel.TheVariants.{End}
-use Rattle.media_workers.specs.Bridges.{finally}
 use Rattle.media_workers.specs.inner.Threads.{is_quiet}
-use Rattle.media_workers.proofs.BridgeLemmas.{lasting_quieten, quiet_quieten}
+use Rattle.media_workers.proofs.BridgeLemmas.{quiet_quieten}
 use Rattle.media_workers.proofs.every_port.end_one.Goals as goal
 
 pub end_at-requires-clause-quiet : goal.end_at-requires-clause-quiet

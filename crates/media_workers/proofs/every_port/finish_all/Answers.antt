@@ -1,5 +1,5 @@
-use Rattle.std.proofs.Common.{◌≡◌, ◌∙◌, ◌+◌, List, [], ◌∷◌, subst, sym, arith, length-append}
-use Rattle.media_workers.specs.Bridges.{EndOf, AllEnded}
+use Rattle.std.proofs.Common.{◌∙◌, [], ◌∷◌, subst, sym, arith, length-append}
+use Rattle.media_workers.specs.Bridges.{AllEnded}
 use Rattle.media_workers.proofs.BridgeLemmas.{AllEnded-push}
 use Rattle.media_workers.proofs.every_port.finish_all.Goals as goal
 

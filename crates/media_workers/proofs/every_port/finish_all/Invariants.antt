@@ -1,4 +1,4 @@
-use Rattle.std.proofs.Common.{◌≡◌, ◌+◌, ◌≤◌, length, vec_len, vec_capacity}
+use Rattle.std.proofs.Common.{◌≡◌, length, vec_len, vec_capacity}
 use Rattle.media_workers.specs.Bridges.{AllEnded}
 use Rattle.media_workers.proofs.every_port.finish_all.Given as goal
 

@@ -1,5 +1,4 @@
-use Rattle.std.proofs.Common.{◌≡◌, ◌∙◌, List, All, map, ap, subst, sym}
-use Rattle.media_workers.specs.Ports.{PortOf, quieten}
+use Rattle.std.proofs.Common.{◌∙◌, All, map, ap, subst, sym}
 use Rattle.media_workers.specs.inner.Threads.{lasting, is_quiet}
 use Rattle.media_workers.proofs.BridgeLemmas.{lasting_quieten, quiet_quieten}
 use Rattle.media_workers.proofs.every_port.stop_all.Goals as goal

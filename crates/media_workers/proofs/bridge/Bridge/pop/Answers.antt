@@ -1,4 +1,4 @@
-use Rattle.std.proofs.Common.{◌≡◌, ◌∙◌, List, Some, slice_get, slice_set, length, ap, arith}
+use Rattle.std.proofs.Common.{◌≡◌, ◌∙◌, List, slice_get, slice_set, ap, arith}
 use Rattle.media_workers.specs.Ports.{PortOf, give}
 use Rattle.media_workers.proofs.BridgeLemmas.{put_whole}
 use Rattle.media_workers.proofs.bridge.Bridge.pop.Goals as goal

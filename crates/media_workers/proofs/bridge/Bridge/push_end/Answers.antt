@@ -1,4 +1,4 @@
-use Rattle.std.proofs.Common.{◌≡◌, ◌⊎◌, ◌∙◌, List, Some, map, slice_get, slice_set, length, ap, ⊎_elim, inl, inr, arith}
+use Rattle.std.proofs.Common.{◌≡◌, ◌∙◌, List, map, slice_get, slice_set, ap, ⊎_elim, inl, inr, arith}
 use Rattle.media_workers.specs.Ports.{PortOf, quieten}
 use Rattle.media_workers.specs.Bridges.{finally}
 use Rattle.media_workers.proofs.BridgeLemmas.{put_whole}

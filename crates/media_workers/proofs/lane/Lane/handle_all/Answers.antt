@@ -1,4 +1,4 @@
-use Rattle.std.proofs.Common.{rules, ◌≡◌, ℕ, true, subst, arith}
+use Rattle.std.proofs.Common.{rules, ℕ, true, subst, arith}
 use Rattle.media_workers.proofs.RunLemmas.{run_begins, run_goes, passed_more}
 use Rattle.media_workers.proofs.lane.Lane.handle_all.Goals as goal
 

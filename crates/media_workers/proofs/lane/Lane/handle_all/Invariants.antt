@@ -1,4 +1,4 @@
-use Rattle.std.proofs.Common.{◌≡◌, ◌<◌, ℕ, Bool, true}
+use Rattle.std.proofs.Common.{◌<◌, ℕ, Bool, true}
 use Rattle.std.specs.declared.alloc.Global.{Global}
 use Rattle.rtrb.specs.Ring.{received, SameConsumer}
 use Rattle.rtrb.specs.declared.consumer.Consumer.{Consumer}

@@ -1,4 +1,4 @@
-use Rattle.std.proofs.Common.{◌≡◌, ◌++◌, map, sym, ◌∙◌, ap, subst, option_map}
+use Rattle.std.proofs.Common.{◌++◌, map, sym, ◌∙◌, ap, subst, option_map}
 use Rattle.rtrb.specs.Ring.{sent, received, known_items}
 use Rattle.bridge_core.specs.Sent.{sent_of}
 use Rattle.media_workers.specs.LaneRuns.{Ran, Traffic, run_end}

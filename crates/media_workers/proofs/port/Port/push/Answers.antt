@@ -1,4 +1,4 @@
-use Rattle.std.proofs.Common.{◌≡◌, Bool, true, false, refl, sym, ◌∙◌, ap, subst, List, option_map, is_some}
+use Rattle.std.proofs.Common.{◌≡◌, Bool, false, refl, sym, subst, List, option_map, is_some}
 use Rattle.rtrb.specs.Ring.{sent, received}
 use Rattle.media_workers.specs.Parcels.{works}
 use Rattle.media_workers.specs.Ports.{PortOf, accept}
