@@ -11,10 +11,9 @@ use Rattle.bridge_core.specs.declared.egress.Egress.{Egress}
 use Rattle.media_workers.specs.declared.parcel.Parcel.{Parcel}
 use Rattle.media_workers.specs.declared.parcel.Parcel.TheVariants.{Work, End}
 use Rattle.media_workers.specs.Parcels.{works}
-use Rattle.media_workers.specs.LaneRuns.{LaneNow, Ran, RunEnd, Traffic}
+use Rattle.media_workers.specs.LaneRuns.{Ran, RunEnd, Traffic}
 use Rattle.media_workers.specs.Ports.{PortOf, accept, Ended}
-use Rattle.media_workers.specs.Bridges.{EndOf}
-use Rattle.media_workers.specs.inner.Threads.{is_end, ending, ParcelsIn, EgressOut, IsRunOf, IsTied, popped_by}
+use Rattle.media_workers.specs.inner.Threads.{is_end, ending, IsTied, popped_by}
 use Rattle.media_workers.proofs.Prefixes.{IsPrefix-refl, IsPrefix-trans}
 
 -- ---- rings
@@ -108,12 +107,3 @@ port_ended port answers ran shown ks pushed known got closed given told run parc
           sym (append-nil _) ∙ (ap (λ w. works shown.parcels ++ works w) (sym none) ∙ all);
       given = subst (λ (w : List (Egress Global)). IsPrefix w shown.egress) (sym popped) (IsPrefix-trans _ _ _ (given_before pushed closed got given tied) (known, back));
     }
-
--- a run of one beginning is a run of an equal one
-pub run_of_same : {N P : Type 0} (answers : P → ℕ → Bool → Type 0) (l1 l : LaneNow) (c1 c : ParcelsIn N) (s1 s : EgressOut) (p1 p : P) (r : EndOf N)
-    → l1 ≡ l → c1 ≡ c → s1 ≡ s → p1 ≡ p → IsRunOf answers l c s p r → IsRunOf answers l1 c1 s1 p1 r
-run_of_same {N} {P} answers l1 l c1 c s1 s p1 p r el ec es ep run =
-    subst (λ (x : LaneNow). IsRunOf answers x c1 s1 p1 r) (sym el)
-    (subst (λ (x : ParcelsIn N). IsRunOf answers l x s1 p1 r) (sym ec)
-    (subst (λ (x : EgressOut). IsRunOf answers l c x p1 r) (sym es)
-    (subst (λ (x : P). IsRunOf answers l c s x r) (sym ep) run)))

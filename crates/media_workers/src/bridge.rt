@@ -1,6 +1,7 @@
 //! A bridge's lanes, each on a thread of its own.
 
-ghost use Rattle.std.specs.Prelude.{◌≡◌, ◌≢◌, ◌⊎◌, ◌↔◌, ◌<◌, ◌^◌, false, [], Some, length, map, All, IfOk, OnOk, IfErr, IfSome, IfNone, slice_get, slice_set, vec_len};
+ghost use Rattle.std.specs.Prelude.{◌≡◌, ◌≢◌, ◌⊎◌, ◌↔◌, ◌<◌, ◌^◌, false, [], Some, length, map, All};
+ghost use Rattle.std.specs.Prelude.{IfOk, OnOk, IfErr, IfSome, IfNone, slice_get, slice_set, vec_len};
 ghost use Rattle.media_workers.specs.Parcels.{IsFit};
 ghost use Rattle.media_workers.specs.LaneRuns.{LaneNow};
 ghost use Rattle.media_workers.specs.Ports.{PortOf, accept, give, quieten};
@@ -136,7 +137,7 @@ impl<N: PublisherName, P: Pace> Bridge<N, P> {
         end_one(rt, &mut self.ports, lane as usize);
     }
 
-    /// Gives an `End` to each lane that has had none, and waits for the lanes' threads. It drops egresses while it waits.
+    /// Gives an `End` to each lane that has had none, and waits for the lanes' threads. It drops egresses meanwhile.
     ///
     /// What each lane received is a beginning of what was accepted for it, and all of it where it ended by its `End`.
     /// What was given of a lane is a beginning of what it sent.

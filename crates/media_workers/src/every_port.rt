@@ -1,6 +1,7 @@
 //! All lanes of a bridge at once.
 
-ghost use Rattle.std.specs.Prelude.{◌≡◌, ◌⊎◌, ◌<◌, ◌≤◌, false, [], Some, length, map, All, IfSome, IfNone, slice_get, slice_set, vec_len, vec_capacity};
+ghost use Rattle.std.specs.Prelude.{◌≡◌, ◌⊎◌, ◌<◌, ◌≤◌, false, [], Some, length, map, All, IfSome, IfNone};
+ghost use Rattle.std.specs.Prelude.{slice_get, slice_set, vec_len, vec_capacity};
 ghost use Rattle.media_workers.specs.Ports.{PortOf, accept, give, quieten};
 ghost use Rattle.media_workers.specs.Bridges.{AllEnded, finally};
 ghost use Rattle.media_workers.specs.inner.Threads.{lasting, is_quiet};

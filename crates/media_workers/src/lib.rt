@@ -7,8 +7,8 @@
 //! by [`Lane::run`] over a ring and a [`Sink`] of the caller's.
 //!
 //! Contracts see a lane as what it keeps and what its reader knows, and a bridge as its lanes: what `push` accepted for
-//! each, and what `pop` gave of it. They say nothing of time: a lane may wait for parcels, for its pace, and for room in
-//! its ring of egress.
+//! each, and what `pop` gave of it. They say nothing of time: a lane may wait for parcels, for its pace, and for a free
+//! slot in its ring of egress.
 //!
 //! ```
 //! let mut lanes = Vec::new(alloc);

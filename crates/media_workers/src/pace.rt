@@ -7,7 +7,7 @@ pub trait Pace {
     /// It may answer this for the item of this number.
     ghost answers: { Self → ℕ → Bool → Type 0 };
 
-    /// Whether the item of this number, from 1, is to be handled. It is asked before the item is taken off the ring, and
+    /// Whether the item of this number, from 1, is to be handled. It is asked before the item is taken off the ring;
     /// `false` ends the run. It may wait.
     fn pass(&mut self, item_no: u64) -> bool
         ensures now { answers self.old item_no result }

@@ -1,6 +1,7 @@
 //! A lane's thread, with the rings to it and from it.
 
-ghost use Rattle.std.specs.Prelude.{◌≡◌, ◌≢◌, true, false, Err, IfOk, OnOk, IfErr, IfSome, IfNone};
+ghost use Rattle.std.specs.Prelude.{◌≡◌, ◌≢◌, true, false, [], Err, IfOk, OnOk, IfErr, IfSome, IfNone};
+ghost use Rattle.rtrb.specs.Ring.{sent, received, IsPair};
 ghost use Rattle.media_workers.specs.Parcels.{IsFit};
 ghost use Rattle.media_workers.specs.Ports.{port_of, accept, give, quieten};
 ghost use Rattle.media_workers.specs.Bridges.{EndsAs};
@@ -15,7 +16,7 @@ use crate::promise::RunOf;
 use crate::publisher_name::PublisherName;
 use bridge_core::Egress;
 use rtrb::{Consumer, Producer, PushError, RingBuffer};
-use std::alloc::Global;
+use std::alloc::{AllocError, Global};
 use std::marker::Model;
 use std::snapshot::Snapshot;
 use std::sync::atomic::{AtomicBool, Ordering};
@@ -73,6 +74,33 @@ fn ends(parcel: &Parcel) -> bool
     matches!(parcel, Parcel::End)
 }
 
+/// The ring to a lane, and the ring from it.
+fn rings<N: PublisherName>(
+    alloc: Global,
+) -> Result<
+    (
+        Producer<Parcel, Global, FitParcels<N>>,
+        Consumer<Parcel, Global, FitParcels<N>>,
+        Producer<Egress>,
+        Consumer<Egress>,
+    ),
+    AllocError,
+>
+    ensures parcels { IfOk result (λ r. IsPair r.0 r.1 × (sent r.0 ≡ []) × (received r.1 ≡ [])) }
+    ensures egresses { IfOk result (λ r. IsPair r.2 r.3 × (sent r.2 ≡ []) × (received r.3 ≡ [])) }
+{
+    let (parcels, consumer) = RingBuffer::with_protocol::<Global, FitParcels<N>>(alloc, PARCELS)?;
+    let (sink, egresses) = RingBuffer::new(alloc, EGRESSES)?;
+    Ok((parcels, consumer, sink, egresses))
+}
+
+/// A flag, for two.
+fn flags(alloc: Global) -> Result<(Arc<AtomicBool, Global>, Arc<AtomicBool, Global>), AllocError> {
+    let flag = Arc::new(alloc, AtomicBool::new(false))?;
+    let other = Arc::try_clone(&flag)?;
+    Ok((flag, other))
+}
+
 impl<N: PublisherName + Send + Sync + 'static, P: Pace + Send + Drop + 'static> Port<N, P> {
     /// Starts a lane's thread.
     pub fn start<R: Threads + Wait + Copy + Send + 'static>(
@@ -85,26 +113,13 @@ impl<N: PublisherName + Send + Sync + 'static, P: Pace + Send + Drop + 'static> 
         ensures started { IfOk result (λ port. port ≡ port_of lane pace) }
         ensures fault { result ≢ Err StartFault.Count }
     {
-        let Ok((parcels, consumer)) = RingBuffer::with_protocol::<Global, FitParcels<N>>(
-            alloc, PARCELS,
-        ) else {
+        let Ok((parcels, consumer, sink, egresses)) = rings::<N>(alloc) else {
             return Err(StartFault::OutOfMemory);
         };
-        let Ok((sink, egresses)) = RingBuffer::new(alloc, EGRESSES) else {
+        let Ok((has_ended, flag)) = flags(alloc) else {
             return Err(StartFault::OutOfMemory);
         };
-        let Ok(has_ended) = Arc::new(alloc, AtomicBool::new(false)) else {
-            return Err(StartFault::OutOfMemory);
-        };
-        let Ok(flag) = Arc::try_clone(&has_ended) else {
-            return Err(StartFault::OutOfMemory);
-        };
-        let promise = RunOf {
-            lane: Snapshot::of(&lane),
-            consumer: Snapshot::of(&consumer),
-            sink: Snapshot::of(&sink),
-            pace: Snapshot::of(&pace),
-        };
+        let promise = RunOf::new(&lane, &consumer, &sink, &pace);
         let own = *rt;
         let run = move || -> LaneEnd<N, Producer<Egress>>
             requires { lane.reader.publisher ≡ N.publisher }

@@ -1,5 +1,6 @@
 //! What a lane's thread promises.
 
+ghost use Rattle.std.specs.Prelude.{◌≡◌};
 ghost use Rattle.media_workers.specs.inner.Threads.{IsRunOf};
 
 use crate::lane::Lane;
@@ -20,6 +21,27 @@ pub struct RunOf<N: PublisherName, P: Pace> {
     pub consumer: Snapshot<Consumer<Parcel, Global, FitParcels<N>>>,
     pub sink: Snapshot<Producer<Egress>>,
     pub pace: Snapshot<P>,
+}
+
+impl<N: PublisherName, P: Pace> RunOf<N, P> {
+    pub fn new(
+        lane: &Lane,
+        consumer: &Consumer<Parcel, Global, FitParcels<N>>,
+        sink: &Producer<Egress>,
+        pace: &P,
+    ) -> RunOf<N, P>
+        ensures lane { result.lane.value ≡ lane.now }
+        ensures consumer { result.consumer.value ≡ consumer.now }
+        ensures sink { result.sink.value ≡ sink.now }
+        ensures pace { result.pace.value ≡ pace.now }
+    {
+        RunOf {
+            lane: Snapshot::of(lane),
+            consumer: Snapshot::of(consumer),
+            sink: Snapshot::of(sink),
+            pace: Snapshot::of(pace),
+        }
+    }
 }
 
 impl<N: PublisherName, P: Pace> Promise<LaneEnd<N, Producer<Egress>>> for RunOf<N, P> {
