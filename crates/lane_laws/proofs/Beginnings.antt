@@ -1,0 +1,192 @@
+-- Lanes that learnt of the same publishes saw beginnings of one list.
+use Rattle.std.proofs.Common.{Bool, ◌≡◌, ◌⊎◌, ◌+◌, ◌<◌, ◌≤◌, ℕ, zero, suc, List, [], ◌∷◌, ◌++◌, length, map, take, slice_get, Some, None, Option, IfSome, refl, ap, sym, subst, ◌∙◌, ⊎_elim, arith}
+use Rattle.std.specs.List.{AllByRecursion}
+use Rattle.std.specs.Prelude.{slice_index_or}
+use Rattle.std.specs.declared.alloc.Global.{Global}
+use Rattle.std.proofs.lemmas.List.{length-map}
+use Rattle.std.proofs.Math.Seq.{take-append_seam}
+use mathlib.Core.List.{IsPrefix}
+use Rattle.rtrb.specs.Ring.{sent}
+use Rattle.desk_rows.specs.Desk.{Desk}
+use Rattle.desk_rows.specs.Edit.{EditOf}
+use Rattle.desk_edit.specs.Asked.{CallOf as Call}
+use Rattle.desk_edit.specs.Calls.{no_calls, desk_now}
+use Rattle.desk_calls.specs.Accepted.{after_calls}
+use Rattle.versions.specs.Published.{NoticeOf, after_lists}
+use Rattle.versions.proofs.Prefixes.{prefix_self, prefix_trans, prefix_whole, prefix_length}
+use Rattle.feedback.specs.Upstream.{Asker}
+use Rattle.intake.specs.declared.item.Item.{Item}
+use Rattle.bridge_core.specs.Sent.{Sent, sent_of}
+use Rattle.bridge_core.specs.Lanes.{Visit}
+use Rattle.bridge_core.specs.LaneState.{visit_of}
+use Rattle.operator_desk.specs.Entry.{EntryOf}
+use Rattle.operator_desk.specs.LegalLogs.{calls_of, after_log}
+use Rattle.operator_desk.specs.Published.{AreDesks}
+use Rattle.media_workers.specs.declared.parcel.Parcel.{Parcel}
+use Rattle.media_workers.specs.declared.parcel.Parcel.TheVariants.{Work, End}
+use Rattle.media_workers.specs.LaneRuns.{Served, AreServed, visits_from, all_sent}
+use Rattle.media_workers.specs.Ports.{PortOf}
+use Rattle.media_workers.specs.Bridges.{EndOf, EndsAs, AllEnded, AreNew}
+use Rattle.lane_laws.specs.Merges.{Versioned, InOrder, UpTo}
+use Rattle.lane_laws.specs.Visits.{desk_at, visits_by}
+use Rattle.lane_laws.specs.NamedVersions.{IsGiven, AreGiven}
+use Rattle.lane_laws.specs.Learnt.{Told, HasLearnt, AllLearnt, AllBegin, lanes_of, versioned, handled}
+use Rattle.lane_laws.proofs.Merging.{lower}
+
+-- ---- beginnings
+
+-- each of these was handled after a beginning of the lists
+abbrev AllOf : List (List EditOf) → List Served → Type 0
+AllOf lists served = AllByRecursion (λ (s : Served). IsPrefix s.lists lists) served
+
+-- none of these was handled after more lists
+abbrev NoneLater : List (List EditOf) → List Served → Type 0
+NoneLater lists served = AllByRecursion (λ (s : Served). length s.lists ≤ length lists) served
+
+-- what a lane handles that knows the lists already
+known_begin : (lists known : List (List EditOf)) (ps : List Parcel) (ss : List Served) → IsPrefix lists known → AreServed known ps ss → NoneLater lists ss → AllOf lists ss
+known_begin lists known [] [] knows served few = tt
+known_begin lists known [] (s ∷ ss) knows served few = absurd served
+known_begin lists known (p ∷ ps) [] knows served few = absurd served
+known_begin lists known (Work item notice ∷ ps) (s ∷ ss) knows served few =
+    let more : IsPrefix lists s.lists = prefix_trans lists known s.lists knows served.0.1 in
+    let all : lists ≡ s.lists = prefix_whole lists s.lists more few.0 in
+    (subst (λ (x : List (List EditOf)). IsPrefix x lists) all (prefix_self lists), known_begin lists s.lists ps ss more served.1 few.1)
+known_begin lists known (End ∷ ps) (s ∷ ss) knows served few = absurd served.0
+
+-- what a notice tells, where it is this one
+told_is : (notice : Option NoticeOf) (told : NoticeOf) (now : List (List EditOf)) → notice ≡ Some told → IfSome notice (λ (n : NoticeOf). IsPrefix n.lists now) → IsPrefix told.lists now
+told_is notice told now is all = subst (λ (o : Option NoticeOf). IfSome o (λ (n : NoticeOf). IsPrefix n.lists now)) is all
+
+-- what a lane handles that is told of the lists with one of its items
+told_begin : (lists known : List (List EditOf)) (ps : List Parcel) (ss : List Served) (k : ℕ) (item : Item Global) (notice : NoticeOf)
+    → k < length ps → slice_index_or ps k (Work item (Some notice)) ≡ Work item (Some notice) → notice.lists ≡ lists
+    → AreServed known ps ss → NoneLater lists ss → IsPrefix known lists × AllOf lists ss
+told_begin lists known [] ss k item notice low at is served few = absurd (omega arith)
+told_begin lists known (p ∷ ps) [] k item notice low at is served few = absurd served
+told_begin lists known (End ∷ ps) (s ∷ ss) k item notice low at is served few = absurd served.0
+told_begin lists known (Work other told ∷ ps) (s ∷ ss) zero item notice low at is served few =
+    let this : told ≡ Some notice = cc (at) in
+    let more : IsPrefix lists s.lists = subst (λ (x : List (List EditOf)). IsPrefix x s.lists) is (told_is told notice s.lists this served.0.2) in
+    let all : lists ≡ s.lists = prefix_whole lists s.lists more few.0 in (
+      subst (λ (x : List (List EditOf)). IsPrefix known x) (sym all) served.0.1,
+      (subst (λ (x : List (List EditOf)). IsPrefix x lists) all (prefix_self lists), known_begin lists s.lists ps ss more served.1 few.1),
+    )
+told_begin lists known (Work other told ∷ ps) (s ∷ ss) (suc k) item notice low at is served few =
+    let rest = told_begin lists s.lists ps ss k item notice (omega (arith, low)) at is served.1 few.1 in
+    (prefix_trans known s.lists lists served.0.1 rest.0, (rest.0, rest.1))
+
+learnt_begin : {N P : Type 0} (lists : List (List EditOf)) (answers : P → ℕ → Bool → Type 0) (port : PortOf P) (end : EndOf N) (ended : EndsAs answers port end)
+    → HasLearnt lists answers port end ended → AllOf lists ended.ran.served
+learnt_begin lists answers port end ended has =
+    let ran = ended.ran in
+    let known = port.lane.reader.lists in
+    ⊎_elim
+    (λ (before : IsPrefix lists known). known_begin lists known ran.done ran.served before ran.in_order has.none_later)
+    (λ (told : Told lists ran.done). (told_begin lists known ran.done ran.served told.2.0 told.0 told.1 told.2.1 told.2.2 told.3 ran.in_order has.none_later).1)
+    has.learnt
+
+-- ---- versions
+
+in_order : (known : List (List EditOf)) (ps : List Parcel) (ss : List Served) → AreServed known ps ss → InOrder (length known) (map versioned ss)
+in_order known [] [] served = tt
+in_order known [] (s ∷ ss) served = absurd served
+in_order known (p ∷ ps) [] served = absurd served
+in_order known (Work item notice ∷ ps) (s ∷ ss) served = (prefix_length known s.lists served.0.1, in_order s.lists ps ss served.1)
+in_order known (End ∷ ps) (s ∷ ss) served = absurd served.0
+
+up_to : (most : ℕ) (lists : List (List EditOf)) (ss : List Served) → length lists ≡ most → NoneLater lists ss → UpTo most (map versioned ss)
+up_to most lists [] is few = tt
+up_to most lists (s ∷ ss) is few = (omega (arith, few.0, is), up_to most lists ss is few.1)
+
+calls_of-take : (n : ℕ) (log : List EntryOf) → calls_of (take n log) ≡ take n (calls_of log)
+calls_of-take zero log = refl
+calls_of-take (suc n) [] = refl
+calls_of-take (suc n) (e ∷ log) = ap (λ (cs : List Call). e.call ∷ cs) (calls_of-take n log)
+
+-- a beginning of the lists leads to the desk of its version
+desk_there : (start : Desk) (log : List EntryOf) (lists begin : List (List EditOf)) → AreDesks start log lists → IsPrefix begin lists → after_lists start begin ≡ desk_at start (calls_of log) (length begin)
+desk_there start log lists begin desks is =
+    let few : length begin ≤ length log = omega (arith, prefix_length begin lists is, desks.many) in
+    let first : take (length begin) lists ≡ begin = ap (take (length begin)) (sym is.1) ∙ take-append_seam begin is.0 in
+    ap (after_lists start) (sym first)
+    ∙ (desks.lead (length begin) few
+    ∙ ap (λ (cs : List Call). desk_now (after_calls (no_calls start) cs)) (calls_of-take (length begin) log))
+
+visits_are : (start : Desk) (log : List EntryOf) (lists : List (List EditOf)) (n : ℕ) (ss : List Served) → AreDesks start log lists → AllOf lists ss
+    → visits_from start n ss ≡ visits_by (desk_at start (calls_of log)) n (map versioned ss)
+visits_are start log lists n [] desks all = refl
+visits_are start log lists n (s ∷ ss) desks all =
+    ap (λ (d : Desk). visit_of (length s.lists) (n + 1) d s.input ∷ visits_from start (n + 1) ss) (desk_there start log lists s.lists desks all.0)
+    ∙ ap (λ (vs : List Visit). visit_of (length s.lists) (n + 1) (desk_at start (calls_of log) (length s.lists)) s.input ∷ vs) (visits_are start log lists (n + 1) ss desks all.1)
+
+-- ---- lanes
+
+-- the lane of this place, and how it ended
+record AtPlace {N P : Type 0} (lists : List (List EditOf)) (start : Desk) (answers : P → ℕ → Bool → Type 0) (ports : List (PortOf P)) (lanes : List (List Versioned)) (lane : ℕ) (end : EndOf N) : Type 0 where
+  port : PortOf P
+  its_lane : slice_get (lanes_of ports) lane ≡ Some port.lane
+  begins : port.lane.reader.start ≡ start
+  ended : EndsAs answers port end
+  learnt : HasLearnt lists answers port end ended
+  items : slice_get lanes lane ≡ Some (map versioned ended.ran.served)
+
+pub at_end : {N P : Type 0} (lists : List (List EditOf)) (start : Desk) (answers : P → ℕ → Bool → Type 0) (ports : List (PortOf P)) (ends : List (EndOf N)) (ended : AllEnded answers ports ends) (lane : ℕ) (end : EndOf N)
+    → AllBegin start ports → AllLearnt lists answers ports ends ended → slice_get ends lane ≡ Some end → AtPlace lists start answers ports (handled answers ports ends ended) lane end
+at_end lists start answers [] [] ended lane end begin learnt at = absurd (cc (at))
+at_end lists start answers [] (e ∷ es) ended lane end begin learnt at = absurd learnt
+at_end lists start answers (p ∷ ps) [] ended lane end begin learnt at = absurd learnt
+at_end {N} {P} lists start answers (p ∷ ps) (e ∷ es) ended zero end begin learnt at =
+    let same : e ≡ end = cc (at) in
+    subst (λ (x : EndOf N). AtPlace lists start answers (p ∷ ps) (handled answers (p ∷ ps) (e ∷ es) ended) zero x) same
+    record { port = p; its_lane = refl; begins = begin.0; ended = ended.0; learnt = learnt.0; items = refl }
+at_end lists start answers (p ∷ ps) (e ∷ es) ended (suc lane) end begin learnt at =
+    let rest = at_end lists start answers ps es ended.1 lane end begin.1 learnt.1 at in
+    record { port = rest.port; its_lane = rest.its_lane; begins = rest.begins; ended = rest.ended; learnt = rest.learnt; items = rest.items }
+
+-- for each lane there is how it ended
+pub end_of : {N P : Type 0} (lists : List (List EditOf)) (answers : P → ℕ → Bool → Type 0) (ports : List (PortOf P)) (ends : List (EndOf N)) (ended : AllEnded answers ports ends) (lane : ℕ) (port : PortOf P)
+    → AllLearnt lists answers ports ends ended → slice_get ports lane ≡ Some port → (end : EndOf N) × (slice_get ends lane ≡ Some end) × EndsAs answers port end
+end_of lists answers [] [] ended lane port learnt at = absurd (cc (at))
+end_of lists answers [] (e ∷ es) ended lane port learnt at = absurd learnt
+end_of lists answers (p ∷ ps) [] ended lane port learnt at = absurd learnt
+end_of {N} {P} lists answers (p ∷ ps) (e ∷ es) ended zero port learnt at =
+    let same : p ≡ port = cc (at) in
+    (e, refl, subst (λ (x : PortOf P). EndsAs answers x e) same ended.0)
+end_of lists answers (p ∷ ps) (e ∷ es) ended (suc lane) port learnt at = end_of lists answers ps es ended.1 lane port learnt.1 at
+
+-- what is wanted of a merged list: a lane whose items are in order and not later than the last call sends by it what it sends by itself
+abbrev pub SendsBy : Asker → ℕ → Desk → List Call → List (List Versioned) → (ℕ → List Sent) → Type 0
+SendsBy who many start calls lanes shares =
+    (lane : ℕ) (items : List Versioned) → slice_get lanes lane ≡ Some items → InOrder 0 items → UpTo (length calls) items
+    → shares lane ≡ all_sent who lane many [] (visits_by (desk_at start calls) 0 items)
+
+pub sent_share : {N P : Type 0} (lists : List (List EditOf)) (start : Desk) (log : List EntryOf) (answers : P → ℕ → Bool → Type 0) (ports : List (PortOf P)) (lanes : List (List Versioned)) (lane : ℕ) (end : EndOf N) (new : AreNew (lanes_of ports)) (shares : ℕ → List Sent)
+    → AreDesks start log lists → SendsBy new.0 (length (lanes_of ports)) start (calls_of log) lanes shares → AtPlace lists start answers ports lanes lane end → map sent_of (sent end.sink) ≡ shares lane
+sent_share lists start log answers ports lanes lane end new shares desks merged here =
+    let ran = here.ended.ran in
+    let state = here.port.lane.state in
+    let is = new.1 lane here.port.lane here.its_lane in
+    let known = here.port.lane.reader.lists in
+    let begin = learnt_begin lists answers here.port end here.ended here.learnt in
+    let items = map versioned ran.served in
+    let order : InOrder 0 items = lower 0 (length known) items (omega arith) (in_order known ran.done ran.served ran.in_order) in
+    let many : length lists ≡ length (calls_of log) = desks.many ∙ sym (length-map log (λ (e : EntryOf). e.call)) in
+    let few = up_to (length (calls_of log)) lists ran.served many here.learnt.none_later in
+    let visits = visits_from here.port.lane.reader.start 0 ran.served in
+    ran.sends [] is.none
+    ∙ (ap (λ (w : Asker). all_sent w state.lane state.lanes [] visits) is.who
+    ∙ (ap (λ (k : ℕ). all_sent new.0 k state.lanes [] visits) is.number
+    ∙ (ap (λ (k : ℕ). all_sent new.0 lane k [] visits) is.lanes
+    ∙ (ap (λ (d : Desk). all_sent new.0 lane (length (lanes_of ports)) [] (visits_from d 0 ran.served)) here.begins
+    ∙ (ap (all_sent new.0 lane (length (lanes_of ports)) []) (visits_are start log lists 0 ran.served desks begin)
+    ∙ sym (merged lane items here.items order few))))))
+
+-- of what all is given, so is a beginning
+pub first_given : {X : Type 0} (start : Desk) (calls : List Call) (f : X → Sent) (xs ys : List X) → IsPrefix xs ys → AreGiven start calls (map f ys) → AreGiven start calls (map f xs)
+first_given start calls f [] ys p all = tt
+first_given start calls f (x ∷ xs) [] p all = absurd (cc (p.1))
+first_given start calls f (x ∷ xs) (y ∷ ys) p all =
+    let heads : x ≡ y = cc (p.1) in
+    let tails : xs ++ p.0 ≡ ys = cc (p.1) in
+    (subst (λ (z : _). IsGiven start calls (f z)) (sym heads) all.0, first_given start calls f xs ys (p.0, tails) all.1)

@@ -1,0 +1,50 @@
+-- Lanes that learnt of the same publishes (own).
+use Rattle.std.specs.Prelude.{◌≡◌, ◌⊎◌, ℕ, ◌≤◌, Bool, List, [], ◌∷◌, length, map, Some}
+use Rattle.std.specs.List.{AllByRecursion, Contains}
+use Rattle.std.specs.declared.alloc.Global.{Global}
+use mathlib.Core.List.{IsPrefix}
+use Rattle.desk_rows.specs.Desk.{Desk}
+use Rattle.desk_rows.specs.Edit.{EditOf}
+use Rattle.versions.specs.Published.{NoticeOf}
+use Rattle.intake.specs.declared.item.Item.{Item}
+use Rattle.media_workers.specs.declared.parcel.Parcel.{Parcel}
+use Rattle.media_workers.specs.declared.parcel.Parcel.TheVariants.{Work}
+use Rattle.media_workers.specs.LaneRuns.{LaneNow, Served}
+use Rattle.media_workers.specs.Ports.{PortOf}
+use Rattle.media_workers.specs.Bridges.{EndOf, EndsAs, AllEnded}
+use Rattle.lane_laws.specs.Merges.{Versioned}
+
+-- one of these parcels has a notice of these lists
+abbrev pub Told : List (List EditOf) → List Parcel → Type 0
+Told lists parcels = (item : Item Global) × (notice : NoticeOf) × Contains parcels (Work item (Some notice)) × (notice.lists ≡ lists)
+
+-- The lane knew these lists when it began, or was told of them with one of the items that it handled; and it handled no item by a later version.
+pub record HasLearnt {N P : Type 0} (lists : List (List EditOf)) (answers : P → ℕ → Bool → Type 0) (port : PortOf P) (end : EndOf N) (ended : EndsAs answers port end) : Type 0 where
+  pub learnt : IsPrefix lists port.lane.reader.lists ⊎ Told lists ended.ran.done
+  pub none_later : AllByRecursion (λ (s : Served). length s.lists ≤ length lists) ended.ran.served
+
+-- The same of each lane.
+abbrev pub AllLearnt : {N P : Type 0} (lists : List (List EditOf)) (answers : P → ℕ → Bool → Type 0) (ports : List (PortOf P)) (ends : List (EndOf N)) → AllEnded answers ports ends → Type 0
+AllLearnt lists answers [] [] ended = Unit {0}
+AllLearnt lists answers [] (e ∷ es) ended = ⊥
+AllLearnt lists answers (p ∷ ps) [] ended = ⊥
+AllLearnt lists answers (p ∷ ps) (e ∷ es) ended = HasLearnt lists answers p e ended.0 × AllLearnt lists answers ps es ended.1
+
+-- the lanes as they were handed in
+abbrev pub lanes_of : {P : Type 0} → List (PortOf P) → List LaneNow
+lanes_of ports = map (λ p. p.lane) ports
+
+-- The readers of all lanes begin with this desk.
+abbrev pub AllBegin : {P : Type 0} → Desk → List (PortOf P) → Type 0
+AllBegin start ports = AllByRecursion (λ p. p.lane.reader.start ≡ start) ports
+
+-- an item that was handled, with its version: how many lists its entry had
+abbrev pub versioned : Served → Versioned
+versioned s = record { version = length s.lists; input = s.input }
+
+-- the items that each lane handled, with their versions
+abbrev pub handled : {N P : Type 0} (answers : P → ℕ → Bool → Type 0) (ports : List (PortOf P)) (ends : List (EndOf N)) → AllEnded answers ports ends → List (List Versioned)
+handled answers [] [] ended = []
+handled answers [] (e ∷ es) ended = []
+handled answers (p ∷ ps) [] ended = []
+handled answers (p ∷ ps) (e ∷ es) ended = map versioned ended.0.ran.served ∷ handled answers ps es ended.1

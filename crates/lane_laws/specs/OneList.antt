@@ -1,0 +1,29 @@
+-- Lanes that sent what one list of calls and items sends (own).
+use Rattle.std.specs.Prelude.{◌≡◌, ℕ, List, map, slice_get, Some}
+use Rattle.rtrb.specs.Ring.{sent}
+use Rattle.desk_rows.specs.Desk.{Desk}
+use Rattle.desk_edit.specs.Asked.{CallOf as Call}
+use Rattle.desk_edit.specs.Calls.{no_calls}
+use Rattle.feedback.specs.Upstream.{Asker}
+use Rattle.bridge_core.specs.Sent.{Sent, sent_of}
+use Rattle.bridge_core.specs.Steps.{Step, sends}
+use Rattle.bridge_core.specs.Events.{Event, steps_of, calls_among}
+use Rattle.bridge_core.specs.WholeRuns.{Holds}
+use Rattle.media_workers.specs.Ports.{PortOf}
+use Rattle.media_workers.specs.Bridges.{EndOf}
+use Rattle.lane_laws.specs.Shares.{of_lane}
+use Rattle.lane_laws.specs.NamedVersions.{AreGiven}
+
+-- Of what is sent for the items of these steps, each lane, by its place, sent just its share.
+abbrev pub AreShares : {N : Type 0} → List Step → List (List Sent) → List (EndOf N) → Type 0
+AreShares {N} steps all ends = (lane : ℕ) (end : EndOf N) → slice_get ends lane ≡ Some end → map sent_of (sent end.sink) ≡ of_lane lane steps all
+
+-- The lanes of this bridge, so many, sent what this list of calls and items sends from this desk on: its calls are these, each lane sent its share, and of all that is sent what is promised of whole runs holds.
+pub record IsOneList {N : Type 0} (who : Asker) (many : ℕ) (start : Desk) (calls : List Call) (ends : List (EndOf N)) (events : List Event) : Type 0 where
+  pub calls_are : calls_among events ≡ calls
+  pub shares : AreShares (steps_of (no_calls start) events) (sends who many start (steps_of (no_calls start) events)) ends
+  pub holds : Holds who many start (steps_of (no_calls start) events) (sends who many start (steps_of (no_calls start) events))
+
+-- Each packet that `pop` gave of a lane goes where the desk of its version has it go.
+abbrev pub AreAllGiven : {P : Type 0} → Desk → List Call → List (PortOf P) → Type 0
+AreAllGiven {P} start calls ports = (lane : ℕ) (port : PortOf P) → slice_get ports lane ≡ Some port → AreGiven start calls (map sent_of port.popped)
