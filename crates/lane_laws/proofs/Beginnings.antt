@@ -4,6 +4,7 @@ use Rattle.std.specs.List.{AllByRecursion}
 use Rattle.std.specs.Prelude.{slice_index_or}
 use Rattle.std.specs.declared.alloc.Global.{Global}
 use Rattle.std.proofs.lemmas.List.{length-map}
+use Rattle.std.proofs.lemmas.Option.{slice_get_within}
 use Rattle.std.proofs.Math.Seq.{take-append_seam}
 use mathlib.Core.List.{IsPrefix}
 use Rattle.rtrb.specs.Ring.{sent}
@@ -24,7 +25,7 @@ use Rattle.operator_desk.specs.LegalLogs.{calls_of, after_log}
 use Rattle.operator_desk.specs.Published.{AreDesks}
 use Rattle.media_workers.specs.declared.parcel.Parcel.{Parcel}
 use Rattle.media_workers.specs.declared.parcel.Parcel.TheVariants.{Work, End}
-use Rattle.media_workers.specs.LaneRuns.{Served, AreServed, visits_from, all_sent}
+use Rattle.media_workers.specs.LaneRuns.{LaneNow, Served, AreServed, visits_from, all_sent}
 use Rattle.media_workers.specs.Ports.{PortOf}
 use Rattle.media_workers.specs.Bridges.{EndOf, EndsAs, AllEnded, AreNew}
 use Rattle.lane_laws.specs.Merges.{Versioned, InOrder, UpTo}
@@ -122,27 +123,36 @@ visits_are start log lists n (s ∷ ss) desks all =
 
 -- ---- lanes
 
+-- the element at an index
+at_index : {X : Type 0} (xs : List X) (k : ℕ) (x d : X) → slice_get xs k ≡ Some x → slice_index_or xs k d ≡ x
+at_index [] k x d at = absurd (cc (at))
+at_index (y ∷ ys) zero x d at = cc (at)
+at_index (y ∷ ys) (suc k) x d at = at_index ys k x d at
+
+begins_there : (start : Desk) (lanes : List LaneNow) (k : ℕ) (lane : LaneNow) → AllBegin start lanes → slice_get lanes k ≡ Some lane → lane.reader.start ≡ start
+begins_there start lanes k lane begin at =
+    subst (λ (l : LaneNow). l.reader.start ≡ start) (at_index lanes k lane lane at) (begin k lane (slice_get_within lanes k lane at))
+
 -- the lane of this place, and how it ended
-record AtPlace {N P : Type 0} (lists : List (List EditOf)) (start : Desk) (answers : P → ℕ → Bool → Type 0) (ports : List (PortOf P)) (lanes : List (List Versioned)) (lane : ℕ) (end : EndOf N) : Type 0 where
+record AtPlace {N P : Type 0} (lists : List (List EditOf)) (answers : P → ℕ → Bool → Type 0) (ports : List (PortOf P)) (lanes : List (List Versioned)) (lane : ℕ) (end : EndOf N) : Type 0 where
   port : PortOf P
   its_lane : slice_get (lanes_of ports) lane ≡ Some port.lane
-  begins : port.lane.reader.start ≡ start
   ended : EndsAs answers port end
   learnt : HasLearnt lists answers port end ended
   items : slice_get lanes lane ≡ Some (map versioned ended.ran.served)
 
-pub at_end : {N P : Type 0} (lists : List (List EditOf)) (start : Desk) (answers : P → ℕ → Bool → Type 0) (ports : List (PortOf P)) (ends : List (EndOf N)) (ended : AllEnded answers ports ends) (lane : ℕ) (end : EndOf N)
-    → AllBegin start ports → AllLearnt lists answers ports ends ended → slice_get ends lane ≡ Some end → AtPlace lists start answers ports (handled answers ports ends ended) lane end
-at_end lists start answers [] [] ended lane end begin learnt at = absurd (cc (at))
-at_end lists start answers [] (e ∷ es) ended lane end begin learnt at = absurd learnt
-at_end lists start answers (p ∷ ps) [] ended lane end begin learnt at = absurd learnt
-at_end {N} {P} lists start answers (p ∷ ps) (e ∷ es) ended zero end begin learnt at =
+pub at_end : {N P : Type 0} (lists : List (List EditOf)) (answers : P → ℕ → Bool → Type 0) (ports : List (PortOf P)) (ends : List (EndOf N)) (ended : AllEnded answers ports ends) (lane : ℕ) (end : EndOf N)
+    → AllLearnt lists answers ports ends ended → slice_get ends lane ≡ Some end → AtPlace lists answers ports (handled answers ports ends ended) lane end
+at_end lists answers [] [] ended lane end learnt at = absurd (cc (at))
+at_end lists answers [] (e ∷ es) ended lane end learnt at = absurd learnt
+at_end lists answers (p ∷ ps) [] ended lane end learnt at = absurd learnt
+at_end {N} {P} lists answers (p ∷ ps) (e ∷ es) ended zero end learnt at =
     let same : e ≡ end = cc (at) in
-    subst (λ (x : EndOf N). AtPlace lists start answers (p ∷ ps) (handled answers (p ∷ ps) (e ∷ es) ended) zero x) same
-    record { port = p; its_lane = refl; begins = begin.0; ended = ended.0; learnt = learnt.0; items = refl }
-at_end lists start answers (p ∷ ps) (e ∷ es) ended (suc lane) end begin learnt at =
-    let rest = at_end lists start answers ps es ended.1 lane end begin.1 learnt.1 at in
-    record { port = rest.port; its_lane = rest.its_lane; begins = rest.begins; ended = rest.ended; learnt = rest.learnt; items = rest.items }
+    subst (λ (x : EndOf N). AtPlace lists answers (p ∷ ps) (handled answers (p ∷ ps) (e ∷ es) ended) zero x) same
+    record { port = p; its_lane = refl; ended = ended.0; learnt = learnt.0; items = refl }
+at_end lists answers (p ∷ ps) (e ∷ es) ended (suc lane) end learnt at =
+    let rest = at_end lists answers ps es ended.1 lane end learnt.1 at in
+    record { port = rest.port; its_lane = rest.its_lane; ended = rest.ended; learnt = rest.learnt; items = rest.items }
 
 -- for each lane there is how it ended
 pub end_of : {N P : Type 0} (lists : List (List EditOf)) (answers : P → ℕ → Bool → Type 0) (ports : List (PortOf P)) (ends : List (EndOf N)) (ended : AllEnded answers ports ends) (lane : ℕ) (port : PortOf P)
@@ -162,13 +172,13 @@ SendsBy who many start calls lanes shares =
     → shares lane ≡ all_sent who lane many [] (visits_by (desk_at start calls) 0 items)
 
 pub sent_share : {N P : Type 0} (lists : List (List EditOf)) (start : Desk) (log : List EntryOf) (answers : P → ℕ → Bool → Type 0) (ports : List (PortOf P)) (lanes : List (List Versioned)) (lane : ℕ) (end : EndOf N) (new : AreNew (lanes_of ports)) (shares : ℕ → List Sent)
-    → AreDesks start log lists → SendsBy new.0 (length (lanes_of ports)) start (calls_of log) lanes shares → AtPlace lists start answers ports lanes lane end → map sent_of (sent end.sink) ≡ shares lane
-sent_share lists start log answers ports lanes lane end new shares desks merged here =
+    → AreDesks start log lists → AllBegin start (lanes_of ports) → SendsBy new.0 (length ports) start (calls_of log) lanes shares → AtPlace lists answers ports lanes lane end → map sent_of (sent end.sink) ≡ shares lane
+sent_share {N} {P} lists start log answers ports lanes lane end new shares desks begin merged here =
     let ran = here.ended.ran in
     let state = here.port.lane.state in
     let is = new.1 lane here.port.lane here.its_lane in
     let known = here.port.lane.reader.lists in
-    let begin = learnt_begin lists answers here.port end here.ended here.learnt in
+    let seen = learnt_begin lists answers here.port end here.ended here.learnt in
     let items = map versioned ran.served in
     let order : InOrder 0 items = lower 0 (length known) items (omega arith) (in_order known ran.done ran.served ran.in_order) in
     let many : length lists ≡ length (calls_of log) = desks.many ∙ sym (length-map log (λ (e : EntryOf). e.call)) in
@@ -177,16 +187,16 @@ sent_share lists start log answers ports lanes lane end new shares desks merged 
     ran.sends [] is.none
     ∙ (ap (λ (w : Asker). all_sent w state.lane state.lanes [] visits) is.who
     ∙ (ap (λ (k : ℕ). all_sent new.0 k state.lanes [] visits) is.number
-    ∙ (ap (λ (k : ℕ). all_sent new.0 lane k [] visits) is.lanes
-    ∙ (ap (λ (d : Desk). all_sent new.0 lane (length (lanes_of ports)) [] (visits_from d 0 ran.served)) here.begins
-    ∙ (ap (all_sent new.0 lane (length (lanes_of ports)) []) (visits_are start log lists 0 ran.served desks begin)
+    ∙ (ap (λ (k : ℕ). all_sent new.0 lane k [] visits) (is.lanes ∙ length-map ports (λ (p : PortOf P). p.lane))
+    ∙ (ap (λ (d : Desk). all_sent new.0 lane (length ports) [] (visits_from d 0 ran.served)) (begins_there start (lanes_of ports) lane here.port.lane begin here.its_lane)
+    ∙ (ap (all_sent new.0 lane (length ports) []) (visits_are start log lists 0 ran.served desks seen)
     ∙ sym (merged lane items here.items order few))))))
 
 -- of what all is given, so is a beginning
 pub first_given : {X : Type 0} (start : Desk) (calls : List Call) (f : X → Sent) (xs ys : List X) → IsPrefix xs ys → AreGiven start calls (map f ys) → AreGiven start calls (map f xs)
 first_given start calls f [] ys p all = tt
 first_given start calls f (x ∷ xs) [] p all = absurd (cc (p.1))
-first_given start calls f (x ∷ xs) (y ∷ ys) p all =
+first_given {X} start calls f (x ∷ xs) (y ∷ ys) p all =
     let heads : x ≡ y = cc (p.1) in
     let tails : xs ++ p.0 ≡ ys = cc (p.1) in
-    (subst (λ (z : _). IsGiven start calls (f z)) (sym heads) all.0, first_given start calls f xs ys (p.0, tails) all.1)
+    (subst (λ (z : X). IsGiven start calls (f z)) (sym heads) all.0, first_given start calls f xs ys (p.0, tails) all.1)

@@ -110,7 +110,7 @@ module _ (who : Asker) (lanes : ℕ) (start : Desk) (events : List Event) where
   }
 
   frames_given : AllKept → (before : List Step) (lane : ℕ) (f : SourceFrame) → IsAfter before lane (Input.frame f) → AreGiven start calls (sent_after who lanes start before lane (Input.frame f))
-  frames_given kept before lane f at = all_map _ _ _ (chosen_given before lane f at) (kept before lane (Input.frame f) at).chosen
+  frames_given kept before lane f at = all_map _ _ (sent_after who lanes start before lane (Input.frame f)) (chosen_given before lane f at) (kept before lane (Input.frame f) at).chosen
 
   -- what goes out on a video stream for the first time
   firsts_given : AllKept → (ssrc : ℕ) (before here after : List Step) → steps ≡ before ++ (here ++ after)
@@ -156,11 +156,11 @@ module _ (who : Asker) (lanes : ℕ) (start : Desk) (events : List Event) where
   input_given : AllKept → (before : List Step) (lane : ℕ) (input : Input) → IsAfter before lane input → AreGiven start calls (sent_after who lanes start before lane input)
   input_given kept before lane (Input.frame f) at = frames_given kept before lane f at
   input_given kept before lane (Input.audio sound) at = tt
-  input_given kept before lane (Input.tick moment) at = all_map _ _ _ (mix_given before lane moment at) (kept before lane (Input.tick moment) at).heard
-  input_given kept before lane (Input.nack request) at = all_map _ _ _ (led_back_given kept before lane request at) (kept before lane (Input.nack request) at)
-  input_given kept before lane (Input.block told) at = all_map _ _ _ (note_given before lane told) (kept before lane (Input.block told) at).each
-  input_given kept before lane (Input.pli loss) at = all_map _ _ _ (loss_given before lane loss) (kept before lane (Input.pli loss) at).each
-  input_given kept before lane (Input.report moment) at = all_map _ _ _ (report_given before lane moment) (kept before lane (Input.report moment) at).each
+  input_given kept before lane (Input.tick moment) at = all_map _ _ (sent_after who lanes start before lane (Input.tick moment)) (mix_given before lane moment at) (kept before lane (Input.tick moment) at).heard
+  input_given kept before lane (Input.nack request) at = all_map _ _ (sent_after who lanes start before lane (Input.nack request)) (led_back_given kept before lane request at) (kept before lane (Input.nack request) at)
+  input_given kept before lane (Input.block told) at = all_map _ _ (sent_after who lanes start before lane (Input.block told)) (note_given before lane told) (kept before lane (Input.block told) at).each
+  input_given kept before lane (Input.pli loss) at = all_map _ _ (sent_after who lanes start before lane (Input.pli loss)) (loss_given before lane loss) (kept before lane (Input.pli loss) at).each
+  input_given kept before lane (Input.report moment) at = all_map _ _ (sent_after who lanes start before lane (Input.report moment)) (report_given before lane moment) (kept before lane (Input.report moment) at).each
 
   lane_given : AllKept → (lane : ℕ) (before here : List Step) → steps ≡ before ++ here → AreGiven start calls (of_lane lane here (along (sent_at who lanes start) before here))
   lane_given kept lane before [] is = tt

@@ -1,18 +1,22 @@
 -- Lanes that learnt of the same publishes (own).
-use Rattle.std.specs.Prelude.{◌≡◌, ◌⊎◌, ℕ, ◌≤◌, Bool, List, [], ◌∷◌, length, map, Some}
-use Rattle.std.specs.List.{AllByRecursion, Contains}
+use Rattle.std.specs.Prelude.{◌≡◌, ◌⊎◌, ℕ, ◌≤◌, Bool, true, List, [], ◌∷◌, length, map, Some}
+use Rattle.std.specs.List.{All, AllByRecursion, Contains}
 use Rattle.std.specs.declared.alloc.Global.{Global}
 use mathlib.Core.List.{IsPrefix}
-use Rattle.desk_rows.specs.Desk.{Desk}
+use Rattle.desk_rows.specs.Desk.{Desk, good}
 use Rattle.desk_rows.specs.Edit.{EditOf}
 use Rattle.versions.specs.Published.{NoticeOf}
 use Rattle.intake.specs.declared.item.Item.{Item}
+use Rattle.bridge_core.specs.Events.{Event}
+use Rattle.operator_desk.specs.Entry.{EntryOf}
+use Rattle.operator_desk.specs.LegalLogs.{calls_of, IsLegal}
+use Rattle.operator_desk.specs.Published.{AreDesks}
 use Rattle.media_workers.specs.declared.parcel.Parcel.{Parcel}
 use Rattle.media_workers.specs.declared.parcel.Parcel.TheVariants.{Work}
 use Rattle.media_workers.specs.LaneRuns.{LaneNow, Served}
 use Rattle.media_workers.specs.Ports.{PortOf}
-use Rattle.media_workers.specs.Bridges.{EndOf, EndsAs, AllEnded}
-use Rattle.lane_laws.specs.Merges.{Versioned}
+use Rattle.media_workers.specs.Bridges.{EndOf, EndsAs, AreNew, AllEnded}
+use Rattle.lane_laws.specs.Merges.{Versioned, merge}
 
 -- one of these parcels has a notice of these lists
 abbrev pub Told : List (List EditOf) → List Parcel → Type 0
@@ -34,9 +38,9 @@ AllLearnt lists answers (p ∷ ps) (e ∷ es) ended = HasLearnt lists answers p 
 abbrev pub lanes_of : {P : Type 0} → List (PortOf P) → List LaneNow
 lanes_of ports = map (λ p. p.lane) ports
 
--- The readers of all lanes begin with this desk.
-abbrev pub AllBegin : {P : Type 0} → Desk → List (PortOf P) → Type 0
-AllBegin start ports = AllByRecursion (λ p. p.lane.reader.start ≡ start) ports
+-- The readers of all these lanes begin with this desk.
+abbrev pub AllBegin : Desk → List LaneNow → Type 0
+AllBegin start lanes = All (λ (lane : LaneNow). lane.reader.start ≡ start) lanes
 
 -- an item that was handled, with its version: how many lists its entry had
 abbrev pub versioned : Served → Versioned
@@ -48,3 +52,18 @@ handled answers [] [] ended = []
 handled answers [] (e ∷ es) ended = []
 handled answers (p ∷ ps) [] ended = []
 handled answers (p ∷ ps) (e ∷ es) ended = map versioned ended.0.ran.served ∷ handled answers ps es ended.1
+
+-- The lanes of one bridge have ended, after each learnt of the calls of this log: it is legal, the lists of some notice lead to its desks, and each lane learnt these.
+pub record EndedAfter {N P : Type 0} (answers : P → ℕ → Bool → Type 0) (start : Desk) (log : List EntryOf) (ports : List (PortOf P)) (ends : List (EndOf N)) : Type 0 where
+  pub first : good start ≡ true
+  pub legal : IsLegal start log
+  pub lists : List (List EditOf)
+  pub desks : AreDesks start log lists
+  pub new : AreNew (lanes_of ports)
+  pub begin : AllBegin start (lanes_of ports)
+  pub ended : AllEnded answers ports ends
+  pub learnt : AllLearnt lists answers ports ends ended
+
+-- the calls of the log and the items that the lanes handled, in one list
+abbrev pub merged : {N P : Type 0} {answers : P → ℕ → Bool → Type 0} {start : Desk} {log : List EntryOf} {ports : List (PortOf P)} {ends : List (EndOf N)} → EndedAfter answers start log ports ends → List Event
+merged {N} {P} {answers} {start} {log} {ports} {ends} h = merge (calls_of log) (handled answers ports ends h.ended)

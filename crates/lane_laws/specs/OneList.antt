@@ -24,6 +24,12 @@ pub record IsOneList {N : Type 0} (who : Asker) (many : ℕ) (start : Desk) (cal
   pub shares : AreShares (steps_of (no_calls start) events) (sends who many start (steps_of (no_calls start) events)) ends
   pub holds : Holds who many start (steps_of (no_calls start) events) (sends who many start (steps_of (no_calls start) events))
 
+-- Each packet that a lane sent goes where the desk of its version has it go.
+abbrev pub SendByVersions : {N : Type 0} → Desk → List Call → List (EndOf N) → Type 0
+SendByVersions {N} start calls ends =
+    (lane : ℕ) (end : EndOf N) → slice_get ends lane ≡ Some end → AreGiven start calls (map sent_of (sent end.sink))
+
 -- Each packet that `pop` gave of a lane goes where the desk of its version has it go.
-abbrev pub AreAllGiven : {P : Type 0} → Desk → List Call → List (PortOf P) → Type 0
-AreAllGiven {P} start calls ports = (lane : ℕ) (port : PortOf P) → slice_get ports lane ≡ Some port → AreGiven start calls (map sent_of port.popped)
+abbrev pub GaveByVersions : {P : Type 0} → Desk → List Call → List (PortOf P) → Type 0
+GaveByVersions {P} start calls ports =
+    (lane : ℕ) (port : PortOf P) → slice_get ports lane ≡ Some port → AreGiven start calls (map sent_of port.popped)

@@ -4,33 +4,29 @@ use Rattle.desk_edit.specs.Calls.{no_calls}
 use Rattle.desk_calls.specs.Accepted.{AreAccepted}
 use Rattle.bridge_core.specs.Sent.{sent_of}
 use Rattle.operator_desk.specs.LegalLogs.{calls_of}
-use Rattle.lane_laws.specs.Merges.{merge}
 use Rattle.lane_laws.specs.NamedVersions.{AreGiven}
-use Rattle.lane_laws.specs.Learnt.{lanes_of, handled}
+use Rattle.lane_laws.specs.Learnt.{handled, merged}
 use Rattle.lane_laws.proofs.Beginnings.{end_of, first_given}
 use Rattle.lane_laws.proofs.running.the_running_headline.Goals as goal
 
 pub returns-clause-holds : goal.returns-clause-holds
-returns-clause-holds g c ports ends start log lists new ended h legal desks begin learnt =
-    let lanes = handled g.P.Pace.answers ports ends ended in
-    let many = length (lanes_of ports) in
-    let events = merge (calls_of log) lanes in
-    let calls = c.calls_keep_their_order.ensures (calls_of log) lanes in
+returns-clause-holds g c start log ports ends h =
+    let calls = c.calls_keep_their_order.ensures (calls_of log) (handled g.P.Pace.answers ports ends h.ended) in
     record {
       calls_are = calls;
-      shares = c.lanes_send_their_shares.ensures ports ends start log lists new ended desks begin learnt;
-      holds = c.legal_lists_hold.ensures new.0 many start events h (subst (AreAccepted (no_calls start)) (sym calls) legal);
+      shares = c.lanes_send_their_shares.ensures start log ports ends h;
+      holds = c.legal_lists_hold.ensures (h.new).0 (length ports) start (merged h) h.first (subst (AreAccepted (no_calls start)) (sym calls) h.legal);
     }
 
+pub returns-clause-sent : goal.returns-clause-sent
+returns-clause-sent g c start log ports ends h lane end at =
+    let calls = c.calls_keep_their_order.ensures (calls_of log) (handled g.P.Pace.answers ports ends h.ended) in
+    let share = c.lanes_send_their_shares.ensures start log ports ends h lane end at in
+    let given = c.packets_go_by_their_versions.ensures (h.new).0 (length ports) lane start (merged h) h.first (subst (AreAccepted (no_calls start)) (sym calls) h.legal) in
+    subst (AreGiven start (calls_of log)) (sym share) (subst (λ cs. AreGiven start cs _) calls given)
+
 pub returns-clause-popped : goal.returns-clause-popped
-returns-clause-popped g c ports ends start log lists new ended h legal desks begin learnt lane port at =
-    let answers = g.P.Pace.answers in
-    let lanes = handled answers ports ends ended in
-    let many = length (lanes_of ports) in
-    let events = merge (calls_of log) lanes in
-    let calls = c.calls_keep_their_order.ensures (calls_of log) lanes in
-    let here = end_of lists answers ports ends ended lane port learnt at in
-    let share = c.lanes_send_their_shares.ensures ports ends start log lists new ended desks begin learnt lane here.0 here.1 in
-    let given = c.packets_go_by_their_versions.ensures new.0 many lane start events h (subst (AreAccepted (no_calls start)) (sym calls) legal) in
-    let all = subst (AreGiven start (calls_of log)) (sym share) (subst (λ cs. AreGiven start cs _) calls given) in
+returns-clause-popped g c start log ports ends h lane port at =
+    let here = end_of h.lists g.P.Pace.answers ports ends h.ended lane port h.learnt at in
+    let all = returns-clause-sent g c start log ports ends h lane here.0 here.1 in
     first_given start (calls_of log) sent_of port.popped (sent here.0.sink) here.2.given all
