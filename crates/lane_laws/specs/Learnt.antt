@@ -20,19 +20,24 @@ use Rattle.lane_laws.specs.Merges.{Versioned, merge}
 
 -- one of these parcels has a notice of these lists
 abbrev pub Told : List (List EditOf) → List Parcel → Type 0
-Told lists parcels = (item : Item Global) × (notice : NoticeOf) × Contains parcels (Work item (Some notice)) × (notice.lists ≡ lists)
+Told lists parcels =
+    (item : Item Global) × (notice : NoticeOf) × Contains parcels (Work item (Some notice)) × (notice.lists ≡ lists)
 
--- The lane knew these lists when it began, or was told of them with one of the items that it handled; and it handled no item by a later version.
-pub record HasLearnt {N P : Type 0} (lists : List (List EditOf)) (answers : P → ℕ → Bool → Type 0) (port : PortOf P) (end : EndOf N) (ended : EndsAs answers port end) : Type 0 where
+-- The lane knew these lists when it began, or was told of them with one of the items that it handled; and it handled no
+-- item by a later version.
+pub record HasLearnt {N P : Type 0} (lists : List (List EditOf)) (answers : P → ℕ → Bool → Type 0) (port : PortOf P)
+    (end : EndOf N) (ended : EndsAs answers port end) : Type 0 where
   pub learnt : IsPrefix lists port.lane.reader.lists ⊎ Told lists ended.ran.done
   pub none_later : AllByRecursion (λ (s : Served). length s.lists ≤ length lists) ended.ran.served
 
 -- The same of each lane.
-abbrev pub AllLearnt : {N P : Type 0} (lists : List (List EditOf)) (answers : P → ℕ → Bool → Type 0) (ports : List (PortOf P)) (ends : List (EndOf N)) → AllEnded answers ports ends → Type 0
+abbrev pub AllLearnt : {N P : Type 0} (lists : List (List EditOf)) (answers : P → ℕ → Bool → Type 0)
+    (ports : List (PortOf P)) (ends : List (EndOf N)) → AllEnded answers ports ends → Type 0
 AllLearnt lists answers [] [] ended = Unit {0}
 AllLearnt lists answers [] (e ∷ es) ended = ⊥
 AllLearnt lists answers (p ∷ ps) [] ended = ⊥
-AllLearnt lists answers (p ∷ ps) (e ∷ es) ended = HasLearnt lists answers p e ended.0 × AllLearnt lists answers ps es ended.1
+AllLearnt lists answers (p ∷ ps) (e ∷ es) ended =
+    HasLearnt lists answers p e ended.0 × AllLearnt lists answers ps es ended.1
 
 -- the lanes as they were handed in
 abbrev pub lanes_of : {P : Type 0} → List (PortOf P) → List LaneNow
@@ -47,14 +52,17 @@ abbrev pub versioned : Served → Versioned
 versioned s = record { version = length s.lists; input = s.input }
 
 -- the items that each lane handled, with their versions
-abbrev pub handled : {N P : Type 0} (answers : P → ℕ → Bool → Type 0) (ports : List (PortOf P)) (ends : List (EndOf N)) → AllEnded answers ports ends → List (List Versioned)
+abbrev pub handled : {N P : Type 0} (answers : P → ℕ → Bool → Type 0) (ports : List (PortOf P)) (ends : List (EndOf N))
+    → AllEnded answers ports ends → List (List Versioned)
 handled answers [] [] ended = []
 handled answers [] (e ∷ es) ended = []
 handled answers (p ∷ ps) [] ended = []
 handled answers (p ∷ ps) (e ∷ es) ended = map versioned ended.0.ran.served ∷ handled answers ps es ended.1
 
--- The lanes of one bridge have ended, after each learnt of the calls of this log: it is legal, the lists of some notice lead to its desks, and each lane learnt these.
-pub record EndedAfter {N P : Type 0} (answers : P → ℕ → Bool → Type 0) (start : Desk) (log : List EntryOf) (ports : List (PortOf P)) (ends : List (EndOf N)) : Type 0 where
+-- The lanes of one bridge have ended, after each learnt of the calls of this log: the log is legal, some lists lead to
+-- its desks, and each lane learnt these lists and handled no item by a later version.
+pub record EndedAfter {N P : Type 0} (answers : P → ℕ → Bool → Type 0) (start : Desk) (log : List EntryOf)
+    (ports : List (PortOf P)) (ends : List (EndOf N)) : Type 0 where
   pub first : good start ≡ true
   pub legal : IsLegal start log
   pub lists : List (List EditOf)
@@ -65,5 +73,6 @@ pub record EndedAfter {N P : Type 0} (answers : P → ℕ → Bool → Type 0) (
   pub learnt : AllLearnt lists answers ports ends ended
 
 -- the calls of the log and the items that the lanes handled, in one list
-abbrev pub merged : {N P : Type 0} {answers : P → ℕ → Bool → Type 0} {start : Desk} {log : List EntryOf} {ports : List (PortOf P)} {ends : List (EndOf N)} → EndedAfter answers start log ports ends → List Event
+abbrev pub merged : {N P : Type 0} {answers : P → ℕ → Bool → Type 0} {start : Desk} {log : List EntryOf}
+    {ports : List (PortOf P)} {ends : List (EndOf N)} → EndedAfter answers start log ports ends → List Event
 merged {N} {P} {answers} {start} {log} {ports} {ends} h = merge (calls_of log) (handled answers ports ends h.ended)

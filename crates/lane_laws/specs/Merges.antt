@@ -18,7 +18,7 @@ of_version version items = filter (λ x. nat_eq x.version version) items
 abbrev pub items_of : ℕ → List Versioned → List Event
 items_of lane items = map (λ x. Event.item lane x.input) items
 
--- the items of a version on these lanes, of which the first has this number: lanes in order, each lane's items in theirs
+-- the items of a version on these lanes, of which the first has this number: lanes in order, each with its items in order
 abbrev pub all_of : (lane version : ℕ) → List (List Versioned) → List Event
 all_of lane version [] = []
 all_of lane version (items ∷ lanes) = items_of lane (of_version version items) ++ all_of (lane + 1) version lanes
@@ -26,7 +26,8 @@ all_of lane version (items ∷ lanes) = items_of lane (of_version version items)
 -- the items of a version, and then each call with the items of the version that it leads to
 abbrev pub merge_from : ℕ → List Call → List (List Versioned) → List Event
 merge_from version [] lanes = all_of 0 version lanes
-merge_from version (call ∷ calls) lanes = all_of 0 version lanes ++ Event.called call ∷ merge_from (version + 1) calls lanes
+merge_from version (call ∷ calls) lanes =
+    all_of 0 version lanes ++ Event.called call ∷ merge_from (version + 1) calls lanes
 
 -- each item stands after the call that led to its version, and before the next one
 abbrev pub merge : List Call → List (List Versioned) → List Event

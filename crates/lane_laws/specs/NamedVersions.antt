@@ -13,7 +13,8 @@ use Rattle.bridge_core.specs.Sent.{Sent, MediaPacket}
 use Rattle.bridge_core.specs.Sent.Sent.{media, control, note}
 use Rattle.lane_laws.specs.Visits.{desk_at}
 
--- By this desk the packet's stream is of a slot that chose this source, whose member is at this address, and the packet goes to the slot's member.
+-- By this desk the packet's stream is of a slot that chose this source, whose member is at this address, and the packet
+-- goes to the slot's member.
 pub record IsForwarded (desk : Desk) (p : MediaPacket) : Type 0 where
   pub source : ℕ
   pub address : Address

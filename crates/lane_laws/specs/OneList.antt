@@ -16,13 +16,16 @@ use Rattle.lane_laws.specs.NamedVersions.{AreGiven}
 
 -- Of what is sent for the items of these steps, each lane, by its place, sent just its share.
 abbrev pub AreShares : {N : Type 0} → List Step → List (List Sent) → List (EndOf N) → Type 0
-AreShares {N} steps all ends = (lane : ℕ) (end : EndOf N) → slice_get ends lane ≡ Some end → map sent_of (sent end.sink) ≡ of_lane lane steps all
+AreShares {N} steps all ends =
+    (lane : ℕ) (end : EndOf N) → slice_get ends lane ≡ Some end → map sent_of (sent end.sink) ≡ of_lane lane steps all
 
--- The lanes of this bridge, so many, sent what this list of calls and items sends from this desk on: its calls are these, each lane sent its share, and of all that is sent what is promised of whole runs holds.
-pub record IsOneList {N : Type 0} (who : Asker) (many : ℕ) (start : Desk) (calls : List Call) (ends : List (EndOf N)) (events : List Event) : Type 0 where
+-- The lanes of this bridge, so many, sent what this list of calls and items sends from this desk on: its calls are
+-- these, each lane sent its share, and of all that is sent what is promised of whole runs holds.
+pub record IsOneList {N : Type 0} (who : Asker) (many : ℕ) (start : Desk) (calls : List Call) (ends : List (EndOf N))
+    (events : List Event) : Type 0 where
   pub calls_are : calls_among events ≡ calls
-  pub shares : AreShares (steps_of (no_calls start) events) (sends who many start (steps_of (no_calls start) events)) ends
-  pub holds : Holds who many start (steps_of (no_calls start) events) (sends who many start (steps_of (no_calls start) events))
+  pub shares : let steps = steps_of (no_calls start) events in AreShares steps (sends who many start steps) ends
+  pub holds : let steps = steps_of (no_calls start) events in Holds who many start steps (sends who many start steps)
 
 -- Each packet that a lane sent goes where the desk of its version has it go.
 abbrev pub SendByVersions : {N : Type 0} → Desk → List Call → List (EndOf N) → Type 0

@@ -58,7 +58,8 @@ pub fn lanes_send_by_one_list()
         (lane : ℕ) (items : List Versioned) →
         slice_get lanes lane ≡ Some items → InOrder 0 items → UpTo (length calls) items →
         (let steps = steps_of (no_calls start) (merge calls lanes) in
-        of_lane lane steps (sends who many start steps) ≡ all_sent who lane many [] (visits_by (desk_at start calls) 0 items)) }
+        of_lane lane steps (sends who many start steps)
+            ≡ all_sent who lane many [] (visits_by (desk_at start calls) 0 items)) }
 {
     lanes_visit_by_one_list();
     lanes_send_for_their_visits();
@@ -66,8 +67,8 @@ pub fn lanes_send_by_one_list()
 
 /// Calls that are accepted one after another lead from a good desk to good desks alone.
 pub fn legal_calls_lead_to_good_desks()
-    ensures { (start : Desk) (events : List Event) → good start ≡ true → AreAccepted (no_calls start) (calls_among events) →
-        AreGood (steps_of (no_calls start) events) }
+    ensures { (start : Desk) (events : List Event) → good start ≡ true →
+        AreAccepted (no_calls start) (calls_among events) → AreGood (steps_of (no_calls start) events) }
 {
     good_desks_stay_good();
 }

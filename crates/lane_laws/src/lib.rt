@@ -2,8 +2,8 @@
 //!
 //! Each lane of a running bridge handles its items by versions that it finds for itself. These laws put the accepted
 //! calls of the desk and the items of all lanes into one list, [`lanes_send_by_one_list`], so that what `bridge_core`
-//! promises of any such list, its `the_headline`, is so of the lanes. Begin with [`the_running_headline`]: it starts from what
-//! `media_workers` promises of `Bridge::close`.
+//! promises of any such list, its `the_headline`, is so of the lanes. Begin with [`the_running_headline`]: it starts
+//! from what `media_workers` promises of `Bridge::close`.
 //!
 //! Each law is a function that does nothing, and whose contract is the law.
 #![tactic(auto)]
