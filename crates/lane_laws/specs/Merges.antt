@@ -18,7 +18,7 @@ of_version version items = filter (λ x. nat_eq x.version version) items
 abbrev pub items_of : ℕ → List Versioned → List Event
 items_of lane items = map (λ x. Event.item lane x.input) items
 
--- the items of a version on these lanes, of which the first has this number: lanes in order, each with its items in order
+-- the items of a version on these lanes, the first of which has this number: by lane, and in each lane in order
 abbrev pub all_of : (lane version : ℕ) → List (List Versioned) → List Event
 all_of lane version [] = []
 all_of lane version (items ∷ lanes) = items_of lane (of_version version items) ++ all_of (lane + 1) version lanes

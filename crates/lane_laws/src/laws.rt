@@ -110,7 +110,6 @@ pub fn packets_go_by_their_versions()
 pub fn undos_give_the_desk_back()
     ensures accepted { (h : CallHistory) (calls : List CallOf) → HaveCommands calls → AreAccepted h calls →
         h.accepted + length calls + length calls ≤ call_limit → AreAccepted h (with_undos h calls) }
-    ensures back { (h : CallHistory) (calls : List CallOf) → HaveCommands calls → AreAccepted h calls →
-        h.accepted + length calls + length calls ≤ call_limit →
+    ensures back { (h : CallHistory) (calls : List CallOf) → HaveCommands calls →
         desk_now (after_calls h (with_undos h calls)) ≡ desk_now h }
 {}

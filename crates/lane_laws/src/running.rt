@@ -1,20 +1,27 @@
 //! Laws of a bridge whose lanes have ended.
 
-ghost use Rattle.std.specs.Prelude.{List, length};
+ghost use Rattle.std.specs.Prelude.{◌≡◌, ℕ, ◌<◌, ◌++◌, List, length, take};
 ghost use Rattle.desk_rows.specs.Desk.{Desk};
+ghost use Rattle.desk_edit.specs.Asked.{CallOf};
 ghost use Rattle.desk_edit.specs.Calls.{no_calls};
+ghost use Rattle.versions.specs.Published.{after_lists};
 ghost use Rattle.bridge_core.specs.Steps.{sends};
 ghost use Rattle.bridge_core.specs.Events.{steps_of};
+ghost use Rattle.bridge_core.specs.Named.{sent_on};
+ghost use Rattle.bridge_core.specs.EveryLane.{to_every};
 ghost use Rattle.operator_desk.specs.Entry.{EntryOf};
-ghost use Rattle.operator_desk.specs.LegalLogs.{calls_of};
+ghost use Rattle.operator_desk.specs.LegalLogs.{calls_of, after_log};
 ghost use Rattle.media_workers.specs.Ports.{PortOf};
 ghost use Rattle.media_workers.specs.Bridges.{EndOf};
+ghost use Rattle.lane_laws.specs.Undone.{HaveCommands, with_undos};
 ghost use Rattle.lane_laws.specs.Learnt.{EndedAfter, merged};
 ghost use Rattle.lane_laws.specs.OneList.{AreShares, IsOneList, SendByVersions, GaveByVersions};
 
 use crate::laws::{
     calls_keep_their_order, lanes_send_by_one_list, legal_lists_hold, packets_go_by_their_versions,
+    undos_give_the_desk_back,
 };
+use bridge_core::lane_count_does_not_matter;
 use media_workers::{Pace, PublisherName};
 
 /// Where every lane learnt of the same publishes and handled no item by a later version, one list of the calls that
@@ -31,11 +38,18 @@ pub fn lanes_send_their_shares<N: PublisherName, P: Pace>()
 /// The headline of a running bridge. Where every lane learnt of the same publishes and handled no item by a later
 /// version, the calls of the log and the items that the lanes handled are one list:
 ///
+/// - where the log ends with commands and as many undos of them, the rows that are published last are those before the
+///   commands, members at their places;
 /// - each lane sent its share of what is sent by this list, and nothing else;
 /// - of all that is sent by it the headline's clauses on packets hold: each is what the desk of its version says, each
 ///   stream numbers without a gap, and what is asked for again leads back;
-/// - each packet that a lane sent, and so each that `pop` gave of it, goes where the desk of its version has it go.
+/// - each packet that a lane sent, and so each that `pop` gave of it, goes where the desk of its version has it go;
+/// - had any other number of lanes been given all of it, each stream would send the same as on one lane.
 pub fn the_running_headline<N: PublisherName, P: Pace>()
+    ensures undone { (start : Desk) (log : List EntryOf) (ports : List (PortOf P)) (ends : List (EndOf N)) →
+        (h : EndedAfter P.answers start log ports ends) (before rest : List EntryOf) (commands : List CallOf) →
+        log ≡ before ++ rest → calls_of rest ≡ with_undos (after_log start before) commands → HaveCommands commands →
+        after_lists start h.lists ≡ after_lists start (take (length before) h.lists) }
     ensures holds { (start : Desk) (log : List EntryOf) (ports : List (PortOf P)) (ends : List (EndOf N)) →
         (h : EndedAfter P.answers start log ports ends) →
         IsOneList (h.new).0 (length ports) start (calls_of log) ends (merged h) }
@@ -43,9 +57,16 @@ pub fn the_running_headline<N: PublisherName, P: Pace>()
         EndedAfter P.answers start log ports ends → SendByVersions start (calls_of log) ends }
     ensures popped { (start : Desk) (log : List EntryOf) (ports : List (PortOf P)) (ends : List (EndOf N)) →
         EndedAfter P.answers start log ports ends → GaveByVersions start (calls_of log) ports }
+    ensures lanes { (start : Desk) (log : List EntryOf) (ports : List (PortOf P)) (ends : List (EndOf N)) →
+        (h : EndedAfter P.answers start log ports ends) (few many ssrc : ℕ) → 0 < few → 0 < many →
+        (let steps = steps_of (no_calls start) (merged h) in
+        sent_on ssrc (sends (h.new).0 few start (to_every few steps))
+            ≡ sent_on ssrc (sends (h.new).0 many start (to_every many steps))) }
 {
+    undos_give_the_desk_back();
     calls_keep_their_order();
     lanes_send_their_shares::<N, P>();
     legal_lists_hold();
     packets_go_by_their_versions();
+    lane_count_does_not_matter();
 }

@@ -3,11 +3,20 @@ use Rattle.rtrb.specs.Ring.{sent}
 use Rattle.desk_edit.specs.Calls.{no_calls}
 use Rattle.desk_calls.specs.Accepted.{AreAccepted}
 use Rattle.bridge_core.specs.Sent.{sent_of}
+use Rattle.bridge_core.specs.Events.{steps_of}
 use Rattle.operator_desk.specs.LegalLogs.{calls_of}
 use Rattle.lane_laws.specs.NamedVersions.{AreGiven}
 use Rattle.lane_laws.specs.Learnt.{handled, merged}
 use Rattle.lane_laws.proofs.Beginnings.{end_of, first_given}
+use Rattle.lane_laws.proofs.UndoneCalls.{desk_back}
 use Rattle.lane_laws.proofs.running.the_running_headline.Goals as goal
+
+pub returns-clause-undone : goal.returns-clause-undone
+returns-clause-undone g c start log ports ends h before rest commands is undone has = desk_back start log before rest h.lists commands h.desks is undone has
+
+pub returns-clause-lanes : goal.returns-clause-lanes
+returns-clause-lanes g c start log ports ends h few many ssrc some others =
+    c.lane_count_does_not_matter.ensures.every_lane (h.new).0 few many start (steps_of (no_calls start) (merged h)) ssrc some others
 
 pub returns-clause-holds : goal.returns-clause-holds
 returns-clause-holds g c start log ports ends h =
