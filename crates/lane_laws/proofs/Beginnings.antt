@@ -25,6 +25,7 @@ use Rattle.operator_desk.specs.LegalLogs.{calls_of, after_log}
 use Rattle.operator_desk.specs.Published.{AreDesks}
 use Rattle.media_workers.specs.declared.parcel.Parcel.{Parcel}
 use Rattle.media_workers.specs.declared.parcel.Parcel.TheVariants.{Work, End}
+use Rattle.media_workers.specs.Parcels.{works}
 use Rattle.media_workers.specs.LaneRuns.{LaneNow, Served, AreServed, visits_from, all_sent}
 use Rattle.media_workers.specs.Ports.{PortOf}
 use Rattle.media_workers.specs.Bridges.{EndOf, EndsAs, AllEnded, AreNew}
@@ -86,6 +87,28 @@ learnt_begin lists answers port end ended has =
     (λ (before : IsPrefix lists known). known_begin lists known ran.done ran.served before ran.in_order has.none_later)
     (λ (told : Told lists ran.done). (told_begin lists known ran.done ran.served told.2.0 told.0 told.1 told.2.1 told.2.2 told.3 ran.in_order has.none_later).1)
     has.learnt
+
+-- what was handled is a beginning of the parcels with items
+handled_first : (known : List (List EditOf)) (ps last : List Parcel) (ss : List Served) → AreServed known ps ss → (works (ps ++ last) ≡ ps ++ works last) × (length ps ≡ length ss)
+handled_first known [] last [] served = (refl, refl)
+handled_first known [] last (s ∷ ss) served = absurd served
+handled_first known (p ∷ ps) last [] served = absurd served
+handled_first known (Work item notice ∷ ps) last (s ∷ ss) served =
+    let rest = handled_first s.lists ps last ss served.1 in
+    (ap (λ (xs : List Parcel). Work item notice ∷ xs) rest.0, ap suc rest.1)
+handled_first known (End ∷ ps) last (s ∷ ss) served = absurd served.0
+
+-- a lane that handled all that it was given learnt what it was told
+pub all_told : {N P : Type 0} (answers : P → ℕ → Bool → Type 0) (port : PortOf P) (end : EndOf N) (ended : EndsAs answers port end) (lists : List (List EditOf))
+    → Told lists port.accepted → end.handled ≡ length port.accepted → Told lists ended.ran.done
+all_told answers port end ended lists told all =
+    let ran = ended.ran in
+    let first = handled_first port.lane.reader.lists ran.done ran.last ran.served ran.in_order in
+    let begins : IsPrefix ran.done port.accepted =
+    prefix_trans ran.done (ran.done ++ works ran.last) port.accepted (works ran.last, refl)
+    (subst (λ (xs : List Parcel). IsPrefix xs port.accepted) (ap works ran.received ∙ first.0) ended.some) in
+    let whole : ran.done ≡ port.accepted = prefix_whole ran.done port.accepted begins (omega (arith, all, ran.count, first.1)) in
+    subst (Told lists) (sym whole) told
 
 -- ---- versions
 

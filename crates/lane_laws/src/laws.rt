@@ -59,7 +59,7 @@ pub fn lanes_send_by_one_list()
         slice_get lanes lane ≡ Some items → InOrder 0 items → UpTo (length calls) items →
         (let steps = steps_of (no_calls start) (merge calls lanes) in
         of_lane lane steps (sends who many start steps)
-            ≡ all_sent who lane many [] (visits_by (desk_at start calls) 0 items)) }
+        ≡ all_sent who lane many [] (visits_by (desk_at start calls) 0 items)) }
 {
     lanes_visit_by_one_list();
     lanes_send_for_their_visits();

@@ -16,4 +16,6 @@ pub use self::laws::{
     lanes_visit_by_one_list, legal_calls_lead_to_good_desks, legal_lists_hold,
     packets_go_by_their_versions, streams_are_sent_by_their_lanes, undos_give_the_desk_back,
 };
-pub use self::running::{lanes_send_their_shares, the_running_headline};
+pub use self::running::{
+    lanes_learn_what_they_handled, lanes_send_their_shares, the_running_headline,
+};

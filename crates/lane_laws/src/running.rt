@@ -2,6 +2,7 @@
 
 ghost use Rattle.std.specs.Prelude.{◌≡◌, ℕ, ◌<◌, ◌++◌, List, length, take};
 ghost use Rattle.desk_rows.specs.Desk.{Desk};
+ghost use Rattle.desk_rows.specs.Edit.{EditOf};
 ghost use Rattle.desk_edit.specs.Asked.{CallOf};
 ghost use Rattle.desk_edit.specs.Calls.{no_calls};
 ghost use Rattle.versions.specs.Published.{after_lists};
@@ -12,9 +13,9 @@ ghost use Rattle.bridge_core.specs.EveryLane.{to_every};
 ghost use Rattle.operator_desk.specs.Entry.{EntryOf};
 ghost use Rattle.operator_desk.specs.LegalLogs.{calls_of, after_log};
 ghost use Rattle.media_workers.specs.Ports.{PortOf};
-ghost use Rattle.media_workers.specs.Bridges.{EndOf};
+ghost use Rattle.media_workers.specs.Bridges.{EndOf, EndsAs};
 ghost use Rattle.lane_laws.specs.Undone.{HaveCommands, with_undos};
-ghost use Rattle.lane_laws.specs.Learnt.{EndedAfter, merged};
+ghost use Rattle.lane_laws.specs.Learnt.{Told, EndedAfter, merged};
 ghost use Rattle.lane_laws.specs.OneList.{AreShares, IsOneList, SendByVersions, GaveByVersions};
 
 use crate::laws::{
@@ -23,6 +24,12 @@ use crate::laws::{
 };
 use bridge_core::lane_count_does_not_matter;
 use media_workers::{Pace, PublisherName};
+
+/// A lane that handled as many items as were accepted for it learnt each notice that came with them.
+pub fn lanes_learn_what_they_handled<N: PublisherName, P: Pace>()
+    ensures { (port : PortOf P) (end : EndOf N) (ended : EndsAs P.answers port end) (lists : List (List EditOf)) →
+        Told lists port.accepted → end.handled ≡ length port.accepted → Told lists ended.ran.done }
+{}
 
 /// Where every lane learnt of the same publishes and handled no item by a later version, one list of the calls that
 /// were published and of the items that the lanes handled gives all that each lane sent.
@@ -61,7 +68,7 @@ pub fn the_running_headline<N: PublisherName, P: Pace>()
         (h : EndedAfter P.answers start log ports ends) (few many ssrc : ℕ) → 0 < few → 0 < many →
         (let steps = steps_of (no_calls start) (merged h) in
         sent_on ssrc (sends (h.new).0 few start (to_every few steps))
-            ≡ sent_on ssrc (sends (h.new).0 many start (to_every many steps))) }
+        ≡ sent_on ssrc (sends (h.new).0 many start (to_every many steps))) }
 {
     undos_give_the_desk_back();
     calls_keep_their_order();
