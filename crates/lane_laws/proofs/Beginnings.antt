@@ -107,7 +107,8 @@ all_told answers port end ended lists told all =
     let begins : IsPrefix ran.done port.accepted =
     prefix_trans ran.done (ran.done ++ works ran.last) port.accepted (works ran.last, refl)
     (subst (λ (xs : List Parcel). IsPrefix xs port.accepted) (ap works ran.received ∙ first.0) ended.some) in
-    let whole : ran.done ≡ port.accepted = prefix_whole ran.done port.accepted begins (omega (arith, all, ran.count, first.1)) in
+    let count : end.handled ≡ length ran.served = ran.count in
+    let whole : ran.done ≡ port.accepted = prefix_whole ran.done port.accepted begins (omega (arith, all, count, first.1)) in
     subst (Told lists) (sym whole) told
 
 -- ---- versions
@@ -157,12 +158,12 @@ begins_there start lanes k lane begin at =
     subst (λ (l : LaneNow). l.reader.start ≡ start) (at_index lanes k lane lane at) (begin k lane (slice_get_within lanes k lane at))
 
 -- the lane of this place, and how it ended
-record AtPlace {N P : Type 0} (lists : List (List EditOf)) (answers : P → ℕ → Bool → Type 0) (ports : List (PortOf P)) (lanes : List (List Versioned)) (lane : ℕ) (end : EndOf N) : Type 0 where
-  port : PortOf P
-  its_lane : slice_get (lanes_of ports) lane ≡ Some port.lane
-  ended : EndsAs answers port end
-  learnt : HasLearnt lists answers port end ended
-  items : slice_get lanes lane ≡ Some (map versioned ended.ran.served)
+pub record AtPlace {N P : Type 0} (lists : List (List EditOf)) (answers : P → ℕ → Bool → Type 0) (ports : List (PortOf P)) (lanes : List (List Versioned)) (lane : ℕ) (end : EndOf N) : Type 0 where
+  pub port : PortOf P
+  pub its_lane : slice_get (lanes_of ports) lane ≡ Some port.lane
+  pub ended : EndsAs answers port end
+  pub learnt : HasLearnt lists answers port end ended
+  pub items : slice_get lanes lane ≡ Some (map versioned ended.ran.served)
 
 pub at_end : {N P : Type 0} (lists : List (List EditOf)) (answers : P → ℕ → Bool → Type 0) (ports : List (PortOf P)) (ends : List (EndOf N)) (ended : AllEnded answers ports ends) (lane : ℕ) (end : EndOf N)
     → AllLearnt lists answers ports ends ended → slice_get ends lane ≡ Some end → AtPlace lists answers ports (handled answers ports ends ended) lane end
