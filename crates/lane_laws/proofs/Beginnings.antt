@@ -1,5 +1,5 @@
 -- Lanes that learnt of the same publishes saw beginnings of one list.
-use Rattle.std.proofs.Common.{Bool, ◌≡◌, ◌⊎◌, ◌+◌, ◌<◌, ◌≤◌, ℕ, zero, suc, List, [], ◌∷◌, ◌++◌, length, map, take, slice_get, Some, None, Option, IfSome, refl, ap, sym, subst, ◌∙◌, ⊎_elim, arith}
+use Rattle.std.proofs.Common.{Bool, ◌≡◌, ◌⊎◌, ◌+◌, ◌<◌, ◌≤◌, ℕ, zero, suc, List, [], ◌∷◌, ◌++◌, length, map, take, slice_get, Some, Option, IfSome, refl, ap, sym, subst, ◌∙◌, ⊎_elim, arith}
 use Rattle.std.specs.List.{AllByRecursion}
 use Rattle.std.specs.Prelude.{slice_index_or}
 use Rattle.std.specs.declared.alloc.Global.{Global}
@@ -21,7 +21,7 @@ use Rattle.bridge_core.specs.Sent.{Sent, sent_of}
 use Rattle.bridge_core.specs.Lanes.{Visit}
 use Rattle.bridge_core.specs.LaneState.{visit_of}
 use Rattle.operator_desk.specs.Entry.{EntryOf}
-use Rattle.operator_desk.specs.LegalLogs.{calls_of, after_log}
+use Rattle.operator_desk.specs.LegalLogs.{calls_of}
 use Rattle.operator_desk.specs.Published.{AreDesks}
 use Rattle.media_workers.specs.declared.parcel.Parcel.{Parcel}
 use Rattle.media_workers.specs.declared.parcel.Parcel.TheVariants.{Work, End}

@@ -1,5 +1,5 @@
 -- Packets go where the desks of their versions have them go.
-use Rattle.std.proofs.Common.{◌≡◌, ◌⊎◌, ◌<◌, ◌≤◌, ℕ, ◌+◌, zero, suc, nat_eq, cond, Bool, true, false, List, [], ◌∷◌, ◌++◌, length, take, Some, None, refl, sym, ap, subst, ◌∙◌, arith, inl, inr, append_assoc}
+use Rattle.std.proofs.Common.{◌≡◌, ◌≤◌, ℕ, ◌+◌, zero, suc, nat_eq, cond, Bool, true, false, List, [], ◌∷◌, ◌++◌, length, take, Some, None, refl, sym, ap, subst, ◌∙◌, arith, inl, inr, append_assoc}
 use Rattle.std.specs.Prelude.{filter}
 use Rattle.std.specs.List.{AllByRecursion, Contains}
 use Rattle.desk_rows.specs.Desk.{Desk}
@@ -14,13 +14,13 @@ use Rattle.bridge_core.specs.Sent.{Sent}
 use Rattle.bridge_core.specs.Lanes.{goes, given_of}
 use Rattle.bridge_core.specs.Steps.{Step, version_of, desk_of, along, sent_at, visits, visit_after, sends}
 use Rattle.bridge_core.specs.Events.{Event, steps_of, calls_among}
-use Rattle.bridge_core.specs.Named.{Name, Kind, is_on, firsts_at, firsts}
+use Rattle.bridge_core.specs.Named.{Kind, is_on, firsts_at}
 use Rattle.bridge_core.specs.Headline.{IsChosenOf, IsMixOf, LeadsBack}
 use Rattle.bridge_core.specs.Telling.{IsSenderReportOf, IsNoteOf, IsPassedUpOf}
 use Rattle.bridge_core.specs.WholeRuns.{sent_after, IsKept}
 use Rattle.lane_laws.specs.Visits.{desk_at}
 use Rattle.lane_laws.specs.Shares.{of_lane}
-use Rattle.lane_laws.specs.NamedVersions.{IsForwarded, IsInMix, IsOfItsVersion, IsGiven, AreGiven}
+use Rattle.lane_laws.specs.NamedVersions.{IsForwarded, IsInMix, IsGiven, AreGiven}
 
 -- ---- facts of all elements
 

@@ -1,5 +1,5 @@
 -- What one lane sends.
-use Rattle.std.proofs.Common.{◌≡◌, ◌≢◌, ℕ, ◌%◌, true, false, cond, nat_eq, if◌then◌else◌, List, [], ◌∷◌, ◌++◌, refl, sym, ap, subst, ◌∙◌, arith, inl, inr}
+use Rattle.std.proofs.Common.{◌≡◌, ℕ, ◌%◌, true, false, cond, nat_eq, if◌then◌else◌, List, [], ◌∷◌, ◌++◌, refl, sym, ap, ◌∙◌, arith, inl, inr}
 use Rattle.std.specs.Prelude.{filter}
 use Rattle.std.specs.List.{flat_map}
 use Rattle.std.proofs.lemmas.Bool.{cases_eq}
@@ -7,7 +7,6 @@ use Rattle.std.proofs.lemmas.Bool.Decides.{nat_tests}
 use Rattle.std.proofs.lemmas.List.Elements.{filter-append}
 use Rattle.desk_rows.specs.Desk.{Desk}
 use Rattle.feedback.specs.Upstream.{Asker}
-use Rattle.intake.specs.Inputs.{Input}
 use Rattle.bridge_core.specs.Sent.{Sent}
 use Rattle.forward_rewrite.specs.OwnStreams.{is_mine}
 use Rattle.bridge_core.specs.Lanes.{Visit, sent_of_input, sends_at}

@@ -8,7 +8,7 @@ use Rattle.desk_edit.specs.declared.command.Command.{Command}
 use Rattle.desk_edit.specs.Asked.{CallOf as Call}
 use Rattle.desk_edit.specs.Asked.CallOf.{Apply, Group, Undo, Redo}
 use Rattle.desk_edit.specs.Groups.{desk_after_all}
-use Rattle.desk_edit.specs.Calls.{CallHistory, no_calls, desk_now, call_limit, refusal_at, refusal_of, after_call, front, final}
+use Rattle.desk_edit.specs.Calls.{CallHistory, no_calls, desk_now, call_limit, refusal_at, refusal_of, after_call, front}
 use Rattle.desk_calls.specs.Accepted.{after_calls, AreAccepted}
 use Rattle.versions.specs.Published.{after_lists}
 use Rattle.operator_desk.specs.Entry.{EntryOf}

@@ -1,4 +1,4 @@
-use Rattle.std.proofs.Common.{[], ◌∷◌, refl, subst}
+use Rattle.std.proofs.Common.{◌∷◌, refl, subst}
 use Rattle.desk_edit.specs.Calls.{no_calls}
 use Rattle.intake.specs.Inputs.{Input}
 use Rattle.bridge_core.specs.Steps.{Step}
