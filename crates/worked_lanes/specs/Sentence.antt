@@ -34,10 +34,11 @@ NoneLater lists answers [] [] ended = Unit {0}
 NoneLater lists answers [] (e ∷ es) ended = ⊥
 NoneLater lists answers (p ∷ ps) [] ended = ⊥
 NoneLater lists answers (p ∷ ps) (e ∷ es) ended =
-    AllByRecursion (λ (s : Served). length s.lists ≤ length lists) ended.0.ran.served × NoneLater lists answers ps es ended.1
+    AllByRecursion (λ (s : Served). length s.lists ≤ length lists) ended.0.ran.served
+    × NoneLater lists answers ps es ended.1
 
--- Some lanes ended so, whose last notice led to the desks of this log; and where none of them handled an item by a later
--- version, each packet that they sent goes where the desk of its version has it go, by the log.
+-- Some lanes ended so, and some lists lead to the desks of this log; and where none of the lanes handled an item by a
+-- version later than these, each packet that they sent goes where the desk of its version has it go, by the log.
 pub record IsSentence {N P : Type 0} (answers : P → ℕ → Bool → Type 0) (start : Desk) (log : List EntryOf)
     (ends : List (EndOf N)) : Type 0 where
   pub lists : List (List EditOf)

@@ -20,8 +20,8 @@ use std::sync::Wait;
 use std::thread::Threads;
 use versions::Notice;
 
-/// Makes an operator's call, tells both lanes of a bridge of it, each with a tick, and ends the bridge. `None` where the
-/// call is refused, or a lane did not handle its tick.
+/// Makes an operator's call, tells both lanes of a bridge of it, each with a tick, and ends the bridge. `None` where
+/// the call is refused, or a lane did not handle its tick.
 ///
 /// Where neither lane handled its tick by a later version, each packet that a lane sent goes where the desk of the
 /// version that it names has it go, by the log that the seat has seen.
