@@ -1,6 +1,8 @@
 //! An edit of a desk as large as there may be.
 
-use desk_rows::{Codec, Edit, MAX_MEMBERS, MAX_SLOTS, Member, Part, Placed, Replaced, Row, Rows, Sub};
+use desk_rows::{
+    Codec, Edit, MAX_MEMBERS, MAX_SLOTS, Member, Part, Placed, Replaced, Row, Rows, Sub,
+};
 use rtp_codec::Address;
 use std::test::Fail;
 use undo_log::Reversible;
