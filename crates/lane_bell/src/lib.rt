@@ -1,0 +1,20 @@
+//! A pace for lanes that sleep while there is nothing to do.
+//!
+//! Begin with a [`Bell`] for each lane. [`Rung`] is its pace. After each accepted `Bridge::push` ring the bell, and open
+//! it before the lane gets its `End`. A lane whose bell is silent takes no processor time.
+//!
+//! ```
+//! let bell = Arc::new(alloc, Bell::new())?;
+//! paces.push(Rung::by(rt, Arc::try_clone(&bell)?))?;
+//! let mut bridge = Bridge::<N, _>::start(&rt, alloc, lanes, paces)?;
+//! if bridge.push(0, parcel).is_ok() {
+//!     bell.ring(&rt, 1);
+//! }
+//! bell.open(&rt);
+//! bridge.close(&rt);
+//! ```
+#![tactic(auto)]
+
+mod bell;
+
+pub use self::bell::{Bell, Rung};
