@@ -1,0 +1,59 @@
+-- Each call passes all tests.
+use Rattle.std.proofs.Common.{◌≡◌, ℕ, Bool, true, false, not, if◌then◌else◌, List, codes, Option, Some, None, refl}
+use Rattle.http.specs.declared.request.Request.{Request}
+use Rattle.http.specs.Request.{head_of, body_of}
+use Rattle.http_uri.specs.Uri.{uri_path}
+use Rattle.desk_http.specs.declared.site.Site.{Site}
+use Rattle.desk_http.specs.declared.asking.Wish.{Wish}
+use Rattle.desk_http.specs.declared.asking.Wish.TheVariants.{Page, Script, Style, Desk, Call, Refused}
+use Rattle.desk_http.specs.declared.asking.Refusal.{Refusal}
+use Rattle.desk_http.specs.declared.asking.Refusal.TheVariants.{ForeignHost, ForeignOrigin, NotAllowed, NoToken, NoLine, Reserved}
+use Rattle.desk_http.specs.declared.asking.Place.{Place}
+use Rattle.desk_http.specs.declared.asking.Place.TheVariants as places
+use Rattle.desk_http.specs.Asked.{wish_of, wish_at, call_wish, line_wish, place_of, has_own_host, has_own_origin, has_token, is_method}
+use Rattle.desk_http.specs.Lines.{is_line, is_reserved}
+use Rattle.desk_http.specs.Guarded.{Passes}
+
+-- a wish behind two tests is a call only where both pass
+two_tests : (a b : Bool) (x y : Refusal) (w : Wish) → (if not a then Refused x else if not b then Refused y else w) ≡ Call
+    → (a ≡ true) × (b ≡ true) × (w ≡ Call)
+two_tests false b x y w e = absurd (cc)
+two_tests true false x y w e = absurd (cc)
+two_tests true true x y w e = (refl, refl, e)
+
+-- a line is a call only if it is one, and not reserved
+line_tests : (a b : Bool) → (if not a then Refused NoLine else if b then Refused Reserved else Call) ≡ Call
+    → (a ≡ true) × (b ≡ false)
+line_tests false b e = absurd (cc)
+line_tests true true e = absurd (cc)
+line_tests true false e = (refl, refl)
+
+-- what a GET alone may have is no call
+got_no : (a : Bool) (w : Wish) → (w ≡ Call → ⊥) → (if a then w else Refused NotAllowed) ≡ Call → ⊥
+got_no true w h e = h e
+got_no false w h e = cc
+
+-- a call is at its path
+at_call : (site : Site) (request : Request (List ℕ)) (p : Option Place) → wish_at site request p ≡ Call → call_wish site request ≡ Call
+at_call site request None e = absurd (cc)
+at_call site request (Some places.Page) e = absurd (got_no (is_method request (codes "GET")) Page (λ h. cc) e)
+at_call site request (Some places.Script) e = absurd (got_no (is_method request (codes "GET")) Script (λ h. cc) e)
+at_call site request (Some places.Style) e = absurd (got_no (is_method request (codes "GET")) Style (λ h. cc) e)
+at_call site request (Some places.Desk) e = absurd (got_no (is_method request (codes "GET")) Desk (λ h. cc) e)
+at_call site request (Some places.Call) e = e
+
+pub call-passes : (site : Site) (request : Request (List ℕ)) → wish_of site request ≡ Call → Passes site request
+call-passes site request e =
+    let place = place_of (uri_path (head_of request).uri) in
+    let own = two_tests (has_own_host site request) (has_own_origin site request) ForeignHost ForeignOrigin (wish_at site request place) e in
+    let called = at_call site request place own.2 in
+    let posted = two_tests (is_method request (codes "POST")) (has_token site request) NotAllowed NoToken (line_wish (body_of request)) called in
+    let line = line_tests (is_line (body_of request)) (is_reserved (body_of request)) posted.2 in
+    record {
+      host = own.0;
+      origin = own.1;
+      method = posted.0;
+      token = posted.1;
+      line = line.0;
+      open_word = line.1;
+    }

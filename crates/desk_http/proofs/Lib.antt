@@ -1,0 +1,2 @@
+mod ErrandLemmas
+mod GuardLemmas

@@ -1,0 +1,92 @@
+-- What a request asks for (own).
+use Rattle.std.specs.Prelude.{ℕ, Bool, true, false, not, ◌&&◌, ◌||◌, if◌then◌else◌, List, length, take, drop, nat_le, codes, Option, Some, None}
+use Rattle.std.specs.Str.{bytes_eq}
+use Rattle.http.specs.declared.request.Request.{Request}
+use Rattle.http.specs.Request.{head_of, body_of}
+use Rattle.http_header.specs.FieldValue.{FieldValue}
+use Rattle.http_header.specs.HeaderMap.{get}
+use Rattle.http_uri.specs.Uri.{uri_path}
+use Rattle.desk_http.specs.declared.site.Site.{Site}
+use Rattle.desk_http.specs.declared.asking.Wish.{Wish}
+use Rattle.desk_http.specs.declared.asking.Wish.TheVariants as wishes
+use Rattle.desk_http.specs.declared.asking.Refusal.TheVariants.{ForeignHost, ForeignOrigin, NotFound, NotAllowed, NoToken, NoLine, Reserved}
+use Rattle.desk_http.specs.declared.asking.Place.{Place}
+use Rattle.desk_http.specs.declared.asking.Place.TheVariants as places
+use Rattle.desk_http.specs.Lines.{is_line, is_reserved}
+
+-- the page's own host, by its address or by name
+abbrev pub is_host_of : Site → List ℕ → Bool
+is_host_of site host = bytes_eq host site.host.items || bytes_eq host site.local.items
+
+-- the page's own origin (RFC 6454 section 6.2)
+abbrev pub is_origin_of : Site → List ℕ → Bool
+is_origin_of site origin =
+    nat_le 7 (length origin) && bytes_eq (take 7 origin) (codes "http://") && is_host_of site (drop 7 origin)
+
+-- the first field of this name
+abbrev pub field_of : Request (List ℕ) → List ℕ → Option FieldValue
+field_of request name = get (head_of request).headers name
+
+abbrev pub test_or : Bool → (List ℕ → Bool) → Option FieldValue → Bool
+test_or otherwise test None = otherwise
+test_or otherwise test (Some value) = test value.bytes
+
+-- the request names the page's host
+abbrev pub has_own_host : Site → Request (List ℕ) → Bool
+has_own_host site request = test_or false (is_host_of site) (field_of request (codes "host"))
+
+-- the request comes from the page itself, or from no page
+abbrev pub has_own_origin : Site → Request (List ℕ) → Bool
+has_own_origin site request = test_or true (is_origin_of site) (field_of request (codes "origin"))
+
+-- the request has the page's token
+abbrev pub has_token : Site → Request (List ℕ) → Bool
+has_token site request = test_or false (λ value. bytes_eq value site.token.items) (field_of request (codes "x-desk-token"))
+
+-- the request has this method
+abbrev pub is_method : Request (List ℕ) → List ℕ → Bool
+is_method request method = bytes_eq (head_of request).method method
+
+-- what stands at a path
+abbrev pub place_of : List ℕ → Option Place
+place_of path =
+    if bytes_eq path (codes "/") then Some places.Page
+    else if bytes_eq path (codes "/page.js") then Some places.Script
+    else if bytes_eq path (codes "/page.css") then Some places.Style
+    else if bytes_eq path (codes "/desk") then Some places.Desk
+    else if bytes_eq path (codes "/call") then Some places.Call
+    else None
+
+-- what a call with this body asks for
+abbrev pub line_wish : List ℕ → Wish
+line_wish body =
+    if not (is_line body) then wishes.Refused NoLine
+    else if is_reserved body then wishes.Refused Reserved
+    else wishes.Call
+
+-- what a request to `/call` asks for
+abbrev pub call_wish : Site → Request (List ℕ) → Wish
+call_wish site request =
+    if not (is_method request (codes "POST")) then wishes.Refused NotAllowed
+    else if not (has_token site request) then wishes.Refused NoToken
+    else line_wish (body_of request)
+
+-- a wish that a GET alone may have
+abbrev pub got : Request (List ℕ) → Wish → Wish
+got request wish = if is_method request (codes "GET") then wish else wishes.Refused NotAllowed
+
+-- what a request of the page's own asks for
+abbrev pub wish_at : Site → Request (List ℕ) → Option Place → Wish
+wish_at site request None = wishes.Refused NotFound
+wish_at site request (Some places.Page) = got request wishes.Page
+wish_at site request (Some places.Script) = got request wishes.Script
+wish_at site request (Some places.Style) = got request wishes.Style
+wish_at site request (Some places.Desk) = got request wishes.Desk
+wish_at site request (Some places.Call) = call_wish site request
+
+-- what a request asks for
+abbrev pub wish_of : Site → Request (List ℕ) → Wish
+wish_of site request =
+    if not (has_own_host site request) then wishes.Refused ForeignHost
+    else if not (has_own_origin site request) then wishes.Refused ForeignOrigin
+    else wish_at site request (place_of (uri_path (head_of request).uri))

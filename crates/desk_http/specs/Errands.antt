@@ -1,0 +1,61 @@
+-- The way of a request's line to the bridge (own).
+use Rattle.std.specs.Prelude.{◌≡◌, ℕ, ◌≤◌, List, [], ◌∷◌, ◌++◌, length, Option, Some, None}
+use Rattle.desk_http.specs.declared.errand.Errand.{Errand}
+use Rattle.desk_http.specs.declared.errand.Errand.TheVariants as errands
+
+-- no line has come, this line waits, or it was handed over
+pub data Stage : Type 0 where
+  hearing : Stage
+  waiting : List ℕ → Stage
+  handed : Stage
+
+-- how far a line has come
+abbrev pub stage_of : Errand → Stage
+stage_of errands.Hearing = hearing
+stage_of (errands.Waiting line) = waiting line.items
+stage_of errands.Handed = handed
+
+-- a line is wanted: it counts where there was none before
+abbrev pub after_want : List ℕ → Stage → Stage
+after_want line hearing = waiting line
+after_want line (waiting earlier) = waiting earlier
+after_want line handed = handed
+
+-- the line that is taken to the bridge
+abbrev pub line_at : Stage → Option (List ℕ)
+line_at hearing = None
+line_at (waiting line) = Some line
+line_at handed = None
+
+-- the line was taken
+abbrev pub after_take : Stage → Stage
+after_take hearing = hearing
+after_take (waiting line) = handed
+after_take handed = handed
+
+-- what happens to a request's line: the line is wanted, or the bridge is free for one
+pub data Event : Type 0 where
+  wants : List ℕ → Event
+  takes : Event
+
+abbrev pub after : Event → Stage → Stage
+after (wants line) stage = after_want line stage
+after takes stage = after_take stage
+
+-- the lines that an event hands to the bridge
+abbrev pub listed : Option (List ℕ) → List (List ℕ)
+listed None = []
+listed (Some line) = line ∷ []
+
+abbrev pub given_by : Event → Stage → List (List ℕ)
+given_by (wants line) stage = []
+given_by takes stage = listed (line_at stage)
+
+-- the lines that events hand to the bridge, one after another
+abbrev pub given : List Event → Stage → List (List ℕ)
+given [] stage = []
+given (event ∷ events) stage = given_by event stage ++ given events (after event stage)
+
+-- whatever happens, one line at most goes to the bridge
+abbrev pub GoesOnce : Type 0
+GoesOnce = (events : List Event) → length (given events hearing) ≤ 1

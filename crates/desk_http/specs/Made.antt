@@ -1,0 +1,15 @@
+-- The calls that were made through the page, and how they are told (own).
+use Rattle.std.specs.Prelude.{ℕ, if◌then◌else◌, nat_lt, List, ◌++◌, length, drop, flat_map, codes}
+use Rattle.std.specs.declared.vec.Vec.{Vec}
+
+-- the calls beside which another one is kept: 255 at most, once they were no more than 256
+abbrev pub newest : {X : Type 0} → List X → List X
+newest calls = if nat_lt (length calls) 256 then calls else drop 1 calls
+
+-- a call in two lines: its line, and the line of its answer with its LF
+abbrev pub call_text : List ℕ → List ℕ → List ℕ
+call_text line said = codes "call " ++ line ++ codes "\nsaid " ++ said
+
+-- calls in order
+abbrev pub calls_text : {A : Type 0} → List (Vec ℕ A × Vec ℕ A) → List ℕ
+calls_text calls = flat_map (λ call. call_text call.0.items call.1.items) calls

@@ -1,0 +1,209 @@
+//! What a request asks for.
+
+ghost use Rattle.std.specs.Prelude.{◌≡◌, ◌≤◌, length};
+ghost use Rattle.std.specs.List.{list_all, prefix_len};
+ghost use Rattle.desk_http.specs.Asked.{place_of, line_wish, call_wish, got, wish_at, wish_of, has_own_host, has_own_origin, has_token};
+ghost use Rattle.desk_http.specs.Lines.{is_printed, is_no_space, first_word, is_reserved, is_line};
+
+use crate::Site;
+use bytes::Bytes;
+use http::{Request, header};
+
+/// How many octets a line has at most.
+pub const MAX_LINE: usize = 4_096;
+
+/// What a request asks for.
+#[derive(Clone, Copy, PartialEq, Eq)]
+pub enum Wish {
+    /// The page.
+    Page,
+    /// The page's script.
+    Script,
+    /// The page's style sheet.
+    Style,
+    /// The desk as it stands.
+    Desk,
+    /// The answer to the line in its body.
+    Call,
+    /// Nothing that it gets.
+    Refused(Refusal),
+}
+
+/// Why a request is refused. The first that holds is told.
+#[derive(Clone, Copy, PartialEq, Eq)]
+pub enum Refusal {
+    /// It names another host, or none.
+    ForeignHost,
+    /// A page of another origin sends it.
+    ForeignOrigin,
+    /// Nothing is at its path.
+    NotFound,
+    /// Its method isn't the one of its path.
+    NotAllowed,
+    /// It doesn't have the page's token.
+    NoToken,
+    /// Its body isn't 1 to 4,096 printed octets.
+    NoLine,
+    /// Its body begins with `show`, `quit` or `stop`.
+    Reserved,
+}
+
+/// What stands at a path.
+#[derive(Clone, Copy, PartialEq, Eq)]
+pub(crate) enum Place {
+    Page,
+    Script,
+    Style,
+    Desk,
+    Call,
+}
+
+/// What stands at a path, if anything.
+fn stands_at(path: &str) -> Option<Place>
+    ensures { result ≡ place_of path.now }
+{
+    if path == "/" {
+        Some(Place::Page)
+    } else if path == "/page.js" {
+        Some(Place::Script)
+    } else if path == "/page.css" {
+        Some(Place::Style)
+    } else if path == "/desk" {
+        Some(Place::Desk)
+    } else if path == "/call" {
+        Some(Place::Call)
+    } else {
+        None
+    }
+}
+
+/// Whether each octet is one from a space to `~`.
+fn is_printed(body: &[u8]) -> bool
+    ensures { result ≡ list_all is_printed body.now }
+{
+    body.iter().all(|octet| 32 <= *octet && *octet <= 126)
+}
+
+/// Whether a body is a line: 1 to 4,096 printed octets.
+fn is_line(body: &[u8]) -> bool
+    ensures { result ≡ is_line body.now }
+{
+    0 < body.len() && body.len() <= MAX_LINE && is_printed(body)
+}
+
+/// How many octets stand before the first space.
+fn word_length(line: &[u8]) -> usize
+    ensures value { result ≡ prefix_len is_no_space line.now }
+    ensures within { result ≤ length line.now }
+{
+    line.iter().take_while(|octet| **octet != b' ').count()
+}
+
+/// The octets before the first space.
+fn first_word(line: &[u8]) -> &[u8]
+    ensures { result.now ≡ first_word line.now }
+{
+    &line[..word_length(line)]
+}
+
+/// Whether a line begins with a word that isn't for the page's operators.
+fn is_reserved(line: &[u8]) -> bool
+    ensures { result ≡ is_reserved line.now }
+{
+    let word = first_word(line);
+    word == b"show".as_slice() || word == b"quit".as_slice() || word == b"stop".as_slice()
+}
+
+/// What a call with this body asks for.
+fn of_line(body: &[u8]) -> Wish
+    ensures { result ≡ line_wish body.now }
+{
+    if !is_line(body) {
+        Wish::Refused(Refusal::NoLine)
+    } else if is_reserved(body) {
+        Wish::Refused(Refusal::Reserved)
+    } else {
+        Wish::Call
+    }
+}
+
+/// Whether a request names the page's host.
+fn has_own_host(site: &Site, request: &Request<Bytes>) -> bool
+    ensures { result ≡ has_own_host site.now request.now }
+{
+    match request.headers().get(header::HOST) {
+        Some(value) => site.is_host(value.as_bytes()),
+        None => false,
+    }
+}
+
+/// Whether a request comes from the page itself, or from no page.
+fn has_own_origin(site: &Site, request: &Request<Bytes>) -> bool
+    ensures { result ≡ has_own_origin site.now request.now }
+{
+    match request.headers().get(header::ORIGIN) {
+        Some(value) => site.is_origin(value.as_bytes()),
+        None => true,
+    }
+}
+
+/// Whether a request has the page's token.
+fn has_token(site: &Site, request: &Request<Bytes>) -> bool
+    ensures { result ≡ has_token site.now request.now }
+{
+    match request.headers().get("x-desk-token") {
+        Some(value) => value.as_bytes() == site.token.as_slice(),
+        None => false,
+    }
+}
+
+/// What a request to `/call` asks for.
+fn call(site: &Site, request: &Request<Bytes>) -> Wish
+    ensures { result ≡ call_wish site.now request.now }
+{
+    if request.method().as_str() != "POST" {
+        Wish::Refused(Refusal::NotAllowed)
+    } else if !has_token(site, request) {
+        Wish::Refused(Refusal::NoToken)
+    } else {
+        of_line(request.body().as_slice())
+    }
+}
+
+/// A wish that a GET alone may have.
+fn got(request: &Request<Bytes>, wish: Wish) -> Wish
+    ensures { result ≡ got request.now wish }
+{
+    if request.method().as_str() == "GET" {
+        wish
+    } else {
+        Wish::Refused(Refusal::NotAllowed)
+    }
+}
+
+/// What a request of the page's own asks for.
+fn at_place(site: &Site, request: &Request<Bytes>, place: Option<Place>) -> Wish
+    ensures { result ≡ wish_at site.now request.now place }
+{
+    match place {
+        Some(Place::Page) => got(request, Wish::Page),
+        Some(Place::Script) => got(request, Wish::Script),
+        Some(Place::Style) => got(request, Wish::Style),
+        Some(Place::Desk) => got(request, Wish::Desk),
+        Some(Place::Call) => call(site, request),
+        None => Wish::Refused(Refusal::NotFound),
+    }
+}
+
+/// What a request asks for.
+pub fn asked_for(site: &Site, request: &Request<Bytes>) -> Wish
+    ensures { result ≡ wish_of site.now request.now }
+{
+    if !has_own_host(site, request) {
+        Wish::Refused(Refusal::ForeignHost)
+    } else if !has_own_origin(site, request) {
+        Wish::Refused(Refusal::ForeignOrigin)
+    } else {
+        at_place(site, request, stands_at(request.uri().path()))
+    }
+}

@@ -1,0 +1,72 @@
+//! The calls that were made through the page.
+
+ghost use Rattle.std.specs.Prelude.{◌≡◌, ◌++◌, ◌∷◌, [], OnOk, OnErr};
+ghost use Rattle.desk_http.specs.Made.{newest, call_text, calls_text};
+
+use std::alloc::{AllocError, Global};
+
+/// How many calls are kept.
+const CALLS: usize = 256;
+
+/// The last 256 calls that were made through the page.
+#[derive(Drop)]
+pub struct Calls {
+    /// The line of each call, and the line of its answer with its LF. The oldest stands first.
+    pub entries: Vec<(Vec<u8>, Vec<u8>)>,
+}
+
+/// Lets the oldest call go where no further one is kept beside it.
+fn let_go(entries: &mut Vec<(Vec<u8>, Vec<u8>)>)
+    ensures { entries.new.items ≡ newest entries.old.items }
+{
+    if entries.len() >= CALLS {
+        let _oldest = entries.remove(0);
+    }
+}
+
+/// Appends a call to a text.
+fn append_call(text: &mut Vec<u8>, line: &[u8], said: &[u8]) -> Result<(), AllocError>
+    ensures { OnOk result (text.new.items ≡ text.old.items ++ call_text line.now said.now) }
+{
+    text.extend_from_slice(b"call ")?;
+    text.extend_from_slice(line)?;
+    text.extend_from_slice(b"\nsaid ")?;
+    text.extend_from_slice(said)
+}
+
+/// Appends calls to a text.
+fn append_calls(text: &mut Vec<u8>, calls: &[(Vec<u8>, Vec<u8>)]) -> Result<(), AllocError>
+    ensures { OnOk result (text.new.items ≡ text.old.items ++ calls_text calls.now) }
+{
+    for call in calls {
+        append_call(text, &call.0, &call.1)?;
+    }
+    Ok(())
+}
+
+impl Calls {
+    /// No call was made yet.
+    pub fn new(alloc: Global) -> Self
+        ensures { result.entries.items ≡ [] }
+    {
+        Self {
+            entries: Vec::new(alloc),
+        }
+    }
+
+    /// Adds a call: its line, and the line of its answer with its LF. An `Err` adds nothing.
+    pub fn push(&mut self, line: Vec<u8>, said: Vec<u8>) -> Result<(), AllocError>
+        ensures ok { OnOk result (self.new.entries.items ≡ newest self.old.entries.items ++ (line, said) ∷ []) }
+        ensures err { OnErr result (self.new.entries.items ≡ newest self.old.entries.items) }
+    {
+        let_go(&mut self.entries);
+        Ok(self.entries.push((line, said))?)
+    }
+
+    /// Appends all of them to a text, the oldest first. An `Err` may append a part.
+    pub fn append_to(&self, text: &mut Vec<u8>) -> Result<(), AllocError>
+        ensures { OnOk result (text.new.items ≡ text.old.items ++ calls_text self.now.entries.items) }
+    {
+        append_calls(text, &self.entries)
+    }
+}

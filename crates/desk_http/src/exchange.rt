@@ -1,0 +1,157 @@
+//! A line that was sent to the bridge, and what has come of its answer.
+
+ghost use Rattle.std.specs.Prelude.{◌≡◌, ◌+◌, ◌++◌, ◌∷◌, [], ◌≤◌, length, IfOk, OnOk, OnErr, option_map};
+ghost use Rattle.std.specs.List.{suffix_len};
+ghost use Rattle.desk_http.specs.Exchanges.{is_no_end, ended, has_end, begins_end, progress_of, call_progress, show_progress};
+
+use std::alloc::{AllocError, Global};
+
+/// How many octets an answer has at most.
+const MAX_ANSWER: usize = 16_777_216;
+
+/// What has come of an answer.
+#[derive(Clone, Copy, PartialEq, Eq)]
+pub enum Progress {
+    /// A part of it, or nothing.
+    More,
+    /// All of it, and nothing else.
+    Whole,
+    /// That the bridge has no seat. It hasn't taken the line.
+    Busy,
+    /// What is no answer.
+    Broken,
+}
+
+/// A line that the bridge was sent, and what has come since then. No other line is sent meanwhile.
+#[derive(Drop)]
+pub struct Exchange {
+    /// The line, without its LF.
+    pub line: Vec<u8>,
+    /// All octets that have come since it was sent.
+    pub got: Vec<u8>,
+}
+
+/// The text before the LF at its end, if it has one there.
+fn ended(text: &[u8]) -> Option<&[u8]>
+    ensures { option_map (λ x. x.now) result ≡ ended text.now }
+{
+    let length = text.len();
+    if length > 0 && text[length - 1] == b'\n' {
+        Some(&text[..length - 1])
+    } else {
+        None
+    }
+}
+
+/// Where the last line of a text begins.
+fn last_start(text: &[u8]) -> usize
+    ensures value { result + suffix_len is_no_end text.now ≡ length text.now }
+    ensures within { result ≤ length text.now }
+{
+    let mut start = text.len();
+    while start > 0 && text[start - 1] != b'\n' {
+        start -= 1;
+    }
+    start
+}
+
+/// Whether the last line of a text begins with `end `.
+fn begins_end(text: &[u8]) -> bool
+    ensures { result ≡ begins_end text.now }
+{
+    let line = &text[last_start(text)..];
+    line.len() >= 4 && &line[..4] == b"end ".as_slice()
+}
+
+/// Whether an LF is in a text.
+fn has_end(text: &[u8]) -> bool
+    ensures { result ≡ has_end text.now }
+{
+    text.iter().any(|octet| *octet == b'\n')
+}
+
+/// What has come of the answer to `show`.
+fn show_progress(got: &[u8]) -> Progress
+    ensures { result ≡ show_progress (ended got.now) }
+{
+    match ended(got) {
+        Some(text) => {
+            if begins_end(text) {
+                Progress::Whole
+            } else {
+                Progress::More
+            }
+        }
+        None => Progress::More,
+    }
+}
+
+/// What has come of the answer to a call.
+fn call_progress(got: &[u8]) -> Progress
+    ensures { result ≡ call_progress got.now (ended got.now) }
+{
+    match ended(got) {
+        Some(text) => {
+            if has_end(text) {
+                Progress::Broken
+            } else {
+                Progress::Whole
+            }
+        }
+        None => {
+            if has_end(got) {
+                Progress::Broken
+            } else {
+                Progress::More
+            }
+        }
+    }
+}
+
+impl Exchange {
+    /// A line that is sent now.
+    pub fn new(alloc: Global, line: Vec<u8>) -> Self
+        ensures line { result.line ≡ line }
+        ensures got { result.got.items ≡ [] }
+    {
+        Self {
+            line,
+            got: Vec::new(alloc),
+        }
+    }
+
+    /// What has come of the answer.
+    pub fn progress(&self) -> Progress
+        ensures { result ≡ progress_of self.now.line.items self.now.got.items }
+    {
+        if self.got.as_slice() == b"busy\n".as_slice() {
+            Progress::Busy
+        } else if self.got.len() > MAX_ANSWER {
+            Progress::Broken
+        } else if self.line.as_slice() == b"show".as_slice() {
+            show_progress(&self.got)
+        } else {
+            call_progress(&self.got)
+        }
+    }
+
+    /// Takes octets that have come, and tells what has come of the answer. An `Err` changes nothing.
+    pub fn feed(&mut self, octets: &[u8]) -> Result<Progress, AllocError>
+        ensures progress { IfOk result (λ p. p ≡ progress_of self.new.line.items self.new.got.items) }
+        ensures got { OnOk result (self.new.got.items ≡ self.old.got.items ++ octets.now) }
+        ensures err { OnErr result (self.new.got.items ≡ self.old.got.items) }
+        ensures line { self.new.line ≡ self.old.line }
+    {
+        self.got.extend_from_slice(octets)?;
+        Ok(self.progress())
+    }
+
+    /// The octets to be sent: the line and an LF.
+    pub fn sent(&self, alloc: Global) -> Result<Vec<u8>, AllocError>
+        ensures { IfOk result (λ sent. sent.items ≡ self.now.line.items ++ 10 ∷ []) }
+    {
+        let mut sent = Vec::from_slice(alloc, &self.line)?;
+        sent.push(b'\n')?;
+        Ok(sent)
+    }
+}

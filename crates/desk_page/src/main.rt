@@ -1,0 +1,72 @@
+//! The operators' desk as a page in a browser: `desk_page --bridge 127.0.0.1:7000 --listen 127.0.0.1:7080`.
+//!
+//! One thread serves browsers and holds one operator's connection to the bridge. Browsers that wait for the bridge wait
+//! in their places, and the others are served meanwhile.
+#![tactic(auto)]
+
+mod link;
+mod markup;
+mod options;
+mod peer;
+mod peers;
+mod script;
+mod server;
+mod setup;
+mod spelling;
+mod style;
+mod terms;
+
+use crate::options::{Ends, Options, options_in};
+use crate::server::Server;
+use std::alloc::AllocGlobal;
+use std::io::ErrorKind;
+use std::net::Net;
+use std::process::ExitCode;
+use std::random::RandomSource;
+use std::rt::Runtime;
+use std::sync::Wait;
+use std::{env, io};
+
+/// Serves the page until a socket, the clock or memory fails.
+fn serve<R: Runtime + AllocGlobal + Net + RandomSource + Wait>(
+    rt: &R,
+    options: Options,
+) -> io::Result<()> {
+    let mut server = Server::bind(rt, options)?;
+    let address = server.address()?;
+    let _ = eprintln!(rt; "desk_page: http://{address}/");
+    for _ in rt.forever() {
+        server.round(rt)?;
+    }
+    Ok(())
+}
+
+/// What the arguments ask for.
+fn asked(rt: &HostRuntime) -> Result<Options, Ends> {
+    let words = match env::args(rt) {
+        Ok(words) => words,
+        Err(error) => return Err(Ends::of_kind(error.kind())),
+    };
+    let words: Vec<String> = match words.collect(rt.alloc()) {
+        Ok(words) => words,
+        Err(_) => return Err(Ends::OutOfMemory),
+    };
+    options_in(rt, words.as_slice())
+}
+
+/// The end that an error is.
+fn ended(rt: &HostRuntime, error: &io::Error) -> Ends {
+    let _ = eprintln!(rt; "desk_page: {error}");
+    Ends::of_kind(error.kind())
+}
+
+fn main(rt: HostRuntime) -> ExitCode {
+    let ends = match asked(&rt) {
+        Ok(options) => match serve(&rt, options) {
+            Ok(()) => Ends::Served,
+            Err(error) => ended(&rt, &error),
+        },
+        Err(ends) => ends,
+    };
+    ExitCode::from(ends.status())
+}

@@ -1,0 +1,71 @@
+//! The page in HTML, as far as its token and behind it.
+
+/// The page as far as its token.
+pub(crate) const FRONT: &[u8] = br##"<!doctype html>
+<html lang="en">
+<head>
+<meta charset="utf-8">
+<meta name="viewport" content="width=device-width, initial-scale=1">
+<title>Desk</title>
+<link rel="stylesheet" href="/page.css">
+<script src="/page.js" defer></script>
+<meta name="desk-token" content=""##;
+
+/// The page behind its token.
+pub(crate) const BACK: &[u8] = br##"">
+</head>
+<body>
+<header>
+  <h1>Desk</h1>
+  <p id="status" role="status" aria-live="polite">Asking the bridge</p>
+  <div class="history-buttons">
+    <button id="undo" type="button" disabled>Undo</button>
+    <button id="redo" type="button" disabled>Redo</button>
+  </div>
+</header>
+<p id="notice" role="alert" hidden></p>
+<main>
+  <section id="board" aria-label="Rooms"></section>
+  <aside>
+    <section aria-labelledby="add-title">
+      <h2 id="add-title">Add</h2>
+      <form id="add-room" class="add"><label>Room <input name="room" inputmode="numeric" required></label>
+        <button>Add room</button></form>
+      <form id="add-member" class="add">
+        <label>Member <input name="member" inputmode="numeric" required></label>
+        <label>Room <select name="room"></select></label>
+        <label>Address <input name="address" placeholder="127.0.0.1:6000" required></label>
+        <label>Codec <select name="codec"><option>pcmu</option><option>l16</option></select></label>
+        <label>Mix SSRC <input name="ssrc" inputmode="numeric" required></label>
+        <button>Add member</button></form>
+      <form id="add-source" class="add">
+        <label>Source SSRC <input name="ssrc" inputmode="numeric" required></label>
+        <label>Member <select name="member"></select></label>
+        <label>Kind <select name="kind"><option>audio</option><option>video</option></select></label>
+        <button>Add source</button></form>
+      <form id="add-slot" class="add">
+        <label>Slot SSRC <input name="ssrc" inputmode="numeric" required></label>
+        <label>Member <select name="member"></select></label>
+        <label>Index <input name="index" inputmode="numeric" value="0" required></label>
+        <button>Add slot</button></form>
+    </section>
+    <section aria-labelledby="line-title">
+      <h2 id="line-title">Line</h2>
+      <form id="line-form" class="add"><label>What the bridge is told
+        <input id="line" autocomplete="off" spellcheck="false" maxlength="4096"></label>
+        <button>Send</button></form>
+      <p class="hint">A button shows its line when you point at it or come to it by Tab.</p>
+      <p><label><input id="collect" type="checkbox"> Collect clicks into a group</label></p>
+      <ol id="collected" hidden></ol>
+      <p id="group-buttons" hidden><button id="send-group" type="button">Send the group</button>
+        <button id="drop-group" type="button">Drop it</button></p>
+    </section>
+    <section aria-labelledby="calls-title">
+      <h2 id="calls-title">History</h2>
+      <ol id="calls" reversed></ol>
+    </section>
+  </aside>
+</main>
+</body>
+</html>
+"##;

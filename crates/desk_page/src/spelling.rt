@@ -1,0 +1,203 @@
+//! The first part of the page's script: what it makes of the desk's text, and the lines that clicks send. No function of
+//! it touches the page, so that each can be tried by itself.
+
+/// The first part of the page's script.
+pub(crate) const LINES: &[u8] = br##""use strict";
+
+// The desk as it stands in the text of /desk: the lines of `show`, and behind `end VERSION` the calls of this page.
+function parseDesk(text) {
+  const desk = { rooms: [], members: [], sources: [], slots: [], subs: new Map(), mutes: new Set(), gains: new Map(),
+    pins: new Map(), floors: new Map(), version: 0, rows: [], calls: [] };
+  let behind = false;
+  for (const line of text.split("\n")) {
+    if (behind) {
+      if (line.startsWith("call ")) desk.calls.push({ line: line.slice(5), said: "" });
+      else if (line.startsWith("said ")) desk.calls[desk.calls.length - 1].said = line.slice(5);
+    } else if (line.startsWith("end ")) {
+      desk.version = Number(line.slice(4));
+      behind = true;
+    } else if (line !== "") {
+      desk.rows.push(line);
+      addRow(desk, line.split(" "));
+    }
+  }
+  return desk;
+}
+
+function addRow(desk, [kind, ...word]) {
+  const n = word.map(Number);
+  if (kind === "room") desk.rooms.push(n[0]);
+  else if (kind === "member") desk.members.push({ place: n[0], member: n[1], room: n[2], address: word[3], codec: word[4], mix: n[5] });
+  else if (kind === "source") desk.sources.push({ ssrc: n[0], member: n[1], kind: word[2] });
+  else if (kind === "slot") desk.slots.push({ ssrc: n[0], member: n[1], index: n[2] });
+  else if (kind === "sub") desk.subs.set(n[0], n[1]);
+  else if (kind === "mute") desk.mutes.add(n[0]);
+  else if (kind === "gain") desk.gains.set(`${n[0]} ${n[1]}`, n[2]);
+  else if (kind === "pin") desk.pins.set(n[0], n[1]);
+  else if (kind === "floor") desk.floors.set(n[0], n[1]);
+}
+
+function memberOf(desk, number) { return desk.members.find((m) => m.member === number); }
+function sourceOf(desk, ssrc) { return desk.sources.find((s) => s.ssrc === ssrc); }
+function sourcesOf(desk, member, kind) { return desk.sources.filter((s) => s.member === member && (!kind || s.kind === kind)); }
+function membersIn(desk, room) { return desk.members.filter((m) => m.room === room); }
+
+// The source that the rules of the desk choose for a slot, and the rule.
+function chosen(desk, slot) {
+  const room = memberOf(desk, slot.member).room;
+  if (desk.subs.has(slot.ssrc)) return { source: desk.subs.get(slot.ssrc), by: "sub" };
+  if (slot.index !== 0) return { source: null, by: null };
+  if (desk.pins.has(room)) return { source: desk.pins.get(room), by: "pin" };
+  if (!desk.floors.has(room)) return { source: null, by: null };
+  const held = sourcesOf(desk, desk.floors.get(room), "video").map((s) => s.ssrc);
+  return { source: held.length ? Math.min(...held) : null, by: "floor" };
+}
+
+// What a slot shows, by which rule, and why it shows nothing.
+function seen(desk, slot) {
+  const { source, by } = chosen(desk, slot);
+  if (source === null) return { source, by, why: by ? "the floor's holder has no video" : "nothing is chosen" };
+  if (desk.mutes.has(source)) return { source: null, by, why: `${source} is muted` };
+  if (sourceOf(desk, source).member === slot.member) return { source: null, by, why: `${source} is its own` };
+  return { source, by, why: "" };
+}
+
+// The audio sources that a member hears or could hear, each with its gain.
+function heard(desk, member) {
+  const others = membersIn(desk, member.room).filter((m) => m.member !== member.member);
+  return others.flatMap((m) => sourcesOf(desk, m.member, "audio")).map((s) => {
+    const gain = desk.gains.has(`${member.member} ${s.ssrc}`) ? desk.gains.get(`${member.member} ${s.ssrc}`) : 256;
+    return { ssrc: s.ssrc, gain, muted: desk.mutes.has(s.ssrc) };
+  });
+}
+
+// The lines that clicks and drags send.
+const lines = {
+  addRoom: (room) => `add-room ${room}`,
+  removeRoom: (room) => `remove-room ${room}`,
+  addMember: (f) => `add-member ${f.member} ${f.room} ${f.address} ${f.codec} ${f.ssrc} ${f.seq ?? 0} ${f.ts ?? 0}`,
+  moveMember: (member, room) => `move-member ${member} ${room}`,
+  removeMember: (member) => `remove-member ${member}`,
+  addSource: (f) => `add-source ${f.ssrc} ${f.member} ${f.kind}`,
+  removeSource: (ssrc) => `remove-source ${ssrc}`,
+  addSlot: (f) => `add-slot ${f.ssrc} ${f.member} ${f.index} ${f.seq ?? 0} ${f.ts ?? 0}`,
+  removeSlot: (ssrc) => `remove-slot ${ssrc}`,
+  subscribe: (slot, source) => `subscribe ${slot} ${source}`,
+  unsubscribe: (slot) => `unsubscribe ${slot}`,
+  pin: (room, source) => `pin ${room} ${source}`,
+  unpin: (room) => `unpin ${room}`,
+  giveFloor: (room, member) => `give-floor ${room} ${member}`,
+  takeFloor: (room) => `take-floor ${room}`,
+  mute: (source) => `mute ${source}`,
+  unmute: (source) => `unmute ${source}`,
+  setGain: (member, source, q8) => `set-gain ${member} ${source} ${q8}`,
+  undo: (version) => `undo ${version}`,
+  redo: (version) => `redo ${version}`,
+  group: (parts) => `group ${parts.join(" / ")}`,
+};
+
+// The line that a drop sends: a member on a room, or a source on a slot. Nothing where it would change nothing.
+function dropped(desk, drag, on) {
+  if (drag.member !== undefined && on.room !== undefined) {
+    const member = memberOf(desk, drag.member);
+    return member && member.room !== on.room ? lines.moveMember(drag.member, on.room) : null;
+  }
+  if (drag.source !== undefined && on.slot !== undefined) {
+    return desk.subs.get(on.slot) === drag.source ? null : lines.subscribe(on.slot, drag.source);
+  }
+  return null;
+}
+
+// A number that nothing of the desk has, from `least` on.
+function free(desk, least) {
+  const taken = new Set([...desk.rooms, ...desk.sources.map((s) => s.ssrc), ...desk.slots.map((s) => s.ssrc),
+    ...desk.members.flatMap((m) => [m.member, m.mix])]);
+  let number = least;
+  while (taken.has(number)) number += 1;
+  return number;
+}
+
+const advice = {
+  1: "it is there already: take another number, address, SSRC or index, or remove what is there",
+  2: "there is no such room: it may have been removed", 3: "there is no such member: it may have been removed",
+  4: "there is no such source: it may have gone with its member", 5: "there is no such slot: it may have gone with its member",
+  6: "the source is of the other kind: choose one of this kind", 7: "they are in two rooms: move the member, or choose within the room",
+  8: "the SSRC is used already: take another one", 9: "a value is out of range: port 1 to 65535, index 0 to 15, gain 0 to 1024",
+  10: "nothing to do: the desk is so already", 11: "nothing to do: there is none to take away",
+  12: "the table is full: remove something, or use another room", 13: "the bridge is out of memory: try again",
+  14: "another change came first: look at the desk, then try again", 15: "there is nothing to undo", 16: "there is nothing to redo",
+  17: "the log is full: start the bridge anew", 18: "the group is empty", 19: "the group has over 64 commands: make it smaller",
+  20: "one command of the group is refused, so none of it happened",
+};
+const faults = { 1: "the line is too long", 2: "an octet is none of a space to ~", 3: "the word is unknown", 4: "a word is missing",
+  5: "a word is too many", 6: "that is no number, or out of range", 7: "that is no address, such as 127.0.0.1:6000" };
+
+// An answer of the bridge in words.
+function inWords(said) {
+  const word = said.split(" ");
+  if (word[0] === "ok") return { good: true, text: `accepted as version ${word[1]}` };
+  if (word[0] === "no") {
+    const part = word[2] === "20" ? ` Command ${Number(word[4]) + 1} of it: ${advice[word[5]] ?? word[6]}.` : "";
+    return { good: false, text: `refused (${word.slice(2).join(" ")}): ${advice[word[2]] ?? word[3]}.${part}` };
+  }
+  if (word[0] === "fault") return { good: false, text: `not understood (${said}): at word ${word[1]}, ${faults[word[2]] ?? word[3]}.` };
+  return { good: false, text: "no answer came: look at the desk before you send it again." };
+}
+
+// The calls with what became of each, oldest first, and what undo and redo would take. Versions that none of the calls
+// made came over another connection; what they did isn't known here, only which rows changed. Where the numbers begin anew
+// the bridge did, and the calls before are no part of its history.
+function history(calls, version) {
+  const entries = [], done = [], undone = [];
+  let last = null;
+  const anew = () => { entries.length = done.length = undone.length = 0; last = null; };
+  const foreign = (from, to) => {
+    if (from > to) return;
+    const entry = { foreign: true, from, to };
+    entries.push(entry);
+    done.push(entry);
+    undone.length = 0;
+  };
+  for (const { line, said } of calls) {
+    const number = said.startsWith("ok ") ? Number(said.slice(3)) : null;
+    const entry = { line, said, number, undone: false };
+    if (number !== null) {
+      if (last !== null && number <= last) anew();
+      foreign(last === null ? 1 : last + 1, number - 1);
+      last = number;
+    }
+    entries.push(entry);
+    if (number === null) continue;
+    const verb = line.split(" ")[0];
+    if (verb === "undo") {
+      const taken = done[done.length - 1];
+      if (taken && !taken.foreign) { done.pop(); taken.undone = true; undone.push(taken); }
+    } else if (verb === "redo") {
+      const back = undone.pop();
+      if (back) { back.undone = false; done.push(back); }
+    } else {
+      done.push(entry);
+      undone.length = 0;
+    }
+  }
+  if (last !== null && version < last) anew();
+  foreign(last === null ? 1 : last + 1, version);
+  return { entries, undo: done[done.length - 1] ?? null, redo: undone[undone.length - 1] ?? null };
+}
+
+// What a button that takes back, or does again, says.
+function named(word, entry) {
+  if (!entry) return word;
+  return entry.foreign ? `${word}: the last change in force (version ${entry.to} came over another connection)` : `${word}: ${entry.line}`;
+}
+
+// The rows that went and that came between two desks.
+function changes(before, after) {
+  const had = new Set(before), has = new Set(after);
+  return [...before.filter((row) => !has.has(row)).map((row) => `- ${row}`), ...after.filter((row) => !had.has(row)).map((row) => `+ ${row}`)];
+}
+
+if (typeof module !== "undefined") {
+  module.exports = { parseDesk, seen, heard, lines, dropped, free, inWords, history, named, changes };
+}
+"##;

@@ -1,0 +1,158 @@
+//! The page of all cases.
+
+use crate::request::{request_of, spoken};
+use desk_http::{Exchange, Files, Hearing, MAX_LINE, Progress, Site, Telling, Told};
+use http_server::{Config, Connection, Service};
+use std::alloc::{AllocError, Global};
+use std::hash::RandomState;
+
+/// A page, and what each connection to it begins with.
+#[derive(Drop)]
+pub struct Page {
+    alloc: Global,
+    keys: RandomState,
+    config: Config,
+    hearing: Hearing,
+}
+
+/// What a progress is called.
+fn progress_name(progress: Progress) -> &'static str {
+    match progress {
+        Progress::More => "more",
+        Progress::Whole => "whole",
+        Progress::Busy => "busy",
+        Progress::Broken => "broken",
+    }
+}
+
+/// Whether a response has this status, and this text behind it.
+fn is_answer(response: &[u8], wanted: &str) -> Option<bool> {
+    let text = str::from_utf8(response).ok()?;
+    let (status, part) = wanted.split_once(" ")?;
+    let rest = text.strip_prefix("HTTP/1.1 ")?;
+    Some(rest.starts_with(status) && rest.contains(part))
+}
+
+/// What the bridge said.
+fn told_of(alloc: Global, text: &str) -> Option<Told> {
+    match text {
+        "busy" => Some(Told::Busy),
+        "gone" => Some(Told::Gone),
+        "lost" => Some(Told::Lost),
+        _ => Some(Told::Said(spoken(alloc, text.strip_prefix("said ")?)?)),
+    }
+}
+
+impl Page {
+    /// The page of all cases.
+    pub fn new(alloc: Global, keys: RandomState) -> Result<Self, AllocError> {
+        let mut config = Config::default();
+        config.max_body_len = MAX_LINE;
+        let site = Site {
+            host: Vec::from_slice(alloc, b"127.0.0.1:7080")?,
+            local: Vec::from_slice(alloc, b"localhost:7080")?,
+            token: Vec::from_slice(alloc, b"secret")?,
+        };
+        let files = Files {
+            front: b"<front ",
+            back: b" back>",
+            lines: b"lines ",
+            script: b"script",
+            style: b"style",
+        };
+        let hearing = Hearing {
+            alloc,
+            site,
+            files,
+            wanted: None,
+        };
+        Ok(Self {
+            alloc,
+            keys,
+            config,
+            hearing,
+        })
+    }
+
+    /// The response of a service to a request.
+    fn exchanged<S: Service>(
+        alloc: Global,
+        keys: RandomState,
+        config: Config,
+        service: &mut S,
+        request: &[u8],
+    ) -> Option<Vec<u8>> {
+        let mut connection = Connection::new(alloc, keys, config);
+        let mut rest = request;
+        for _ in 0..16 {
+            connection.read_from(&mut rest).ok()?;
+            if rest.is_empty() {
+                break;
+            }
+        }
+        connection.advance(service);
+        let mut written = Vec::new(alloc);
+        for _ in 0..16 {
+            if !connection.wants_write() {
+                break;
+            }
+            connection.write_to(&mut written).ok()?;
+        }
+        Some(written)
+    }
+
+    /// Whether a request asks the bridge this line, or is answered so.
+    fn hears(&mut self, request: &str, wanted: &str) -> Option<bool> {
+        let request = request_of(self.alloc, request)?;
+        self.hearing.wanted = None;
+        let response = Self::exchanged(
+            self.alloc,
+            self.keys,
+            self.config,
+            &mut self.hearing,
+            &request,
+        )?;
+        match (self.hearing.wanted.take(), wanted.strip_prefix("asks ")) {
+            (Some(line), Some(wanted)) => Some(line.as_slice() == wanted.as_bytes()),
+            (None, None) => is_answer(&response, wanted),
+            _ => Some(false),
+        }
+    }
+
+    /// Whether a request is answered so, once the bridge was asked.
+    fn tells(&mut self, text: &str, wanted: &str) -> Option<bool> {
+        let (line, text) = text.split_once(" ; ")?;
+        let (told, request) = text.split_once(" ; ")?;
+        let request = request_of(self.alloc, request)?;
+        let mut telling = Telling {
+            site: &self.hearing.site,
+            line: spoken(self.alloc, line)?,
+            told: told_of(self.alloc, told)?,
+        };
+        let response = Self::exchanged(self.alloc, self.keys, self.config, &mut telling, &request)?;
+        is_answer(&response, wanted)
+    }
+
+    /// Whether pieces make this progress.
+    fn pieces(&self, text: &str, wanted: &str) -> Option<bool> {
+        let mut words = text.split(" ; ");
+        let mut exchange = Exchange::new(self.alloc, spoken(self.alloc, words.next()?)?);
+        let mut progress = exchange.progress();
+        for word in words {
+            progress = exchange.feed(&spoken(self.alloc, word)?).ok()?;
+        }
+        Some(progress_name(progress) == wanted)
+    }
+
+    /// Whether a case comes out as it says. `None` is a line that says nothing.
+    pub fn comes_out(&mut self, line: &str) -> Option<bool> {
+        let (case, wanted) = line.split_once(" > ")?;
+        let (verb, text) = case.split_once(" ")?;
+        match verb {
+            "hears" => self.hears(text, wanted),
+            "tells" => self.tells(text, wanted),
+            "comes" => self.pieces(text, wanted),
+            _ => None,
+        }
+    }
+}

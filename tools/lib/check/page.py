@@ -1,0 +1,283 @@
+"""Goes through a call at the page, over HTTP, against a bridge that runs.
+
+An operator adds a room and members, subscribes, mutes, moves a member, undoes three times and does one again. After each line
+the page's desk is what the bridge's `show` says. A second operator's change is there within half a second. Bad requests are
+refused by name and change nothing. A silent bridge keeps nobody waiting, and a bridge that comes back is found again. With
+node, the page's functions choose the lines of clicks as they should. With chromium, two browsers go through a call by clicks,
+forms and a drag: after each step the page shows what `show` says, and the second browser mostly within half a second.
+"""
+
+import concurrent.futures
+import http.client
+import pathlib
+import re
+import shutil
+import signal
+import socket
+import statistics
+import subprocess
+import tempfile
+import time
+
+from lib.driving import drive
+from lib.serving import Operator, free_port, settings
+from lib.shared import CRATES, add_program_or_build, fail, found_program, try_command
+
+NEEDS = "a program, a minute"
+
+MARKUP_TOKEN = re.compile(rb'<meta name="desk-token" content="([0-9a-f]{32})">')
+CALLS = [
+    "add-room 1",
+    "add-room 2",
+    "add-member 10 1 127.0.0.1:6000 pcmu 9001 0 0",
+    "add-member 11 1 127.0.0.1:6002 pcmu 9002 0 0",
+    "add-source 101 10 video",
+    "add-source 201 10 audio",
+    "add-slot 501 11 0 0 0",
+    "subscribe 501 101",
+    "mute 201",
+    "group pin 1 101 / give-floor 1 10",
+    "move-member 10 2",
+]
+
+
+def options(parser):
+    add_program_or_build(parser)
+    parser.add_argument("--page", metavar="PROGRAM", help="the page's program (crates/desk_page/out/desk_page if not given)")
+    parser.add_argument("--browser", default="chromium", metavar="COMMAND", help="the browser (%(default)s)")
+    parser.add_argument("--pictures", type=pathlib.Path, metavar="FOLDER", help="where pictures of the page go")
+
+
+def check(holds, text):
+    if not holds:
+        fail(text)
+
+
+def started(crate, given, words, seconds, folder):
+    """A program that runs, or one that is built without proofs."""
+    program = found_program(given, crate)
+    command = [program, *words] if program else try_command(words, seconds)
+    null = subprocess.DEVNULL
+    with (pathlib.Path(folder) / f"{crate}.stderr").open("w") as said:
+        return subprocess.Popen(command, cwd=CRATES / crate, stdin=null, stdout=null, stderr=said)
+
+
+def connected(program, port):
+    """A connection to a program, once it listens."""
+    while program.poll() is None:
+        try:
+            return socket.create_connection(("127.0.0.1", port), timeout=10)
+        except ConnectionRefusedError:
+            time.sleep(0.1)
+    return fail(f"a program ended with status {program.returncode} before it listened")
+
+
+class Page:
+    """What a browser does."""
+
+    def __init__(self, port):
+        self.port = port
+        self.token = ""
+
+    def ask(self, method, path, body=None, fields=None):
+        """The status, the fields and the body of a response."""
+        connection = http.client.HTTPConnection("127.0.0.1", self.port, timeout=20)
+        try:
+            connection.request(method, path, body=body, headers=fields or {})
+            response = connection.getresponse()
+            return response.status, response, response.read().decode()
+        finally:
+            connection.close()
+
+    def load(self):
+        status, response, text = self.ask("GET", "/")
+        check(status == 200, f"the page's status is {status}")
+        check("default-src 'none'" in (response.getheader("content-security-policy") or ""), "the page has no strict policy")
+        self.token = MARKUP_TOKEN.search(text.encode())[1].decode()
+        for path in "/page.js", "/page.css":
+            check(self.ask("GET", path)[0] == 200, f"{path} isn't there")
+
+    def call(self, line):
+        """What a call is answered: a status and a text."""
+        status, _, text = self.ask("POST", "/call", line.encode(), {"X-Desk-Token": self.token})
+        return status, text.strip()
+
+    def desk(self):
+        """The lines of `show`, and the calls behind them."""
+        status, _, text = self.ask("GET", "/desk")
+        check(status == 200, f"the desk's status is {status}: {text}")
+        lines = text.splitlines()
+        end = next(at for at, line in enumerate(lines) if line.startswith("end "))
+        return lines[: end + 1], lines[end + 1 :]
+
+
+def shown(operator):
+    """The lines of `show`, as an operator gets them."""
+    operator.tell("show")
+    lines = [operator.lines.readline().strip()]
+    while not lines[-1].startswith("end "):
+        lines.append(operator.lines.readline().strip())
+    return lines
+
+
+def go_through(page, operator):
+    """The calls of a small session, each followed by a look at both desks."""
+    version = 0
+    for line in CALLS:
+        version += 1
+        check(page.call(line) == (200, f"ok {version}"), f"`{line}` is not answered `ok {version}`")
+        check(page.desk()[0] == shown(operator), f"after `{line}` the page shows another desk than the bridge")
+    for word in "undo", "undo", "undo", "redo":
+        version += 1
+        check(page.call(f"{word} {version - 1}") == (200, f"ok {version}"), f"`{word}` is refused")
+        check(page.desk()[0] == shown(operator), f"after `{word}` the page shows another desk than the bridge")
+    calls = page.desk()[1]
+    check(len(calls) == 2 * version and calls[:2] == ["call add-room 1", "said ok 1"], f"the page has not all calls: {calls}")
+    refused = page.call("mute 999")
+    check(refused == (200, f"no {version} 4 NoSource"), f"a refusal is told as {refused}")
+    return version
+
+
+def sees_others(page, operator, version):
+    """Another operator's change is at the page within half a second."""
+    told = operator.ask("add-room 7")
+    check(told == f"ok {version + 1}", f"the other operator is told {told}")
+    end = time.monotonic() + 0.5
+    while f"end {version + 1}" not in page.desk()[0]:
+        check(time.monotonic() < end, "the page doesn't see another operator's change within half a second")
+        time.sleep(0.05)
+    check(page.call(f"undo {version}")[1].startswith(f"no {version + 1} 14 "), "an undo of an older version isn't refused")
+    return version + 1
+
+
+def refuses(page, operator, version):
+    """Bad requests are refused by name, and the bridge has none of them."""
+    good = {"X-Desk-Token": page.token}
+    own = f"http://127.0.0.1:{page.port}"
+    for wanted, name, method, path, body, fields in [
+        (403, "ForeignHost", "GET", "/desk", None, {"Host": "desk.example"}),
+        (403, "ForeignHost", "POST", "/call", b"mute 101", {**good, "Host": f"evil.example:{page.port}"}),
+        (403, "ForeignOrigin", "POST", "/call", b"mute 101", {**good, "Origin": "http://evil.example"}),
+        (403, "NoToken", "POST", "/call", b"mute 101", {"Origin": own}),
+        (403, "NoToken", "POST", "/call", b"mute 101", {"X-Desk-Token": "0" * 32}),
+        (405, "NotAllowed", "GET", "/call", None, good),
+        (404, "NotFound", "GET", "/elsewhere", None, {}),
+        (400, "NoLine", "POST", "/call", b"mute 101\nmute 201", good),
+        (400, "NoLine", "POST", "/call", b"", good),
+        (400, "NoLine", "POST", "/call", "mute é".encode(), good),
+        (400, "Reserved", "POST", "/call", b"stop", good),
+        (400, "Reserved", "POST", "/call", b"quit", good),
+        (400, "Reserved", "POST", "/call", b"show", good),
+        (413, "", "POST", "/call", b"a" * 4097, good),
+    ]:
+        status, _, text = page.ask(method, path, body, fields)
+        check(status == wanted and text.startswith(name), f"{method} {path} {body}: {status} {text}, not {wanted} {name}")
+    try:
+        check(page.ask("POST", "/call", b"a" * 1_048_576, good)[0] == 413, "a body of 1 MiB isn't refused with 413")
+    except (BrokenPipeError, ConnectionResetError):
+        pass
+    silent = [socket.create_connection(("127.0.0.1", page.port), timeout=10) for _ in range(200)]
+    check(page.ask("GET", "/")[0] == 200, "200 connections that say nothing keep others out")
+    for one in silent:
+        one.close()
+    check(shown(operator)[-1] == f"end {version}", "a bad request has reached the bridge")
+
+
+def stands_silence(page, bridge, version):
+    """A bridge that says nothing keeps nobody else waiting, and a call is sent once."""
+    bridge.send_signal(signal.SIGSTOP)
+    try:
+        with concurrent.futures.ThreadPoolExecutor() as pool:
+            waits = pool.submit(page.call, "add-room 8")
+            time.sleep(0.2)
+            begun = time.monotonic()
+            check(page.ask("GET", "/page.js")[0] == 200 and time.monotonic() - begun < 0.5, "a silent bridge keeps the page waiting")
+            status, text = waits.result()
+            check(status == 504 and text.startswith("Lost"), f"a call without an answer is told {status} {text}")
+    finally:
+        bridge.send_signal(signal.SIGCONT)
+    time.sleep(0.5)
+    rows, calls = page.desk()
+    check(rows.count("room 8") <= 1 and rows[-1] in (f"end {version}", f"end {version + 1}"), "a lost call was sent again")
+    check(calls[-2:] == ["call add-room 8", "said lost"], f"the lost call isn't told: {calls[-2:]}")
+
+
+def finds_seats(page, bridge, port):
+    """Where all seats are taken the page says so, and takes the next free one."""
+    others = [socket.create_connection(("127.0.0.1", port), timeout=10) for _ in range(2)]
+    for one in others:
+        one.sendall(b"show\n")
+        check(one.recv(4) != b"", "an operator is told nothing")
+    status, _, text = page.ask("GET", "/desk")
+    check(status == 503 and text.startswith("Busy"), f"with all seats taken the desk is {status} {text}")
+    others[0].close()
+    time.sleep(0.5)
+    check(page.ask("GET", "/desk")[0] == 200, "the page doesn't take a free seat")
+    others[1].close()
+    check(bridge.poll() is None, "the bridge has ended")
+
+
+def try_functions():
+    """The functions of the page that choose a click's line, by themselves."""
+    if not shutil.which("node"):
+        print("there is no command `node`: the page's functions are not tried")
+        return
+    text = (CRATES / "desk_page/src/spelling.rt").read_text()
+    script = re.search(r'br##"(.*)"##;', text, re.S)[1]
+    with tempfile.TemporaryDirectory() as folder:
+        path = pathlib.Path(folder) / "lines.js"
+        path.write_text(script)
+        tests = pathlib.Path(__file__).with_name("page_lines.js")
+        done = subprocess.run(["node", tests, path], capture_output=True, text=True, check=False)
+    check(done.returncode == 0, f"the page's functions are wrong\n{done.stdout}{done.stderr}")
+    print(done.stdout.strip())
+
+
+def browse(args, folder, page, port):
+    """Two browsers go through a call."""
+    if not shutil.which(args.browser):
+        print(f"there is no command `{args.browser}`: no browser tries the page")
+        return
+    with socket.create_connection(("127.0.0.1", port), timeout=10) as connection:
+        operator = Operator(connection)
+        times = drive(args.browser, folder, f"http://127.0.0.1:{page.port}/", lambda: shown(operator), args.pictures)
+        operator.tell("quit")
+        operator.lines.close()
+    print(f"a second browser sees a step after {statistics.median(times):.2f} s, and {max(times):.2f} s at most")
+
+
+def session(args, folder):
+    udp, tcp, port = free_port(socket.SOCK_DGRAM), free_port(socket.SOCK_STREAM), free_port(socket.SOCK_STREAM)
+    words = ["serve", settings(folder, udp, tcp)]
+    addresses = ["--bridge", f"127.0.0.1:{tcp}", "--listen", f"127.0.0.1:{port}"]
+    programs = [started("confbridge", args.binary, words, args.seconds, folder), started("desk_page", args.page, addresses, args.seconds, folder)]
+    try:
+        first = connected(programs[0], tcp)
+        connected(programs[1], port).close()
+        page, operator = Page(port), Operator(first)
+        page.load()
+        version = sees_others(page, operator, go_through(page, operator))
+        refuses(page, operator, version)
+        stands_silence(page, programs[0], version)
+        operator.tell("stop")
+        programs[0].wait(timeout=30)
+        status, _, text = page.ask("GET", "/desk")
+        check(status == 502 and text.startswith("Gone"), f"without a bridge the desk is {status} {text}")
+        programs.append(started("confbridge", args.binary, words, args.seconds, folder))
+        connected(programs[-1], tcp).close()
+        time.sleep(0.5)
+        finds_seats(page, programs[-1], tcp)
+        browse(args, folder, page, tcp)
+        check(page.call("add-room 9")[1].startswith("ok "), "the page doesn't find the bridge that came back")
+    finally:
+        for program in programs:
+            program.kill()
+            program.wait()
+    print(f"a session of {version} versions at the page, no fault")
+
+
+def run(args):
+    try_functions()
+    with tempfile.TemporaryDirectory(ignore_cleanup_errors=True) as folder:
+        session(args, folder)
+    return 0

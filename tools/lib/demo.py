@@ -1,0 +1,107 @@
+"""Starts a bridge, its page and two members, and holds a call until it is stopped.
+
+The bridge has the settings of examples/serve.toml, and the page is at http://127.0.0.1:7080/. Member 10 sends a tone of 440 Hz and
+frames of a test picture, member 11 a tone of 1000 Hz. Both read what they are sent. Ctrl-C ends all of it.
+"""
+
+import math
+import socket
+import subprocess
+import time
+
+from lib.packets import rtp
+from lib.serving import Operator, udp_socket
+from lib.shared import CRATES, ROOT, add_program_or_build, fail, found_program, try_command
+
+NEEDS = "a program, ports 5004, 6000, 6002, 7000 and 7080"
+
+UDP, TCP, PAGE = ("127.0.0.1", 5004), ("127.0.0.1", 7000), "127.0.0.1:7080"
+# Each member's port, the SSRC of its tone, and the tone in Hz.
+MEMBERS = [(6000, 201, 440), (6002, 202, 1000)]
+DESK = [
+    "add-room 1",
+    "add-member 10 1 127.0.0.1:6000 pcmu 9001 0 0",
+    "add-member 11 1 127.0.0.1:6002 pcmu 9002 0 0",
+    "add-source 201 10 audio",
+    "add-source 202 11 audio",
+    "add-source 101 10 video",
+    "add-slot 501 11 0 0 0",
+    "give-floor 1 10",
+]
+
+
+def options(parser):
+    add_program_or_build(parser)
+
+
+def mu_law(sample):
+    """A 16-bit sample in mu-law (ITU-T G.711)."""
+    size = min(abs(sample), 32635) + 132
+    exponent = size.bit_length() - 8
+    return ~((0x80 if sample < 0 else 0) | exponent << 4 | size >> exponent + 3 & 15) & 0xFF
+
+
+def tone(hertz, tick):
+    """20 ms of a tone, from a tick on."""
+    times = range(tick * 160, tick * 160 + 160)
+    return bytes(mu_law(round(8000 * math.sin(2 * math.pi * hertz * at / 8000))) for at in times)
+
+
+def picture(tick):
+    """The payloads of a frame: moving bars, in two packets."""
+    return [bytes((at // 8 + tick + 128 * part) % 256 for at in range(600)) for part in range(2)]
+
+
+def started(crate, words, seconds, given=None):
+    program = found_program(given, crate)
+    command = [program, *words] if program else try_command(words, seconds)
+    return subprocess.Popen(command, cwd=CRATES / crate, stdin=subprocess.DEVNULL, stdout=subprocess.DEVNULL)
+
+
+def connected(bridge):
+    """An operator's connection, once the bridge listens."""
+    while bridge.poll() is None:
+        try:
+            return socket.create_connection(TCP, timeout=10)
+        except ConnectionRefusedError:
+            time.sleep(0.2)
+    return fail("the bridge has ended")
+
+
+def talk():
+    """The members send 50 times a second, and read what has come."""
+    sockets = [udp_socket(port) for port, _, _ in MEMBERS]
+    begun, tick, seq = time.monotonic(), 0, 0
+    while True:
+        for one, (_, ssrc, hertz) in zip(sockets, MEMBERS):
+            one.sendto(rtp(tick, tick * 160, ssrc, tone(hertz, tick), pt=0), UDP)
+            one.setblocking(False)
+            try:
+                while True:
+                    one.recv(65536)
+            except BlockingIOError:
+                pass
+        if tick % 2 == 0:
+            for part, payload in enumerate(picture(tick)):
+                sockets[0].sendto(rtp(seq, tick * 1800, 101, payload, marker=part), UDP)
+                seq += 1
+        tick += 1
+        time.sleep(max(0.0, begun + tick * 0.02 - time.monotonic()))
+
+
+def run(args):
+    programs = [started("confbridge", ["serve", ROOT / "examples/serve.toml"], 86400, args.binary)]
+    try:
+        operator = Operator(connected(programs[0]))
+        for line in DESK:
+            operator.ask(line)
+        operator.tell("quit")
+        programs.append(started("desk_page", ["--bridge", f"{TCP[0]}:{TCP[1]}", "--listen", PAGE], 86400))
+        print(f"the desk is at http://{PAGE}/ (Ctrl-C ends the call)")
+        talk()
+    except KeyboardInterrupt:
+        return 0
+    finally:
+        for program in programs:
+            program.kill()
+            program.wait()

@@ -1,0 +1,115 @@
+"""A session at the page, driven by two browsers: clicks, forms and a drag."""
+
+import statistics
+import time
+
+from lib.browser import Browser
+from lib.shared import fail
+
+# What a user does, in the page's own words.
+HELPERS = """
+window.fill = (id, fields) => {
+  const form = document.getElementById(id);
+  for (const [name, value] of Object.entries(fields)) form.elements[name].value = value;
+  form.requestSubmit();
+};
+window.press = (line) => { const b = document.querySelector(`[data-key="${CSS.escape(line)}"]`); if (!b) throw new Error(`no ${line}`); b.click(); };
+window.choose = (key, value) => {
+  const select = document.querySelector(`select[data-key="${CSS.escape(key)}"]`);
+  select.value = value;
+  select.dispatchEvent(new Event("change"));
+};
+window.dragged = (from, to) => {
+  const data = new DataTransfer(), a = document.querySelector(from), b = document.querySelector(to);
+  const fire = (node, type) => node.dispatchEvent(new DragEvent(type, { bubbles: true, cancelable: true, dataTransfer: data }));
+  fire(a, "dragstart"); fire(b, "dragover"); fire(b, "drop"); fire(a, "dragend");
+};
+window.version = () => (desk ? desk.version : -1);
+true
+"""
+
+STEPS = [
+    ("a room", 'fill("add-room", { room: "1" })'),
+    ("another room", 'fill("add-room", { room: "2" })'),
+    ("a member", 'fill("add-member", { member: "10", room: "1", address: "127.0.0.1:6000", ssrc: "9001" })'),
+    ("another member", 'fill("add-member", { member: "11", room: "1", address: "127.0.0.1:6002", ssrc: "9002" })'),
+    ("a video source", 'fill("add-source", { ssrc: "101", member: "10", kind: "video" })'),
+    ("an audio source", 'fill("add-source", { ssrc: "201", member: "10", kind: "audio" })'),
+    ("another audio source", 'fill("add-source", { ssrc: "202", member: "11", kind: "audio" })'),
+    ("a slot", 'fill("add-slot", { ssrc: "501", member: "11", index: "0" })'),
+    ("a subscription, by a choice", 'choose("choose 501", "101")'),
+    ("a mute", 'press("mute 201")'),
+    ("the floor", 'press("give-floor 1 10")'),
+    ("a move, by a drag", """dragged('[data-member="11"]', '[data-room="2"]')"""),
+    ("an undo", 'document.getElementById("undo").click()'),
+    ("a second undo", 'document.getElementById("undo").click()'),
+    ("a third undo", 'document.getElementById("undo").click()'),
+    ("a redo", 'document.getElementById("redo").click()'),
+]
+
+
+def opened(command, folder, address):
+    browser = Browser(command, folder)
+    browser.shows(1280, 900)
+    browser.open(address)
+    browser.wait("typeof desk !== 'undefined' && desk !== null", 30)
+    browser.run(HELPERS)
+    return browser
+
+
+def drive(command, folder, address, shown, pictures=None):
+    """Goes through a session. `shown` tells what the bridge's `show` says. How long each change took to the second browser."""
+    one, two = opened(command, folder, address), opened(command, folder, address)
+    times = []
+    try:
+        version = one.run("version()")
+        for what, script in STEPS:
+            version += 1
+            one.run(f"{script}; true")
+            one.wait(f"version() === {version}")
+            begun = time.monotonic()
+            two.wait(f"version() === {version}")
+            times.append(time.monotonic() - begun)
+            rows, bridge = one.run("desk.rows"), shown()
+            if [*rows, f"end {version}"] != bridge:
+                fail(f"after {what} the page shows {rows}, the bridge {bridge}")
+        look(one, version)
+        if pictures:
+            take_pictures(one, pictures)
+    finally:
+        one.close()
+        two.close()
+    if statistics.median(times) > 0.5:
+        fail(f"half of the changes took over {statistics.median(times):.2f} s to the second browser")
+    return times
+
+
+def look(browser, version):
+    """What stands on the page at the end of the session, and a refusal in words."""
+    for script, wanted in [
+        ('document.getElementById("undo").textContent', "Undo: mute 201"),
+        ('document.getElementById("redo").textContent', "Redo: give-floor 1 10"),
+        ("document.querySelectorAll('.room').length", 2),
+        ("document.querySelector('[data-room=\"1\"]').querySelectorAll('.member').length", 2),
+        ("document.querySelector('[data-slot=\"501\"]').textContent.includes('101 is muted')", False),
+        ("document.querySelector('[data-member=\"10\"] .muted').textContent.includes('201')", True),
+        ("document.querySelectorAll('#calls li.undone').length", 2),
+        ("document.querySelector('[data-member=\"10\"] [title=\"unmute 201\"]') !== null", True),
+    ]:
+        told = browser.run(script)
+        if told != wanted:
+            fail(f"{script} is {told}, not {wanted}")
+    browser.run('document.getElementById("line").value = "subscribe 501 999"; document.getElementById("line-form").requestSubmit(); true')
+    browser.wait("document.getElementById('notice').textContent.includes('there is no such source')")
+    if browser.run("version()") != version:
+        fail("a refused line has changed the desk")
+
+
+def take_pictures(browser, folder):
+    """Pictures of the page, wide and narrow, light and dark."""
+    for name, width, height, dark in [("desk", 1280, 900, False), ("desk_dark", 1280, 900, True), ("desk_narrow", 400, 900, False)]:
+        browser.shows(width, height, dark)
+        time.sleep(0.3)
+        if browser.run("document.documentElement.scrollWidth > window.innerWidth"):
+            fail(f"at {width} pixels the page is wider than the window")
+        browser.picture(folder / f"{name}.png")
