@@ -15,8 +15,11 @@ from lib.shared import CRATES, crates
 
 NEEDS = "nothing"
 
-TESTS = {"desk_tests", "version_tests", "bridge_tests"}
-PROGRAMS = {"confbridge", "worked_versions", "worked_operators", "codec_cases", "source_cases", "script_cases", "bridge_cases", "front_cases"}
+TESTS = {"desk_tests", "version_tests", "operator_tests", "lane_tests", "bridge_tests"}
+PROGRAMS = {
+    "confbridge", "worked_versions", "worked_operators", "codec_cases", "source_cases", "script_cases", "bridge_cases", "front_cases",
+    "page_cases", "desk_page",
+}  # fmt: skip
 
 FN = re.compile(r"(?P<vis>pub(?:\(crate\))? |)(?:const )?fn (?P<name>\w+)\s*(?:<[^(]*>)?\(")
 IMPL = re.compile(r"^(?:impl|pub trait|trait)\b(?:<[^{]*?>)?\s*(?:[\w:]+(?:<[^{]*>)? for )?(?P<owner>\w+)[^{]*\{", re.M)
