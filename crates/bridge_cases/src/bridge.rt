@@ -34,6 +34,41 @@ enum Judged {
     Unread,
 }
 
+/// What a line's first word asks for.
+#[derive(Clone, Copy)]
+enum Verb {
+    Nothing,
+    Desk,
+    Datagram,
+    Reports,
+    Next,
+    Copy,
+    Direct,
+    Halves,
+    Show,
+    AllBack,
+    AllAgain,
+    /// An item, if it is one.
+    Item,
+}
+
+fn verb_of(word: &str) -> Verb {
+    match word {
+        "" | "#" => Verb::Nothing,
+        "desk" => Verb::Desk,
+        "rx" => Verb::Datagram,
+        "reports" => Verb::Reports,
+        "item" => Verb::Next,
+        "copy" => Verb::Copy,
+        "gate" | "mix" | "plan" | "roster" | "stream" => Verb::Direct,
+        "halves" | "halved" => Verb::Halves,
+        "show" => Verb::Show,
+        "undone" => Verb::AllBack,
+        "redone" => Verb::AllAgain,
+        _ => Verb::Item,
+    }
+}
+
 /// Whether lanes may handle an item: sound has 1 to 1,600 samples.
 fn is_fit<'a>(item: &Item<&'a Refusing>) -> bool
     ensures { OnTrue result (is_sized (input_of item.now) ≡ true) }
@@ -70,26 +105,48 @@ impl<'a> Bridge<'a> {
     /// Answers a line, whose request for memory of this number is refused.
     pub fn line(&mut self, nth: u64, line: &str, out: &mut String) -> io::Result<Answer> {
         let (word, words) = first_word(line);
-        match word {
-            "" | "#" => Ok(Answer::Whole),
-            "desk" => self.desk(nth, words, out),
-            "rx" => self.datagram(nth, words, out),
-            "reports" => self.reports(nth, words, out),
-            "item" => self.next_item(nth, out),
-            "copy" => self.copy(nth),
-            "gate" | "mix" | "plan" | "roster" | "stream" => {
-                let first = self.waiting.front();
-                let rows = self.core.rows();
-                direct(self.alloc, self.heap, rows, first, nth, word, words, out)
-            }
-            "halves" | "halved" => self.halves.line(nth, word, words, out),
-            "show" => self.show(nth, out),
-            "undone" => self.all_back(out),
-            "redone" => self.all_again(out),
-            _ => match self.item_of(word, words) {
-                Some(item) => self.item(nth, &item, out),
-                None => unread(out),
-            },
+        match verb_of(word) {
+            Verb::Nothing => Ok(Answer::Whole),
+            Verb::Desk => self.desk(nth, words, out),
+            Verb::Datagram => self.datagram(nth, words, out),
+            Verb::Reports => self.reports(nth, words, out),
+            Verb::Next => self.next_item(nth, out),
+            Verb::Copy => self.copy(nth),
+            Verb::Direct => self.direct(nth, word, words, out),
+            Verb::Halves => self.halves.line(nth, word, words, out),
+            Verb::Show => self.show(nth, out),
+            Verb::AllBack => self.all_back(out),
+            Verb::AllAgain => self.all_again(out),
+            Verb::Item => self.named_item(nth, word, words, out),
+        }
+    }
+
+    /// A function is called beside the bridge.
+    fn direct(&self, nth: u64, word: &str, words: &str, out: &mut String) -> io::Result<Answer> {
+        let first = self.waiting.front();
+        direct(
+            self.alloc,
+            self.heap,
+            self.core.rows(),
+            first,
+            nth,
+            word,
+            words,
+            out,
+        )
+    }
+
+    /// The lanes handle an item that the line names.
+    fn named_item(
+        &mut self,
+        nth: u64,
+        word: &str,
+        words: &str,
+        out: &mut String,
+    ) -> io::Result<Answer> {
+        match self.item_of(word, words) {
+            Some(item) => self.item(nth, &item, out),
+            None => unread(out),
         }
     }
 
