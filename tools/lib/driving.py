@@ -1,6 +1,5 @@
 """A session at the page, driven by two browsers: clicks, forms and a drag."""
 
-import statistics
 import time
 
 from lib.browser import Browser
@@ -79,8 +78,8 @@ def drive(command, folder, address, shown, pictures=None):
     finally:
         one.close()
         two.close()
-    if statistics.median(times) > 0.5:
-        fail(f"half of the changes took over {statistics.median(times):.2f} s to the second browser")
+    if max(times) > 0.5:
+        fail(f"a change took {max(times):.2f} s to the second browser")
     return times
 
 
@@ -107,6 +106,7 @@ def look(browser, version):
 
 def take_pictures(browser, folder):
     """Pictures of the page, wide and narrow, light and dark."""
+    folder.mkdir(parents=True, exist_ok=True)
     for name, width, height, dark in [("desk", 1280, 900, False), ("desk_dark", 1280, 900, True), ("desk_narrow", 400, 900, False)]:
         browser.shows(width, height, dark)
         time.sleep(0.3)

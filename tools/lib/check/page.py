@@ -4,7 +4,7 @@ An operator adds a room and members, subscribes, mutes, moves a member, undoes t
 the page's desk is what the bridge's `show` says. A second operator's change is there within half a second. Bad requests are
 refused by name and change nothing. A silent bridge keeps nobody waiting, and a bridge that comes back is found again. With
 node, the page's functions choose the lines of clicks as they should. With chromium, two browsers go through a call by clicks,
-forms and a drag: after each step the page shows what `show` says, and the second browser mostly within half a second.
+forms and a drag: after each step the page shows what `show` says, and the second browser within half a second.
 """
 
 import concurrent.futures
