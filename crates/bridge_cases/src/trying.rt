@@ -15,50 +15,89 @@ struct Told {
     text: String,
 }
 
-/// A new bridge answers the case's first lines, then one with the request of this number refused, and then others.
-fn said(alloc: Global, case: &Case, line: &str, nth: u64, others: &str) -> io::Result<Told> {
-    let heap = Refusing::new(alloc);
-    let Some(mut bridge) = Bridge::new(alloc, &heap, case.lanes) else {
-        return Err(io::Error::from(AllocError));
-    };
+/// A bridge answers lines.
+fn answers<'a>(bridge: &mut Bridge<'a>, lines: &str, text: &mut String) -> io::Result<()> {
+    for line in lines.lines() {
+        bridge.line(0, line, text)?;
+    }
+    Ok(())
+}
+
+/// A bridge answers the case's first lines, then one with the request of this number refused, and then others.
+fn tell<'a>(
+    alloc: Global,
+    bridge: &mut Bridge<'a>,
+    case: &Case,
+    line: &str,
+    nth: u64,
+    others: &str,
+) -> io::Result<Told> {
     let mut text = String::new(alloc);
-    for line in case.before.lines() {
-        bridge.line(0, line, &mut text)?;
-    }
+    answers(bridge, case.before.as_str(), &mut text)?;
     let answer = bridge.line(nth, line, &mut text)?;
-    for line in others.lines() {
-        bridge.line(0, line, &mut text)?;
-    }
+    answers(bridge, others, &mut text)?;
     Ok(Told { answer, text })
 }
 
-/// The answer of one bridge that refuses the line at each of its requests in turn, until it answers. Where other rows are shown after a
-/// refusal, the answer has that.
-fn said_at_last(alloc: Global, case: &Case) -> io::Result<String> {
-    let heap = Refusing::new(alloc);
-    let Some(mut bridge) = Bridge::new(alloc, &heap, case.lanes) else {
-        return Err(io::Error::from(AllocError));
-    };
-    let mut text = String::new(alloc);
-    for line in case.before.lines() {
-        bridge.line(0, line, &mut text)?;
+/// What a new bridge over this memory answers.
+fn said_over<'a>(
+    alloc: Global,
+    heap: &'a Refusing,
+    case: &Case,
+    line: &str,
+    nth: u64,
+    others: &str,
+) -> io::Result<Told> {
+    match Bridge::new(alloc, heap, case.lanes) {
+        Some(mut bridge) => tell(alloc, &mut bridge, case, line, nth, others),
+        None => Err(io::Error::from(AllocError)),
     }
+}
+
+/// What a new bridge answers.
+fn said(alloc: Global, case: &Case, line: &str, nth: u64, others: &str) -> io::Result<Told> {
+    let heap = Refusing::new(alloc);
+    said_over(alloc, &heap, case, line, nth, others)
+}
+
+/// Whether the desk's rows are those that were shown before.
+fn shows<'a>(alloc: Global, bridge: &mut Bridge<'a>, before: &String) -> io::Result<bool> {
+    let mut shown = String::new(alloc);
+    bridge.line(0, "show", &mut shown)?;
+    Ok(shown == *before)
+}
+
+/// A bridge refuses the line at each of its requests in turn, until it answers. Where other rows are shown after a refusal, the answer
+/// has that.
+fn told_at_last<'a>(alloc: Global, bridge: &mut Bridge<'a>, case: &Case) -> io::Result<String> {
+    let mut text = String::new(alloc);
+    answers(bridge, case.before.as_str(), &mut text)?;
     let mut before = String::new(alloc);
     bridge.line(0, "show", &mut before)?;
     for nth in 1..MOST {
         if bridge.line(nth, case.refused.as_str(), &mut text)? != Answer::Refused {
             break;
         }
-        let mut shown = String::new(alloc);
-        bridge.line(0, "show", &mut shown)?;
-        if shown != before {
+        if !shows(alloc, bridge, &before)? {
             text.push_str("other rows\n")?;
         }
     }
-    for line in case.after.lines() {
-        bridge.line(0, line, &mut text)?;
-    }
+    answers(bridge, case.after.as_str(), &mut text)?;
     Ok(text)
+}
+
+/// The same over this memory.
+fn said_at_last_over<'a>(alloc: Global, heap: &'a Refusing, case: &Case) -> io::Result<String> {
+    match Bridge::new(alloc, heap, case.lanes) {
+        Some(mut bridge) => told_at_last(alloc, &mut bridge, case),
+        None => Err(io::Error::from(AllocError)),
+    }
+}
+
+/// What one new bridge answers at last.
+fn said_at_last(alloc: Global, case: &Case) -> io::Result<String> {
+    let heap = Refusing::new(alloc);
+    said_at_last_over(alloc, &heap, case)
 }
 
 /// Prints the first line that is another one than is wanted.
