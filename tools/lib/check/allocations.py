@@ -208,7 +208,7 @@ class Sources:
 def run(_args):
     sources = Sources()
     run_by = sources.run_by()
-    missing = [f for f in sources.allocating() if f not in run_by and f not in NOT_YET]
+    missing = [f for f in sources.allocating() if f not in run_by and str(f) not in NOT_YET]
     for f in sources.allocating():
-        print(f"{f}: {run_by.get(f, 'not yet' if f in NOT_YET else 'NOWHERE')}")
+        print(f"{f}: {run_by.get(f, 'not yet' if str(f) in NOT_YET else 'NOWHERE')}")
     return 1 if missing else 0
