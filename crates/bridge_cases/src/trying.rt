@@ -120,6 +120,23 @@ fn print_difference(
     println!(rt; "{name}, {when}: the end is wanted, and not {line}")
 }
 
+/// Whether a bridge tells what is wanted after a refusal. Prints what it doesn't.
+fn is_told(
+    rt: &HostRuntime,
+    alloc: Global,
+    case: &Case,
+    nth: u64,
+    want: &str,
+    got: &str,
+) -> io::Result<bool> {
+    if got == want {
+        return Ok(true);
+    }
+    let when = format!(in alloc; "asked after refusal {nth}")?;
+    print_difference(rt, case, when.as_str(), want, got)?;
+    Ok(false)
+}
+
 /// How many requests the line makes, if the bridge is as before after each refusal, or as after an answer where it answers anyway.
 /// Prints what isn't.
 fn requests(rt: &HostRuntime, alloc: Global, case: &Case) -> io::Result<Option<u64>> {
@@ -128,14 +145,13 @@ fn requests(rt: &HostRuntime, alloc: Global, case: &Case) -> io::Result<Option<u
     let after = said(alloc, case, line, 0, case.asked.as_str())?;
     for nth in 1..MOST {
         let told = said(alloc, case, line, nth, case.asked.as_str())?;
-        let want = match told.answer {
+        let got = told.text.as_str();
+        let is_so = match told.answer {
             Answer::Whole => return Ok(Some(nth - 1)),
-            Answer::Anyway => after.text.as_str(),
-            Answer::Refused => before.text.as_str(),
+            Answer::Anyway => is_told(rt, alloc, case, nth, after.text.as_str(), got)?,
+            Answer::Refused => is_told(rt, alloc, case, nth, before.text.as_str(), got)?,
         };
-        if told.text.as_str() != want {
-            let when = format!(in alloc; "asked after refusal {nth}")?;
-            print_difference(rt, case, when.as_str(), want, told.text.as_str())?;
+        if !is_so {
             return Ok(None);
         }
     }
