@@ -112,8 +112,7 @@ def lines(draw, count, program):
 
     def line():
         while True:
-            found = mutant(draw, corpus, PRINTED).replace(b"\n", b"")
-            found = found[:-1] if found.endswith(b"\r") else found
+            found = mutant(draw, corpus, PRINTED).replace(b"\n", b"").rstrip(b"\r")
             if not is_alone(found) and len(found) < 4096:
                 return found
 
@@ -144,7 +143,8 @@ def texts(draw, count, program):
     def text():
         while True:
             found = mutant(draw, corpus, TOML).decode(errors="ignore")
-            if " > " not in found and not re.search("[\x85\u2028\u2029\x0b\x0c\x1c-\x1e]", found):
+            # (what a float past all floats is, TOML doesn't say)
+            if " > " not in found and not re.search("[\x85\u2028\u2029\x0b\x0c\x1c-\x1e]|[eE][+]?[0-9_]{3}", found):
                 return found
 
     for data in batches(count, text):
