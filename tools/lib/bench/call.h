@@ -135,6 +135,17 @@ static long resident(pid_t pid)
     return kb;
 }
 
+/* xorshift64*, so that a run can be had again. */
+static uint64_t state = 88172645463325252ull;
+
+static uint32_t drawn(uint32_t below)
+{
+    state ^= state >> 12;
+    state ^= state << 25;
+    state ^= state >> 27;
+    return (uint32_t)((state * 2685821657736338717ull) >> 33) % below;
+}
+
 static void put16(uint8_t *at, unsigned v) { at[0] = v >> 8; at[1] = v; }
 static void put32(uint8_t *at, uint32_t v) { put16(at, v >> 16); put16(at + 2, v); }
 

@@ -1,15 +1,4 @@
 /* Random datagrams and operators' lines, and a call after them. */
-/* xorshift64*, so that a run can be had again. */
-static uint64_t state = 88172645463325252ull;
-
-static uint32_t drawn(uint32_t below)
-{
-    state ^= state >> 12;
-    state ^= state << 25;
-    state ^= state >> 27;
-    return (uint32_t)((state * 2685821657736338717ull) >> 33) % below;
-}
-
 /* What waits at the bridge's UDP socket in octets, and what was lost there. */
 static long waiting(long *lost)
 {
