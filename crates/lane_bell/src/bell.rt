@@ -48,6 +48,14 @@ impl Bell {
         self.rung.notify_one();
     }
 
+    /// Whether it was rung for so many parcels, or is open.
+    fn has_rung<R: Wait>(&self, rt: &R, parcels: u64) -> bool {
+        let rings = self.rings.lock(rt);
+        let has_rung = rings.parcels >= parcels || rings.is_open;
+        MutexGuard::unlock(rings);
+        has_rung
+    }
+
     /// Sleeps until it was rung for so many parcels, or is open.
     fn wait<R: Wait>(&self, rt: &R, parcels: u64) {
         let rings = self.rung.wait_while(rt, self.rings.lock(rt), |rings| {
@@ -57,27 +65,41 @@ impl Bell {
     }
 }
 
-/// Lets each item pass once its parcel was rung for. Until then the lane sleeps.
-#[derive(Drop)]
-pub struct Rung<R: Wait + Drop> {
-    rt: R,
-    bell: Arc<Bell, Global>,
+/// Is told by a lane that it has handled all that it was rung for and goes to sleep.
+pub trait Rouse {
+    fn rouse(&self);
 }
 
-impl<R: Wait + Drop> Rung<R> {
-    /// A pace by this bell.
-    pub fn by(rt: R, bell: Arc<Bell, Global>) -> Self {
-        Self { rt, bell }
+/// Nobody is told.
+impl Rouse for () {
+    fn rouse(&self) {}
+}
+
+/// Lets each item pass once its parcel was rung for. Until then the lane sleeps, and says so before it does.
+#[derive(Drop)]
+pub struct Rung<R: Wait + Drop, F: Rouse + Drop> {
+    rt: R,
+    bell: Arc<Bell, Global>,
+    front: F,
+}
+
+impl<R: Wait + Drop, F: Rouse + Drop> Rung<R, F> {
+    /// A pace by this bell, which rouses the front.
+    pub fn by(rt: R, bell: Arc<Bell, Global>, front: F) -> Self {
+        Self { rt, bell, front }
     }
 }
 
-impl<R: Wait + Drop> Pace for Rung<R> {
+impl<R: Wait + Drop, F: Rouse + Drop> Pace for Rung<R, F> {
     ghost use Rattle.std.specs.Prelude.{◌≡◌, true};
 
     ghost answers = { λ pace n b. b ≡ true };
 
     fn pass(&mut self, item_no: u64) -> bool {
-        self.bell.wait(&self.rt, item_no);
+        if !self.bell.has_rung(&self.rt, item_no) {
+            self.front.rouse();
+            self.bell.wait(&self.rt, item_no);
+        }
         true
     }
 }
