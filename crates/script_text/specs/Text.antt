@@ -90,6 +90,10 @@ abbrev pub reply_words : Reply → List Word
 reply_words (Accepted number) = fixed (codes "ok") ∷ value (U64 number) ∷ []
 reply_words (Refused at why) = fixed (codes "no") ∷ value (U64 at) ∷ told_words (told_of why)
 
+-- the line of a call that is refused at this version
+abbrev pub refused_text : (at : ℕ) → Told → List ℕ
+refused_text at told = line_text (fixed (codes "no") ∷ value (U64 at) ∷ told_words told)
+
 -- the words that stand first of what goes out: the version, the number of the item in its lane, and an address
 abbrev pub head_words : (version item : ℕ) → Endpoint → List Word
 head_words version item address = value (U64 version) ∷ value (U64 item) ∷ value (Address address) ∷ []

@@ -45,7 +45,7 @@ pub use self::laws::{
     hex_words, number_words, packet_words, pieces_join, refusal_words, report_lines, script_bridge,
     script_sends, script_streams_have_no_gap, scripts_are_heard, tick_lines,
 };
-pub use self::print::{print_egress, print_reply};
+pub use self::print::{print_egress, print_refused, print_reply};
 pub use self::running::{output, run};
 pub use self::showing::print_rows;
 pub use self::sink::{Portion, Sink, Writer};

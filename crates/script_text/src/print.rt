@@ -2,7 +2,7 @@
 
 ghost use Rattle.std.specs.Prelude.{◌≡◌, ◌+◌, ◌<◌, ◌∷◌, ◌++◌, codes, length, map, OnOk, OnErr, vec_len, vec_capacity};
 ghost use Rattle.script_text.specs.declared.value.Value.TheVariants.{U64};
-ghost use Rattle.script_text.specs.Text.{fixed, value, line_text, told_words, reason_words, reply_text};
+ghost use Rattle.script_text.specs.Text.{fixed, value, line_text, told_words, reason_words, reply_text, refused_text};
 ghost use Rattle.script_text.specs.Text.{head_words, media_words, source_words, loss_words, sent_text};
 ghost use Rattle.script_text.specs.inner.Shown.{said};
 ghost use Rattle.desk_edit.specs.Told.{told_in};
@@ -27,17 +27,16 @@ pub fn print_reply<A: Allocator>(reply: &Reply, out: &mut Vec<u8, A>) -> Result<
     }
 }
 
-/// Appends the line of a refused call.
-fn print_refused<A: Allocator>(
+/// Appends the line of a call that is refused at this version: the refusal's number, its name, and what it carries. An
+/// `Err` changes nothing, and comes only where the line has no room.
+pub fn print_refused<A: Allocator>(
     at: u64,
     row: RefusalRow,
     out: &mut Vec<u8, A>,
 ) -> Result<(), AllocError>
-    ensures ok { OnOk result (out.new.items ≡ out.old.items
-        ++ line_text (fixed (codes "no") ∷ value (U64 at) ∷ told_words (told_in row))) }
+    ensures ok { OnOk result (out.new.items ≡ out.old.items ++ refused_text at (told_in row)) }
     ensures err { OnErr result (out.new.items ≡ out.old.items) }
-    ensures full { OnErr result (vec_capacity out.old
-        < vec_len out.old + length (line_text (fixed (codes "no") ∷ value (U64 at) ∷ told_words (told_in row)))) }
+    ensures full { OnErr result (vec_capacity out.old < vec_len out.old + length (refused_text at (told_in row))) }
 {
     let at = Word::Value(Value::U64(at));
     let number = Word::Value(Value::U16(row.number));
