@@ -9,7 +9,6 @@ Seconds are what the kernel counts for a process, read every quarter of a second
 more. The command prints to standard error, and its status is the status.
 """
 
-import argparse
 import os
 import pathlib
 import resource
@@ -26,7 +25,7 @@ EVERY = 0.25
 
 
 def options(parser):
-    parser.add_argument("command", nargs=argparse.REMAINDER, metavar="COMMAND", help="what to run (`rt ci` if not given)")
+    parser.add_argument("command", nargs="*", metavar="COMMAND", help="what to run, behind `--` (`rt ci` if not given)")
 
 
 def text_of(path):
