@@ -1,0 +1,4 @@
+pub mod PlaceLemmas
+pub mod Turns
+pub mod CreditLaws
+pub mod AskLaws

@@ -1,0 +1,72 @@
+-- What an address may be sent, and what it may ask for again (own).
+use Rattle.std.specs.Prelude.{ℕ, ◌+◌, ◌-◌, ◌*◌, ◌/◌, min, nat_eq, if◌then◌else◌, List, [], ◌∷◌, take, Option, None, Some}
+use Rattle.rtp_codec.specs.declared.address.Address.{Address}
+use Rattle.rtp_codec.specs.Address.{same_address}
+use Rattle.flood_guard.specs.declared.account.Account.{Account}
+
+-- so many addresses have an account at most
+abbrev pub most_addresses : ℕ
+most_addresses = 1024
+
+-- the credit of a new address, in octets
+abbrev pub new_credit : ℕ
+new_credit = 256
+
+-- the most credit, in octets
+abbrev pub most_credit : ℕ
+most_credit = 65536
+
+-- so many numbers of an address are looked at in a window at most
+abbrev pub most_asked : ℕ
+most_asked = 512
+
+-- the number of the window that a moment lies in: each has 20 ms, in nanoseconds
+abbrev pub window_of : ℕ → ℕ
+window_of moment = moment / 20000000
+
+-- the account of a new address
+abbrev pub opened : Address → Account
+opened address = record { address = address; credit = new_credit; window = 0; asked = 0 }
+
+-- an account, or a new one where there is none
+abbrev pub or_opened : Address → Option Account → Account
+or_opened address None = opened address
+or_opened address (Some a) = a
+
+-- the account of an address
+abbrev pub account_at : Address → List Account → Option Account
+account_at address [] = None
+account_at address (a ∷ rest) = if same_address a.address address then Some a else account_at address rest
+
+-- the account of an address, a new one where it has none
+abbrev pub account_of : Address → List Account → Account
+account_of address accounts = or_opened address (account_at address accounts)
+
+-- the accounts of the others, where each address stands there once
+abbrev pub without : Address → List Account → List Account
+without address [] = []
+without address (a ∷ rest) = if same_address a.address address then rest else a ∷ without address rest
+
+-- with this account before the others; the one that was used the longest ago is forgotten, where there would be too many
+abbrev pub used : Account → List Account → List Account
+used a accounts = a ∷ take (most_addresses - 1) (without a.address accounts)
+
+-- a datagram of so many octets came: 1.5 octets of credit for each, up to the most credit
+abbrev pub earned : ℕ → Account → Account
+earned octets a = record { address = a.address; credit = min (a.credit + octets * 3 / 2) most_credit; window = a.window; asked = a.asked }
+
+-- so many octets were sent
+abbrev pub paid : ℕ → Account → Account
+paid octets a = record { address = a.address; credit = a.credit - octets; window = a.window; asked = a.asked }
+
+-- how many numbers were granted in a window
+abbrev pub asked_in : ℕ → Account → ℕ
+asked_in window a = if nat_eq a.window window then a.asked else 0
+
+-- how many numbers may still be granted in a window
+abbrev pub left_in : ℕ → Account → ℕ
+left_in window a = most_asked - asked_in window a
+
+-- so many numbers were granted in a window
+abbrev pub counted : ℕ → ℕ → Account → Account
+counted window granted a = record { address = a.address; credit = a.credit; window = window; asked = asked_in window a + granted }

@@ -1,0 +1,81 @@
+-- What happens to a guard, step by step, and what it grants (own).
+use Rattle.std.specs.Prelude.{ℕ, ◌+◌, ◌≤◌, min, nat_eq, nat_le, Bool, false, ◌&&◌, not, if◌then◌else◌, List, [], ◌∷◌, Option, None, Some}
+use Rattle.std.specs.Option.{is_some}
+use Rattle.rtp_codec.specs.declared.address.Address.{Address}
+use Rattle.rtp_codec.specs.Address.{same_address}
+use Rattle.flood_guard.specs.declared.account.Account.{Account}
+use Rattle.flood_guard.specs.Accounts.{account_at, account_of, used, earned, paid, counted, left_in, window_of}
+
+-- a datagram of so many octets came from an address; so many octets are to go up to it; it asks again for so many numbers
+pub data Step : Type 0 where
+  earn : (from : Address) → (octets : ℕ) → Step
+  spend : (to : Address) → (octets : ℕ) → Step
+  ask : (from : Address) → (moment : ℕ) → (count : ℕ) → Step
+
+-- whether an account pays for so many octets
+abbrev pub pays : ℕ → Option Account → Bool
+pays octets None = false
+pays octets (Some a) = nat_le octets a.credit
+
+-- whether so many octets may go up to an address: it has an account with credit for them
+abbrev pub may_spend : Address → ℕ → List Account → Bool
+may_spend to octets accounts = pays octets (account_at to accounts)
+
+-- how many of the numbers that an address asks for again may be looked at
+abbrev pub may_ask : Address → ℕ → ℕ → List Account → ℕ
+may_ask from moment count accounts = min count (left_in (window_of moment) (account_of from accounts))
+
+-- the accounts after a step
+abbrev pub after : Step → List Account → List Account
+after (earn from octets) accounts = used (earned octets (account_of from accounts)) accounts
+after (spend to octets) accounts = if may_spend to octets accounts then used (paid octets (account_of to accounts)) accounts else accounts
+after (ask from moment count) accounts = used (counted (window_of moment) (may_ask from moment count accounts) (account_of from accounts)) accounts
+
+-- the octets that came from an address in a step
+abbrev pub octets_from : Address → Step → ℕ
+octets_from address (earn from octets) = if same_address from address then octets else 0
+octets_from address (spend to octets) = 0
+octets_from address (ask from moment count) = 0
+
+-- the octets that a step grants to an address
+abbrev pub octets_to : Address → Step → List Account → ℕ
+octets_to address (earn from octets) accounts = 0
+octets_to address (spend to octets) accounts = if same_address to address && may_spend to octets accounts then octets else 0
+octets_to address (ask from moment count) accounts = 0
+
+-- the numbers that a step grants to an address in a window
+abbrev pub numbers_to : Address → ℕ → Step → List Account → ℕ
+numbers_to address window (earn from octets) accounts = 0
+numbers_to address window (spend to octets) accounts = 0
+numbers_to address window (ask from moment count) accounts = if same_address from address && nat_eq (window_of moment) window then may_ask from moment count accounts else 0
+
+-- 1 where a step enters an address anew, else 0
+abbrev pub enters : Address → Step → List Account → ℕ
+enters address step accounts = if is_some (account_at address (after step accounts)) && not (is_some (account_at address accounts)) then 1 else 0
+
+-- the octets that came from an address
+abbrev pub all_from : Address → List Step → ℕ
+all_from address [] = 0
+all_from address (s ∷ ss) = octets_from address s + all_from address ss
+
+-- the octets that were granted to an address
+abbrev pub all_to : Address → List Step → List Account → ℕ
+all_to address [] accounts = 0
+all_to address (s ∷ ss) accounts = octets_to address s accounts + all_to address ss (after s accounts)
+
+-- the numbers that were granted to an address in a window
+abbrev pub all_numbers : Address → ℕ → List Step → List Account → ℕ
+all_numbers address window [] accounts = 0
+all_numbers address window (s ∷ ss) accounts = numbers_to address window s accounts + all_numbers address window ss (after s accounts)
+
+-- how many times an address was entered anew
+abbrev pub entries : Address → List Step → List Account → ℕ
+entries address [] accounts = 0
+entries address (s ∷ ss) accounts = enters address s accounts + entries address ss (after s accounts)
+
+-- No moment is before this one, or before one that came earlier.
+abbrev pub AreInOrder : ℕ → List Step → Type 0
+AreInOrder moment [] = Unit {0}
+AreInOrder moment (earn from octets ∷ ss) = AreInOrder moment ss
+AreInOrder moment (spend to octets ∷ ss) = AreInOrder moment ss
+AreInOrder moment (ask from next count ∷ ss) = (moment ≤ next) × AreInOrder next ss

@@ -1,0 +1,94 @@
+//! The account of an address.
+
+ghost use Rattle.std.specs.Prelude.{◌≡◌, ◌≤◌};
+ghost use Rattle.flood_guard.specs.Accounts.{opened, earned, paid, counted, left_in, window_of};
+
+use rtp_codec::Address;
+
+/// The credit of a new address, in octets.
+const NEW_CREDIT: u64 = 256;
+/// The most credit, in octets.
+const MOST_CREDIT: u64 = 65_536;
+/// The most numbers that are looked at for one address in a window.
+const MOST_ASKED: u64 = 512;
+/// The length of a window, in nanoseconds.
+const WINDOW: u64 = 20_000_000;
+
+/// What may still be sent to an address, and how much it asked for.
+#[derive(Clone, Copy)]
+pub(crate) struct Account {
+    /// The address.
+    pub(crate) address: Address,
+    /// The octets of control that may still be sent to it, 0 to 65,536.
+    pub(crate) credit: u64,
+    /// The number of the last window in which it asked. Window 0 begins in 1970, and each has 20 ms.
+    pub(crate) window: u64,
+    /// How many of the numbers that it asked for in that window were granted, 0 to 512.
+    pub(crate) asked: u64,
+}
+
+/// The number of the window that a moment lies in. The moment is in nanoseconds since 1970.
+pub(crate) fn window_of(moment: u64) -> u64
+    ensures { result ≡ window_of moment }
+{
+    moment / WINDOW
+}
+
+impl Account {
+    /// The account of a new address.
+    pub(crate) fn opened(address: &Address) -> Self
+        ensures { result ≡ opened address.now }
+    {
+        Self {
+            address: *address,
+            credit: NEW_CREDIT,
+            window: 0,
+            asked: 0,
+        }
+    }
+
+    /// The account after a datagram of so many octets came.
+    pub(crate) fn earned(self, octets: u64) -> Self
+        ensures { result ≡ earned octets self }
+    {
+        let more = octets.min(MOST_CREDIT) * 3 / 2;
+        Self {
+            credit: self.credit.saturating_add(more).min(MOST_CREDIT),
+            ..self
+        }
+    }
+
+    /// The account after so many octets were sent to it.
+    pub(crate) fn paid(self, octets: u64) -> Self
+        ensures { result ≡ paid octets self }
+    {
+        Self {
+            credit: self.credit.saturating_sub(octets),
+            ..self
+        }
+    }
+
+    /// How many numbers may still be looked at in a window.
+    pub(crate) fn left_in(&self, window: u64) -> u64
+        ensures { result ≡ left_in window self.now }
+    {
+        if self.window == window {
+            MOST_ASKED.saturating_sub(self.asked)
+        } else {
+            MOST_ASKED
+        }
+    }
+
+    /// The account after so many numbers were granted in a window.
+    pub(crate) fn counted(self, window: u64, granted: u64) -> Self
+        requires { granted ≤ left_in window self }
+        ensures { result ≡ counted window granted self }
+    {
+        let before = if self.window == window { self.asked } else { 0 };
+        Self {
+            window,
+            asked: before + granted,
+            ..self
+        }
+    }
+}

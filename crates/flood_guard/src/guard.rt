@@ -1,0 +1,173 @@
+//! The accounts of the addresses that were used last.
+
+ghost use Rattle.std.specs.Prelude.{◌≡◌, ◌∷◌, ◌++◌, ◌+◌, ◌-◌, ◌≤◌, ◌<◌, [], IfOk, IfSome, take, drop};
+ghost use Rattle.std.specs.Vec.{vec_len, vec_capacity};
+ghost use Rattle.flood_guard.specs.Accounts.{account_at, account_of, most_addresses, used};
+ghost use Rattle.flood_guard.specs.Steps.{after, earn, spend, ask, may_spend, may_ask};
+ghost use Rattle.flood_guard.specs.inner.Places.{place_of};
+
+use crate::account::{Account, window_of};
+use rtp_codec::Address;
+use std::alloc::{AllocError, Allocator, Global};
+use std::marker::Model;
+
+/// The most addresses that have an account.
+const MOST_ADDRESSES: usize = 1_024;
+
+/// How many accounts stand before the one of an address.
+fn place_of(address: &Address, accounts: &[Account]) -> Option<usize>
+    ensures { result ≡ place_of address.now accounts.now }
+{
+    for place in 0..accounts.len() {
+        if accounts[place].address == *address {
+            return Some(place);
+        }
+    }
+    None
+}
+
+/// Puts an account before the others, in place of the one at a place.
+fn put_first<A: Allocator>(accounts: &mut Vec<Account, A>, place: usize, account: Account)
+    requires { place < vec_len accounts.old }
+    ensures items { accounts.new.items ≡ account ∷ take place accounts.old.items ++ drop (place + 1) accounts.old.items }
+    ensures len { vec_len accounts.new ≡ vec_len accounts.old }
+    ensures capacity { vec_capacity accounts.new ≡ vec_capacity accounts.old }
+{
+    accounts.copy_within(0..place, 1);
+    accounts[0] = account;
+}
+
+/// Puts the account of a new address before the others. The last one goes, where there is no more room.
+fn enter<A: Allocator>(accounts: &mut Vec<Account, A>, account: Account)
+    requires len { vec_len accounts.old ≤ most_addresses }
+    requires capacity { most_addresses ≤ vec_capacity accounts.old }
+    ensures items { accounts.new.items ≡ account ∷ take (most_addresses - 1) accounts.old.items }
+    ensures len { vec_len accounts.new ≤ most_addresses }
+    ensures capacity { most_addresses ≤ vec_capacity accounts.new }
+{
+    let len = accounts.len();
+    if len == MOST_ADDRESSES {
+        put_first(accounts, MOST_ADDRESSES - 1, account);
+        return;
+    }
+    let Ok(()) = accounts.push(account) else {
+        unreachable!()
+    };
+    put_first(accounts, len, account);
+}
+
+/// Puts an account before the others, where an account of its address stands at a place, or nowhere.
+fn keep<A: Allocator>(accounts: &mut Vec<Account, A>, place: Option<usize>, account: Account)
+    requires place { place ≡ place_of account.address accounts.old.items }
+    requires len { vec_len accounts.old ≤ most_addresses }
+    requires capacity { most_addresses ≤ vec_capacity accounts.old }
+    ensures items { accounts.new.items ≡ used account accounts.old.items }
+    ensures len { vec_len accounts.new ≤ most_addresses }
+    ensures capacity { most_addresses ≤ vec_capacity accounts.new }
+{
+    match place {
+        Some(place) => put_first(accounts, place, account),
+        None => enter(accounts, account),
+    }
+}
+
+/// The account at a place.
+fn known(accounts: &[Account], place: Option<usize>, address: &Address) -> Option<Account>
+    requires { place ≡ place_of address.now accounts.now }
+    ensures account { result ≡ account_at address.now accounts.now }
+    ensures address { IfSome result (λ account. account.address ≡ address.now) }
+{
+    match place {
+        Some(place) => Some(accounts[place]),
+        None => None,
+    }
+}
+
+/// The account at a place, or a new one.
+fn found(accounts: &[Account], place: Option<usize>, address: &Address) -> Account
+    requires { place ≡ place_of address.now accounts.now }
+    ensures account { result ≡ account_of address.now accounts.now }
+    ensures address { result.address ≡ address.now }
+{
+    match known(accounts, place, address) {
+        Some(account) => account,
+        None => Account::opened(address),
+    }
+}
+
+/// The accounts of at most 1,024 addresses. Only [`new`](Self::new) takes memory.
+///
+/// An address is entered when a datagram comes from it. Where there is no more room, the address whose last use is the
+/// longest ago is forgotten, with its credit and with what it asked for. What comes from an address is a use, and so is
+/// what is granted to it.
+#[derive(Drop)]
+pub struct FloodGuard<A: Allocator + Copy = Global> {
+    accounts: Vec<Account, A>,
+}
+
+impl<A: Allocator + Copy> Model for FloodGuard<A> {
+    ghost use Rattle.std.specs.Prelude.{List, ◌≤◌};
+    ghost use Rattle.std.specs.Vec.{vec_len, vec_capacity};
+    ghost use Rattle.flood_guard.specs.Accounts.{most_addresses};
+    ghost use Rattle.flood_guard.specs.declared.account.Account.{Account as AccountOf};
+
+    ghost Value = { List AccountOf };
+
+    ghost view = { λ guard. guard.accounts.items };
+
+    ghost invariant = { λ guard. (vec_len guard.accounts ≤ most_addresses)
+        × (most_addresses ≤ vec_capacity guard.accounts) };
+}
+
+impl<A: Allocator + Copy> FloodGuard<A> {
+    /// No account. It allocates for the most addresses. The only error is out of memory.
+    pub fn new(alloc: A) -> Result<Self, AllocError>
+        ensures { IfOk result (λ guard. guard ≡ []) }
+    {
+        let accounts = Vec::with_capacity(alloc, MOST_ADDRESSES)?;
+        Ok(Self { accounts })
+    }
+
+    /// Notes that a datagram of so many octets came from an address. Each octet earns 1.5 octets of credit, up to 65,536.
+    /// A new address begins with 256.
+    pub fn earn(&mut self, from: &Address, octets: u64)
+        ensures { self.new ≡ after (earn from.now octets) self.old }
+    {
+        let place = place_of(from, &self.accounts);
+        let account = found(&self.accounts, place, from).earned(octets);
+        keep(&mut self.accounts, place, account);
+    }
+
+    /// Whether a control datagram of so many octets may go up to an address. If so it costs its octets of credit.
+    ///
+    /// Nothing may go to an address that nothing came from, and a refusal changes nothing.
+    pub fn spend(&mut self, to: &Address, octets: u64) -> bool
+        ensures answer { result ≡ may_spend to.now octets self.old }
+        ensures after { self.new ≡ after (spend to.now octets) self.old }
+    {
+        let place = place_of(to, &self.accounts);
+        let Some(account) = known(&self.accounts, place, to) else {
+            return false;
+        };
+        if account.credit < octets {
+            return false;
+        }
+        keep(&mut self.accounts, place, account.paid(octets));
+        true
+    }
+
+    /// How many of the numbers that an address asks for again may be looked at: at most 512 in a window of 20 ms.
+    ///
+    /// The moment is in nanoseconds since 1970. A new address is entered.
+    pub fn ask(&mut self, from: &Address, moment: u64, count: u64) -> u64
+        ensures answer { result ≡ may_ask from.now moment count self.old }
+        ensures after { self.new ≡ after (ask from.now moment count) self.old }
+    {
+        let place = place_of(from, &self.accounts);
+        let account = found(&self.accounts, place, from);
+        let window = window_of(moment);
+        let granted = count.min(account.left_in(window));
+        keep(&mut self.accounts, place, account.counted(window, granted));
+        granted
+    }
+}

@@ -1,0 +1,27 @@
+//! Laws of the definitions: functions that do nothing when they run.
+
+ghost use Rattle.std.specs.Prelude.{◌≤◌, ◌+◌, ◌*◌, ℕ, List, []};
+ghost use Rattle.rtp_codec.specs.declared.address.Address.{Address};
+ghost use Rattle.flood_guard.specs.Accounts.{most_asked, new_credit};
+ghost use Rattle.flood_guard.specs.Steps.{Step, all_from, all_to, all_numbers, entries, AreInOrder};
+
+/// A law over all steps of a new guard. The octets that may go up to an address are at most 1.5 times those that came
+/// from it, and 256 for each time that it was entered.
+///
+/// An address that is forgotten and comes again is entered again, with 256 octets. It is forgotten only once 1,024
+/// other addresses were used since its own last use. So whoever can send from more than 1,024 addresses, in turn, gets
+/// 256 octets for each datagram.
+pub fn amplification_is_bounded()
+    ensures { (address : Address) (steps : List Step) → all_to address steps [] * 2
+        ≤ all_from address steps * 3 + entries address steps [] * new_credit * 2 }
+{}
+
+/// A law over all steps of a new guard whose moments never go back. The numbers that an address asks for again and
+/// that may be looked at in one window are at most 512 for each time that it was entered.
+///
+/// An address that is forgotten loses the count of its window. If it is entered again in the same window, it may ask
+/// for 512 more. Where moments go back a window can begin again, and its count with it.
+pub fn asks_are_bounded()
+    ensures { (address : Address) (window : ℕ) (steps : List Step) → AreInOrder 0 steps
+        → all_numbers address window steps [] ≤ entries address steps [] * most_asked }
+{}

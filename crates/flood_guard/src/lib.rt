@@ -1,0 +1,21 @@
+//! A guard against two floods: it bounds what the bridge sends up to an address, and what an address asks for again.
+//!
+//! Begin with [`FloodGuard::new`]. Each datagram that comes earns credit, and control that goes up spends it.
+//! A contract sees a [`FloodGuard`] as its accounts, the most recently used first.
+//!
+//! ```rust
+//! let member = Address { ip: [127, 0, 0, 1], port: 7 };
+//! let mut guard = FloodGuard::new(alloc)?;
+//! guard.earn(&member, 100); // the 256 octets of a new address, and 150
+//! let first = guard.spend(&member, 400); // true
+//! let second = guard.spend(&member, 7); // false: 6 octets are left
+//! let looked_at = guard.ask(&member, 40_000_000, 600); // 512, the most in a window of 20 ms
+//! ```
+#![tactic(auto)]
+
+mod account;
+mod guard;
+mod laws;
+
+pub use guard::FloodGuard;
+pub use laws::{amplification_is_bounded, asks_are_bounded};
