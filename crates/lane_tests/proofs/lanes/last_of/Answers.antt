@@ -1,0 +1,9 @@
+use Rattle.std.proofs.Common.{◌≡◌}
+use Rattle.std.proofs.lemmas.List.Elements.{All-pop}
+use Rattle.versions.specs.Published.{new_reader}
+use Rattle.lane_tests.proofs.lanes.last_of.Goals as goal
+
+pub returns : goal.returns
+returns g c =
+    let h = g.H.Hall in
+    (All-pop (λ reader. reader ≡ new_reader h.publisher h.start) _ _ _ c.pop.ensures.items c.requires).1

@@ -1,0 +1,81 @@
+//! Paces that are not as many as lanes.
+
+ghost use Rattle.std.specs.Prelude.{◌≡◌, All};
+ghost use Rattle.desk_rows.specs.Desk.{blank as no_rows};
+ghost use Rattle.versions.specs.Published.{new_reader};
+
+use crate::lanes::lanes;
+use crate::paces::Free;
+use crate::running::Running;
+use crate::stage::OneDesk;
+use crate::told::OfHall;
+use media_workers::StartFault;
+use operator_desk::{Hall, Log};
+use std::alloc::Global;
+use std::marker::Brand;
+use std::sync::Wait;
+use std::sync::ledger::Blank;
+use std::test::*;
+use std::thread::Threads;
+use versions::{LaneReader, Opened};
+
+fn free(alloc: Global, count: usize) -> Option<Vec<Free>> {
+    let mut paces = Vec::new(alloc);
+    for _ in 0..count {
+        paces.push(Free {}).ok()?;
+    }
+    Some(paces)
+}
+
+/// How many lanes come back of a start with so many paces that is refused for its counts.
+fn back<H: Hall + Send + Sync + 'static, R: Threads + Wait + Copy + Send + 'static>(
+    rt: &R,
+    alloc: Global,
+    readers: Vec<LaneReader>,
+    paces: usize,
+) -> Option<usize>
+    requires { All (λ reader. reader ≡ new_reader H.publisher H.start) readers.items }
+{
+    let paces = free(alloc, paces)?;
+    let lanes = lanes::<H>(alloc, readers).ok()?;
+    match Running::<OfHall<H>, Free>::start(rt, alloc, lanes, paces) {
+        Ok(running) => {
+            running.close(rt);
+            None
+        }
+        Err((lanes, fault)) => (fault == StartFault::Count).then_some(lanes.len()),
+    }
+}
+
+/// The same, over a desk that has ended.
+fn scene<H: Hall + Send + Sync + 'static, R: Threads + Wait + Copy + Drop + Send + 'static>(
+    rt: &R,
+    alloc: Global,
+    log: &Log,
+    blank: Blank,
+    opened: Opened,
+) -> bool
+    requires log { log.now ≡ H.cells }
+    requires blank { (blank.name ≡ H.name) × (blank.parts ≡ H.parts) }
+    requires publisher { opened ≡ H.publisher }
+    requires start { no_rows 1 ≡ H.start }
+    requires seats { (1 ≡ H.seats) × (H.seats ≡ H.parts) }
+{
+    match OneDesk::<H>::open(rt, alloc, log, blank, opened, 2) {
+        Some((desk, readers)) => {
+            desk.end(rt);
+            back::<H, R>(rt, alloc, readers, 1) == Some(2)
+                && back::<H, R>(rt, alloc, Vec::new(alloc), 0) == Some(0)
+        }
+        None => false,
+    }
+}
+
+/// Where paces are too few, or there is no lane, no lane runs and the lanes come back.
+#[test]
+fn too_few_paces_hand_lanes_back(rt: HostRuntime) -> Result<(), Fail> {
+    let alloc = rt.alloc();
+    let log = Log::new(alloc)?;
+    assert!(rt; scene::<Brand, _>(&rt, alloc, &log, Blank::new(1), Opened::new()));
+    Ok(())
+}

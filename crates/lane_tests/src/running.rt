@@ -1,0 +1,78 @@
+//! Lanes that run, for tests.
+
+ghost use Rattle.std.specs.Prelude.{◌≡◌, ◌<◌, ◌^◌, length, vec_len, All};
+ghost use Rattle.media_workers.specs.LaneRuns.{LaneNow};
+ghost use Rattle.media_workers.specs.Parcels.{IsFit};
+ghost use Rattle.media_workers.specs.Bridges.{AreNew};
+
+use bridge_core::Egress;
+use media_workers::{Bridge, Lane, LaneEnd, Pace, Parcel, PublisherName, StartFault};
+use rtrb::Producer;
+use std::alloc::Global;
+use std::sync::Wait;
+use std::thread::Threads;
+
+/// How lanes ended.
+pub type Ends<N> = Vec<LaneEnd<N, Producer<Egress>>>;
+
+/// Lanes that run, and how many they are. It is not `Drop`: end it by [`Running::close`].
+pub struct Running<N: PublisherName, P: Pace> {
+    bridge: Bridge<N, P>,
+    lanes: u32,
+    ghost many: { length bridge ≡ lanes },
+}
+
+impl<N: PublisherName + Send + Sync + 'static, P: Pace + Send + Drop + 'static> Running<N, P> {
+    /// Starts them.
+    pub fn start<R: Threads + Wait + Copy + Send + 'static>(
+        rt: &R,
+        alloc: Global,
+        lanes: Vec<Lane>,
+        paces: Vec<P>,
+    ) -> Result<Running<N, P>, (Vec<Lane>, StartFault)>
+        requires new { AreNew lanes.items }
+        requires publisher { All (λ (lane : LaneNow). lane.reader.publisher ≡ N.publisher) lanes.items }
+        requires many { vec_len lanes < 2 ^ 32 }
+    {
+        let many = lanes.len() as u32;
+        match Bridge::<N, P>::start(rt, alloc, lanes, paces) {
+            Ok(bridge) => Ok(Running {
+                bridge,
+                lanes: many,
+            }),
+            Err(refused) => Err(refused),
+        }
+    }
+}
+
+impl<N: PublisherName, P: Pace> Running<N, P> {
+    pub fn lanes(&self) -> u32 {
+        self.lanes
+    }
+
+    /// Gives a lane a parcel, or hands it back.
+    pub fn push(&mut self, lane: u32, parcel: Parcel) -> Result<(), Parcel>
+        requires { IsFit N.publisher parcel }
+    {
+        if lane >= self.lanes {
+            return Err(parcel);
+        }
+        self.bridge.push(lane, parcel)
+    }
+
+    /// The next egress of any lane.
+    pub fn pop(&mut self) -> Option<(u32, Egress)> {
+        self.bridge.pop()
+    }
+
+    /// Whether there is such a lane and it has ended.
+    pub fn ended(&self, lane: u32) -> bool {
+        lane < self.lanes && self.bridge.ended(lane)
+    }
+
+    /// Ends the lanes.
+    pub fn close<R: Threads + Wait>(self, rt: &R) -> Ends<N> {
+        let Running { bridge, lanes: _ } = self;
+        bridge.close(rt)
+    }
+}

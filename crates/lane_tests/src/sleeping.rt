@@ -1,0 +1,177 @@
+//! A lane that sleeps by its bell.
+
+ghost use Rattle.std.specs.Prelude.{◌≡◌, All};
+ghost use Rattle.desk_rows.specs.Desk.{blank as no_rows};
+ghost use Rattle.versions.specs.Published.{new_reader};
+
+use crate::beginning::begun;
+use crate::rows::{FIRST, SECOND, frame, set_up};
+use crate::running::{Ends, Running};
+use crate::stage::OneDesk;
+use crate::streams::is_packet;
+use crate::together::next;
+use crate::told::{OfHall, Told};
+use lane_bell::{Bell, Rouse, Rung};
+use media_workers::{Pace, PublisherName};
+use operator_desk::{Hall, Log};
+use std::alloc::Global;
+use std::marker::Brand;
+use std::sync::atomic::{AtomicU64, Ordering};
+use std::sync::ledger::Blank;
+use std::sync::{Arc, Wait};
+use std::test::*;
+use std::thread;
+use std::thread::Threads;
+use versions::{LaneReader, Opened};
+
+/// Counts how often a lane goes to sleep.
+#[derive(Drop)]
+struct Sleeps {
+    times: Arc<AtomicU64, Global>,
+}
+
+impl Rouse for Sleeps {
+    fn rouse(&self) {
+        self.times.fetch_add(1, Ordering::SeqCst);
+    }
+}
+
+/// A lane's bell, and how often the lane went to sleep.
+#[derive(Drop)]
+struct Bed {
+    bell: Arc<Bell, Global>,
+    times: Arc<AtomicU64, Global>,
+}
+
+/// Waits until the lane has gone to sleep so often.
+fn wait_for_sleep<R: Wait>(rt: &R, bed: &Bed, times: u64) {
+    for _ in rt.forever() {
+        if bed.times.load(Ordering::SeqCst) >= times {
+            return;
+        }
+        thread::yield_now();
+    }
+    unreachable!()
+}
+
+/// Gives the lane the frame with a notice, and rings. Says whether the parcel was accepted.
+fn wake<N: PublisherName, P: Pace, R: Wait>(
+    rt: &R,
+    alloc: Global,
+    running: &mut Running<N, P>,
+    bed: &Bed,
+    told: Told<N>,
+) -> bool {
+    let is_given = match frame(alloc) {
+        Some(item) => running.push(0, item.with(told)).is_ok(),
+        None => false,
+    };
+    if is_given {
+        bed.bell.ring(rt, 1);
+    }
+    is_given
+}
+
+/// Waits for the two packets of the frame. Says whether they are these.
+fn takes_packets<N: PublisherName, P: Pace, R: Wait>(rt: &R, running: &mut Running<N, P>) -> bool {
+    let (_, first) = next(rt, running);
+    let (_, second) = next(rt, running);
+    is_packet(&first, 6, 65535, &FIRST) && is_packet(&second, 6, 0, &SECOND)
+}
+
+/// Whether the one lane handled one item and refused none.
+fn is_handled<N: PublisherName>(ends: &Ends<N>) -> bool {
+    match ends.as_slice() {
+        [end] => end.handled == 1 && end.refused.is_none(),
+        _ => false,
+    }
+}
+
+/// Whether the lane sleeps, wakes for a parcel, sleeps again, and ends once its bell is open.
+fn sleeps_well<N: PublisherName, P: Pace, R: Threads + Wait>(
+    rt: &R,
+    alloc: Global,
+    running: Running<N, P>,
+    bed: &Bed,
+    told: Told<N>,
+) -> bool {
+    let mut running = running;
+    wait_for_sleep(rt, bed, 1);
+    let is_woken = wake(rt, alloc, &mut running, bed, told);
+    let is_sent = is_woken && takes_packets(rt, &mut running);
+    if is_woken {
+        wait_for_sleep(rt, bed, 2);
+    }
+    let times = bed.times.load(Ordering::SeqCst);
+    bed.bell.open(rt);
+    let ends = running.close(rt);
+    is_sent && times == 2 && is_handled(&ends)
+}
+
+/// A bell and a count.
+fn made_bed(alloc: Global) -> Option<Bed> {
+    let bell = Arc::new(alloc, Bell::new()).ok()?;
+    let times = Arc::new(alloc, AtomicU64::new(0)).ok()?;
+    Some(Bed { bell, times })
+}
+
+/// The pace of the bell.
+fn paces<R: Wait + Copy + Drop>(rt: &R, alloc: Global, bed: &Bed) -> Option<Vec<Rung<R, Sleeps>>> {
+    let bell = Arc::try_clone(&bed.bell).ok()?;
+    let times = Arc::try_clone(&bed.times).ok()?;
+    let mut paces = Vec::new(alloc);
+    paces.push(Rung::by(*rt, bell, Sleeps { times })).ok()?;
+    Some(paces)
+}
+
+/// The same, with a lane that is started for it.
+fn is_started<H: Hall + Send + Sync + 'static, R: Threads + Wait + Copy + Drop + Send + 'static>(
+    rt: &R,
+    alloc: Global,
+    readers: Vec<LaneReader>,
+    told: Told<OfHall<H>>,
+) -> Option<bool>
+    requires { All (λ reader. reader ≡ new_reader H.publisher H.start) readers.items }
+{
+    let bed = made_bed(alloc)?;
+    let paces = paces(rt, alloc, &bed)?;
+    let running = begun::<H, Rung<R, Sleeps>, R>(rt, alloc, readers, paces)?;
+    Some(sleeps_well(rt, alloc, running, &bed, told))
+}
+
+/// The same, over a desk that is set up.
+fn scene<H: Hall + Send + Sync + 'static, R: Threads + Wait + Copy + Drop + Send + 'static>(
+    rt: &R,
+    alloc: Global,
+    log: &Log,
+    blank: Blank,
+    opened: Opened,
+) -> bool
+    requires log { log.now ≡ H.cells }
+    requires blank { (blank.name ≡ H.name) × (blank.parts ≡ H.parts) }
+    requires publisher { opened ≡ H.publisher }
+    requires start { no_rows 1 ≡ H.start }
+    requires seats { (1 ≡ H.seats) × (H.seats ≡ H.parts) }
+{
+    match OneDesk::<H>::open(rt, alloc, log, blank, opened, 1) {
+        Some((desk, readers)) => {
+            let mut desk = desk;
+            let is_set_up = desk.does_all(rt, alloc, &set_up());
+            let told = desk.notice(rt);
+            let is_well = is_started(rt, alloc, readers, told);
+            desk.end(rt);
+            is_set_up && is_well == Some(true)
+        }
+        None => false,
+    }
+}
+
+/// A lane sleeps by its bell until it is rung for a parcel, handles it, and sleeps again. Once the bell is open it
+/// takes its `End`.
+#[test]
+fn a_lane_sleeps_by_its_bell(rt: HostRuntime) -> Result<(), Fail> {
+    let alloc = rt.alloc();
+    let log = Log::new(alloc)?;
+    assert!(rt; scene::<Brand, _>(&rt, alloc, &log, Blank::new(1), Opened::new()));
+    Ok(())
+}

@@ -1,0 +1,86 @@
+//! A desk with one operator, on which each test plays.
+
+ghost use Rattle.std.specs.Prelude.{◌≡◌, All, IfSome};
+ghost use Rattle.desk_rows.specs.Desk.{blank as no_rows};
+ghost use Rattle.versions.specs.Published.{new_reader};
+
+use crate::told::{OfHall, Told};
+use desk_edit::{Call, Command};
+use operator_desk::{Answer, Hall, Log, Seat, SharedDesk};
+use std::alloc::Global;
+use std::sync::Wait;
+use std::sync::ledger::Blank;
+use versions::{LaneReader, Opened};
+
+/// A desk with one operator. It is not `Drop`: end it by [`OneDesk::end`].
+pub struct OneDesk<'a, H: Hall> {
+    desk: SharedDesk<'a, H>,
+    seat: Seat<'a, H>,
+}
+
+impl<'a, H: Hall> OneDesk<'a, H> {
+    /// A desk without rows over a log in which nothing is written, and readers of what it publishes.
+    pub fn open<R: Wait>(
+        rt: &R,
+        alloc: Global,
+        log: &'a Log,
+        blank: Blank,
+        opened: Opened,
+        readers: usize,
+    ) -> Option<(OneDesk<'a, H>, Vec<LaneReader>)>
+        requires log { log.now ≡ H.cells }
+        requires blank { (blank.name ≡ H.name) × (blank.parts ≡ H.parts) }
+        requires publisher { opened ≡ H.publisher }
+        requires start { no_rows 1 ≡ H.start }
+        requires seats { (1 ≡ H.seats) × (H.seats ≡ H.parts) }
+        ensures { IfSome result (λ r. All (λ reader. reader ≡ new_reader H.publisher H.start) r.1.items) }
+    {
+        match SharedDesk::<H>::new(rt, alloc, log, blank, opened, 1, 1, readers) {
+            Ok((desk, mut seats, readers)) => match seats.pop() {
+                Some(seat) => Some((OneDesk { desk, seat }, readers)),
+                None => {
+                    desk.end(rt);
+                    None
+                }
+            },
+            Err(_) => None,
+        }
+    }
+
+    /// Carries out a command, and tells of it. `None` where it is refused.
+    pub fn does<R: Wait>(
+        &mut self,
+        rt: &R,
+        alloc: Global,
+        command: Command,
+    ) -> Option<Told<OfHall<H>>> {
+        match self
+            .desk
+            .call(rt, alloc, &mut self.seat, Call::Apply(command))
+        {
+            Answer::Accepted { no: _, notice } => Some(Told::new(notice)),
+            Answer::Refused { .. } => None,
+        }
+    }
+
+    /// Carries out all commands. False where one is refused.
+    pub fn does_all<R: Wait>(&mut self, rt: &R, alloc: Global, commands: &[Command]) -> bool {
+        for command in commands {
+            if self.does(rt, alloc, *command).is_none() {
+                return false;
+            }
+        }
+        true
+    }
+
+    /// The notice of what is published now.
+    pub fn notice<R: Wait>(&self, rt: &R) -> Told<OfHall<H>> {
+        Told::new(self.desk.notice(rt))
+    }
+
+    /// Ends it. Readers find no rows from then on.
+    pub fn end<R: Wait>(self, rt: &R) {
+        let OneDesk { desk, seat: _ } = self;
+        desk.end(rt);
+    }
+}

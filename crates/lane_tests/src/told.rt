@@ -1,0 +1,46 @@
+//! Notices of the publisher that lanes read.
+
+ghost use Rattle.std.specs.Prelude.{◌≡◌};
+
+use media_workers::PublisherName;
+use operator_desk::Hall;
+use std::marker::PhantomData;
+use versions::Notice;
+
+/// The publisher of a desk, by its hall.
+pub struct OfHall<H: Hall> {
+    _hall: PhantomData<H>,
+}
+
+impl<H: Hall> PublisherName for OfHall<H> {
+    ghost publisher = { H.publisher };
+}
+
+/// A notice of the publisher of this name.
+#[derive(Drop)]
+pub struct Told<N: PublisherName> {
+    notice: Notice,
+    _publisher: PhantomData<N>,
+    ghost of: { notice.publisher ≡ N.publisher },
+}
+
+impl<N: PublisherName> Told<N> {
+    pub fn new(notice: Notice) -> Told<N>
+        requires { notice.publisher ≡ N.publisher }
+    {
+        Told {
+            notice,
+            _publisher: PhantomData,
+        }
+    }
+
+    pub fn again(&self) -> Told<N> {
+        Told::new(self.notice.again())
+    }
+
+    pub fn into_notice(self) -> Notice
+        ensures { result.publisher ≡ N.publisher }
+    {
+        self.notice
+    }
+}
