@@ -99,6 +99,23 @@ class Browser:
             fail(f"{script}: {told['exceptionDetails']}")
         return told["result"].get("value")
 
+    def press(self, key, code):
+        """Presses a key and lets it go: its name, and its code of the keyboard (UI Events KeyboardEvent, `keyCode`)."""
+        text = {"text": "\r"} if key == "Enter" else {}
+        for kind in "keyDown", "keyUp":
+            self.ask("Input.dispatchKeyEvent", type=kind, key=key, code=key, windowsVirtualKeyCode=code, **(text if kind == "keyDown" else {}))
+
+    def types(self, text):
+        self.ask("Input.insertText", text=text)
+
+    def tabs_to(self, selector):
+        """Goes by Tab to an element, as who has no mouse does."""
+        for _ in range(300):
+            self.press("Tab", 9)
+            if self.run(f"document.activeElement.matches({json.dumps(selector)})"):
+                return
+        fail(f"no Tab leads to {selector}")
+
     def open(self, address):
         self.ask("Page.enable")
         self.ask("Page.navigate", url=address)

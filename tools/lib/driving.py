@@ -1,5 +1,6 @@
 """A session at the page, driven by two browsers: clicks, forms and a drag."""
 
+import re
 import time
 
 from lib.browser import Browser
@@ -47,6 +48,31 @@ STEPS = [
 ]
 
 
+# What a user does by keys: where Tab leads, and what is typed or pressed there.
+KEYS = [
+    ("a room", "#line", "add-room 3", "Enter"),
+    ("an unmute", '[data-key="unmute 201"]', "", "Enter"),
+    ("a move", 'select[data-key="move 11"]', "", "ArrowDown"),
+    ("an undo", "#undo", "", "Enter"),
+    ("a room of the form", '#add-room [name="room"]', "", "Enter"),
+    ("a redo that is gone", "#undo", "", "Enter"),
+]
+CODES = {"Enter": 13, "ArrowDown": 40}
+
+
+def by_keys(browser, shown):
+    """Goes on with a session by keys alone. After each step the page shows what the bridge's `show` says."""
+    version = browser.run("version()")
+    for what, selector, text, key in KEYS:
+        version += 1
+        browser.tabs_to(selector)
+        browser.types(text)
+        browser.press(key, CODES[key])
+        browser.wait(f"version() === {version}")
+        if [*browser.run("desk.rows"), f"end {version}"] != shown():
+            fail(f"after {what} by keys the page shows another desk than the bridge")
+
+
 def opened(command, folder, address):
     browser = Browser(command, folder)
     browser.shows(1280, 900)
@@ -73,8 +99,8 @@ def drive(command, folder, address, shown, pictures=None):
             if [*rows, f"end {version}"] != bridge:
                 fail(f"after {what} the page shows {rows}, the bridge {bridge}")
         look(one, version)
-        if pictures:
-            take_pictures(one, pictures)
+        by_keys(one, shown)
+        look_at_sizes(one, pictures)
     finally:
         one.close()
         two.close()
@@ -104,12 +130,29 @@ def look(browser, version):
         fail("a refused line has changed the desk")
 
 
-def take_pictures(browser, folder):
-    """Pictures of the page, wide and narrow, light and dark."""
-    folder.mkdir(parents=True, exist_ok=True)
-    for name, width, height, dark in [("desk", 1280, 900, False), ("desk_dark", 1280, 900, True), ("desk_narrow", 400, 900, False)]:
-        browser.shows(width, height, dark)
+def look_at_sizes(browser, folder):
+    """The page, wide and narrow, light and dark: it fits the window, and its text stands out. With a folder, pictures of it."""
+    if folder:
+        folder.mkdir(parents=True, exist_ok=True)
+    for name, width, dark in [("desk", 1280, False), ("desk_dark", 1280, True), ("desk_narrow", 400, False), ("desk_narrow_dark", 400, True)]:
+        browser.shows(width, 900, dark)
         time.sleep(0.3)
         if browser.run("document.documentElement.scrollWidth > window.innerWidth"):
             fail(f"at {width} pixels the page is wider than the window")
-        browser.picture(folder / f"{name}.png")
+        text, ground = (browser.run(f"getComputedStyle(document.body).{what}") for what in ("color", "backgroundColor"))
+        if contrast(text, ground) < 7:
+            fail(f"at {width} pixels, dark: {dark}, the text is {text} on {ground}")
+        if folder:
+            browser.picture(folder / f"{name}.png")
+
+
+def contrast(one, other):
+    """The contrast of two colours (WCAG 2.1, 1.4.3), which the page's style sheet gives as rgb(R, G, B)."""
+
+    def light(colour):
+        parts = [int(part) / 255 for part in re.findall(r"[0-9]+", colour)[:3]]
+        linear = [part / 12.92 if part <= 0.03928 else ((part + 0.055) / 1.055) ** 2.4 for part in parts]
+        return 0.2126 * linear[0] + 0.7152 * linear[1] + 0.0722 * linear[2]
+
+    low, high = sorted((light(one), light(other)))
+    return (high + 0.05) / (low + 0.05)

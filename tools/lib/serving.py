@@ -28,10 +28,10 @@ def free_port(kind):
         return port_of(one)
 
 
-def settings(folder, udp=0, tcp=0, operators=2):
-    """The path of a settings file with these ports and so many seats, which is written to a folder."""
+def settings(folder, udp=0, tcp=0, operators=2, lanes=1):
+    """The path of a settings file with these ports, so many seats and so many lanes, which is written to a folder."""
     path = pathlib.Path(folder) / "serve.toml"
-    path.write_text(f'udp = "127.0.0.1:{udp}"\ntcp = "127.0.0.1:{tcp}"\noperators = {operators}\n')
+    path.write_text(f'udp = "127.0.0.1:{udp}"\ntcp = "127.0.0.1:{tcp}"\noperators = {operators}\nlanes = {lanes}\n')
     return path
 
 
@@ -43,6 +43,23 @@ def started(program, path):
         bridge.kill()
         fail("the bridge doesn't say where it listens")
     return bridge, int(listens[1]), int(listens[2])
+
+
+CALLS = re.compile(r"confbridge: operator ([0-9]+): ([0-9]+) calls")
+DROPPED = re.compile(r"confbridge: lane ([0-9]+): ([0-9]+) items dropped")
+
+
+def said_at_the_end(text):
+    """The calls of each operator that were accepted, and the items that were dropped for each lane, as a bridge says at its end."""
+    calls, dropped = {}, {}
+    for line in text.splitlines():
+        for form, found in (CALLS, calls), (DROPPED, dropped):
+            said = form.fullmatch(line)
+            if said:
+                found[int(said[1])] = int(said[2])
+    if not text.endswith("confbridge: stopped\n"):
+        fail(f"the bridge says at its end {text!r}")
+    return calls, dropped
 
 
 class Operator:

@@ -16,8 +16,8 @@ serve_text (Settings fault) = codes "settings: " ++ settings_text fault
 serve_text (Front fault) = front_text fault
 
 -- the exit status: 1 for the settings, and else that of the bridge
-abbrev pub serve_status_of : Result (Unit {0}) ServeFault → ℕ
-serve_status_of (Ok u) = 0
+abbrev pub serve_status_of : {T : Type 0} → Result T ServeFault → ℕ
+serve_status_of (Ok done) = 0
 serve_status_of (Err (Settings fault)) = 1
 serve_status_of (Err (Front fault)) = front_status_of (Err fault)
 

@@ -28,11 +28,11 @@ impl fmt::Display for ServeFault {
 
 /// The exit status: 0 after `stop`, 1 for a fault of the settings, 2 when memory ran out, 3 when a file, a socket or a
 /// clock failed.
-pub fn serve_status(answer: &Result<(), ServeFault>) -> u8
+pub fn serve_status<T>(answer: &Result<T, ServeFault>) -> u8
     ensures { result ≡ serve_status_of answer.now }
 {
     match answer {
-        Ok(()) => 0,
+        Ok(_) => 0,
         Err(ServeFault::Settings(_)) => 1,
         Err(ServeFault::Front(fault)) => front_status(&Err(*fault)),
     }

@@ -5,6 +5,7 @@
 mod ending;
 
 use crate::ending::{ServeFault, serve_status};
+use bridge_server::{Front, Stopped};
 use script_text::{Ask, Exit, Reader, Writer, asked, exit_status, run, unread};
 use std::alloc::AllocGlobal;
 use std::fs::Files;
@@ -12,8 +13,10 @@ use std::net::Net;
 use std::process::ExitCode;
 use std::rt::Runtime;
 use std::sync::Wait;
+use std::thread::Threads;
+use std::time::Clock;
 use std::{env, fs, io};
-use udp_front::{Front, FrontSettings, SettingsFault, settings};
+use udp_front::{FrontSettings, SettingsFault, settings};
 
 /// What the arguments ask for.
 #[derive(Drop)]
@@ -75,18 +78,65 @@ fn settings_in<R: Files + AllocGlobal>(rt: &R, path: &str) -> Result<FrontSettin
 }
 
 /// Runs a bridge with the settings of a file until it is stopped. Tells on standard error where it listens.
-fn serve<R: Runtime + AllocGlobal + Net + Wait>(rt: &R, path: &str) -> Result<(), ServeFault> {
+fn serve<R>(rt: &R, path: &str) -> Result<Stopped, ServeFault>
+where
+    R: Runtime
+        + AllocGlobal
+        + Files
+        + Net
+        + Clock
+        + Threads
+        + Wait
+        + Copy
+        + Send
+        + Sync
+        + Drop
+        + 'static,
+{
     let front = Front::bind(rt, settings_in(rt, path)?)?;
     let listening = front.listening()?;
     let _ = eprintln!(rt; "confbridge: listening on {listening}");
     Ok(front.run(rt)?)
 }
 
+/// Tells of each operator how many calls were accepted, and of each lane how many items were dropped, if any were.
+fn tell_counts<R: Runtime>(rt: &R, stopped: &Stopped) {
+    let mut op: u32 = 0;
+    for calls in &stopped.accepted {
+        let _ = eprintln!(rt; "confbridge: operator {op}: {calls} calls");
+        op = op.saturating_add(1);
+    }
+    let mut lane: u32 = 0;
+    for dropped in &stopped.dropped {
+        if *dropped > 0 {
+            let _ = eprintln!(rt; "confbridge: lane {lane}: {dropped} items dropped");
+        }
+        lane = lane.saturating_add(1);
+    }
+}
+
 /// Runs a bridge, and tells how it ended: on standard error and by the exit status.
-fn served<R: Runtime + AllocGlobal + Net + Wait>(rt: &R, path: &str) -> ExitCode {
+fn served<R>(rt: &R, path: &str) -> ExitCode
+where
+    R: Runtime
+        + AllocGlobal
+        + Files
+        + Net
+        + Clock
+        + Threads
+        + Wait
+        + Copy
+        + Send
+        + Sync
+        + Drop
+        + 'static,
+{
     let answer = serve(rt, path);
     let _ = match &answer {
-        Ok(()) => eprintln!(rt; "confbridge: stopped"),
+        Ok(stopped) => {
+            tell_counts(rt, stopped);
+            eprintln!(rt; "confbridge: stopped")
+        }
         Err(fault) => eprintln!(rt; "confbridge: {fault}"),
     };
     ExitCode::from(serve_status(&answer))

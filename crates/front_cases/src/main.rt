@@ -1,14 +1,14 @@
 //! Cases of a bridge on sockets. A case is some lines of standard input: what comes to the bridge, and what it answers.
-//! The program has the sockets of members and operators, and calls the bridge round by round. It prints each line that
-//! comes out otherwise, and then the number of lines.
+//! The program has the sockets of members and operators; the bridge runs on threads of its own. It prints each line that comes
+//! out otherwise, and then the number of lines. Its argument is how many lanes a bridge has where its line does not say.
 //!
 //! - `** TEXT`: what the lines behind it show.
 //! - `settings TEXT > ANSWER`: the settings of a text, where `\n` is an LF, or their fault. Settings are
 //!   `udp ADDRESS and tcp ADDRESS LANES OPERATORS SSRC CNAME`.
-//! - `bridge SEATS [LANES]`: a new bridge with so many seats for operators, and so many lanes or one. All sockets of
-//!   the one before are closed.
+//! - `bridge SEATS [LANES]`: a new bridge with so many seats for operators, and so many lanes. All sockets
+//!   around the one before are closed, and it is stopped.
 //! - `opens N`: operator N connects.
-//! - `says N TEXT`, `drips N TEXT`: it sends a line, at once or an octet a round. `@M` and a space stand for member M's
+//! - `says N TEXT`, `drips N TEXT`: it sends a line, at once or an octet a turn. `@M` and a space stand for member M's
 //!   address, `\r` for a CR, and a `\` at the end leaves out the LF.
 //! - `repeats N TIMES TEXT`: it sends a line so many times and reads nothing, until the bridge takes no more.
 //! - `floods N TIMES`: it sends so many times 8,192 octets without an LF.
@@ -20,23 +20,42 @@
 //! - `member M`, `leaves M`, `returns M`: member M has a socket, has none any more, has one again at the same port.
 //! - `sends M HEX`: it sends the bridge a datagram of these octets. A space stands for nothing, and `WORD*TIMES` for a
 //!   word so many times.
-//! - `gets M HEX`: the next datagram that comes to it, where a dot stands for any digit.
-//! - `rounds COUNT`: the bridge goes on for so many rounds.
+//! - `gets M HEX`: the next datagram that comes to it, where a dot stands for any digit. With several lanes it may be any
+//!   later one.
+//! - `rounds COUNT`: the bridge goes on for so many turns of 5 ms.
 //! - `stopped`: an operator stops the bridge.
 #![tactic(auto)]
 
+mod lines;
+mod member;
 mod operator;
+mod running;
 mod setting;
 mod stage;
 mod text;
 
+use crate::lines::carry_out;
+use crate::running::Start;
 use crate::stage::Stage;
-use std::io;
+use std::sync::atomic::Ordering;
+use std::{env, io, thread};
+
+/// How many lanes a bridge has where its line does not say: the program's argument, or one.
+fn lanes(rt: &HostRuntime) -> usize {
+    let Ok(mut words) = env::args(rt) else {
+        return 1;
+    };
+    let _program = words.next();
+    match words.next() {
+        Some(word) => word.parse().unwrap_or(1),
+        None => 1,
+    }
+}
 
 fn main(rt: HostRuntime) -> io::Result<()> {
     let alloc = rt.alloc();
     let text = io::read_to_string(alloc, rt.reader())?;
-    let mut stage = Stage::new(alloc);
+    let mut stage = Stage::new(alloc, lanes(&rt));
     let mut tried: u64 = 0;
     let mut differ: u64 = 0;
     for line in text.lines() {
@@ -44,10 +63,25 @@ fn main(rt: HostRuntime) -> io::Result<()> {
             continue;
         }
         tried = tried.saturating_add(1);
-        if stage.line(&rt, line) != Some(true) {
+        let is_well = match line.strip_prefix("bridge ") {
+            Some(rest) => match stage.begins(&rt, rest) {
+                Some(start) => {
+                    let Start { front, has_stopped } = start;
+                    let run = move || {
+                        let is_well = front.run(&rt).is_ok();
+                        has_stopped.store(is_well, Ordering::SeqCst);
+                    };
+                    thread::spawn(&rt, run).is_ok()
+                }
+                None => false,
+            },
+            None => carry_out(&mut stage, &rt, line) == Some(true),
+        };
+        if !is_well {
             differ = differ.saturating_add(1);
             println!(rt; "{line}")?;
         }
     }
+    stage.ends(&rt);
     println!(rt; "{tried} lines, {differ} differ")
 }

@@ -4,10 +4,6 @@ use Rattle.udp_front.specs.declared.ending.FrontFault.{FrontFault}
 use Rattle.udp_front.specs.declared.ending.FrontFault.TheVariants.{Io, OutOfMemory}
 use Rattle.std.specs.declared.io.ErrorKind.{ErrorKind}
 use Rattle.std.specs.declared.io.ErrorKind.TheVariants as kinds
-use Rattle.bridge_core.specs.declared.fault.LaneFault.{LaneFault}
-use Rattle.bridge_core.specs.declared.fault.LaneFault.TheVariants as lanes
-use Rattle.bridge_core.specs.declared.fault.CoreFault.{CoreFault}
-use Rattle.bridge_core.specs.declared.fault.CoreFault.TheVariants as cores
 
 -- how a fault is printed
 abbrev pub front_text : FrontFault → List ℕ
@@ -24,14 +20,3 @@ front_status_of (Err Io) = 3
 abbrev pub ended_by_io : ErrorKind → FrontFault
 ended_by_io kinds.OutOfMemory = OutOfMemory
 ended_by_io kind = Io
-
--- how it ends by a fault of a lane
-abbrev pub ended_by_lane : LaneFault → FrontFault
-ended_by_lane lanes.Spent = Io
-ended_by_lane lanes.OutOfMemory = OutOfMemory
-
--- how it ends when no core is made; settings that were read never have the first two faults
-abbrev pub ended_by_core : CoreFault → FrontFault
-ended_by_core cores.BadLanes = Io
-ended_by_core cores.BadSettings = Io
-ended_by_core cores.OutOfMemory = OutOfMemory

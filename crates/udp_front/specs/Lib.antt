@@ -5,7 +5,6 @@ pub mod Fed
 pub mod Operators
 pub mod Outbound
 pub mod Pacing
-pub mod Seats
 pub mod Settings
 pub mod SettingsTold
 pub mod SettingValues

@@ -4,16 +4,12 @@ use Rattle.std.specs.Prelude.{take, codes, decimal, Option, Some, None, Result, 
 use Rattle.std.specs.List.{list_all}
 use Rattle.std.specs.Str.{bytes_eq}
 use Rattle.desk_edit.specs.Asked.{CallOf, asked_by}
-use Rattle.bridge_core.specs.declared.reply.Reply.{Reply}
-use Rattle.bridge_core.specs.Steps.{CoreOf}
-use Rattle.bridge_core.specs.Calls.{Answers}
 use Rattle.script_text.specs.declared.fault.Fault.{Fault}
 use Rattle.script_text.specs.declared.fault.Fault.TheVariants.{BadByte, ExtraWord}
 use Rattle.script_text.specs.Words.{cut_of}
 use Rattle.script_text.specs.Calls.{spoken_call, spoken_words}
 use Rattle.script_text.specs.Requests.{is_printable}
-use Rattle.script_text.specs.RowLines.{show_text}
-use Rattle.script_text.specs.Text.{fault_text, reply_text}
+use Rattle.script_text.specs.Text.{fault_text}
 use Rattle.udp_front.specs.declared.asking.Ask.{Ask}
 use Rattle.udp_front.specs.declared.asking.Ask.TheVariants as variants
 use Rattle.udp_front.specs.declared.asking.Verb.{Verb}
@@ -81,28 +77,43 @@ fault_line word fault = codes "fault " ++ decimal word ++ codes " " ++ fault_tex
 abbrev pub busy_line : List ℕ
 busy_line = codes "busy\n"
 
--- the core answers a call, and the line of its reply is told
-abbrev pub Replies : CoreOf → CoreOf → CallOf → List ℕ → Type 0
-Replies old new call text = (reply : Reply) × Answers old new call reply × (text ≡ reply_text reply)
+-- how a desk may reply: the desk before and after a call, the call, and the text that is told
+abbrev pub Replying : Type 0 → Type 1
+Replying D = D → D → CallOf → List ℕ → Type 0
+
+-- what a desk may show: the text that is told of its rows
+abbrev pub Showing : Type 0 → Type 1
+Showing D = D → List ℕ → Type 0
 
 -- a call is answered, and its text is appended
-abbrev pub AppendsReply : CoreOf → CoreOf → CallOf → List ℕ → List ℕ → Type 0
-AppendsReply old new call before after = (text : List ℕ) × (after ≡ before ++ text) × Replies old new call text
+abbrev pub AppendsReply : {D : Type 0} → Replying D → D → D → CallOf → List ℕ → List ℕ → Type 0
+AppendsReply replies old new call before after =
+    (text : List ℕ) × (after ≡ before ++ text) × replies old new call text
+
+-- the rows are shown, and their text is appended
+abbrev pub AppendsShown : {D : Type 0} → Showing D → D → List ℕ → List ℕ → Type 0
+AppendsShown shows desk before after = (text : List ℕ) × (after ≡ before ++ text) × shows desk text
 
 -- what was read of a line is answered so, and this becomes of the connection
-abbrev pub AnswersAsk : CoreOf → Result AskOf (ℕ × Fault) → CoreOf → List ℕ → Next → Type 0
-AnswersAsk old (Err fault) new text becomes = (new ≡ old) × (text ≡ fault_line fault.0 fault.1) × (becomes ≡ next.Stay)
-AnswersAsk old (Ok (spoken call)) new text becomes = Replies old new call text × (becomes ≡ next.Stay)
-AnswersAsk old (Ok (alone Show)) new text becomes =
-    (new ≡ old) × (text ≡ show_text old.desk old.version) × (becomes ≡ next.Stay)
-AnswersAsk old (Ok (alone Quit)) new text becomes = (new ≡ old) × (text ≡ []) × (becomes ≡ next.Quit)
-AnswersAsk old (Ok (alone Stop)) new text becomes = (new ≡ old) × (text ≡ []) × (becomes ≡ next.Stop)
+abbrev pub AnswersAsk :
+    {D : Type 0} → Replying D → Showing D → D → Result AskOf (ℕ × Fault) → D → List ℕ → Next → Type 0
+AnswersAsk replies shows old (Err fault) new text becomes =
+    (new ≡ old) × (text ≡ fault_line fault.0 fault.1) × (becomes ≡ next.Stay)
+AnswersAsk replies shows old (Ok (spoken call)) new text becomes =
+    replies old new call text × (becomes ≡ next.Stay)
+AnswersAsk replies shows old (Ok (alone Show)) new text becomes =
+    (new ≡ old) × shows old text × (becomes ≡ next.Stay)
+AnswersAsk replies shows old (Ok (alone Quit)) new text becomes = (new ≡ old) × (text ≡ []) × (becomes ≡ next.Quit)
+AnswersAsk replies shows old (Ok (alone Stop)) new text becomes = (new ≡ old) × (text ≡ []) × (becomes ≡ next.Stop)
 
 -- what was read is answered so, and the text is appended
-abbrev pub AppendsAnswer : CoreOf → Result AskOf (ℕ × Fault) → CoreOf → List ℕ → List ℕ → Next → Type 0
-AppendsAnswer old read new before after becomes =
-    (text : List ℕ) × (after ≡ before ++ text) × AnswersAsk old read new text becomes
+abbrev pub AppendsAnswer :
+    {D : Type 0} → Replying D → Showing D → D → Result AskOf (ℕ × Fault) → D → List ℕ → List ℕ → Next → Type 0
+AppendsAnswer replies shows old read new before after becomes =
+    (text : List ℕ) × (after ≡ before ++ text) × AnswersAsk replies shows old read new text becomes
 
 -- a line is answered so, and the text is appended
-abbrev pub AnswersLine : CoreOf → CoreOf → List ℕ → List ℕ → List ℕ → Next → Type 0
-AnswersLine old new line before after becomes = AppendsAnswer old (asked_of line) new before after becomes
+abbrev pub AnswersLine :
+    {D : Type 0} → Replying D → Showing D → D → D → List ℕ → List ℕ → List ℕ → Next → Type 0
+AnswersLine replies shows old new line before after becomes =
+    AppendsAnswer replies shows old (asked_of line) new before after becomes

@@ -9,7 +9,7 @@ use Rattle.std.specs.Net.Addr.{ipv4_octets}
 use Rattle.std.specs.Net.Socket.{socket_ip, socket_port}
 use Rattle.rtp_codec.specs.declared.address.Address.{Address}
 use Rattle.script_text.specs.Addresses.{address_text}
-use Rattle.udp_front.specs.declared.front.Listening.{Listening}
+use Rattle.udp_front.specs.declared.listening.Listening.{Listening}
 
 -- an IPv4 address with a port
 abbrev pub at_port : IpAddr → ℕ → Option Address

@@ -1,15 +1,13 @@
 //! What an operator's line is answered.
 
 ghost use Rattle.std.specs.Prelude.{◌≡◌, ◌++◌, Ok, IfOk, OnOk, OnErr};
-ghost use Rattle.desk_edit.specs.Asked.{asked_by};
 ghost use Rattle.script_text.specs.declared.fault.Fault.TheVariants.{LineTooLong};
-ghost use Rattle.udp_front.specs.Operators.{fault_line, busy_line, alone, AppendsReply, AppendsAnswer, AnswersLine};
+ghost use Rattle.udp_front.specs.Operators.{fault_line, busy_line, alone, AppendsAnswer, AnswersLine};
 
 use crate::asking::{Ask, Verb, parse_line};
-use bridge_core::Core;
-use desk_edit::Call;
-use script_text::{Fault, ParseFault, print_reply, print_rows};
-use std::alloc::{AllocError, Allocator};
+use crate::line_desk::LineDesk;
+use script_text::{Fault, ParseFault};
+use std::alloc::{AllocError, Allocator, Global};
 
 /// What becomes of a connection after a line.
 #[derive(Clone, Copy, Debug, PartialEq, Eq)]
@@ -51,34 +49,20 @@ pub fn print_too_long<A: Allocator + Copy>(alloc: A, out: &mut Vec<u8, A>) -> Re
     print_fault(alloc, 0, Fault::LineTooLong, out)
 }
 
-/// Carries out a call, and appends the line of its reply. An `Err` appends nothing, but the call may be carried out.
-fn answer_call<A: Allocator + Copy>(
-    alloc: A,
-    core: &mut Core<A>,
-    op: u8,
-    call: Call<A>,
-    out: &mut Vec<u8, A>,
-) -> Result<(), AllocError>
-    ensures ok { OnOk result (AppendsReply core.old core.new (asked_by call) out.old.items out.new.items) }
-    ensures err { OnErr result (out.new.items ≡ out.old.items) }
-{
-    let reply = core.desk(alloc, op, call);
-    print_reply(&reply, out)
-}
-
 /// Does what a word that stands alone asks for, and appends what the operator is told. An `Err` appends nothing.
-fn answer_verb<A: Allocator + Copy>(
-    core: &Core<A>,
+fn answer_verb<D: LineDesk>(
+    alloc: Global,
+    desk: &D,
     verb: Verb,
-    out: &mut Vec<u8, A>,
+    out: &mut Vec<u8>,
 ) -> Result<Next, AllocError>
     ensures answer { IfOk result (λ next.
-        AppendsAnswer core.now (Ok (alone verb)) core.now out.old.items out.new.items next) }
+        AppendsAnswer D.replies D.shows desk.now (Ok (alone verb)) desk.now out.old.items out.new.items next) }
     ensures err { OnErr result (out.new.items ≡ out.old.items) }
 {
     match verb {
         Verb::Show => {
-            print_rows(core.rows(), core.version(), out)?;
+            desk.show(alloc, out)?;
             Ok(Next::Stay)
         }
         Verb::Quit => Ok(Next::Quit),
@@ -89,22 +73,22 @@ fn answer_verb<A: Allocator + Copy>(
 /// Answers a line of an operator, without its LF: does what it asks for, and appends what the operator is told.
 ///
 /// When memory runs out nothing is appended, but a call may be carried out.
-pub fn answer<A: Allocator + Copy>(
-    alloc: A,
-    core: &mut Core<A>,
-    op: u8,
+pub fn answer<D: LineDesk>(
+    alloc: Global,
+    desk: &mut D,
     line: &[u8],
-    out: &mut Vec<u8, A>,
+    out: &mut Vec<u8>,
 ) -> Result<Next, AllocError>
-    ensures answer { IfOk result (λ next. AnswersLine core.old core.new line.now out.old.items out.new.items next) }
+    ensures answer { IfOk result (λ next.
+        AnswersLine D.replies D.shows desk.old desk.new line.now out.old.items out.new.items next) }
     ensures err { OnErr result (out.new.items ≡ out.old.items) }
 {
     match parse_line(alloc, line) {
         Ok(Ask::Call(call)) => {
-            answer_call(alloc, core, op, call, out)?;
+            desk.reply(alloc, call, out)?;
             Ok(Next::Stay)
         }
-        Ok(Ask::Verb(verb)) => answer_verb(core, verb, out),
+        Ok(Ask::Verb(verb)) => answer_verb(alloc, desk, verb, out),
         Err(ParseFault::Line { word, fault }) => {
             print_fault(alloc, word, fault, out)?;
             Ok(Next::Stay)

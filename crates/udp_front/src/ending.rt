@@ -1,9 +1,8 @@
 //! How a bridge on sockets ends.
 
 ghost use Rattle.std.specs.Prelude.{◌≡◌, Some};
-ghost use Rattle.udp_front.specs.Ended.{front_text, front_status_of, ended_by_io, ended_by_lane, ended_by_core};
+ghost use Rattle.udp_front.specs.Ended.{front_text, front_status_of, ended_by_io};
 
-use bridge_core::{CoreFault, LaneFault};
 use std::alloc::{AllocError, AllocFailed};
 use std::error::Error;
 use std::io::ErrorKind;
@@ -73,28 +72,5 @@ impl<T: Drop> From<AllocFailed<T>> for FrontFault {
 
     fn from(_error: AllocFailed<T>) -> FrontFault {
         FrontFault::OutOfMemory
-    }
-}
-
-impl From<LaneFault> for FrontFault {
-    ghost from_gives = { λ fault e. e ≡ ended_by_lane fault };
-
-    fn from(fault: LaneFault) -> FrontFault {
-        match fault {
-            LaneFault::OutOfMemory => FrontFault::OutOfMemory,
-            LaneFault::Spent => FrontFault::Io,
-        }
-    }
-}
-
-impl From<CoreFault> for FrontFault {
-    ghost from_gives = { λ fault e. e ≡ ended_by_core fault };
-
-    fn from(fault: CoreFault) -> FrontFault {
-        match fault {
-            CoreFault::OutOfMemory => FrontFault::OutOfMemory,
-            // Settings that were read never have these faults.
-            CoreFault::BadLanes | CoreFault::BadSettings => FrontFault::Io,
-        }
     }
 }

@@ -1,31 +1,30 @@
-//! The front of a bridge that runs on sockets: its settings, operators' lines and their answers, datagrams on a wire,
-//! and the rounds of the bridge on one thread.
+//! What a bridge on sockets is made of, beside its threads: its settings, operators' lines and their answers, datagrams
+//! on a wire, what waits for an operator, and when ticks and reports are due.
 //!
-//! Begin with [`settings`] and [`Front::bind`], then [`Lines::feed`] and [`answer`]. A [`Front`] becomes a [`Serving`],
-//! which runs round by round. Contracts say nothing of sockets, and so nothing of `bind`, `run` and `round`.
+//! Begin with [`settings`]. [`Lines::feed`] cuts what an operator sends into lines, and [`answer`] asks a [`LineDesk`].
+//! [`send_all`] sends egresses over a [`Wire`], such as a [`UdpWire`]. Contracts say nothing of sockets and clocks.
 //!
 //! ```rust
-//! let front = Front::bind(&rt, settings(alloc, text)?)?;
-//! println!(rt; "{}", front.listening()?)?;
-//! front.run(&rt)?; // until an operator stops it
+//! let settings = settings(alloc, text)?;
+//! let fed = lines.feed(alloc, &octets)?;
+//! for line in &fed.lines {
+//!     let next = answer(alloc, &mut desk, line, &mut told)?; // Next::Stop: the operator stops the bridge
+//! }
 //! ```
 #![tactic(auto)]
 
 mod answering;
 mod asking;
-mod connection;
 mod ending;
 mod fault;
 mod feeding;
-mod front;
 mod laws;
+mod line_desk;
+mod listening;
 mod moments;
 mod outgoing;
 mod pacing;
 mod reading;
-mod seats;
-mod sending;
-mod serving;
 mod setup;
 mod socket;
 mod values;
@@ -35,12 +34,13 @@ pub use answering::{Next, answer, busy, print_too_long};
 pub use ending::{FrontFault, front_status};
 pub use fault::SettingsFault;
 pub use feeding::{Fed, Lines};
-pub use front::{Front, Listening};
 pub use laws::{cuts_are_whole, too_long_for_good};
+pub use line_desk::LineDesk;
+pub use listening::Listening;
+pub use moments::Moments;
 pub use outgoing::Outgoing;
 pub use pacing::{ReportTimer, Ticks};
 pub use reading::settings;
-pub use seats::free_seat;
-pub use serving::Serving;
 pub use setup::{FrontSettings, SettingKey};
+pub use socket::{UdpWire, address_of, socket_address};
 pub use wire::{Wire, send_all};

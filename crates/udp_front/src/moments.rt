@@ -1,17 +1,25 @@
 //! The moments of a bridge that runs.
 
-ghost use Rattle.std.specs.Prelude.{◌≡◌};
+ghost use Rattle.std.specs.Prelude.{◌≡◌, ◌≤◌, ℕ, IfOk};
 ghost use Rattle.udp_front.specs.Sockets.{nanos_of};
 
 use std::io;
+use std::marker::Model;
 use std::time::{Clock, Duration, Instant, SystemTime, UNIX_EPOCH};
 
-/// A clock that begins with the system's time and never goes back.
+/// A clock that begins with the system's time and never goes back, whatever happens to the system's time.
+/// Contracts see its beginning, in nanoseconds since 1970.
 #[derive(Drop)]
-pub(crate) struct Moments {
+pub struct Moments {
     /// The beginning, in nanoseconds since 1970.
     start: u64,
     begun: Instant,
+}
+
+impl Model for Moments {
+    ghost Value = { ℕ };
+
+    ghost view = { λ m. m.start };
 }
 
 /// A time as nanoseconds, at most 2^64 - 1.
@@ -22,8 +30,8 @@ fn nanos(time: Duration) -> u64
 }
 
 impl Moments {
-    /// A clock that begins now.
-    pub(crate) fn begin(rt: &impl Clock) -> io::Result<Self> {
+    /// A clock that begins now. Before 1970 it begins at 0. An `Err` is the system's, where it tells no time.
+    pub fn begin(rt: &impl Clock) -> io::Result<Self> {
         let since_1970 = match SystemTime::now(rt)?.duration_since(UNIX_EPOCH) {
             Ok(time) => time,
             Err(_) => Duration::ZERO,
@@ -35,12 +43,17 @@ impl Moments {
     }
 
     /// The beginning, in nanoseconds since 1970.
-    pub(crate) fn start(&self) -> u64 {
+    pub fn start(&self) -> u64
+        ensures { result ≡ self.now }
+    {
         self.start
     }
 
-    /// The moment at hand, in nanoseconds since 1970.
-    pub(crate) fn now(&self, rt: &impl Clock) -> io::Result<u64> {
+    /// The moment at hand, in nanoseconds since 1970, at most 2^64 - 1. An `Err` is the system's, where it tells no
+    /// time.
+    pub fn now(&self, rt: &impl Clock) -> io::Result<u64>
+        ensures { IfOk result (λ now. self.now ≤ now) }
+    {
         let passed = self.begun.elapsed(rt)?;
         Ok(self.start.saturating_add(nanos(passed)))
     }

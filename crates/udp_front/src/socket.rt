@@ -9,14 +9,14 @@ use rtp_codec::Address;
 use std::net::{IpAddr, Ipv4Addr, SocketAddr};
 
 /// An address as the system has it.
-pub(crate) fn socket_address(address: Address) -> SocketAddr
+pub fn socket_address(address: Address) -> SocketAddr
     ensures { told_address result ≡ Some address }
 {
     SocketAddr::new(IpAddr::V4(Ipv4Addr::from_octets(address.ip)), address.port)
 }
 
-/// The address that the system tells. A socket of IPv4 has one of IPv4.
-pub(crate) fn address_of(told: SocketAddr) -> Option<Address>
+/// The address that the system tells, or `None` where it is one of IPv6. A socket of IPv4 has one of IPv4.
+pub fn address_of(told: SocketAddr) -> Option<Address>
     ensures { result ≡ told_address told }
 {
     match told.ip() {
@@ -29,11 +29,14 @@ pub(crate) fn address_of(told: SocketAddr) -> Option<Address>
 }
 
 /// A socket as a wire. What it has sent is not known.
+///
+/// It tells `false` where the system refuses a datagram, or where memory ran out: both count as loss on the wire.
 #[derive(Drop)]
-pub(crate) struct UdpWire<'a> {
-    pub(crate) socket: &'a UdpSocket,
-    /// Where a datagram's parts are put together.
-    pub(crate) whole: &'a mut Vec<u8>,
+pub struct UdpWire<'a> {
+    /// The socket that datagrams go out from.
+    pub socket: &'a UdpSocket,
+    /// Where a datagram's parts are put together. It takes memory only for a datagram larger than those before.
+    pub whole: &'a mut Vec<u8>,
 }
 
 impl<'a> Wire for UdpWire<'a> {

@@ -2,8 +2,8 @@
 
 A body that always gives up for lack of memory meets any contract. So each public function of the libraries that takes an
 allocator has to run once where memory is ample: from a test, from a program of cases, or from the program itself on its stored
-input. Each such function has a line with what runs it, or NOWHERE; the status is 1 where one has nothing. Those of lanes on threads
-wait for their tests: they read "not yet".
+input. Each such function has a line with what runs it, or NOWHERE; the status is 1 where one has nothing. Those of a crate that
+nothing uses yet read "not yet".
 
 Calls are found in the text, by names: `Type::name(..)`, `module::name(..)`, `name(..)`, and `x.name(..)` where the type of x is
 told nearby or one type alone has such a method. What can't be told counts as no call.
@@ -23,7 +23,7 @@ PROGRAMS = {
 }  # fmt: skip
 
 # What nothing runs yet where the prover sees it.
-NOT_YET = {"media_workers::Bridge::start", "media_workers::Lane::handle", "media_workers::Lane::run", "flood_guard::FloodGuard::new"}
+NOT_YET = {"flood_guard::FloodGuard::new"}
 
 FN = re.compile(r"(?P<vis>pub(?:\(crate\))? |)(?:const )?fn (?P<name>\w+)\s*(?:<[^(]*>)?\(")
 IMPL = re.compile(r"^(?:impl|pub trait|trait)\b(?:<[^{]*?>)?\s*(?:[\w:]+(?:<[^{]*>)? for )?(?P<owner>\w+)[^{]*\{", re.M)
@@ -32,7 +32,8 @@ STRUCT = re.compile(r"struct (\w+)(?:<[^{;]*>)?\s*\{([^}]*)\}")
 EXPORT = re.compile(r"pub use (?:self::)?\w+::(\w+|\{[^}]*\})")
 IGNORED = re.compile(r"//[^\n]*|^\s*ghost use [^\n]*|\"(?:[^\"\\]|\\[\s\S])*\"", re.M)
 RESULT = re.compile(r"\s*(->[^{;]*?(?=\s(?:requires|ensures|ghost|where|decreases)\b|\s*[{;]))?")
-CLAUSE = re.compile(r"\s*(requires|ensures|ghost|decreases)\b[^{]*|\s*where[^{]*")
+CLAUSE = re.compile(r"\s*(requires|ensures|ghost|decreases)\b[^{]*|\s*where(?:(?!\s(?:requires|ensures)\b)[^{])*")
+ALIAS = re.compile(r"\btype (\w+)(?:<[^=]*>)? = (\w+)")
 VARIANT = re.compile(r"(\w+)::(\w+)\((?:mut )?(\w+)\)")
 LET = re.compile(r"let (?:mut )?((?:Ok|Some|Err)?\(?(?:mut )?\w+)\)? = ([^;{]*)")
 CALL = re.compile(r"([\w.]+\.|)(?:(\w+)(?:::<[^>(]*>)?::)?(\w+)(?:::<[^>(]*>)?\(")
@@ -60,9 +61,9 @@ def closing(text, start):
 
 def after_clauses(text, place):
     """The place behind the clauses of a function."""
-    while (found := CLAUSE.match(text, place)) and found.group(1):
-        place = closing(text, found.end())
-    return found.end() if found else place
+    while found := CLAUSE.match(text, place):
+        place = closing(text, found.end()) if found.group(1) else found.end()
+    return place
 
 
 class Function:
@@ -94,7 +95,7 @@ class Sources:
     """All functions, the fields of all structs, and the names that each crate exports."""
 
     def __init__(self):
-        self.functions, self.fields, self.exports = [], defaultdict(dict), defaultdict(set)
+        self.functions, self.fields, self.exports, self.aliases = [], defaultdict(dict), defaultdict(set), {}
         depends = {name: [other for other in others if (CRATES / other).is_dir()] for name, others in crates().items()}
         self.sees = {name: {name, *others} for name, others in depends.items()}
         for crate in depends:
@@ -111,6 +112,7 @@ class Sources:
                 self.exports[crate] |= set(re.findall(r"\w+", names))
         for name, inside in STRUCT.findall(text):
             self.fields[name].update(re.findall(r"(\w+): ([^\n]+)", inside))
+        self.aliases.update(ALIAS.findall(text))
         for match in ENUM.finditer(text):
             inside = text[match.end() : closing(text, match.end() - 1)]
             self.fields[match[1]].update(re.findall(r"(\w+)\((\w[^)]*)\)", inside))
@@ -120,7 +122,8 @@ class Sources:
             self.functions.append(Function(crate, owner, match, text))
 
     def type_in(self, words):
-        return next((word for word in re.findall(r"\b[A-Z]\w+", words) if word in self.types), None)
+        named = (self.aliases.get(word, word) for word in re.findall(r"\b[A-Z]\w+", words))
+        return next((word for word in named if word in self.types), None)
 
     def candidates(self, f, name):
         """The functions of this name that a function can call."""

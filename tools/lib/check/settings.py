@@ -9,7 +9,7 @@ import socket
 import subprocess
 import tempfile
 
-from lib.serving import LISTENS
+from lib.serving import LISTENS, said_at_the_end
 from lib.shared import add_program, fail, release_program
 
 NEEDS = "the program, ten seconds"
@@ -84,7 +84,8 @@ def check_start(program, path):
         with socket.create_connection(("127.0.0.1", int(listens[2])), timeout=20) as desk:
             desk.sendall(b"stop\n")
             rest = bridge.stderr.read()
-        check(rest == "confbridge: stopped\n", f"after `stop` it says {rest!r}")
+        calls, dropped = said_at_the_end(rest)
+        check(not dropped and not any(calls.values()), f"after `stop` it says {rest!r}")
         check(bridge.wait(20) == 0, "after `stop` its status is not 0")
 
 

@@ -1,0 +1,27 @@
+//! A bridge that runs: a thread for each operator's connection, a thread for each lane, and a front that reads the
+//! sockets and sends what the lanes give.
+//!
+//! Begin with [`Front::bind`], then [`Front::run`], which returns once an operator stops the bridge, with what was
+//! accepted of each operator and dropped for each lane. What is decided stands in operator_threads and media_front;
+//! here are the sockets, and the loop that joins the rest. Contracts say nothing of sockets.
+//!
+//! ```rust
+//! let front = Front::bind(&rt, settings(alloc, text)?)?;
+//! println!(rt; "{}", front.listening()?)?;
+//! let stopped = front.run(&rt)?; // until an operator stops it
+//! println!(rt; "{} calls of operator 0", stopped.accepted[0])?;
+//! ```
+#![tactic(auto)]
+
+mod calls;
+mod front;
+mod opening;
+mod rounds;
+mod serving;
+mod sockets;
+mod stopped;
+mod waking;
+
+pub use self::calls::calls_of;
+pub use self::front::Front;
+pub use self::stopped::Stopped;

@@ -1,0 +1,262 @@
+//! How a bridge begins and ends.
+
+ghost use Rattle.std.specs.Prelude.{◌≡◌, ◌≤◌, ◌+◌, true, vec_len};
+ghost use Rattle.std.specs.List.{All};
+ghost use Rattle.intake.specs.Names.{is_name};
+ghost use Rattle.desk_rows.specs.Desk.{blank as no_rows};
+ghost use Rattle.versions.specs.Published.{ReaderOf};
+ghost use Rattle.bridge_core.specs.Calls.{most_lanes};
+ghost use Rattle.operator_desk.specs.Opening.{most_operators};
+
+use crate::calls::calls_of;
+use crate::front::{Front, WAKER};
+use crate::rounds::{Media, Rounds};
+use crate::serving::serve;
+use crate::sockets::Sockets;
+use crate::stopped::Stopped;
+use crate::waking::FrontWaker;
+use bridge_core::{Intake, Settings};
+use media_front::{LaneFeed, MediaFront, fault_of};
+use media_workers::StartFault;
+use mio::Waker;
+use operator_desk::{DeskFault, GatherFault, Hall, Log, MAX_OPERATORS, Seat, SharedDesk};
+use operator_threads::Operators;
+use std::alloc::{AllocError, Global};
+use std::marker::Brand;
+use std::net::Net;
+use std::sync::ledger::Blank;
+use std::sync::{Arc, Wait};
+use std::thread::Threads;
+use std::time::Clock;
+use udp_front::{FrontFault, Moments};
+use versions::{LaneReader, Opened};
+
+/// Runs a bridge until an operator stops it.
+pub(crate) fn open<R>(rt: &R, alloc: Global, front: Front) -> Result<Stopped, FrontFault>
+where
+    R: Threads + Clock + Wait + Net + Copy + Send + Sync + Drop + 'static,
+{
+    let log = Log::new(alloc)?;
+    let ssrc = front.settings.bridge.bridge_ssrc;
+    let operators = front.settings.operators;
+    open_in::<Brand, _>(
+        rt,
+        alloc,
+        &log,
+        Blank::new(operators as u64),
+        Opened::new(),
+        ssrc,
+        operators,
+        front,
+    )
+}
+
+/// Runs a bridge in a hall of its own, with the SSRC and the number of operators of its settings.
+fn open_in<'a, H, R>(
+    rt: &R,
+    alloc: Global,
+    log: &'a Log,
+    blank: Blank,
+    opened: Opened,
+    ssrc: u32,
+    operators: u32,
+    front: Front,
+) -> Result<Stopped, FrontFault>
+where
+    H: Hall + Send + Sync + 'static,
+    R: Threads + Clock + Wait + Net + Copy + Send + Sync + Drop + 'static,
+    requires log { log.now ≡ H.cells }
+    requires blank { (blank.name ≡ H.name) × (blank.parts ≡ H.parts) }
+    requires publisher { opened ≡ H.publisher }
+    requires start { no_rows ssrc ≡ H.start }
+    requires seats { (operators ≡ H.seats) × (H.seats ≡ H.parts) }
+{
+    // One reader for each lane, and one for the front.
+    let readers = front.settings.lanes as usize + 1;
+    let made = SharedDesk::<H>::new(rt, alloc, log, blank, opened, ssrc, operators, readers);
+    match made {
+        // There are as many seats as operators.
+        Ok((desk, seats, readers)) if seats.len() <= MAX_OPERATORS as usize => {
+            run(rt, alloc, desk, seats, readers, front)
+        }
+        Ok((desk, _seats, _readers)) => {
+            desk.end(rt);
+            Err(FrontFault::Io)
+        }
+        Err(fault) => Err(desk_fault(fault)),
+    }
+}
+
+/// Why a bridge does not start, by its desk.
+fn desk_fault(fault: DeskFault) -> FrontFault {
+    match fault {
+        DeskFault::OutOfMemory => FrontFault::OutOfMemory,
+        // Settings that were read never have these faults.
+        DeskFault::Count | DeskFault::Places => FrontFault::Io,
+    }
+}
+
+/// Why a bridge does not start, by its lanes.
+fn start_fault(fault: StartFault) -> FrontFault {
+    match fault {
+        StartFault::OutOfMemory => FrontFault::OutOfMemory,
+        StartFault::Count | StartFault::Spawn => FrontFault::Io,
+    }
+}
+
+/// Starts the lanes, and gives the front and what wakes it.
+fn begin<H, R>(
+    rt: &R,
+    alloc: Global,
+    readers: Vec<LaneReader>,
+    front: Front,
+) -> Result<(Rounds<H, R>, FrontWaker), FrontFault>
+where
+    H: Hall + Send + Sync + 'static,
+    R: Threads + Clock + Wait + Copy + Send + Drop + 'static,
+    requires publisher { All (λ (reader : ReaderOf). reader.publisher ≡ H.publisher) readers.items }
+    requires few { vec_len readers ≤ most_lanes + 1 }
+{
+    let mut readers = readers;
+    let Front {
+        poll,
+        udp,
+        tcp,
+        settings,
+    } = front;
+    let own = readers.pop();
+    let waker = FrontWaker(Arc::new(alloc, Waker::new(poll.registry(), WAKER)?)?);
+    let sockets = Sockets::new(alloc, poll, udp, tcp)?;
+    let moments = Moments::begin(rt)?;
+    let media = media_of(rt, alloc, readers, settings.bridge, &waker, moments.start())?;
+    let rounds = Rounds {
+        alloc,
+        sockets,
+        moments,
+        reader: own,
+        media,
+        is_behind: false,
+    };
+    Ok((rounds, waker))
+}
+
+/// Starts the lanes, one for each reader.
+fn media_of<H, R>(
+    rt: &R,
+    alloc: Global,
+    readers: Vec<LaneReader>,
+    settings: Settings,
+    waker: &FrontWaker,
+    start: u64,
+) -> Result<Media<H, R>, FrontFault>
+where
+    H: Hall + Send + Sync + 'static,
+    R: Threads + Wait + Copy + Send + Drop + 'static,
+    requires publisher { All (λ (reader : ReaderOf). reader.publisher ≡ H.publisher) readers.items }
+    requires few { vec_len readers ≤ most_lanes }
+{
+    if !settings.is_good() {
+        // Settings that were read always are.
+        return Err(FrontFault::Io);
+    }
+    let intake = Intake::new(alloc, settings.try_clone()?)?;
+    match LaneFeed::start(rt, alloc, readers, &settings, waker) {
+        Ok(feed) => Ok(MediaFront::new(intake, feed, start)),
+        Err(fault) => Err(start_fault(fault)),
+    }
+}
+
+/// Ends the lanes, and gives how many items were dropped for each.
+fn close<H, R>(rt: &R, alloc: Global, rounds: Rounds<H, R>) -> Result<Vec<u64>, FrontFault>
+where
+    H: Hall + Send + Sync + 'static,
+    R: Threads + Wait + Copy + Send + Drop + 'static,
+{
+    let Rounds {
+        alloc: _,
+        sockets: _,
+        moments: _,
+        reader: _,
+        media,
+        is_behind: _,
+    } = rounds;
+    let dropped = dropped_of(alloc, &media);
+    let ends = media.close(rt);
+    match fault_of(&ends) {
+        None => Ok(dropped?),
+        Some(fault) => Err(fault),
+    }
+}
+
+/// How many items were dropped for each lane.
+fn dropped_of<H, R>(alloc: Global, media: &Media<H, R>) -> Result<Vec<u64>, AllocError>
+where
+    H: Hall,
+    R: Wait + Drop,
+{
+    let mut dropped = Vec::new(alloc);
+    for lane in 0..media.lanes() {
+        dropped.push(media.dropped(lane))?;
+    }
+    Ok(dropped)
+}
+
+/// Ends the desk, and gives how many calls of each operator were accepted.
+fn gather<'a, H: Hall, R: Wait>(
+    rt: &R,
+    alloc: Global,
+    operators: Operators<'a, H>,
+    count: u32,
+) -> Result<Vec<usize>, FrontFault>
+    requires parts { H.seats ≡ H.parts }
+{
+    let (desk, seats) = operators.end();
+    match desk.gather(rt, alloc, seats) {
+        Ok(log) => Ok(calls_of(alloc, count, &log)?),
+        Err((desk, _seats, fault)) => {
+            desk.end(rt);
+            Err(match fault {
+                GatherFault::OutOfMemory => FrontFault::OutOfMemory,
+                GatherFault::SeatMissing { .. } | GatherFault::LogTaken => FrontFault::Io,
+            })
+        }
+    }
+}
+
+/// Runs a bridge over a desk until an operator stops it, and ends the desk.
+fn run<'a, H, R>(
+    rt: &R,
+    alloc: Global,
+    desk: SharedDesk<'a, H>,
+    seats: Vec<Seat<'a, H>>,
+    readers: Vec<LaneReader>,
+    front: Front,
+) -> Result<Stopped, FrontFault>
+where
+    H: Hall + Send + Sync + 'static,
+    R: Threads + Clock + Wait + Net + Copy + Send + Sync + Drop + 'static,
+    requires publisher { All (λ (reader : ReaderOf). reader.publisher ≡ H.publisher) readers.items }
+    requires few { vec_len readers ≤ most_lanes + 1 }
+    requires seats { vec_len seats ≤ most_operators }
+    requires parts { H.seats ≡ H.parts }
+{
+    let count = front.settings.operators;
+    match begin(rt, alloc, readers, front) {
+        Ok((rounds, waker)) => {
+            let operators = Operators::new(rt, desk, seats);
+            let mut rounds = rounds;
+            let done = serve(rt, alloc, &operators, &waker, &mut rounds);
+            let lanes = close(rt, alloc, rounds);
+            let log = gather(rt, alloc, operators, count);
+            done?;
+            Ok(Stopped {
+                accepted: log?,
+                dropped: lanes?,
+            })
+        }
+        Err(fault) => {
+            desk.end(rt);
+            Err(fault)
+        }
+    }
+}

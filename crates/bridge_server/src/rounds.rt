@@ -1,0 +1,125 @@
+//! The rounds of the front: what it does each time that it is woken.
+
+ghost use Rattle.std.specs.Prelude.{◌≡◌};
+
+use crate::sockets::{Read, Sockets};
+use crate::waking::FrontWaker;
+use desk_rows::Rows;
+use lane_bell::Rung;
+use media_front::{MediaFront, PublisherOf};
+use mio::net::TcpStream;
+use operator_desk::Hall;
+use std::alloc::Global;
+use std::sync::Wait;
+use std::time::Clock;
+use udp_front::{FrontFault, Moments};
+use versions::{LaneReader, Notice};
+
+/// How many milliseconds a round waits at most.
+const LONGEST_WAIT: u64 = 5;
+/// How many datagrams are taken in under one entry into the published desk, so that neither a tick nor an operator's
+/// call waits long for them.
+const DATAGRAMS: u32 = 64;
+
+/// How many egresses a round sends at most, as `MediaFront::send` has it.
+const SENT: u32 = 4_096;
+
+/// The media of a bridge in hall H, on a runtime R.
+pub(crate) type Media<H, R> = MediaFront<PublisherOf<H>, Rung<R, FrontWaker>>;
+
+/// The front: its sockets, its clock, its own reader of the published desk, and the lanes.
+pub(crate) struct Rounds<H: Hall, R: Wait + Drop> {
+    pub(crate) alloc: Global,
+    pub(crate) sockets: Sockets,
+    pub(crate) moments: Moments,
+    /// It is taken out while the desk is entered.
+    pub(crate) reader: Option<LaneReader>,
+    pub(crate) media: Media<H, R>,
+    /// The last round sent as much as a round may, so that more may wait.
+    pub(crate) is_behind: bool,
+}
+
+impl<H: Hall + Send + Sync + 'static, R: Wait + Clock + Copy + Send + Drop + 'static> Rounds<H, R> {
+    /// Waits until something has come, 5 ms at most.
+    pub(crate) fn wait(&mut self) -> Result<(), FrontFault> {
+        let longest = if self.is_behind { 0 } else { LONGEST_WAIT };
+        self.sockets.wait(longest)
+    }
+
+    /// The next connection, if one waits.
+    pub(crate) fn next_caller(&mut self) -> Option<TcpStream> {
+        self.sockets.next_caller()
+    }
+
+    /// Takes in what has come and what is due by one entry into the published desk, and sends what the lanes gave.
+    pub(crate) fn round(&mut self, rt: &R, notice: Notice) -> Result<(), FrontFault>
+        requires { notice.publisher ≡ H.publisher }
+    {
+        self.media.tell(notice);
+        let Some(reader) = self.reader.take() else {
+            return Err(FrontFault::Io);
+        };
+        let done = match reader.enter() {
+            Ok(entered) => {
+                let done = self.take(rt, entered.rows());
+                self.reader = Some(entered.leave());
+                done
+            }
+            // Without rows nobody's datagrams are known: they are dropped, and the reports wait.
+            Err(reader) => {
+                self.reader = Some(reader);
+                self.drop_datagrams()?;
+                self.tick(rt)
+            }
+        };
+        self.media.ring(rt);
+        done?;
+        self.is_behind = self.media.send(&mut self.sockets.wire()) >= SENT;
+        Ok(())
+    }
+
+    /// Takes in the datagrams that wait, the ticks that are due and the reports.
+    fn take(&mut self, rt: &R, rows: &Rows) -> Result<(), FrontFault> {
+        for _ in 0..DATAGRAMS {
+            if !self.sockets.has_datagrams() {
+                break;
+            }
+            self.take_datagram(rt, rows)?;
+        }
+        self.tick(rt)?;
+        let now = self.moments.now(rt)?;
+        let mut wire = self.sockets.wire();
+        self.media.report(self.alloc, rows, now, &mut wire)?;
+        Ok(())
+    }
+
+    /// Drops the datagrams that wait.
+    fn drop_datagrams(&mut self) -> Result<(), FrontFault> {
+        for _ in 0..DATAGRAMS {
+            if !self.sockets.has_datagrams() {
+                break;
+            }
+            self.sockets.read()?;
+        }
+        Ok(())
+    }
+
+    /// Takes in the next datagram, if one waits.
+    fn take_datagram(&mut self, rt: &R, rows: &Rows) -> Result<(), FrontFault> {
+        let Read::Datagram { from, octets } = self.sockets.read()? else {
+            return Ok(());
+        };
+        let moment = self.moments.now(rt)?;
+        let (octets, mut wire) = self.sockets.parts(octets);
+        self.media
+            .datagram(self.alloc, rows, &from, moment, octets, &mut wire)?;
+        Ok(())
+    }
+
+    /// Gives each lane the ticks that are due.
+    fn tick(&mut self, rt: &R) -> Result<(), FrontFault> {
+        let now = self.moments.now(rt)?;
+        self.media.tick(now);
+        Ok(())
+    }
+}

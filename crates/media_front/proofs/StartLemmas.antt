@@ -1,0 +1,49 @@
+-- Lanes that are started.
+use Rattle.std.proofs.Common.{◌≡◌, ℕ, zero, suc, List, [], ◌∷◌, ◌++◌, length, map, zip, All, Some, IfSome, slice_get, refl, ap, sym, subst, ◌∙◌, arith}
+use Rattle.std.specs.List.{AllByRecursion}
+use Rattle.logbook.specs.Pages.{Book}
+use Rattle.versions.specs.Published.{NoticeOf}
+use Rattle.feedback.specs.Upstream.{Asker}
+use Rattle.media_workers.specs.LaneRuns.{LaneNow}
+use Rattle.media_workers.specs.Ports.{port_of}
+use Rattle.media_front.specs.declared.tally.Tally.{Tally}
+use Rattle.media_front.specs.FedLanes.{IsFresh, lanes_in}
+use Rattle.media_front.specs.inner.Tallies.{fresh_tally, lane_by, lanes_by, AreOf}
+
+-- the lanes are those that were handed in
+pub lanes_started : {P : Type 0} (lanes : List LaneNow) (paces : List P) (ts : List Tally) → length paces ≡ length lanes → length ts ≡ length lanes
+    → lanes_in (lanes_by (map (λ x. port_of x.0 x.1) (zip lanes paces)) ts) ≡ lanes
+lanes_started [] paces ts one two = refl
+lanes_started (l ∷ lanes) [] ts one two = absurd (omega (arith, one))
+lanes_started (l ∷ lanes) (p ∷ paces) [] one two = absurd (omega (arith, two))
+lanes_started (l ∷ lanes) (p ∷ paces) (t ∷ ts) one two = ap (λ (ls : List LaneNow). l ∷ ls) (lanes_started lanes paces ts (omega (arith, one)) (omega (arith, two)))
+
+-- none was given anything
+pub fresh_started : {P : Type 0} (lanes : List LaneNow) (paces : List P) (ts : List Tally) → All (λ (t : Tally). t ≡ fresh_tally) ts
+    → AllByRecursion IsFresh (lanes_by (map (λ x. port_of x.0 x.1) (zip lanes paces)) ts)
+fresh_started [] paces ts all = tt
+fresh_started (l ∷ lanes) [] ts all = tt
+fresh_started (l ∷ lanes) (p ∷ paces) [] all = tt
+fresh_started {P} (l ∷ lanes) (p ∷ paces) (t ∷ ts) all = (
+  ap (λ (u : Tally). lane_by (port_of l p) u) (all 0 t (omega arith)),
+  fresh_started lanes paces ts (λ k d low. all (suc k) d (omega (arith, low))),
+)
+
+-- what holds of each place holds with one place more
+pub at_push : {X : Type 0} (R : ℕ → X → Type 0) (xs : List X) (x : X) → ((k : ℕ) (y : X) → slice_get xs k ≡ Some y → R k y) → R (length xs) x
+    → (k : ℕ) (y : X) → slice_get (xs ++ x ∷ []) k ≡ Some y → R k y
+at_push {X} R [] x old one zero y at = let e : x ≡ y = cc (at) in subst (λ (z : X). R 0 z) e one
+at_push R [] x old one (suc k) y at = absurd (cc (at))
+at_push R (z ∷ xs) x old one zero y at = old zero y at
+at_push {X} R (z ∷ xs) x old one (suc k) y at = at_push (λ (j : ℕ) (w : X). R (suc j) w) xs x (λ j w e. old (suc j) w e) one k y at
+
+pub same_name : {s t : ℕ} {m n : List ℕ} → s ≡ t → m ≡ n → ◌≡◌ {A = Asker} (record { ssrc = s; cname = m }) (record { ssrc = t; cname = n })
+same_name {s} {t} {m} {n} e d = ap (λ (k : ℕ). record { ssrc = k; cname = m }) e ∙ ap (λ (l : List ℕ). record { ssrc = t; cname = l }) d
+
+pub All_mapped : {X Y : Type 0} (R : Y → Type 0) (f : X → Y) (xs : List X) → All R (map f xs) → All (λ x. R (f x)) xs
+All_mapped R f [] all k d low = absurd (omega (arith, low))
+All_mapped R f (x ∷ xs) all zero d low = all 0 (f x) (omega arith)
+All_mapped R f (x ∷ xs) all (suc k) d low = All_mapped R f xs (λ j e less. all (suc j) e (omega (arith, less))) k d (omega (arith, low))
+
+pub fresh_of : (book : Book) (ts : List Tally) → All (λ (t : Tally). t ≡ fresh_tally) ts → AreOf book ts
+fresh_of book ts all k d low = subst (λ (t : Tally). IfSome t.owed (λ (n : NoticeOf). n.publisher ≡ book)) (sym (all k d low)) (tt {0})

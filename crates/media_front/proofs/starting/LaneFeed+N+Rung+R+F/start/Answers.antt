@@ -1,0 +1,52 @@
+use Rattle.std.proofs.Common.{◌≡◌, ◌∙◌, List, length, map, All, ap, sym, subst, arith}
+use Rattle.std.specs.List.{AllByRecursion}
+use Rattle.std.proofs.lemmas.List.{length-map}
+use Rattle.versions.specs.Published.{ReaderOf}
+use Rattle.media_workers.specs.LaneRuns.{LaneNow}
+use Rattle.media_workers.specs.Bridges.{AreNew}
+use Rattle.media_front.specs.FedLanes.{IsFresh, lanes_in}
+use Rattle.media_front.specs.inner.Tallies.{lanes_by}
+use Rattle.media_front.proofs.StartLemmas.{lanes_started, fresh_started, All_mapped, fresh_of}
+use Rattle.media_front.proofs.starting.LaneFeed+N+Rung+R+F.start.Goals as goal
+
+pub start-requires-clause-publisher : goal.start-requires-clause-publisher
+start-requires-clause-publisher g c κs within =
+    let publisher = g.N.PublisherName.publisher in
+    All_mapped (λ (r : ReaderOf). r.publisher ≡ publisher) (λ (l : LaneNow). l.reader) c.in-Ok-lanes_for.lanes.items
+    (subst (λ (rs : List ReaderOf). All (λ (r : ReaderOf). r.publisher ≡ publisher) rs) (sym c.in-Ok-lanes_for.ensures.readers) c.requires.publisher)
+
+pub invariant_of-result : goal.invariant_of-result
+invariant_of-result g c =
+    let lanes = c.in-Ok-lanes_for.lanes in
+    let same : length lanes.items ≡ length c.args.readers.items = sym (length-map lanes.items (λ (l : LaneNow). l.reader)) ∙ ap length c.in-Ok-lanes_for.ensures.readers in
+    let many : length c.in-Ok-start.bridge ≡ c.len-count.result = omega (arith, c.in-Ok-start.ensures.len, lanes.ok, same, c.args.readers.ok, c.len-count.ensures) in
+    (omega (arith, many, c.in-Ok.ensures.len), omega (arith, many, c.in-Ok-bells_for.ensures), omega (arith, many, c.len-count.ensures, c.requires.few), fresh_of g.N.PublisherName.publisher c.in-Ok.tallies.items c.in-Ok.ensures.fresh)
+
+pub returns-in-Ok-start-clause-new : goal.returns-in-Ok-start-clause-new
+returns-in-Ok-start-clause-new g c =
+    let lanes = c.in-Ok-lanes_for.lanes in
+    let paces = c.in-Ok-paces_for.paces in
+    let ts = c.in-Ok.tallies.items in
+    let same : length lanes.items ≡ length c.args.readers.items = sym (length-map lanes.items (λ (l : LaneNow). l.reader)) ∙ ap length c.in-Ok-lanes_for.ensures.readers in
+    let one : length paces.items ≡ length lanes.items = omega (arith, paces.ok, c.in-Ok-paces_for.ensures, c.deref.ensures.len, c.in-Ok-bells_for.ensures, c.len-count.ensures, same, c.args.readers.ok) in
+    let two : length ts ≡ length lanes.items = omega (arith, c.in-Ok.tallies.ok, c.in-Ok.ensures.len, c.len-count.ensures, same, c.args.readers.ok) in
+    let started : lanes_in (lanes_by c.in-Ok-start.bridge ts) ≡ lanes.items = ap (λ b. lanes_in (lanes_by b ts)) c.in-Ok-start.ensures.started ∙ lanes_started lanes.items paces.items ts one two in
+    subst AreNew (sym started) c.in-Ok-lanes_for.ensures.new
+
+pub returns-in-Ok-start-clause-readers : goal.returns-in-Ok-start-clause-readers
+returns-in-Ok-start-clause-readers g c =
+    let lanes = c.in-Ok-lanes_for.lanes in
+    let paces = c.in-Ok-paces_for.paces in
+    let ts = c.in-Ok.tallies.items in
+    let same : length lanes.items ≡ length c.args.readers.items = sym (length-map lanes.items (λ (l : LaneNow). l.reader)) ∙ ap length c.in-Ok-lanes_for.ensures.readers in
+    let one : length paces.items ≡ length lanes.items = omega (arith, paces.ok, c.in-Ok-paces_for.ensures, c.deref.ensures.len, c.in-Ok-bells_for.ensures, c.len-count.ensures, same, c.args.readers.ok) in
+    let two : length ts ≡ length lanes.items = omega (arith, c.in-Ok.tallies.ok, c.in-Ok.ensures.len, c.len-count.ensures, same, c.args.readers.ok) in
+    let started : lanes_in (lanes_by c.in-Ok-start.bridge ts) ≡ lanes.items = ap (λ b. lanes_in (lanes_by b ts)) c.in-Ok-start.ensures.started ∙ lanes_started lanes.items paces.items ts one two in
+    ap (map (λ (l : LaneNow). l.reader)) started ∙ c.in-Ok-lanes_for.ensures.readers
+
+pub returns-in-Ok-start-clause-fresh : goal.returns-in-Ok-start-clause-fresh
+returns-in-Ok-start-clause-fresh g c =
+    let lanes = c.in-Ok-lanes_for.lanes.items in
+    let paces = c.in-Ok-paces_for.paces.items in
+    let ts = c.in-Ok.tallies.items in
+    subst (λ b. AllByRecursion IsFresh (lanes_by b ts)) (sym c.in-Ok-start.ensures.started) (fresh_started lanes paces ts c.in-Ok.ensures.fresh)

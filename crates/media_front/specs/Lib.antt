@@ -1,0 +1,6 @@
+pub mod FedLanes
+pub mod Tries
+pub mod Fronts
+pub mod LaneFaults
+pub mod Carried
+pub mod inner

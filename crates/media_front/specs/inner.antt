@@ -1,0 +1,4 @@
+pub mod Places
+pub mod Tallies
+pub mod Beats
+pub mod Copies

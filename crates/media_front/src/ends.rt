@@ -1,0 +1,36 @@
+//! Why a bridge ends by its lanes.
+
+ghost use Rattle.std.specs.Prelude.{◌≡◌, map};
+ghost use Rattle.std.specs.List.{list_any};
+ghost use Rattle.media_front.specs.LaneFaults.{fault_among, is_memory, is_refused};
+
+use media_workers::{HandleFault, LaneEnd, PublisherName};
+use udp_front::FrontFault;
+
+/// Whether a lane refused an item since memory ran out.
+fn any_ran_out<N: PublisherName, S>(ends: &[LaneEnd<N, S>]) -> bool
+    ensures { result ≡ list_any (λ end. is_memory end.refused) ends.now }
+{
+    ends.iter().any(|end| matches!(end.refused, Some((_, HandleFault::OutOfMemory))))
+}
+
+/// Whether a lane refused an item.
+fn any_refused<N: PublisherName, S>(ends: &[LaneEnd<N, S>]) -> bool
+    ensures { result ≡ list_any (λ end. is_refused end.refused) ends.now }
+{
+    ends.iter().any(|end| end.refused.is_some())
+}
+
+/// Why the bridge ends, by how its lanes ended: `None` where none refused an item, `OutOfMemory` where memory ran out
+/// for one of them, and otherwise `Io`.
+pub fn fault_of<N: PublisherName, S>(ends: &[LaneEnd<N, S>]) -> Option<FrontFault>
+    ensures { result ≡ fault_among (map (λ end. end.refused) ends.now) }
+{
+    if any_ran_out(ends) {
+        return Some(FrontFault::OutOfMemory);
+    }
+    if any_refused(ends) {
+        return Some(FrontFault::Io);
+    }
+    None
+}

@@ -1,0 +1,111 @@
+//! The lanes of a bridge, each with its bell and with what it is owed.
+
+ghost use Rattle.std.specs.Prelude.{◌≡◌, ◌<◌, ◌≤◌, length, map, Some, slice_get};
+ghost use Rattle.std.specs.Bool.{OnTrue};
+ghost use Rattle.std.specs.List.{list_any};
+ghost use Rattle.std.specs.Prelude.{is_some};
+ghost use Rattle.bridge_core.specs.Calls.{most_lanes};
+ghost use Rattle.media_workers.specs.Bridges.{AllEnded};
+ghost use Rattle.media_front.specs.FedLanes.{FedLane, ports_in, told, rung};
+
+use crate::tally::{Tally, owe_all, owe_any, ring_all};
+use bridge_core::Egress;
+use lane_bell::Bell;
+use media_workers::{Bridge, LaneEnd, Pace, PublisherName};
+use rtrb::Producer;
+use std::alloc::Global;
+use std::marker::Model;
+use std::sync::{Arc, Wait};
+use std::thread::Threads;
+use versions::Notice;
+
+/// The lanes of a bridge, each with its bell, with the notice that it is owed and with how many parcels were dropped
+/// for it. It is not `Drop`: end it by [`LaneFeed::close`].
+///
+/// Contracts see it as its lanes.
+pub struct LaneFeed<N: PublisherName, P: Pace> {
+    pub(crate) bridge: Bridge<N, P>,
+    /// One for each lane.
+    pub(crate) tallies: Vec<Tally>,
+    /// One for each lane.
+    pub(crate) bells: Vec<Arc<Bell, Global>>,
+}
+
+impl<N: PublisherName, P: Pace> Model for LaneFeed<N, P> {
+    ghost use Rattle.std.specs.Prelude.{◌≡◌, ◌<◌, ◌≤◌, List, length, vec_len};
+    ghost use Rattle.bridge_core.specs.Calls.{most_lanes};
+    ghost use Rattle.media_front.specs.FedLanes.{FedLane};
+    ghost use Rattle.media_front.specs.inner.Tallies.{lanes_by, AreOf};
+
+    ghost Value = { List (FedLane P) };
+
+    ghost view = { λ f. lanes_by f.bridge f.tallies.items };
+
+    ghost invariant = { λ f. (vec_len f.tallies ≡ length f.bridge) × (vec_len f.bells ≡ length f.bridge)
+        × (length f.bridge ≤ most_lanes) × AreOf N.publisher f.tallies.items };
+}
+
+impl<N: PublisherName, P: Pace> LaneFeed<N, P> {
+    /// How many lanes there are.
+    pub fn count(&self) -> u32
+        ensures count { result ≡ length self.now }
+        ensures few { result ≤ most_lanes }
+    {
+        self.tallies.len() as u32
+    }
+
+    /// How many parcels were dropped for a lane: its ring was full, or the lane had ended.
+    pub fn dropped(&self, lane: u32) -> u64
+        requires lane { lane < length self.now }
+        ensures { (x : FedLane _) → slice_get self.now lane ≡ Some x → result ≡ x.dropped }
+    {
+        self.tallies[lane as usize].dropped
+    }
+
+    /// Whether a lane is still owed a notice.
+    pub fn owes(&self) -> bool
+        ensures { result ≡ list_any (λ (x : FedLane _). is_some x.owed) self.now }
+    {
+        owe_any(&self.tallies)
+    }
+
+    /// Whether a lane has ended. No contract speaks of the answer.
+    pub fn has_ended(&self) -> bool {
+        for lane in 0..self.count() {
+            if self.bridge.ended(lane) {
+                return true;
+            }
+        }
+        false
+    }
+
+    /// Each lane's next parcel carries this notice, in place of one that the lane was owed.
+    pub fn tell(&mut self, notice: Notice)
+        requires publisher { notice.publisher ≡ N.publisher }
+        ensures { self.new ≡ map (told notice) self.old }
+    {
+        owe_all(&mut self.tallies, &notice);
+    }
+
+    /// Rings the bell of each lane that accepted parcels since the last call. No contract speaks of bells.
+    pub fn ring<R: Wait>(&mut self, rt: &R)
+        ensures { self.new ≡ map rung self.old }
+    {
+        ring_all(rt, &self.bells, &mut self.tallies);
+    }
+
+    /// Opens each bell, gives each lane its `End`, and waits for the lanes' threads.
+    pub fn close<R: Threads + Wait>(self, rt: &R) -> Vec<LaneEnd<N, Producer<Egress>>>
+        ensures ended { AllEnded P.answers (ports_in self) result.items }
+    {
+        let LaneFeed {
+            bridge,
+            tallies: _,
+            bells,
+        } = self;
+        for bell in &bells {
+            bell.open(rt);
+        }
+        bridge.close(rt)
+    }
+}

@@ -1,0 +1,228 @@
+//! The front of a bridge whose lanes run on threads.
+
+ghost use Rattle.std.specs.Prelude.{◌≡◌, ◌<◌, ◌≤◌, ℕ, true, false, List, length, map, Some, OnErr, IfOk, slice_get};
+ghost use Rattle.std.specs.Bool.{MatchBool};
+ghost use Rattle.std.specs.List.{flat_map, list_any};
+ghost use Rattle.std.specs.Prelude.{is_some};
+ghost use Rattle.std.specs.declared.alloc.Global.{Global as Heap};
+ghost use Rattle.intake.specs.Inputs.{Input};
+ghost use Rattle.bridge_core.specs.Calls.{most_lanes};
+ghost use Rattle.bridge_core.specs.declared.egress.Egress.{Egress as AnEgress};
+ghost use Rattle.media_workers.specs.Bridges.{AllEnded};
+ghost use Rattle.udp_front.specs.Attempts.{datagrams_of};
+ghost use Rattle.udp_front.specs.Pacing.{most_ticks, report_due, after_report};
+ghost use Rattle.udp_front.specs.declared.ending.FrontFault.TheVariants.{OutOfMemory as MemoryFault};
+ghost use Rattle.media_front.specs.FedLanes.{FedLane, ports_in, told, rung, AllAreGiven, ArePopped};
+ghost use Rattle.media_front.specs.Tries.{WereTried};
+ghost use Rattle.media_front.specs.Fronts.{HasTaken, MayHaveTaken, HasReported, ticks_due, after_ticks};
+
+use crate::beat::Beat;
+use crate::feed::LaneFeed;
+use crate::giving::copies_of_all;
+use crate::trying::try_all;
+use bridge_core::{Egress, Intake, Outcome};
+use desk_rows::Rows;
+use media_workers::{LaneEnd, Pace, PublisherName};
+use rtp_codec::Address;
+use rtrb::Producer;
+use std::alloc::Global;
+use std::marker::Model;
+use std::sync::Wait;
+use std::thread::Threads;
+use udp_front::{FrontFault, ReportTimer, Ticks, Wire};
+use versions::Notice;
+
+/// How many ticks are made up for at most.
+const MOST_TICKS: u32 = 50;
+
+/// The front of a bridge whose lanes run on threads: the receive side, the lanes, and when ticks and reports are due.
+/// It is not `Drop`: end it by [`MediaFront::close`].
+///
+/// Contracts see these four. Moments are nanoseconds since 1970.
+pub struct MediaFront<N: PublisherName, P: Pace> {
+    intake: Intake,
+    feed: LaneFeed<N, P>,
+    ticks: Ticks,
+    reports: ReportTimer,
+}
+
+impl<N: PublisherName, P: Pace> Model for MediaFront<N, P> {
+    ghost use Rattle.media_front.specs.Fronts.{FrontOf};
+
+    ghost Value = { FrontOf P };
+
+    ghost view = { λ f. record { intake = f.intake; feed = f.feed; ticks = f.ticks; reports = f.reports } };
+}
+
+impl<N: PublisherName, P: Pace> MediaFront<N, P> {
+    /// A front whose ticks and reports are counted from `start`.
+    pub fn new(intake: Intake, feed: LaneFeed<N, P>, start: u64) -> Self
+        ensures { result ≡ record {
+          intake = intake;
+          feed = feed;
+          ticks = record { start = start; had = 0 };
+          reports = record { last = start };
+        } }
+    {
+        Self {
+            intake,
+            feed,
+            ticks: Ticks { start, had: 0 },
+            reports: ReportTimer { last: start },
+        }
+    }
+
+    /// Each lane's next parcel carries this notice, in place of one that the lane was owed.
+    pub fn tell(&mut self, notice: Notice)
+        requires publisher { notice.publisher ≡ N.publisher }
+        ensures { self.new ≡ record self.old { feed = map (told notice) self.old.feed } }
+    {
+        self.feed.tell(notice);
+    }
+
+    /// Takes in a datagram that came from an address at a moment. The rows say whose it is. Tries to send what the
+    /// intake asks its sender for, in order, and then gives every lane each item.
+    ///
+    /// On out of memory, the only error, nothing is sent, and no lane is given an item; the intake may have taken the
+    /// datagram in.
+    pub fn datagram<W: Wire>(
+        &mut self,
+        alloc: Global,
+        rows: &Rows,
+        from: &Address,
+        moment: u64,
+        octets: &[u8],
+        wire: &mut W,
+    ) -> Result<Outcome, FrontFault>
+        ensures takes { IfOk result (λ outcome. HasTaken
+            (record { desk = rows.now; from = from.now; moment = moment; octets = octets.now }) outcome
+            self.old self.new (W.attempts wire.old) (W.attempts wire.new)) }
+        ensures err { OnErr result (self.new ≡ record self.old { intake = self.new.intake }) }
+        ensures unsent { OnErr result (W.attempts wire.new ≡ W.attempts wire.old) }
+        ensures intake { OnErr result (MayHaveTaken
+            (record { desk = rows.now; from = from.now; moment = moment; octets = octets.now })
+            self.old.intake self.new.intake) }
+        ensures same { self.new ≡ record self.old { intake = self.new.intake; feed = self.new.feed } }
+        ensures asker { self.new.intake.asker ≡ self.old.intake.asker }
+    {
+        let ingest = self.intake.datagram(alloc, rows, from, moment, octets)?;
+        let copies = copies_of_all(alloc, &ingest.items, self.feed.count())?;
+        try_all(&ingest.up, wire);
+        self.feed.hand_out_all(&ingest.items, copies);
+        Ok(ingest.outcome)
+    }
+
+    /// Gives every lane the ticks that are due: one for each whole 20 ms since the start, oldest first, and of more
+    /// than 50 the last 50. It takes no memory.
+    pub fn tick(&mut self, now: u64)
+        ensures given { AllAreGiven (map Input.tick (ticks_due most_ticks self.old.ticks now))
+            self.old.feed self.new.feed }
+        ensures ticks { self.new.ticks ≡ after_ticks most_ticks self.old.ticks now }
+        ensures same { self.new ≡ record self.old { feed = self.new.feed; ticks = self.new.ticks } }
+    {
+        self.tick_most(MOST_TICKS, now);
+    }
+
+    /// Gives every lane the ticks that are due, so many at most.
+    fn tick_most(&mut self, most: u32, now: u64)
+        ensures given { AllAreGiven (map Input.tick (ticks_due most self.old.ticks now)) self.old.feed self.new.feed }
+        ensures ticks { self.new.ticks ≡ after_ticks most self.old.ticks now }
+        ensures same { self.new ≡ record self.old { feed = self.new.feed; ticks = self.new.ticks } }
+    {
+        for _ in 0..most {
+            let Some(moment) = self.ticks.due(now) else {
+                return;
+            };
+            self.feed.give_beat(Beat::Tick { moment });
+        }
+    }
+
+    /// Where 5 s have passed since the last report or the start: tries to send the receiver reports, in order, and then
+    /// gives every lane a report. Tells whether it did.
+    ///
+    /// On out of memory, the only error, nothing changes and nothing is sent.
+    pub fn report<W: Wire>(
+        &mut self,
+        alloc: Global,
+        rows: &Rows,
+        now: u64,
+        wire: &mut W,
+    ) -> Result<bool, FrontFault>
+        ensures due { IfOk result (λ due. due ≡ report_due self.old.reports now) }
+        ensures reported { IfOk result (λ due. MatchBool due
+            (HasReported rows.now now self.old self.new (W.attempts wire.old) (W.attempts wire.new))
+            ((self.new ≡ self.old) × (W.attempts wire.new ≡ W.attempts wire.old))) }
+        ensures timer { IfOk result (λ due. self.new.reports ≡ after_report self.old.reports now) }
+        ensures same { self.new ≡ record self.new { ticks = self.old.ticks } }
+        ensures err { OnErr result ((self.new ≡ self.old) × (W.attempts wire.new ≡ W.attempts wire.old)) }
+    {
+        let mut timer = self.reports;
+        if !timer.due(now) {
+            return Ok(false);
+        }
+        let up = self.intake.reports(alloc, rows, now)?;
+        self.reports = timer;
+        try_all(&up, wire);
+        self.feed.give_beat(Beat::Report { moment: now });
+        Ok(true)
+    }
+
+    /// Rings the bell of each lane that accepted parcels since the last call. No contract speaks of bells.
+    pub fn ring<R: Wait>(&mut self, rt: &R)
+        ensures { self.new ≡ record self.old { feed = map rung self.old.feed } }
+    {
+        self.feed.ring(rt);
+    }
+
+    /// Sends what the lanes gave, as [`LaneFeed::send`] does. Returns how many egresses it popped, 4,096 at most.
+    pub fn send<W: Wire>(&mut self, wire: &mut W) -> u32
+        ensures sent { (popped : List (ℕ × AnEgress Heap)) × (length popped ≡ result)
+            × ArePopped popped self.old.feed self.new.feed
+            × WereTried (flat_map datagrams_of (map (λ e. e.1) popped)) (W.attempts wire.old) (W.attempts wire.new) }
+        ensures few { result ≤ 4096 }
+        ensures same { self.new ≡ record self.old { feed = self.new.feed } }
+    {
+        self.feed.send(wire)
+    }
+
+    /// Whether a lane has ended. No contract speaks of the answer.
+    pub fn has_ended(&self) -> bool {
+        self.feed.has_ended()
+    }
+
+    /// Whether a lane is still owed a notice.
+    pub fn owes(&self) -> bool
+        ensures { result ≡ list_any (λ (x : FedLane _). is_some x.owed) self.now.feed }
+    {
+        self.feed.owes()
+    }
+
+    /// How many lanes there are.
+    pub fn lanes(&self) -> u32
+        ensures count { result ≡ length self.now.feed }
+        ensures few { result ≤ most_lanes }
+    {
+        self.feed.count()
+    }
+
+    /// How many parcels were dropped for a lane: its ring was full, or the lane had ended.
+    pub fn dropped(&self, lane: u32) -> u64
+        requires lane { lane < length self.now.feed }
+        ensures { (x : FedLane _) → slice_get self.now.feed lane ≡ Some x → result ≡ x.dropped }
+    {
+        self.feed.dropped(lane)
+    }
+
+    /// Opens each bell, gives each lane its `End`, and waits for the lanes' threads.
+    pub fn close<R: Threads + Wait>(self, rt: &R) -> Vec<LaneEnd<N, Producer<Egress>>>
+        ensures ended { AllEnded P.answers (ports_in self.feed) result.items }
+    {
+        let MediaFront {
+            intake: _,
+            feed,
+            ticks: _,
+            reports: _,
+        } = self;
+        feed.close(rt)
+    }
+}

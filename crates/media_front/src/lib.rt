@@ -1,0 +1,40 @@
+//! The front of a bridge whose lanes run on threads: it turns datagrams and moments into items, gives each lane a copy
+//! of every item, and sends what the lanes give back.
+//!
+//! Begin with [`LaneFeed::start`], which starts a lane for each reader of the published desk, and with
+//! [`MediaFront::new`]. In each round, [`MediaFront::tell`] takes the latest notice, [`MediaFront::datagram`] a
+//! datagram, [`MediaFront::tick`] and [`MediaFront::report`] the moment; [`MediaFront::ring`] wakes the lanes, and
+//! [`MediaFront::send`] sends what they gave. The crate has no socket and no clock.
+//!
+//! Contracts see a feed as its lanes: for each the port of `media_workers`, the notice that it is owed, and how many
+//! parcels were dropped. They say nothing of when a ring is full.
+//!
+//! ```
+//! let feed = LaneFeed::start(rt, alloc, readers, &settings, &waker)?;
+//! let mut media = MediaFront::new(Intake::new(alloc, settings)?, feed, start);
+//! media.tell(desk.notice(rt));
+//! media.datagram(alloc, entered.rows(), &from, moment, octets, &mut wire)?;
+//! media.tick(moment);
+//! media.ring(rt);
+//! media.send(&mut wire);
+//! let fault = fault_of(&media.close(rt));
+//! ```
+#![tactic(auto)]
+
+mod beat;
+mod ends;
+mod feed;
+mod front;
+mod giving;
+mod laws;
+mod naming;
+mod popping;
+mod starting;
+mod tally;
+mod trying;
+
+pub use self::ends::fault_of;
+pub use self::feed::LaneFeed;
+pub use self::front::MediaFront;
+pub use self::laws::owed_notices_are_carried;
+pub use self::naming::PublisherOf;

@@ -1,0 +1,134 @@
+//! How lanes are started, each with a bell.
+
+ghost use Rattle.std.specs.Prelude.{◌≡◌, ◌≤◌, ◌↔◌, true, [], Err, length, map, All, IfOk, vec_len};
+ghost use Rattle.std.specs.List.{AllByRecursion};
+ghost use Rattle.intake.specs.Names.{is_name};
+ghost use Rattle.versions.specs.Published.{ReaderOf};
+ghost use Rattle.bridge_core.specs.Calls.{most_lanes};
+ghost use Rattle.media_workers.specs.LaneRuns.{LaneNow};
+ghost use Rattle.media_workers.specs.Bridges.{AreNew};
+ghost use Rattle.media_front.specs.FedLanes.{lanes_in, IsFresh};
+ghost use Rattle.media_front.specs.inner.Tallies.{fresh_tally};
+
+use crate::feed::LaneFeed;
+use crate::tally::Tally;
+use bridge_core::{LaneState, Settings};
+use lane_bell::{Bell, Rouse, Rung};
+use media_workers::{Bridge, Lane, PublisherName, StartFault};
+use std::alloc::{AllocError, Global};
+use std::sync::{Arc, Wait};
+use std::thread::Threads;
+use versions::LaneReader;
+
+/// So many lanes that were given nothing.
+fn tallies_for(alloc: Global, count: usize) -> Result<Vec<Tally>, AllocError>
+    ensures len { IfOk result (λ tallies. vec_len tallies ≡ count) }
+    ensures fresh { IfOk result (λ tallies. All (λ tally. tally ≡ fresh_tally) tallies.items) }
+{
+    let mut tallies = Vec::with_capacity(alloc, count)?;
+    for _ in 0..count {
+        tallies.push_reserved(Tally::new());
+    }
+    Ok(tallies)
+}
+
+/// So many bells.
+fn bells_for(alloc: Global, count: usize) -> Result<Vec<Arc<Bell, Global>>, AllocError>
+    ensures { IfOk result (λ bells. vec_len bells ≡ count) }
+{
+    let mut bells = Vec::with_capacity(alloc, count)?;
+    for _ in 0..count {
+        bells.push_reserved(Arc::new(alloc, Bell::new())?);
+    }
+    Ok(bells)
+}
+
+/// A pace by each bell.
+fn paces_for<R: Wait + Copy + Drop, F: Rouse + Clone>(
+    rt: &R,
+    alloc: Global,
+    bells: &[Arc<Bell, Global>],
+    front: &F,
+) -> Result<Vec<Rung<R, F>>, AllocError>
+    ensures { IfOk result (λ paces. vec_len paces ≡ length bells.now) }
+{
+    let mut paces = Vec::with_capacity(alloc, bells.len())?;
+    for bell in bells {
+        paces.push_reserved(Rung::by(*rt, Arc::try_clone(bell)?, front.clone()?));
+    }
+    Ok(paces)
+}
+
+/// A lane for each reader.
+fn lanes_for(
+    alloc: Global,
+    readers: Vec<LaneReader>,
+    settings: &Settings,
+) -> Result<Vec<Lane>, AllocError>
+    requires name { is_name settings.now.cname ≡ true }
+    requires few { vec_len readers ≤ most_lanes }
+    ensures new { IfOk result (λ lanes. AreNew lanes.items) }
+    ensures readers { IfOk result (λ lanes. map (λ (lane : LaneNow). lane.reader) lanes.items ≡ readers.items) }
+{
+    let count = readers.len();
+    let mut lanes = Vec::with_capacity(alloc, count)?;
+    let mut number = 0;
+    for reader in readers {
+        let state = LaneState::new(alloc, number, count as u32, settings.try_clone()?)?;
+        lanes.push_reserved(Lane::new(reader, state));
+        number += 1;
+    }
+    Ok(lanes)
+}
+
+impl<N, R, F> LaneFeed<N, Rung<R, F>>
+where
+    N: PublisherName + Send + Sync + 'static,
+    R: Threads + Wait + Copy + Send + Drop + 'static,
+    F: Rouse + Clone + Send + Drop + 'static,
+{
+    /// Starts a lane for each of 1 to 16 readers, on a thread of its own. A lane sleeps while it has no parcel, and
+    /// tells `front` before it does.
+    ///
+    /// The fault is `Count` where there is no reader. All lanes have been ended and dropped after any fault.
+    pub fn start(
+        rt: &R,
+        alloc: Global,
+        readers: Vec<LaneReader>,
+        settings: &Settings,
+        front: &F,
+    ) -> Result<Self, StartFault>
+        requires name { is_name settings.now.cname ≡ true }
+        requires publisher { All (λ (reader : ReaderOf). reader.publisher ≡ N.publisher) readers.items }
+        requires few { vec_len readers ≤ most_lanes }
+        ensures new { IfOk result (λ feed. AreNew (lanes_in feed)) }
+        ensures readers { IfOk result (λ feed. map (λ (lane : LaneNow). lane.reader) (lanes_in feed) ≡ readers.items) }
+        ensures fresh { IfOk result (λ feed. AllByRecursion IsFresh feed) }
+        ensures count { result ≡ Err StartFault.Count ↔ readers.items ≡ [] }
+    {
+        if readers.is_empty() {
+            return Err(StartFault::Count);
+        }
+        let count = readers.len();
+        let Ok(tallies) = tallies_for(alloc, count) else {
+            return Err(StartFault::OutOfMemory);
+        };
+        let Ok(bells) = bells_for(alloc, count) else {
+            return Err(StartFault::OutOfMemory);
+        };
+        let Ok(paces) = paces_for(rt, alloc, &bells, front) else {
+            return Err(StartFault::OutOfMemory);
+        };
+        let Ok(lanes) = lanes_for(alloc, readers, settings) else {
+            return Err(StartFault::OutOfMemory);
+        };
+        match Bridge::start(rt, alloc, lanes, paces) {
+            Ok(bridge) => Ok(LaneFeed {
+                bridge,
+                tallies,
+                bells,
+            }),
+            Err((_, fault)) => Err(fault),
+        }
+    }
+}

@@ -1,0 +1,19 @@
+use Rattle.std.proofs.Common.{◌+◌, sym, ◌∙◌, inl, inr}
+use Rattle.operator_threads.proofs.TalkLemmas.{answers_step, open_is}
+use Rattle.operator_threads.proofs.talking.Talk.answer_lines.Goals as goal
+
+pub returns-then-not-is_open-clause-first : goal.returns-then-not-is_open-clause-first
+returns-then-not-is_open-clause-first g c = (
+  c.loop-line.line-index + 1,
+  answers_step g.D.LineDesk.replies g.D.LineDesk.shows (λ line. line.items) c.args.lines.now c.loop-line.line-index _ _ _ _ _ _ _ _ _ _ c.loop-line-test.true c.line-item.is c.deref.ensures.value c.loop-line.invariant.said c.in_ok-answer_line.ensures.answer c.in_ok-answer_line.ensures.standing,
+  inr (inl (sym c.is_open.ensures ∙ c.if-not-is_open.true)),
+)
+
+pub loop-line-preserved : goal.loop-line-preserved
+loop-line-preserved g c =
+    let stays = open_is _ (sym c.is_open.ensures ∙ c.if-not-is_open.false) in
+    record {
+      stands = stays;
+      kept = c.answer_line.ensures.lines ∙ c.loop-line.invariant.kept;
+      said = answers_step g.D.LineDesk.replies g.D.LineDesk.shows (λ line. line.items) c.args.lines.now c.loop-line.line-index _ _ _ _ _ _ _ _ _ _ c.loop-line-test.true c.line-item.is c.deref.ensures.value c.loop-line.invariant.said c.in_ok-answer_line.ensures.answer (sym stays ∙ c.in_ok-answer_line.ensures.standing);
+    }

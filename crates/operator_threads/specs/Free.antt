@@ -1,0 +1,13 @@
+-- Seats at which nobody sits (own).
+use Rattle.std.specs.Prelude.{◌≡◌, ℕ, nat_eq, List, Option, Some, position, slice_index_or, swap_remove}
+use Rattle.operator_desk.specs.Seats.{SeatOf}
+
+-- where the seat of an operator is among these
+abbrev pub seat_at : ℕ → List SeatOf → Option ℕ
+seat_at op seats = position (λ (s : SeatOf). nat_eq s.op op) seats
+
+-- the operator's seat was one of those before, and those after are the others: the last one stands in its place
+abbrev pub IsTakenFrom : ℕ → SeatOf → (before after : List SeatOf) → Type 0
+IsTakenFrom op seat before after =
+    (at : ℕ) × (seat_at op before ≡ Some at) × (seat ≡ slice_index_or before at seat)
+    × (after ≡ swap_remove before at seat)

@@ -1,0 +1,4 @@
+pub mod Free
+pub mod Places
+pub mod Talking
+pub mod Told

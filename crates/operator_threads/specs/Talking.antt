@@ -1,0 +1,115 @@
+-- What becomes of an operator's connection (own).
+use Rattle.std.specs.Prelude.{◌≡◌, ◌⊎◌, ◌++◌, ℕ, zero, suc, Bool, true, false, not, ◌&&◌, if◌then◌else◌, nat_eq, List}
+use Rattle.std.specs.Prelude.{[], ◌∷◌, length, take, drop, Result, Ok, Err}
+use Rattle.std.specs.IoError.{error_kind}
+use Rattle.std.specs.declared.io.Error.{Error}
+use Rattle.std.specs.declared.io.ErrorKind.{ErrorKind}
+use Rattle.std.specs.declared.io.ErrorKind.TheVariants as kinds
+use Rattle.script_text.specs.declared.fault.Fault.TheVariants.{LineTooLong}
+use Rattle.udp_front.specs.Fed.{Brings}
+use Rattle.udp_front.specs.Outbound.{is_too_much}
+use Rattle.udp_front.specs.Operators.{Replying, Showing, AnswersLine, fault_line}
+use Rattle.udp_front.specs.declared.answering.Next.{Next}
+use Rattle.udp_front.specs.declared.answering.Next.TheVariants as next
+use Rattle.operator_threads.specs.declared.talking.Standing.{Standing}
+use Rattle.operator_threads.specs.declared.talking.Standing.TheVariants.{Open, Ending, Lost, Stopping}
+use Rattle.operator_threads.specs.declared.talking.Came.{Came}
+use Rattle.operator_threads.specs.declared.talking.Came.TheVariants as came
+
+-- lines are read and answered
+abbrev pub is_open : Standing → Bool
+is_open Open = true
+is_open Ending = false
+is_open Lost = false
+is_open Stopping = false
+
+-- it is to be closed, where this waits to be written
+abbrev pub is_over : Standing → List ℕ → Bool
+is_over Open waiting = false
+is_over Ending waiting = nat_eq (length waiting) 0
+is_over Lost waiting = true
+is_over Stopping waiting = true
+
+-- lost where more waits than an operator may leave unread
+abbrev pub unless_too_much : List ℕ → Standing → Standing
+unless_too_much waiting standing = if is_too_much waiting then Lost else standing
+
+-- how it stands after an answered line, where this waits to be written
+abbrev pub after_line : Next → List ℕ → Standing
+after_line next.Stay waiting = unless_too_much waiting Open
+after_line next.Quit waiting = unless_too_much waiting Ending
+after_line next.Stop waiting = Stopping
+
+-- these lines are answered one after another, each while the connection is open
+abbrev pub AnswersLines :
+    {D : Type 0} → Replying D → Showing D → List (List ℕ) → D → D → (before after : List ℕ) → (from to : Standing)
+    → Type 0
+AnswersLines replies shows [] old new before after from to = (new ≡ old) × (after ≡ before) × (to ≡ from)
+AnswersLines {D = D} replies shows (line ∷ lines) old new before after from to =
+    (from ≡ Open)
+    × (mid : D) × (between : List ℕ) × (becomes : Next)
+    × AnswersLine replies shows old mid line before between becomes
+    × AnswersLines replies shows lines mid new between after (after_line becomes between) to
+
+-- of these lines the first are answered: all, unless one of them ended the connection or the bridge was stopped
+abbrev pub AnswersFirst :
+    {D : Type 0} → Replying D → Showing D → List (List ℕ) → D → D → (before after : List ℕ) → Standing → Bool → Type 0
+AnswersFirst replies shows lines old new before after to stopped =
+    (count : ℕ)
+    × AnswersLines replies shows (take count lines) old new before after Open to
+    × ((take count lines ≡ lines) ⊎ (is_open to ≡ false) ⊎ (stopped ≡ true))
+
+-- a line that is too long is refused behind all other lines, while the connection is open
+abbrev pub refuses : (is_too_long stopped : Bool) → Standing → Bool
+refuses is_too_long stopped standing = is_too_long && not stopped && is_open standing
+
+-- it is refused so, or there is none
+abbrev pub Refuses : Bool → (before after : List ℕ) → (from to : Standing) → Type 0
+Refuses true before after from to = (after ≡ before ++ fault_line 0 LineTooLong) × (to ≡ Ending)
+Refuses false before after from to = (after ≡ before) × (to ≡ from)
+
+-- octets come behind a stream: the lines that they end are answered, and then one that is too long is refused
+abbrev pub AnswersOctets :
+    {D : Type 0} → Replying D → Showing D → (stream octets : List ℕ) → D → D → (before after : List ℕ) → Standing → Bool
+    → Type 0
+AnswersOctets replies shows stream octets old new before after to stopped =
+    (lines : List (List ℕ)) × (is_too_long : Bool) × (between : List ℕ) × (standing : Standing)
+    × Brings stream octets lines is_too_long
+    × AnswersFirst replies shows lines old new before between standing stopped
+    × Refuses (refuses is_too_long stopped standing) between after standing to
+
+-- what an error of a socket means: nothing yet, nothing this time, or the end
+abbrev pub came_by : ErrorKind → Came
+came_by kinds.WouldBlock = came.Later
+came_by kinds.Interrupted = came.Again
+came_by kind = came.Failed
+
+-- what a socket's answer means
+abbrev pub came_of : Result ℕ Error → Came
+came_of (Ok zero) = came.End
+came_of (Ok (suc n)) = came.Octets (suc n)
+came_of (Err error) = came_by (error_kind error)
+
+-- how an open connection stands after what a read gave
+abbrev pub after_read : Came → Standing → Standing
+after_read (came.Octets n) standing = standing
+after_read came.End standing = Ending
+after_read came.Later standing = standing
+after_read came.Again standing = standing
+after_read came.Failed standing = Lost
+
+-- how it stands after what a write gave: a socket that takes nothing is lost
+abbrev pub after_write : Came → Standing → Standing
+after_write (came.Octets n) standing = standing
+after_write came.End standing = Lost
+after_write came.Later standing = standing
+after_write came.Again standing = standing
+after_write came.Failed standing = Lost
+
+-- what still waits after what a write gave
+abbrev pub left_after : Came → List ℕ → List ℕ
+left_after (came.Octets n) waiting = drop n waiting
+left_after came.End waiting = waiting
+left_after came.Later waiting = waiting
+left_after came.Again waiting = waiting
+left_after came.Failed waiting = waiting

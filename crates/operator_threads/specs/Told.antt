@@ -1,0 +1,39 @@
+-- What an operator at a shared desk is told (own).
+use Rattle.std.specs.Prelude.{◌≡◌, ℕ, List}
+use mathlib.Core.List.{IsPrefix}
+use Rattle.logbook.specs.Pages.{Book}
+use Rattle.desk_rows.specs.Desk.{Desk}
+use Rattle.desk_edit.specs.Asked.{CallOf}
+use Rattle.bridge_core.specs.declared.reply.Reply.TheVariants as replies
+use Rattle.script_text.specs.RowLines.{show_text}
+use Rattle.script_text.specs.Text.{reply_text, refused_text}
+use Rattle.versions.specs.Published.{NoticeOf}
+use Rattle.operator_desk.specs.declared.answer.Answer.{Answer}
+use Rattle.operator_desk.specs.declared.answer.Answer.TheVariants.{Accepted, Refused}
+use Rattle.operator_desk.specs.Answers.{IsAnswered, IsCopy, IsNotice, why_told}
+use Rattle.operator_desk.specs.Seats.{SeatOf}
+
+-- the line of an answer: that of an accepted call's number, or of the version and the refusal
+abbrev pub answer_text : Answer → List ℕ
+answer_text (Accepted number notice) = reply_text (replies.Accepted number)
+answer_text (Refused version why) = refused_text version (why_told why)
+
+-- the notice of an accepted call is that of a legal log
+abbrev pub IsTelling : Desk → Book → Answer → Type 0
+IsTelling start publisher (Accepted number notice) = IsNotice start publisher notice
+IsTelling start publisher (Refused version why) = Unit {0}
+
+-- the notice of an accepted call is known
+abbrev pub IsKnown : Answer → NoticeOf → Type 0
+IsKnown (Accepted number notice) known = IsPrefix notice.lists known.lists
+IsKnown (Refused version why) known = Unit {0}
+
+-- the call of a seat is answered, its line is told, and the notice of an accepted call is known from then on
+abbrev pub SeatReplies : Desk → Book → (old new : SeatOf) → (known : NoticeOf) → CallOf → List ℕ → Type 0
+SeatReplies start publisher old new known call text =
+    (answer : Answer) × IsAnswered start publisher old new call answer × (text ≡ answer_text answer)
+    × IsKnown answer known
+
+-- the rows after a legal log are told, and last their version
+abbrev pub SeatShows : Desk → List ℕ → Type 0
+SeatShows start text = (version : ℕ) × (rows : Desk) × IsCopy start version rows × (text ≡ show_text rows version)

@@ -1,0 +1,59 @@
+//! The latest notice that is known.
+
+ghost use Rattle.std.specs.Prelude.{◌≡◌};
+ghost use mathlib.Core.List.{IsPrefix};
+ghost use Rattle.operator_desk.specs.Answers.{IsNotice};
+
+use operator_desk::Hall;
+use std::marker::{Model, PhantomData};
+use versions::Notice;
+
+/// The latest notice that is known of a hall's desk. Contracts see that notice.
+#[derive(Drop)]
+pub(crate) struct Latest<H: Hall> {
+    notice: Notice,
+    hall: PhantomData<H>,
+}
+
+impl<H: Hall> Model for Latest<H> {
+    ghost use Rattle.operator_desk.specs.Answers.{IsNotice};
+    ghost use Rattle.versions.specs.Published.{NoticeOf};
+
+    ghost Value = { NoticeOf };
+
+    ghost view = { λ l. l.notice };
+
+    ghost invariant = { λ l. IsNotice H.start H.publisher l.notice };
+}
+
+impl<H: Hall> Latest<H> {
+    pub fn new(notice: Notice) -> Self
+        requires tells { IsNotice H.start H.publisher notice }
+        ensures { result ≡ notice }
+    {
+        Self {
+            notice,
+            hall: PhantomData,
+        }
+    }
+
+    /// The notice.
+    pub fn again(&self) -> Notice
+        ensures same { result ≡ self.now }
+        ensures tells { IsNotice H.start H.publisher result }
+    {
+        self.notice.again()
+    }
+
+    /// Learns a notice, and gives the latest one. It is no earlier than this one, nor than what was known.
+    pub fn learn(&mut self, notice: &Notice) -> Notice
+        requires tells { IsNotice H.start H.publisher notice.now }
+        ensures this { IsPrefix self.old.lists self.new.lists }
+        ensures that { IsPrefix notice.now.lists self.new.lists }
+        ensures same { result ≡ self.new }
+        ensures tells { IsNotice H.start H.publisher result }
+    {
+        self.notice = self.notice.later(notice);
+        self.again()
+    }
+}

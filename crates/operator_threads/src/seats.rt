@@ -1,0 +1,63 @@
+//! The seats at which nobody sits.
+
+ghost use Rattle.std.specs.Prelude.{◌≡◌, ◌<◌, ◌++◌, ◌∷◌, [], None, IfSome, IfNone, vec_len, vec_capacity};
+ghost use Rattle.std.specs.Prelude.{slice_index_or, swap_remove};
+ghost use Rattle.operator_threads.specs.Free.{seat_at, IsTakenFrom};
+
+use operator_desk::{Hall, Seat};
+
+/// Seats that are free to be taken.
+#[derive(Drop)]
+pub(crate) struct FreeSeats<'a, H: Hall> {
+    pub seats: Vec<Seat<'a, H>>,
+}
+
+/// A seat that was taken. It is not `Drop`, so that it is given back: by [`FreeSeats::give`].
+pub(crate) struct TakenSeat<'a, H: Hall> {
+    pub seat: Seat<'a, H>,
+}
+
+impl<'a, H: Hall> FreeSeats<'a, H> {
+    /// Where the seat of an operator is among these.
+    fn seat_at(&self, op: u32) -> Option<usize>
+        ensures { result ≡ seat_at op self.now.seats.items }
+    {
+        self.seats.iter().position(|seat| seat.op() == op)
+    }
+
+    /// Takes the seat of an operator.
+    pub fn take(&mut self, op: u32) -> Option<TakenSeat<'a, H>>
+        ensures op { IfSome result (λ taken. taken.seat.op ≡ op) }
+        ensures taken { IfSome result (λ taken. IsTakenFrom op taken.seat self.old.seats.items self.new.seats.items) }
+        ensures none { IfNone result (seat_at op self.old.seats.items ≡ None) }
+        ensures room { vec_capacity self.new.seats ≡ vec_capacity self.old.seats }
+    {
+        match self.seat_at(op) {
+            None => None,
+            Some(at) => Some(self.take_at(at)),
+        }
+    }
+
+    /// Takes the seat at this place.
+    fn take_at(&mut self, at: usize) -> TakenSeat<'a, H>
+        requires { at < vec_len self.old.seats }
+        ensures seat { result.seat ≡ slice_index_or self.old.seats.items at result.seat }
+        ensures left { self.new.seats.items ≡ swap_remove self.old.seats.items at result.seat }
+        ensures room { vec_capacity self.new.seats ≡ vec_capacity self.old.seats }
+    {
+        let seat = self.seats.swap_remove(at);
+        TakenSeat { seat }
+    }
+
+    /// Gives a seat back. Where nothing was added since it was taken its room is still there.
+    pub fn give(&mut self, taken: TakenSeat<'a, H>)
+        ensures back { vec_len self.old.seats < vec_capacity self.old.seats
+            → self.new.seats.items ≡ self.old.seats.items ++ taken.entry.seat ∷ [] }
+        ensures room { vec_capacity self.new.seats ≡ vec_capacity self.old.seats }
+    {
+        let TakenSeat { seat } = taken;
+        if self.seats.len() < self.seats.capacity() {
+            self.seats.push_reserved(seat);
+        }
+    }
+}
