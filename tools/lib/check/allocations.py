@@ -202,7 +202,7 @@ class Sources:
     def allocating(self):
         """The public functions of the libraries that take an allocator."""
         for f in self.functions:
-            is_library = not (f.crate in TESTS | PROGRAMS or f.crate.startswith("worked_") or f.crate == "bench")
+            is_library = not (f.crate in TESTS | PROGRAMS or f.crate.startswith("worked_") or f.crate in {"bench", "thread_bench"})
             is_public = f.is_public and (f.owner or f.name) in self.exports[f.crate]
             if is_library and is_public and f.takes_an_allocator():
                 yield f

@@ -1,0 +1,175 @@
+//! Calls of one operator, at a shared desk and at the core's.
+
+ghost use Rattle.std.specs.Prelude.{◌≡◌};
+ghost use Rattle.desk_rows.specs.Desk.{blank as no_rows};
+
+use crate::rooms::{Plan, commands_for, core_with, picture_of};
+use crate::timing::{Took, Watch, least_of};
+use bridge_core::{Core, Reply};
+use desk_edit::{Call, Command};
+use desk_rows::{Mute, Room};
+use operator_desk::{Answer, Hall, Log, Seat, SharedDesk};
+use std::alloc::Global;
+use std::io;
+use std::marker::Brand;
+use std::sync::Wait;
+use std::sync::ledger::Blank;
+use std::time::{Clock, CpuClock};
+use versions::Opened;
+
+/// What an operator calls in turn.
+#[derive(Clone, Copy)]
+pub enum Turn {
+    /// It adds a room, and removes it.
+    Rooms,
+    /// It mutes the video source of this member, and ends the mute.
+    Mutes { member: u16 },
+}
+
+/// The room that comes and goes.
+const ROOM: u32 = 2;
+
+/// The call that is made after so many.
+pub fn call_of(turn: Turn, made: u64) -> Call {
+    let command = match (turn, made % 2) {
+        (Turn::Rooms, 0) => Command::AddRoom(Room { room: ROOM }),
+        (Turn::Rooms, _) => Command::RemoveRoom { room: ROOM },
+        (Turn::Mutes { member }, 0) => Command::Mute(Mute {
+            source: picture_of(member),
+        }),
+        (Turn::Mutes { member }, _) => Command::Unmute {
+            source: picture_of(member),
+        },
+    };
+    Call::Apply(command)
+}
+
+/// Makes so many calls at the core. It answers how many were accepted.
+fn call_core(alloc: Global, core: &mut Core, turn: Turn, calls: u64) -> u64 {
+    let mut accepted = 0u64;
+    for made in 0..calls {
+        if let Reply::Accepted { .. } = core.desk(alloc, 0, call_of(turn, made)) {
+            accepted = accepted.saturating_add(1);
+        }
+    }
+    accepted
+}
+
+/// So many calls at a core with this room.
+pub fn at_core<R: Clock + CpuClock>(
+    rt: &R,
+    alloc: Global,
+    plan: &Plan,
+    turn: Turn,
+    calls: u64,
+) -> io::Result<Took> {
+    let mut core = core_with(alloc, plan)?;
+    let watch = Watch::begin(rt);
+    let accepted = call_core(alloc, &mut core, turn, calls);
+    Ok(watch.took(rt, accepted))
+}
+
+/// Makes so many calls from a seat. It answers how many were accepted.
+pub fn call_desk<'a, H: Hall, R: Wait>(
+    rt: &R,
+    alloc: Global,
+    desk: &SharedDesk<'a, H>,
+    seat: &mut Seat<'a, H>,
+    turn: Turn,
+    calls: u64,
+) -> u64 {
+    let mut accepted = 0u64;
+    for made in 0..calls {
+        if let Answer::Accepted { .. } = desk.call(rt, alloc, seat, call_of(turn, made)) {
+            accepted = accepted.saturating_add(1);
+        }
+    }
+    accepted
+}
+
+/// Makes the room. False where a command is refused.
+pub fn fill<'a, H: Hall, R: Wait>(
+    rt: &R,
+    alloc: Global,
+    desk: &SharedDesk<'a, H>,
+    seat: &mut Seat<'a, H>,
+    commands: &[Command],
+) -> bool {
+    for command in commands {
+        if let Answer::Refused { .. } = desk.call(rt, alloc, seat, Call::Apply(*command)) {
+            return false;
+        }
+    }
+    true
+}
+
+/// So many calls from the only seat of a desk over this log, which is filled first.
+fn by_one<H: Hall, R: Wait + Clock + CpuClock>(
+    rt: &R,
+    alloc: Global,
+    log: &Log,
+    blank: Blank,
+    opened: Opened,
+    commands: &[Command],
+    turn: Turn,
+    calls: u64,
+) -> Option<Took>
+    requires log { log.now ≡ H.cells }
+    requires blank { (blank.name ≡ H.name) × (blank.parts ≡ H.parts) }
+    requires publisher { opened ≡ H.publisher }
+    requires start { no_rows 1 ≡ H.start }
+    requires seats { (1 ≡ H.seats) × (H.seats ≡ H.parts) }
+{
+    match SharedDesk::<H>::new(rt, alloc, log, blank, opened, 1, 1, 1) {
+        Ok((desk, mut seats, _readers)) => {
+            let took = match seats.pop() {
+                Some(mut seat) => timed(rt, alloc, &desk, &mut seat, commands, turn, calls),
+                None => None,
+            };
+            desk.end(rt);
+            took
+        }
+        Err(_) => None,
+    }
+}
+
+/// So many calls from a seat, behind those that make the room.
+fn timed<'a, H: Hall, R: Wait + Clock + CpuClock>(
+    rt: &R,
+    alloc: Global,
+    desk: &SharedDesk<'a, H>,
+    seat: &mut Seat<'a, H>,
+    commands: &[Command],
+    turn: Turn,
+    calls: u64,
+) -> Option<Took> {
+    if !fill(rt, alloc, desk, seat, commands) {
+        return None;
+    }
+    let watch = Watch::begin(rt);
+    let accepted = call_desk(rt, alloc, desk, seat, turn, calls);
+    Some(watch.took(rt, accepted))
+}
+
+/// So many calls at a shared desk with this room.
+pub fn at_desk<R: Wait + Clock + CpuClock>(
+    rt: &R,
+    alloc: Global,
+    plan: &Plan,
+    turn: Turn,
+    calls: u64,
+) -> io::Result<Took> {
+    let commands = commands_for(alloc, plan)?;
+    let log = Log::new(alloc)?;
+    let took = by_one::<Brand, _>(
+        rt,
+        alloc,
+        &log,
+        Blank::new(1),
+        Opened::new(),
+        &commands,
+        turn,
+        calls,
+    );
+    took.ok_or(io::Error::other("there is no shared desk"))
+}

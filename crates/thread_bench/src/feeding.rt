@@ -1,0 +1,112 @@
+//! What is handed to lanes, and what is taken from them.
+
+ghost use Rattle.std.specs.Prelude.{◌≡◌, ◌<◌, ◌≤◌, true, length};
+ghost use Rattle.intake.specs.Inputs.{input_of, is_sized};
+
+use crate::loads::Load;
+use bridge_core::{Core, Item};
+use media_workers::{Bridge, Pace, Parcel, PublisherName};
+use std::alloc::Global;
+use std::io;
+
+/// Gives the lane of a core a step, and counts what it sends. False where an item is refused.
+fn step_core(alloc: Global, core: &mut Core, load: &Load, step: u64, sent: &mut u64) -> bool {
+    for place in 0..load.items() {
+        let Ok(item) = load.item(alloc, step, place) else {
+            return false;
+        };
+        if core.lanes() == 0 {
+            return false;
+        }
+        let Ok(egresses) = core.item(alloc, 0, &item) else {
+            return false;
+        };
+        *sent = sent.saturating_add(egresses.len() as u64);
+    }
+    true
+}
+
+/// Gives the lane of a core so many steps. It answers how many egresses there were.
+pub fn feed_core(alloc: Global, core: &mut Core, load: &Load, steps: u64) -> io::Result<u64> {
+    let mut sent = 0u64;
+    for step in 0..steps {
+        if !step_core(alloc, core, load, step, &mut sent) {
+            return Err(io::Error::other("the core refuses an item"));
+        }
+    }
+    Ok(sent)
+}
+
+/// Gives a lane an item. False where its ring is full.
+fn push_item<N: PublisherName, P: Pace>(bridge: &mut Bridge<N, P>, lane: u32, item: Item) -> bool
+    requires lane { lane < length bridge.old }
+    requires sized { is_sized (input_of item) ≡ true }
+    ensures { length bridge.new ≡ length bridge.old }
+{
+    let parcel = Parcel::Work { item, notice: None };
+    bridge.push(lane, parcel).is_ok()
+}
+
+/// Gives the lanes behind the first one a copy of an item. False where a ring is full or memory runs out.
+fn push_copies<N: PublisherName, P: Pace>(
+    alloc: Global,
+    bridge: &mut Bridge<N, P>,
+    lanes: u32,
+    item: &Item,
+) -> bool
+    requires lanes { lanes ≤ length bridge.old }
+    requires sized { is_sized (input_of item.now) ≡ true }
+    ensures { length bridge.new ≡ length bridge.old }
+{
+    for lane in 1..lanes {
+        let Ok(copy) = item.copy(alloc) else {
+            return false;
+        };
+        if !push_item(bridge, lane, copy) {
+            return false;
+        }
+    }
+    true
+}
+
+/// Gives each lane a step. False where a ring is full or memory runs out.
+pub fn step_lanes<N: PublisherName, P: Pace>(
+    alloc: Global,
+    bridge: &mut Bridge<N, P>,
+    lanes: u32,
+    load: &Load,
+    step: u64,
+) -> bool
+    requires first { 0 < lanes }
+    requires lanes { lanes ≤ length bridge.old }
+    ensures { length bridge.new ≡ length bridge.old }
+{
+    for place in 0..load.items() {
+        let Ok(item) = load.item(alloc, step, place) else {
+            return false;
+        };
+        if !push_copies(alloc, bridge, lanes, &item) || !push_item(bridge, 0, item) {
+            return false;
+        }
+    }
+    true
+}
+
+/// Takes an egress, and says whether there was one.
+fn take_one<N: PublisherName, P: Pace>(bridge: &mut Bridge<N, P>) -> bool
+    ensures { length bridge.new ≡ length bridge.old }
+{
+    bridge.pop().is_some()
+}
+
+/// Takes the egresses that are there, so many at most. It answers how many.
+pub fn take_all<N: PublisherName, P: Pace>(bridge: &mut Bridge<N, P>, most: u64) -> u64
+    ensures { length bridge.new ≡ length bridge.old }
+{
+    for taken in 0..most {
+        if !take_one(bridge) {
+            return taken;
+        }
+    }
+    most
+}
