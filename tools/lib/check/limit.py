@@ -1,8 +1,8 @@
 """Runs a bridge under a limit on its memory, while sixteen operators fill a desk and 64 members send.
 
 Under each limit the bridge refuses calls by 13 OutOfMemory, closes a connection, or ends with status 2; it never ends by a signal.
-While it runs, `show` shows just the rows that the accepted calls lead to. A limit under which the bridge doesn't start has to
-give status 2 as well.
+While it runs, `show` shows just the rows that the accepted calls lead to. Under a limit at which the bridge doesn't start it ends
+with status 2, or with 3 where a thread can't be started.
 """
 
 import contextlib
@@ -88,7 +88,7 @@ def tried(program, folder, mib, lanes):
     bridge = subprocess.Popen(words, stdin=subprocess.DEVNULL, stderr=subprocess.PIPE, text=True, preexec_fn=limited(mib))
     listens = LISTENS.fullmatch(bridge.stderr.readline())
     if not listens:
-        return f"doesn't start, status {ended(bridge, mib)}"
+        return f"doesn't start, status {ended(bridge, mib, (2, 3))}"
     udp, tcp = int(listens[1]), int(listens[2])
     sockets = [udp_socket() for _ in range(MEMBERS)]
     try:
@@ -97,7 +97,7 @@ def tried(program, folder, mib, lanes):
         for line in ["add-room 1", *(it for at, one in enumerate(sockets) for it in lines_of(at, one))]:
             told = first.ask(line)
             if not told:
-                return f"ends early, status {ended(bridge, mib)}"
+                return f"ends early, status {ended(bridge, mib, (2, 3))}"
         for filler in fillers:
             filler.start()
         at = 0
@@ -108,7 +108,7 @@ def tried(program, folder, mib, lanes):
             time.sleep(0.02)
         said = stopped(bridge, fillers, mib)
     except OSError:
-        said = f"ends early, status {ended(bridge, mib)}"
+        said = f"ends early, status {ended(bridge, mib, (2, 3))}"
     finally:
         for one in sockets:
             one.close()
@@ -143,13 +143,13 @@ def stopped(bridge, fillers, mib):
     return f"{counts}; status {ended(bridge, mib)}"
 
 
-def ended(bridge, mib):
+def ended(bridge, mib, allowed=(0, 2)):
     try:
         status = bridge.wait(20)
     except subprocess.TimeoutExpired:
         bridge.kill()
         fail(f"{mib} MiB: the bridge doesn't end")
-    if status not in (0, 2):
+    if status not in allowed:
         fail(f"{mib} MiB: the bridge ends with status {status}: {bridge.stderr.read()[-500:]}")
     return status
 
