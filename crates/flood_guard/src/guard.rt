@@ -29,7 +29,8 @@ fn place_of(address: &Address, accounts: &[Account]) -> Option<usize>
 /// Puts an account before the others, in place of the one at a place.
 fn put_first<A: Allocator>(accounts: &mut Vec<Account, A>, place: usize, account: Account)
     requires { place < vec_len accounts.old }
-    ensures items { accounts.new.items ≡ account ∷ take place accounts.old.items ++ drop (place + 1) accounts.old.items }
+    ensures items { accounts.new.items
+        ≡ account ∷ take place accounts.old.items ++ drop (place + 1) accounts.old.items }
     ensures len { vec_len accounts.new ≡ vec_len accounts.old }
     ensures capacity { vec_capacity accounts.new ≡ vec_capacity accounts.old }
 {
@@ -128,7 +129,8 @@ impl<A: Allocator + Copy> FloodGuard<A> {
         Ok(Self { accounts })
     }
 
-    /// Notes that a datagram of so many octets came from an address. Each octet earns 1.5 octets of credit, up to 65,536.
+    /// Notes that a datagram of so many octets came from an address. Each octet earns 1.5 octets of credit, up to
+    /// 65,536.
     /// A new address begins with 256.
     pub fn earn(&mut self, from: &Address, octets: u64)
         ensures { self.new ≡ after (earn from.now octets) self.old }
