@@ -1,10 +1,17 @@
--- The edits of an undo and of a redo, as they are published, lead where the call leads.
-use Rattle.std.proofs.Common.{◌≡◌, List, [], ◌∷◌, ◌++◌, refl, sym, ap, ◌∙◌}
-use Rattle.desk_rows.specs.Edit.{EditOf}
+-- The edits of an undo and of a redo, as they are published, fit the desk and lead where the call leads.
+use Rattle.std.proofs.Common.{◌≡◌, true, List, [], ◌∷◌, ◌++◌, reverse, refl, sym, ap, subst, ◌∙◌}
+use Rattle.undo_log.specs.Timeline.{IsTimeline, all_fit, rewound}
+use Rattle.undo_log.specs.laws.ListLaws.{all_inverses_fit}
+use Rattle.undo_log.proofs.Steps.{last_fits, next_fits}
+use Rattle.desk_rows.specs.Desk.{Desk}
+use Rattle.desk_rows.specs.Edit.{EditOf, inverse as one_inverse}
+use Rattle.desk_rows.specs.Exchange.{fits as one_fits, after as one_after}
+use Rattle.desk_rows.specs.laws.Laws.{inverse_fits as one_inverse_fits, undoes as one_undoes}
 use Rattle.desk_edit.specs.Asked.{CallOf as Call}
 use Rattle.desk_edit.specs.Asked.CallOf.{Apply, Group, Undo, Redo}
 use Rattle.desk_edit.specs.Calls.{final}
-use Rattle.desk_calls.specs.Edits.{after, inverse}
+use Rattle.desk_calls.specs.Edits.{fits, after, inverse}
+use Rattle.desk_calls.specs.laws.EditLaws.{undoes}
 use Rattle.desk_calls.specs.Desk.{DeskOf, Does, Serves}
 use Rattle.desk_calls.specs.declared.prepared.Prepared.TheVariants as prepared
 
@@ -33,3 +40,17 @@ redone_leads A old new (Redo last) serves before again is does =
 redone_leads A old new (Apply command) serves before again is does = absurd serves
 redone_leads A old new (Group commands) serves before again is does = absurd serves
 redone_leads A old new (Undo last) serves before again is does = absurd serves
+
+inverses_fit : (d : Desk) (es : List EditOf) → fits d es ≡ true → fits (after d es) (inverse es) ≡ true
+inverses_fit d es fit = all_inverses_fit one_fits one_after one_inverse one_inverse_fits one_undoes d es fit
+
+-- the last edit that is done, taken back, fits the desk
+pub undone_fits : (start d : Desk) (done undone before : List (List EditOf)) (e : List EditOf) → IsTimeline fits after start d done undone → rewound after inverse d (reverse done) ≡ start → done ≡ before ++ e ∷ [] → fits d (inverse e) ≡ true
+undone_fits start d done undone before e is begins last =
+    let P : List (List EditOf) → Type 0 = λ es. IsTimeline fits after (rewound after inverse d (reverse es)) d es undone in
+    last_fits fits after inverse inverses_fit undoes d before undone e (subst P last (subst (λ s. IsTimeline fits after s d done undone) (sym begins) is))
+
+-- the edit that was undone last fits the desk
+pub redone_fits : (start d : Desk) (done undone before : List (List EditOf)) (e : List EditOf) → IsTimeline fits after start d done undone → undone ≡ before ++ e ∷ [] → fits d e ≡ true
+redone_fits start d done undone before e is last =
+    (next_fits fits after inverse inverses_fit undoes d before e (subst (λ es. all_fit fits after d (reverse es) ≡ true) last is.undone_fit)).0

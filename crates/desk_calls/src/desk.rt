@@ -187,7 +187,10 @@ impl<A: Allocator + Copy> Desk<A> {
         requires { IsReady self.now (asked_by call.now) prepared.now }
         ensures leads { IfOk result (λ edits.
             (new : DeskOf) → Does self.now new (asked_by call.now) → after self.now.desk edits ≡ new.desk) }
+        ensures fit { IfOk result (λ edits. fits self.now.desk edits ≡ true) }
     {
+        // Each edit that is done or undone fits the desk that it stands behind.
+        self.history.known();
         match prepared {
             Prepared::Apply(edits) => <Listed<Rows<A>> as Reversible>::copy(alloc, edits),
             Prepared::Undo => match self.history.undo_edit(alloc) {
