@@ -72,6 +72,12 @@ other_from first op (x ∷ log) e other = ap (λ ns. if nat_eq x.op op then firs
 pub other_numbers : (op : ℕ) (log : List EntryOf) (e : EntryOf) → nat_eq e.op op ≡ false → numbers op (log ++ e ∷ []) ≡ numbers op log
 other_numbers op log e other = other_from 1 op log e other
 
+-- all published lists lead to the desk of the log
+pub desks-all : (start : Desk) (log : List EntryOf) (lists : List (List EditOf)) → AreDesks start log lists → after_lists start lists ≡ desk_now (after_log start log)
+desks-all start log lists desks =
+    let many = desks.many in
+    ap (after_lists start) (sym (take_all (length log) lists (omega arith))) ∙ (desks.lead (length log) (omega arith) ∙ ap (λ l. desk_now (after_log start l)) (take_all (length log) log (omega arith)))
+
 -- the published lists of a log that goes on
 pub desks-push : (start : Desk) (log : List EntryOf) (lists : List (List EditOf)) (entry : EntryOf) (edits : List EditOf) → AreDesks start log lists → after_list (desk_now (after_log start log)) edits ≡ desk_now (after_log start (log ++ entry ∷ [])) → AreDesks start (log ++ entry ∷ []) (lists ++ edits ∷ [])
 desks-push start log lists entry edits desks leads = record {
@@ -83,17 +89,12 @@ desks-push start log lists entry edits desks leads = record {
       let many = desks.many in
       ap (after_lists start) (take-append-le n lists (edits ∷ []) (omega arith)) ∙ (desks.lead n few ∙ ap (λ l. desk_now (after_log start l)) (sym (take-append-le n log (entry ∷ []) few)))
 
-  whole : after_lists start lists ≡ desk_now (after_log start log)
-  whole =
-      let many = desks.many in
-      ap (after_lists start) (sym (take_all (length log) lists (omega arith))) ∙ (desks.lead (length log) (omega arith) ∙ ap (λ l. desk_now (after_log start l)) (take_all (length log) log (omega arith)))
-
   past : (n : ℕ) → n ≤ length (log ++ entry ∷ []) → length log < n → after_lists start (take n (lists ++ edits ∷ [])) ≡ desk_now (after_log start (take n (log ++ entry ∷ [])))
   past n few behind =
       let many = desks.many in
       let longer = length-append log (entry ∷ []) in
       let lists_longer = length-append lists (edits ∷ []) in
-      ap (after_lists start) (take_all n (lists ++ edits ∷ []) (omega arith)) ∙ (fold_push after_list start lists edits ∙ (ap (λ d. after_list d edits) whole ∙ (leads ∙ ap (λ l. desk_now (after_log start l)) (sym (take_all n (log ++ entry ∷ []) (omega arith))))))
+      ap (after_lists start) (take_all n (lists ++ edits ∷ []) (omega arith)) ∙ (fold_push after_list start lists edits ∙ (ap (λ d. after_list d edits) (desks-all start log lists desks) ∙ (leads ∙ ap (λ l. desk_now (after_log start l)) (sym (take_all n (log ++ entry ∷ []) (omega arith))))))
 
 -- the desk under the lock after one more call, whose edits were staged and published
 pub held-push : (start : Desk) (publisher : Book) (h new : HeldOf) (staged : PublisherOf) (entry : EntryOf) (edits : List EditOf)

@@ -1,6 +1,6 @@
 //! Whether a log can be handed out.
 
-ghost use Rattle.std.specs.Prelude.{◌≡◌, IfSome, IfNone, IfOk, IfErr, OnOk};
+ghost use Rattle.std.specs.Prelude.{◌≡◌, None, IfSome, IfNone, IfOk, IfErr, OnOk};
 ghost use Rattle.operator_desk.specs.LegalLogs.{IsLegal};
 ghost use Rattle.operator_desk.specs.Gathering.{IsFault, AreAllIn, is_handed_in};
 
@@ -19,6 +19,7 @@ pub fn judged<'a, H: Hall>(
     count: u32,
 ) -> Result<Vec<LogEntry>, GatherFault>
     ensures all { OnOk result (AreAllIn count seats.now.items) }
+    ensures beyond { OnOk result (held.now.beyond ≡ None) }
     ensures copy { IfOk result (λ log. log.items ≡ held.now.log) }
     ensures legal { IfOk result (λ log. IsLegal H.start log.items) }
     ensures fault { IfErr result (λ fault. IsFault count seats.now.items fault) }

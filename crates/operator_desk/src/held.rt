@@ -8,6 +8,7 @@ ghost use Rattle.desk_rows.specs.Desk.{good};
 ghost use Rattle.desk_edit.specs.Asked.{asked_by};
 ghost use Rattle.desk_edit.specs.Calls.{refusal_of};
 ghost use Rattle.desk_calls.specs.Desk.{IsReady};
+ghost use Rattle.desk_calls.specs.Edits.{fits};
 ghost use Rattle.operator_desk.specs.LegalLogs.{after_log, IsLegal};
 ghost use Rattle.operator_desk.specs.OwnCalls.{numbers};
 ghost use Rattle.operator_desk.specs.Seats.{SeatOf};
@@ -233,6 +234,7 @@ impl<'a, H: Hall> Held<'a, H> {
         requires seen { seat.old.seen ≡ self.old.log }
         requires ready { IsReady self.old.desk (asked_by call) prepared }
         requires leads { Leads self.old.desk (asked_by call) edits }
+        requires fit { fits self.old.desk.desk edits ≡ true }
         requires free { refusal_of (after_log H.start self.old.log) (asked_by call) ≡ None }
         requires beyond { self.old.beyond ≡ None }
         ensures { IsAnswered H.start H.publisher seat.old seat.new (asked_by call) result }

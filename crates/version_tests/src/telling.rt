@@ -26,6 +26,9 @@ pub fn publish<R: Wait>(
     let Ok(edits) = plain.next(alloc) else {
         return None;
     };
+    if !publisher.fits(rt, &edits) {
+        return None;
+    }
     let _staged = publisher.stage(edits);
     Some(publisher.publish(rt))
 }

@@ -1,7 +1,7 @@
 //! Published versions of the desk, for readers that wait for nobody.
 //!
-//! [`start`] gives one publisher and its readers. The publisher stages a list of edits and publishes it:
-//! version n is the first desk after the first n lists. A reader enters the version that was published
+//! [`start`] gives one publisher and its readers. The publisher stages a list of edits that fits and publishes
+//! it: version n is the first desk after the first n lists. A reader enters the version that was published
 //! last, looks at its rows, and leaves. A [`Notice`] tells of a version; a reader that learnt it enters
 //! that version or a later one.
 //!
@@ -10,8 +10,10 @@
 //!
 //! ```
 //! let (mut publisher, mut readers) = start(alloc, &rt, Opened::new(), rows, 1)?;
-//! publisher.stage(edits)?;
-//! publisher.publish(&rt);
+//! if publisher.fits(&rt, &edits) {
+//!     publisher.stage(edits)?;
+//!     publisher.publish(&rt);
+//! }
 //! reader.learn(publisher.tell());
 //! let entered = reader.enter()?;
 //! println!(rt; "{} members", entered.rows().count(Kind::Member))?;
@@ -20,11 +22,12 @@
 //! ```
 #![tactic(auto)]
 
+mod edition;
 mod notice;
 mod publisher;
 mod reader;
 mod rule;
-mod shelf;
+mod showing;
 mod starting;
 
 pub use self::notice::{Notice, Opened};

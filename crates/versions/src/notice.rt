@@ -169,7 +169,8 @@ impl Notice {
     pub(crate) fn add(&mut self, head: &Head, edits: &Edits<Edit>) -> bool
         requires room { length self.old.lists < 2 ^ 64 - 1 }
         requires head { head.now ≡ head_of self.old.publisher }
-        ensures { MatchBool result (self.new ≡ record self.old { lists = self.old.lists ++ edits.now ∷ [] }) (Unit {0}) }
+        ensures { MatchBool result
+            (self.new ≡ record self.old { lists = self.old.lists ++ edits.now ∷ [] }) (Unit {0}) }
     {
         let mut seen = self.seen.again();
         let mut offer: Offer<Edits<Edit>, u64, Law, Nothing> = seen.plain::<

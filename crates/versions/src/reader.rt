@@ -4,9 +4,9 @@ ghost use Rattle.std.specs.Prelude.{◌≡◌, ◌⊎◌, length, IfOk, IfErr};
 ghost use mathlib.Core.List.{IsPrefix};
 ghost use Rattle.versions.specs.Published.{after_lists};
 
+use crate::edition::Edition;
 use crate::notice::Notice;
 use crate::rule::{Follows, Looks, Sight};
-use crate::shelf::Shelf;
 use desk_rows::Rows;
 use left_right::reader::{Reader, Reading};
 use std::marker::Model;
@@ -16,7 +16,7 @@ use std::marker::Model;
 /// Contracts see the first desk, and the lists that each later entry has seen.
 #[derive(Drop)]
 pub struct LaneReader {
-    pub(crate) inner: Reader<Shelf, Option<Sight<Rows, Notice>>, Follows>,
+    pub(crate) inner: Reader<Edition, Option<Sight<Rows, Notice>>, Follows>,
     pub(crate) known: Notice,
 }
 
@@ -36,7 +36,7 @@ impl Model for LaneReader {
 ///
 /// Contracts see the first desk, and the lists that lead from it to the rows.
 pub struct Entered {
-    inner: Reading<Shelf, Option<Sight<Rows, Notice>>, Follows>,
+    inner: Reading<Edition, Option<Sight<Rows, Notice>>, Follows>,
 }
 
 impl Model for Entered {

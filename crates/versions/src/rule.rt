@@ -4,8 +4,8 @@ ghost use Rattle.std.specs.Prelude.{None};
 ghost use Rattle.versions.specs.Published.{after_list};
 ghost use Rattle.versions.specs.inner.ReaderRule.{Kept, Sees};
 
+use crate::edition::Edition;
 use crate::notice::Notice;
-use crate::shelf::Shelf;
 use atomic_table::{Join, Split};
 use crossbeam_utils::rule::{Outcome, Protocol};
 use desk_rows::Rows;
@@ -19,7 +19,7 @@ pub struct Sight<S, N> {
 /// What an owner has seen, if anything, goes on to what is shown.
 pub struct Follows;
 
-impl Protocol<Shelf, Option<Sight<Rows, Notice>>> for Follows {
+impl Protocol<Edition, Option<Sight<Rows, Notice>>> for Follows {
     ghost holds = { Kept after_list };
 
     ghost first = { None };
@@ -28,7 +28,7 @@ impl Protocol<Shelf, Option<Sight<Rows, Notice>>> for Follows {
 /// A step that shows a page or looks at it.
 pub struct Looks;
 
-impl Outcome<Shelf, Option<Sight<Rows, Notice>>> for Looks {
+impl Outcome<Edition, Option<Sight<Rows, Notice>>> for Looks {
     ghost then = { Sees after_list };
 }
 

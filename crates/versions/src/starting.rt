@@ -1,22 +1,23 @@
 //! How a publisher is started with its readers.
 
 ghost use Rattle.std.specs.Prelude.{◌≡◌, ◌↔◌, ◌⊎◌, ◌<◌, ◌≤◌, [], Err, All, length, fold, drop, IfOk};
+ghost use Rattle.std.specs.Arc.{arc_value};
 ghost use Rattle.left_right.specs.Sides.{view as sight_of};
-ghost use Rattle.versions.specs.Published.{after_list, new_publisher, new_reader, reader_limit};
-ghost use Rattle.versions.specs.inner.Page.{next_page};
+ghost use Rattle.versions.specs.Published.{new_publisher, new_reader, reader_limit};
 ghost use Rattle.versions.specs.inner.ReaderRule.{IsOf, first_sight, reader_of};
 
+use crate::edition::Edition;
 use crate::notice::{Notice, Opened};
-use crate::publisher::{Lead, Publisher};
+use crate::publisher::Publisher;
 use crate::reader::LaneReader;
 use crate::rule::{Looks, Shares};
-use crate::shelf::{Change, Shelf};
+use crate::showing::{Lead, Showing};
 use desk_rows::Rows;
 use left_right::writer::Writer;
 use std::alloc::{AllocError, Global};
-use std::sync::Wait;
+use std::sync::{Arc, Wait};
 use thiserror::Error;
-use undo_log::Edits;
+use undo_log::{Edits, Listed};
 
 /// How many readers a publisher may have.
 pub const MAX_READERS: usize = 17;
@@ -65,14 +66,23 @@ fn made<R: Wait>(
     ensures readers { IfOk result (λ r. All (λ reader. reader ≡ new_reader opened rows) r.1.items) }
 {
     let (head, notice) = opened.into_parts();
-    let second = Shelf::new(rows.copy(alloc)?, notice.again());
-    let first = Shelf::new(rows, notice.again());
+    let shown = owned(alloc, rows.copy(alloc)?)?;
+    let before = owned(alloc, rows)?;
+    let first = Edition::new(Arc::try_clone(&shown)?, notice.again());
+    let second = Edition::new(Arc::try_clone(&before)?, notice.again());
     let writer: Lead = Writer::new(alloc, first, second, readers)?;
-    let mut writer = begun(alloc, rt, writer)?;
+    let mut writer = begun(rt, writer)?;
     match seats(alloc, &mut writer, &notice, readers) {
         Ok(lanes) => {
+            let showing = Showing {
+                writer,
+                shown,
+                before,
+                last: Edits::new(Vec::new(alloc)),
+                alloc,
+            };
             let publisher = Publisher {
-                writer: Some(writer),
+                showing: Some(showing),
                 head,
                 notice,
                 staged: None,
@@ -86,8 +96,17 @@ fn made<R: Wait>(
     }
 }
 
+fn owned(alloc: Global, rows: Rows) -> Result<Arc<Listed<Rows>>, AllocError>
+    ensures { IfOk result (λ owned. arc_value owned ≡ rows) }
+{
+    match Arc::new(alloc, Listed::new(rows)) {
+        Ok(owned) => Ok(owned),
+        Err(_) => Err(AllocError),
+    }
+}
+
 // Gives the log its room, and the publisher a sight of the first page.
-fn begun<R: Wait>(alloc: Global, rt: &R, writer: Lead) -> Result<Lead, AllocError>
+fn begun<R: Wait>(rt: &R, writer: Lead) -> Result<Lead, AllocError>
     requires settled { drop writer.behind writer.log.items ≡ [] }
     requires none { writer.desk.shown.value.notice.lists ≡ [] }
     ensures same { IfOk result (λ w. w.desk.shown.value ≡ writer.desk.shown.value) }
@@ -96,30 +115,46 @@ fn begun<R: Wait>(alloc: Global, rt: &R, writer: Lead) -> Result<Lead, AllocErro
 {
     let mut writer = writer;
     for _ in 0..2 {
-        let change = Change {
-            edits: Edits::new(Vec::new(alloc)),
-            notice: writer.published().notice().again(),
-        };
-        if writer.append(change).is_err() {
+        if !repeats(&mut writer) {
             writer.take(rt);
             return Err(AllocError);
         }
     }
-    let writer = turned(rt, writer);
-    Ok(turned(rt, writer))
+    let writer = turned(rt, writer)?;
+    turned(rt, writer)
 }
 
-// Shows the other copy, where what waits changes nothing.
-fn turned<R: Wait>(rt: &R, writer: Lead) -> Lead
-    requires idle { fold (λ page change. next_page after_list page change.edits change.notice)
-        writer.desk.shown.value (drop writer.behind writer.log.items) ≡ writer.desk.shown.value }
-    requires none { writer.desk.shown.value.notice.lists ≡ [] }
-    ensures same { result.desk.shown.value ≡ writer.desk.shown.value }
-    ensures settled { drop result.behind result.log.items ≡ [] }
-    ensures seen { sight_of result.desk.place ≡ first_sight writer.desk.shown.value }
+// Appends the edition that is shown.
+fn repeats(writer: &mut Lead) -> bool
+    requires idle { fold (λ before next. next) writer.old.desk.shown.value (drop writer.old.behind writer.old.log.items)
+        ≡ writer.old.desk.shown.value }
+    ensures same { writer.new.desk ≡ writer.old.desk }
+    ensures idle { fold (λ before next. next) writer.new.desk.shown.value (drop writer.new.behind writer.new.log.items)
+        ≡ writer.new.desk.shown.value }
 {
-    let (writer, _) = writer.publish_as::<Looks, R>(rt);
-    writer
+    match writer.published().again() {
+        Ok(edition) => writer.append(edition).is_ok(),
+        Err(_) => false,
+    }
+}
+
+// Shows the other side, where what waits changes nothing.
+fn turned<R: Wait>(rt: &R, writer: Lead) -> Result<Lead, AllocError>
+    requires idle { fold (λ before next. next) writer.desk.shown.value (drop writer.behind writer.log.items)
+        ≡ writer.desk.shown.value }
+    requires none { writer.desk.shown.value.notice.lists ≡ [] }
+    ensures same { IfOk result (λ w. w.desk.shown.value ≡ writer.desk.shown.value) }
+    ensures settled { IfOk result (λ w. drop w.behind w.log.items ≡ []) }
+    ensures seen { IfOk result (λ w. sight_of w.desk.place ≡ first_sight writer.desk.shown.value) }
+{
+    let (writer, shown) = writer.publish_as::<Looks, R>(rt);
+    match shown {
+        Ok(()) => Ok(writer),
+        Err(error) => {
+            writer.take(rt);
+            Err(error)
+        }
+    }
 }
 
 fn seats(
@@ -132,7 +167,8 @@ fn seats(
     ensures same { (writer.new.desk.shown ≡ writer.old.desk.shown) × (writer.new.log ≡ writer.old.log)
         × (writer.new.behind ≡ writer.old.behind) × (sight_of writer.new.desk.place ≡ sight_of writer.old.desk.place) }
     ensures count { IfOk result (λ lanes. length lanes.items ≡ readers) }
-    ensures lanes { IfOk result (λ lanes. All (λ l. l ≡ reader_of notice.now (sight_of writer.old.desk.place)) lanes.items) }
+    ensures lanes { IfOk result (λ lanes.
+        All (λ l. l ≡ reader_of notice.now (sight_of writer.old.desk.place)) lanes.items) }
 {
     let mut lanes = Vec::with_capacity(alloc, readers)?;
     for _ in 0..readers {

@@ -18,7 +18,8 @@ pub fn enters_twice(
     requires publisher { notice.publisher ≡ reader.publisher }
     ensures later { IfOk result (λ r. r.0.version ≤ r.1.version) }
     ensures told { IfOk result (λ r. length notice.lists ≤ r.1.version) }
-    ensures first { IfOk result (λ r. r.0.rows ≡ count_of kind (after_lists reader.start (take r.0.version r.2.lists))) }
+    ensures first { IfOk result (λ r.
+        r.0.rows ≡ count_of kind (after_lists reader.start (take r.0.version r.2.lists))) }
     ensures second { IfOk result (λ r. r.1.rows ≡ count_of kind (after_lists reader.start r.2.lists)) }
 {
     let one = handle(reader, kind)?;

@@ -32,6 +32,9 @@ fn filled<R: Wait>(rt: &R, alloc: Global, publisher: &mut Publisher) -> io::Resu
     requires lists { publisher.old.lists ≡ [] }
 {
     let edits = fills(alloc)?;
+    if !publisher.fits(rt, &edits) {
+        return Err(io::Error::other("the rows do not fit"));
+    }
     let _staged = publisher.stage(edits);
     publisher.publish(rt);
     Ok(())

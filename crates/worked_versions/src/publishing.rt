@@ -1,6 +1,9 @@
 //! What a publisher has published.
 
 ghost use Rattle.std.specs.Prelude.{◌≡◌, ◌∷◌, [], true, Some, None};
+ghost use Rattle.undo_log.specs.Timeline.{all_fit};
+ghost use Rattle.desk_rows.specs.Exchange.{fits, after};
+ghost use Rattle.versions.specs.Published.{after_list, after_lists};
 
 use desk_rows::Edit;
 use std::sync::Wait;
@@ -15,6 +18,7 @@ pub fn publishes_version_1<R: Wait>(
 ) -> Option<u64>
     requires none { publisher.old.staged ≡ None }
     requires lists { publisher.old.lists ≡ [] }
+    requires fit { all_fit fits after publisher.old.start edits ≡ true }
     ensures lists { publisher.new.lists ≡ edits ∷ [] }
     ensures version { result ≡ Some 1 }
     ensures same { (publisher.new.publisher ≡ publisher.old.publisher) × (publisher.new.start ≡ publisher.old.start) }
@@ -33,6 +37,8 @@ pub fn publishes_two<R: Wait>(
 ) -> Notice
     requires none { publisher.old.staged ≡ None }
     requires lists { publisher.old.lists ≡ [] }
+    requires first { all_fit fits after publisher.old.start first ≡ true }
+    requires second { all_fit fits after (after_list publisher.old.start first) second ≡ true }
     ensures told { result.lists ≡ first ∷ second ∷ [] }
     ensures publisher { result.publisher ≡ publisher.old.publisher }
     ensures start { publisher.new.start ≡ publisher.old.start }
@@ -46,6 +52,7 @@ pub fn publishes_two<R: Wait>(
 /// A list that is staged isn't published yet, and it isn't handed back.
 pub fn stages(publisher: &mut Publisher, edits: Edits<Edit>) -> bool
     requires none { publisher.old.staged ≡ None }
+    requires fit { all_fit fits after (after_lists publisher.old.start publisher.old.lists) edits ≡ true }
     ensures taken { result ≡ true }
     ensures lists { publisher.new.lists ≡ publisher.old.lists }
 {

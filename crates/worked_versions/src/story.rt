@@ -45,8 +45,9 @@ fn told_of<R: Threads + Wait + Print + Sync>(
     requires lists { publisher.old.lists ≡ [] }
 {
     let reader = look(rt, reader)?;
-    let version = published(rt, publisher, puts_rooms(alloc, 1, 2)?);
-    println!(rt; "published version {version}")?;
+    if let Some(version) = published(rt, publisher, puts_rooms(alloc, 1, 2)?) {
+        println!(rt; "published version {version}")?;
+    }
     let reader = look(rt, reader)?;
     let (all, (wrong, reader)) = join(
         rt,
@@ -58,17 +59,21 @@ fn told_of<R: Threads + Wait + Print + Sync>(
     look(rt, reader)
 }
 
-fn published<R: Wait>(rt: &R, publisher: &mut Publisher, edits: Edits<Edit>) -> u64
+/// Publishes the list, if it fits.
+fn published<R: Wait>(rt: &R, publisher: &mut Publisher, edits: Edits<Edit>) -> Option<u64>
     requires none { publisher.old.staged ≡ None }
     requires few { length publisher.old.lists < 1000 }
     ensures none { publisher.new.staged ≡ None }
-    ensures more { length publisher.new.lists ≡ length publisher.old.lists + 1 }
+    ensures more { length publisher.new.lists ≤ length publisher.old.lists + 1 }
 {
+    if !publisher.fits(rt, &edits) {
+        return None;
+    }
     let _staged = publisher.stage(edits);
-    publisher.publish(rt)
+    Some(publisher.publish(rt))
 }
 
-/// Publishes a list for each further room, and says whether memory sufficed.
+/// Publishes a list for each further room, and says whether each list fit and memory sufficed.
 fn publish_all<R: Wait>(rt: &R, alloc: Global, publisher: &mut Publisher) -> bool
     requires none { publisher.old.staged ≡ None }
     requires few { length publisher.old.lists ≤ 1 }
@@ -77,7 +82,9 @@ fn publish_all<R: Wait>(rt: &R, alloc: Global, publisher: &mut Publisher) -> boo
         let Ok(edits) = puts_rooms(alloc, 3 + n, 3 + n) else {
             return false;
         };
-        published(rt, publisher, edits);
+        if published(rt, publisher, edits).is_none() {
+            return false;
+        }
     }
     true
 }

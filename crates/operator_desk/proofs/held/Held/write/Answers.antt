@@ -1,10 +1,11 @@
-use Rattle.std.proofs.Common.{◌≡◌, ◌<◌, ◌+◌, ◌++◌, ◌∷◌, [], length, vec_len, vec_capacity, rules, sym, ap, subst, ◌∙◌, arith, refl, None, Some, length-append}
+use Rattle.std.proofs.Common.{◌≡◌, true, ◌<◌, ◌+◌, ◌++◌, ◌∷◌, [], length, vec_len, vec_capacity, rules, sym, ap, subst, ◌∙◌, arith, refl, None, Some, length-append}
 use Rattle.std.specs.Prelude.{slice_get}
 use Rattle.desk_edit.specs.Asked.{CallOf, asked_by}
 use Rattle.desk_edit.specs.Calls.{call_limit, refusal_of, after_call}
 use Rattle.desk_calls.specs.Desk.{Does}
+use Rattle.desk_calls.specs.Edits.{fits}
 use Rattle.desk_calls.specs.Following.{HasCalled}
-use Rattle.versions.specs.Published.{NoticeOf}
+use Rattle.versions.specs.Published.{NoticeOf, after_lists}
 use Rattle.operator_desk.specs.declared.answer.Why.TheVariants.{LogTaken}
 use Rattle.operator_desk.specs.Entry.{EntryOf}
 use Rattle.operator_desk.specs.LegalLogs.{after_log, IsLegal}
@@ -14,11 +15,21 @@ use Rattle.operator_desk.specs.Seats.{SeatOf}
 use Rattle.operator_desk.specs.Answers.{Tells}
 use Rattle.operator_desk.specs.inner.Held.{HeldOf, IsHeld, Leads}
 use Rattle.operator_desk.specs.inner.Tokens.{shown, shown_next}
-use Rattle.operator_desk.proofs.LogLemmas.{accepted-log, held-push, own_numbers}
+use Rattle.operator_desk.proofs.LogLemmas.{accepted-log, desks-all, held-push, own_numbers}
 use Rattle.operator_desk.proofs.TokenLemmas.{tokens-push, none_shown, length-shown, shown-push, is_there}
 use Rattle.operator_desk.proofs.AnswerLemmas.{refused, accepted}
 use Rattle.operator_desk.proofs.held.Held.write.Given
 use Rattle.operator_desk.proofs.held.Held.write.Goals as goal
+
+-- the publisher's desk is the one that the edits fit
+pub stage-requires-clause-fit : goal.stage-requires-clause-fit
+stage-requires-clause-fit g c =
+    let held = c.self.invariant.3 in
+    let edition = c.self.inside.publisher in
+    let start = g.H.Hall.start in
+    let fit = subst (λ (h : HeldOf). fits h.desk.desk c.args.edits ≡ true) (sym c.self.view_is) c.requires.fit in
+    let now = desks-all start (shown c.self.inside.entries.items) edition.lists held.desks ∙ sym held.called.desk in
+    ap (λ d. fits (after_lists d edition.lists) c.args.edits) held.first ∙ (ap (λ d. fits d c.args.edits) now ∙ fit)
 
 pub write-requires : goal.write-requires
 write-requires g c =

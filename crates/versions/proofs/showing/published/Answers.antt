@@ -1,0 +1,15 @@
+use Rattle.std.proofs.Common.{◌≡◌, ◌++◌, ◌∷◌, [], sym, ap, ◌∙◌, fold}
+use Rattle.versions.specs.Published.{after_list}
+use Rattle.versions.specs.inner.Page.{Page}
+use Rattle.versions.proofs.ReaderSteps.{shows}
+use Rattle.versions.proofs.showing.published.Goals as goal
+
+pub publish_as-next-requires : goal.publish_as-next-requires
+publish_as-next-requires g c next is =
+    let (shown, seen, waits) = c.loop.invariant in
+    let edits = c.args.edits.now in
+    let leads : next ≡ c.args.edition = is ∙ ap (fold (λ (x y : Page). y) c.loop.writer.desk.shown.value) waits in
+    shows after_list _ _ c.loop.writer.desk.shown.value next edits
+    (ap (λ (p : Page). p.notice.publisher) leads ∙ (c.requires.publisher ∙ ap (λ (p : Page). p.notice.publisher) (sym shown)))
+    (ap (λ (p : Page). p.notice.lists) leads ∙ (c.requires.lists ∙ ap (λ (p : Page). p.notice.lists ++ edits ∷ []) (sym shown)))
+    (ap (λ (p : Page). p.desk) leads ∙ (ap (λ (p : Page). p.desk) c.requires.page ∙ ap (λ (p : Page). after_list p.desk edits) (sym shown)))

@@ -1,0 +1,16 @@
+use Rattle.std.proofs.Common.{◌≡◌, sym, ap, subst, ◌∙◌, fold}
+use Rattle.left_right.specs.Register.{TurnsAt}
+use Rattle.left_right.specs.Sides.{view as sight_of}
+use Rattle.versions.specs.Published.{after_list}
+use Rattle.versions.specs.inner.Page.{Page}
+use Rattle.versions.specs.inner.ReaderRule.{Kept, Sees}
+use Rattle.versions.proofs.ReaderSteps.{looks}
+use Rattle.versions.proofs.showing.repeated.Goals as goal
+
+pub publish_as-next-requires : goal.publish_as-next-requires
+publish_as-next-requires g c next is =
+    let (shown, seen, waits) = c.loop.invariant in
+    let w = c.loop.writer in
+    let same : next ≡ w.desk.shown.value = is ∙ (ap (fold (λ (x y : Page). y) w.desk.shown.value) waits ∙ sym shown) in
+    let P : Page → Type 0 = λ y. TurnsAt (Kept after_list) w.desk.place.id (sight_of w.desk.place) w.desk.shown.value y (Sees after_list) in
+    subst P (sym same) (looks after_list _ _ _)
