@@ -1,8 +1,8 @@
 //! A pace for lanes that sleep while there is nothing to do.
 //!
-//! Begin with a [`Bell`] for each lane. [`Rung`] is its pace. After each accepted `Bridge::push` ring the bell, and open
-//! it before the lane gets its `End`. A lane whose bell is silent takes no processor time. Before a lane sleeps it tells
-//! whoever takes what the lanes give: by [`Rouse`].
+//! Begin with a [`Bell`] for each lane. [`Rung`] is its pace. After each accepted `Bridge::push` ring the bell, and
+//! open it before the lane gets its `End`. A lane whose bell is silent takes no processor time. Before a lane sleeps
+//! it tells whoever takes what the lanes give: by [`Rouse`].
 //!
 //! ```
 //! let bell = Arc::new(alloc, Bell::new())?;
