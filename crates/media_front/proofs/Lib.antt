@@ -1,6 +1,10 @@
 pub mod PlaceLemmas
 pub mod GiveLemmas
 pub mod TryLemmas
+pub mod PaidLemmas
+pub mod GrantLemmas
+pub mod UpLemmas
+pub mod NumberLemmas
 pub mod ItemLemmas
 pub mod TickLemmas
 pub mod FaultLemmas

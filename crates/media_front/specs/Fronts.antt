@@ -1,5 +1,5 @@
 -- The front of a bridge whose lanes run on threads (own).
-use Rattle.std.specs.Prelude.{◌≡◌, ◌⊎◌, ℕ, zero, suc, List, [], ◌++◌, Option, option_to_list}
+use Rattle.std.specs.Prelude.{◌≡◌, ◌⊎◌, ℕ, zero, suc, List, [], ◌++◌, length, Option, option_to_list}
 use Rattle.rtp_codec.specs.declared.address.Address.{Address}
 use Rattle.desk_rows.specs.Desk.{Desk}
 use Rattle.intake.specs.Intakes.{TakesIn, Tells}
@@ -7,17 +7,21 @@ use Rattle.intake.specs.Inputs.{Input}
 use Rattle.intake.specs.Ingested.{Ingested}
 use Rattle.intake.specs.inner.Holding.{IntakeOf}
 use Rattle.intake.specs.declared.outcome.Outcome.{Outcome}
+use Rattle.flood_guard.specs.declared.account.Account.{Account}
 use Rattle.udp_front.specs.declared.pacing.Ticks.{Ticks}
 use Rattle.udp_front.specs.declared.pacing.ReportTimer.{ReportTimer}
 use Rattle.udp_front.specs.Attempts.{Attempt}
 use Rattle.udp_front.specs.Pacing.{tick_due, after_tick}
 use Rattle.media_front.specs.FedLanes.{FedLane, AreGiven, AllAreGiven}
 use Rattle.media_front.specs.Tries.{WereTried}
+use Rattle.media_front.specs.Paid.{credited, paid_of, after_paying}
+use Rattle.media_front.specs.Granted.{granted_of, after_asking}
 
--- a front: the sources that it knows, its lanes, and when ticks and reports are due
+-- a front: the sources that it knows, its lanes, the accounts of its flood guard, and when ticks and reports are due
 pub record FrontOf (P : Type 0) : Type 0 where
   pub intake : IntakeOf
   pub feed : List (FedLane P)
+  pub guard : List Account
   pub ticks : Ticks
   pub reports : ReportTimer
 
@@ -34,14 +38,29 @@ Takes arrival ingested old new =
     TakesIn old new ingested arrival.octets
     (λ r. record { desk = arrival.desk; from = arrival.from; moment = arrival.moment; reading = r })
 
--- The intake took the datagram in, what goes up was tried on the wire, and then every lane was given each item.
+-- the accounts once the datagram has earned its credit
+abbrev pub once_earned : Arrival → Ingested → List Account → List Account
+once_earned arrival ingested accounts = credited ingested.outcome arrival.from (length arrival.octets) accounts
+
+-- the accounts once what goes up is paid for, too
+abbrev pub once_paid : Arrival → Ingested → List Account → List Account
+once_paid arrival ingested accounts = after_paying ingested.up (once_earned arrival ingested accounts)
+
+-- the accounts once the numbers that are asked for were granted, too
+abbrev pub once_asked : Arrival → Ingested → List Account → List Account
+once_asked arrival ingested accounts = after_asking arrival.moment ingested.items (once_paid arrival ingested accounts)
+
+-- The intake took the datagram in, and it earned its credit. What goes up and is paid for was tried on the wire. Then
+-- every lane was given each item, requests cut at the numbers that are granted.
 pub record HasTaken {P : Type 0} (arrival : Arrival) (outcome : Outcome) (old new : FrontOf P)
     (before after : Option (List Attempt)) : Type 0 where
   pub ingested : Ingested
   pub became : ingested.outcome ≡ outcome
   pub takes : Takes arrival ingested old.intake new.intake
-  pub up : WereTried ingested.up before after
-  pub items : AllAreGiven ingested.items old.feed new.feed
+  pub up : WereTried (paid_of ingested.up (once_earned arrival ingested old.guard)) before after
+  pub items : AllAreGiven (granted_of arrival.moment ingested.items (once_paid arrival ingested old.guard))
+      old.feed new.feed
+  pub guard : new.guard ≡ once_asked arrival ingested old.guard
 
 -- The intake is as it was, or has taken the datagram in.
 abbrev pub MayHaveTaken : Arrival → IntakeOf → IntakeOf → Type 0

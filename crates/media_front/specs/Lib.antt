@@ -1,6 +1,10 @@
 pub mod FedLanes
 pub mod Tries
+pub mod Paid
+pub mod Granted
 pub mod Fronts
+pub mod Upward
+pub mod Numbers
 pub mod LaneFaults
 pub mod Carried
 pub mod inner

@@ -19,9 +19,11 @@ ghost use Rattle.media_front.specs.Fronts.{HasTaken, MayHaveTaken, HasReported, 
 use crate::beat::Beat;
 use crate::feed::LaneFeed;
 use crate::giving::copies_of_all;
+use crate::paying::{credit, try_paid};
 use crate::trying::try_all;
 use bridge_core::{Egress, Intake, Outcome};
 use desk_rows::Rows;
+use flood_guard::FloodGuard;
 use media_workers::{LaneEnd, Pace, PublisherName};
 use rtp_codec::Address;
 use rtrb::Producer;
@@ -35,13 +37,14 @@ use versions::Notice;
 /// How many ticks are made up for at most.
 const MOST_TICKS: u32 = 50;
 
-/// The front of a bridge whose lanes run on threads: the receive side, the lanes, and when ticks and reports are due.
-/// It is not `Drop`: end it by [`MediaFront::close`].
+/// The front of a bridge whose lanes run on threads: the receive side, the lanes, the flood guard, and when ticks and
+/// reports are due. It is not `Drop`: end it by [`MediaFront::close`].
 ///
-/// Contracts see these four. Moments are nanoseconds since 1970.
+/// Contracts see these five. Moments are nanoseconds since 1970.
 pub struct MediaFront<N: PublisherName, P: Pace> {
     intake: Intake,
     feed: LaneFeed<N, P>,
+    guard: FloodGuard,
     ticks: Ticks,
     reports: ReportTimer,
 }
@@ -51,15 +54,22 @@ impl<N: PublisherName, P: Pace> Model for MediaFront<N, P> {
 
     ghost Value = { FrontOf P };
 
-    ghost view = { λ f. record { intake = f.intake; feed = f.feed; ticks = f.ticks; reports = f.reports } };
+    ghost view = { λ f. record {
+      intake = f.intake;
+      feed = f.feed;
+      guard = f.guard;
+      ticks = f.ticks;
+      reports = f.reports;
+    } };
 }
 
 impl<N: PublisherName, P: Pace> MediaFront<N, P> {
     /// A front whose ticks and reports are counted from `start`.
-    pub fn new(intake: Intake, feed: LaneFeed<N, P>, start: u64) -> Self
+    pub fn new(intake: Intake, feed: LaneFeed<N, P>, guard: FloodGuard, start: u64) -> Self
         ensures { result ≡ record {
           intake = intake;
           feed = feed;
+          guard = guard;
           ticks = record { start = start; had = 0 };
           reports = record { last = start };
         } }
@@ -67,6 +77,7 @@ impl<N: PublisherName, P: Pace> MediaFront<N, P> {
         Self {
             intake,
             feed,
+            guard,
             ticks: Ticks { start, had: 0 },
             reports: ReportTimer { last: start },
         }
@@ -80,8 +91,13 @@ impl<N: PublisherName, P: Pace> MediaFront<N, P> {
         self.feed.tell(notice);
     }
 
-    /// Takes in a datagram that came from an address at a moment. The rows say whose it is. Tries to send what the
-    /// intake asks its sender for, in order, and then gives every lane each item.
+    /// Takes in a datagram that came from an address at a moment. The rows say whose it is. Then, in this order:
+    ///
+    /// - A datagram of a member earns the credit of its octets.
+    /// - The front tries to send what the intake asks the sender for, in order. Each of these datagrams costs its
+    ///   octets. One that its address has too little credit for is dropped.
+    /// - Every lane is given each item. A NACK is cut at the numbers that the guard grants it, the first ones. It is
+    ///   left out where the guard grants none.
     ///
     /// On out of memory, the only error, nothing is sent, and no lane is given an item; the intake may have taken the
     /// datagram in.
@@ -102,13 +118,16 @@ impl<N: PublisherName, P: Pace> MediaFront<N, P> {
         ensures intake { OnErr result (MayHaveTaken
             (record { desk = rows.now; from = from.now; moment = moment; octets = octets.now })
             self.old.intake self.new.intake) }
-        ensures same { self.new ≡ record self.old { intake = self.new.intake; feed = self.new.feed } }
+        ensures same { self.new
+            ≡ record self.old { intake = self.new.intake; feed = self.new.feed; guard = self.new.guard } }
         ensures asker { self.new.intake.asker ≡ self.old.intake.asker }
     {
         let ingest = self.intake.datagram(alloc, rows, from, moment, octets)?;
         let copies = copies_of_all(alloc, &ingest.items, self.feed.count())?;
-        try_all(&ingest.up, wire);
-        self.feed.hand_out_all(&ingest.items, copies);
+        credit(&mut self.guard, ingest.outcome, from, octets.len() as u64);
+        try_paid(&mut self.guard, &ingest.up, wire);
+        self.feed
+            .hand_out_all(&mut self.guard, moment, &ingest.items, copies);
         Ok(ingest.outcome)
     }
 
@@ -139,6 +158,8 @@ impl<N: PublisherName, P: Pace> MediaFront<N, P> {
 
     /// Where 5 s have passed since the last report or the start: tries to send the receiver reports, in order, and then
     /// gives every lane a report. Tells whether it did.
+    ///
+    /// Reports cost no credit. They answer no datagram, and time bounds them.
     ///
     /// On out of memory, the only error, nothing changes and nothing is sent.
     pub fn report<W: Wire>(
@@ -220,6 +241,7 @@ impl<N: PublisherName, P: Pace> MediaFront<N, P> {
         let MediaFront {
             intake: _,
             feed,
+            guard: _,
             ticks: _,
             reports: _,
         } = self;

@@ -1,18 +1,23 @@
 //! How items are given to every lane.
 
-ghost use Rattle.std.specs.Prelude.{◌≡◌, ◌<◌, true, length, map, Some, IfOk, OnOk, OnErr, slice_get, slice_set, vec_len};
+ghost use Rattle.std.specs.Prelude.{◌≡◌, ◌<◌, true, length, map, Some, IfOk, OnOk, OnErr};
+ghost use Rattle.std.specs.Prelude.{slice_get, slice_set, vec_len};
 ghost use Rattle.std.specs.List.{list_all, AllZip};
 ghost use Rattle.std.specs.declared.alloc.Global.{Global as Heap};
 ghost use Rattle.std.specs.declared.vec.Vec.{Vec as Row};
 ghost use Rattle.intake.specs.Inputs.{input_of, is_sized};
 ghost use Rattle.intake.specs.declared.item.Item.{Item as AnItem};
 ghost use Rattle.media_front.specs.FedLanes.{FedLane, IsGiven, AreGiven, AllAreGiven};
+ghost use Rattle.media_front.specs.Granted.{asked_count, granted_count, after_ask, cut_at, as_granted};
+ghost use Rattle.media_front.specs.Granted.{granted_of, after_asking};
 ghost use Rattle.media_front.specs.inner.Beats.{input_at};
 ghost use Rattle.media_front.specs.inner.Copies.{AreCopies};
 
 use crate::beat::Beat;
 use crate::feed::LaneFeed;
+use crate::granting::{cut_at, granted_count, is_left_out};
 use bridge_core::Item;
+use flood_guard::FloodGuard;
 use media_workers::{Pace, Parcel, PublisherName};
 use std::alloc::{AllocError, Global};
 
@@ -58,31 +63,62 @@ impl<N: PublisherName, P: Pace> LaneFeed<N, P> {
         self.tallies[lane].count(accepted);
     }
 
-    /// Gives every lane one of these copies of an item.
-    fn hand_out(&mut self, item: &Item, copies: Vec<Item>)
+    /// Gives every lane one of these copies of an item, cut at what is granted of it.
+    fn hand_out(&mut self, item: &Item, granted: Option<u64>, copies: Vec<Item>)
         requires copies { AreCopies (length self.old) (input_of item.now) copies.items }
         requires sized { is_sized (input_of item.now) ≡ true }
-        ensures { AreGiven self.old (input_of item.now) self.new }
+        ensures { AreGiven self.old (cut_at granted (input_of item.now)) self.new }
     {
         let mut lane = 0;
         for copy in copies {
-            self.give_one(lane, copy);
+            self.give_one(lane, cut_at(copy, granted));
             lane += 1;
         }
     }
 
-    /// Gives every lane one of the copies of each item, one item after another.
-    pub(crate) fn hand_out_all(&mut self, items: &[Item], all: Vec<Vec<Item>>)
+    /// Gives every lane one of these copies of an item, cut at what the guard grants. An item of which numbers were
+    /// asked for and none is granted is left out.
+    fn hand_out_granted(
+        &mut self,
+        guard: &mut FloodGuard,
+        moment: u64,
+        item: &Item,
+        copies: Vec<Item>,
+    )
+        requires copies { AreCopies (length self.old) (input_of item.now) copies.items }
+        requires sized { is_sized (input_of item.now) ≡ true }
+        ensures given { AllAreGiven
+            (as_granted (granted_count moment (asked_count (input_of item.now)) guard.old) (input_of item.now))
+            self.old self.new }
+        ensures guard { guard.new ≡ after_ask moment (asked_count (input_of item.now)) guard.old }
+        ensures lanes { length self.new ≡ length self.old }
+    {
+        let granted = granted_count(guard, moment, item);
+        if is_left_out(granted) {
+            return;
+        }
+        self.hand_out(item, granted, copies);
+    }
+
+    /// Gives every lane one of the copies of each item that the guard grants, one item after another.
+    pub(crate) fn hand_out_all(
+        &mut self,
+        guard: &mut FloodGuard,
+        moment: u64,
+        items: &[Item],
+        all: Vec<Vec<Item>>,
+    )
         requires copies { AllZip (λ (item : AnItem Heap) (row : Row (AnItem Heap) Heap).
             AreCopies (length self.old) (input_of item) row.items) items.now all.items }
         requires sized { list_all is_sized (map input_of items.now) ≡ true }
-        ensures { AllAreGiven (map input_of items.now) self.old self.new }
+        ensures given { AllAreGiven (granted_of moment (map input_of items.now) guard.old) self.old self.new }
+        ensures guard { guard.new ≡ after_asking moment (map input_of items.now) guard.old }
     {
         let mut at = 0;
         for copies in all {
             let is_item = at < items.len();
             prove!(is_item);
-            self.hand_out(&items[at], copies);
+            self.hand_out_granted(guard, moment, &items[at], copies);
             at += 1;
         }
     }

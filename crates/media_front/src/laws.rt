@@ -1,12 +1,21 @@
-//! What a lane was told of, or will be.
+//! Laws: what a lane was told of, or will be; what goes up to an address, and what an address asks for again. The
+//! functions do nothing when they run.
 
-ghost use Rattle.std.specs.Prelude.{◌≡◌, List, Some, None};
+ghost use Rattle.std.specs.Prelude.{◌≡◌, ◌≤◌, ◌+◌, ◌*◌, ℕ, List, [], Some, None};
+ghost use Rattle.rtp_codec.specs.declared.address.Address.{Address as AnAddress};
 ghost use Rattle.desk_rows.specs.Edit.{EditOf};
 ghost use Rattle.versions.specs.Published.{NoticeOf};
 ghost use Rattle.intake.specs.Inputs.{Input};
+ghost use Rattle.intake.specs.Ingested.{Ingested};
+ghost use Rattle.flood_guard.specs.Accounts.{new_credit, most_asked};
+ghost use Rattle.flood_guard.specs.Steps.{entries};
 ghost use Rattle.media_front.specs.FedLanes.{FedLane, IsGiven, told};
+ghost use Rattle.media_front.specs.Fronts.{Arrival};
+ghost use Rattle.media_front.specs.Upward.{octets_in, octets_up, steps_over};
+ghost use Rattle.media_front.specs.Numbers.{numbers_given, CameInOrder};
 ghost use Rattle.media_front.specs.Carried.{HasCarried, IsTold};
 
+use flood_guard::{amplification_is_bounded, asks_are_bounded};
 use media_workers::Pace;
 
 /// A lane that was told of publishes is owed the notice of them until it accepts it with a parcel, and has it from then
@@ -18,3 +27,24 @@ pub fn owed_notices_are_carried<P: Pace>()
     ensures ends { (lists : List (List EditOf)) (x : FedLane P) →
         IsTold lists x → x.owed ≡ None → HasCarried lists x }
 {}
+
+/// A law over all datagrams that a front took in, from a new guard on. What went up to an address has at most 1.5
+/// octets for each octet that came from it, and 256 for each time that it was entered. Reports are not counted here.
+///
+/// An address is entered when a member's datagram comes from it, and again when it was forgotten: `FloodGuard` says
+/// when.
+pub fn control_up_is_bounded()
+    ensures { (address : AnAddress) (run : List (Arrival × Ingested)) → octets_up address run [] * 2
+        ≤ octets_in address run * 3 + entries address (steps_over run) [] * new_credit * 2 }
+{
+    amplification_is_bounded();
+}
+
+/// A law over all datagrams that a front took in, from a new guard on, if their moments never go back. In each 20 ms the
+/// NACKs that lanes were given of an address have at most 512 numbers for each time that it was entered.
+pub fn numbers_given_are_bounded()
+    ensures { (address : AnAddress) (window : ℕ) (run : List (Arrival × Ingested)) → CameInOrder 0 run
+        → numbers_given address window run [] ≤ entries address (steps_over run) [] * most_asked }
+{
+    asks_are_bounded();
+}

@@ -11,7 +11,7 @@
 //!
 //! ```
 //! let feed = LaneFeed::start(rt, alloc, readers, &settings, &waker)?;
-//! let mut media = MediaFront::new(Intake::new(alloc, settings)?, feed, start);
+//! let mut media = MediaFront::new(Intake::new(alloc, settings)?, feed, FloodGuard::new(alloc)?, start);
 //! media.tell(desk.notice(rt));
 //! media.datagram(alloc, entered.rows(), &from, moment, octets, &mut wire)?;
 //! media.tick(moment);
@@ -26,8 +26,10 @@ mod ends;
 mod feed;
 mod front;
 mod giving;
+mod granting;
 mod laws;
 mod naming;
+mod paying;
 mod popping;
 mod starting;
 mod tally;
@@ -36,5 +38,5 @@ mod trying;
 pub use self::ends::fault_of;
 pub use self::feed::LaneFeed;
 pub use self::front::MediaFront;
-pub use self::laws::owed_notices_are_carried;
+pub use self::laws::{control_up_is_bounded, numbers_given_are_bounded, owed_notices_are_carried};
 pub use self::naming::PublisherOf;

@@ -23,7 +23,7 @@ PROGRAMS = {
 }  # fmt: skip
 
 # What nothing runs yet where the prover sees it.
-NOT_YET = {"flood_guard::FloodGuard::new"}
+NOT_YET = set()
 
 FN = re.compile(r"(?P<vis>pub(?:\(crate\))? |)(?:const )?fn (?P<name>\w+)\s*(?:<[^(]*>)?\(")
 IMPL = re.compile(r"^(?:impl|pub trait|trait)\b(?:<[^{]*?>)?\s*(?:[\w:]+(?:<[^{]*>)? for )?(?P<owner>\w+)[^{]*\{", re.M)

@@ -1,4 +1,4 @@
-use Rattle.std.proofs.Common.{◌∙◌, List, ℕ, length, map, Result, Ok, Err, OnErr, ap, sym, subst, refl, inr}
+use Rattle.std.proofs.Common.{◌≡◌, ◌∙◌, List, ℕ, length, map, Result, Ok, Err, OnErr, ap, sym, subst, refl, inr}
 use Rattle.std.specs.List.{AllZip}
 use Rattle.std.specs.declared.alloc.Global.{Global}
 use Rattle.std.specs.declared.vec.Vec.{Vec}
@@ -9,7 +9,10 @@ use Rattle.intake.specs.declared.item.Item.{Item}
 use Rattle.intake.specs.inner.Holding.{IntakeOf}
 use Rattle.media_front.specs.FedLanes.{AllAreGiven}
 use Rattle.media_front.specs.Tries.{WereTried}
-use Rattle.media_front.specs.Fronts.{FrontOf, Arrival, HasTaken, MayHaveTaken}
+use Rattle.flood_guard.specs.declared.account.Account.{Account}
+use Rattle.media_front.specs.Paid.{paid_of, after_paying}
+use Rattle.media_front.specs.Granted.{granted_of, after_asking}
+use Rattle.media_front.specs.Fronts.{FrontOf, Arrival, HasTaken, MayHaveTaken, once_earned, once_paid}
 use Rattle.media_front.specs.inner.Copies.{AreCopies}
 use Rattle.media_front.proofs.front.MediaFront.datagram.Goals as goal
 
@@ -36,14 +39,22 @@ returns-clause-takes g c =
     let here = c.self.inside in
     let arrival : Arrival = record { desk = c.args.rows.now; from = c.args.from.now; moment = c.args.moment; octets = c.args.octets.now } in
     let ingest = c.in_ok-ingest.ingest in
-    let new : FrontOf g.row.P.Denot = record { intake = c.datagram.new.self; feed = c.hand_out_all.new.self; ticks = here.ticks; reports = here.reports } in
+    let new : FrontOf g.row.P.Denot = record { intake = c.datagram.new.self; feed = c.hand_out_all.new.self; guard = c.hand_out_all.new.guard; ticks = here.ticks; reports = here.reports } in
     let before = g.W.Wire.attempts c.args.wire.now in
-    let after = g.W.Wire.attempts c.try_all.new.wire in
+    let after = g.W.Wire.attempts c.try_paid.new.wire in
+    let earned : c.credit.new.guard ≡ once_earned arrival (ingested_of ingest) here.guard = c.credit.ensures in
+    let paid : c.try_paid.new.guard ≡ once_paid arrival (ingested_of ingest) here.guard =
+    subst (λ (xs : List (Address × Vec ℕ Global)). c.try_paid.new.guard ≡ after_paying (map datagram_of xs) c.credit.new.guard) c.deref-2.ensures.value c.try_paid.ensures.guard
+    ∙ ap (after_paying (map datagram_of ingest.up.items)) earned in
     subst (λ (f : FrontOf g.row.P.Denot). HasTaken arrival ingest.outcome f new before after) c.self.view_is
     (record {
       ingested = ingested_of ingest;
       became = refl;
       takes = c.in_ok-ingest.ensures.takes;
-      up = subst (λ (xs : List (Address × Vec ℕ Global)). WereTried (map datagram_of xs) before after) c.deref-2.ensures.value c.try_all.ensures;
-      items = subst (λ (xs : List (Item Global)). AllAreGiven (map input_of xs) here.feed c.hand_out_all.new.self) c.deref-3.ensures.value c.hand_out_all.ensures;
+      up = subst (λ (a : List Account). WereTried (paid_of (map datagram_of ingest.up.items) a) before after) earned
+          (subst (λ (xs : List (Address × Vec ℕ Global)). WereTried (paid_of (map datagram_of xs) c.credit.new.guard) before after) c.deref-2.ensures.value c.try_paid.ensures.tried);
+      items = subst (λ (a : List Account). AllAreGiven (granted_of c.args.moment (map input_of ingest.items.items) a) here.feed c.hand_out_all.new.self) paid
+          (subst (λ (xs : List (Item Global)). AllAreGiven (granted_of c.args.moment (map input_of xs) c.try_paid.new.guard) here.feed c.hand_out_all.new.self) c.deref-3.ensures.value c.hand_out_all.ensures.given);
+      guard = subst (λ (xs : List (Item Global)). c.hand_out_all.new.guard ≡ after_asking c.args.moment (map input_of xs) c.try_paid.new.guard) c.deref-3.ensures.value c.hand_out_all.ensures.guard
+          ∙ ap (after_asking c.args.moment (map input_of ingest.items.items)) paid;
     })

@@ -14,6 +14,7 @@ loop-init g c =
     record {
       few = omega arith;
       intake = refl;
+      guard = refl;
       reports = refl;
       left = ap (λ (n : ℕ). after_ticks n c.self.inside.ticks c.args.now) most;
       given = ([], refl, ap (λ (n : ℕ). ticks_due n c.self.inside.ticks c.args.now) most);
@@ -31,6 +32,7 @@ loop-preserved g c =
     record {
       few = omega (arith, c.loop-test.true);
       intake = k.intake;
+      guard = k.guard;
       reports = k.reports;
       left = k.left ∙ (step.1 ∙ ap (λ (t : Ticks). after_ticks left t now) (sym c.due.ensures.had));
       given = (
@@ -51,12 +53,13 @@ returns-in_default g c =
     let still = same_ticks ticks now (sym c.due.ensures.moment ∙ c.in_default.is) in
     let all : ticks_due c.args.most c.self.inside.ticks now ≡ moments = k.given.2 ∙ (ap (λ (l : List ℕ). moments ++ l) none.0 ∙ append-nil moments) in
     let intake = k.intake ∙ ap (λ f. f.intake) c.self.view_is in
+    let guard = k.guard ∙ ap (λ f. f.guard) c.self.view_is in
     let reports = k.reports ∙ ap (λ f. f.reports) c.self.view_is in
     record {
       given = subst (λ f. AllAreGiven (map Input.tick (ticks_due c.args.most f.ticks now)) f.feed c.loop.self-inside.feed) c.self.view_is
           (subst (λ (ms : List ℕ). AllAreGiven (map Input.tick ms) c.self.inside.feed c.loop.self-inside.feed) (sym all) k.given.1);
       ticks = c.due.ensures.had ∙ (still ∙ (sym none.1 ∙ (sym k.left ∙ ap (λ f. after_ticks c.args.most f.ticks now) c.self.view_is)));
-      same = same_front c.loop.self-inside.feed _ intake reports;
+      same = same_front c.loop.self-inside.feed _ intake guard reports;
     }
 
 pub returns : goal.returns
@@ -68,10 +71,11 @@ returns g c =
     let zero : c.args.most - c.loop.counter ≡ 0 = omega (arith, c.loop-test.false) in
     let all : ticks_due c.args.most c.self.inside.ticks now ≡ moments = k.given.2 ∙ (ap (λ (n : ℕ). moments ++ ticks_due n ticks now) zero ∙ append-nil moments) in
     let intake = k.intake ∙ ap (λ f. f.intake) c.self.view_is in
+    let guard = k.guard ∙ ap (λ f. f.guard) c.self.view_is in
     let reports = k.reports ∙ ap (λ f. f.reports) c.self.view_is in
     record {
       given = subst (λ f. AllAreGiven (map Input.tick (ticks_due c.args.most f.ticks now)) f.feed c.loop.self-inside.feed) c.self.view_is
           (subst (λ (ms : List ℕ). AllAreGiven (map Input.tick ms) c.self.inside.feed c.loop.self-inside.feed) (sym all) k.given.1);
       ticks = sym (ap (λ (n : ℕ). after_ticks n ticks now) zero) ∙ (sym k.left ∙ ap (λ f. after_ticks c.args.most f.ticks now) c.self.view_is);
-      same = same_front c.loop.self-inside.feed _ intake reports;
+      same = same_front c.loop.self-inside.feed _ intake guard reports;
     }

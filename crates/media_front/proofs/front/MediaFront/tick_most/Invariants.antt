@@ -9,6 +9,7 @@ abbrev pub invariant-loop : goal.invariant-loop
 invariant-loop g l = record {
   few : l.counter ≤ l.most;
   intake : l.self-inside.intake ≡ l.initial.self-inside.intake;
+  guard : l.self-inside.guard ≡ l.initial.self-inside.guard;
   reports : l.self-inside.reports ≡ l.initial.self-inside.reports;
   left : after_ticks l.most l.initial.self-inside.ticks l.now ≡ after_ticks (l.most - l.counter) l.self-inside.ticks l.now;
   given : (moments : List ℕ) × AllAreGiven (map Input.tick moments) l.initial.self-inside.feed l.self-inside.feed

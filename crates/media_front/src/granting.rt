@@ -1,0 +1,91 @@
+//! What lanes are given of what is asked for again.
+
+ghost use Rattle.std.specs.Prelude.{◌≡◌};
+ghost use Rattle.intake.specs.Inputs.{input_of};
+ghost use Rattle.media_front.specs.Granted.{asked_count, granted_count, after_ask, with_first, cut_at, is_left_out};
+
+use bridge_core::Item;
+use flood_guard::FloodGuard;
+use rtp_codec::Address;
+
+/// Who asks for packets again, and for how many numbers.
+fn asked_count(item: &Item) -> Option<(Address, u64)>
+    ensures { result ≡ asked_count (input_of item.now) }
+{
+    match item {
+        Item::Nack { from, numbers, .. } => Some((*from, numbers.len() as u64)),
+        Item::Frame(_)
+        | Item::Audio { .. }
+        | Item::Tick { .. }
+        | Item::Block { .. }
+        | Item::Pli { .. }
+        | Item::Report { .. } => None,
+    }
+}
+
+/// How many of its numbers are granted to an item that asks for packets again.
+pub(crate) fn granted_count(guard: &mut FloodGuard, moment: u64, item: &Item) -> Option<u64>
+    ensures count { result ≡ granted_count moment (asked_count (input_of item.now)) guard.old }
+    ensures guard { guard.new ≡ after_ask moment (asked_count (input_of item.now)) guard.old }
+{
+    match asked_count(item) {
+        Some((from, count)) => Some(guard.ask(&from, moment, count)),
+        None => None,
+    }
+}
+
+/// Whether numbers were asked for, and none is granted.
+pub(crate) fn is_left_out(granted: Option<u64>) -> bool
+    ensures { result ≡ is_left_out granted }
+{
+    match granted {
+        Some(count) => count == 0,
+        None => false,
+    }
+}
+
+/// An item, cut at what is granted of it: its first numbers.
+pub(crate) fn cut_at(item: Item, granted: Option<u64>) -> Item
+    ensures { input_of result ≡ cut_at granted (input_of item) }
+{
+    match granted {
+        Some(count) => with_first(item, count),
+        None => item,
+    }
+}
+
+/// An item with its first numbers, so many, if it asks for packets again.
+fn with_first(item: Item, count: u64) -> Item
+    ensures { input_of result ≡ with_first count (input_of item) }
+{
+    match item {
+        Item::Nack {
+            from,
+            out_ssrc,
+            mut numbers,
+        } => {
+            numbers.truncate(count as usize);
+            Item::Nack {
+                from,
+                out_ssrc,
+                numbers,
+            }
+        }
+        Item::Frame(frame) => Item::Frame(frame),
+        Item::Audio {
+            ssrc,
+            address,
+            ts,
+            samples,
+        } => Item::Audio {
+            ssrc,
+            address,
+            ts,
+            samples,
+        },
+        Item::Tick { moment } => Item::Tick { moment },
+        Item::Block { from, block } => Item::Block { from, block },
+        Item::Pli { from, out_ssrc } => Item::Pli { from, out_ssrc },
+        Item::Report { moment } => Item::Report { moment },
+    }
+}
