@@ -14,8 +14,9 @@ use crate::rounds::{Media, Rounds};
 use crate::serving::serve;
 use crate::sockets::Sockets;
 use crate::stopped::Stopped;
-use crate::waking::FrontWaker;
+use crate::waking::{FrontWaker, LaneWaker};
 use bridge_core::{Intake, Settings};
+use flood_guard::FloodGuard;
 use media_front::{LaneFeed, MediaFront, fault_of};
 use media_workers::StartFault;
 use mio::Waker;
@@ -24,6 +25,7 @@ use operator_threads::Operators;
 use std::alloc::{AllocError, Global};
 use std::marker::Brand;
 use std::net::Net;
+use std::sync::atomic::AtomicBool;
 use std::sync::ledger::Blank;
 use std::sync::{Arc, Wait};
 use std::thread::Threads;
@@ -128,7 +130,19 @@ where
     let waker = FrontWaker(Arc::new(alloc, Waker::new(poll.registry(), WAKER)?)?);
     let sockets = Sockets::new(alloc, poll, udp, tcp)?;
     let moments = Moments::begin(rt)?;
-    let media = media_of(rt, alloc, readers, settings.bridge, &waker, moments.start())?;
+    let has_members = Arc::new(alloc, AtomicBool::new(false))?;
+    let lane_waker = LaneWaker {
+        front: waker.clone()?,
+        has_members: Arc::try_clone(&has_members)?,
+    };
+    let media = media_of(
+        rt,
+        alloc,
+        readers,
+        settings.bridge,
+        &lane_waker,
+        moments.start(),
+    )?;
     let rounds = Rounds {
         alloc,
         sockets,
@@ -136,6 +150,7 @@ where
         reader: own,
         media,
         is_behind: false,
+        has_members,
     };
     Ok((rounds, waker))
 }
@@ -146,7 +161,7 @@ fn media_of<H, R>(
     alloc: Global,
     readers: Vec<LaneReader>,
     settings: Settings,
-    waker: &FrontWaker,
+    waker: &LaneWaker,
     start: u64,
 ) -> Result<Media<H, R>, FrontFault>
 where
@@ -160,8 +175,9 @@ where
         return Err(FrontFault::Io);
     }
     let intake = Intake::new(alloc, settings.try_clone()?)?;
+    let guard = FloodGuard::new(alloc)?;
     match LaneFeed::start(rt, alloc, readers, &settings, waker) {
-        Ok(feed) => Ok(MediaFront::new(intake, feed, start)),
+        Ok(feed) => Ok(MediaFront::new(intake, feed, guard, start)),
         Err(fault) => Err(start_fault(fault)),
     }
 }
@@ -179,6 +195,7 @@ where
         reader: _,
         media,
         is_behind: _,
+        has_members: _,
     } = rounds;
     let dropped = dropped_of(alloc, &media);
     let ends = media.close(rt);
@@ -248,11 +265,7 @@ where
             let done = serve(rt, alloc, &operators, &waker, &mut rounds);
             let lanes = close(rt, alloc, rounds);
             let log = gather(rt, alloc, operators, count);
-            done?;
-            Ok(Stopped {
-                accepted: log?,
-                dropped: lanes?,
-            })
+            Stopped::told(done, lanes, log)
         }
         Err(fault) => {
             desk.end(rt);

@@ -3,14 +3,15 @@
 ghost use Rattle.std.specs.Prelude.{◌≡◌};
 
 use crate::sockets::{Read, Sockets};
-use crate::waking::FrontWaker;
+use crate::waking::LaneWaker;
 use desk_rows::Rows;
 use lane_bell::Rung;
 use media_front::{MediaFront, PublisherOf};
 use mio::net::TcpStream;
 use operator_desk::Hall;
 use std::alloc::Global;
-use std::sync::Wait;
+use std::sync::atomic::{AtomicBool, Ordering};
+use std::sync::{Arc, Wait};
 use std::time::Clock;
 use udp_front::{FrontFault, Moments};
 use versions::{LaneReader, Notice};
@@ -25,7 +26,7 @@ const DATAGRAMS: u32 = 64;
 const SENT: u32 = 4_096;
 
 /// The media of a bridge in hall H, on a runtime R.
-pub(crate) type Media<H, R> = MediaFront<PublisherOf<H>, Rung<R, FrontWaker>>;
+pub(crate) type Media<H, R> = MediaFront<PublisherOf<H>, Rung<R, LaneWaker>>;
 
 /// The front: its sockets, its clock, its own reader of the published desk, and the lanes.
 pub(crate) struct Rounds<H: Hall, R: Wait + Drop> {
@@ -37,6 +38,8 @@ pub(crate) struct Rounds<H: Hall, R: Wait + Drop> {
     pub(crate) media: Media<H, R>,
     /// The last round sent as much as a round may, so that more may wait.
     pub(crate) is_behind: bool,
+    /// Lanes wake the front while it is set.
+    pub(crate) has_members: Arc<AtomicBool, Global>,
 }
 
 impl<H: Hall + Send + Sync + 'static, R: Wait + Clock + Copy + Send + Drop + 'static> Rounds<H, R> {
@@ -80,6 +83,8 @@ impl<H: Hall + Send + Sync + 'static, R: Wait + Clock + Copy + Send + Drop + 'st
 
     /// Takes in the datagrams that wait, the ticks that are due and the reports.
     fn take(&mut self, rt: &R, rows: &Rows) -> Result<(), FrontFault> {
+        self.has_members
+            .store(!rows.members().is_empty(), Ordering::SeqCst);
         for _ in 0..DATAGRAMS {
             if !self.sockets.has_datagrams() {
                 break;

@@ -19,7 +19,7 @@ use udp_front::FrontFault;
 /// How many connections a round accepts at most.
 const CONNECTIONS: u32 = 64;
 
-/// A place and what is read from its connection, or why the connection has none.
+/// A place, and what is read from its connection. A connection for which there is no place or no memory is closed.
 fn seated<'a, H: Hall, R: Net + Wait>(
     rt: &R,
     alloc: Global,
@@ -71,11 +71,12 @@ where
                     let Some(stream) = rounds.next_caller() else {
                         break;
                     };
-                    if let Some((op, caller)) = seated(rt, alloc, operators, stream) {
-                        let talk = move || operators.talk(rt, alloc, op, caller, waker);
-                        if scope.spawn(talk).is_err() {
-                            operators.release(rt, op);
-                        }
+                    let Some((op, caller)) = seated(rt, alloc, operators, stream) else {
+                        continue;
+                    };
+                    let talk = move || operators.talk(rt, alloc, op, caller, waker);
+                    if scope.spawn(talk).is_err() {
+                        operators.release(rt, op);
                     }
                 }
                 done = rounds.round(rt, operators.latest(rt));

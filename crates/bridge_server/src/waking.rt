@@ -4,9 +4,9 @@ use lane_bell::Rouse;
 use mio::Waker;
 use std::alloc::{AllocError, Global};
 use std::sync::Arc;
+use std::sync::atomic::{AtomicBool, Ordering};
 
-/// Ends the front's wait. A lane that has handled all that it was given does so, and an operator whose call was
-/// accepted.
+/// Ends the front's wait, as an operator does whose call was accepted.
 #[derive(Drop)]
 pub(crate) struct FrontWaker(pub(crate) Arc<Waker, Global>);
 
@@ -20,5 +20,31 @@ impl Rouse for FrontWaker {
 impl Clone for FrontWaker {
     fn clone(&self) -> Result<Self, AllocError> {
         Ok(Self(Arc::try_clone(&self.0)?))
+    }
+}
+
+/// Ends the front's wait, as a lane does that has handled all that it was given. While the desk has no members no lane
+/// gives anything, and the front is left alone.
+#[derive(Drop)]
+pub(crate) struct LaneWaker {
+    pub(crate) front: FrontWaker,
+    /// Whether the desk had members in the front's last round.
+    pub(crate) has_members: Arc<AtomicBool, Global>,
+}
+
+impl Rouse for LaneWaker {
+    fn rouse(&self) {
+        if self.has_members.load(Ordering::SeqCst) {
+            self.front.rouse();
+        }
+    }
+}
+
+impl Clone for LaneWaker {
+    fn clone(&self) -> Result<Self, AllocError> {
+        Ok(Self {
+            front: self.front.clone()?,
+            has_members: Arc::try_clone(&self.has_members)?,
+        })
     }
 }
