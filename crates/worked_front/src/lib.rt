@@ -3,5 +3,6 @@
 
 pub mod attempts;
 pub mod feeding;
+pub mod lane_ends;
 pub mod pacing;
 pub mod unread;
