@@ -4,7 +4,7 @@ ghost use Rattle.std.specs.Prelude.{◌≡◌, true, not, refl, IfOk};
 ghost use Rattle.std.proofs.Common.{ap};
 ghost use Rattle.std.proofs.Math.Bool.{not-not};
 
-use linked_list_allocator::LocalHeap;
+use refusing::Refusing;
 use std::alloc::{AllocError, Allocator};
 use std::marker::Model;
 use std::test::Fail;
@@ -116,68 +116,61 @@ fn a_full_log_is_filled_and_undone(rt: HostRuntime) -> Result<(), Fail> {
     Ok(())
 }
 
-/// The fault of a first push over this log, and how many edits are done then.
-fn push_over<'a>(
-    ample: &'a LocalHeap,
-    log: &'a LocalHeap,
-) -> Result<(Option<HistoryFault>, usize), Fail> {
-    let mut history = dark(log);
-    let fault = history.push(switched_by(ample, b"hall")?).err();
-    Ok((fault, history.done_len()))
+/// The fault of a first push whose request of this number is refused, how many edits are done then, and whether the
+/// lamp is on.
+fn push_refused<'a>(
+    heap: &'a Refusing,
+    nth: u64,
+) -> Result<(Option<HistoryFault>, usize, bool), Fail> {
+    let mut history = dark(heap);
+    let edit = switched_by(heap, b"hall")?;
+    heap.refuse(nth);
+    let fault = history.push(edit).err();
+    heap.end(nth);
+    Ok((fault, history.done_len(), history.state().is_on))
 }
 
-/// Logs that grow by 16 octets refuse the growth of each of the two lists, until one is ample.
+/// A first push makes two requests, one for each list. Whichever is refused, nothing changes.
 #[test]
 fn a_refused_growth_changes_nothing(rt: HostRuntime) -> Result<(), Fail> {
-    let ample = LocalHeap::new(rt.alloc(), 1 << 12)?;
-    let mut refused = 0usize;
-    for size in 1..64usize {
-        let log = LocalHeap::new(rt.alloc(), 16 * size)?;
-        let (fault, done) = push_over(&ample, &log)?;
-        if fault.is_none() {
-            break;
-        }
-        assert!(rt; fault == Some(HistoryFault::OutOfMemory) && done == 0);
-        refused = refused.saturating_add(1);
+    let heap = Refusing::new(rt.alloc());
+    for nth in 1..3u64 {
+        let (fault, done, is_on) = push_refused(&heap, nth)?;
+        assert!(rt; fault == Some(HistoryFault::OutOfMemory) && done == 0 && !is_on);
     }
-    assert!(rt; refused > 1 && refused < 63, "refused {refused} times");
+    let (fault, done, is_on) = push_refused(&heap, 3)?;
+    assert!(rt; fault == None && done == 1 && is_on);
     Ok(())
 }
 
-/// The fault of a copy, over this heap, of the edit that an undo would absorb.
-fn undo_edit_over<'a>(
-    ample: &'a LocalHeap,
-    heap: &'a LocalHeap,
-) -> Result<Option<HistoryFault>, Fail> {
-    let _held = Box::new(heap, 0u8)?;
-    let mut history = dark(ample);
-    history.push(switched_by(ample, b"hall")?)?;
-    Ok(history.undo_edit(heap).err())
+/// The fault of a copy of the edit that an undo would absorb, whose request of this number is refused.
+fn undo_edit_refused<'a>(heap: &'a Refusing, nth: u64) -> Result<Option<HistoryFault>, Fail> {
+    let mut history = dark(heap);
+    history.push(switched_by(heap, b"hall")?)?;
+    heap.refuse(nth);
+    let fault = history.undo_edit(heap).err();
+    heap.end(nth);
+    Ok(fault)
 }
 
-/// The fault of a copy, over this heap, of the edit that a redo would absorb.
-fn redo_edit_over<'a>(
-    ample: &'a LocalHeap,
-    heap: &'a LocalHeap,
-) -> Result<Option<HistoryFault>, Fail> {
-    let _held = Box::new(heap, 0u8)?;
-    let mut history = dark(ample);
-    history.push(switched_by(ample, b"hall")?)?;
+/// The fault of a copy of the edit that a redo would absorb, whose request of this number is refused.
+fn redo_edit_refused<'a>(heap: &'a Refusing, nth: u64) -> Result<Option<HistoryFault>, Fail> {
+    let mut history = dark(heap);
+    history.push(switched_by(heap, b"hall")?)?;
     history.undo()?;
-    Ok(history.redo_edit(heap).err())
+    heap.refuse(nth);
+    let fault = history.redo_edit(heap).err();
+    heap.end(nth);
+    Ok(fault)
 }
 
+/// A copy of a switch makes one request, for its name.
 #[test]
 fn a_copy_of_an_edit_can_be_refused(rt: HostRuntime) -> Result<(), Fail> {
-    let ample = LocalHeap::new(rt.alloc(), 1 << 12)?;
-    let small = LocalHeap::new(rt.alloc(), 16)?;
-    let fault = undo_edit_over(&ample, &small)?;
-    assert!(rt;
-        fault == Some(HistoryFault::OutOfMemory) && undo_edit_over(&ample, &ample)? == None
-    );
-    let fault = redo_edit_over(&ample, &small)?;
-    assert!(rt;
-        fault == Some(HistoryFault::OutOfMemory) && redo_edit_over(&ample, &ample)? == None
-    );
+    let heap = Refusing::new(rt.alloc());
+    let fault = undo_edit_refused(&heap, 1)?;
+    assert!(rt; fault == Some(HistoryFault::OutOfMemory) && undo_edit_refused(&heap, 2)? == None);
+    let fault = redo_edit_refused(&heap, 1)?;
+    assert!(rt; fault == Some(HistoryFault::OutOfMemory) && redo_edit_refused(&heap, 2)? == None);
     Ok(())
 }
