@@ -1,6 +1,7 @@
-//! Cases of a bridge on sockets. A case is some lines of standard input: what comes to the bridge, and what it answers.
-//! The program has the sockets of members and operators; the bridge runs on threads of its own. It prints each line that comes
-//! out otherwise, and then the number of lines. Its argument is how many lanes a bridge has where its line does not say.
+//! Cases of a bridge on sockets. A case is some lines of standard input: what comes to the bridge, and what it
+//! answers. The program has the sockets of members and operators; the bridge runs on threads of its own. It prints
+//! each line that comes out otherwise, and then the number of lines. Its argument is how many lanes a bridge has
+//! where its line does not say.
 //!
 //! - `** TEXT`: what the lines behind it show.
 //! - `settings TEXT > ANSWER`: the settings of a text, where `\n` is an LF, or their fault. Settings are
@@ -20,8 +21,8 @@
 //! - `member M`, `leaves M`, `returns M`: member M has a socket, has none any more, has one again at the same port.
 //! - `sends M HEX`: it sends the bridge a datagram of these octets. A space stands for nothing, and `WORD*TIMES` for a
 //!   word so many times.
-//! - `gets M HEX`: the next datagram that comes to it, where a dot stands for any digit. With several lanes it may be any
-//!   later one.
+//! - `gets M HEX`: the next datagram that comes to it, where a dot stands for any digit. With several lanes it may be
+//!   any later one.
 //! - `rounds COUNT`: the bridge goes on for so many turns of 5 ms.
 //! - `stopped`: an operator stops the bridge.
 #![tactic(auto)]
