@@ -48,6 +48,8 @@ pub(crate) struct Peer {
     serial: u64,
     /// When the stage is given up.
     until: u64,
+    /// When octets last went over it, or its stage began.
+    moved: u64,
     ready: bool,
 }
 
@@ -75,6 +77,7 @@ impl Peer {
             stage: Stage::Reading,
             serial,
             until: now.saturating_add(PATIENCE),
+            moved: now,
             ready: true,
         }
     }
@@ -92,6 +95,15 @@ impl Peer {
     /// Whether nothing of its request has come.
     pub(crate) fn is_silent(&self) -> bool {
         self.stage == Stage::Reading && self.request.is_empty()
+    }
+
+    /// Since when nothing has gone over it, unless it waits for the bridge.
+    pub(crate) fn still_since(&self) -> Option<u64> {
+        if self.stage == Stage::Asking {
+            None
+        } else {
+            Some(self.moved)
+        }
     }
 
     /// Its number.
@@ -131,6 +143,7 @@ impl Peer {
     fn enter(&mut self, stage: Stage, now: u64, patience: u64) {
         self.stage = stage;
         self.until = now.saturating_add(patience);
+        self.moved = now;
         self.ready = true;
     }
 
@@ -214,6 +227,7 @@ impl Peer {
             self.stage = Stage::Done;
             return Ok(());
         }
+        self.moved = now;
         self.request.extend_from_slice(octets)?;
         feed(&mut self.connection, octets)?;
         hearing.wanted = None;
@@ -224,19 +238,19 @@ impl Peer {
         } else if !self.connection.wants_read() {
             self.enter(Stage::Writing, now, PATIENCE);
         } else {
-            self.write_some();
+            self.write_some(now);
         }
         Ok(())
     }
 
     /// Writes what the socket takes of what is pending. Tells whether the connection still takes octets.
-    fn write_some(&mut self) -> bool {
+    fn write_some(&mut self, now: u64) -> bool {
         for _ in 0..PIECES {
             if !self.connection.wants_write() {
                 return true;
             }
             match self.connection.write_to(&mut self.stream) {
-                Ok(_) => {}
+                Ok(_) => self.moved = now,
                 Err(error) => match error.kind() {
                     ErrorKind::WouldBlock => {
                         self.ready = false;
@@ -252,7 +266,7 @@ impl Peer {
 
     /// Writes the response. Behind it nothing more is sent.
     fn write(&mut self, now: u64) {
-        if !self.write_some() {
+        if !self.write_some(now) {
             self.stage = Stage::Done;
         } else if !self.connection.wants_write() {
             let _ = self.stream.shutdown(Shutdown::Write);

@@ -9,6 +9,9 @@ use std::alloc::{AllocError, Global};
 /// How many browsers' connections there are at most.
 pub(crate) const PEERS: usize = 32;
 
+/// How many milliseconds nothing has gone over a connection, at least, that a new one takes the place of.
+const STILLNESS: u64 = 1_000;
+
 /// The browsers' connections.
 #[derive(Drop)]
 pub(crate) struct Peers {
@@ -44,8 +47,27 @@ impl Peers {
         }
     }
 
-    /// The place of a new connection: a free one, or that of the oldest connection of which nothing has come.
-    pub(crate) fn place(&self) -> Option<usize> {
+    /// The place of the connection over which nothing has gone for longest, a second at least. One that waits for the
+    /// bridge keeps its place.
+    fn stillest(&self, now: u64) -> Option<usize> {
+        let mut stillest = None;
+        let mut least = u64::MAX;
+        for (at, place) in self.places.iter().enumerate() {
+            if let Some(peer) = place {
+                if let Some(since) = peer.still_since() {
+                    if since < least && since.saturating_add(STILLNESS) <= now {
+                        least = since;
+                        stillest = Some(at);
+                    }
+                }
+            }
+        }
+        stillest
+    }
+
+    /// The place of a new connection: a free one, or else that of the oldest connection of which nothing has come, or
+    /// else that of the one over which nothing has gone for longest, a second at least.
+    pub(crate) fn place(&self, now: u64) -> Option<usize> {
         let mut oldest = None;
         let mut least = u64::MAX;
         for (at, place) in self.places.iter().enumerate() {
@@ -59,7 +81,10 @@ impl Peers {
                 }
             }
         }
-        oldest
+        match oldest {
+            Some(at) => Some(at),
+            None => self.stillest(now),
+        }
     }
 
     /// Puts a new connection to a place.

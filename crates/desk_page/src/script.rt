@@ -5,7 +5,7 @@ pub(crate) const SCRIPT: &[u8] = br##"
 const at = (id) => document.getElementById(id);
 const token = () => document.querySelector('meta[name="desk-token"]').content;
 const EVERY = 250, PATIENCE = 4000;
-let desk = null, shownText = null, drag = null, group = [], seenRows = new Map(), timer = null, asking = false, names = {};
+let desk = null, shownText = null, drag = null, group = [], seenRows = new Map(), looks = new Map(), timer = null, asking = false, names = {};
 try { names = JSON.parse(localStorage.getItem("desk-names")) ?? {}; } catch { names = {}; }
 
 // An element with properties, and children behind one another.
@@ -55,7 +55,7 @@ async function call(line) {
     } else if (text.startsWith("Busy")) {
       notice(`${line}: all seats of the bridge are taken, so nothing was done. The page needs a seat: set operators to one more in the bridge's settings.`);
     } else {
-      notice(`${line}: ${text || reply.status}`);
+      notice(`${line}: ${text || (reply.status === 413 ? "a call is one line of up to 4096 octets" : reply.status)}`);
     }
   } catch {
     notice(`${line}: no answer came. Look at the desk before you send it again.`);
@@ -102,7 +102,8 @@ function take(text) {
   if (text === shownText || drag) return;
   const next = parseDesk(text);
   if (desk && next.version > desk.version) seenRows.set(next.version, { from: desk.version, rows: changes(desk.rows, next.rows) });
-  if (desk && next.version < desk.version) seenRows.clear();
+  if (desk && next.version < desk.version) { seenRows.clear(); looks.clear(); }
+  looks.set(next.version, lookOf(next.rows));
   shownText = text;
   desk = next;
   render();
@@ -215,13 +216,13 @@ function roomCard(room) {
 
 function callItem(entry) {
   if (entry.foreign) {
-    const which = entry.from === entry.to ? `version ${entry.to}` : `versions ${entry.from} to ${entry.to}`;
     const rows = [...seenRows].filter(([version, seen]) => version >= entry.from && seen.from < entry.to).flatMap(([, seen]) => seen.rows);
-    return el("li", {}, el("span", { className: "soft" }, `${which} came over another connection, or before this page`),
+    return el("li", {}, el("span", { className: "soft" }, foreignWords(entry)),
       ...rows.slice(0, 12).map((row) => el("div", {}, el("code", {}, row))));
   }
   const kind = entry.undone ? "undone" : entry.number === null ? "refused" : "";
-  return el("li", { className: kind }, el("code", {}, entry.line), " ", el("code", { className: "said" }, entry.said), entry.undone ? " undone" : "");
+  const became = entry.undone ? " undone" : entry.undone === null ? " may be undone" : "";
+  return el("li", { className: kind }, el("code", {}, entry.line), " ", el("code", { className: "said" }, entry.said), became);
 }
 
 function button(id, word, entry, line) {
@@ -246,7 +247,7 @@ function suggest(form, field, number) {
 function render() {
   const key = document.activeElement?.dataset?.key;
   at("board").replaceChildren(...(desk.rooms.length ? desk.rooms.map(roomCard) : [el("p", { className: "soft" }, "There is no room yet: add one.")]));
-  const past = history(desk.calls, desk.version);
+  const past = history(desk.calls, desk.version, looks);
   button("undo", "Undo", past.undo, lines.undo(desk.version));
   button("redo", "Redo", past.redo, lines.redo(desk.version));
   at("calls").replaceChildren(...past.entries.reverse().map(callItem));

@@ -137,7 +137,7 @@ impl Server {
 
     /// Gives a connection a place, or closes it.
     fn place(&mut self, mut stream: TcpStream, now: u64) {
-        let Some(at) = self.peers.place() else {
+        let Some(at) = self.peers.place(now) else {
             return;
         };
         let interest = Interest::READABLE | Interest::WRITABLE;

@@ -50,9 +50,9 @@ pub(crate) fn files() -> Files {
     }
 }
 
-/// The limits of a request.
+/// The limits of a request. A body of one octet more than a line is still heard, and refused as no line.
 pub(crate) fn limits() -> Config {
     let mut config = Config::default();
-    config.max_body_len = MAX_LINE;
+    config.max_body_len = MAX_LINE + 1;
     config
 }

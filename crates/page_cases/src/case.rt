@@ -47,7 +47,7 @@ impl Page {
     /// The page of all cases.
     pub fn new(alloc: Global, keys: RandomState) -> Result<Self, AllocError> {
         let mut config = Config::default();
-        config.max_body_len = MAX_LINE;
+        config.max_body_len = MAX_LINE + 1;
         let site = Site {
             host: Vec::from_slice(alloc, b"127.0.0.1:7080")?,
             local: Vec::from_slice(alloc, b"localhost:7080")?,

@@ -168,7 +168,8 @@ def refuses(page, operator, version):
         (400, "Reserved", "POST", "/call", b"stop", good),
         (400, "Reserved", "POST", "/call", b"quit", good),
         (400, "Reserved", "POST", "/call", b"show", good),
-        (413, "", "POST", "/call", b"a" * 4097, good),
+        (400, "NoLine", "POST", "/call", b"a" * 4097, good),
+        (413, "", "POST", "/call", b"a" * 4098, good),
     ]:
         status, _, text = page.ask(method, path, body, fields)
         check(status == wanted and text.startswith(name), f"{method} {path} {body}: {status} {text}, not {wanted} {name}")
@@ -176,11 +177,22 @@ def refuses(page, operator, version):
         check(page.ask("POST", "/call", b"a" * 1_048_576, good)[0] == 413, "a body of 1 MiB isn't refused with 413")
     except (BrokenPipeError, ConnectionResetError):
         pass
+    check(shown(operator)[-1] == f"end {version}", "a bad request has reached the bridge")
+
+
+def takes_others(page):
+    """Connections that say nothing keep nobody out, and those that say little keep others out for a second."""
     silent = [socket.create_connection(("127.0.0.1", page.port), timeout=10) for _ in range(200)]
     check(page.ask("GET", "/")[0] == 200, "200 connections that say nothing keep others out")
     for one in silent:
         one.close()
-    check(shown(operator)[-1] == f"end {version}", "a bad request has reached the bridge")
+    slow = [socket.create_connection(("127.0.0.1", page.port), timeout=10) for _ in range(32)]
+    for one in slow:
+        one.sendall(b"G")
+    time.sleep(1.5)
+    check(page.ask("GET", "/")[0] == 200, "32 connections that have sent one octet keep others out")
+    for one in slow:
+        one.close()
 
 
 def stands_silence(page, bridge, version):
@@ -240,7 +252,8 @@ def browse(args, folder, page, port):
         return
     with socket.create_connection(("127.0.0.1", port), timeout=10) as connection:
         operator = Operator(connection)
-        times = drive(args.browser, folder, f"http://127.0.0.1:{page.port}/", lambda: shown(operator), args.pictures)
+        address = f"http://127.0.0.1:{page.port}/"
+        times = drive(args.browser, folder, address, lambda: shown(operator), operator.ask, args.pictures)
         operator.tell("quit")
         operator.lines.close()
     print(f"a second browser sees a step after {statistics.median(times):.2f} s, and {max(times):.2f} s at most")
@@ -258,6 +271,7 @@ def session(args, folder):
         page.load()
         version = sees_others(page, operator, go_through(page, operator))
         refuses(page, operator, version)
+        takes_others(page)
         stands_silence(page, programs[0], version)
         operator.tell("stop")
         programs[0].wait(timeout=30)

@@ -92,9 +92,71 @@ same(page.named("Redo", past.redo), "Redo: add-room 2");
 past = page.history(calls(["add-room 1", "ok 1"], ["undo 1", "ok 2"], ["add-room 3", "ok 3"]), 3);
 same(page.named("Redo", past.redo), "Redo");
 same(past.undo.line, "add-room 3");
-past = page.history(calls(["add-room 1", "ok 1"], ["add-room 3", "ok 3"]), 4);
-same(past.entries.map((e) => (e.foreign ? `${e.from}-${e.to}` : e.line)), ["add-room 1", "2-2", "add-room 3", "4-4"]);
-same(page.named("Undo", past.undo).includes("version 4 came over another connection"), true);
+// A version of another connection was a command, an undo or a redo. Where that isn't known the buttons name nothing.
+const told = (made, version, looks) => {
+  past = page.history(calls(...made), version, looks);
+  return [page.named("Undo", past.undo), page.named("Redo", past.redo)];
+};
+const inForce = "Undo: the last change in force", wasUndone = "Redo: the last change that was undone";
+const other = (word, version) => `${word}: the change of another connection (version ${version})`;
+const one = ["add-room 1", "ok 1"], two = ["add-room 2", "ok 2"];
+const shown = () => past.entries.map((e) => (e.foreign ? page.foreignWords(e) : `${e.line}${{ true: " -", false: "", null: " ?" }[e.undone]}`));
+
+// A call of the page, a version of another connection, and the undo and redo of each. Had it been an undo, nothing were left to undo.
+const made = [one];
+same(told(made, 2), [inForce, wasUndone]);
+same(shown(), ["add-room 1 ?", "version 2 came over another connection"]);
+made.push(["undo 2", "ok 3"]);
+same(told(made, 3), ["Undo: add-room 1", other("Redo", 2)]);
+same(shown(), ["add-room 1", "version 2 came over another connection; undone", "undo 2"]);
+made.push(["undo 3", "ok 4"]);
+same(told(made, 4), ["Undo", "Redo: add-room 1"]);
+same(shown()[0], "add-room 1 -");
+made.push(["redo 4", "ok 5"]);
+same(told(made, 5), ["Undo: add-room 1", other("Redo", 2)]);
+made.push(["redo 5", "ok 6"]);
+same(told(made, 6), [other("Undo", 2), "Redo"]);
+same(shown().slice(0, 2), ["add-room 1", "version 2 came over another connection"]);
+
+// One between two calls of the page: what is in force below the second is not known, until an answer tells it.
+const between = [one, ["add-room 3", "ok 3"]];
+same(told(between, 3), ["Undo: add-room 3", "Redo"]);
+between.push(["undo 3", "ok 4"]);
+same(told(between, 4), [inForce, "Redo: add-room 3"]);
+same(told([...between, ["undo 4", "no 4 15 NothingToUndo"]], 4), ["Undo", "Redo: add-room 3"]);
+same(shown(), ["add-room 1 -", "version 2 came over another connection", "add-room 3 -", "undo 3", "undo 4"]);
+between.push(["undo 4", "ok 5"], ["undo 5", "ok 6"]);
+same(told(between, 6), ["Undo", "Redo: add-room 1"]);
+same(shown().slice(0, 3), ["add-room 1 -", "version 2 came over another connection; undone", "add-room 3 -"]);
+
+// Two: the page's undos use them up.
+const pair = [one, ["undo 3", "ok 4"]];
+same(told(pair, 4), [inForce, wasUndone]);
+pair.push(["undo 4", "ok 5"]);
+same(told(pair, 5), ["Undo: add-room 1", other("Redo", 2)]);
+same(shown()[1], "versions 2 to 3 came over another connection; undone: 2, 3");
+same(told([...pair, ["undo 5", "ok 6"], ["redo 6", "ok 7"], ["redo 7", "ok 8"]], 8), [other("Undo", 2), other("Redo", 3)]);
+
+// What the desk looked like tells more: a command, or else an undo or the command of the same effect.
+const looks = new Map([[0, 0], [1, 1], [2, 2], [3, 3]]);
+same(told([one, two], 3, looks), [other("Undo", 3), "Redo"]);
+same(told([one, two, ["undo 3", "ok 4"]], 4, looks), ["Undo: add-room 2", other("Redo", 3)]);
+looks.set(3, 1);
+same(told([one, two], 3, looks), [inForce, wasUndone]);
+same(told([one, two, ["redo 3", "ok 4"]], 4, looks), ["Undo: add-room 2", "Redo"]);
+same(told([one, two, ["redo 3", "no 3 16 NothingToRedo"]], 3, looks), [other("Undo", 3), "Redo"]);
+same(told([one, two, ["undo 3", "ok 4"]], 4, looks.set(4, 0)), ["Undo", "Redo: add-room 1"]);
+same(told([one, two], 2, new Map([[0, 0], [1, 1], [2, 1]])), ["Undo: add-room 2", "Redo"]);
+same(told([one, ["undo 1", "ok 2"], ["add-room 2", "ok 3"]], 3, new Map([[0, 0], [2, 5]])), ["Undo: add-room 2", "Redo"]);
+same(shown(), ["add-room 1 ?", "undo 1", "add-room 2"]);
+same(page.lookOf(["room 1"]) !== page.lookOf(["room 2"]), true);
+
+// Versions before the page are many, and a call without an answer may be one.
+same(told([["add-room 3", "ok 90"], ["undo 90", "ok 91"]], 91), [inForce, "Redo: add-room 3"]);
+same(shown()[0], "versions 1 to 89 came over another connection, or before this page");
+same(told([one, ["add-room 2", "lost"], ["undo 2", "ok 3"]], 3), ["Undo: add-room 1", "Redo: version 2"]);
+same(shown()[2], "version 2 came over another connection, or from a call without an answer; undone");
+
 past = page.history(calls(["add-room 1", "ok 1"], ["add-room 2", "ok 2"], ["add-room 5", "ok 1"]), 1);
 same(past.entries.map((e) => e.line), ["add-room 5"]);
 past = page.history(calls(["add-room 1", "ok 1"], ["add-room 2", "ok 2"]), 0);
@@ -102,5 +164,56 @@ same([past.undo, past.entries], [null, []]);
 past = page.history([], 0);
 same([past.undo, past.redo, past.entries], [null, null, []]);
 
+// A bridge, the page and another operator who do what a seed says.
+function walk(seed, steps, page_part, looks_part) {
+  let state = seed, rooms = [], version = 0;
+  const chance = (below) => { state = (Math.imul(state, 1103515245) + 12345) & 0x7fffffff; return (state >>> 8) % below; };
+  const stacks = { done: [], undone: [] }, made = [], seen = new Map();
+  const see = () => { if (chance(100) < looks_part) seen.set(version, page.lookOf([...rooms].sort())); };
+  const tell = (own, line, said) => { if (own) made.push({ line, said }); };
+  function command(own) {
+    const room = `${chance(4)}`, before = rooms, has = rooms.includes(room);
+    rooms = has ? rooms.filter((one) => one !== room) : [...rooms, room];
+    version += 1;
+    tell(own, `${has ? "remove" : "add"}-room ${room}`, `ok ${version}`);
+    stacks.done.push({ version, own, before, behind: rooms });
+    stacks.undone = [];
+  }
+  function move(own, word, from, to) {
+    const change = stacks[from].pop();
+    if (!change) return tell(own, `${word} ${version}`, `no ${version} ${word === "undo" ? 15 : 16} Nothing`);
+    rooms = word === "undo" ? change.before : change.behind;
+    stacks[to].push(change);
+    tell(own, `${word} ${version}`, `ok ${version + 1}`);
+    version += 1;
+  }
+  see();
+  for (let step = 0; step < steps; step += 1) {
+    const own = chance(100) < page_part, before = version;
+    [command, command, (o) => move(o, "undo", "done", "undone"), (o) => move(o, "redo", "undone", "done")][chance(4)](own);
+    if (version > before) see();
+    judge(page.history(made, version, seen), stacks, page_part === 100);
+  }
+}
+
+// What the page names and marks is so; and of its own calls alone it knows all.
+function judge(told, stacks, knows) {
+  for (const [change, stack] of [[told.undo, stacks.done], [told.redo, stacks.undone]]) {
+    const top = stack[stack.length - 1];
+    if (change && change.unknown) assert(!knows);
+    else assert.strictEqual(change ? change.number ?? `other ${change.other}` : undefined, top && (top.own ? top.version : `other ${top.version}`));
+  }
+  const isIn = (number) => stacks.done.some((change) => change.version === number);
+  for (const entry of told.entries) {
+    if (entry.foreign) assert(!entry.undone.some(isIn));
+    else if (entry.number !== null && !/^(undo|redo) /.test(entry.line) && entry.undone !== null) assert.strictEqual(entry.undone, !isIn(entry.number));
+  }
+}
+
+for (const [page_part, looks_part] of [[100, 0], [100, 100], [90, 0], [60, 0], [90, 100], [60, 100], [40, 60], [5, 50]]) {
+  for (let seed = 1; seed <= 20; seed += 1) walk(seed, 40, page_part, looks_part);
+  tried += 20;
+}
+
 same(page.changes(["room 1", "mute 1"], ["room 1", "room 2"]), ["- mute 1", "+ room 2"]);
-console.log(`${tried} functions of the page, no fault`);
+console.log(`${tried} tries of the page's functions, no fault`);
