@@ -1,20 +1,31 @@
-"""Tries the cases of scripts, calls and codecs.
+"""Tries the cases of scripts, calls, codecs and sockets.
 
 The programs of script_cases, bridge_cases and codec_cases are built without proofs. Sections that take them too long are left out: those
 that fill the desk's tables and its log, and those of many datagrams and random calls. A program that doesn't answer within
 the toolchain's time, as on a busy machine, says nothing of its cases: this is printed, and is no failure.
+
+The program of front_cases is one that `rt ci` built. It runs the same cases on bridges of 1, 2, 4 and 16 lanes and has to print the same
+each time. Where it is named, its cases alone are tried.
 """
 
-from lib.shared import CRATES, tried
+import concurrent.futures
+import functools
+import subprocess
 
-NEEDS = "`rt`, three minutes"
+from lib.shared import CRATES, add_program, found_program, release_program, tried
+
+NEEDS = "`rt`, three minutes; with BINARY that program, half a minute"
 
 # Sections of crates/script_cases/stdin that take too long.
 LONG = {"no desk", "many datagrams", "large requests and reports", "random calls"}
+# The lanes of the bridges of front_cases whose case doesn't say how many. All are tried side by side.
+LANES = [1, 2, 4, 16]
+# After this many seconds a program has not answered, as in the gate.
+SECONDS = 120
 
 
 def options(parser):
-    pass
+    add_program(parser, "front_cases")
 
 
 def short_sections(text):
@@ -43,7 +54,28 @@ def are_good(crate, text):
     return True
 
 
-def run(_args):
+def said_on_lanes(program, lanes):
+    """What front_cases prints where bridges have so many lanes."""
+    with (CRATES / "front_cases" / "stdin").open() as cases:
+        try:
+            run = subprocess.run([program, str(lanes)], stdin=cases, capture_output=True, text=True, timeout=SECONDS, check=False)
+        except subprocess.TimeoutExpired:
+            return f"no answer in {SECONDS} s\n"
+    return run.stdout + run.stderr
+
+
+def are_good_on_lanes(program):
+    """Whether front_cases prints what it has to with each number of lanes. Prints what it says."""
+    wanted = (CRATES / "front_cases" / "stdout").read_text()
+    with concurrent.futures.ThreadPoolExecutor() as pool:
+        said = list(pool.map(functools.partial(said_on_lanes, program), LANES))
+    for lanes, text in zip(LANES, said, strict=True):
+        print(f"front_cases on lanes {lanes}: {text}", end="")
+    return all(text == wanted for text in said)
+
+
+def are_good_without_proofs():
+    """Whether the programs that are built without proofs find no case that differs."""
     scripts = short_sections((CRATES / "script_cases" / "stdin").read_text())
     paths = sorted((CRATES / "codec_cases" / "data").glob("*.txt"))
     good = [
@@ -51,4 +83,16 @@ def run(_args):
         are_good("bridge_cases", (CRATES / "bridge_cases" / "stdin").read_text()),
         are_good("codec_cases", "".join(f"{path}\n" for path in paths)),
     ]
-    return 0 if all(good) else 1
+    return all(good)
+
+
+def run(args):
+    if args.binary:
+        return 0 if are_good_on_lanes(release_program(args.binary)) else 1
+    is_good = are_good_without_proofs()
+    program = found_program(None, "front_cases")
+    if program:
+        is_good = are_good_on_lanes(program) and is_good
+    else:
+        print("front_cases: not tried, since there is no program that is newer than the sources")
+    return 0 if is_good else 1
