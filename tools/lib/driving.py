@@ -74,6 +74,23 @@ def by_keys(browser, shown):
             fail(f"after {what} by keys the page shows another desk than the bridge")
 
 
+def undoes_others(browser, shown, ask):
+    """The buttons name another operator's change, and once it is undone what the page has done before."""
+    words = [f"document.getElementById('{name}').textContent" for name in ("undo", "redo")]
+    version, before = browser.run("version()") + 1, browser.run(words[0])
+    change = f"the change of another connection (version {version})"
+    if ask("add-room 9") != f"ok {version}":
+        fail("another operator's change is refused")
+    browser.wait(f"version() === {version}")
+    for script, wanted in [("true", [f"Undo: {change}", "Redo"]), ("document.getElementById('undo').click()", [before, f"Redo: {change}"])]:
+        browser.run(f"{script}; true")
+        browser.wait(f"version() === {version}")
+        version += 1
+        told = [browser.run(word) for word in words]
+        if told != wanted or [*browser.run("desk.rows"), f"end {version - 1}"] != shown():
+            fail(f"at version {version - 1} of another operator's change the buttons say {told}, not {wanted}")
+
+
 def opened(command, folder, address):
     browser = Browser(command, folder)
     browser.shows(1280, 900)
@@ -83,8 +100,9 @@ def opened(command, folder, address):
     return browser
 
 
-def drive(command, folder, address, shown, pictures=None):
-    """Goes through a session. `shown` tells what the bridge's `show` says. How long each change took to the second browser."""
+def drive(command, folder, address, shown, ask, pictures=None):
+    """Goes through a session. `shown` tells what the bridge's `show` says, and `ask` what it answers to another operator. How long
+    each change took to the second browser."""
     one, two = opened(command, folder, address), opened(command, folder, address)
     times = []
     try:
@@ -101,6 +119,7 @@ def drive(command, folder, address, shown, pictures=None):
                 fail(f"after {what} the page shows {rows}, the bridge {bridge}")
         look(one, version)
         by_keys(one, shown)
+        undoes_others(one, shown, ask)
         look_at_sizes(one, pictures)
     finally:
         one.close()

@@ -17,7 +17,7 @@ def options(parser):
     parser.add_argument("port", type=int, metavar="PORT", help="the member's port")
     parser.add_argument("speak", type=int, metavar="SPEAK", help="the port that the sending program sends to")
     parser.add_argument("hear", type=int, metavar="HEAR", help="the port at which the receiving program receives")
-    parser.add_argument("bridge", type=int, nargs="?", default=5004, metavar="BRIDGE", help="the bridge's port (%(default)s)")
+    parser.add_argument("bridge", type=int, nargs="?", default=5004, metavar="BRIDGE", help="the bridge's port (5004)")
 
 
 def run(args):

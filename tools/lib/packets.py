@@ -36,9 +36,9 @@ def has_no_gap(packets):
     return len(numbers) > 1 and all((b - a) % 65536 == 1 for a, b in zip(numbers, numbers[1:]))
 
 
-def nack(ssrc, asked):
-    """A receiver report without blocks, and a NACK for one number of a stream."""
-    return bytes.fromhex("80c900010000000981cd000300000009") + ssrc.to_bytes(4, "big") + asked.to_bytes(2, "big") + bytes(2)
+def nack(ssrc, asked, blp=0):
+    """A receiver report without blocks, and a NACK for a number of a stream and for those after it that a BLP names."""
+    return bytes.fromhex("80c900010000000981cd000300000009") + ssrc.to_bytes(4, "big") + asked.to_bytes(2, "big") + blp.to_bytes(2, "big")
 
 
 def pli(ssrc):

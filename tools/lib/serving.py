@@ -1,5 +1,6 @@
 """A bridge on sockets, and an operator's connection to it."""
 
+import atexit
 import pathlib
 import re
 import socket
@@ -35,12 +36,14 @@ def settings(folder, udp=0, tcp=0, operators=2, lanes=1):
     return path
 
 
-def started(program, path):
-    """A bridge with these settings, once it says where it listens, and the ports of its sockets."""
-    bridge = subprocess.Popen([program, "serve", path], stdin=subprocess.DEVNULL, stderr=subprocess.PIPE, text=True)
+def started(program, path, under=(), environment=None):
+    """A bridge with these settings, once it says where it listens, and the ports of its sockets. It runs under another program, if one is named."""
+    words = [*under, program, "serve", path]
+    bridge = subprocess.Popen(words, stdin=subprocess.DEVNULL, stderr=subprocess.PIPE, text=True, env=environment)
+    # A tool that fails leaves no bridge behind.
+    atexit.register(bridge.kill)
     listens = LISTENS.fullmatch(bridge.stderr.readline())
     if not listens:
-        bridge.kill()
         fail("the bridge doesn't say where it listens")
     return bridge, int(listens[1]), int(listens[2])
 
@@ -73,6 +76,26 @@ class Operator:
         self.tell(line)
         return self.lines.readline().strip()
 
+    def shown(self):
+        """The lines that answer `show`, as far as they come."""
+        self.tell("show")
+        lines = []
+        for line in self.lines:
+            lines.append(line.strip())
+            if line.startswith("end "):
+                break
+        return lines
+
     def tell(self, line):
         self.lines.write(line + "\n")
         self.lines.flush()
+
+    def show(self):
+        """The rows of the desk and its version, or None where the connection is closed."""
+        self.tell("show")
+        rows = []
+        for line in self.lines:
+            if line.startswith("end "):
+                return rows, int(line[4:])
+            rows.append(line.strip())
+        return None

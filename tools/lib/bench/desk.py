@@ -17,6 +17,7 @@ import subprocess
 import tempfile
 import threading
 
+from lib.filling import add_member, full_desk, in_groups
 from lib.shared import add_measuring, add_program, fail, instructions, processor_time, release_program
 
 NEEDS = "the program, minutes; valgrind to count instructions"
@@ -28,29 +29,6 @@ def options(parser):
     how = parser.add_mutually_exclusive_group()
     how.add_argument("--instructions", action="store_true", help="count instructions by callgrind, one run each")
     how.add_argument("--groups", metavar="SIZES", help="count the instructions of groups, as 1,2,8,64; 0 for a program that has none")
-
-
-def desk(gains, short=0):
-    """The lines that make the desk, with this many gains for each member, and so many members, sources and slots short."""
-    members = 1024 - short
-    yield "add-room 1"
-    for m in range(short, 1024):
-        yield add_member(m)
-    for s in range(2048 - short):
-        yield f"add-source {200000 + s} {short + s % members} {'audio' if s < 64 else 'video'}"
-    for s in range(4096 - short):
-        yield f"add-slot {300000 + s} {short + s % members} {s // members} 0 0"
-    for s in range(4096 - short):
-        yield f"subscribe {300000 + s} {200064 + s % (1984 - short)}"
-    for m in range(short, 1024):
-        for s in range(gains):
-            yield f"set-gain {m} {200000 + s} 100"
-    yield "pin 1 200064"
-    yield f"give-floor 1 {short}"
-
-
-def add_member(m):
-    return f"add-member {m} 1 10.0.{m >> 8}.{m & 255}:5000 pcmu {100000 + m} 0 0"
 
 
 # Rows: a name, the lines that make the desk, and the lines to be timed
@@ -67,7 +45,7 @@ def undone(count, version, command):
 
 
 def rows_of_full_desk():
-    full = list(desk(64))
+    full = list(full_desk(64))
     calls = len(full)
     one_row = {
         "set-gain over another": [f"set-gain {i % 1024} 200000 {i // 1024 % 2 + 1}" for i in range(20000)],
@@ -89,7 +67,7 @@ def rows_of_full_desk():
 
 
 def rows_of_short_desk():
-    short, joins = [*desk(64, 1), "add-room 2"], add_member(0)
+    short, joins = [*full_desk(64, 1), "add-room 2"], add_member(0)
     video = lambda i: f"add-source 199999 {1 + i % 1000} video"
     slot = lambda i: f"add-slot 299999 {1 + i % 1000} 15 0 0"
     moves = in_turn(5000, lambda i: "move-member 0 2", lambda i: "move-member 0 1")
@@ -101,7 +79,7 @@ def rows_of_short_desk():
 
 def rows_of_a_room(gains):
     """What removes a whole room with so many gains for each member."""
-    part = list(desk(gains))
+    part = list(full_desk(gains))
     again = in_turn(100, lambda i: f"undo {len(part) + 2 * i + 1}", lambda i: f"redo {len(part) + 2 * i + 2}")
     yield f"undo and redo of remove-room with {gains * 1024} gains", [*part, "remove-room 1"], again
     yield f"remove-room and undo with {gains * 1024} gains", part, undone(100, len(part), lambda i: "remove-room 1")
@@ -199,13 +177,9 @@ def commands_for_groups():
     yield "remove-member with 64 gains, add-member", [line for m in members for line in (f"remove-member {m}", add_member(m))]
 
 
-def in_groups(commands, size):
-    return ["group " + " / ".join(commands[at : at + size]) for at in range(0, len(commands), size)]
-
-
 def count_groups(program, sizes, only):
     """Prints the instructions of commands one by one, and in groups of each size."""
-    first = list(desk(64))
+    first = list(full_desk(64))
     counted, version = Counted(program, first), len(first)
 
     def costs(calls):

@@ -6,41 +6,54 @@ CROWD is one of
   drip      15 connections that send an octet a second
   unread    15 connections that ask for the rows of a full desk and read nothing
   half      2,000 connections that close in mid-line
-  busy      15 connections that call as fast as they are answered
+  busy      15 connections that call as fast as they can: each has up to 128 calls that aren't answered yet
 
-Behind each crowd the honest operator's calls and the others' accepted calls have the numbers from 1 to the desk's version, each
-once. The status is 0 where all is so.
+Beside each crowd two members talk with each other. Behind it the honest operator's calls and the others' accepted calls have the
+numbers from 1 to the desk's version, each once, and as many calls are accepted of all operators as the bridge says at its end. The
+packets that each member heard have no gap, and no item was dropped for a lane. The status is 0 where all is so.
 """
 
 import contextlib
+import multiprocessing
+import selectors
 import socket
-import subprocess
 import tempfile
 import threading
 import time
 
-from lib.serving import Operator, settings, started
-from lib.shared import add_program, release_program
+from lib.filling import fill, full_desk
+from lib.pair import Pair
+from lib.serving import Operator, said_at_the_end, settings, started
+from lib.shared import add_program, fail, release_program
 
 NEEDS = "the program, a minute"
 
 SEATS = 16
 ALLOWED = 0.05
+# How many calls the busy send at a time.
+BATCH = 64
 
 
 def options(parser):
     parser.add_argument("--crowd", choices=CROWDS, metavar="CROWD", help="this one alone; all if none is given")
     parser.add_argument("--seconds", type=float, default=5, help="how long each lasts (%(default)s)")
+    parser.add_argument("--lanes", type=int, default=2, help="how many lanes the bridge has (%(default)s)")
     add_program(parser)
 
 
 class Crowd:
     """The connections of a crowd to a bridge, until a moment."""
 
-    def __init__(self, port, seconds):
+    def __init__(self, name, port, seconds):
         self.port = port
         self.end = time.monotonic() + seconds
         self.accepted = []
+        self.thread = threading.Thread(target=getattr(self, name))
+        if name == "busy":
+            # Another process calls, so that this one has time for the honest operator. It begins before there are threads.
+            self.numbers, there = multiprocessing.Pipe(duplex=False)
+            multiprocessing.get_context("fork").Process(target=call_ahead, args=(port, self.end, there), daemon=True).start()
+        self.thread.start()
 
     def lasts(self):
         return time.monotonic() < self.end
@@ -101,43 +114,57 @@ class Crowd:
                 one.sendall(b"add-room 6")
 
     def busy(self):
-        def call(number):
-            with self.connection() as one:
-                operator = Operator(one)
-                room = 1000 + number
-                while self.lasts():
-                    for line in (f"add-room {room}", f"remove-room {room}"):
-                        word, _, rest = operator.ask(line).partition(" ")
-                        if word == "ok":
-                            self.accepted.append(int(rest))
+        self.accepted = self.numbers.recv()
 
-        self.together(call, SEATS - 1)
+
+class Ahead:
+    """A connection that calls without waiting for the answers, and what it is told."""
+
+    def __init__(self, port, room):
+        self.connection = socket.create_connection(("127.0.0.1", port), timeout=5)
+        self.batch = f"add-room {room}\nremove-room {room}\n".encode() * (BATCH // 2)
+        self.told, self.waiting = [], 0
+
+    def send(self):
+        self.connection.sendall(self.batch)
+        self.waiting += BATCH
+
+    def read(self):
+        """Takes the answers that have come. False where the connection is closed."""
+        some = self.connection.recv(65536)
+        self.told.append(some)
+        self.waiting -= some.count(b"\n")
+        return some != b""
+
+
+def call_ahead(port, end, pipe):
+    """Has 15 connections call until a moment, and gives the numbers of the accepted calls."""
+    ones = [Ahead(port, 1000 + number) for number in range(SEATS - 1)]
+    with selectors.DefaultSelector() as ready:
+        for one in ones:
+            ready.register(one.connection, selectors.EVENT_READ, one)
+            one.send()
+            one.send()
+        while any(one.waiting for one in ones):
+            came = ready.select(5)
+            if not came:
+                break
+            for key, _ in came:
+                one = key.data
+                if not one.read():
+                    ready.unregister(one.connection)
+                    one.waiting = 0
+                elif one.waiting <= BATCH and time.monotonic() < end:
+                    one.send()
+    lines = [line for one in ones for line in b"".join(one.told).decode().splitlines()]
+    pipe.send([int(line[3:]) for line in lines if line.startswith("ok ")])
 
 
 CROWDS = ["silent", "endless", "drip", "unread", "half", "busy"]
 
 
-def fill(operator):
-    """A desk with 65,536 gains, the most there may be."""
-    lines = ["add-room 1"]
-    lines += [f"add-member {m} 1 10.0.{m // 250}.{m % 250 + 1}:5000 pcmu {100000 + m} 0 0" for m in range(1024)]
-    lines += [f"add-source {200000 + s} {s} audio" for s in range(64)]
-    lines += [f"set-gain {m} {200000 + s} 128" for m in range(1024) for s in range(64)]
-    for at in range(0, len(lines), 500):
-        part = lines[at : at + 500]
-        operator.lines.write("".join(f"{line}\n" for line in part))
-        operator.lines.flush()
-        for line in part:
-            if not operator.lines.readline().startswith("ok "):
-                raise RuntimeError(f"{line} isn't accepted")
-    return list(range(1, len(lines) + 1))
-
-
-def held(name, port, operator, accepted, seconds):
-    """Has a crowd beside the operator, and tells whether all is as it should be."""
-    crowd = Crowd(port, seconds)
-    thread = threading.Thread(target=getattr(crowd, name))
-    thread.start()
+def asked(operator, crowd, thread, accepted):
+    """Has the honest operator call while the crowd is there. How long each answer took."""
     took = []
     while thread.is_alive():
         for line in ("add-room 63", "remove-room 63"):
@@ -145,40 +172,61 @@ def held(name, port, operator, accepted, seconds):
             word, _, rest = operator.ask(line).partition(" ")
             took.append(time.monotonic() - begun)
             if word != "ok":
-                print(f"{name}: {line}: {word} {rest}")
-                return False
+                fail(f"{crowd}: `{line}` is answered `{word} {rest}`")
             accepted.append(int(rest))
         time.sleep(0.002)
-    accepted += crowd.accepted
-    accepted.sort()
-    took.sort()
-    is_whole = accepted == list(range(1, len(accepted) + 1))
+    return sorted(took)
+
+
+def told_of(name, took, accepted, crowd, heard, sent):
+    """Prints how it went. Whether all is as it should be."""
+    numbers = sorted(accepted + crowd.accepted)
+    is_whole = numbers == list(range(1, len(numbers) + 1))
     late = took[int(len(took) * 0.99)]
-    print(
-        f"{name}: {len(took)} lines of the honest operator, answered within {late * 1e3:.1f} ms (99th percentile),"
-        f" {took[-1] * 1e3:.1f} ms (all); {len(crowd.accepted)} calls of the crowd; {'each number once' if is_whole else 'NUMBERS LOST'}",
-        flush=True,
-    )
-    return is_whole and late <= ALLOWED
+    told = [
+        f"{name}: {len(took)} lines of the honest operator, answered within {late * 1e3:.1f} ms (99th percentile), {took[-1] * 1e3:.1f} ms (all)",
+        f"{len(crowd.accepted)} calls of the crowd",
+        "each number once" if is_whole else "NUMBERS LOST",
+        f"of {sent} packets the members heard {heard[0]} and {heard[1]}" if heard else "A MEMBER HEARD A GAP",
+    ]
+    print("; ".join(told), flush=True)
+    return bool(is_whole and heard and late <= ALLOWED)
+
+
+def ended(name, bridge, count):
+    """Whether a bridge that was stopped ends well, with so many accepted calls."""
+    timer = threading.Timer(10, bridge.kill)
+    timer.start()
+    status = bridge.wait()
+    timer.cancel()
+    if status:
+        print(f"{name}: the bridge ended with status {status}")
+        return False
+    calls, dropped = said_at_the_end(bridge.stderr.read())
+    if sum(calls.values()) != count or dropped:
+        print(f"{name}: {count} calls were told as accepted, and the bridge says {calls}; dropped items of lanes: {dropped}")
+        return False
+    return True
+
+
+def held(program, name, args):
+    """Has a crowd beside an operator and a call, and tells whether all is as it should be."""
+    pair = Pair(first=0)
+    with tempfile.TemporaryDirectory() as folder:
+        bridge, udp, port = started(program, settings(folder, operators=SEATS, lanes=args.lanes))
+        with socket.create_connection(("127.0.0.1", port)) as connection:
+            operator = Operator(connection)
+            count = fill(operator, full_desk(64, short=2)) if name == "unread" else 0
+            accepted = list(range(1, count + 1 + fill(operator, pair.lines())))
+            crowd = Crowd(name, port, args.seconds)
+            pair.begin(udp)
+            took = asked(operator, name, crowd.thread, accepted)
+            is_well = told_of(name, took, accepted, crowd, pair.end(), pair.sent)
+            operator.tell("stop")
+        return ended(name, bridge, len(accepted) + len(crowd.accepted)) and is_well
 
 
 def run(args):
     program = release_program(args.binary)
-    all_held = True
-    for name in [args.crowd] if args.crowd else CROWDS:
-        with tempfile.TemporaryDirectory() as folder:
-            bridge, _, port = started(program, settings(folder, operators=SEATS))
-            with socket.create_connection(("127.0.0.1", port)) as connection:
-                operator = Operator(connection)
-                accepted = fill(operator) if name == "unread" else []
-                all_held = held(name, port, operator, accepted, args.seconds) and all_held
-                operator.tell("stop")
-            try:
-                if bridge.wait(10):
-                    print(f"{name}: the bridge ended with status {bridge.returncode}")
-                    all_held = False
-            except subprocess.TimeoutExpired:
-                bridge.kill()
-                print(f"{name}: the bridge didn't stop")
-                all_held = False
-    return 0 if all_held else 1
+    names = [args.crowd] if args.crowd else CROWDS
+    return 0 if all([held(program, name, args) for name in names]) else 1

@@ -1,23 +1,34 @@
-"""Has two, four and sixteen operators call at once while media flows, and replays the list of their calls.
+"""Has operators call at once while media flows, replays the list of their calls, and stops a bridge in mid-work.
 
-The operators make random calls, undos and redos among them. Behind it the accepted calls have the numbers from 1 to the desk's
+Two, four and sixteen operators make random calls, undos and redos among them. Behind it the accepted calls have the numbers from 1 to the desk's
 version, each once. The bridge says how many calls of each operator it accepted, and these are the calls that it told that
 operator. The list is then replayed in the order of its numbers, each call by its operator: each line is accepted with the same
 number, and the rows are those that `show` showed. Meanwhile two members send audio, and each hears packets without a gap.
+
+Last, one of sixteen operators stops a bridge with a full desk. Another leaves `show` unread, one has sent half a line, and the
+others go on calling. The bridge has to end with status 0 within a second of the line `stop`. It says how many calls of each
+operator it accepted: all that were told to that operator, and at most the one whose answer was lost.
 """
 
+import contextlib
 import random
+import select
 import socket
 import subprocess
 import tempfile
 import threading
 import time
 
-from lib.packets import has_no_gap, is_rtp_of, rtp
-from lib.serving import Operator, port_of, said_at_the_end, settings, started, udp_socket
+from lib.filling import fill, full_desk
+from lib.pair import Pair
+from lib.serving import Operator, said_at_the_end, settings, started
 from lib.shared import add_program, fail, release_program
 
 NEEDS = "the program, half a minute"
+
+SEATS = 16
+# How many seconds a bridge may take to end.
+ALLOWED = 1
 
 
 def options(parser):
@@ -57,57 +68,26 @@ class Caller(threading.Thread):
         self.operator = Operator(socket.create_connection(("127.0.0.1", port), timeout=20))
         self.random = random.Random(seed)
         self.calls = calls
-        self.accepted = {}
+        # The accepted calls, undos taken off.
+        self.accepted, self.done = {}, 0
         self.odd = []
+
+    def next_call(self, last):
+        """A random call that takes back no more than this operator did, so that what was there at the beginning stays."""
+        return next(call for call in iter(lambda: call_of(self.random, last), None) if self.done > 0 or not call.startswith("undo "))
 
     def run(self):
         last = 0
         for _ in range(self.calls):
-            call = call_of(self.random, last)
+            call = self.next_call(last)
             told = self.operator.ask(call).split()
             if len(told) > 1 and told[0] in ("ok", "no"):
                 last = int(told[1])
             if told[:1] == ["ok"]:
                 self.accepted[last] = call
+                self.done += -1 if call.startswith("undo ") else 1
             elif told[:1] != ["no"]:
                 self.odd.append((call, told))
-
-
-class Media(threading.Thread):
-    """Two members of a room of their own who send a packet every 20 ms, and what each hears."""
-
-    def __init__(self, port, sockets):
-        super().__init__()
-        self.to, self.sockets, self.is_done = ("127.0.0.1", port), sockets, threading.Event()
-        self.heard = [[], []]
-
-    def run(self):
-        at = 0
-        while not self.is_done.wait(0.02):
-            for number, one in enumerate(self.sockets):
-                one.sendto(rtp(at, 160 * at, 1001 + number, bytes([0x90 + number]) * 160, pt=0), self.to)
-                one.setblocking(False)
-                try:
-                    while True:
-                        self.heard[number].append(one.recv(65536))
-                except BlockingIOError:
-                    pass
-            at += 1
-
-    def end(self):
-        self.is_done.set()
-        self.join()
-
-
-def shown(operator):
-    """The rows of the desk, and its version."""
-    operator.tell("show")
-    rows = []
-    while True:
-        line = operator.lines.readline().strip()
-        if line.startswith("end "):
-            return rows, int(line[4:])
-        rows.append(line)
 
 
 def replayed(program, calls):
@@ -118,41 +98,54 @@ def replayed(program, calls):
     return run.stdout.splitlines()
 
 
+def begun(bridge, pair, args, count):
+    """So many operators of a bridge, the first of whom has put the pair into a room, and the pair, which talks."""
+    _, udp, tcp = bridge
+    callers = [Caller(tcp, args.seed * 100 + at, args.calls) for at in range(count)]
+    for line in pair.lines():
+        told = callers[0].operator.ask(line).split()
+        if told[0] != "ok":
+            fail(f"{line}: {told}")
+        callers[0].accepted[int(told[1])] = line
+    pair.begin(udp)
+    time.sleep(0.3)
+    return callers
+
+
 def check(program, count, args):
     """Has so many operators call, and replays their list."""
-    with tempfile.TemporaryDirectory() as folder, udp_socket() as one, udp_socket() as other:
-        bridge, udp, tcp = started(program, settings(folder, operators=count, lanes=args.lanes))
-        callers = [Caller(tcp, args.seed * 100 + at, args.calls) for at in range(count)]
-        first = callers[0]
-        for number, member in enumerate((one, other)):
-            at = 1001 + number
-            lines = [f"add-member {at} 60 127.0.0.1:{port_of(member)} pcmu {8001 + number} 0 0", f"add-source {at} {at} audio"]
-            for line in lines if number else ["add-room 60", *lines]:
-                told = first.operator.ask(line).split()
-                if told[0] != "ok":
-                    fail(f"{line}: {told}")
-                first.accepted[int(told[1])] = line
-        media = Media(udp, (one, other))
-        media.start()
-        time.sleep(0.3)
-        begun = time.monotonic()
+    pair = Pair()
+    with tempfile.TemporaryDirectory() as folder:
+        bridge = started(program, settings(folder, operators=count, lanes=args.lanes))
+        callers = begun(bridge, pair, args, count)
+        begin = time.monotonic()
         for caller in callers:
             caller.start()
         for caller in callers:
             caller.join()
-        took = time.monotonic() - begun
-        rows, version = shown(first.operator)
-        media.end()
-        first.operator.tell("stop")
-        calls, dropped = said_at_the_end(bridge.stderr.read())
-        if bridge.wait(10):
-            fail(f"the bridge ended with status {bridge.returncode}")
+        took = time.monotonic() - begin
+        rows, version = callers[0].operator.show()
+        heard = pair.end()
+        callers[0].operator.tell("stop")
+        calls, dropped = said_at_the_end(bridge[0].stderr.read())
+        if bridge[0].wait(10):
+            fail(f"the bridge ended with status {bridge[0].returncode}")
+    if not heard or dropped:
+        fail(f"a member heard a gap, or items of lanes were dropped: {dropped}")
+    compare(program, callers, calls, rows, version)
+    share = f"{version} of {count * args.calls} calls accepted in {took:.1f} s"
+    sound = f"of {pair.sent} packets the members heard {heard[0]} and {heard[1]}"
+    print(f"{count} operators: {share}; the list leads to the same {len(rows)} rows; {sound}", flush=True)
+
+
+def compare(program, callers, calls, rows, version):
+    """Compares the accepted calls with what the bridge counted, and replays them."""
     odd = [it for caller in callers for it in caller.odd]
     if odd:
         fail(f"an operator was told {odd[0]}")
     accepted = {number: (op, call) for op, caller in enumerate(callers) for number, call in caller.accepted.items()}
     if sorted(accepted) != list(range(1, version + 1)) or sum(len(caller.accepted) for caller in callers) != version:
-        fail(f"{count} operators: the accepted calls don't have the numbers from 1 to {version}, each once")
+        fail(f"{len(callers)} operators: the accepted calls don't have the numbers from 1 to {version}, each once")
     if calls != {op: len(caller.accepted) for op, caller in enumerate(callers)}:
         fail(f"the bridge accepted {calls} calls of its operators")
     answers = replayed(program, [accepted[number] for number in range(1, version + 1)])
@@ -160,14 +153,88 @@ def check(program, count, args):
         fail("not each call of the list is accepted with its number where it is replayed")
     if answers[version:] != [*rows, f"end {version}"]:
         fail("the list leads to other rows where it is replayed")
-    gaps = [at for at, heard in enumerate(media.heard) if not has_no_gap([it for it in heard if is_rtp_of(it, 8001 + at)])]
-    if gaps or dropped:
-        fail(f"members {gaps} heard a gap; dropped items of lanes: {dropped}")
-    print(f"{count} operators: {version} of {count * args.calls} calls accepted in {took:.1f} s; the list leads to the same {len(rows)} rows", flush=True)
+
+
+# Stopping
+
+
+class Turning(threading.Thread):
+    """An operator who adds a room and removes it until the connection ends, and how many of these calls were accepted."""
+
+    def __init__(self, port, room):
+        super().__init__(daemon=True)
+        self.operator = Operator(socket.create_connection(("127.0.0.1", port), timeout=20))
+        self.calls, self.accepted = [f"add-room {room}", f"remove-room {room}"], 0
+
+    def run(self):
+        try:
+            while self.operator.ask(self.calls[self.accepted % 2]).startswith("ok "):
+                self.accepted += 1
+        except OSError:
+            pass
+
+
+def reluctant(port):
+    """A connection that takes next to nothing until it is read."""
+    one = socket.socket()
+    one.setsockopt(socket.SOL_SOCKET, socket.SO_RCVBUF, 4096)
+    one.connect(("127.0.0.1", port))
+    return one
+
+
+def is_open(connection):
+    """Whether the bridge has left a connection open."""
+    poll = select.poll()
+    poll.register(connection, select.POLLRDHUP)
+    return not poll.poll(0)
+
+
+def stop(bridge, stopping, unread):
+    """Asks for the rows once more, and stops the bridge. How long it takes to end, and what it says."""
+    ended = threading.Timer(20, bridge.kill)
+    ended.start()
+    unread.sendall(b"show\n")
+    begin = time.monotonic()
+    stopping.tell("stop")
+    status = bridge.wait()
+    took = time.monotonic() - begin
+    ended.cancel()
+    if status:
+        fail(f"the bridge ended with status {status}, {took:.1f} s after `stop`")
+    return took, *said_at_the_end(bridge.stderr.read())
+
+
+def check_stop(program, args):
+    """Has one operator stop the bridge while all others are at work."""
+    with tempfile.TemporaryDirectory() as folder, contextlib.ExitStack() as stack:
+        bridge, _, tcp = started(program, settings(folder, operators=SEATS, lanes=args.lanes))
+        stopping = stack.enter_context(socket.create_connection(("127.0.0.1", tcp), timeout=20))
+        unread, half = (stack.enter_context(reluctant(tcp)) for _ in range(2))
+        first = Operator(stopping)
+        filled = fill(first, full_desk(64))
+        callers = [Turning(tcp, 2 + at) for at in range(SEATS - 3)]
+        for caller in callers:
+            caller.start()
+        unread.sendall(b"show\n")
+        half.sendall(b"add-room 6")
+        time.sleep(1)
+        if not is_open(unread) or not is_open(half) or not all(caller.is_alive() for caller in callers):
+            fail("the bridge closed a connection before `stop`")
+        took, calls, _ = stop(bridge, first, unread)
+        for caller in callers:
+            caller.join()
+    # The answer of an operator's last call may be lost.
+    least = [filled, 0, 0, *(caller.accepted for caller in callers)]
+    most = [filled, 0, 0, *(caller.accepted + 1 for caller in callers)]
+    if sorted(calls) != list(range(SEATS)) or not all(least[op] <= calls[op] <= most[op] for op in calls):
+        fail(f"the bridge says that it accepted {calls} calls of its operators, who were told of {least}")
+    others = f"{len(callers)} operators with {sum(caller.accepted for caller in callers)} calls"
+    print(f"stop, beside `show` unread, half a line, and {others}: status 0 after {took * 1e3:.0f} ms", flush=True)
+    return took <= ALLOWED
 
 
 def run(args):
     program = release_program(args.binary)
     for count in 2, 4, 16:
         check(program, count, args)
-    return 0
+    return 0 if check_stop(program, args) else 1
