@@ -4,7 +4,7 @@ ghost use Rattle.std.specs.Prelude.{◌<◌};
 
 use crate::talking::{SAMPLES, voice_of};
 use crate::tally::Tally;
-use g711::{decode_all, encode_all};
+use sample_codecs::{decode_pcmu, encode_pcmu};
 
 /// A place among the samples of a packet.
 fn place(time: u64) -> usize
@@ -24,7 +24,7 @@ pub fn encoded(times: u64) -> Tally {
     let mut tally = Tally::new();
     for time in 0..times {
         samples[place(time)] = (time % 32_768) as i16;
-        encode_all(&samples, &mut octets);
+        encode_pcmu(&samples, &mut octets);
         if octets[place(time / 3)] != NEGATIVE_ZERO {
             tally.count(octets.len());
         }
@@ -39,12 +39,12 @@ const LEAST: i16 = -32_768;
 /// place.
 pub fn decoded(times: u64) -> Tally {
     let mut octets = [0; SAMPLES];
-    encode_all(&voice_of(1), &mut octets);
+    encode_pcmu(&voice_of(1), &mut octets);
     let mut samples = [0; SAMPLES];
     let mut tally = Tally::new();
     for time in 0..times {
         octets[place(time)] = (time % 256) as u8;
-        decode_all(&octets, &mut samples);
+        decode_pcmu(&octets, &mut samples);
         if samples[place(time / 3)] != LEAST {
             tally.count(octets.len());
         }

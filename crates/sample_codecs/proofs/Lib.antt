@@ -1,0 +1,9 @@
+pub mod Decoding
+pub mod Placing
+pub mod Holding
+pub mod Again
+pub mod Zipped
+pub mod Codes
+pub mod Floating
+pub mod SideBySide
+pub mod Pairs

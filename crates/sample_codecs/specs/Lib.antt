@@ -1,0 +1,3 @@
+pub mod MuLaw
+pub mod L16
+pub mod inner
