@@ -1,7 +1,7 @@
 -- What a source was given, and how far it has come by that (RFC 3550 A.1).
-use Rattle.std.specs.Prelude.{ℕ, Bool, true, false, if◌then◌else◌, nat_eq, List, Option, None, Some, fold, pos}
+use Rattle.std.specs.Prelude.{ℕ, Bool, true, false, if◌then◌else◌, nat_eq, List, Option, None, Some, fold, ℤ, pos}
 use Rattle.source_valid.specs.declared.verdict.Verdict.{Verdict}
-use Rattle.source_valid.specs.declared.verdict.Verdict.TheVariants.{Probation, Accepted}
+use Rattle.source_valid.specs.declared.verdict.Verdict.TheVariants.{Probation, Accepted, Jump, Restarted}
 use Rattle.source_valid.specs.declared.timing.Timing.{Timing}
 use Rattle.source_valid.specs.declared.heard.Heard.{Heard}
 use Rattle.source_valid.specs.Stretches.{Stretch, begun, following, verdict_in, given, told_in}
@@ -25,6 +25,13 @@ abbrev pub verdict_of : Standing → ℕ → Verdict
 verdict_of Unheard n = Probation
 verdict_of (Waiting last) n = if nat_eq n (following last) then Accepted (pos n) else Probation
 verdict_of (Valid s) n = verdict_in s n
+
+-- the extended number of a packet that counts
+abbrev pub accepted : Verdict → Option ℤ
+accepted Probation = None
+accepted (Accepted ext) = Some ext
+accepted Jump = None
+accepted (Restarted ext) = Some ext
 
 -- how far a source has come by one more number
 abbrev pub after_number : Standing → ℕ → Standing

@@ -1,5 +1,8 @@
 //! The verdict on a packet.
 
+ghost use Rattle.std.specs.Prelude.{◌≡◌};
+ghost use Rattle.source_valid.specs.Histories.{accepted};
+
 /// The answer to one packet's sequence number (RFC 3550 A.1).
 #[derive(Clone, Copy, PartialEq, Eq)]
 pub enum Verdict {
@@ -17,4 +20,20 @@ pub enum Verdict {
         /// Its extended sequence number, 0 to 65535.
         ext: i64,
     },
+}
+
+impl Verdict {
+    /// The extended sequence number of a packet that counts, also of one that initialises the source anew.
+    ///
+    /// There is none on probation and at a jump.
+    pub fn accepted(&self) -> Option<i64>
+        ensures { result ≡ accepted self.now }
+    {
+        match *self {
+            Verdict::Probation => None,
+            Verdict::Accepted { ext } => Some(ext),
+            Verdict::Jump => None,
+            Verdict::Restarted { ext } => Some(ext),
+        }
+    }
 }
