@@ -3,11 +3,10 @@ use Rattle.std.proofs.Common.{◌≡◌, ℕ, ℤ, ◌+◌, ◌-◌, ◌≤◌, 
 use Rattle.playout.specs.declared.placed.Placed.{Placed}
 use Rattle.playout.specs.declared.placed.Placed.TheVariants.{Kept, Late, Reset}
 use Rattle.playout.specs.Playout.{Pair, Play, sample_at, offers, delay, is_reset, place_of, placed_of, pairs_after, begun_by}
-use Rattle.std.proofs.lemmas.List.Sums.{fold-append}
-use Rattle.playout.specs.Calls.{Put, put_after, after, play_of, answer_of}
+use Rattle.playout.specs.Calls.{put_after, play_put, answer_of}
 use Rattle.playout.specs.inner.Agrees.{Agrees}
-use Rattle.playout.specs.inner.Represents.{Held, Holds, Puts}
-use Rattle.playout.proofs.Offered.{new_pair, offer_new, push_other}
+use Rattle.playout.specs.inner.Holds.{PlayoutOf, Holds, Puts}
+use Rattle.playout.proofs.Offered.{new_pair, offer_new, push_other, eq_yes}
 
 -- samples at places that are free are all kept
 pub length-offers : (p i : ℕ) (pairs : List Pair) (samples : List ℤ) → ((n : ℕ) → p + i ≤ n → sample_at pairs n ≡ None)
@@ -35,48 +34,58 @@ not_reset : (late : Bool) (kept : ℕ) (placed : Placed) (b : Bool) → placed �
 not_reset late kept placed true other h = absurd (other (sym h))
 not_reset late kept placed false other h = refl
 
+-- the playout at a rate
+abbrev pub with_rate : ℕ → Play → Play
+with_rate rate play = record { rate = rate; position = play.position; pairs = play.pairs }
+
 -- a Reset begins anew
 pub after_reset : (rate : ℕ) (play : Play) (ts : ℕ) (samples : List ℤ) → placed_of rate play.position play.pairs ts samples ≡ Reset
-    → put_after rate play ts samples ≡ begun_by rate ts samples
+    → put_after (with_rate rate play) ts samples ≡ begun_by rate ts samples
 after_reset rate play ts samples h =
-    ap (λ (b : Bool). cond b (begun_by rate ts samples) (record { position = play.position; pairs = pairs_after rate play.position play.pairs ts samples }))
+    ap (λ (b : Bool). cond b (begun_by rate ts samples) (record { rate = rate; position = play.position; pairs = pairs_after rate play.position play.pairs ts samples }))
     (reset_is _ _ (is_reset rate play.position (place_of play.position ts) (length samples)) h)
 
 -- all else leaves the position as it is
 pub after_other : (rate : ℕ) (play : Play) (ts : ℕ) (samples : List ℤ) (placed : Placed) → placed ≢ Reset → placed_of rate play.position play.pairs ts samples ≡ placed
-    → put_after rate play ts samples ≡ record { position = play.position; pairs = pairs_after rate play.position play.pairs ts samples }
+    → put_after (with_rate rate play) ts samples ≡ record { rate = rate; position = play.position; pairs = pairs_after rate play.position play.pairs ts samples }
 after_other rate play ts samples placed other h =
-    ap (λ (b : Bool). cond b (begun_by rate ts samples) (record { position = play.position; pairs = pairs_after rate play.position play.pairs ts samples }))
+    ap (λ (b : Bool). cond b (begun_by rate ts samples) (record { rate = rate; position = play.position; pairs = pairs_after rate play.position play.pairs ts samples }))
     (not_reset _ _ placed (is_reset rate play.position (place_of play.position ts) (length samples)) other h)
 
+-- a put at the playout's own rate goes on with it
+pub put_own : (rate : ℕ) (play : Play) (ts : ℕ) (samples : List ℤ) → play.rate ≡ rate → play_put rate (Some play) ts samples ≡ put_after play ts samples
+put_own rate play ts samples same = ap (λ (b : Bool). cond b (put_after play ts samples) (begun_by rate ts samples)) (eq_yes play.rate rate same)
+
 -- A put on a playout that has begun is known by what it does to each play.
-pub puts_by : (old new : Held) (ts : ℕ) (samples : List ℤ) (placed : Placed) → old.begun ≡ true → length new.cells ≡ length old.cells
+pub puts_by : (old new : PlayoutOf) (ts : ℕ) (samples : List ℤ) (placed : Placed) → old.begun ≡ true
     → ((play : Play) → Holds old (Some play)
-    → (placed ≡ placed_of (length old.cells) play.position play.pairs ts samples) × Holds new (Some (put_after (length old.cells) play ts samples)))
+    → (placed ≡ placed_of (length old.cells) play.position play.pairs ts samples) × Holds new (Some (put_after (with_rate (length old.cells) play) ts samples)))
     → Puts old new ts samples placed
-puts_by old new ts samples placed begun long step calls h =
-    let both = by (play_of (length old.cells) calls) h in (
-      both.0,
-      subst (λ (rate : ℕ). Holds new (play_of rate (calls ++ Put ts samples ∷ []))) (sym long)
-          (subst (λ (st : Option Play). Holds new st) (sym (fold-append (after (length old.cells)) None calls (Put ts samples ∷ []))) both.1),
-    )
+puts_by old new ts samples placed begun step play h = by play h
   where
-    by : (st : Option Play) → Holds old st → (placed ≡ answer_of (length old.cells) st ts samples) × Holds new (after (length old.cells) st (Put ts samples))
+    same : (play : Play) → play.rate ≡ length old.cells → with_rate (length old.cells) play ≡ play
+    same play e = λ i. record { rate = sym e i; position = play.position; pairs = play.pairs }
+
+    by : (st : Option Play) → Holds old st → (placed ≡ answer_of st ts samples) × Holds new (Some (play_put (length old.cells) st ts samples))
     by None none = absurd (let x : true ≡ false = sym begun ∙ none in cc)
-    by (Some play) held = step play held
+    by (Some play) held =
+        let both = step play held in (
+          both.0 ∙ ap (λ (rate : ℕ). placed_of rate play.position play.pairs ts samples) (sym held.1),
+          subst (λ (next : Play). Holds new (Some next)) (ap (λ (now : Play). put_after now ts samples) (same play held.1) ∙ sym (put_own (length old.cells) play ts samples held.1)) both.1,
+        )
 
 -- one that is no Reset
-pub other_step : (old new : Held) (ts : ℕ) (samples : List ℤ) (placed : Placed) (play : Play) → placed ≢ Reset
-    → new.begun ≡ true → new.position ≡ old.position → placed ≡ placed_of (length old.cells) play.position play.pairs ts samples
+pub other_step : (old new : PlayoutOf) (ts : ℕ) (samples : List ℤ) (placed : Placed) (play : Play) → placed ≢ Reset
+    → new.begun ≡ true → new.position ≡ old.position → length new.cells ≡ length old.cells → placed ≡ placed_of (length old.cells) play.position play.pairs ts samples
     → Agrees new.cells (pairs_after (length old.cells) play.position play.pairs ts samples) play.position → Holds old (Some play)
-    → (placed ≡ placed_of (length old.cells) play.position play.pairs ts samples) × Holds new (Some (put_after (length old.cells) play ts samples))
-other_step old new ts samples placed play other begun position is agrees (was, now, half, had) =
-    (is, subst (λ (next : Play). Holds new (Some next)) (sym (after_other (length old.cells) play ts samples placed other (sym is))) (begun, now ∙ sym position, half, agrees))
+    → (placed ≡ placed_of (length old.cells) play.position play.pairs ts samples) × Holds new (Some (put_after (with_rate (length old.cells) play) ts samples))
+other_step old new ts samples placed play other begun position long is agrees (was, rate, now, half, had) =
+    (is, subst (λ (next : Play). Holds new (Some next)) (sym (after_other (length old.cells) play ts samples placed other (sym is))) (begun, sym long, now ∙ sym position, half, agrees))
 
 -- and one that is
-pub reset_step : (old new : Held) (ts : ℕ) (samples : List ℤ) (play : Play) → Reset ≡ placed_of (length old.cells) play.position play.pairs ts samples
+pub reset_step : (old new : PlayoutOf) (ts : ℕ) (samples : List ℤ) (play : Play) → Reset ≡ placed_of (length old.cells) play.position play.pairs ts samples
     → Holds new (Some (begun_by (length old.cells) ts samples))
-    → (Reset ≡ placed_of (length old.cells) play.position play.pairs ts samples) × Holds new (Some (put_after (length old.cells) play ts samples))
+    → (Reset ≡ placed_of (length old.cells) play.position play.pairs ts samples) × Holds new (Some (put_after (with_rate (length old.cells) play) ts samples))
 reset_step old new ts samples play is held =
     (is, subst (λ (next : Play). Holds new (Some next)) (sym (after_reset (length old.cells) play ts samples (sym is))) held)
 

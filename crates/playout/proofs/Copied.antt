@@ -1,6 +1,6 @@
 -- A ring that is in two parts, and one that moves on.
 use Rattle.std.proofs.Common.{◌≡◌, ◌∙◌, ap, sym, refl, ℕ, ℤ, zero, suc, ◌+◌, ◌-◌, ◌<◌, ◌≤◌, ◌⊎◌, inl, inr, List, [], ◌∷◌, ◌++◌, Option, None, length, take, drop, replicate, get_or, min, append-nil, length-append, length-drop, arith}
-use Rattle.std.proofs.lemmas.List.{take_all, take-append-le, get_or-drop, length-replicate, take-replicate}
+use Rattle.std.proofs.lemmas.List.{take_all, take-append-le, get_or-drop, length-replicate}
 use Rattle.std.proofs.Math.Seq.{take-append-add}
 use Rattle.playout.specs.Playout.{Pair, sample_at}
 use Rattle.playout.specs.inner.Agrees.{Agrees}
@@ -60,21 +60,3 @@ moved_on cells new pairs p n is a = record { here = here; room = room }
 
     room : (k : ℕ) → p + n + length new ≤ k → sample_at pairs k ≡ None
     room k above = a.room k (omega (arith, above, long))
-
--- what stays of a full ring behind which so many blank cells are put
-pub left_over : (cells : List (Option ℤ)) (blank : Option ℤ) (capacity most n : ℕ) → blank ≡ None → length cells ≡ capacity → n ≤ most
-    → drop (length (cells ++ take n (replicate most blank)) - capacity) (cells ++ take n (replicate most blank)) ≡ drop n (cells ++ replicate n None)
-left_over cells blank capacity most n is full few = ap dropped same ∙ ap (λ k. drop k (cells ++ replicate n None)) over
-  where
-    dropped : List (Option ℤ) → List (Option ℤ)
-    dropped bs = drop (length (cells ++ bs) - capacity) (cells ++ bs)
-
-    same : take n (replicate most blank) ≡ replicate n None
-    same = take-replicate n most blank few ∙ ap (replicate n) is
-
-    over : length (cells ++ replicate n None) - capacity ≡ n
-    over =
-        let none : Option ℤ = None in
-        let all = length-append cells (replicate n none) in
-        let more = length-replicate n none in
-        omega (arith, all, more, full)

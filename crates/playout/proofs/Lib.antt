@@ -1,6 +1,8 @@
+pub mod Arrays
 pub mod Begun
 pub mod Copied
 pub mod EachSource
 pub mod Falls
 pub mod Offered
 pub mod Taken
+pub mod Turned

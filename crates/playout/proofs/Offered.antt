@@ -1,6 +1,6 @@
 -- One more sample, in its cell.
-use Rattle.std.proofs.Common.{◌≡◌, ℕ, ℤ, pos, zero, suc, ◌+◌, ◌<◌, ◌≤◌, Bool, true, false, cond, nat_eq, nat_lt, List, [], ◌∷◌, ◌++◌, length, drop, set, get_or, Option, None, Some, is_none, unwrap_or, refl, sym, ap, ◌∙◌, arith, subst, ◌⊎◌, inl, inr, get_or-set_same, get_or-set_other, ◌≢◌, add-one, drop-cons, length-append, length-set}
-use Rattle.std.proofs.lemmas.List.{set-get_or, drop_all}
+use Rattle.std.proofs.Common.{◌≡◌, ℕ, ℤ, zero, suc, ◌+◌, ◌<◌, ◌≤◌, Bool, true, false, cond, nat_eq, nat_lt, List, [], ◌∷◌, ◌++◌, length, drop, set, get_or, Option, None, Some, is_none, unwrap_or, refl, sym, ap, ◌∙◌, arith, subst, ◌⊎◌, inl, inr, get_or-set_same, get_or-set_other, ◌≢◌, length-append, length-set}
+use Rattle.std.proofs.lemmas.List.{set-get_or}
 use Rattle.std.proofs.lemmas.Bool.Decides.{nat_tests}
 use Rattle.playout.specs.Playout.{Pair, sample_at, offer, offers}
 use Rattle.playout.specs.inner.Agrees.{Agrees, filled}
@@ -11,10 +11,10 @@ eq_cases m n = elim (nat_eq m n) as (λ b. nat_eq m n ≡ b → (m ≡ n) ⊎ (m
   | false ↦ λ is. inr (λ same. (let e : nat_eq m n ≡ true = grind (arith, nat_tests) in let x : false ≡ true = sym is ∙ e in cc))
 ] refl
 
-eq_yes : (m n : ℕ) → m ≡ n → nat_eq m n ≡ true
+pub eq_yes : (m n : ℕ) → m ≡ n → nat_eq m n ≡ true
 eq_yes m n h = grind (arith, nat_tests)
 
-eq_no : (m n : ℕ) → m ≢ n → nat_eq m n ≡ false
+pub eq_no : (m n : ℕ) → m ≢ n → nat_eq m n ≡ false
 eq_no m n h = grind (arith, nat_tests)
 
 not_below : (p i : ℕ) → nat_lt (p + i) p ≡ false
@@ -70,54 +70,27 @@ new_agrees cells pairs p i s lt a none = record { here = here; room = room }
         let le : p + length cells ≤ n = omega (arith, above, long) in
         push_other pairs (p + i) n s apart ∙ a.room n le
 
--- The samples so far were offered; the others lead to the end.
-pub record Going (cells : List (Option ℤ)) (p place : ℕ) (rest : List ℤ) (end : List Pair) (count : ℕ) : Type 0 where
-  pub now : List Pair
-  pub agrees : Agrees cells now p
-  pub leads : offers p now place rest ≡ end
-  pub long : length now ≡ count
-
-pub going_more : (cells : List (Option ℤ)) (p offset k : ℕ) (samples : List ℤ) (s : ℤ) (end : List Pair) (count more : ℕ) (isnew : Bool)
-    → k < length samples → offset + k < length cells → s ≡ get_or samples k (pos 0) → isnew ≡ is_none (get_or cells (offset + k) None) → more ≡ count + cond isnew 1 0
-    → Going cells p (p + (offset + k)) (drop k samples) end count
-    → Going (filled cells (offset + k) s) p (p + (offset + (k + 1))) (drop (k + 1) samples) end more
-going_more cells p offset k samples s end count more isnew lt room is test sum g = by (get_or cells (offset + k) None) refl
+-- one more sample, in its cell
+pub one_offered : (cells : List (Option ℤ)) (pairs : List Pair) (p i : ℕ) (s : ℤ) → i < length cells → Agrees cells pairs p
+    → Agrees (filled cells i s) (offer p pairs (p + i) s) p × (length (offer p pairs (p + i) s) ≡ length pairs + cond (is_none (get_or cells i None)) 1 0)
+one_offered cells pairs p i s lt a = by (get_or cells i None) refl
   where
-    next : offers p (offer p g.now (p + (offset + k)) s) (p + (offset + (k + 1))) (drop (k + 1) samples) ≡ end
-    next =
-        let e : p + (offset + k) + 1 ≡ p + (offset + (k + 1)) = omega arith in
-        ap (λ (n : ℕ). offers p (offer p g.now (p + (offset + k)) s) n (drop (k + 1) samples)) (sym e)
-        ∙ ap (λ (z : ℤ). offers p (offer p g.now (p + (offset + k)) z) (p + (offset + k) + 1) (drop (k + 1) samples)) is
-        ∙ sym (ap (offers p g.now (p + (offset + k))) (drop-cons samples k (pos 0) lt ∙ ap (λ (n : ℕ). get_or samples k (pos 0) ∷ drop n samples) (sym (add-one k))))
-        ∙ g.leads
-
-    by : (o : Option ℤ) → get_or cells (offset + k) None ≡ o → Going (filled cells (offset + k) s) p (p + (offset + (k + 1))) (drop (k + 1) samples) end more
+    by : (o : Option ℤ) → get_or cells i None ≡ o
+        → Agrees (filled cells i s) (offer p pairs (p + i) s) p × (length (offer p pairs (p + i) s) ≡ length pairs + cond (is_none (get_or cells i None)) 1 0)
     by None none =
-        let at : sample_at g.now (p + (offset + k)) ≡ None = sym (g.agrees.here (offset + k) room) ∙ none in
-        let t : isnew ≡ true = test ∙ ap is_none none in
-        record {
-          now = g.now ++ new_pair (p + (offset + k)) s ∷ [];
-          agrees = subst (λ (o : Option ℤ). Agrees (set cells (offset + k) (Some (unwrap_or o s))) (g.now ++ new_pair (p + (offset + k)) s ∷ []) p) (sym none) (new_agrees cells g.now p (offset + k) s room g.agrees none);
-          leads = ap (λ (xs : List Pair). offers p xs (p + (offset + (k + 1))) (drop (k + 1) samples)) (sym (offer_new p (offset + k) g.now s at)) ∙ next;
-          long = length-append g.now (new_pair (p + (offset + k)) s ∷ []) ∙ ap (λ n. n + 1) g.long ∙ sym (sum ∙ ap (λ b. count + cond b 1 0) t);
-        }
+        let at : sample_at pairs (p + i) ≡ None = sym (a.here i lt) ∙ none in
+        let more = offer_new p i pairs s at in
+        let agrees : Agrees (filled cells i s) (pairs ++ new_pair (p + i) s ∷ []) p = subst (λ (o : Option ℤ). Agrees (set cells i (Some (unwrap_or o s))) (pairs ++ new_pair (p + i) s ∷ []) p) (sym none) (new_agrees cells pairs p i s lt a none) in (
+          subst (λ (xs : List Pair). Agrees (filled cells i s) xs p) (sym more) agrees,
+          ap length more ∙ length-append pairs (new_pair (p + i) s ∷ []) ∙ ap (λ (o : Option ℤ). length pairs + cond (is_none o) 1 0) (sym none),
+        )
     by (Some v) some =
-        let at : sample_at g.now (p + (offset + k)) ≡ Some v = sym (g.agrees.here (offset + k) room) ∙ some in
-        let t : isnew ≡ false = test ∙ ap is_none some in
-        let same : filled cells (offset + k) s ≡ cells = ap (λ (o : Option ℤ). set cells (offset + k) (Some (unwrap_or o s))) some ∙ ap (set cells (offset + k)) (sym some) ∙ set-get_or cells (offset + k) None in
-        let e : more ≡ count + 0 = sum ∙ ap (λ b. count + cond b 1 0) t in
-        record {
-          now = g.now;
-          agrees = subst (λ (cs : List (Option ℤ)). Agrees cs g.now p) (sym same) g.agrees;
-          leads = ap (λ (xs : List Pair). offers p xs (p + (offset + (k + 1))) (drop (k + 1) samples)) (sym (offer_old p (offset + k) g.now s v at)) ∙ next;
-          long = g.long ∙ omega (arith, e);
-        }
-
-pub going_done : (cells : List (Option ℤ)) (p place k : ℕ) (samples : List ℤ) (end : List Pair) (count : ℕ) → length samples ≤ k
-    → Going cells p place (drop k samples) end count → Agrees cells end p × (length end ≡ count)
-going_done cells p place k samples end count le g =
-    let e : g.now ≡ end = sym (ap (offers p g.now place) (drop_all k samples le)) ∙ g.leads in
-    (subst (λ (xs : List Pair). Agrees cells xs p) e g.agrees, ap length (sym e) ∙ g.long)
+        let at : sample_at pairs (p + i) ≡ Some v = sym (a.here i lt) ∙ some in
+        let same : filled cells i s ≡ cells = ap (λ (o : Option ℤ). set cells i (Some (unwrap_or o s))) some ∙ ap (set cells i) (sym some) ∙ set-get_or cells i None in
+        let kept = offer_old p i pairs s v at in (
+          subst (λ (xs : List Pair). Agrees (filled cells i s) xs p) (sym kept) (subst (λ (cs : List (Option ℤ)). Agrees cs pairs p) (sym same) a),
+          ap length kept ∙ (let none_more : length pairs ≡ length pairs + 0 = omega arith in none_more) ∙ ap (λ (o : Option ℤ). length pairs + cond (is_none o) 1 0) (sym some),
+        )
 
 below_yes : (q p : ℕ) → q < p → nat_lt q p ≡ true
 below_yes q p lt = grind (arith, nat_tests)

@@ -1,11 +1,11 @@
 -- Takes, for each list of calls.
-use Rattle.std.proofs.Common.{◌≡◌, ℕ, ℤ, pos, zero, suc, ◌+◌, ◌<◌, ◌≤◌, ◌^◌, ◌%◌, Bool, true, false, cond, List, [], ◌∷◌, ◌++◌, length, map, take, get_or, count_by, Option, None, Some, is_some, refl, sym, ap, ◌∙◌, arith, subst}
+use Rattle.std.proofs.Common.{◌≡◌, ℕ, ℤ, pos, zero, suc, ◌+◌, ◌<◌, ◌≤◌, ◌^◌, ◌%◌, Bool, true, false, cond, List, [], length, map, take, get_or, count_by, Option, None, Some, is_some, refl, sym, ap, ◌∙◌, arith}
 use Rattle.std.proofs.lemmas.List.{get_or-map, get_or-take, length-take}
-use Rattle.std.proofs.lemmas.List.Sums.{fold-append, count_by_more_yes, count_by_more_no}
+use Rattle.std.proofs.lemmas.List.Sums.{count_by_more_yes, count_by_more_no}
 use Rattle.playout.specs.Playout.{Pair, Play, present, AreTaken}
-use Rattle.playout.specs.Calls.{Take, after, play_of, Takes}
+use Rattle.playout.specs.Calls.{play_taken, PlaysOut}
 use Rattle.playout.specs.inner.Agrees.{Agrees, IsBlank}
-use Rattle.playout.specs.inner.Represents.{Held, Holds, Shows, HasTaken}
+use Rattle.playout.specs.inner.Holds.{PlayoutOf, Holds, Shows, HasTaken}
 use Rattle.playout.specs.inner.Cells.{heard}
 
 -- where there is no sample, the position makes no difference
@@ -35,28 +35,26 @@ counted cells pairs p (suc n) within a =
     by true is lt = count_by_more_yes is_some cells n None lt is ∙ ap (λ b. count_by is_some (take n cells) + cond b 1 0) (sym is)
     by false is lt = let none : count_by is_some (take n cells) ≡ count_by is_some (take n cells) + 0 = omega arith in count_by_more_no is_some cells n None lt is ∙ none ∙ ap (λ b. count_by is_some (take n cells) + cond b 1 0) (sym is)
 
-pub shows_by : (held : Held) (out : List ℤ) (count n : ℕ) → (held.begun ≡ false → IsBlank held.cells) → n ≡ length out → n ≤ length held.cells
+pub shows_by : (held : PlayoutOf) (out : List ℤ) (count n : ℕ) → (held.begun ≡ false → IsBlank held.cells) → n ≡ length out → n ≤ length held.cells
     → out ≡ map heard (take n held.cells) → count ≡ count_by is_some (take n held.cells) → Shows held out count
-shows_by held out count n blank all within samples is calls h = by (play_of (length held.cells) calls) h
+shows_by held out count n blank all within samples is play h = by play h
   where
     step : (p : ℕ) (pairs : List Pair) → Agrees held.cells pairs p → AreTaken pairs p out × (count ≡ present pairs p (length out))
     step p pairs a = (heard_taken held.cells pairs p n out all samples within a, is ∙ counted held.cells pairs p n within a ∙ ap (present pairs p) all)
 
-    by : (st : Option Play) → Holds held st → Takes st out count
+    by : (st : Option Play) → Holds held st → PlaysOut st out count
     by None none = let both = step 0 [] (blank none 0) in (both.0, both.1 ∙ present-nothing 0 (length out))
-    by (Some play) (begun, now, half, had) = step play.position play.pairs had
+    by (Some play) (begun, rate, now, half, had) = step play.position play.pairs had
 
-pub taken_by : (old new : Held) (count : ℕ) → new.begun ≡ old.begun → new.position ≡ (old.position + count) % 2 ^ 32 → length new.cells ≡ length old.cells
+pub taken_by : (old new : PlayoutOf) (count : ℕ) → new.begun ≡ old.begun → new.position ≡ (old.position + count) % 2 ^ 32 → length new.cells ≡ length old.cells
     → ((p : ℕ) (pairs : List Pair) → Agrees old.cells pairs p → Agrees new.cells pairs (p + count))
     → HasTaken old new count
-taken_by old new count begun position long step calls h =
-    subst (λ (rate : ℕ). Holds new (play_of rate (calls ++ Take count ∷ []))) (sym long)
-    (subst (λ (st : Option Play). Holds new st) (sym (fold-append (after (length old.cells)) None calls (Take count ∷ []))) (by (play_of (length old.cells) calls) h))
+taken_by old new count begun position long step play h = by play h
   where
     moved : (p w : ℕ) → p % 2 ^ 32 ≡ w → (p + count) % 2 ^ 32 ≡ (w + count) % 2 ^ 32
     moved p w is = omega (arith, is)
 
-    by : (st : Option Play) → Holds old st → Holds new (after (length old.cells) st (Take count))
+    by : (st : Option Play) → Holds old st → Holds new (play_taken count st)
     by None none = begun ∙ none
-    by (Some play) (was, now, half, had) =
-        (begun ∙ was, moved play.position old.position now ∙ sym position, omega (arith, half), step play.position play.pairs had)
+    by (Some play) (was, rate, now, half, had) =
+        (begun ∙ was, rate ∙ sym long, moved play.position old.position now ∙ sym position, omega (arith, half), step play.position play.pairs had)

@@ -1,37 +1,45 @@
--- What a playout answers, by the calls that it has had so far (own).
-use Rattle.std.specs.Prelude.{◌≡◌, ℕ, ℤ, ◌+◌, if◌then◌else◌, List, [], length, fold, Option, None, Some}
+-- What becomes of a playout by a put and by a take, and what it answers (own).
+use Rattle.std.specs.Prelude.{◌≡◌, ℕ, ℤ, ◌+◌, ◌/◌, if◌then◌else◌, nat_eq, List, [], length, Option, None, Some}
 use Rattle.playout.specs.declared.placed.Placed.{Placed}
 use Rattle.playout.specs.declared.placed.Placed.TheVariants.{Kept}
 use Rattle.playout.specs.Playout.{Play, begun_by, is_reset, place_of, placed_of, pairs_after, present, AreTaken}
 
--- samples put at a timestamp; so many samples taken
-pub data Call : Type 0 where
-  Put : (ts : ℕ) (samples : List ℤ) → Call
-  Take : (count : ℕ) → Call
+-- a playout that has begun, after one more put at its rate: too far from its position, it begins anew as by a first put
+abbrev pub put_after : Play → ℕ → List ℤ → Play
+put_after play ts samples =
+    if is_reset play.rate play.position (place_of play.position ts) (length samples) then begun_by play.rate ts samples
+    else record { rate = play.rate; position = play.position; pairs = pairs_after play.rate play.position play.pairs ts samples }
 
--- a playout that has begun, after one more put: too far from its position, it begins anew as by a first put
-abbrev pub put_after : ℕ → Play → ℕ → List ℤ → Play
-put_after rate play ts samples =
-    if is_reset rate play.position (place_of play.position ts) (length samples) then begun_by rate ts samples
-    else record { position = play.position; pairs = pairs_after rate play.position play.pairs ts samples }
+-- what a put at this rate makes of a playout: it begins one where there is none, or one of another rate
+abbrev pub play_put : ℕ → Option Play → ℕ → List ℤ → Play
+play_put rate None ts samples = begun_by rate ts samples
+play_put rate (Some play) ts samples = if nat_eq play.rate rate then put_after play ts samples else begun_by rate ts samples
 
--- Before the first put there is nothing, and a take leaves it so.
-abbrev pub after : ℕ → Option Play → Call → Option Play
-after rate None (Put ts samples) = Some (begun_by rate ts samples)
-after rate None (Take count) = None
-after rate (Some play) (Put ts samples) = Some (put_after rate play ts samples)
-after rate (Some play) (Take count) = Some (record { position = play.position + count; pairs = play.pairs })
+-- what a take of so many samples makes of a playout. Before the first put it leaves nothing there.
+abbrev pub play_taken : ℕ → Option Play → Option Play
+play_taken count None = None
+play_taken count (Some play) = Some (record { rate = play.rate; position = play.position + count; pairs = play.pairs })
 
--- the playout after these calls, if a put is among them
-abbrev pub play_of : ℕ → List Call → Option Play
-play_of rate calls = fold (after rate) None calls
+-- how many samples 20 ms are
+abbrev pub tick_samples : ℕ → ℕ
+tick_samples rate = rate / 50
 
--- what becomes of a put: the first one is kept whole
-abbrev pub answer_of : ℕ → Option Play → ℕ → List ℤ → Placed
-answer_of rate None ts samples = Kept (length samples)
-answer_of rate (Some play) ts samples = placed_of rate play.position play.pairs ts samples
+-- what 20 ms make of a playout
+abbrev pub play_ticked : Option Play → Option Play
+play_ticked None = None
+play_ticked (Some play) = play_taken (tick_samples play.rate) (Some play)
 
--- Before the first put zeros are taken, and none of them was present.
-abbrev pub Takes : Option Play → List ℤ → ℕ → Type 0
-Takes None out count = AreTaken [] 0 out × (count ≡ 0)
-Takes (Some play) out count = AreTaken play.pairs play.position out × (count ≡ present play.pairs play.position (length out))
+-- what becomes of a put at the playout's rate: the first one is kept whole
+abbrev pub answer_of : Option Play → ℕ → List ℤ → Placed
+answer_of None ts samples = Kept (length samples)
+answer_of (Some play) ts samples = placed_of play.rate play.position play.pairs ts samples
+
+-- These are the next samples of a playout, and so many of them are there. Before the first put they are zeros, and none is there.
+abbrev pub PlaysOut : Option Play → List ℤ → ℕ → Type 0
+PlaysOut None out count = AreTaken [] 0 out × (count ≡ 0)
+PlaysOut (Some play) out count = AreTaken play.pairs play.position out × (count ≡ present play.pairs play.position (length out))
+
+-- the playout, if it has this rate
+abbrev pub at_rate : ℕ → Option Play → Option Play
+at_rate rate None = None
+at_rate rate (Some play) = if nat_eq play.rate rate then Some play else None

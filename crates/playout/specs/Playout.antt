@@ -23,8 +23,9 @@ abbrev pub offers : ℕ → List Pair → ℕ → List ℤ → List Pair
 offers position pairs place [] = pairs
 offers position pairs place (sample ∷ samples) = offers position (offer position pairs place sample) (place + 1) samples
 
--- the place of the next sample to take, and the samples that are there
+-- the samples a second, the place of the next sample to take, and the samples that are there
 pub record Play : Type 0 where
+  pub rate : ℕ
   pub position : ℕ
   pub pairs : List Pair
 
@@ -39,6 +40,7 @@ delay rate = rate * 60 / 1000
 -- begun by a put at this timestamp: 60 ms before it, one turn up so that no place is below 0
 abbrev pub begun_by : ℕ → ℕ → List ℤ → Play
 begun_by rate ts samples = record {
+  rate = rate;
   position = ts + 2 ^ 32 - delay rate;
   pairs = offers (ts + 2 ^ 32 - delay rate) [] (ts + 2 ^ 32) samples;
 }

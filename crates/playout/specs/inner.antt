@@ -1,4 +1,3 @@
 pub mod Agrees
 pub mod Cells
-pub mod Rated
-pub mod Represents
+pub mod Holds

@@ -1,59 +1,67 @@
 //! A jitter buffer for one source.
 
-ghost use Rattle.std.specs.Prelude.{◌≡◌, ◌≤◌, ◌<◌, ◌*◌, ◌+◌, ◌-◌, ◌%◌, ◌^◌, ℕ, true, IfOk, [], length};
+ghost use Rattle.std.specs.Prelude.{◌≡◌, ◌≤◌, ◌<◌, ◌*◌, ◌+◌, ◌-◌, ◌%◌, ◌^◌, ℕ, true, IfOk, None, length};
 ghost use Rattle.playout.specs.Playout.{delay, begun_by};
 ghost use Rattle.playout.specs.inner.Agrees.{Agrees, IsBlank};
-ghost use Rattle.playout.specs.inner.Represents.{Represents, Puts, Shows, HasTaken};
+ghost use Rattle.playout.specs.inner.Holds.{Holds, Puts, Shows, HasTaken};
 
-use crate::cell::Cell;
 use crate::placed::Placed;
 use crate::putting::put_begun;
-use crate::ring::{clear, empty, keep, read_first, skip};
-use circular_buffer::HeapCircularBuffer;
+use crate::ring::Ring;
 use std::alloc::{AllocError, Allocator, Global};
 use std::marker::Model;
 
 /// The time that samples wait before they are taken, in milliseconds.
 const DELAY: usize = 60;
 
-/// A jitter buffer of samples for one source. Contracts know it by the puts and takes so far.
+/// A jitter buffer of samples for one source. Contracts know it by the playout that it holds: its rate, its position
+/// and its samples.
 ///
 /// Only [`new`](Self::new) takes memory.
 #[derive(Drop)]
 pub struct Playout<A: Allocator = Global> {
     begun: bool,
     position: u32,
-    ring: HeapCircularBuffer<Cell, A>,
+    ring: Ring<A>,
 }
 
 impl<A: Allocator> Model for Playout<A> {
-    ghost use Rattle.playout.specs.inner.Represents.{Held, IsSound};
+    ghost use Rattle.playout.specs.inner.Holds.{PlayoutOf, IsSound};
 
-    ghost Value = { Held };
+    ghost Value = { PlayoutOf };
 
     ghost view = { λ playout. record {
       begun = playout.begun;
       position = playout.position;
-      cells = playout.ring.items;
+      cells = playout.ring;
     } };
 
-    ghost invariant = { λ playout. IsSound playout.begun playout.ring.items playout.ring.capacity };
+    ghost invariant = { λ playout. IsSound playout.begun playout.ring };
 }
 
-impl<A: Allocator> Playout<A> {
+impl<A: Allocator + Copy> Playout<A> {
     /// An empty buffer of one second. `rate` is in samples a second, 50 to 48,000. The only error is out of memory.
-    pub fn new(alloc: A, rate: usize) -> Result<Self, AllocError>
+    pub fn new(alloc: A, rate: u32) -> Result<Self, AllocError>
         requires least { 50 ≤ rate }
         requires most { rate ≤ 48000 }
-        ensures blank { IfOk result (λ playout. Represents playout []) }
+        ensures blank { IfOk result (λ playout. Holds playout None) }
         ensures rate { IfOk result (λ playout. length playout.cells ≡ rate) }
     {
-        let ring = empty(alloc, rate)?;
+        let ring = Ring::new(alloc, rate as usize)?;
         Ok(Self {
             begun: false,
             position: 0,
             ring,
         })
+    }
+}
+
+impl<A: Allocator> Playout<A> {
+    /// The samples a second.
+    pub fn rate(&self) -> u32
+        ensures { result ≡ length self.now.cells }
+    {
+        self.ring.len() as u32
     }
 
     /// Begins 60 ms before this timestamp.
@@ -67,10 +75,10 @@ impl<A: Allocator> Playout<A> {
             (begun_by (length self.old.cells) ts samples.now).position }
         ensures count { result ≡ length samples.now }
     {
-        let delay = self.ring.capacity() * DELAY / 1000;
+        let delay = self.ring.len() * DELAY / 1000;
         self.begun = true;
         self.position = ts.wrapping_sub(delay as u32);
-        keep(&mut self.ring, delay, samples)
+        self.ring.keep(delay, samples)
     }
 
     /// Puts samples at the places from this RTP timestamp on: 1 sample to a fifth of a second.
@@ -88,7 +96,7 @@ impl<A: Allocator> Playout<A> {
             Placed::Kept { count } => Placed::Kept { count },
             Placed::Late => Placed::Late,
             Placed::Reset => {
-                clear(&mut self.ring);
+                self.ring.clear();
                 self.begin(ts, samples);
                 Placed::Reset
             }
@@ -113,7 +121,7 @@ impl<A: Allocator> Playout<A> {
         ensures taken { HasTaken self.old self.new count }
         ensures rate { length self.new.cells ≡ length self.old.cells }
     {
-        skip(&mut self.ring, count);
+        self.ring.skip(count);
         self.position = self.position.wrapping_add(count as u32);
     }
 
@@ -122,6 +130,6 @@ impl<A: Allocator> Playout<A> {
         requires { length out.old ≤ length self.now.cells }
         ensures { Shows self.now out.new result }
     {
-        read_first(&self.ring, out)
+        self.ring.read_first(out)
     }
 }

@@ -1,7 +1,7 @@
 //! Jitter buffers of samples. Samples are put by timestamp as they come, and taken in order, 60 ms later.
 //!
-//! Begin with [`Playout::new`] for one source, or with [`Playouts::new`] for many. A contract speaks of the list of
-//! puts and takes so far.
+//! Begin with [`Playout::new`] for one source, or with [`Playouts::new`] for many. A contract of many speaks of
+//! the list of puts and takes so far.
 //!
 //! ```rust
 //! let mut playout = Playout::new(alloc, 50)?; // 50 samples a second: 60 ms are 3 samples
@@ -13,13 +13,15 @@
 //! `the_first_samples_are_kept` and `they_come_60_ms_later` of worked_media are these calls, with their answers proved.
 #![tactic(auto)]
 
-mod cell;
 mod jitter_buffer;
 mod many;
 mod placed;
+mod places;
 mod putting;
 mod ring;
+mod timed_samples;
 
 pub use jitter_buffer::Playout;
 pub use many::Playouts;
 pub use placed::Placed;
+pub use timed_samples::TimedSamples;

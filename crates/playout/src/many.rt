@@ -1,9 +1,12 @@
 //! Jitter buffers for many sources.
 
-ghost use Rattle.std.specs.Prelude.{◌≡◌, ◌≤◌, ◌<◌, ◌*◌, [], length, None, IfOk, OnOk, OnErr};
+ghost use Rattle.std.specs.Prelude.{◌≡◌, ◌≤◌, ◌<◌, ◌*◌, [], length, None, Some, IfOk, OnOk, OnErr};
+ghost use Rattle.playout.specs.Playout.{begun_by};
 ghost use Rattle.playout.specs.Playouts.{PutOf, TakeAll, playout_at, Has, HasAlso, ShowsOf};
+ghost use Rattle.playout.specs.inner.Holds.{Holds, HasPut, ShowsAt};
 
 use crate::jitter_buffer::Playout;
+use crate::timed_samples::TimedSamples;
 use indexmap::IndexMap;
 use rtp_codec::Address;
 use std::alloc::{AllocError, Allocator, Global};
@@ -13,57 +16,101 @@ use std::marker::Model;
 /// The number of sources to allocate for at first.
 const FIRST_SOURCES: usize = 16;
 
+/// The ticks in a second.
+const TICKS: u32 = 50;
+
 /// The key of a source: an SSRC, and the parts of an address.
 #[derive(Clone, Copy, PartialEq, Eq, Hash)]
-pub(crate) struct Key {
+pub(crate) struct SourceKey {
     source: u32,
     ip: [u8; 4],
     port: u16,
 }
 
 /// The key of a source.
-fn key_of(source: u32, address: &Address) -> Key
+fn key_of(source: u32, address: &Address) -> SourceKey
     ensures { result ≡ record { source = source; ip = address.now.ip; port = address.now.port } }
 {
-    Key {
+    SourceKey {
         source,
         ip: address.ip,
         port: address.port,
     }
 }
 
-type Table<A> = IndexMap<Key, Playout<A>, BuildHasherDefault<FoldHasher>, A>;
+/// The jitter buffer that these samples begin.
+fn begun<A: Allocator + Copy>(alloc: A, block: TimedSamples<'_>) -> Result<Playout<A>, AllocError>
+    requires least { 50 ≤ block.rate }
+    requires most { block.rate ≤ 48000 }
+    requires some { 0 < length block.samples.now }
+    requires few { length block.samples.now * 5 ≤ block.rate }
+    ensures { IfOk result
+        (λ playout. Holds playout (Some (begun_by block.entry.rate block.entry.ts block.entry.samples.now))) }
+{
+    let mut playout = Playout::new(alloc, block.rate)?;
+    playout.put(block.ts, block.samples);
+    Ok(playout)
+}
+
+/// Puts samples into the jitter buffer of their source. At another rate than its own it begins anew.
+fn put_into<A: Allocator + Copy>(
+    playout: &mut Playout<A>,
+    alloc: A,
+    block: TimedSamples<'_>,
+) -> Result<(), AllocError>
+    requires least { 50 ≤ block.rate }
+    requires most { block.rate ≤ 48000 }
+    requires some { 0 < length block.samples.now }
+    requires few { length block.samples.now * 5 ≤ block.rate }
+    ensures put { OnOk result (HasPut playout.old playout.new block.entry.rate block.entry.ts block.entry.samples.now) }
+    ensures err { OnErr result (playout.new ≡ playout.old) }
+{
+    if playout.rate() == block.rate {
+        playout.put(block.ts, block.samples);
+    } else {
+        *playout = begun(alloc, block)?;
+    }
+    Ok(())
+}
+
+/// Reads the next samples of a source, if they have this rate.
+fn peek_at<A: Allocator>(playout: &Playout<A>, rate: u32, out: &mut [i16]) -> u32
+    requires { length out.old ≤ rate }
+    ensures { ShowsAt playout.now rate out.new result }
+{
+    if playout.rate() == rate {
+        playout.peek(out)
+    } else {
+        out.fill(0);
+        0
+    }
+}
+
+type Table<A> = IndexMap<SourceKey, Playout<A>, BuildHasherDefault<FoldHasher>, A>;
 
 /// The jitter buffers of a lane (media worker), one for each source by SSRC and address.
 ///
-/// A source's buffer begins with its first samples, and is never dropped.
+/// A source's buffer begins with its first samples, and is never dropped. It begins anew where the clock rate changes.
 #[derive(Drop)]
 pub struct Playouts<A: Allocator + Copy = Global> {
-    rate: usize,
     table: Table<A>,
 }
 
 impl<A: Allocator + Copy> Model for Playouts<A> {
     ghost use Rattle.playout.specs.Playouts.{PlayoutsOf};
-    ghost use Rattle.playout.specs.inner.Rated.{AreRated};
 
     ghost Value = { PlayoutsOf };
 
-    ghost view = { λ p. record { rate = p.rate; entries = p.table.entries } };
-
-    ghost invariant = { λ p. AreRated p.rate p.table.entries };
+    ghost view = { λ p. p.table.entries };
 }
 
 impl<A: Allocator + Copy> Playouts<A> {
-    /// No buffers yet. `rate` is in samples a second, 50 to 48,000, for all sources. The only error is out of memory.
-    pub fn new(alloc: A, rate: usize) -> Result<Self, AllocError>
-        requires least { 50 ≤ rate }
-        requires most { rate ≤ 48000 }
-        ensures none { IfOk result (λ playouts. Has playouts []) }
-        ensures rate { IfOk result (λ playouts. playouts.rate ≡ rate) }
+    /// No buffers yet. The only error is out of memory.
+    pub fn new(alloc: A) -> Result<Self, AllocError>
+        ensures { IfOk result (λ playouts. Has playouts []) }
     {
         let table = IndexMap::with_capacity(alloc, FIRST_SOURCES)?;
-        Ok(Self { rate, table })
+        Ok(Self { table })
     }
 
     /// Begins the buffer of a new source.
@@ -72,69 +119,67 @@ impl<A: Allocator + Copy> Playouts<A> {
         alloc: A,
         source: u32,
         address: &Address,
-        ts: u32,
-        samples: &[i16],
+        block: TimedSamples<'_>,
     ) -> Result<(), AllocError>
         requires new { playout_at source address.now self.old ≡ None }
-        requires some { 0 < length samples.now }
-        requires few { length samples.now * 5 ≤ self.old.rate }
-        ensures has { OnOk result (HasAlso self.old self.new (PutOf source address.now ts samples.now)) }
-        ensures rate { self.new.rate ≡ self.old.rate }
+        requires least { 50 ≤ block.rate }
+        requires most { block.rate ≤ 48000 }
+        requires some { 0 < length block.samples.now }
+        requires few { length block.samples.now * 5 ≤ block.rate }
+        ensures has { OnOk result (HasAlso self.old self.new
+            (PutOf source address.now block.entry.rate block.entry.ts block.entry.samples.now)) }
         ensures err { OnErr result (self.new ≡ self.old) }
     {
-        let mut playout = Playout::new(alloc, self.rate)?;
-        playout.put(ts, samples);
+        let playout = begun(alloc, block)?;
         self.table.insert(key_of(source, address), playout)?;
         Ok(())
     }
 
-    /// Puts samples of a source at the places from this RTP timestamp on: 1 sample to a fifth of a second.
+    /// Puts samples of a source at the places from their timestamp on: 1 sample to a fifth of a second, at 50 to
+    /// 48,000 Hz. Samples of another rate than the source's last ones begin its buffer anew.
     ///
-    /// Only the first put of a source takes memory. On out of memory, the only error, nothing changes.
+    /// Only the first put of a source, and the first one at another rate, take memory. On out of memory, the only
+    /// error, nothing changes.
     pub fn put(
         &mut self,
         alloc: A,
         source: u32,
         address: &Address,
-        ts: u32,
-        samples: &[i16],
+        block: TimedSamples<'_>,
     ) -> Result<(), AllocError>
-        requires some { 0 < length samples.now }
-        requires few { length samples.now * 5 ≤ self.old.rate }
-        ensures has { OnOk result (HasAlso self.old self.new (PutOf source address.now ts samples.now)) }
-        ensures rate { self.new.rate ≡ self.old.rate }
+        requires least { 50 ≤ block.rate }
+        requires most { block.rate ≤ 48000 }
+        requires some { 0 < length block.samples.now }
+        requires few { length block.samples.now * 5 ≤ block.rate }
+        ensures has { OnOk result (HasAlso self.old self.new
+            (PutOf source address.now block.entry.rate block.entry.ts block.entry.samples.now)) }
         ensures err { OnErr result (self.new ≡ self.old) }
     {
         match self.table.get_mut(&key_of(source, address)) {
-            Some(playout) => {
-                playout.put(ts, samples);
-                Ok(())
-            }
-            None => self.begin(alloc, source, address, ts, samples),
+            Some(playout) => put_into(playout, alloc, block),
+            None => self.begin(alloc, source, address, block),
         }
     }
 
-    /// Takes the next `count` samples of every source without reading them; at most a second of them.
-    pub fn take_all(&mut self, count: usize)
-        requires { count ≤ self.old.rate }
-        ensures has { HasAlso self.old self.new (TakeAll count) }
-        ensures rate { self.new.rate ≡ self.old.rate }
+    /// Takes the next 20 ms of every source without reading them.
+    pub fn take_all(&mut self)
+        ensures { HasAlso self.old self.new TakeAll }
     {
         for index in 0..self.table.len() {
             if let Some(playout) = self.table.get_index_mut(index) {
-                playout.skip(count);
+                playout.skip((playout.rate() / TICKS) as usize);
             }
         }
     }
 
-    /// Reads the next samples of a source, at most a second of them, and leaves them. A missing sample is 0.
-    /// Returns the number of those present.
-    pub fn peek(&self, source: u32, address: &Address, out: &mut [i16]) -> u32
-        requires { length out.old ≤ self.now.rate }
-        ensures { ShowsOf self.now source address.now out.new result }
+    /// Reads the next samples of a source, at most a second of them, and leaves them. A missing sample is 0, and so is
+    /// each one where the source's samples have another rate. Returns the number of those present.
+    pub fn peek(&self, source: u32, address: &Address, rate: u32, out: &mut [i16]) -> u32
+        requires { length out.old ≤ rate }
+        ensures { ShowsOf self.now source address.now rate out.new result }
     {
         match self.table.get(&key_of(source, address)) {
-            Some(playout) => playout.peek(out),
+            Some(playout) => peek_at(playout, rate, out),
             None => {
                 out.fill(0);
                 0

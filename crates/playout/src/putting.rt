@@ -4,10 +4,8 @@ ghost use Rattle.std.specs.Prelude.{◌≡◌, ℕ, ◌+◌, ◌-◌, ◌<◌, �
 ghost use Rattle.playout.specs.Playout.{Pair, placed_of, pairs_after};
 ghost use Rattle.playout.specs.inner.Agrees.{Agrees};
 
-use crate::cell::Cell;
 use crate::placed::Placed;
-use crate::ring::keep;
-use circular_buffer::HeapCircularBuffer;
+use crate::ring::Ring;
 use std::alloc::Allocator;
 
 /// Half the number of timestamps.
@@ -22,22 +20,20 @@ fn distance(position: u32, ts: u32) -> u32
 
 /// Puts samples after the first put. On `Reset` the caller begins anew.
 pub fn put_begun<A: Allocator>(
-    ring: &mut HeapCircularBuffer<Cell, A>,
+    ring: &mut Ring<A>,
     position: u32,
     ts: u32,
     samples: &[i16],
 ) -> Placed
-    requires full { length ring.old.items ≡ ring.old.capacity }
-    requires rate { ring.old.capacity ≤ 48000 }
-    requires few { (0 < length samples.now) × (length samples.now ≤ ring.old.capacity) }
-    ensures placed { (p : ℕ) (pairs : List Pair) → Agrees ring.old.items pairs p → p % 2 ^ 32 ≡ position → 2 ^ 31 ≤ p
-        → result ≡ placed_of ring.old.capacity p pairs ts samples.now }
-    ensures agrees { (p : ℕ) (pairs : List Pair) → Agrees ring.old.items pairs p → p % 2 ^ 32 ≡ position → 2 ^ 31 ≤ p
-        → Agrees ring.new.items (pairs_after ring.old.capacity p pairs ts samples.now) p }
-    ensures capacity { ring.new.capacity ≡ ring.old.capacity }
-    ensures long { length ring.new.items ≡ length ring.old.items }
+    requires rate { length ring.old ≤ 48000 }
+    requires few { (0 < length samples.now) × (length samples.now ≤ length ring.old) }
+    ensures placed { (p : ℕ) (pairs : List Pair) → Agrees ring.old pairs p → p % 2 ^ 32 ≡ position → 2 ^ 31 ≤ p
+        → result ≡ placed_of (length ring.old) p pairs ts samples.now }
+    ensures agrees { (p : ℕ) (pairs : List Pair) → Agrees ring.old pairs p → p % 2 ^ 32 ≡ position → 2 ^ 31 ≤ p
+        → Agrees ring.new (pairs_after (length ring.old) p pairs ts samples.now) p }
+    ensures long { length ring.new ≡ length ring.old }
 {
-    let rate = ring.capacity();
+    let rate = ring.len();
     let far = distance(position, ts) as usize;
     if far >= HALF_A_TURN as usize {
         let offset = far - HALF_A_TURN as usize;
@@ -45,7 +41,7 @@ pub fn put_begun<A: Allocator>(
             return Placed::Reset;
         }
         Placed::Kept {
-            count: keep(ring, offset, samples),
+            count: ring.keep(offset, samples),
         }
     } else {
         let behind = HALF_A_TURN as usize - far;
@@ -56,7 +52,7 @@ pub fn put_begun<A: Allocator>(
             return Placed::Late;
         }
         Placed::Kept {
-            count: keep(ring, 0, &samples[behind..]),
+            count: ring.keep(0, &samples[behind..]),
         }
     }
 }

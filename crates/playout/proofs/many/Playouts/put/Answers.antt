@@ -1,41 +1,37 @@
-use Rattle.std.proofs.Common.{◌≡◌, ◌∙◌, ap, sym, subst, Some, is_some, OnOk, arith}
-use Rattle.std.specs.Map.{lookup}
+use Rattle.std.proofs.Common.{◌≡◌, ◌∙◌, ap, sym, subst, Some, is_some, OnOk}
+use Rattle.std.proofs.lemmas.Result.{on_ok_weaker, on_err_weaker}
+use Rattle.std.proofs.lemmas.Map.Steps.{set_value_same}
+use Rattle.std.specs.Map.{lookup, set_value}
 use Rattle.std.specs.Option.{option_copied_mut}
 use Rattle.playout.specs.Playouts.{PlayoutsOf, PutOf, HasAlso}
-use Rattle.playout.proofs.EachSource.{same_key, playouts_of, Rated, put_kept, rated_at, rated_set}
+use Rattle.playout.specs.inner.Holds.{PlayoutOf}
+use Rattle.playout.proofs.EachSource.{same_key, put_kept}
 use Rattle.playout.proofs.many.Playouts.put.Goals as goal
-
-pub put-requires-clause-few : goal.put-requires-clause-few
-put-requires-clause-few g c =
-    let at : lookup (same_key c.key_of.result) c.self.inside.table.entries ≡ Some c.in-Some.playout.now = sym c.get_mut.ensures.value ∙ ap option_copied_mut c.in-Some.is in
-    let long = rated_at c.self.inside.rate (same_key c.key_of.result) c.self.inside.table.entries c.in-Some.playout.now c.self.invariant.rated at in
-    omega (arith, long, c.requires.few, ap (λ (p : PlayoutsOf). p.rate) c.self.view_is)
-
-pub invariant_of-self : goal.invariant_of-self
-invariant_of-self g c =
-    let at : lookup (same_key c.key_of.result) c.self.inside.table.entries ≡ Some c.in-Some.playout.now = sym c.get_mut.ensures.value ∙ ap option_copied_mut c.in-Some.is in
-    let long = rated_at c.self.inside.rate (same_key c.key_of.result) c.self.inside.table.entries c.in-Some.playout.now c.self.invariant.rated at in
-    record {
-      least = c.self.invariant.least;
-      most = c.self.invariant.most;
-      rated = subst (λ es. Rated c.self.inside.rate es) (sym (c.get_mut.follows.holds c.put.new.self).0)
-          (rated_set c.self.inside.rate (same_key c.key_of.result) c.self.inside.table.entries c.put.new.self c.self.invariant.rated (c.put.ensures.rate ∙ long));
-    }
 
 pub returns-in-Some-clause-has : goal.returns-in-Some-clause-has
 returns-in-Some-clause-has g c =
     let es = c.self.inside.table.entries in
-    let fs = (c.get_mut.follows.lender c.put.new.self).entries in
-    let rate = c.self.inside.rate in
-    let w = c.put.new.self in
+    let w = c.put_into.new.playout in
+    let fs = (c.get_mut.follows.lender w).entries in
+    let block = c.args.block in
     let at : lookup (same_key c.key_of.result) es ≡ Some c.in-Some.playout.now = sym c.get_mut.ensures.value ∙ ap option_copied_mut c.in-Some.is in
-    let long = rated_at rate (same_key c.key_of.result) es c.in-Some.playout.now c.self.invariant.rated at in
     let updates = (c.get_mut.follows.holds w).3 (ap is_some at) in
-    subst (λ (old : PlayoutsOf). HasAlso old (playouts_of rate fs) (PutOf c.args.source c.args.address.now c.args.ts c.args.samples.now)) c.self.view_is
-    (put_kept rate es fs c.args.source c.args.address.now c.key_of.result c.key_of.ensures c.args.ts c.args.samples.now w updates.0 c.in-Some.playout.now c.put.result at long (c.put.ensures.rate ∙ long) c.put.ensures.puts)
+    on_ok_weaker c.put_into.result (λ put.
+    subst (λ (old : PlayoutsOf). HasAlso old fs (PutOf c.args.source c.args.address.now block.rate block.ts block.samples.now)) c.self.view_is
+    (put_kept es fs c.args.source c.args.address.now c.key_of.result c.key_of.ensures block.rate block.ts block.samples.now w updates.0 c.in-Some.playout.now at put))
+    c.put_into.ensures.put
+
+pub returns-in-Some-clause-err : goal.returns-in-Some-clause-err
+returns-in-Some-clause-err g c =
+    let es = c.self.inside.table.entries in
+    let at : lookup (same_key c.key_of.result) es ≡ Some c.in-Some.playout.now = sym c.get_mut.ensures.value ∙ ap option_copied_mut c.in-Some.is in
+    on_err_weaker c.put_into.result (λ same.
+    (c.get_mut.follows.holds c.put_into.new.playout).0 ∙ ap (λ (w : PlayoutOf). set_value (same_key c.key_of.result) es w) same ∙ set_value_same (same_key c.key_of.result) es c.in-Some.playout.now at ∙ c.self.view_is)
+    c.put_into.ensures.err
 
 pub returns-in-None-clause-has : goal.returns-in-None-clause-has
 returns-in-None-clause-has g c =
-    subst (λ (old : PlayoutsOf). OnOk c.begin.result (HasAlso old c.begin.new.self (PutOf c.args.source c.args.address.now c.args.ts c.args.samples.now)))
-    ((λ i. playouts_of c.self.inside.rate (c.get_mut.follows.holds-at-none i).entries) ∙ c.self.view_is)
+    let block = c.args.block in
+    subst (λ (old : PlayoutsOf). OnOk c.begin.result (HasAlso old c.begin.new.self (PutOf c.args.source c.args.address.now block.rate block.ts block.samples.now)))
+    ((λ i. (c.get_mut.follows.holds-at-none i).entries) ∙ c.self.view_is)
     c.begin.ensures.has
