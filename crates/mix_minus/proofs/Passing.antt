@@ -5,7 +5,7 @@ use Rattle.std.proofs.lemmas.List.{drop_all}
 use Rattle.std.proofs.lemmas.Int.{ints}
 use Rattle.mix_minus.specs.declared.input.Input.{Input}
 use Rattle.mix_minus.specs.Mix.{heard, heard_sum, sample_at, sample_sum, IsTotal}
-use Rattle.mix_minus.specs.inner.Passes.{at, Moves, Passes, IsWithin, AreSmall}
+use Rattle.mix_minus.specs.inner.Passes.{at, four_at, Moves, Passes, IsWithin, AreSmall}
 
 -- After k passes: what the others will add is left.
 pub record Underway (base : ℕ) (rest : ℕ → ℕ → ℤ) (old now : List ℤ) (k : ℕ) : Type 0 where
@@ -25,6 +25,21 @@ underway_more base rest x old now new k long next pass u = record {
     left i n m h = let s : at new i ≡ at now i +ℤ x i = m.sum in omega (arith, ints)
 
     small : (i : ℕ) → Moves (x i) (at now i) (at new i) → IsWithin (base + 262144 * k) (at now i) → IsWithin (base + 262144 * (k + 1)) (at new i)
+    small i m h = record { low = omega (arith, ints); high = omega (arith, ints) }
+
+pub underway_four : (base : ℕ) (rest : ℕ → ℕ → ℤ) (x : ℕ → ℤ) (old now new : List ℤ) (k : ℕ)
+    → length now ≡ length old → ((i : ℕ) → rest k i ≡ x i +ℤ rest (k + 4) i)
+    → Passes x now new → Underway base rest old now k → Underway base rest old new (k + 4)
+underway_four base rest x old now new k long next pass u = record {
+  left = λ i lt. left i (next i) (pass.moves i (subst (λ (n : ℕ). i < n) (sym long) lt)) (u.left i lt);
+  small = λ i lt. small i (pass.moves i (subst (λ (n : ℕ). i < n) (sym long) lt)) (u.small i lt);
+}
+  where
+    left : (i : ℕ) → rest k i ≡ x i +ℤ rest (k + 4) i → Moves (x i) (at now i) (at new i) → at now i +ℤ rest k i ≡ at old i +ℤ rest 0 i
+        → at new i +ℤ rest (k + 4) i ≡ at old i +ℤ rest 0 i
+    left i n m h = let s : at new i ≡ at now i +ℤ x i = m.sum in omega (arith, ints)
+
+    small : (i : ℕ) → Moves (x i) (at now i) (at new i) → IsWithin (base + 262144 * k) (at now i) → IsWithin (base + 262144 * (k + 4)) (at new i)
     small i m h = record { low = omega (arith, ints); high = omega (arith, ints) }
 
 -- the sum of the changes by turn
@@ -49,6 +64,18 @@ turned receiver i (input ∷ inputs) (gain ∷ gains) long =
 pub sample_next : (i k : ℕ) (inputs : List Input) (d : Input) → k < length inputs
     → sample_sum i (drop k inputs) ≡ at (get_or inputs k d).samples.now (0 + i) +ℤ sample_sum i (drop (k + 1) inputs)
 sample_next i k inputs d lt = rw (add-one, zero-add, drop-cons inputs k d lt) refl
+
+pub sample_four : (i k : ℕ) (inputs : List Input) (a b c d : Input) → k + 4 ≤ length inputs
+    → sample_sum i (drop k inputs)
+    ≡ four_at (get_or inputs k a).samples.now (get_or inputs (k + 1) b).samples.now (get_or inputs (k + 2) c).samples.now (get_or inputs (k + 3) d).samples.now i +ℤ sample_sum i (drop (k + 4) inputs)
+sample_four i k inputs a b c d le =
+    by _ _ _ _ _ _ _ _ _ (step k (k + 1) a (omega arith) (omega (arith, le))) (step (k + 1) (k + 2) b (omega arith) (omega (arith, le))) (step (k + 2) (k + 3) c (omega arith) (omega (arith, le))) (step (k + 3) (k + 4) d (omega arith) (omega (arith, le)))
+  where
+    step : (j n : ℕ) (e : Input) → n ≡ j + 1 → j < length inputs → sample_sum i (drop j inputs) ≡ at (get_or inputs j e).samples.now i +ℤ sample_sum i (drop n inputs)
+    step j n e is lt = rw (is, add-one, drop-cons inputs j e lt) refl
+
+    by : (s0 s1 s2 s3 s4 a b c d : ℤ) → s0 ≡ a +ℤ s1 → s1 ≡ b +ℤ s2 → s2 ≡ c +ℤ s3 → s3 ≡ d +ℤ s4 → s0 ≡ ((a +ℤ b) +ℤ (c +ℤ d)) +ℤ s4
+    by s0 s1 s2 s3 s4 a b c d e0 e1 e2 e3 = omega (arith, ints)
 
 pub heard_next : (receiver i k : ℕ) (inputs : List Input) (gains : List ℕ) (d : Input) (e : ℕ) → k < length inputs → length gains ≡ length inputs
     → heard_sum receiver i (drop k inputs) (drop k gains) ≡ heard receiver i (get_or inputs k d) (get_or gains k e) +ℤ heard_sum receiver i (drop (k + 1) inputs) (drop (k + 1) gains)

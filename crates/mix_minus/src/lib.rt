@@ -1,8 +1,8 @@
 //! The mix that one member of a room hears (mix-minus, RFC 7667 section 3.6.1): the sum of all others, each at this
 //! listener's gain, clamped once.
 //!
-//! [`mix`] sums for one listener. For a whole room, call [`room_total`] once and [`mix_by_total`] for each listener:
-//! the mixes are the same. A contract states each sample as a clamped sum over the inputs.
+//! [`mix`] sums for one listener. For a whole room, call [`room_total`] once, and for each listener [`mix_by_total`],
+//! or [`mix_of_others`] where all its gains are 256: the mixes are the same. A contract states each sample as a clamped sum over the inputs.
 //!
 //! ```rust
 //! let inputs = [
@@ -19,6 +19,7 @@
 
 mod contributors;
 mod input;
+mod laws;
 mod mixing;
 mod parts;
 mod places;
@@ -27,4 +28,5 @@ mod sums;
 
 pub use contributors::Contributors;
 pub use input::Input;
-pub use mixing::{mix, mix_by_total, room_total};
+pub use laws::{is_the_mix, others_contribute};
+pub use mixing::{mix, mix_by_total, mix_of_others, room_total};

@@ -1,11 +1,13 @@
 //! Mixes one tick.
 
 ghost use Rattle.std.specs.Prelude.{◌≡◌, ℕ, ◌+◌, ◌<◌, ◌≤◌, length, take};
-ghost use Rattle.mix_minus.specs.Mix.{IsMix, IsTotal, AreMixable, ReachTo, contributing};
+ghost use Rattle.mix_minus.specs.Mix.{IsMix, IsTotal, IsLeft, AreMixable, ReachTo, contributing};
+ghost use Rattle.mix_minus.specs.inner.Passes.{AreSmall};
 
 use crate::contributors::{Contributors, first_heard};
 use crate::input::Input;
-use crate::places::{PLACES, clear, mix_places, turn_places};
+use crate::parts::{write_all, write_without};
+use crate::places::{PLACES, clear, leave_places, mix_places, turn_places};
 use crate::ranges::know_inputs;
 use crate::sums::add_all;
 
@@ -34,6 +36,7 @@ pub fn room_total(inputs: &[Input], total: &mut [i32])
     requires few { length inputs.now ≤ 64 }
     requires reach { ReachTo (length total.old) inputs.now }
     ensures total { IsTotal inputs.now total.new }
+    ensures small { AreSmall 16777216 total.new }
 {
     clear(total);
     add_all(total, inputs);
@@ -65,4 +68,38 @@ pub fn mix_by_total(
         start += count;
     }
     first_heard(inputs, gains, receiver)
+}
+
+/// Writes the same as [`mix`] for a receiver without gains, from the room's total and the receiver's own inputs alone.
+///
+/// There are at most 64 own inputs, each at least as long as `out`. The law [`is_the_mix`](crate::is_the_mix) ties it to
+/// the mix, and [`others_contribute`](crate::others_contribute) tells who contributes.
+pub fn mix_of_others(total: &[i32], own: &[Input], out: &mut [i16])
+    requires few { length own.now ≤ 64 }
+    requires reach { ReachTo (length out.old) own.now }
+    requires small { AreSmall 16777216 total.now }
+    requires long { length out.old ≤ length total.now }
+    ensures { IsLeft total.now own.now out.new }
+{
+    match own.len() {
+        0 => write_all(total, out),
+        1 => write_without(total, own[0].samples, out),
+        _ => leave(total, own, out),
+    }
+}
+
+/// Writes what is left of the total without some inputs, some places at a time.
+fn leave(total: &[i32], own: &[Input], out: &mut [i16])
+    requires few { length own.now ≤ 64 }
+    requires reach { ReachTo (length out.old) own.now }
+    requires small { AreSmall 16777216 total.now }
+    requires long { length out.old ≤ length total.now }
+    ensures { IsLeft total.now own.now out.new }
+{
+    let mut start = 0;
+    while start < out.len() {
+        let count = (out.len() - start).min(PLACES);
+        leave_places(total, own, start, count, out);
+        start += count;
+    }
 }

@@ -1,12 +1,12 @@
 //! Mixes a few places of a tick at a time, in an array on the stack.
 
-ghost use Rattle.std.specs.Prelude.{◌≡◌, ℕ, ◌+◌, ◌<◌, ◌≤◌, pos, length};
-ghost use Rattle.mix_minus.specs.Mix.{clamped, heard_sum, AreMixable, ReachTo, IsTotal};
+ghost use Rattle.std.specs.Prelude.{◌≡◌, ℕ, ◌+◌, ◌<◌, ◌≤◌, pos, ◌-ℤ◌, length};
+ghost use Rattle.mix_minus.specs.Mix.{clamped, heard_sum, sample_sum, AreMixable, ReachTo, IsTotal};
 ghost use Rattle.mix_minus.specs.inner.Passes.{AreSmall, at};
 
 use crate::input::Input;
 use crate::parts::clamp;
-use crate::sums::{add_all_heard, turn_all};
+use crate::sums::{add_all_heard, take_all_off, turn_all};
 
 /// The most places that are summed at a time.
 pub const PLACES: usize = 256;
@@ -90,5 +90,24 @@ pub fn turn_places(
     let sums = &mut room[..count];
     load(sums, total, start);
     turn_all(sums, inputs, gains, receiver, start);
+    write(sums, start, out);
+}
+
+/// Writes `count` places from `start` on of what is left of the total without some inputs.
+pub fn leave_places(total: &[i32], own: &[Input], start: usize, count: usize, out: &mut [i16])
+    requires few { length own.now ≤ 64 }
+    requires reach { ReachTo (start + count) own.now }
+    requires small { AreSmall 16777216 total.now }
+    requires count { count ≤ 256 }
+    requires out { start + count ≤ length out.old }
+    requires long { start + count ≤ length total.now }
+    ensures written { (i : ℕ) → i < count
+        → at out.new (start + i) ≡ clamped (at total.now (start + i) -ℤ sample_sum (start + i) own.now) }
+    ensures before { (i : ℕ) → i < start → at out.new i ≡ at out.old i }
+{
+    let mut room = [0; PLACES];
+    let sums = &mut room[..count];
+    load(sums, total, start);
+    take_all_off(sums, own, start);
     write(sums, start, out);
 }

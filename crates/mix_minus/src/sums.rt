@@ -5,7 +5,7 @@ ghost use Rattle.mix_minus.specs.Mix.{heard, heard_sum, sample_at, sample_sum, A
 ghost use Rattle.mix_minus.specs.inner.Passes.{Passes, Raised, AreSmall, at};
 
 use crate::input::Input;
-use crate::parts::{add, add_scaled, correct, take_off};
+use crate::parts::{add, add_four, add_scaled, correct, take_off};
 
 /// Adds what the receiver hears of an input.
 fn add_heard(sums: &mut [i32], input: &Input, gain: u32, receiver: u32, start: usize)
@@ -72,7 +72,30 @@ pub fn add_all(sums: &mut [i32], inputs: &[Input])
     ensures sums { Raised (λ i. sample_sum i inputs.now) sums.old sums.new }
     ensures small { AreSmall 16777216 sums.new }
 {
-    for k in 0..inputs.len() {
+    let mut next = 0;
+    while inputs.len() - next >= 4 {
+        add_four(
+            sums,
+            inputs[next].samples,
+            inputs[next + 1].samples,
+            inputs[next + 2].samples,
+            inputs[next + 3].samples,
+        );
+        next += 4;
+    }
+    for k in next..inputs.len() {
         add(sums, inputs[k].samples, 0);
+    }
+}
+
+/// Takes all samples of some inputs off.
+pub fn take_all_off(sums: &mut [i32], own: &[Input], start: usize)
+    requires few { length own.now ≤ 64 }
+    requires reach { ReachTo (start + length sums.old) own.now }
+    requires small { AreSmall 16777216 sums.old }
+    ensures { (i : ℕ) → i < length sums.old → at sums.new i ≡ at sums.old i -ℤ sample_sum (start + i) own.now }
+{
+    for k in 0..own.len() {
+        take_off(sums, own[k].samples, start);
     }
 }
