@@ -1,10 +1,11 @@
 //! The sources of a member's mix.
 
-ghost use Rattle.std.specs.Prelude.{◌≡◌, IfOk, filter, length, map, true};
+ghost use Rattle.std.specs.Prelude.{◌≡◌, ℕ, IfOk, filter, length, map, nat_eq, true};
 ghost use Rattle.std.specs.List.{filter_map};
 ghost use Rattle.desk_rows.specs.Desk.{good};
+ghost use Rattle.desk_rows.specs.Naming.{gains_naming};
 ghost use Rattle.desk_rows.specs.Order.{in_order};
-ghost use Rattle.topology.specs.Mixes.{audio_sources, gain_of, in_room, mix_source, mix_plan};
+ghost use Rattle.topology.specs.Mixes.{audio_sources, full_gain, gain_of, in_room, mix_source, mix_plan};
 ghost use Rattle.topology.specs.inner.Audible.{audio_in, is_muted_in, audible_seat, gain_among};
 
 use crate::looking::room_of_member;
@@ -155,6 +156,14 @@ pub fn write_gains<A: Allocator + Copy>(
     } else {
         write_each(own, member, sources, gains);
     }
+}
+
+/// Whether a member has no gains of its own. Then it hears each source as loud as it came.
+pub fn hears_in_full<A: Allocator + Copy>(rows: &Rows<A>, member: u32) -> bool
+    ensures none { result ≡ nat_eq (length (gains_naming rows.now member)) 0 }
+    ensures full { result ≡ true → (source : ℕ) → gain_of rows.now member source ≡ full_gain }
+{
+    rows.gains_of(member).is_empty()
 }
 
 /// A member's gain for a source, in 256ths.

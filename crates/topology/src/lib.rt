@@ -22,7 +22,9 @@ mod receivers;
 mod seating;
 
 pub use self::choosing::choice;
-pub use self::hearing::{AudioSource, MixSource, audio_sources, mix_plan, write_gains};
+pub use self::hearing::{
+    AudioSource, MixSource, audio_sources, hears_in_full, mix_plan, write_gains,
+};
 pub use self::laws::{
     all_who_chose_receive, choices_stay_in_the_room, first_videos_are_least, gains_are_small,
     mixes_are_apart, mixes_have_one_member, mixes_stay_in_the_room, nothing_falls_through,
