@@ -1,6 +1,6 @@
 -- How long payloads are.
 use Rattle.std.proofs.Common.{◌≡◌, ℤ, ◌*◌, List, [], ◌∷◌, length, refl, arith}
-use Rattle.l16.specs.Samples.{octets_of}
+use Rattle.sample_codecs.specs.L16.{octets_of}
 
 pub length-octets_of : (samples : List ℤ) → length (octets_of samples) ≡ 2 * length samples
 length-octets_of [] = refl

@@ -1,10 +1,7 @@
-pub mod Frame
 pub mod Sending
 pub mod Timestamps
 pub mod RoutedList
-pub mod Rates
 pub mod Streams
 pub mod Mixes
-pub mod OwnStreams
 pub mod inner
 pub mod laws

@@ -2,8 +2,8 @@
 use Rattle.std.specs.Prelude.{◌≡◌, ℕ, List}
 use Rattle.retransmit.specs.declared.owner.Owner.{Owner}
 use Rattle.retransmit.specs.SentPacket.{SentPacket}
-use Rattle.forward_rewrite.specs.declared.sending.Stamp.{Stamp}
-use Rattle.forward_rewrite.specs.Frame.{SourceFrame}
+use Rattle.media_items.specs.declared.stamp.Stamp.{Stamp}
+use Rattle.media_items.specs.Frame.{SourceFrame}
 
 -- a frame that is sent, by which version of the desk, as which item of the lane, and to whom
 pub record Sending : Type 0 where

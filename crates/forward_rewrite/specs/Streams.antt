@@ -4,11 +4,11 @@ use Rattle.retransmit.specs.SentPacket.{SentPacket}
 use Rattle.retransmit.specs.Window.{room, latest}
 use Rattle.forward_rewrite.specs.declared.counts.Counts.{Counts}
 use Rattle.forward_rewrite.specs.declared.last_sent.LastSent.{LastSent}
-use Rattle.forward_rewrite.specs.Frame.{SourceFrame}
+use Rattle.media_items.specs.Frame.{SourceFrame}
 use Rattle.forward_rewrite.specs.Sending.{Sending, Numbered, out_of}
 use Rattle.forward_rewrite.specs.Timestamps.{Stamped, difference, last_of, stamped}
 use Rattle.forward_rewrite.specs.RoutedList.{Part, parts, packets_of}
-use Rattle.forward_rewrite.specs.Rates.{video_rate}
+use Rattle.media_items.specs.Rates.{video_rate}
 
 -- a stream: its SSRC, the timestamp that it begins with, the number of its next packet, how many packets and octets of payload it has sent,
 -- what is kept of its last frame, and the packets that can be sent again

@@ -4,7 +4,7 @@ ghost use Rattle.std.specs.Prelude.{◌≡◌, Some};
 ghost use Rattle.forward_rewrite.specs.Streams.{sent};
 ghost use Rattle.forward_rewrite.specs.inner.Counters.{ts_after, goes_on};
 
-use crate::frame::MediaFrame;
+use media_items::MediaFrame;
 use rtp_codec::Address;
 use std::alloc::Allocator;
 

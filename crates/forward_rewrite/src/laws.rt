@@ -8,7 +8,8 @@ ghost use Rattle.forward_rewrite.specs.Timestamps.{Stamped, stamped};
 ghost use Rattle.forward_rewrite.specs.RoutedList.{Part, octets, packets_of};
 ghost use Rattle.forward_rewrite.specs.laws.Laws.{GoesWhole, KeepsTime, FindsOnlyWhatWasSent, FindsEach, by_parts};
 ghost use Rattle.forward_rewrite.specs.Mixes.{Sound, MixTick, silent, sounding, mix_packet, mix_list};
-ghost use Rattle.forward_rewrite.specs.laws.MixLaws.{KeepsPace};
+ghost use Rattle.forward_rewrite.specs.declared.tick_time.TickTime.{TickTime};
+ghost use Rattle.forward_rewrite.specs.laws.MixLaws.{silent_at, KeepsPace, SendsMore};
 
 use retransmit::{found_is_the_only_one, owners_are_told_apart};
 
@@ -59,15 +60,18 @@ pub fn mix_numbers_in_a_row()
 {}
 
 /// A law of a mix stream. Its first packet has its first number, its first timestamp and the marker. A silent tick
-/// sends nothing. The timestamp advances by 160 a tick. A later packet has the marker exactly if the tick before it was
-/// silent.
+/// sends nothing. The timestamp advances by the samples of each tick: 160 at 8000 Hz, 882 at 44100 Hz. A later packet
+/// has the marker exactly if the tick before it was silent.
 pub fn mix_time_goes_on()
-    ensures first { (ssrc first_seq first_ts : ℕ) (moments : List ℕ) (sound : Sound) (moment : ℕ)
-        → mix_list ssrc first_seq first_ts (map silent moments ++ sounding sound moment ∷ [])
+    ensures first { (ssrc first_seq first_ts : ℕ) (silences : List TickTime) (sound : Sound) (moment : ℕ)
+        → mix_list ssrc first_seq first_ts (map silent_at silences ++ sounding sound moment ∷ [])
         ≡ mix_packet ssrc first_seq first_ts true sound ∷ [] }
-    ensures silence { (ssrc first_seq first_ts : ℕ) (before : List MixTick) (moment : ℕ)
-        → mix_list ssrc first_seq first_ts (before ++ silent moment ∷ []) ≡ mix_list ssrc first_seq first_ts before }
-    ensures pace { (ssrc first_seq first_ts : ℕ) (before : List MixTick) (sound : Sound) (moment : ℕ) (pauses : List ℕ)
-        (later : Sound) (later_moment : ℕ)
+    ensures silence { (ssrc first_seq first_ts : ℕ) (before : List MixTick) (rate moment : ℕ)
+        → mix_list ssrc first_seq first_ts (before ++ silent rate moment ∷ [])
+        ≡ mix_list ssrc first_seq first_ts before }
+    ensures more { (ssrc first_seq first_ts : ℕ) (before : List MixTick) (tick : MixTick)
+        → SendsMore ssrc first_seq first_ts before tick }
+    ensures pace { (ssrc first_seq first_ts : ℕ) (before : List MixTick) (sound : Sound) (moment : ℕ)
+        (pauses : List TickTime) (later : Sound) (later_moment : ℕ)
         → KeepsPace ssrc first_seq first_ts before sound moment pauses later later_moment }
 {}

@@ -22,26 +22,28 @@
 #![tactic(auto)]
 
 mod counts;
-mod frame;
-mod lane_place;
+mod formats;
 mod last_sent;
 mod laws;
 mod mix_packets;
 mod mix_stream;
 mod packets;
 mod prepared;
+mod prepared_mix;
 mod sending;
 mod stream;
+mod tick_time;
 
 pub use self::counts::Counts;
-pub use self::frame::MediaFrame;
-pub use self::lane_place::LanePlace;
+pub use self::formats::{encode_into, format_of, payload_len};
 pub use self::laws::{
     each_frame_goes_whole, found_is_what_was_sent, mix_numbers_in_a_row, mix_time_goes_on,
     numbers_in_a_row, time_goes_on,
 };
-pub use self::mix_stream::{MixStream, PreparedMix};
+pub use self::mix_packets::Named;
+pub use self::mix_stream::MixStream;
 pub use self::prepared::Prepared;
-pub use self::sending::{OutPacket, Stamp};
+pub use self::prepared_mix::PreparedMix;
+pub use self::sending::OutPacket;
 pub use self::stream::Stream;
 pub use retransmit::{Entry, Owner};

@@ -1,62 +1,25 @@
 //! The packets of a mix.
 
-ghost use Rattle.std.specs.Prelude.{◌≡◌, ◌≤◌, ◌*◌, ◌++◌, length, IfOk, OnOk};
-ghost use Rattle.rtp_codec.specs.Packet.{written, most_pt, most_csrcs};
-ghost use Rattle.forward_rewrite.specs.Mixes.{pt_of, encoded};
+ghost use Rattle.std.specs.Prelude.{◌≡◌, ◌≤◌, ◌++◌, ℕ, List, [], length, false, IfOk, OnOk};
+ghost use Rattle.rtp_codec.specs.Packet.{written, fixed_header, number_octets, most_pt, most_csrcs};
+ghost use Rattle.forward_rewrite.specs.Mixes.{encoded};
 
-use bytes::Bytes;
-use desk_rows::Codec;
+use crate::formats::{append_encoded, payload_len};
+use bytes::{Bytes, BytesMut};
+use media_items::Format;
 use retransmit::PacketBytes;
 use rtp_codec::{Header, write};
 use std::alloc::{AllocError, Allocator};
 
-/// The payload type of a codec: 0 for PCMU (RFC 3551 section 6), 97 for L16.
-pub fn payload_type(codec: Codec) -> u8
-    ensures { result ≡ pt_of codec }
-{
-    match codec {
-        Codec::Pcmu => 0,
-        Codec::L16 => 97,
-    }
-}
-
-/// The octets of payload for these samples.
-#[tactic(auto, using(crate::proofs::Payloads::lengths))]
-pub fn payload_len(codec: Codec, samples: &[i16]) -> usize
-    ensures len { result ≡ length (encoded codec samples.now) }
-    ensures few { result ≤ 2 * length samples.now }
-{
-    match codec {
-        Codec::Pcmu => samples.len(),
-        Codec::L16 => 2 * samples.len(),
-    }
-}
-
-/// Encodes samples into octets. There are as many as [`payload_len`] says.
-#[tactic(auto, using(crate::proofs::Payloads::lengths))]
-fn encode_into(codec: Codec, samples: &[i16], octets: &mut [u8])
-    requires { length octets.old ≡ length (encoded codec samples.now) }
-    ensures { octets.new ≡ encoded codec samples.now }
-{
-    match codec {
-        Codec::Pcmu => g711::encode_all(samples, octets),
-        Codec::L16 => l16::encode(samples, octets),
-    }
-}
-
-/// Appends encoded samples.
-fn append_encoded<A: Allocator>(
-    codec: Codec,
-    samples: &[i16],
-    out: &mut Vec<u8, A>,
-) -> Result<(), AllocError>
-    ensures { OnOk result (out.new.items ≡ out.old.items ++ encoded codec samples.now) }
-{
-    let before = out.len();
-    out.resize(before + payload_len(codec, samples), 0)?;
-    let (_, tail) = out.as_mut_slice().split_at_mut(before);
-    encode_into(codec, samples, tail);
-    Ok(())
+/// The contributing sources of a packet, in network order: the octets of `front`, then those of `back`.
+#[derive(Clone, Copy)]
+pub struct Named<'a> {
+    /// The number of sources, at most 15. Each has four octets.
+    pub count: u8,
+    /// The octets of the first ones.
+    pub front: &'a [u8],
+    /// The octets of the others.
+    pub back: &'a [u8],
 }
 
 /// The octets of a packet with these samples, in one piece.
@@ -64,16 +27,56 @@ pub fn packet_of<A: Allocator + Copy>(
     alloc: A,
     header: &Header,
     csrcs: &[u32],
-    codec: Codec,
+    format: Format,
     samples: &[i16],
 ) -> Result<PacketBytes<A>, AllocError>
     requires pt { header.now.pt ≤ most_pt }
     requires csrcs { length csrcs.now ≤ most_csrcs }
-    ensures { IfOk result (λ bytes. bytes ≡ written header.now csrcs.now (encoded codec samples.now)) }
+    ensures { IfOk result (λ bytes. bytes ≡ written header.now csrcs.now (encoded format samples.now)) }
 {
-    let size = 12 + 4 * csrcs.len() + payload_len(codec, samples);
+    let size = 12 + 4 * csrcs.len() + payload_len(format, samples);
     let mut out = Vec::with_capacity(alloc, size)?;
     write(header, csrcs, &[], &mut out)?;
-    append_encoded(codec, samples, &mut out)?;
+    append_encoded(format, samples, &mut out)?;
     Ok(PacketBytes::whole(Bytes::from_vec(out)?))
+}
+
+/// The octets of the fixed header, with no padding and no extension (RFC 3550 section 5.1).
+fn fixed_header(header: &Header, csrc_count: u8) -> [u8; 12]
+    requires pt { header.now.pt ≤ most_pt }
+    requires csrcs { csrc_count ≤ most_csrcs }
+    ensures octets { result ≡ fixed_header false false header.now csrc_count }
+{
+    let (pt, seq) = (header.pt, header.seq);
+    let (ts, ssrc) = (header.ts, header.ssrc);
+    let [s0, s1] = seq.to_be_bytes();
+    let [t0, t1, t2, t3] = ts.to_be_bytes();
+    let [x0, x1, x2, x3] = ssrc.to_be_bytes();
+    let first = 128 + csrc_count;
+    let second = if header.marker { 128 + pt } else { pt };
+    [first, second, s0, s1, t0, t1, t2, t3, x0, x1, x2, x3]
+}
+
+/// The octets of a packet with this payload. They are written to an empty buffer and cut off it, with no second copy.
+pub fn packet_in<A: Allocator + Copy>(
+    room: &mut BytesMut<A>,
+    header: &Header,
+    named: Named<'_>,
+    payload: &[u8],
+) -> Result<PacketBytes<A>, AllocError>
+    requires pt { header.now.pt ≤ most_pt }
+    requires csrcs { named.count ≤ most_csrcs }
+    requires empty { room.old.items ≡ [] }
+    ensures octets { IfOk result
+        (λ bytes. (csrcs : List ℕ) → length csrcs ≡ named.entry.count
+        → named.entry.front.now ++ named.entry.back.now ≡ number_octets csrcs
+        → bytes ≡ written header.now csrcs payload.now) }
+    ensures empty { OnOk result (room.new.items ≡ []) }
+{
+    room.extend_from_slice(&fixed_header(header, named.count))?;
+    room.extend_from_slice(named.front)?;
+    room.extend_from_slice(named.back)?;
+    room.extend_from_slice(payload)?;
+    let count = room.len();
+    Ok(PacketBytes::whole(room.freeze_to(count)?))
 }

@@ -8,9 +8,9 @@ ghost use Rattle.forward_rewrite.specs.Sending.{out_of};
 ghost use Rattle.forward_rewrite.specs.RoutedList.{part_of, sent_packet, numbered};
 ghost use Rattle.forward_rewrite.specs.inner.Sharing.{stamped_by};
 
-use crate::frame::MediaFrame;
-use crate::sending::{OutPacket, Stamp};
+use crate::sending::OutPacket;
 use frame_gate::FramePacket;
+use media_items::{MediaFrame, Stamp};
 use retransmit::{Entry, Owner, PacketBytes};
 use rtp_codec::{Header, seq_next, write};
 use std::alloc::{AllocError, Allocator};

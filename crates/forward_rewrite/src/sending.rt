@@ -1,17 +1,8 @@
-//! What explains a packet, and the packets that are sent.
+//! The packets that are sent.
 
 use retransmit::PacketBytes;
 use std::alloc::{Allocator, Global};
 use std::marker::Model;
-
-/// Explains what a lane sends: the version of the desk that it followed, and the item that it answered.
-#[derive(Clone, Copy, PartialEq, Eq)]
-pub struct Stamp {
-    /// The version of the desk.
-    pub version: u64,
-    /// The item's number in the lane, from 1 on.
-    pub item: u64,
-}
 
 /// A packet that is sent.
 #[derive(Drop)]

@@ -9,11 +9,11 @@ ghost use Rattle.forward_rewrite.specs.inner.Counters.{ts_after, IsPrepared};
 ghost use Rattle.forward_rewrite.specs.inner.Row.{MayGoOn};
 
 use crate::counts::Counts;
-use crate::frame::MediaFrame;
 use crate::last_sent::LastSent;
 use crate::packets::{Shared, entries_of, out_packets, payload_octets};
 use crate::prepared::Prepared;
-use crate::sending::{OutPacket, Stamp};
+use crate::sending::OutPacket;
+use media_items::{MediaFrame, Stamp};
 use retransmit::{Entry, Owner, Window};
 use std::alloc::{AllocError, Allocator, Global};
 use std::marker::Model;

@@ -2,7 +2,7 @@
 use Rattle.std.specs.Prelude.{◌≡◌, ℕ, ◌+◌, ◌%◌, ◌^◌, Bool, ◌&&◌, if◌then◌else◌, nat_eq, List, length, map, Option, None, Some}
 use Rattle.rtp_codec.specs.Address.{same_address}
 use Rattle.forward_rewrite.specs.declared.last_sent.LastSent.{LastSent}
-use Rattle.forward_rewrite.specs.Frame.{SourceFrame}
+use Rattle.media_items.specs.Frame.{SourceFrame}
 use Rattle.forward_rewrite.specs.Sending.{Sending}
 use Rattle.forward_rewrite.specs.Timestamps.{Stamped, pause}
 use Rattle.forward_rewrite.specs.RoutedList.{Part, part_of, numbered}

@@ -1,6 +1,6 @@
 -- Frames with what their packets share.
 use Rattle.forward_rewrite.specs.declared.packets.Shared.{Shared}
-use Rattle.forward_rewrite.specs.Frame.{SourceFrame}
+use Rattle.media_items.specs.Frame.{SourceFrame}
 use Rattle.forward_rewrite.specs.Sending.{sending_of}
 use Rattle.forward_rewrite.specs.Timestamps.{Stamped}
 
