@@ -1,20 +1,21 @@
 -- What is answered, part by part.
-use Rattle.std.proofs.Common.{◌≡◌, ℕ, ℤ, Bool, ◌||◌, List, ◌∙◌, ap}
+use Rattle.std.proofs.Common.{◌≡◌, ℕ, ◌||◌, List, ◌∙◌, ap}
 use Rattle.rtp_codec.specs.declared.address.Address.{Address}
+use Rattle.source_valid.specs.declared.verdict.Verdict.{Verdict}
 use Rattle.frame_gate.specs.Answer.{Answer}
 use Rattle.intake.specs.declared.outcome.Outcome.{Outcome}
-use Rattle.intake.specs.Inputs.{Input}
+use Rattle.media_items.specs.Inputs.{Input}
 use Rattle.intake.specs.Ingested.{Ingested}
-use Rattle.intake.specs.Media.{Coming, origin_of, frames_from}
+use Rattle.intake.specs.Media.{Coming, origin_of, restarts, frames_from}
 use Rattle.intake.specs.Taking.{Voice, asked_of}
 use Rattle.intake.specs.inner.Moves.{outcome_at, given}
 
 abbrev pub ingested : Outcome → List (Address × List ℕ) → List Input → Ingested
 ingested outcome up items = record { outcome = outcome; up = up; items = items }
 
-pub given_is : (voice : Voice) (c : Coming) (epoch : ℕ) (ext : ℤ) (restarts : Bool) (answer : Answer) (outcome : Outcome) (up : List (Address × List ℕ)) (items : List Input)
-    → outcome ≡ outcome_at restarts ext answer.place → up ≡ asked_of voice (origin_of c) answer.nacks (restarts || answer.pli) → items ≡ frames_from (origin_of c) c.moment epoch answer.frames
-    → ◌≡◌ {A = Ingested} (record { outcome = outcome; up = up; items = items }) (given voice c epoch ext restarts answer)
-given_is voice c epoch ext restarts answer outcome up items o u i =
-    ap (λ x. ingested x up items) o ∙ ap (λ x. ingested (outcome_at restarts ext answer.place) x items) u
-    ∙ ap (λ x. ingested (outcome_at restarts ext answer.place) (asked_of voice (origin_of c) answer.nacks (restarts || answer.pli)) x) i
+pub given_is : (voice : Voice) (c : Coming) (epoch : ℕ) (verdict : Verdict) (answer : Answer) (outcome : Outcome) (up : List (Address × List ℕ)) (items : List Input)
+    → outcome ≡ outcome_at verdict answer.place → up ≡ asked_of voice (origin_of c) answer.nacks (restarts verdict || answer.pli) → items ≡ frames_from (origin_of c) c.moment epoch answer.frames
+    → ◌≡◌ {A = Ingested} (record { outcome = outcome; up = up; items = items }) (given voice c epoch verdict answer)
+given_is voice c epoch verdict answer outcome up items o u i =
+    ap (λ x. ingested x up items) o ∙ ap (λ x. ingested (outcome_at verdict answer.place) x items) u
+    ∙ ap (λ x. ingested (outcome_at verdict answer.place) (asked_of voice (origin_of c) answer.nacks (restarts verdict || answer.pli)) x) i

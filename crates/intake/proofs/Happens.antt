@@ -1,23 +1,25 @@
 -- What a packet comes to for the sources that are known.
-use Rattle.std.proofs.Common.{◌≡◌, ℕ, ℤ, ◌+◌, Bool, true, false, ◌&&◌, ◌||◌, nat_eq, if◌then◌else◌, List, [], ◌∷◌, ◌++◌, length, drop, Option, None, Some, unwrap_or, refl, sym, ap, subst, ◌∙◌}
+use Rattle.std.proofs.Common.{◌≡◌, ℕ, ℤ, ◌+◌, Bool, true, false, ◌&&◌, ◌||◌, nat_eq, if◌then◌else◌, List, [], ◌∷◌, ◌++◌, length, drop, Option, None, Some, refl, sym, ap, subst, ◌∙◌}
 use Rattle.source_valid.specs.declared.verdict.Verdict.{Verdict}
-use Rattle.frame_gate.specs.declared.packet.Place.{Place}
+use Rattle.source_valid.specs.declared.verdict.Verdict.TheVariants.{Probation, Accepted, Jump, Restarted}
+use Rattle.source_valid.specs.Histories.{accepted}
+use Rattle.source_valid.specs.Ranges.{IsExt, IsInRange}
 use Rattle.frame_gate.specs.Packets.{GatePacket, NumberedPacket, numbered}
 use Rattle.frame_gate.specs.Epochs.{epoch_of, frames_of, place_of, nacks_of, gives_up}
 use Rattle.frame_gate.specs.Admits.{Answers}
-use Rattle.intake.specs.declared.outcome.Outcome.{Outcome}
 use Rattle.intake.specs.declared.outcome.Outcome.TheVariants.{Spent}
+use Rattle.intake.specs.declared.outcome.Outcome.TheVariants as outcomes
 use Rattle.intake.specs.declared.known.Key.{Key}
-use Rattle.intake.specs.Stories.{Story, Mark, untold, judged, begins, judged_on}
+use Rattle.intake.specs.Stories.{Story, Mark, story_by, judged, begins, judged_on}
 use Rattle.intake.specs.Sources.{Sources, story_at}
-use Rattle.intake.specs.Inputs.{Input}
+use Rattle.media_items.specs.Inputs.{Input}
 use Rattle.intake.specs.Ingested.{Ingested, only, with_items}
-use Rattle.intake.specs.Media.{Coming, Course, origin_of, mark_of, told, plain, telling, frames_from, gated_with, newly}
+use Rattle.intake.specs.Media.{Coming, Course, origin_of, mark_of, told, plain, telling, placed, restarts, gate_packet, frames_from, gated_with, newly, video_course}
 use Rattle.intake.proofs.Answered.{ingested}
 use Rattle.intake.specs.Taking.{Voice, IsVoice, asked_of, most_epochs, answer_of, sources_after, sourced}
 use Rattle.intake.specs.Intakes.{Knows}
-use Rattle.intake.specs.inner.Kept.{KeptOf, JudgedOf, AdmissionOf, Keeps, Judges, Becomes}
-use Rattle.intake.specs.inner.Holding.{IntakeOf, key_of, kept_at, put_first}
+use Rattle.intake.specs.inner.Kept.{KeptOf, JudgedOf, AdmissionOf, Keeps, Judges, Becomes, Admits, gate_for, kept_by}
+use Rattle.intake.specs.inner.Holding.{IntakeOf, key_of, kept_at, kept_for, put_first}
 use Rattle.intake.specs.inner.Moves.{source_in, next_of, Advances, Gates, outcome_at, given}
 use Rattle.intake.proofs.KnownSources.{kept_story, holds_used}
 use Rattle.intake.proofs.Courses.{StandsAt, stands_at, verdict_is, begins_is, epoch_is, keeps_plain, answers_is, keeps_packet}
@@ -39,28 +41,55 @@ drop-front [] ys = refl
 drop-front (x ∷ xs) ys = drop-front xs ys
 
 -- judged under another name of the key and the mark
-pub named_so : (old : IntakeOf) (j : JudgedOf) (key same_key : Key) (m same_mark : Mark) → key ≡ same_key → m ≡ same_mark → Judges (source_in (kept_at key old.entries)) m j → Judges (source_in (kept_at same_key old.entries)) same_mark j
-named_so old j key same_key m same_mark k e h = subst (λ (x : Key). Judges (source_in (kept_at x old.entries)) same_mark j) k (subst (λ (x : Mark). Judges (source_in (kept_at key old.entries)) x j) e h)
+pub named_so : (old : IntakeOf) (j : JudgedOf) (key same_key : Key) (m same_mark : Mark) → key ≡ same_key → m ≡ same_mark → Judges (source_in (kept_for key m.rate old.entries)) m j → Judges (source_in (kept_for same_key same_mark.rate old.entries)) same_mark j
+named_so old j key same_key m same_mark k e h = subst (λ (x : Key). Judges (source_in (kept_for x same_mark.rate old.entries)) same_mark j) k (subst (λ (x : Mark). Judges (source_in (kept_for key x.rate old.entries)) x j) e h)
 
 -- put to the gate under another name of the key and the number
-pub gates_so : (old new : IntakeOf) (j : JudgedOf) (c : Coming) (p : GatePacket) (restarts : Bool) (i : Ingested) (key same_key : Key) (ext same_ext : ℤ) → key ≡ same_key → ext ≡ same_ext
-    → Gates old new key j c (numbered ext p) ext restarts i → Gates old new same_key j c (numbered same_ext p) same_ext restarts i
-gates_so old new j c p restarts i key same_key ext same_ext k e h =
-    subst (λ (x : Key). Gates old new x j c (numbered same_ext p) same_ext restarts i) k (subst (λ (x : ℤ). Gates old new key j c (numbered x p) x restarts i) e h)
+pub gates_so : (old new : IntakeOf) (j : JudgedOf) (c : Coming) (p : GatePacket) (i : Ingested) (key same_key : Key) (ext same_ext : ℤ) → key ≡ same_key → ext ≡ same_ext
+    → Gates old new key j c (numbered ext p) i → Gates old new same_key j c (numbered same_ext p) i
+gates_so old new j c p i key same_key ext same_ext k e h =
+    subst (λ (x : Key). Gates old new x j c (numbered same_ext p) i) k (subst (λ (x : ℤ). Gates old new key j c (numbered x p) i) e h)
 
-module _ (rate : ℕ) (course_of : Verdict → Story → Course) (c : Coming) (old : IntakeOf) (j : JudgedOf) (judges : Judges (source_in (kept_at (key_of (origin_of c)) old.entries)) (mark_of rate c) j) where
+-- put to the gate of an intake that is the same, with a packet and a number that are the same
+pub gates_from : (old now new : IntakeOf) (key : Key) (j : JudgedOf) (c : Coming) (p q : GatePacket) (i : Ingested) (ext same_ext : ℤ) → old ≡ now → p ≡ q → ext ≡ same_ext
+    → Gates old new key j c (numbered ext p) i → Gates now new key j c (numbered same_ext q) i
+gates_from old now new key j c p q i ext same_ext o e x h =
+    subst (λ (y : IntakeOf). Gates y new key j c (numbered same_ext q) i) o (subst (λ (y : GatePacket). Gates old new key j c (numbered same_ext y) i) e (subst (λ (y : ℤ). Gates old new key j c (numbered y p) i) x h))
+
+-- what a video packet comes to that counts, and one that doesn't
+pub video_gated : (c : Coming) (v : Verdict) (ext : ℤ) (st : Story) → accepted v ≡ Some ext
+    → video_course c v st ≡ gated_with c (numbered ext (gate_packet c.packet)) (outcome_at v) (restarts v) st
+video_gated c Probation ext st is = cc
+video_gated c (Accepted e) ext st is = let same : e ≡ ext = cc in ap (λ x. gated_with c (numbered x (gate_packet c.packet)) (placed e) false st) same
+video_gated c Jump ext st is = cc
+video_gated c (Restarted e) ext st is = let same : e ≡ ext = cc in ap (λ x. gated_with c (numbered x (gate_packet c.packet)) (λ place. outcomes.Restarted e) true st) same
+
+pub video_plain : (c : Coming) (v : Verdict) (st : Story) → accepted v ≡ None → video_course c v st ≡ plain v st
+video_plain c Probation st is = refl
+video_plain c (Accepted e) st is = cc
+video_plain c Jump st is = refl
+video_plain c (Restarted e) st is = cc
+
+-- the number of a packet that counts is in range
+pub range_of : (v : Verdict) (ext : ℤ) → IsInRange v → accepted v ≡ Some ext → IsExt ext
+range_of Probation ext range is = cc
+range_of (Accepted e) ext range is = let same : e ≡ ext = cc in subst IsExt same range
+range_of Jump ext range is = cc
+range_of (Restarted e) ext range is = let same : e ≡ ext = cc in subst IsExt same range
+
+module _ (rate : ℕ) (course_of : Verdict → Story → Course) (c : Coming) (old : IntakeOf) (j : JudgedOf) (judges : Judges (source_in (kept_for (key_of (origin_of c)) rate old.entries)) (mark_of rate c) j) where
   module _ (s : Sources) (knows : Knows old s) where
     abbrev kept : Option KeptOf
-    kept = kept_at (key_of (origin_of c)) old.entries
+    kept = kept_for (key_of (origin_of c)) rate old.entries
 
     abbrev story : Story
-    story = unwrap_or (story_at (origin_of c) s.known) untold
+    story = story_by rate (story_at (origin_of c) s.known)
 
     abbrev later : Story
     later = judged_on story s.epochs (mark_of rate c)
 
     at : StandsAt kept story
-    at = stands_at kept (story_at (origin_of c) s.known) (kept_story (origin_of c) old.entries s.known knows.holds)
+    at = stands_at rate (kept_at (key_of (origin_of c)) old.entries) (story_at (origin_of c) s.known) (kept_story (origin_of c) old.entries s.known knows.holds)
 
     spent_is : (j.begins && nat_eq old.epochs most_epochs) ≡ (begins story (mark_of rate c).seq && nat_eq s.epochs most_epochs)
     spent_is = ap (λ b. b && nat_eq old.epochs most_epochs) (begins_is kept story s.epochs (mark_of rate c) j at judges) ∙ ap (λ n. begins story (mark_of rate c).seq && nat_eq n most_epochs) knows.epochs
@@ -86,37 +115,48 @@ module _ (rate : ℕ) (course_of : Verdict → Story → Course) (c : Coming) (o
     when_course voice ingested new course free is answered known = otherwise _ _ _ _ _ (sym spent_is ∙ free)
         (subst (λ x. Gives ingested new (answer_of voice c x, sources_after c (begins story (mark_of rate c).seq) x s)) (sym (course_is course is)) (answered, known))
 
+    -- what becomes of what is kept at the rate of the judged packet, with as many epochs as have begun
+    becomes_so : (a : Option AdmissionOf) (k : KeptOf) → Becomes (kept_for (key_of (origin_of c)) j.rate old.entries) (next_of (kept_for (key_of (origin_of c)) j.rate old.entries) old.epochs j a) k
+        → Becomes kept (next_of kept s.epochs j a) k
+    becomes_so a k h =
+        let at_key = kept_at (key_of (origin_of c)) old.entries in
+        subst (λ n. Becomes kept (next_of kept n j a) k) knows.epochs (subst (λ r. Becomes (kept_by r at_key) (next_of (kept_by r at_key) old.epochs j a) k) judges.rate h)
+
     pub when_telling : (voice : Voice) (new : IntakeOf) (items : List Input) → (j.begins && nat_eq old.epochs most_epochs) ≡ false → ((st : Story) → course_of j.verdict st ≡ telling j.verdict items st)
         → Advances old new (key_of (origin_of c)) j None → Gives (with_items (told j.verdict) items) new (sourced voice rate course_of c s)
     when_telling voice new items free is advances = when_course voice (with_items (told j.verdict) items) new (telling j.verdict items) free is refl
-        (knows_after new (telling j.verdict items later) advances.0 (keeps_plain kept story s.epochs (mark_of rate c) j at judges advances.0 (subst (λ n. Becomes kept (next_of kept n j None) advances.0) knows.epochs advances.1)) advances.2)
+        (knows_after new (telling j.verdict items later) advances.0 (keeps_plain kept story s.epochs (mark_of rate c) j at judges advances.0 (becomes_so None advances.0 advances.1)) advances.2)
 
     pub when_plain : (voice : Voice) (new : IntakeOf) → (j.begins && nat_eq old.epochs most_epochs) ≡ false → ((st : Story) → course_of j.verdict st ≡ plain j.verdict st)
         → Advances old new (key_of (origin_of c)) j None → Gives (only (told j.verdict)) new (sourced voice rate course_of c s)
     when_plain voice new free is advances = when_telling voice new [] free is advances
 
     -- what the gate answers is what is defined of the packet
-    given_is : (voice : Voice) (p : NumberedPacket) (ext : ℤ) (restarts : Bool) (outcome : Place → Outcome) (a : AdmissionOf) (epoch : ℕ) → ((place : Place) → outcome place ≡ outcome_at restarts ext place)
-        → Answers (epoch_of later.gated) p a.prepared.answer → epoch ≡ later.epoch → given voice c epoch ext restarts a.prepared.answer ≡ answer_of voice c (gated_with c p outcome restarts later)
-    given_is voice p ext restarts outcome a epoch tells answers same =
+    given_is : (voice : Voice) (p : NumberedPacket) (a : AdmissionOf) (epoch : ℕ) → Answers (epoch_of later.gated) p a.prepared.answer → epoch ≡ later.epoch
+        → given voice c epoch j.verdict a.prepared.answer ≡ answer_of voice c (gated_with c p (outcome_at j.verdict) (restarts j.verdict) later)
+    given_is voice p a epoch answers same =
         let e = epoch_of later.gated in
         let answer = a.prepared.answer in
+        let anew = restarts j.verdict in
         let new_ones : newly e p ≡ answer.frames = ap (drop (length (frames_of e))) answers.frames ∙ drop-front (frames_of e) answer.frames in
-        ap (λ (x : Outcome). ingested x (asked_of voice (origin_of c) answer.nacks (restarts || answer.pli)) (frames_from (origin_of c) c.moment epoch answer.frames)) (sym (tells answer.place) ∙ ap outcome answers.place)
-        ∙ ap (λ ns. ingested (outcome (place_of e p)) (asked_of voice (origin_of c) ns (restarts || answer.pli)) (frames_from (origin_of c) c.moment epoch answer.frames)) answers.nacks
-        ∙ ap (λ b. ingested (outcome (place_of e p)) (asked_of voice (origin_of c) (nacks_of e p) (restarts || b)) (frames_from (origin_of c) c.moment epoch answer.frames)) answers.pli
-        ∙ ap (λ n. ingested (outcome (place_of e p)) (asked_of voice (origin_of c) (nacks_of e p) (restarts || gives_up e p)) (frames_from (origin_of c) c.moment n answer.frames)) same
-        ∙ ap (λ fs. ingested (outcome (place_of e p)) (asked_of voice (origin_of c) (nacks_of e p) (restarts || gives_up e p)) (frames_from (origin_of c) c.moment later.epoch fs)) (sym new_ones)
+        ap (λ place. ingested (outcome_at j.verdict place) (asked_of voice (origin_of c) answer.nacks (anew || answer.pli)) (frames_from (origin_of c) c.moment epoch answer.frames)) answers.place
+        ∙ ap (λ ns. ingested (outcome_at j.verdict (place_of e p)) (asked_of voice (origin_of c) ns (anew || answer.pli)) (frames_from (origin_of c) c.moment epoch answer.frames)) answers.nacks
+        ∙ ap (λ b. ingested (outcome_at j.verdict (place_of e p)) (asked_of voice (origin_of c) (nacks_of e p) (anew || b)) (frames_from (origin_of c) c.moment epoch answer.frames)) answers.pli
+        ∙ ap (λ n. ingested (outcome_at j.verdict (place_of e p)) (asked_of voice (origin_of c) (nacks_of e p) (anew || gives_up e p)) (frames_from (origin_of c) c.moment n answer.frames)) same
+        ∙ ap (λ fs. ingested (outcome_at j.verdict (place_of e p)) (asked_of voice (origin_of c) (nacks_of e p) (anew || gives_up e p)) (frames_from (origin_of c) c.moment later.epoch fs)) (sym new_ones)
 
-    pub when_gated : (voice : Voice) (ingested : Ingested) (new : IntakeOf) (p : NumberedPacket) (ext : ℤ) (restarts : Bool) (outcome : Place → Outcome) → IsVoice voice → voice.asker ≡ old.asker
-        → (j.begins && nat_eq old.epochs most_epochs) ≡ false → ((st : Story) → course_of j.verdict st ≡ gated_with c p outcome restarts st) → ((place : Place) → outcome place ≡ outcome_at restarts ext place)
-        → Gates old new (key_of (origin_of c)) j c p ext restarts ingested → Gives ingested new (sourced voice rate course_of c s)
-    when_gated voice ingested new p ext restarts outcome right asker free is tells gates =
+    pub when_gated : (voice : Voice) (ingested : Ingested) (new : IntakeOf) (p : NumberedPacket) → IsVoice voice → voice.asker ≡ old.asker
+        → (j.begins && nat_eq old.epochs most_epochs) ≡ false → ((st : Story) → course_of j.verdict st ≡ gated_with c p (outcome_at j.verdict) (restarts j.verdict) st)
+        → Gates old new (key_of (origin_of c)) j c p ingested → Gives ingested new (sourced voice rate course_of c s)
+    when_gated voice ingested new p right asker free is gates =
         let a = gates.admission in
         let k = gates.advances.0 in
-        let becomes = subst (λ n. Becomes kept (next_of kept n j (Some a)) k) knows.epochs gates.advances.1 in
-        when_course voice ingested new (gated_with c p outcome restarts) free is
-        (gates.answers voice right asker ∙ given_is voice p ext restarts outcome a _ tells
-        (answers_is kept story s.epochs (mark_of rate c) j at judges p a k gates.admits becomes)
-        (subst (λ n. (next_of kept n j (Some a)).epoch ≡ later.epoch) (sym knows.epochs) (epoch_is kept story s.epochs (mark_of rate c) j at judges (Some a))))
-        (knows_after new (gated_with c p outcome restarts later) k (keeps_packet kept story s.epochs (mark_of rate c) j at judges p a k gates.admits becomes) gates.advances.2)
+        let at_key = kept_at (key_of (origin_of c)) old.entries in
+        let becomes = becomes_so (Some a) k gates.advances.1 in
+        let admits = subst (λ r. Admits (gate_for (kept_by r at_key) j.begins) p a) judges.rate gates.admits in
+        when_course voice ingested new (gated_with c p (outcome_at j.verdict) (restarts j.verdict)) free is
+        (gates.answers voice right asker ∙ given_is voice p a _
+        (answers_is kept story s.epochs (mark_of rate c) j at judges p a k admits becomes)
+        (subst (λ r. (next_of (kept_by r at_key) old.epochs j (Some a)).epoch ≡ later.epoch) (sym judges.rate)
+        (subst (λ n. (next_of kept n j (Some a)).epoch ≡ later.epoch) (sym knows.epochs) (epoch_is kept story s.epochs (mark_of rate c) j at judges (Some a)))))
+        (knows_after new (gated_with c p (outcome_at j.verdict) (restarts j.verdict) later) k (keeps_packet kept story s.epochs (mark_of rate c) j at judges p a k admits becomes) gates.advances.2)

@@ -7,11 +7,14 @@ use Rattle.rtp_codec.specs.declared.address.Address.{Address}
 use Rattle.rtcp_codec.specs.declared.report.ReportBlock.{ReportBlock}
 use Rattle.rtcp_codec.specs.Packet.{Packet, Sender, Receiver, Sdes, Bye, App, Nack, Pli, Other}
 use Rattle.frame_gate.specs.Frame.{WholeFrame}
-use Rattle.g711.specs.MuLaw.{decoded}
-use Rattle.l16.specs.Samples.{samples_of}
-use Rattle.intake.specs.Inputs.{Input, most_samples, is_sized}
+use Rattle.sample_codecs.specs.MuLaw.{decoded}
+use Rattle.sample_codecs.specs.L16.{samples_of}
+use Rattle.media_items.specs.Inputs.{Input, is_audio_rate, is_sized}
+use Rattle.media_items.specs.Formats.{rate_of, most_of, holds_whole}
+use Rattle.media_items.specs.declared.format.Format.{Format}
+use Rattle.media_items.specs.declared.format.Format.TheVariants.{Pcmu, L16At8000, L16At44100}
 use Rattle.intake.specs.Sources.{Origin}
-use Rattle.intake.specs.Media.{Coming, frames_from, is_audio, samples_of_packet, sound_of}
+use Rattle.intake.specs.Media.{Coming, frames_from, samples_of_packet, sound_of}
 use Rattle.intake.specs.Control.{asks, block_item}
 
 pub sized_frames : (o : Origin) (moment epoch : ℕ) (frames : List WholeFrame) → list_all is_sized (frames_from o moment epoch frames) ≡ true
@@ -41,26 +44,46 @@ halves (x ∷ y ∷ octets) n e =
     let less = halves octets (n - 1) (omega (arith, e)) in
     omega (arith, e, less)
 
-between : (n : ℕ) → 1 ≤ n → n ≤ 1600 → (nat_le 1 n && nat_le n most_samples) ≡ true
-between n low high = ap (λ b. b && nat_le n most_samples) (le-leb 1 n low) ∙ le-leb n most_samples high
+between : (most n : ℕ) → 1 ≤ n → n ≤ most → (nat_le 1 n && nat_le n most) ≡ true
+between most n low high = ap (λ b. b && nat_le n most) (le-leb 1 n low) ∙ le-leb n most high
+
+halved : (most : ℕ) (payload : List ℕ) → (nat_eq (length payload % 2) 0 && nat_le (length payload) (2 * most)) ≡ true → nat_eq (length payload) 0 ≡ false
+    → (nat_le 1 (length (samples_of payload)) && nat_le (length (samples_of payload)) most) ≡ true
+halved most payload whole some =
+    let octets = and_parts (nat_eq (length payload % 2) 0) (nat_le (length payload) (2 * most)) whole in
+    let even = eqb-true (length payload % 2) 0 octets.0 in
+    let high = leb-true (length payload) (2 * most) octets.1 in
+    rw (halves payload (length payload / 2) (omega (arith, even))) (between most (length payload / 2) (omega (arith, even, eqb-false (length payload) 0 some)) (omega (arith, high)))
 
 -- audio that isn't empty has a sample, and no more than it may
-pub sized_samples : (pt : ℕ) (payload : List ℕ) → is_audio pt (length payload) ≡ true → nat_eq (length payload) 0 ≡ false
-    → (nat_le 1 (length (samples_of_packet pt payload)) && nat_le (length (samples_of_packet pt payload)) most_samples) ≡ true
-sized_samples pt payload audio some = (elim (nat_eq pt 0) as (λ b. nat_eq pt 0 ≡ b → (nat_le 1 (length (samples_of_packet pt payload)) && nat_le (length (samples_of_packet pt payload)) most_samples) ≡ true) [
-  | true ↦ λ is.
-      let high = leb-true (length payload) 1600 (rw is at audio) in
-      rw is (rw (length-map payload decoded) (between (length payload) (omega (arith, eqb-false (length payload) 0 some)) high))
-  | false ↦ λ is.
-      let parts = and_parts (nat_eq pt 97) (nat_eq (length payload % 2) 0 && nat_le (length payload) (2 * most_samples)) (rw is at audio) in
-      let octets = and_parts (nat_eq (length payload % 2) 0) (nat_le (length payload) (2 * most_samples)) parts.1 in
-      let even = eqb-true (length payload % 2) 0 octets.0 in
-      let high = leb-true (length payload) 3200 octets.1 in
-      rw is (rw (halves payload (length payload / 2) (omega (arith, even))) (between (length payload / 2) (omega (arith, even, eqb-false (length payload) 0 some)) (omega (arith, high))))
-]) refl
+pub sized_samples : (format : Format) (payload : List ℕ) → holds_whole format (length payload) ≡ true → nat_eq (length payload) 0 ≡ false
+    → (nat_le 1 (length (samples_of_packet format payload)) && nat_le (length (samples_of_packet format payload)) (most_of format)) ≡ true
+sized_samples Pcmu payload whole some =
+    let parts = and_parts (nat_eq (length payload % 1) 0) (nat_le (length payload) 1600) whole in
+    let high = leb-true (length payload) 1600 parts.1 in
+    rw (length-map payload decoded) (between 1600 (length payload) (omega (arith, eqb-false (length payload) 0 some)) high)
+sized_samples L16At8000 payload whole some = halved 1600 payload whole some
+sized_samples L16At44100 payload whole some = halved 8820 payload whole some
 
-pub sized_sound : (c : Coming) → is_audio c.packet.header.pt (length c.packet.payload) ≡ true → list_all is_sized (sound_of c) ≡ true
-sized_sound c audio = (elim (nat_eq (length c.packet.payload) 0) as (λ b. nat_eq (length c.packet.payload) 0 ≡ b → list_all is_sized (sound_of c) ≡ true) [
+-- L16 has an even number of octets
+pub even_octets : (octets : ℕ) → (holds_whole L16At8000 octets ≡ true → octets % 2 ≡ 0) × (holds_whole L16At44100 octets ≡ true → octets % 2 ≡ 0)
+even_octets octets = (
+  (λ whole. eqb-true (octets % 2) 0 (and_parts (nat_eq (octets % 2) 0) (nat_le octets 3200) whole).0),
+  (λ whole. eqb-true (octets % 2) 0 (and_parts (nat_eq (octets % 2) 0) (nat_le octets 17640) whole).0),
+)
+
+pub rate_known : (format : Format) → is_audio_rate (rate_of format) ≡ true
+rate_known Pcmu = refl
+rate_known L16At8000 = refl
+rate_known L16At44100 = refl
+
+pub rate_fits : (format : Format) → rate_of format ≤ 90000
+rate_fits Pcmu = omega arith
+rate_fits L16At8000 = omega arith
+rate_fits L16At44100 = omega arith
+
+pub sized_sound : (format : Format) (c : Coming) → holds_whole format (length c.packet.payload) ≡ true → list_all is_sized (sound_of format c) ≡ true
+sized_sound format c whole = (elim (nat_eq (length c.packet.payload) 0) as (λ b. nat_eq (length c.packet.payload) 0 ≡ b → list_all is_sized (sound_of format c) ≡ true) [
   | true ↦ λ is. rw is refl
-  | false ↦ λ is. rw is (ap (λ b. b && true) (sized_samples c.packet.header.pt c.packet.payload audio is))
+  | false ↦ λ is. rw is (rw (rate_known format) (ap (λ b. b && true) (sized_samples format c.packet.payload whole is)))
 ]) refl

@@ -6,7 +6,7 @@ use Rattle.rtcp_codec.specs.Packet.{Packet, Sender, Receiver, Sdes, Bye, App, Na
 use Rattle.source_valid.specs.declared.heard.Heard.{Heard}
 use Rattle.source_valid.specs.Histories.{Sender as Noted, standing_of, past_probation_in}
 use Rattle.feedback.specs.Asked.{asked_in}
-use Rattle.intake.specs.Inputs.{Input}
+use Rattle.media_items.specs.Inputs.{Input}
 use Rattle.intake.specs.Stories.{Story}
 use Rattle.intake.specs.Sources.{Known, retold}
 
@@ -28,7 +28,7 @@ asks from (Other pt count body) = []
 -- a source past probation is given the sender report
 abbrev pub heard_on : Heard → Story → Story
 heard_on heard story =
-    if past_probation_in (standing_of story.given) then record { given = story.given ++ Noted heard ∷ []; epoch = story.epoch; gated = story.gated } else story
+    if past_probation_in (standing_of story.given) then record { rate = story.rate; given = story.given ++ Noted heard ∷ []; epoch = story.epoch; gated = story.gated } else story
 
 -- the sources after a packet: a sender report is noted at the source that is known at this address under its SSRC
 abbrev pub noted : Address → ℕ → List Known → Packet → List Known

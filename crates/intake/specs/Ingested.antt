@@ -2,7 +2,7 @@
 use Rattle.std.specs.Prelude.{ℕ, List, [], map}
 use Rattle.rtp_codec.specs.declared.address.Address.{Address}
 use Rattle.intake.specs.declared.outcome.Outcome.{Outcome}
-use Rattle.intake.specs.Inputs.{Input, input_of}
+use Rattle.media_items.specs.Inputs.{Input, input_of}
 use Rattle.intake.specs.declared.ingest.Ingest.{Ingest}
 use Rattle.std.specs.declared.vec.Vec.{Vec}
 

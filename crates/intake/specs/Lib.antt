@@ -1,4 +1,3 @@
-pub mod Inputs
 pub mod Names
 pub mod Readings
 pub mod Stories

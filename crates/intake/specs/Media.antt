@@ -1,21 +1,23 @@
--- What a media packet comes to for its source (audio: RFC 3551 sections 4.5.11 and 4.5.14; limits and payload types of L16 are own).
-use Rattle.std.specs.Prelude.{ℕ, ℤ, ◌*◌, ◌%◌, Bool, true, false, ◌&&◌, ◌||◌, nat_eq, nat_le, if◌then◌else◌, List, [], ◌∷◌, ◌++◌, length, drop, map}
+-- What a media packet comes to for its source (audio: RFC 3551 sections 4.5.11 and 4.5.14; its limits are own).
+use Rattle.std.specs.Prelude.{ℕ, ℤ, Bool, true, false, ◌||◌, nat_eq, if◌then◌else◌, List, [], ◌∷◌, ◌++◌, length, drop, map, Option, None, Some, is_some}
 use Rattle.rtp_codec.specs.declared.address.Address.{Address}
 use Rattle.rtp_codec.specs.Packet.{Packet}
 use Rattle.source_valid.specs.declared.verdict.Verdict.{Verdict}
 use Rattle.source_valid.specs.declared.verdict.Verdict.TheVariants.{Probation, Accepted, Jump, Restarted}
-use Rattle.desk_rows.specs.declared.row.Codec.TheVariants.{Pcmu, L16}
+use Rattle.source_valid.specs.Histories.{accepted}
 use Rattle.frame_gate.specs.declared.packet.Place.{Place}
 use Rattle.frame_gate.specs.declared.packet.Place.TheVariants.{Taken, Late, Duplicate}
 use Rattle.frame_gate.specs.Packets.{GatePacket, NumberedPacket, numbered}
 use Rattle.frame_gate.specs.Frame.{WholeFrame}
-use Rattle.g711.specs.MuLaw.{decoded}
-use Rattle.l16.specs.Samples.{samples_of}
+use Rattle.sample_codecs.specs.MuLaw.{decoded}
+use Rattle.sample_codecs.specs.L16.{samples_of}
 use Rattle.frame_gate.specs.Epochs.{Epoch, epoch_of, after, frames_of, place_of, nacks_of, gives_up}
-use Rattle.forward_rewrite.specs.Mixes.{pt_of}
 use Rattle.intake.specs.declared.outcome.Outcome.{Outcome}
 use Rattle.intake.specs.declared.outcome.Outcome.TheVariants as outcomes
-use Rattle.intake.specs.Inputs.{Input, most_samples}
+use Rattle.media_items.specs.Inputs.{Input}
+use Rattle.media_items.specs.Formats.{rate_of, format_of_packet, holds_whole}
+use Rattle.media_items.specs.declared.format.Format.{Format}
+use Rattle.media_items.specs.declared.format.Format.TheVariants.{Pcmu, L16At8000, L16At44100}
 use Rattle.intake.specs.Stories.{Story, Mark, units_of}
 use Rattle.intake.specs.Sources.{Origin}
 
@@ -31,13 +33,16 @@ origin_of c = record { address = c.from; ssrc = c.packet.header.ssrc }
 
 -- as a source of this clock rate judges it
 abbrev pub mark_of : ℕ → Coming → Mark
-mark_of rate c = record { seq = c.packet.header.seq; ts = c.packet.header.ts; units = units_of rate c.moment }
+mark_of rate c = record { rate = rate; seq = c.packet.header.seq; ts = c.packet.header.ts; units = units_of rate c.moment }
 
--- a payload that is audio: PCMU is type 0 and has an octet for a sample, L16 is type 97 and has two
-abbrev pub is_audio : ℕ → ℕ → Bool
-is_audio pt octets =
-    if nat_eq pt (pt_of Pcmu) then nat_le octets most_samples
-    else nat_eq pt (pt_of L16) && (nat_eq (octets % 2) 0 && nat_le octets (2 * most_samples))
+-- this format, where a payload of so many octets has whole samples, and no more than it may
+abbrev pub holding : ℕ → Option Format → Option Format
+holding octets None = None
+holding octets (Some format) = if holds_whole format octets then Some format else None
+
+-- the format of a payload of so many octets, where it is audio in a room of this clock rate
+abbrev pub audio_format : (rate pt octets : ℕ) → Option Format
+audio_format rate pt octets = holding octets (format_of_packet pt rate)
 
 -- what a packet comes to for its source: the outcome and the source's story, the items that it makes, the numbers that are newly missing, and whether a picture is lost
 pub record Course : Type 0 where
@@ -86,13 +91,20 @@ frames_from o moment epoch frames = map (frame_item o moment epoch) frames
 
 -- the packet comes to the gate; a restart loses the picture, and so does a gate that gives up
 abbrev pub gated_with : Coming → NumberedPacket → (Place → Outcome) → Bool → Story → Course
-gated_with c p outcome restarts story = record {
+gated_with c p outcome anew story = record {
   outcome = outcome (place_of (epoch_of story.gated) p);
-  story = record { given = story.given; epoch = story.epoch; gated = story.gated ++ p ∷ [] };
+  story = record { rate = story.rate; given = story.given; epoch = story.epoch; gated = story.gated ++ p ∷ [] };
   items = frames_from (origin_of c) c.moment story.epoch (newly (epoch_of story.gated) p);
   nacks = nacks_of (epoch_of story.gated) p;
-  pli = restarts || gives_up (epoch_of story.gated) p;
+  pli = anew || gives_up (epoch_of story.gated) p;
 }
+
+-- the packet initialises its source anew
+abbrev pub restarts : Verdict → Bool
+restarts Probation = false
+restarts (Accepted ext) = false
+restarts Jump = false
+restarts (Restarted ext) = true
 
 -- what a video packet comes to by its verdict: nothing but the verdict on probation and at a jump, else what its gate gives
 abbrev pub video_course : Coming → Verdict → Story → Course
@@ -101,28 +113,28 @@ video_course c (Accepted ext) story = gated_with c (numbered ext (gate_packet c.
 video_course c Jump story = plain Jump story
 video_course c (Restarted ext) story = gated_with c (numbered ext (gate_packet c.packet)) (λ place. outcomes.Restarted ext) true story
 
--- the samples of a payload that is audio: PCMU by its octets, L16 by two octets each
-abbrev pub samples_of_packet : ℕ → List ℕ → List ℤ
-samples_of_packet pt payload = if nat_eq pt (pt_of Pcmu) then map decoded payload else samples_of payload
+-- the samples of a payload of this format: PCMU by its octets, L16 by two octets each
+abbrev pub samples_of_packet : Format → List ℕ → List ℤ
+samples_of_packet Pcmu payload = map decoded payload
+samples_of_packet L16At8000 payload = samples_of payload
+samples_of_packet L16At44100 payload = samples_of payload
 
--- an audio packet as an item; an empty payload makes none
-abbrev pub sound_of : Coming → List Input
-sound_of c =
+-- an audio packet of this format as an item; an empty payload makes none
+abbrev pub sound_of : Format → Coming → List Input
+sound_of format c =
     if nat_eq (length c.packet.payload) 0 then []
     else Input.audio (record {
       source = c.packet.header.ssrc;
       address = c.from;
+      rate = rate_of format;
       ts = c.packet.header.ts;
-      samples = samples_of_packet c.packet.header.pt c.packet.payload;
+      samples = samples_of_packet format c.packet.payload;
     }) ∷ []
 
 -- Only an accepted packet is heard.
-abbrev pub sounds : Coming → Verdict → List Input
-sounds c Probation = []
-sounds c (Accepted ext) = sound_of c
-sounds c Jump = []
-sounds c (Restarted ext) = sound_of c
+abbrev pub sounds : Format → Coming → Verdict → List Input
+sounds format c verdict = if is_some (accepted verdict) then sound_of format c else []
 
 -- Audio has no gate.
-abbrev pub audio_course : Coming → Verdict → Story → Course
-audio_course c verdict story = telling verdict (sounds c verdict) story
+abbrev pub audio_course : Format → Coming → Verdict → Story → Course
+audio_course format c verdict story = telling verdict (sounds format c verdict) story

@@ -39,7 +39,7 @@ block_from moment known m s =
 -- the story with a block, with which a new interval begins; nothing is told of a source on probation
 abbrev pub renewed : Story → Story
 renewed story =
-    if past_probation_in (standing_of story.given) then record { given = story.given ++ Block ∷ []; epoch = story.epoch; gated = story.gated } else story
+    if past_probation_in (standing_of story.given) then record { rate = story.rate; given = story.given ++ Block ∷ []; epoch = story.epoch; gated = story.gated } else story
 
 -- a new interval of a source that sends from the address of a member, if there is the member
 abbrev pub renewed_at : (ssrc : ℕ) → Option Member → List Known → List Known

@@ -1,22 +1,29 @@
 -- What a source was given since it became known, and how a packet is judged by that (RFC 3550 A.1 and A.8).
-use Rattle.std.specs.Prelude.{ℕ, ◌+◌, ◌*◌, ◌/◌, ◌^◌, ◌%◌, Bool, true, false, not, if◌then◌else◌, List, [], ◌∷◌, ◌++◌}
+use Rattle.std.specs.Prelude.{ℕ, ◌+◌, ◌*◌, ◌/◌, ◌^◌, ◌%◌, Bool, true, false, not, nat_eq, if◌then◌else◌, List, [], ◌∷◌, ◌++◌, Option, None, Some}
 use Rattle.source_valid.specs.declared.verdict.Verdict.{Verdict}
 use Rattle.source_valid.specs.declared.verdict.Verdict.TheVariants.{Probation, Accepted, Jump, Restarted}
 use Rattle.source_valid.specs.Histories.{Step, Number, Arrival, Standing, standing_of, verdict_of, past_probation_in}
 use Rattle.frame_gate.specs.Packets.{NumberedPacket}
 
--- what a source was given, its epoch, or 0 before its first one, and the packets of this epoch that came to its gate
+-- the clock rate of a source in Hz, what it was given, its epoch, or 0 before its first one, and the packets of this epoch that came to its gate
 pub record Story : Type 0 where
+  pub rate : ℕ
   pub given : List Step
   pub epoch : ℕ
   pub gated : List NumberedPacket
 
--- the story of a source of which nothing is known
-abbrev pub untold : Story
-untold = record { given = []; epoch = 0; gated = [] }
+-- the story of a source of this clock rate of which nothing is known
+abbrev pub untold : ℕ → Story
+untold rate = record { rate = rate; given = []; epoch = 0; gated = [] }
 
--- a packet as its source judges it: its sequence number and timestamp, and its arrival in units of the clock rate
+-- the story of a source by which a packet of this clock rate is judged: the story at another rate is dropped, and the source begins anew (own)
+abbrev pub story_by : (rate : ℕ) → Option Story → Story
+story_by rate None = untold rate
+story_by rate (Some story) = if nat_eq story.rate rate then story else untold rate
+
+-- a packet as its source judges it: the clock rate in Hz, its sequence number and timestamp, and its arrival in units of the clock rate
 pub record Mark : Type 0 where
+  pub rate : ℕ
   pub seq : ℕ
   pub ts : ℕ
   pub units : ℕ
@@ -50,6 +57,7 @@ begins story seq = initialises (standing_of story.given) (judged story seq)
 -- the story with a packet, where so many epochs have begun: an initialisation begins the next one, with no packet in its gate
 abbrev pub judged_on : Story → ℕ → Mark → Story
 judged_on story epochs m = record {
+  rate = m.rate;
   given = story.given ++ Number m.seq ∷ arrival (judged story m.seq) m;
   epoch = if begins story m.seq then epochs + 1 else story.epoch;
   gated = if begins story m.seq then [] else story.gated;

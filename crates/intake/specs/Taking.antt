@@ -1,6 +1,5 @@
 -- What a datagram comes to, and what is known of sources after it: the first outcome that holds (own).
 use Rattle.std.specs.Prelude.{ℕ, ℤ, ◌+◌, ◌-◌, ◌<◌, ◌^◌, Bool, not, ◌&&◌, nat_eq, if◌then◌else◌, List, [], ◌∷◌, length, map, Option, None, Some}
-use Rattle.std.specs.Option.{unwrap_or}
 use Rattle.std.specs.List.{flat_map, AllByRecursion}
 use Rattle.rtp_codec.specs.declared.address.Address.{Address}
 use Rattle.rtcp_codec.specs.declared.nack.NackWord.{NackWord}
@@ -16,11 +15,13 @@ use Rattle.topology.specs.Looking.{source_from, member_from}
 use Rattle.feedback.specs.Upstream.{Asker, seq_of, upstream_packets}
 use Rattle.intake.specs.declared.outcome.Outcome.TheVariants.{TooLong, Neither, BadRtp, BadRtcp, Unknown, BadPayload, Spent, Rtcp}
 use Rattle.intake.specs.Readings.{Reading, too_long, neither, no_packet, packet, no_compound, compound}
-use Rattle.intake.specs.Stories.{Story, untold, judged, begins, judged_on}
+use Rattle.intake.specs.Stories.{Story, story_by, judged, begins, judged_on}
 use Rattle.intake.specs.Sources.{Origin, Sources, story_at, used}
 use Rattle.intake.specs.Ingested.{Ingested, only}
-use Rattle.forward_rewrite.specs.Rates.{audio_rate, video_rate}
-use Rattle.intake.specs.Media.{Coming, Course, origin_of, mark_of, is_audio, audio_course, video_course}
+use Rattle.media_items.specs.Rates.{video_rate}
+use Rattle.media_items.specs.Formats.{rate_of}
+use Rattle.media_items.specs.declared.format.Format.{Format}
+use Rattle.intake.specs.Media.{Coming, Course, origin_of, mark_of, audio_format, audio_course, video_course}
 use Rattle.intake.specs.Control.{asks, noted_all}
 
 -- how the bridge speaks to senders: who it is, and the words by which it names lost packets
@@ -79,18 +80,26 @@ taken_by voice rate course_of c s story =
 
 -- its source takes the packet
 abbrev pub sourced : Voice → ℕ → (Verdict → Story → Course) → Coming → Sources → Ingested × Sources
-sourced voice rate course_of c s = taken_by voice rate course_of c s (unwrap_or (story_at (origin_of c) s.known) untold)
+sourced voice rate course_of c s = taken_by voice rate course_of c s (story_by rate (story_at (origin_of c) s.known))
 
--- by what its source sends
-abbrev pub of_media : Voice → Media → Coming → Sources → Ingested × Sources
-of_media voice Audio c s =
-    if is_audio c.packet.header.pt (length c.packet.payload) then sourced voice audio_rate (audio_course c) c s else (only BadPayload, s)
-of_media voice Video c s = sourced voice video_rate (video_course c) c s
+-- the clock rate of audio in the room of a source's member, in Hz: every room has this one (own)
+abbrev pub room_rate : Desk → Source → ℕ
+room_rate d row = 8000
+
+-- an audio packet, by its format if it has one
+abbrev pub of_format : Voice → Option Format → Coming → Sources → Ingested × Sources
+of_format voice None c s = (only BadPayload, s)
+of_format voice (Some format) c s = sourced voice (rate_of format) (audio_course format c) c s
+
+-- by what its source sends, in a room of this clock rate
+abbrev pub of_media : Voice → Media → ℕ → Coming → Sources → Ingested × Sources
+of_media voice Audio rate c s = of_format voice (audio_format rate c.packet.header.pt (length c.packet.payload)) c s
+of_media voice Video rate c s = sourced voice video_rate (video_course c) c s
 
 -- a packet of the source in a row
-abbrev pub of_row : Voice → Option Source → Coming → Sources → Ingested × Sources
-of_row voice None c s = (only Unknown, s)
-of_row voice (Some row) c s = of_media voice row.media c s
+abbrev pub of_row : Voice → Desk → Option Source → Coming → Sources → Ingested × Sources
+of_row voice d None c s = (only Unknown, s)
+of_row voice d (Some row) c s = of_media voice row.media (room_rate d row) c s
 
 -- ---- all datagrams
 
@@ -108,7 +117,7 @@ read_as voice d too_long s = (only TooLong, s)
 read_as voice d neither s = (only Neither, s)
 read_as voice d (no_packet fault) s = (only (BadRtp fault), s)
 read_as voice d (packet p) s =
-    of_row voice (source_from d.desk p.header.ssrc d.from) (record { from = d.from; moment = d.moment; packet = p }) s
+    of_row voice d.desk (source_from d.desk p.header.ssrc d.from) (record { from = d.from; moment = d.moment; packet = p }) s
 read_as voice d (no_compound fault) s = (only (BadRtcp fault), s)
 read_as voice d (compound packets) s = of_member (member_from d.desk d.from) d.from d.moment packets s
 

@@ -1,3 +1,4 @@
 pub mod Kept
 pub mod Holding
 pub mod Moves
+pub mod Comings

@@ -3,23 +3,23 @@
 ghost use Rattle.std.specs.Prelude.{◌≡◌, ◌+◌, ◌&&◌, true, false, nat_eq, if◌then◌else◌, IfOk, OnOk, OnErr, IfSome};
 ghost use Rattle.std.specs.Prelude.{is_some, option_map, option_copied, None, map};
 ghost use Rattle.std.specs.List.{list_all};
-ghost use Rattle.intake.specs.Inputs.{input_of, is_sized};
+ghost use Rattle.media_items.specs.Inputs.{input_of, is_sized};
 ghost use Rattle.intake.specs.Ingested.{ingested_of, only, with_items};
 ghost use Rattle.intake.specs.Media.{told};
 ghost use Rattle.intake.specs.Taking.{most_epochs};
 ghost use Rattle.intake.specs.inner.Kept.{Judges, base_of, gate_for};
-ghost use Rattle.intake.specs.inner.Holding.{kept_at};
+ghost use Rattle.intake.specs.inner.Holding.{kept_for};
 ghost use Rattle.intake.specs.inner.Moves.{source_in, epoch_in, IsKept, Advances};
 
 use crate::admitting::Admission;
 use crate::ingest::Ingest;
 use crate::intake::Intake;
-use crate::item::Item;
 use crate::judging::{Judged, Mark, judge};
 use crate::kept::{Kept, Next};
 use crate::known::Key;
 use crate::outcome::Outcome;
 use frame_gate::Admitted;
+use media_items::Item;
 use source_valid::{Source, Verdict};
 use std::alloc::{AllocError, Allocator};
 
@@ -70,9 +70,16 @@ fn next_with<A: Allocator + Copy>(
     admission: Option<Admission<A>>,
 ) -> Next<A>
     ensures { result
-        ≡ record { source = judged.now.source; epoch = epoch; begins = judged.now.begins; admission = admission } }
+        ≡ record {
+          rate = judged.now.rate;
+          source = judged.now.source;
+          epoch = epoch;
+          begins = judged.now.begins;
+          admission = admission;
+        } }
 {
     Next {
+        rate: judged.rate,
         source: judged.source,
         epoch,
         begins: judged.begins,
@@ -84,10 +91,10 @@ impl<A: Allocator + Copy> Intake<A> {
     /// Judges a packet by its source.
     #[inline(always)]
     pub(crate) fn judged(&self, key: &Key, mark: Mark) -> Judged
-        ensures judges { Judges (source_in (kept_at key.now self.now.entries)) mark result }
-        ensures epoch { result.epoch ≡ epoch_in (kept_at key.now self.now.entries) }
+        ensures judges { Judges (source_in (kept_for key.now mark.rate self.now.entries)) mark result }
+        ensures epoch { result.epoch ≡ epoch_in (kept_for key.now result.rate self.now.entries) }
     {
-        let kept = self.known.at(key);
+        let kept = self.known.at_rate(key, mark.rate);
         judge(source_in(kept), epoch_in(kept), mark)
     }
 
@@ -114,7 +121,7 @@ impl<A: Allocator + Copy> Intake<A> {
     fn keep(&mut self, key: Key, next: Next<A>) -> Result<Option<Admitted<A>>, AllocError>
         requires room { (next.begins && nat_eq self.old.epochs most_epochs) ≡ false }
         requires ready { IfSome next.admission
-            (λ a. is_some (base_of (gate_for (kept_at key self.old.entries) next.begins) a) ≡ true) }
+            (λ a. is_some (base_of (gate_for (kept_for key next.rate self.old.entries) next.begins) a) ≡ true) }
         ensures kept { OnOk result (IsKept self.old self.new key next) }
         ensures answer { IfOk result (λ answer. answer ≡ option_map (λ a. a.prepared.answer) next.admission) }
         ensures err { OnErr result (self.new ≡ self.old) }
@@ -135,9 +142,10 @@ impl<A: Allocator + Copy> Intake<A> {
         admission: Option<Admission<A>>,
     ) -> Result<Option<Admitted<A>>, AllocError>
         requires room { (judged.now.begins && nat_eq self.old.epochs most_epochs) ≡ false }
-        requires epoch { judged.now.epoch ≡ epoch_in (kept_at key self.old.entries) }
+        requires epoch { judged.now.epoch ≡ epoch_in (kept_for key judged.now.rate self.old.entries) }
         requires ready { IfSome admission
-            (λ a. is_some (base_of (gate_for (kept_at key self.old.entries) judged.now.begins) a) ≡ true) }
+            (λ a. is_some
+            (base_of (gate_for (kept_for key judged.now.rate self.old.entries) judged.now.begins) a) ≡ true) }
         ensures advances { OnOk result (Advances self.old self.new key judged.now admission) }
         ensures answer { IfOk result (λ answer. answer ≡ option_map (λ a. a.prepared.answer) admission) }
         ensures err { OnErr result (self.new ≡ self.old) }
@@ -156,7 +164,7 @@ impl<A: Allocator + Copy> Intake<A> {
         items: Vec<Item<A>, A>,
     ) -> Result<Ingest<A>, AllocError>
         requires room { (judged.now.begins && nat_eq self.old.epochs most_epochs) ≡ false }
-        requires epoch { judged.now.epoch ≡ epoch_in (kept_at key self.old.entries) }
+        requires epoch { judged.now.epoch ≡ epoch_in (kept_for key judged.now.rate self.old.entries) }
         requires sized { list_all is_sized (map input_of items.items) ≡ true }
         ensures advances { OnOk result (Advances self.old self.new key judged.now None) }
         ensures ingest { IfOk result
@@ -180,7 +188,7 @@ impl<A: Allocator + Copy> Intake<A> {
         judged: &Judged,
     ) -> Result<Ingest<A>, AllocError>
         requires room { (judged.now.begins && nat_eq self.old.epochs most_epochs) ≡ false }
-        requires epoch { judged.now.epoch ≡ epoch_in (kept_at key self.old.entries) }
+        requires epoch { judged.now.epoch ≡ epoch_in (kept_for key judged.now.rate self.old.entries) }
         ensures advances { OnOk result (Advances self.old self.new key judged.now None) }
         ensures ingest { IfOk result (λ ingest. ingested_of ingest ≡ only (told judged.now.verdict)) }
         ensures err { OnErr result (self.new ≡ self.old) }

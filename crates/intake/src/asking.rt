@@ -3,11 +3,11 @@
 ghost use Rattle.std.specs.Prelude.{◌≡◌, ◌++◌, map, IfOk, OnOk};
 ghost use Rattle.std.specs.List.{flat_map};
 ghost use Rattle.rtcp_codec.specs.View.{packet_of, packets_of};
-ghost use Rattle.intake.specs.Inputs.{input_of};
+ghost use Rattle.media_items.specs.Inputs.{input_of};
 ghost use Rattle.intake.specs.Control.{asks, block_item};
 
-use crate::item::Item;
 use feedback::numbers_of;
+use media_items::Item;
 use rtcp_codec::{ReportBlock, Rtcp};
 use rtp_codec::Address;
 use std::alloc::{AllocError, Allocator};

@@ -1,43 +1,43 @@
 //! Puts video packets through their source's gate.
 
-ghost use Rattle.std.specs.Prelude.{◌≡◌, ◌+◌, ◌≤◌, ◌||◌, ◌&&◌, ◌++◌, false, nat_eq, length, IfOk, OnErr, map};
+ghost use Rattle.std.specs.Prelude.{◌≡◌, ◌+◌, ◌≤◌, ◌||◌, ◌&&◌, ◌++◌, true, false, is_some, nat_eq, length, map};
+ghost use Rattle.std.specs.Prelude.{IfOk, OnErr};
 ghost use Rattle.std.specs.Prelude.{option_copied, vec_len, vec_capacity};
 ghost use Rattle.rtp_codec.specs.View.{packet_of};
 ghost use Rattle.frame_gate.specs.Frame.{highest_pt};
-ghost use Rattle.frame_gate.specs.Packets.{IsExt, numbered};
-ghost use Rattle.intake.specs.Inputs.{input_of};
+ghost use Rattle.frame_gate.specs.Packets.{IsExt, NumberedPacket, numbered};
+ghost use Rattle.media_items.specs.Inputs.{input_of};
 ghost use Rattle.intake.specs.Ingested.{ingested_of};
-ghost use Rattle.intake.specs.Media.{gate_packet, frame_item, frames_from};
+ghost use Rattle.intake.specs.Media.{restarts, placed, origin_of, gate_packet, frame_item, frames_from};
 ghost use Rattle.intake.specs.Taking.{most_epochs};
-ghost use Rattle.intake.specs.inner.Kept.{Admits, gate_for};
-ghost use Rattle.intake.specs.inner.Holding.{kept_at};
+ghost use Rattle.intake.specs.inner.Comings.{coming_of};
+ghost use Rattle.intake.specs.inner.Kept.{Admits, base_of, gate_for};
+ghost use Rattle.intake.specs.inner.Holding.{kept_for};
 ghost use Rattle.frame_gate.specs.Epochs.{most_missing};
 ghost use Rattle.intake.specs.inner.Moves.{outcome_at, epoch_in, Gates};
 
 use crate::admitting::{Admission, admit};
+use crate::coming::Coming;
 use crate::ingest::Ingest;
 use crate::intake::Intake;
-use crate::item::Item;
 use crate::judging::Judged;
 use crate::kept::Kept;
 use crate::known::Key;
 use crate::outcome::Outcome;
 use bytes::Bytes;
-use forward_rewrite::MediaFrame;
 use frame_gate::{Frame, Gate, Packet, Place};
-use rtp_codec::{Address, RtpView};
+use media_items::{Item, MediaFrame};
+use rtp_codec::RtpView;
+use source_valid::Verdict;
 use std::alloc::{AllocError, Allocator};
 
 /// The gate for a packet. There is none yet if an epoch begins with it.
 fn gate_for<A: Allocator + Copy>(kept: Option<&Kept<A>>, begins: bool) -> Option<&Gate<A>>
     ensures { option_copied result ≡ gate_for (option_copied kept.entry) begins }
 {
-    if begins {
-        return None;
-    }
     match kept {
         None => None,
-        Some(kept) => kept.gate.as_ref(),
+        Some(kept) => { if begins { None } else { kept.gate.as_ref() } }
     }
 }
 
@@ -54,13 +54,10 @@ fn packet_with<A: Allocator + Copy>(view: &RtpView<'_>, payload: Bytes<A>) -> Pa
     }
 }
 
-/// The outcome of a packet that came to the gate.
-fn outcome_at(restarts: bool, ext: i64, place: Place) -> Outcome
-    ensures { result ≡ outcome_at restarts ext place }
+/// The outcome of an accepted packet, by its place at the gate.
+fn placed(ext: i64, place: Place) -> Outcome
+    ensures { result ≡ placed ext place }
 {
-    if restarts {
-        return Outcome::Restarted { ext };
-    }
     match place {
         Place::Taken => Outcome::Accepted { ext },
         Place::Late => Outcome::Late { ext },
@@ -68,28 +65,39 @@ fn outcome_at(restarts: bool, ext: i64, place: Place) -> Outcome
     }
 }
 
-/// Whether either holds.
-fn either(a: bool, b: bool) -> bool
-    ensures { result ≡ (a || b) }
+/// The outcome of a packet that came to the gate.
+fn outcome_at(verdict: Verdict, place: Place) -> Outcome
+    ensures { result ≡ outcome_at verdict place }
 {
-    a || b
+    match verdict {
+        Verdict::Probation => Outcome::Probation,
+        Verdict::Accepted { ext } => placed(ext, place),
+        Verdict::Jump => Outcome::Jump,
+        Verdict::Restarted { ext } => Outcome::Restarted { ext },
+    }
+}
+
+/// Whether a picture is lost: the source restarts, or its gate gives up.
+fn loses(verdict: Verdict, gives_up: bool) -> bool
+    ensures { result ≡ (restarts verdict || gives_up) }
+{
+    match verdict {
+        Verdict::Restarted { ext: _ } => true,
+        Verdict::Probation => gives_up,
+        Verdict::Accepted { ext: _ } => gives_up,
+        Verdict::Jump => gives_up,
+    }
 }
 
 /// A frame as an item.
-fn framed<A: Allocator + Copy>(
-    from: &Address,
-    source: u32,
-    moment: u64,
-    epoch: u64,
-    frame: Frame<A>,
-) -> Item<A>
-    ensures { input_of result ≡ frame_item (record { address = from.now; ssrc = source }) moment epoch frame }
+fn framed<A: Allocator + Copy>(coming: Coming<'_>, epoch: u64, frame: Frame<A>) -> Item<A>
+    ensures { input_of result ≡ frame_item (origin_of (coming_of coming.entry)) coming.entry.moment epoch frame }
 {
     Item::Frame(MediaFrame {
-        source,
-        address: *from,
+        source: coming.view.ssrc,
+        address: *coming.from,
         epoch,
-        moment,
+        moment: coming.moment,
         frame,
     })
 }
@@ -97,21 +105,19 @@ fn framed<A: Allocator + Copy>(
 /// Appends the frames as items. There is room for them.
 fn put_frames<A: Allocator + Copy>(
     items: &mut Vec<Item<A>, A>,
-    from: &Address,
-    source: u32,
-    moment: u64,
+    coming: Coming<'_>,
     epoch: u64,
     frames: Vec<Frame<A>, A>,
 )
     requires { vec_len items.old + vec_len frames ≤ vec_capacity items.old }
     ensures items { map input_of items.new.items
         ≡ map input_of items.old.items
-        ++ frames_from (record { address = from.now; ssrc = source }) moment epoch frames.items }
+        ++ frames_from (origin_of (coming_of coming.entry)) coming.entry.moment epoch frames.items }
     ensures len { vec_len items.new ≡ vec_len items.old + vec_len frames }
     ensures capacity { vec_capacity items.old ≤ vec_capacity items.new }
 {
     for frame in frames {
-        items.push_reserved(framed(from, source, moment, epoch, frame));
+        items.push_reserved(framed(coming, epoch, frame));
     }
 }
 
@@ -138,51 +144,44 @@ impl<A: Allocator + Copy> Intake<A> {
         requires pt { packet.pt ≤ highest_pt }
         ensures few { IfOk result (λ a. length a.prepared.answer.nacks ≤ most_missing) }
         ensures admits { IfOk result
-            (λ a. Admits (gate_for (kept_at key.now self.now.entries) judged.now.begins) (numbered ext packet) a) }
+            (λ a. Admits (gate_for (kept_for key.now judged.now.rate self.now.entries) judged.now.begins)
+            (numbered ext packet) a) }
     {
-        admit(
-            alloc,
-            gate_for(self.known.at(key), judged.begins),
-            ext,
-            packet,
-        )
+        let kept = self.known.at_rate(key, judged.rate);
+        admit(alloc, gate_for(kept, judged.begins), ext, packet)
     }
 
-    /// Puts a packet with its payload through its source's gate.
+    /// Puts a prepared packet through its source's gate.
     fn at_gate(
         &mut self,
         alloc: A,
         key: Key,
         judged: &Judged,
-        ext: i64,
-        restarts: bool,
-        from: &Address,
-        moment: u64,
-        view: &RtpView<'_>,
-        packet: Packet<A>,
+        coming: Coming<'_>,
+        admission: Admission<A>,
     ) -> Result<Ingest<A>, AllocError>
         requires room { (judged.now.begins && nat_eq self.old.epochs most_epochs) ≡ false }
-        requires epoch { judged.now.epoch ≡ epoch_in (kept_at key self.old.entries) }
-        requires ext { IsExt ext }
-        requires pt { packet.pt ≤ highest_pt }
-        ensures gates { IfOk result
-            (λ ingest. Gates self.old self.new key judged.now
-            (record { from = from.now; moment = moment; packet = packet_of view.now })
-            (numbered ext packet) ext restarts (ingested_of ingest)) }
+        requires epoch { judged.now.epoch ≡ epoch_in (kept_for key judged.now.rate self.old.entries) }
+        requires few { length admission.prepared.answer.nacks ≤ most_missing }
+        requires ready { is_some
+            (base_of (gate_for (kept_for key judged.now.rate self.old.entries) judged.now.begins) admission) ≡ true }
+        ensures gates { (p : NumberedPacket)
+            → Admits (gate_for (kept_for key judged.now.rate self.old.entries) judged.now.begins) p admission
+            → IfOk result
+            (λ ingest. Gates self.old self.new key judged.now (coming_of coming.entry) p (ingested_of ingest)) }
         ensures err { OnErr result (self.new ≡ self.old) }
         ensures asker { self.new.asker ≡ self.old.asker }
     {
-        let admission = self.admission(alloc, &key, judged, ext, packet)?;
         let answer = admission.answer();
-        let pli = either(restarts, answer.pli);
-        let up = self.asked(alloc, from, view.ssrc, &answer.nacks, pli)?;
-        let outcome = outcome_at(restarts, ext, answer.place);
+        let pli = loses(judged.verdict, answer.pli);
+        let up = self.asked(alloc, coming, &answer.nacks, pli)?;
+        let outcome = outcome_at(judged.verdict, answer.place);
         let mut items = Vec::with_capacity(alloc, answer.frames.len())?;
         let epoch = self.epoch_for(judged);
         let Some(admitted) = self.advance(key, judged, Some(admission))? else {
             unreachable!()
         };
-        put_frames(&mut items, from, view.ssrc, moment, epoch, admitted.frames);
+        put_frames(&mut items, coming, epoch, admitted.frames);
         Ok(Ingest { outcome, up, items })
     }
 
@@ -193,25 +192,20 @@ impl<A: Allocator + Copy> Intake<A> {
         key: Key,
         judged: &Judged,
         ext: i64,
-        restarts: bool,
-        from: &Address,
-        moment: u64,
-        view: &RtpView<'_>,
+        coming: Coming<'_>,
     ) -> Result<Ingest<A>, AllocError>
         requires room { (judged.now.begins && nat_eq self.old.epochs most_epochs) ≡ false }
-        requires epoch { judged.now.epoch ≡ epoch_in (kept_at key self.old.entries) }
+        requires epoch { judged.now.epoch ≡ epoch_in (kept_for key judged.now.rate self.old.entries) }
         requires ext { IsExt ext }
-        requires pt { view.now.pt ≤ highest_pt }
+        requires pt { coming.view.now.pt ≤ highest_pt }
         ensures gates { IfOk result
-            (λ ingest. Gates self.old self.new key judged.now
-            (record { from = from.now; moment = moment; packet = packet_of view.now })
-            (numbered ext (gate_packet (packet_of view.now))) ext restarts (ingested_of ingest)) }
+            (λ ingest. Gates self.old self.new key judged.now (coming_of coming.entry)
+            (numbered ext (gate_packet (packet_of coming.entry.view.now))) (ingested_of ingest)) }
         ensures err { OnErr result (self.new ≡ self.old) }
         ensures asker { self.new.asker ≡ self.old.asker }
     {
-        let packet = self.packet_of(alloc, view)?;
-        self.at_gate(
-            alloc, key, judged, ext, restarts, from, moment, view, packet,
-        )
+        let packet = self.packet_of(alloc, coming.view)?;
+        let admission = self.admission(alloc, &key, judged, ext, packet)?;
+        self.at_gate(alloc, key, judged, coming, admission)
     }
 }

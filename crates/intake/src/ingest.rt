@@ -2,10 +2,10 @@
 
 ghost use Rattle.std.specs.Prelude.{◌≡◌, true, map};
 ghost use Rattle.std.specs.List.{list_all};
-ghost use Rattle.intake.specs.Inputs.{input_of, is_sized};
+ghost use Rattle.media_items.specs.Inputs.{input_of, is_sized};
 
-use crate::item::Item;
 use crate::outcome::Outcome;
+use media_items::Item;
 use rtp_codec::Address;
 use std::alloc::{Allocator, Global};
 
@@ -18,7 +18,7 @@ pub struct Ingest<A: Allocator + Copy = Global> {
     pub up: Vec<(Address, Vec<u8, A>), A>,
     /// The items for each lane, in this order.
     pub items: Vec<Item<A>, A>,
-    /// Audio items have 1 to 1,600 samples.
+    /// Audio items have 1 to 200 ms of samples.
     pub ghost sized: { list_all is_sized (map input_of items.items) ≡ true },
 }
 

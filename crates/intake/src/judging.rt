@@ -16,6 +16,8 @@ const NANOSECONDS: u64 = 1_000_000_000;
 /// A source after a packet, and the verdict on the packet.
 #[derive(Clone, Copy)]
 pub(crate) struct Judged {
+    /// The clock rate, in Hz.
+    pub(crate) rate: u32,
     pub(crate) source: Source,
     pub(crate) verdict: Verdict,
     /// Whether the packet initialises the source.
@@ -29,14 +31,28 @@ impl Model for Judged {
 
     ghost Value = { JudgedOf };
 
-    ghost view = { λ j. record { source = j.source; verdict = j.verdict; begins = j.begins; epoch = j.epoch } };
+    ghost view = { λ j. record {
+      rate = j.rate;
+      source = j.source;
+      verdict = j.verdict;
+      begins = j.begins;
+      epoch = j.epoch;
+    } };
 
-    ghost inverse = { λ j. record { source = j.source; verdict = j.verdict; begins = j.begins; epoch = j.epoch } };
+    ghost inverse = { λ j. record {
+      rate = j.rate;
+      source = j.source;
+      verdict = j.verdict;
+      begins = j.begins;
+      epoch = j.epoch;
+    } };
 }
 
 /// The parts of a packet that its source judges.
 #[derive(Clone, Copy)]
 pub(crate) struct Mark {
+    /// The clock rate, in Hz.
+    pub(crate) rate: u32,
     pub(crate) seq: u16,
     pub(crate) ts: u32,
     /// The moment of its arrival in units of the clock rate, modulo 2^32.
@@ -48,9 +64,9 @@ impl Model for Mark {
 
     ghost Value = { MarkOf };
 
-    ghost view = { λ m. record { seq = m.seq; ts = m.ts; units = m.units } };
+    ghost view = { λ m. record { rate = m.rate; seq = m.seq; ts = m.ts; units = m.units } };
 
-    ghost inverse = { λ m. record { seq = m.seq; ts = m.ts; units = m.units } };
+    ghost inverse = { λ m. record { rate = m.rate; seq = m.seq; ts = m.ts; units = m.units } };
 }
 
 /// A moment, in nanoseconds since 1970, in units of a clock rate of at most 90,000 Hz, modulo 2^32.
@@ -102,6 +118,7 @@ fn judge_known(source: Source, epoch: u64, mark: Mark) -> Judged
     let mut next = source;
     let verdict = next.update(mark.seq);
     Judged {
+        rate: mark.rate,
         source: arrived(next, verdict, mark),
         verdict,
         begins: initialises(was_past, verdict),
@@ -117,6 +134,7 @@ pub(crate) fn judge(source: Option<Source>, epoch: u64, mark: Mark) -> Judged
 {
     match source {
         None => Judged {
+            rate: mark.rate,
             source: Source::first(mark.seq),
             verdict: Verdict::Probation,
             begins: false,

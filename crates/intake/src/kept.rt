@@ -5,7 +5,7 @@ ghost use Rattle.rtcp_codec.specs.Report.{FitsLost};
 ghost use Rattle.intake.specs.Stories.{Story};
 ghost use Rattle.intake.specs.Control.{heard_on};
 ghost use Rattle.intake.specs.Reported.{block_on, renewed};
-ghost use Rattle.intake.specs.inner.Kept.{Keeps, base_of, gate_for, SettlesAll, Becomes};
+ghost use Rattle.intake.specs.inner.Kept.{Keeps, base_of, gate_for, kept_by, SettlesAll, Becomes};
 
 use crate::admitting::{Admission, settle};
 use frame_gate::{Admitted, Gate};
@@ -14,9 +14,11 @@ use source_valid::Source;
 use std::alloc::{Allocator, Global};
 use std::marker::Model;
 
-/// A source with its epoch and its gate. The first packet that reaches the gate makes it.
+/// A source with its clock rate, its epoch and its gate. The first packet that reaches the gate makes it.
 #[derive(Drop)]
 pub(crate) struct Kept<A: Allocator + Copy = Global> {
+    /// In Hz.
+    pub(crate) rate: u32,
     pub(crate) source: Source,
     pub(crate) epoch: u64,
     pub(crate) gate: Option<Gate<A>>,
@@ -27,12 +29,14 @@ impl<A: Allocator + Copy> Model for Kept<A> {
 
     ghost Value = { KeptOf };
 
-    ghost view = { λ k. record { source = k.source; epoch = k.epoch; gate = k.gate } };
+    ghost view = { λ k. record { rate = k.rate; source = k.source; epoch = k.epoch; gate = k.gate } };
 }
 
 /// The next state of a source.
 #[derive(Drop)]
 pub(crate) struct Next<A: Allocator + Copy = Global> {
+    /// The clock rate, in Hz.
+    pub(crate) rate: u32,
     pub(crate) source: Source,
     pub(crate) epoch: u64,
     /// Whether the epoch begins with the packet.
@@ -46,12 +50,18 @@ impl<A: Allocator + Copy> Model for Next<A> {
 
     ghost Value = { NextOf };
 
-    ghost view = { λ n. record { source = n.source; epoch = n.epoch; begins = n.begins; admission = n.admission } };
+    ghost view = { λ n. record {
+      rate = n.rate;
+      source = n.source;
+      epoch = n.epoch;
+      begins = n.begins;
+      admission = n.admission;
+    } };
 }
 
 /// Commits the prepared packet, if there is one.
 #[inline(always)]
-fn settle_all<A: Allocator + Copy>(
+pub(crate) fn settle_all<A: Allocator + Copy>(
     gate: &mut Option<Gate<A>>,
     admission: Option<Admission<A>>,
 ) -> Option<Admitted<A>>
@@ -66,25 +76,28 @@ fn settle_all<A: Allocator + Copy>(
 }
 
 impl<A: Allocator + Copy> Kept<A> {
-    /// Moves to the next state, and gives the gate's answer. This takes no memory.
+    /// Moves to the next state, and gives the gate's answer. At another clock rate the gate is dropped. This takes no
+    /// memory.
     #[inline(always)]
     pub(crate) fn become_next(&mut self, next: Next<A>) -> Option<Admitted<A>>
         requires ready { IfSome next.admission
-            (λ a. is_some (base_of (gate_for (Some self.old) next.begins) a) ≡ true) }
-        ensures becomes { Becomes (Some self.old) next self.new }
+            (λ a. is_some (base_of (gate_for (kept_by next.rate (Some self.old)) next.begins) a) ≡ true) }
+        ensures becomes { Becomes (kept_by next.rate (Some self.old)) next self.new }
         ensures answer { result ≡ option_map (λ a. a.prepared.answer) next.admission }
     {
         let Next {
+            rate,
             source,
             epoch,
             begins,
             admission,
         } = next;
-        self.source = source;
-        self.epoch = epoch;
-        if begins {
+        if begins || self.rate != rate {
             self.gate = None;
         }
+        self.rate = rate;
+        self.source = source;
+        self.epoch = epoch;
         settle_all(&mut self.gate, admission)
     }
 

@@ -7,9 +7,9 @@ ghost use Rattle.intake.specs.Sources.{most_known, Known as KnownOf, retold};
 ghost use Rattle.intake.specs.Control.{heard_on, noted, noted_all};
 ghost use Rattle.intake.specs.Reported.{renewed};
 ghost use Rattle.intake.specs.inner.Kept.{KeptOf, base_of, gate_for, Becomes};
-ghost use Rattle.intake.specs.inner.Holding.{Holds, kept_at, key_of, put_first};
+ghost use Rattle.intake.specs.inner.Holding.{Holds, kept_at, kept_for, key_of, put_first};
 
-use crate::kept::{Kept, Next};
+use crate::kept::{Kept, Next, settle_all};
 use frame_gate::Admitted;
 use lru::LruCache;
 use rtcp_codec::Rtcp;
@@ -81,6 +81,16 @@ impl<A: Allocator + Copy> Known<A> {
         self.cache.peek(key)
     }
 
+    /// The state of a source, if it is kept at this clock rate, in Hz.
+    pub(crate) fn at_rate(&self, key: &Key, rate: u32) -> Option<&Kept<A>>
+        ensures { option_copied result ≡ kept_for key.now rate self.now }
+    {
+        match self.at(key) {
+            None => None,
+            Some(kept) => { if kept.rate == rate { Some(kept) } else { None } }
+        }
+    }
+
     /// Keeps a source that was unknown.
     fn begin(&mut self, key: Key, next: Next<A>) -> Result<Option<Admitted<A>>, AllocError>
         requires new { kept_at key self.old ≡ None }
@@ -89,12 +99,21 @@ impl<A: Allocator + Copy> Known<A> {
         ensures answer { IfOk result (λ answer. answer ≡ option_map (λ a. a.prepared.answer) next.admission) }
         ensures err { OnErr result (self.new ≡ self.old) }
     {
-        let mut kept = Kept {
-            source: next.source,
-            epoch: next.epoch,
-            gate: None,
+        let Next {
+            rate,
+            source,
+            epoch,
+            begins: _,
+            admission,
+        } = next;
+        let mut gate = None;
+        let answer = settle_all(&mut gate, admission);
+        let kept = Kept {
+            rate,
+            source,
+            epoch,
+            gate,
         };
-        let answer = kept.become_next(next);
         self.cache.put(key, kept)?;
         Ok(answer)
     }
@@ -107,8 +126,8 @@ impl<A: Allocator + Copy> Known<A> {
         next: Next<A>,
     ) -> Result<Option<Admitted<A>>, AllocError>
         requires ready { IfSome next.admission
-            (λ a. is_some (base_of (gate_for (kept_at key self.old) next.begins) a) ≡ true) }
-        ensures becomes { OnOk result ((k : KeptOf) × Becomes (kept_at key self.old) next k
+            (λ a. is_some (base_of (gate_for (kept_for key next.rate self.old) next.begins) a) ≡ true) }
+        ensures becomes { OnOk result ((k : KeptOf) × Becomes (kept_for key next.rate self.old) next k
             × (self.new ≡ put_first key k self.old)) }
         ensures answer { IfOk result (λ answer. answer ≡ option_map (λ a. a.prepared.answer) next.admission) }
         ensures err { OnErr result (self.new ≡ self.old) }

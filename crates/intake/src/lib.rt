@@ -17,11 +17,11 @@
 mod admitting;
 mod advancing;
 mod asking;
+mod coming;
 mod control;
 mod gating;
 mod ingest;
 mod intake;
-mod item;
 mod judging;
 mod kept;
 mod known;
@@ -36,7 +36,6 @@ mod upward;
 
 pub use self::ingest::Ingest;
 pub use self::intake::Intake;
-pub use self::item::Item;
 pub use self::laws::{
     datagrams_are_read, readings_agree, reports_begin_intervals, voices_are_there,
 };

@@ -1,97 +1,111 @@
 //! Decodes audio payloads into items.
 
-ghost use Rattle.std.specs.Prelude.{◌≡◌, ℕ, true, length, map, IfOk};
+ghost use Rattle.std.specs.Prelude.{◌≡◌, ◌%◌, true, length, map, IfOk, IfSome};
 ghost use Rattle.std.specs.List.{list_all};
-ghost use Rattle.rtp_codec.specs.View.{packet_of};
-ghost use Rattle.intake.specs.Inputs.{input_of, is_sized};
-ghost use Rattle.intake.specs.Media.{is_audio, samples_of_packet, sound_of, sounds};
+ghost use Rattle.media_items.specs.Formats.{holds_whole};
+ghost use Rattle.media_items.specs.Inputs.{input_of, is_sized};
+ghost use Rattle.sample_codecs.specs.MuLaw.{decoded};
+ghost use Rattle.sample_codecs.specs.L16.{samples_of};
+ghost use Rattle.intake.specs.Media.{audio_format, samples_of_packet, sound_of, sounds};
+ghost use Rattle.intake.specs.inner.Comings.{coming_of};
 
-use crate::item::Item;
-use rtp_codec::{Address, RtpView};
+use crate::coming::Coming;
+use media_items::{Format, Item, format_of_packet};
+use sample_codecs::{decode_l16, decode_pcmu};
 use source_valid::Verdict;
 use std::alloc::{AllocError, Allocator};
 
-/// The most samples of an audio packet: 200 ms at 8000 Hz.
-const MOST_SAMPLES: usize = 1_600;
-
-/// The payload types of audio: PCMU and L16.
-const PCMU: u8 = 0;
-
-const L16: u8 = 97;
-
-/// Whether the payload is audio: PCMU, or L16 in whole samples; at most 200 ms.
-pub(crate) fn is_audio(pt: u8, octets: usize) -> bool
-    ensures { result ≡ is_audio pt octets }
+/// The format of a payload of so many octets, if it is audio in a room of this clock rate.
+pub(crate) fn audio_format(rate: u32, pt: u8, octets: usize) -> Option<Format>
+    ensures format { result ≡ audio_format rate pt octets }
+    ensures whole { IfSome result (λ format. holds_whole format octets ≡ true) }
 {
-    if pt == PCMU {
-        return octets <= MOST_SAMPLES;
+    match format_of_packet(pt, rate) {
+        None => None,
+        Some(format) => {
+            if format.holds_whole(octets) {
+                Some(format)
+            } else {
+                None
+            }
+        }
     }
-    pt == L16 && (octets % 2 == 0 && octets <= 2 * MOST_SAMPLES)
 }
 
-/// Decodes an audio payload.
+/// The samples of a payload of PCMU.
+fn from_pcmu<A: Allocator + Copy>(alloc: A, payload: &[u8]) -> Result<Vec<i16, A>, AllocError>
+    ensures { IfOk result (λ samples. samples.items ≡ map decoded payload.now) }
+{
+    let mut samples = vec![in alloc; 0; payload.len()]?;
+    decode_pcmu(payload, &mut samples);
+    Ok(samples)
+}
+
+/// The samples of a payload of L16. It has whole samples.
+fn from_l16<A: Allocator + Copy>(alloc: A, payload: &[u8]) -> Result<Vec<i16, A>, AllocError>
+    requires { length payload.now % 2 ≡ 0 }
+    ensures { IfOk result (λ samples. samples.items ≡ samples_of payload.now) }
+{
+    let mut samples = vec![in alloc; 0; payload.len() / 2]?;
+    decode_l16(payload, &mut samples);
+    Ok(samples)
+}
+
+/// Decodes a payload of this format.
+#[tactic(auto, using(crate::proofs::Sized::even_octets))]
 fn samples_of<A: Allocator + Copy>(
     alloc: A,
-    pt: u8,
+    format: Format,
     payload: &[u8],
 ) -> Result<Vec<i16, A>, AllocError>
-    requires { is_audio pt (length payload.now) ≡ true }
-    ensures { IfOk result (λ samples. samples.items ≡ samples_of_packet pt payload.now) }
+    requires { holds_whole format (length payload.now) ≡ true }
+    ensures { IfOk result (λ samples. samples.items ≡ samples_of_packet format payload.now) }
 {
-    if pt == PCMU {
-        let mut samples = vec![in alloc; 0; payload.len()]?;
-        g711::decode_all(payload, &mut samples);
-        return Ok(samples);
+    match format {
+        Format::Pcmu => from_pcmu(alloc, payload),
+        Format::L16At8000 => from_l16(alloc, payload),
+        Format::L16At44100 => from_l16(alloc, payload),
     }
-    let mut samples = vec![in alloc; 0; payload.len() / 2]?;
-    l16::decode(payload, &mut samples);
-    Ok(samples)
 }
 
 /// A packet as an item, unless its payload is empty.
 fn sound_of<A: Allocator + Copy>(
     alloc: A,
-    from: &Address,
-    view: &RtpView<'_>,
+    format: Format,
+    coming: Coming<'_>,
 ) -> Result<Vec<Item<A>, A>, AllocError>
-    requires { is_audio view.now.pt (length view.now.payload.now) ≡ true }
-    ensures items { (moment : ℕ)
-        → IfOk result
-        (λ items. map input_of items.items
-        ≡ sound_of (record { from = from.now; moment = moment; packet = packet_of view.now })) }
+    requires { holds_whole format (length coming.view.now.payload.now) ≡ true }
+    ensures { IfOk result (λ items. map input_of items.items ≡ sound_of format (coming_of coming.entry)) }
 {
+    let view = coming.view;
     if view.payload.is_empty() {
         return Ok(Vec::new(alloc));
     }
     let mut items = Vec::with_capacity(alloc, 1)?;
-    let samples = samples_of(alloc, view.pt, view.payload)?;
+    let samples = samples_of(alloc, format, view.payload)?;
     items.push_reserved(Item::Audio {
         ssrc: view.ssrc,
-        address: *from,
+        address: *coming.from,
+        rate: format.rate(),
         ts: view.ts,
         samples,
     });
     Ok(items)
 }
 
-/// The items of a judged packet.
+/// The items of a judged packet. Only a packet that counts is heard.
 pub(crate) fn sounds<A: Allocator + Copy>(
     alloc: A,
     verdict: Verdict,
-    from: &Address,
-    view: &RtpView<'_>,
+    format: Format,
+    coming: Coming<'_>,
 ) -> Result<Vec<Item<A>, A>, AllocError>
-    requires { is_audio view.now.pt (length view.now.payload.now) ≡ true }
-    ensures items { (moment : ℕ)
-        → IfOk result
-        (λ items. map input_of items.items
-        ≡ sounds (record { from = from.now; moment = moment; packet = packet_of view.now }) verdict) }
+    requires { holds_whole format (length coming.view.now.payload.now) ≡ true }
+    ensures items { IfOk result (λ items. map input_of items.items ≡ sounds format (coming_of coming.entry) verdict) }
     ensures sized { IfOk result (λ items. list_all is_sized (map input_of items.items) ≡ true) }
 {
-    match verdict {
-        Verdict::Probation => Ok(Vec::new(alloc)),
-        Verdict::Accepted { ext: _ } => sound_of(alloc, from, view),
-        Verdict::Jump => Ok(Vec::new(alloc)),
-        Verdict::Restarted { ext: _ } => sound_of(alloc, from, view),
+    match verdict.accepted() {
+        None => Ok(Vec::new(alloc)),
+        Some(_) => sound_of(alloc, format, coming),
     }
 }

@@ -3,8 +3,11 @@
 ghost use Rattle.std.specs.Prelude.{◌≡◌, ◌≤◌, [], ◌∷◌, length, IfOk, map};
 ghost use Rattle.feedback.specs.Upstream.{most_words};
 ghost use Rattle.intake.specs.Ingested.{datagram_of};
+ghost use Rattle.intake.specs.Media.{origin_of};
 ghost use Rattle.intake.specs.Taking.{Voice, IsVoice, asking, asked_of};
+ghost use Rattle.intake.specs.inner.Comings.{coming_of};
 
+use crate::coming::Coming;
 use crate::intake::Intake;
 use crate::settings::Settings;
 use feedback::upstream;
@@ -41,12 +44,11 @@ impl<A: Allocator + Copy> Intake<A> {
         upstream(alloc, *bridge_ssrc, cname, source, nacks, pli)
     }
 
-    /// The datagram for a source, if it is asked for anything.
+    /// The datagram for a packet's source, if it is asked for anything.
     pub(crate) fn asked(
         &self,
         alloc: A,
-        from: &Address,
-        source: u32,
+        coming: Coming<'_>,
         nacks: &[i64],
         pli: bool,
     ) -> Result<Vec<(Address, Vec<u8, A>), A>, AllocError>
@@ -54,12 +56,12 @@ impl<A: Allocator + Copy> Intake<A> {
         ensures { (voice : Voice) → IsVoice voice → voice.asker ≡ self.now.asker
             → IfOk result
             (λ up. map datagram_of up.items
-            ≡ asked_of voice (record { address = from.now; ssrc = source }) nacks.now pli) }
+            ≡ asked_of voice (origin_of (coming_of coming.entry)) nacks.now pli) }
     {
         if nacks.is_empty() && !pli {
             return Ok(Vec::new(alloc));
         }
-        let octets = self.asking(alloc, source, nacks, pli)?;
-        one_datagram(alloc, from, octets)
+        let octets = self.asking(alloc, coming.view.ssrc, nacks, pli)?;
+        one_datagram(alloc, coming.from, octets)
     }
 }

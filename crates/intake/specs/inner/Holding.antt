@@ -6,7 +6,7 @@ use Rattle.std.specs.Option.{option_map_or}
 use Rattle.intake.specs.declared.known.Key.{Key}
 use Rattle.intake.specs.Sources.{Origin, Known, most_known}
 use Rattle.feedback.specs.Upstream.{Asker}
-use Rattle.intake.specs.inner.Kept.{KeptOf, Keeps}
+use Rattle.intake.specs.inner.Kept.{KeptOf, Keeps, kept_by}
 
 abbrev pub same_key : Key → Key → Bool
 same_key a b = bytes_eq a.ip b.ip && (nat_eq a.port b.port && nat_eq a.ssrc b.ssrc)
@@ -18,6 +18,10 @@ key_of o = record { ip = o.address.ip; port = o.address.port; ssrc = o.ssrc }
 -- what is kept under a key
 abbrev pub kept_at : Key → List (Key × KeptOf) → Option KeptOf
 kept_at key entries = lookup (same_key key) entries
+
+-- what is kept under a key at this clock rate
+abbrev pub kept_for : Key → (rate : ℕ) → List (Key × KeptOf) → Option KeptOf
+kept_for key rate entries = kept_by rate (kept_at key entries)
 
 -- with this under the key, before the others, of which there may be so many with it
 abbrev pub put_within : ℕ → Key → KeptOf → List (Key × KeptOf) → List (Key × KeptOf)

@@ -1,5 +1,5 @@
 -- What is kept of a source, and how it stands to the source's story.
-use Rattle.std.specs.Prelude.{◌≡◌, ℕ, Bool, if◌then◌else◌, List, [], ◌∷◌, ◌++◌, Option, None, Some, is_some, true}
+use Rattle.std.specs.Prelude.{◌≡◌, ℕ, Bool, nat_eq, if◌then◌else◌, List, [], ◌∷◌, ◌++◌, Option, None, Some, is_some, true}
 use Rattle.source_valid.specs.declared.verdict.Verdict.{Verdict}
 use Rattle.source_valid.specs.inner.Kept.{Kept as SourceOf}
 use Rattle.source_valid.specs.Histories.{Step, Number, standing_of, verdict_of}
@@ -11,8 +11,9 @@ use Rattle.frame_gate.specs.Epochs.{epoch_of}
 use Rattle.frame_gate.specs.Admits.{Represents as Gates, Answers, Commits}
 use Rattle.intake.specs.Stories.{Story, Mark, initialises, arrival}
 
--- a source, its epoch, and its gate, which it has from the first packet on that comes to it
+-- a clock rate, a source, its epoch, and its gate, which it has from the first packet on that comes to it
 pub record KeptOf : Type 0 where
+  pub rate : ℕ
   pub source : SourceOf
   pub epoch : ℕ
   pub gate : Option GateOf
@@ -29,12 +30,14 @@ HasGiven (Some source) given = IsGiven source given
 
 -- what is kept of a source with this story
 pub record Keeps (k : KeptOf) (story : Story) : Type 0 where
+  pub rate : k.rate ≡ story.rate
   pub given : IsGiven k.source story.given
   pub epoch : k.epoch ≡ story.epoch
   pub gated : HasGated k.gate story.gated
 
--- a source with a packet, the verdict on it, and the epoch before it
+-- a clock rate, a source with a packet, the verdict on it, and the epoch before it
 pub record JudgedOf : Type 0 where
+  pub rate : ℕ
   pub source : SourceOf
   pub verdict : Verdict
   pub begins : Bool
@@ -42,6 +45,7 @@ pub record JudgedOf : Type 0 where
 
 -- Whatever the source was given, this is the verdict on a packet, and what becomes of the source.
 pub record Judges (source : Option SourceOf) (m : Mark) (j : JudgedOf) : Type 0 where
+  pub rate : j.rate ≡ m.rate
   pub range : IsInRange j.verdict
   pub verdict : (given : List Step) → HasGiven source given → j.verdict ≡ verdict_of (standing_of given) m.seq
   pub begins : (given : List Step) → HasGiven source given → j.begins ≡ initialises (standing_of given) j.verdict
@@ -69,8 +73,9 @@ pub record Settles (old : Option GateOf) (a : AdmissionOf) (new : Option GateOf)
   pub commits : Commits base a.prepared gate
   pub now : new ≡ Some gate
 
--- what a source is to become: with what it was given, its epoch, whether this begins with the packet, and what is ready for its gate
+-- what a source is to become: its clock rate, with what it was given, its epoch, whether this begins with the packet, and what is ready for its gate
 pub record NextOf : Type 0 where
+  pub rate : ℕ
   pub source : SourceOf
   pub epoch : ℕ
   pub begins : Bool
@@ -82,7 +87,13 @@ gate_in None = None
 gate_in (Some k) = k.gate
 
 abbrev pub gate_for : Option KeptOf → Bool → Option GateOf
-gate_for kept begins = if begins then None else gate_in kept
+gate_for None begins = None
+gate_for (Some k) begins = if begins then None else k.gate
+
+-- what is kept of a source at this clock rate: what is kept at another is dropped
+abbrev pub kept_by : (rate : ℕ) → Option KeptOf → Option KeptOf
+kept_by rate None = None
+kept_by rate (Some k) = if nat_eq k.rate rate then Some k else None
 
 abbrev pub SettlesAll : Option GateOf → Option AdmissionOf → Option GateOf → Type 0
 SettlesAll old None new = new ≡ old
@@ -90,6 +101,7 @@ SettlesAll old (Some a) new = Settles old a new
 
 -- what is kept became what it was to become
 pub record Becomes (old : Option KeptOf) (next : NextOf) (new : KeptOf) : Type 0 where
+  pub rate : new.rate ≡ next.rate
   pub source : new.source ≡ next.source
   pub epoch : new.epoch ≡ next.epoch
   pub gate : SettlesAll (gate_for old next.begins) next.admission new.gate

@@ -2,6 +2,8 @@
 use Rattle.std.specs.Prelude.{◌≡◌, ℕ, ℤ, ◌+◌, Bool, ◌||◌, if◌then◌else◌, Option, None, Some}
 use Rattle.std.specs.Option.{option_map}
 use Rattle.source_valid.specs.inner.Kept.{Kept as SourceOf}
+use Rattle.source_valid.specs.declared.verdict.Verdict.{Verdict}
+use Rattle.source_valid.specs.declared.verdict.Verdict.TheVariants.{Probation, Accepted, Jump, Restarted}
 use Rattle.frame_gate.specs.declared.packet.Place.{Place}
 use Rattle.frame_gate.specs.Answer.{Answer}
 use Rattle.frame_gate.specs.Packets.{NumberedPacket}
@@ -9,10 +11,10 @@ use Rattle.intake.specs.declared.outcome.Outcome.{Outcome}
 use Rattle.intake.specs.declared.outcome.Outcome.TheVariants as outcomes
 use Rattle.intake.specs.declared.known.Key.{Key}
 use Rattle.intake.specs.Ingested.{Ingested}
-use Rattle.intake.specs.Media.{Coming, origin_of, placed, frames_from}
+use Rattle.intake.specs.Media.{Coming, origin_of, restarts, placed, frames_from}
 use Rattle.intake.specs.Taking.{Voice, IsVoice, asked_of}
 use Rattle.intake.specs.inner.Kept.{KeptOf, JudgedOf, AdmissionOf, NextOf, Admits, Becomes, gate_for}
-use Rattle.intake.specs.inner.Holding.{IntakeOf, kept_at, put_first}
+use Rattle.intake.specs.inner.Holding.{IntakeOf, kept_for, put_first}
 
 -- the source of what is kept
 abbrev pub source_in : Option KeptOf → Option SourceOf
@@ -24,33 +26,36 @@ epoch_in (Some k) = k.epoch
 
 -- a source with a judged packet, where so many epochs have begun
 abbrev pub next_of : Option KeptOf → ℕ → JudgedOf → Option AdmissionOf → NextOf
-next_of kept epochs j admission = record { source = j.source; epoch = if j.begins then epochs + 1 else epoch_in kept; begins = j.begins; admission = admission }
+next_of kept epochs j admission = record { rate = j.rate; source = j.source; epoch = if j.begins then epochs + 1 else epoch_in kept; begins = j.begins; admission = admission }
 
 -- This is kept now, before the others.
 abbrev pub IsKept : IntakeOf → IntakeOf → Key → NextOf → Type 0
 IsKept old new key next =
-    (k : KeptOf) × Becomes (kept_at key old.entries) next k
+    (k : KeptOf) × Becomes (kept_for key next.rate old.entries) next k
     × (new ≡ record { asker = old.asker; entries = put_first key k old.entries; epochs = if next.begins then old.epochs + 1 else old.epochs })
 
 -- the same, of a source with a judged packet
 abbrev pub Advances : IntakeOf → IntakeOf → Key → JudgedOf → Option AdmissionOf → Type 0
-Advances old new key j admission = IsKept old new key (next_of (kept_at key old.entries) old.epochs j admission)
+Advances old new key j admission = IsKept old new key (next_of (kept_for key j.rate old.entries) old.epochs j admission)
 
 -- the outcome of a packet that came to the gate
-abbrev pub outcome_at : Bool → ℤ → Place → Outcome
-outcome_at restarts ext place = if restarts then outcomes.Restarted ext else placed ext place
+abbrev pub outcome_at : Verdict → Place → Outcome
+outcome_at Probation place = outcomes.Probation
+outcome_at (Accepted ext) place = placed ext place
+outcome_at Jump place = outcomes.Jump
+outcome_at (Restarted ext) place = outcomes.Restarted ext
 
 -- what is answered where the gate answers so
-abbrev pub given : Voice → Coming → ℕ → ℤ → Bool → Answer → Ingested
-given voice c epoch ext restarts answer = record {
-  outcome = outcome_at restarts ext answer.place;
-  up = asked_of voice (origin_of c) answer.nacks (restarts || answer.pli);
+abbrev pub given : Voice → Coming → ℕ → Verdict → Answer → Ingested
+given voice c epoch verdict answer = record {
+  outcome = outcome_at verdict answer.place;
+  up = asked_of voice (origin_of c) answer.nacks (restarts verdict || answer.pli);
   items = frames_from (origin_of c) c.moment epoch answer.frames;
 }
 
 -- The packet came to the source's gate.
-pub record Gates (old new : IntakeOf) (key : Key) (j : JudgedOf) (c : Coming) (p : NumberedPacket) (ext : ℤ) (restarts : Bool) (ingested : Ingested) : Type 0 where
+pub record Gates (old new : IntakeOf) (key : Key) (j : JudgedOf) (c : Coming) (p : NumberedPacket) (ingested : Ingested) : Type 0 where
   pub admission : AdmissionOf
-  pub admits : Admits (gate_for (kept_at key old.entries) j.begins) p admission
+  pub admits : Admits (gate_for (kept_for key j.rate old.entries) j.begins) p admission
   pub advances : Advances old new key j (Some admission)
-  pub answers : (voice : Voice) → IsVoice voice → voice.asker ≡ old.asker → ingested ≡ given voice c (next_of (kept_at key old.entries) old.epochs j (Some admission)).epoch ext restarts admission.prepared.answer
+  pub answers : (voice : Voice) → IsVoice voice → voice.asker ≡ old.asker → ingested ≡ given voice c (next_of (kept_for key j.rate old.entries) old.epochs j (Some admission)).epoch j.verdict admission.prepared.answer

@@ -2,7 +2,7 @@
 use Rattle.std.proofs.Common.{◌≡◌, map, take}
 use Rattle.std.specs.List.{flat_map}
 use Rattle.rtcp_codec.specs.View.{packets_of}
-use Rattle.intake.specs.Inputs.{input_of}
+use Rattle.media_items.specs.Inputs.{input_of}
 use Rattle.intake.specs.Control.{asks}
 use Rattle.intake.proofs.asking.asked_items.Given as goal
 

@@ -1,6 +1,6 @@
 -- The items of the blocks so far.
 use Rattle.std.proofs.Common.{◌≡◌, ◌++◌, map, take}
-use Rattle.intake.specs.Inputs.{input_of}
+use Rattle.media_items.specs.Inputs.{input_of}
 use Rattle.intake.specs.Control.{block_item}
 use Rattle.intake.proofs.asking.put_blocks.Given as goal
 

@@ -1,28 +1,18 @@
-use Rattle.std.proofs.Common.{◌∙◌, ap, sym}
+use Rattle.std.proofs.Common.{◌∙◌, ap, sym, is_some, if◌then◌else◌, []}
 use Rattle.std.specs.List.{list_all}
-use Rattle.rtp_codec.specs.View.{packet_of}
-use Rattle.intake.specs.Inputs.{is_sized}
-use Rattle.intake.specs.Media.{Coming, sounds}
+use Rattle.source_valid.specs.Histories.{accepted}
+use Rattle.media_items.specs.Inputs.{Input, is_sized}
+use Rattle.intake.specs.Media.{sound_of}
+use Rattle.intake.specs.inner.Comings.{coming_of}
 use Rattle.intake.proofs.Results.{from_fact}
 use Rattle.intake.proofs.Sized.{sized_sound}
 use Rattle.intake.proofs.sounding.sounds.Goals as goal
 
-pub returns-in-Accepted-clause-items : goal.returns-in-Accepted-clause-items
-returns-in-Accepted-clause-items g c = λ moment.
-    let coming : Coming = record { from = c.args.from.now; moment = moment; packet = packet_of c.args.view.now } in
-    from_fact c.sound_of.result (c.sound_of.ensures.items moment) (λ items is. is ∙ sym (ap (sounds coming) c.in-Accepted.is))
+pub returns-in-Some-clause-items : goal.returns-in-Some-clause-items
+returns-in-Some-clause-items g c =
+    let some = sym c.accepted.ensures ∙ c.in-Some.is in
+    from_fact c.sound_of.result c.sound_of.ensures (λ items is. is ∙ sym (ap (λ o. if is_some o then sound_of c.args.format (coming_of c.args.coming) else []) some))
 
-pub returns-in-Accepted-clause-sized : goal.returns-in-Accepted-clause-sized
-returns-in-Accepted-clause-sized g c =
-    let coming : Coming = record { from = c.args.from.now; moment = 0; packet = packet_of c.args.view.now } in
-    from_fact c.sound_of.result (c.sound_of.ensures.items 0) (λ items is. ap (list_all is_sized) is ∙ sized_sound coming c.requires)
-
-pub returns-in-Restarted-clause-items : goal.returns-in-Restarted-clause-items
-returns-in-Restarted-clause-items g c = λ moment.
-    let coming : Coming = record { from = c.args.from.now; moment = moment; packet = packet_of c.args.view.now } in
-    from_fact c.sound_of-in-Restarted.result (c.sound_of-in-Restarted.ensures.items moment) (λ items is. is ∙ sym (ap (sounds coming) c.in-Restarted.is))
-
-pub returns-in-Restarted-clause-sized : goal.returns-in-Restarted-clause-sized
-returns-in-Restarted-clause-sized g c =
-    let coming : Coming = record { from = c.args.from.now; moment = 0; packet = packet_of c.args.view.now } in
-    from_fact c.sound_of-in-Restarted.result (c.sound_of-in-Restarted.ensures.items 0) (λ items is. ap (list_all is_sized) is ∙ sized_sound coming c.requires)
+pub returns-in-Some-clause-sized : goal.returns-in-Some-clause-sized
+returns-in-Some-clause-sized g c =
+    from_fact c.sound_of.result c.sound_of.ensures (λ items is. ap (list_all is_sized) is ∙ sized_sound c.args.format (coming_of c.args.coming) c.requires)

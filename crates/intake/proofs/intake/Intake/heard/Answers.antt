@@ -3,7 +3,7 @@ use Rattle.std.proofs.lemmas.List.{length-map}
 use Rattle.std.specs.List.{list_all}
 use Rattle.rtcp_codec.specs.View.{packet_of, packets_of}
 use Rattle.intake.specs.declared.outcome.Outcome.TheVariants.{Rtcp}
-use Rattle.intake.specs.Inputs.{input_of, is_sized}
+use Rattle.media_items.specs.Inputs.{input_of, is_sized}
 use Rattle.intake.specs.Ingested.{datagram_of}
 use Rattle.intake.specs.inner.Holding.{IntakeOf, Holds}
 use Rattle.intake.proofs.Answered.{ingested}

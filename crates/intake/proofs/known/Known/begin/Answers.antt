@@ -1,7 +1,18 @@
-use Rattle.std.proofs.Common.{◌∙◌, ap}
+use Rattle.std.proofs.Common.{◌∙◌, ap, subst, None}
+use Rattle.intake.specs.inner.Kept.{KeptOf, NextOf, SettlesAll}
 use Rattle.intake.specs.inner.Holding.{put_within, put_first}
 use Rattle.intake.proofs.known.Known.begin.Goals as goal
 
--- src/known.rt:80:5
 pub returns-clause-becomes : goal.returns-clause-becomes
-returns-clause-becomes g c = let b = c.become_next-answer.ensures.becomes in (c.become_next-answer.new.self, record { source = b.source; epoch = b.epoch; gate = b.gate }, ap (λ x. x.entries) c.in_ok-put.ensures.entries ∙ ap (λ n. put_within n c.args.key c.become_next-answer.new.self c.self.inside.cache.entries) c.self.invariant ∙ ap (put_first c.args.key c.become_next-answer.new.self) c.self.view_is)
+returns-clause-becomes g c =
+    let gate = c.settle_all-answer.new.gate in
+    let k : KeptOf = record { rate = c.next.inside.rate; source = c.next.inside.source; epoch = c.next.inside.epoch; gate = gate } in (
+      k,
+      record {
+        rate = ap (λ (n : NextOf). n.rate) c.next.view_is;
+        source = ap (λ (n : NextOf). n.source) c.next.view_is;
+        epoch = ap (λ (n : NextOf). n.epoch) c.next.view_is;
+        gate = subst (λ (n : NextOf). SettlesAll None n.admission gate) c.next.view_is c.settle_all-answer.ensures.settles;
+      },
+      ap (λ x. x.entries) c.in_ok-put.ensures.entries ∙ ap (λ n. put_within n c.args.key k c.self.inside.cache.entries) c.self.invariant ∙ ap (put_first c.args.key k) c.self.view_is,
+    )
