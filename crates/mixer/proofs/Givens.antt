@@ -5,9 +5,8 @@ use Rattle.rtp_codec.specs.declared.address.Address.{Address}
 use Rattle.desk_rows.specs.declared.row.Member.{Member as MemberRow}
 use Rattle.desk_rows.specs.Desk.{Desk}
 use Rattle.playout.specs.Playouts.{PlayoutsOf, AudioEvent, Has, HasAlso}
-use Rattle.forward_rewrite.specs.OwnStreams.{is_mine}
-use Rattle.mixer.specs.declared.voices.Voice.{Voice}
-use Rattle.mixer.specs.Hearing.{Given, put, to_playouts}
+use Rattle.media_items.specs.OwnStreams.{is_mine}
+use Rattle.mixer.specs.Hearing.{Given, Voice, put, to_playouts}
 use Rattle.mixer.specs.Mixes.{stream_of}
 use Rattle.mixer.specs.Mixers.{MixerOf, WasGiven}
 use Rattle.mixer.specs.inner.Ready.{ReadyOf, hears_any, of_lane, hearers, members_of}
@@ -18,11 +17,11 @@ pub has_more : (old new : PlayoutsOf) (next : Given) (given : List Given) → Ha
 has_more old new next given also has = subst (λ (es : List AudioEvent). Has new es) (sym (map_push to_playouts given next)) (also (map to_playouts given) has)
 
 -- a put leaves the streams
-pub given_put : (old : MixerOf) (new : PlayoutsOf) (source : ℕ) (address : Address) (ts : ℕ) (samples : List ℤ) → HasAlso old.playouts new (to_playouts (put source address ts samples))
-    → (lane lanes : ℕ) (before : List Given) → WasGiven lane lanes old before → WasGiven lane lanes (record { playouts = new; streams = old.streams }) (before ++ put source address ts samples ∷ [])
-given_put old new source address ts samples also lane lanes before w = record {
-  playouts = has_more old.playouts new (put source address ts samples) before also w.playouts;
-  streams = λ ssrc mine. w.streams ssrc mine ∙ ap (stream_of ssrc) (sym (turns_put ssrc before (put source address ts samples) refl));
+pub given_put : (old : MixerOf) (new : PlayoutsOf) (source : ℕ) (address : Address) (rate ts : ℕ) (samples : List ℤ) → HasAlso old.playouts new (to_playouts (put source address rate ts samples))
+    → (lane lanes : ℕ) (before : List Given) → WasGiven lane lanes old before → WasGiven lane lanes (record { playouts = new; streams = old.streams }) (before ++ put source address rate ts samples ∷ [])
+given_put old new source address rate ts samples also lane lanes before w = record {
+  playouts = has_more old.playouts new (put source address rate ts samples) before also w.playouts;
+  streams = λ ssrc mine. w.streams ssrc mine ∙ ap (stream_of ssrc) (sym (turns_put ssrc before (put source address rate ts samples) refl));
 }
 
 fewer : {X : Type 0} (p : X → Bool) (xs : List X) → length (filter p xs) ≤ length xs

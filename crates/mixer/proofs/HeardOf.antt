@@ -8,7 +8,7 @@ use Rattle.desk_rows.specs.Desk.{Desk}
 use Rattle.topology.specs.declared.hearing.AudioSource.{AudioSource}
 use Rattle.topology.specs.Mixes.{gain_of}
 use Rattle.topology.proofs.Parted.{filter-and}
-use Rattle.mixer.specs.declared.voices.Voice.{Voice}
+use Rattle.mixer.specs.Hearing.{Voice}
 use Rattle.mixer.specs.Hearing as spec
 use Rattle.std.proofs.lemmas.List.{length-map}
 use Rattle.std.proofs.lemmas.List.Elements.{All-map}
@@ -22,7 +22,7 @@ of_another m v = not (nat_eq v.source.member m.member)
 abbrev pub gains_for : Desk → MemberRow → List Voice → List ℕ
 gains_for d m ws = map (λ (s : AudioSource). gain_of d m.member s.ssrc) (map (λ (v : Voice). v.source) ws)
 
-abbrev first : Plain → List Plain → Plain
+abbrev pub first : Plain → List Plain → Plain
 first d [] = d
 first d (p ∷ ps) = p
 

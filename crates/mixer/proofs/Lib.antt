@@ -1,8 +1,11 @@
 pub mod Listed
-pub mod RoomInputs
 pub mod HeardOf
-pub mod Sounds
 pub mod StreamSteps
+pub mod RoomInputs
+pub mod Sounds
+pub mod NamedOctets
+pub mod InFull
+pub mod Ticks
 pub mod Turns
 pub mod TickSends
 pub mod Givens

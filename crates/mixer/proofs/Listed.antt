@@ -4,12 +4,12 @@ use Rattle.std.specs.List.{range_with_len}
 use Rattle.std.proofs.lemmas.List.{ext_get_or}
 use Rattle.std.proofs.lemmas.List.FromFn.{length-map-range_with_len, get_or-map-range_with_len}
 use Rattle.playout.specs.Playout.{Play, present}
-use Rattle.playout.specs.Calls.{Takes}
+use Rattle.playout.specs.Calls.{PlaysOut}
 use Rattle.topology.specs.declared.hearing.AudioSource.{AudioSource}
 use Rattle.topology.specs.Mixes.{in_room}
-use Rattle.mixer.specs.declared.voices.Voice.{Voice}
 use Rattle.mixer.specs.inner.Rooms.{of_room}
-use Rattle.mixer.specs.Hearing.{sample_in, filled_in, tick_length}
+use Rattle.desk_rows.specs.Desk.{Desk}
+use Rattle.mixer.specs.Hearing.{Given, Voice, room_rate, voice_at, voice_of, sample_in, filled_in}
 
 -- so many values, each that of a function at its place
 pub listed : (f : ℕ → ℤ) (out : List ℤ) (n : ℕ) → length out ≡ n → ((i : ℕ) → i < n → slice_index_or out i (pos 0) ≡ f i) → out ≡ map f (range_with_len 0 n)
@@ -17,13 +17,17 @@ listed f out n long same = ext_get_or (pos 0) out (map f (range_with_len 0 n)) (
     (λ i l. same i (omega (arith, long)) ∙ sym (get_or-map-range_with_len f 0 n i i (pos 0) (omega (arith, long)) (omega arith)))
 
 -- what a playout shows of a tick
-pub shown : (play : Option Play) (out : List ℤ) (count : ℕ) → length out ≡ tick_length → Takes play out count → out ≡ map (sample_in play) (range_with_len 0 tick_length)
-shown None out count long t = listed (sample_in None) out tick_length long (λ i l. t.0 i (omega (arith, long)))
-shown (Some play) out count long t = listed (sample_in (Some play)) out tick_length long (λ i l. t.0 i (omega (arith, long)))
+pub shown : (play : Option Play) (out : List ℤ) (count n : ℕ) → length out ≡ n → PlaysOut play out count → out ≡ map (sample_in play) (range_with_len 0 n)
+shown None out count n long t = listed (sample_in None) out n long (λ i l. t.0 i (omega (arith, long)))
+shown (Some play) out count n long t = listed (sample_in (Some play)) out n long (λ i l. t.0 i (omega (arith, long)))
 
-pub counted : (play : Option Play) (out : List ℤ) (count : ℕ) → length out ≡ tick_length → Takes play out count → count ≡ filled_in play
-counted None out count long t = t.1
-counted (Some play) out count long t = t.1 ∙ ap (present play.pairs play.position) long
+pub counted : (play : Option Play) (out : List ℤ) (count n : ℕ) → length out ≡ n → PlaysOut play out count → count ≡ filled_in play n
+counted None out count n long t = t.1
+counted (Some play) out count n long t = t.1 ∙ ap (present play.pairs play.position) long
+
+-- what a source sounds like in its room
+pub in_its_room : (d : Desk) (given : List Given) (s : AudioSource) (rate : ℕ) (v : Voice) → v ≡ voice_at rate given s → rate ≡ room_rate d s.room → v ≡ voice_of d given s
+in_its_room d given s rate v is same = is ∙ ap (λ r. voice_at r given s) same
 
 -- the source of a voice
 abbrev pub source_of : Voice → AudioSource

@@ -1,14 +1,15 @@
 -- Streams step by step.
-use Rattle.std.proofs.Common.{◌≡◌, ℕ, ◌+◌, ◌<◌, ◌≤◌, Bool, true, false, nat_eq, zero, suc, List, [], ◌∷◌, ◌++◌, length, map, filter, take, Option, None, Some, unwrap_or, if◌then◌else◌, ap, sym, subst, ◌∙◌, arith, refl, slice_get, slice_index_or, append-nil, cond}
+use Rattle.std.proofs.Common.{◌≡◌, ℕ, ◌+◌, ◌<◌, ◌≤◌, Bool, true, false, nat_eq, zero, suc, List, [], ◌∷◌, ◌++◌, length, map, filter, take, Option, None, Some, unwrap_or, if◌then◌else◌, ap, sym, subst, ◌∙◌, arith, refl, slice_get, slice_index_or, append-nil, cond, ◌⊎◌, inl, inr}
 use Rattle.std.specs.List.{AllByRecursion}
 use Rattle.std.specs.Map.{lookup}
 use Rattle.indexmap.specs.IndexMap.{set_value_at}
 use Rattle.forward_rewrite.specs.Mixes.{MixOf}
 use Rattle.std.proofs.lemmas.List.Elements.{filter_more, filter-append}
+use Rattle.std.proofs.lemmas.Bool.{eqb-true}
 use Rattle.desk_rows.specs.declared.row.Member.{Member as MemberRow}
 use Rattle.desk_rows.specs.Desk.{Desk}
-use Rattle.forward_rewrite.specs.OwnStreams.{is_mine}
-use Rattle.mixer.specs.declared.voices.Voice.{Voice}
+use Rattle.media_items.specs.OwnStreams.{is_mine}
+use Rattle.mixer.specs.Hearing.{Voice}
 use Rattle.mixer.specs.inner.Ready.{HasPassed, Passes, Partly, hears_any, hearers}
 
 abbrev Entries : Type 0
@@ -16,43 +17,58 @@ Entries = List (ℕ × MixOf)
 
 -- ---- a tick that is passed
 
-partly_first : (moment : ℕ) (new : Entries) (w s : MixOf) → 0 < length new → slice_get (map (λ e. e.1) new) 0 ≡ Some s → HasPassed moment s w → Partly moment 1 new (set_value_at new 0 w)
-partly_first moment [] w s within at passed = absurd (omega (arith, within))
-partly_first moment (e ∷ es) w s within at passed = (refl, subst (λ x. HasPassed moment x w) (sym (ap (λ o. unwrap_or o s) at)) passed, refl)
+partly_first : (d : Desk) (moment : ℕ) (new : Entries) (w : MixOf) (e : ℕ × MixOf) → 0 < length new
+    → HasPassed d moment (slice_index_or new 0 e).0 (slice_index_or new 0 e).1 w → Partly d moment 1 new (set_value_at new 0 w)
+partly_first d moment [] w e within passed = absurd (omega (arith, within))
+partly_first d moment (o ∷ es) w e within passed = (refl, passed, refl)
 
-partly_next : (moment n : ℕ) (old new : Entries) (w s : MixOf) → Partly moment n old new → n < length new → slice_get (map (λ e. e.1) new) n ≡ Some s → HasPassed moment s w
-    → Partly moment (suc n) old (set_value_at new n w)
-partly_next moment zero old new w s so within at passed = subst (λ o. Partly moment 1 o (set_value_at new 0 w)) so (partly_first moment new w s within at passed)
-partly_next moment (suc n) [] new w s so within at passed = absurd (omega (arith, ap length so, within))
-partly_next moment (suc n) (o ∷ old) [] w s so within at passed = absurd so
-partly_next moment (suc n) (o ∷ old) (e ∷ new) w s so within at passed = (so.0, so.1, partly_next moment n old new w s so.2 (omega (arith, within)) at passed)
+partly_next : (d : Desk) (moment n : ℕ) (old new : Entries) (w : MixOf) (e : ℕ × MixOf) → Partly d moment n old new → n < length new
+    → HasPassed d moment (slice_index_or new n e).0 (slice_index_or new n e).1 w → Partly d moment (suc n) old (set_value_at new n w)
+partly_next d moment zero old new w e so within passed = subst (λ o. Partly d moment 1 o (set_value_at new 0 w)) so (partly_first d moment new w e within passed)
+partly_next d moment (suc n) [] new w e so within passed = absurd (omega (arith, ap length so, within))
+partly_next d moment (suc n) (o ∷ old) [] w e so within passed = absurd so
+partly_next d moment (suc n) (o ∷ old) (x ∷ new) w e so within passed = (so.0, so.1, partly_next d moment n old new w e so.2 (omega (arith, within)) passed)
 
 -- one stream more
-pub partly_more : (moment n : ℕ) (old new : Entries) (w s : MixOf) → Partly moment n old new → n < length new → slice_get (map (λ e. e.1) new) n ≡ Some s → HasPassed moment s w
-    → Partly moment (n + 1) old (set_value_at new n w)
-partly_more moment n old new w s so within at passed = let e : suc n ≡ n + 1 = omega arith in subst (λ m. Partly moment m old (set_value_at new n w)) e (partly_next moment n old new w s so within at passed)
+pub partly_more : (d : Desk) (moment n : ℕ) (old new : Entries) (w : MixOf) (e : ℕ × MixOf) → Partly d moment n old new → n < length new
+    → HasPassed d moment (slice_index_or new n e).0 (slice_index_or new n e).1 w → Partly d moment (n + 1) old (set_value_at new n w)
+partly_more d moment n old new w e so within passed = let is : suc n ≡ n + 1 = omega arith in subst (λ m. Partly d moment m old (set_value_at new n w)) is (partly_next d moment n old new w e so within passed)
+
+-- the value at a place is that of the entry there
+pub value-at : (es : Entries) (n : ℕ) (e : ℕ × MixOf) (s : MixOf) → n < length es → slice_get (map (λ e. e.1) es) n ≡ Some s → (slice_index_or es n e).1 ≡ s
+value-at [] n e s within at = absurd (omega (arith, within))
+value-at (o ∷ es) zero e s within at = ap (λ o. unwrap_or o s) at
+value-at (o ∷ es) (suc n) e s within at = value-at es n e s (omega (arith, within)) at
 
 pub long_as_ever : (es : Entries) (n : ℕ) (w : MixOf) → length (set_value_at es n w) ≡ length es
 long_as_ever [] n w = refl
 long_as_ever (e ∷ es) zero w = refl
 long_as_ever (e ∷ es) (suc n) w = ap suc (long_as_ever es n w)
 
-pass_one : (moment : ℕ) (b : Bool) (x y : MixOf) (old new : Option MixOf) → HasPassed moment x y → Passes moment old new → Passes moment (if b then Some x else old) (if b then Some y else new)
-pass_one moment true x y old new one rest = one
-pass_one moment false x y old new one rest = rest
+pass_none : (d : Desk) (moment ssrc : ℕ) (new : Entries) → new ≡ [] → Passes d moment ssrc None (lookup (nat_eq ssrc) new)
+pass_none d moment ssrc new none = subst (λ es. Passes d moment ssrc None (lookup (nat_eq ssrc) es)) (sym none) tt
 
-pass_none : (moment ssrc : ℕ) (new : Entries) → new ≡ [] → Passes moment None (lookup (nat_eq ssrc) new)
-pass_none moment ssrc new none = subst (λ es. Passes moment None (lookup (nat_eq ssrc) es)) (sym none) tt
+pub tells : (b : Bool) → (b ≡ true) ⊎ (b ≡ false)
+tells true = inl refl
+tells false = inr refl
+
+pass_one : (d : Desk) (moment ssrc key : ℕ) (x y : MixOf) (old new : Option MixOf) → HasPassed d moment key x y → Passes d moment ssrc old new
+    → Passes d moment ssrc (if nat_eq ssrc key then Some x else old) (if nat_eq ssrc key then Some y else new)
+pass_one d moment ssrc key x y old new one rest = by (tells (nat_eq ssrc key))
+  where
+    by : (nat_eq ssrc key ≡ true) ⊎ (nat_eq ssrc key ≡ false) → Passes d moment ssrc (if nat_eq ssrc key then Some x else old) (if nat_eq ssrc key then Some y else new)
+    by (inl own) = subst (λ b. Passes d moment ssrc (if b then Some x else old) (if b then Some y else new)) (sym own) (subst (λ k. HasPassed d moment k x y) (sym (eqb-true ssrc key own)) one)
+    by (inr other) = subst (λ b. Passes d moment ssrc (if b then Some x else old) (if b then Some y else new)) (sym other) rest
 
 -- once all have passed it, each one has
-pub all_passed : (moment n ssrc : ℕ) (old new : Entries) → length old ≤ n → Partly moment n old new → Passes moment (lookup (nat_eq ssrc) old) (lookup (nat_eq ssrc) new)
-all_passed moment zero ssrc [] new all so = pass_none moment ssrc new so
-all_passed moment zero ssrc (o ∷ old) new all so = absurd (omega (arith, all))
-all_passed moment (suc n) ssrc [] new all so = pass_none moment ssrc new so
-all_passed moment (suc n) ssrc (o ∷ old) [] all so = absurd so
-all_passed moment (suc n) ssrc (o ∷ old) (e ∷ new) all so =
-    subst (λ k. Passes moment (lookup (nat_eq ssrc) (o ∷ old)) (if nat_eq ssrc k then Some e.1 else lookup (nat_eq ssrc) new)) (sym so.0)
-    (pass_one moment (nat_eq ssrc o.0) o.1 e.1 (lookup (nat_eq ssrc) old) (lookup (nat_eq ssrc) new) so.1 (all_passed moment n ssrc old new (omega (arith, all)) so.2))
+pub all_passed : (d : Desk) (moment n ssrc : ℕ) (old new : Entries) → length old ≤ n → Partly d moment n old new → Passes d moment ssrc (lookup (nat_eq ssrc) old) (lookup (nat_eq ssrc) new)
+all_passed d moment zero ssrc [] new all so = pass_none d moment ssrc new so
+all_passed d moment zero ssrc (o ∷ old) new all so = absurd (omega (arith, all))
+all_passed d moment (suc n) ssrc [] new all so = pass_none d moment ssrc new so
+all_passed d moment (suc n) ssrc (o ∷ old) [] all so = absurd so
+all_passed d moment (suc n) ssrc (o ∷ old) (e ∷ new) all so =
+    subst (λ k. Passes d moment ssrc (lookup (nat_eq ssrc) (o ∷ old)) (if nat_eq ssrc k then Some e.1 else lookup (nat_eq ssrc) new)) (sym so.0)
+    (pass_one d moment ssrc o.0 o.1 e.1 (lookup (nat_eq ssrc) old) (lookup (nat_eq ssrc) new) so.1 (all_passed d moment n ssrc old new (omega (arith, all)) so.2))
 
 -- ---- lists that grow
 

@@ -10,9 +10,8 @@ use Rattle.desk_rows.specs.Desk.{Desk}
 use Rattle.topology.specs.Mixes.{mix_member}
 use Rattle.forward_rewrite.specs.Sending.{Numbered}
 use Rattle.forward_rewrite.specs.Mixes.{Sound, MixOf, GivesTick, sounding}
-use Rattle.forward_rewrite.specs.OwnStreams.{is_mine}
-use Rattle.mixer.specs.declared.voices.Voice.{Voice}
-use Rattle.mixer.specs.Hearing.{Given, tick, voices_of, sound_for}
+use Rattle.media_items.specs.OwnStreams.{is_mine}
+use Rattle.mixer.specs.Hearing.{Given, Voice, tick, rate_of, voices_of, sound_for}
 use Rattle.mixer.specs.Mixes.{Hears, Turn, MixSent, hears, turn_of, turns, packets_of, stream_of, mixes_at, to_member, sent_by, lanes_own}
 use Rattle.mixer.specs.Mixers.{mix_at}
 use Rattle.mixer.specs.inner.Ready.{ReadyOf, IsReady, Passes, hears_any, of_lane, hearers, members_of, kept_after, kept_after_one, sent_of, current}
@@ -22,11 +21,11 @@ use Rattle.mixer.proofs.Turns.{turns_tick, Sounds, sounds, Quiet, quiet}
 pub record Here (lane lanes : ℕ) (before : List Given) (d : Desk) (moment : ℕ) (voices : List Voice) (streams passed : List (ℕ × MixOf)) : Type 0 where
   pub voices_are : voices ≡ voices_of before d
   pub stand : (ssrc : ℕ) → is_mine lane lanes ssrc ≡ true → mix_at ssrc streams ≡ stream_of ssrc (turns ssrc before)
-  pub pass : (ssrc : ℕ) → Passes moment (mix_at ssrc streams) (mix_at ssrc passed)
+  pub pass : (ssrc : ℕ) → Passes d moment ssrc (mix_at ssrc streams) (mix_at ssrc passed)
   pub apart : (pre : List MemberRow) (m : MemberRow) (post : List MemberRow) → d.members ≡ pre ++ m ∷ post → mix_member d m.out_audio ≡ Some m
 
-abbrev turn_with : Option Hears → ℕ → Turn
-turn_with h moment = record { heard = h; moment = moment }
+abbrev turn_with : Desk → ℕ → Option Hears → ℕ → Turn
+turn_with d ssrc h moment = record { heard = h; rate = option_map (rate_of d) (mix_member d ssrc); moment = moment }
 
 abbrev hearing : MemberRow → Sound → Hears
 hearing m s = record { member = m; sound = s }
@@ -42,9 +41,9 @@ added ssrc before d moment out is =
 
 -- a turn of this desk in which this member hears this
 heard_turn : (ssrc : ℕ) (before : List Given) (d : Desk) (moment : ℕ) (voices : List Voice) (m : MemberRow) (sound : Sound) → voices ≡ voices_of before d → mix_member d ssrc ≡ Some m → sound_for voices d m ≡ Some sound
-    → turn_of ssrc before d moment ≡ record { heard = Some (record { member = m; sound = sound }); moment = moment }
+    → turn_of ssrc before d moment ≡ turn_with d ssrc (Some (record { member = m; sound = sound })) moment
 heard_turn ssrc before d moment voices m sound are whose hears_it =
-    ap (λ (h : Option Hears). turn_with h moment)
+    ap (λ (h : Option Hears). turn_with d ssrc h moment)
     (ap (option_and_then (hears before d)) whose
     ∙ ap (option_map (λ (s : Sound). hearing m s)) (ap (λ vs. sound_for vs d m) (sym are) ∙ hears_it))
 
@@ -56,7 +55,7 @@ ready_sounds lane lanes before d moment voices streams passed here r is whose mi
     let ssrc = r.member.out_audio in
     let ts = turns ssrc before in
     subst (λ t. Sounds ssrc ts t r.prepared.next r.prepared.packet) (sym (heard_turn ssrc before d moment voices r.member is.sound here.voices_are whose is.hears))
-    (sounds ssrc ts r.member is.sound moment r.prepared.next r.prepared.packet refl
+    (sounds ssrc ts r.member is.sound (option_map (rate_of d) (mix_member d ssrc)) moment r.prepared.next r.prepared.packet refl
     (subst (λ o. GivesTick (current o r.member) r.prepared.next (sounding is.sound moment) (r.prepared.packet ∷ [])) (here.stand ssrc mine) is.gives)
     (subst (λ o. r.prepared.next.ssrc ≡ (current o r.member).ssrc) (here.stand ssrc mine) is.ssrc))
 
@@ -66,8 +65,8 @@ pub nothing_sounds : (lane lanes : ℕ) (before : List Given) (d : Desk) (moment
     → Quiet ssrc (turns ssrc before) (turn_of ssrc before d moment) (mix_at ssrc passed)
 nothing_sounds lane lanes before d moment voices streams passed here ssrc mine none =
     let ts = turns ssrc before in
-    subst (λ (h : Option Hears). Quiet ssrc ts (record { heard = h; moment = moment }) (mix_at ssrc passed)) (sym none)
-    (quiet ssrc moment ts (mix_at ssrc passed) (subst (λ o. Passes moment o (mix_at ssrc passed)) (here.stand ssrc mine) (here.pass ssrc)))
+    subst (λ (h : Option Hears). Quiet ssrc ts (turn_with d ssrc h moment) (mix_at ssrc passed)) (sym none)
+    (quiet d ssrc moment ts (mix_at ssrc passed) (subst (λ o. Passes d moment ssrc o (mix_at ssrc passed)) (here.stand ssrc mine) (here.pass ssrc)))
 
 -- ---- all members
 

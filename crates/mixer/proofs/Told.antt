@@ -3,7 +3,7 @@ use Rattle.std.proofs.Common.{◌≡◌, ℕ, List, [], ◌∷◌, map, Option, 
 use Rattle.std.specs.Option.{option_map, option_or}
 use Rattle.forward_rewrite.specs.declared.counts.Counts.{Counts}
 use Rattle.forward_rewrite.specs.Mixes.{MixTick, MixOf, mix_state, mix_counts, HasMixed}
-use Rattle.mixer.specs.Mixes.{Hears, Turn, tick_of, stream_of, counts_of}
+use Rattle.mixer.specs.Mixes.{Hears, Turn, ticks_of, stream_of, counts_of}
 
 -- nothing of a stream that hasn't begun
 pub told_nothing : (ssrc : ℕ) (ts : List Turn) → stream_of ssrc ts ≡ None → counts_of ssrc ts ≡ None
@@ -11,7 +11,7 @@ told_nothing ssrc [] none = refl
 told_nothing ssrc (t ∷ ts) none = by t.heard none (told_nothing ssrc ts)
   where
     ticks : List MixTick
-    ticks = map tick_of (t ∷ ts)
+    ticks = ticks_of (t ∷ ts)
 
     by : (heard : Option Hears) → option_or (option_map (λ h. mix_state ssrc h.member.first_seq h.member.first_ts ticks) heard) (stream_of ssrc ts) ≡ None → (stream_of ssrc ts ≡ None → counts_of ssrc ts ≡ None)
         → unwrap_or (option_map (λ h. mix_counts ssrc h.member.first_seq h.member.first_ts ticks) heard) (counts_of ssrc ts) ≡ None
@@ -28,7 +28,7 @@ told_begun ssrc [] s told is are = absurd (cc)
 told_begun ssrc (t ∷ ts) s told is are = by t.heard is (λ later. told_begun ssrc ts s told later are)
   where
     ticks : List MixTick
-    ticks = map tick_of (t ∷ ts)
+    ticks = ticks_of (t ∷ ts)
 
     by : (heard : Option Hears) → option_or (option_map (λ h. mix_state ssrc h.member.first_seq h.member.first_ts ticks) heard) (stream_of ssrc ts) ≡ Some s → (stream_of ssrc ts ≡ Some s → told ≡ counts_of ssrc ts)
         → told ≡ unwrap_or (option_map (λ h. mix_counts ssrc h.member.first_seq h.member.first_ts ticks) heard) (counts_of ssrc ts)

@@ -4,36 +4,43 @@ use Rattle.std.specs.List.{range_with_len}
 use Rattle.rtp_codec.specs.declared.address.Address.{Address}
 use Rattle.rtp_codec.specs.Packet.{most_csrcs}
 use Rattle.desk_rows.specs.declared.row.Member.{Member as MemberRow}
-use Rattle.desk_rows.specs.declared.row.Codec.{Codec}
+use Rattle.media_items.specs.declared.format.Format.{Format}
+use Rattle.media_items.specs.Formats.{tick_at}
 use Rattle.desk_rows.specs.Desk.{Desk}
 use Rattle.topology.specs.declared.hearing.AudioSource.{AudioSource}
 use Rattle.topology.specs.Mixes.{audio_sources, in_room, gain_of}
 use Rattle.playout.specs.Playout.{Play, sample_at, present}
 use Rattle.playout.specs.Playouts.{AudioEvent, PutOf, TakeAll, play_on}
+use Rattle.playout.specs.Calls.{at_rate}
 use Rattle.mix_minus.specs.Mix.{scaled, clamped}
-use Rattle.forward_rewrite.specs.Mixes.{Sound, tick_units}
-use Rattle.forward_rewrite.specs.Rates.{audio_rate}
-use Rattle.mixer.specs.declared.voices.Voice.{Voice}
+use Rattle.forward_rewrite.specs.Mixes.{Sound, format_of}
+use Rattle.media_items.specs.Rates.{audio_rate}
 
 -- ---- what came in
 
--- what a mixer is given: samples of a source with their timestamp, or a tick under a desk at a moment
+-- what a mixer is given: samples of a source with their clock rate and timestamp, or a tick under a desk at a moment
 pub data Given : Type 0 where
-  put : (source : ℕ) (address : Address) (ts : ℕ) (samples : List ℤ) → Given
+  put : (source : ℕ) (address : Address) (rate ts : ℕ) (samples : List ℤ) → Given
   tick : (desk : Desk) (moment : ℕ) → Given
-
--- how many samples 20 ms are: one for each unit of the timestamp
-abbrev pub tick_length : ℕ
-tick_length = tick_units
 
 -- what the playouts have of it: the samples, and a take from each of them at every tick, whatever the desk says
 abbrev pub to_playouts : Given → AudioEvent
-to_playouts (put source address ts samples) = PutOf source address ts samples
-to_playouts (tick desk moment) = TakeAll tick_length
+to_playouts (put source address rate ts samples) = PutOf source address rate ts samples
+to_playouts (tick desk moment) = TakeAll
 
 -- the playout of a source after all this
 abbrev pub play_after : List Given → ℕ → Address → Option Play
-play_after given source address = play_on audio_rate source address (map to_playouts given)
+play_after given source address = play_on source address (map to_playouts given)
+
+-- ---- clock rates
+
+-- the clock rate of a room, in Hz
+abbrev pub room_rate : Desk → ℕ → ℕ
+room_rate d room = audio_rate
+
+-- the clock rate of the member's room
+abbrev pub rate_of : Desk → MemberRow → ℕ
+rate_of d m = room_rate d m.room
 
 -- ---- the next tick of a source
 
@@ -42,22 +49,34 @@ abbrev pub sample_in : Option Play → ℕ → ℤ
 sample_in None i = pos 0
 sample_in (Some play) i = unwrap_or (sample_at play.pairs (play.position + i)) (pos 0)
 
--- how many of the next tick's samples are there
-abbrev pub filled_in : Option Play → ℕ
-filled_in None = 0
-filled_in (Some play) = present play.pairs play.position tick_length
+-- how many of so many samples are there
+abbrev pub filled_in : Option Play → ℕ → ℕ
+filled_in None count = 0
+filled_in (Some play) count = present play.pairs play.position count
 
--- a source and its samples of the next tick
-abbrev pub voice_of : List Given → AudioSource → Voice
-voice_of given s = record {
-  source = s;
-  samples = map (sample_in (play_after given s.ssrc s.address)) (range_with_len 0 tick_length);
-  filled = filled_in (play_after given s.ssrc s.address);
-}
+-- a source, its samples of the next tick, and how many of them are there
+pub record Voice : Type 0 where
+  pub source : AudioSource
+  pub samples : List ℤ
+  pub filled : ℕ
+
+-- what a source sounds like at this clock rate: a playout at another rate counts as none
+abbrev pub voice_at : ℕ → List Given → AudioSource → Voice
+voice_at rate given s =
+    let play = at_rate rate (play_after given s.ssrc s.address) in
+    record {
+      source = s;
+      samples = map (sample_in play) (range_with_len 0 (tick_at rate));
+      filled = filled_in play (tick_at rate);
+    }
+
+-- what a source sounds like in its room
+abbrev pub voice_of : Desk → List Given → AudioSource → Voice
+voice_of d given s = voice_at (room_rate d s.room) given s
 
 -- the voices of a desk: all unmuted audio sources, by place of the member and then by SSRC
 abbrev pub voices_of : List Given → Desk → List Voice
-voices_of given d = map (voice_of given) (audio_sources d)
+voices_of given d = map (voice_of d given) (audio_sources d)
 
 -- ---- what a member hears of them
 
@@ -91,10 +110,11 @@ abbrev pub contributors : List Voice → Desk → MemberRow → List ℕ
 contributors voices d m = map (λ v. v.source.ssrc) (filter (contributes d m) (others m voices))
 
 -- the sound of these samples by these contributors, if there is one; the first 15 are named, as a header has room for
-abbrev pub sound_by : Codec → List ℕ → List ℤ → Option Sound
-sound_by codec [] samples = None
-sound_by codec (s ∷ ss) samples = Some (record { codec = codec; csrcs = take most_csrcs (s ∷ ss); samples = samples })
+abbrev pub sound_by : Format → List ℕ → List ℤ → Option Sound
+sound_by format [] samples = None
+sound_by format (s ∷ ss) samples = Some (record { format = format; csrcs = take most_csrcs (s ∷ ss); samples = samples })
 
 -- what a member hears of these voices in a tick: nothing where nobody contributes
 abbrev pub sound_for : List Voice → Desk → MemberRow → Option Sound
-sound_for voices d m = sound_by m.codec (contributors voices d m) (map (heard_at voices d m) (range_with_len 0 tick_length))
+sound_for voices d m =
+    sound_by (format_of m.codec (rate_of d m)) (contributors voices d m) (map (heard_at voices d m) (range_with_len 0 (tick_at (rate_of d m))))

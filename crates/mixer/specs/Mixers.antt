@@ -4,7 +4,7 @@ use Rattle.std.specs.Map.{lookup}
 use Rattle.desk_rows.specs.Desk.{Desk}
 use Rattle.playout.specs.Playouts.{PlayoutsOf, Has}
 use Rattle.forward_rewrite.specs.Mixes.{MixOf}
-use Rattle.forward_rewrite.specs.OwnStreams.{is_mine}
+use Rattle.media_items.specs.OwnStreams.{is_mine}
 use Rattle.mixer.specs.Hearing.{Given, tick, to_playouts}
 use Rattle.mixer.specs.Mixes.{MixSent, turns, stream_of, sent_by, lanes_own}
 

@@ -8,9 +8,10 @@ use Rattle.desk_rows.specs.Desk.{Desk}
 use Rattle.topology.specs.Mixes.{mix_member}
 use Rattle.forward_rewrite.specs.declared.counts.Counts.{Counts}
 use Rattle.forward_rewrite.specs.Sending.{Numbered}
+use Rattle.media_items.specs.Formats.{rate_of as format_rate}
 use Rattle.forward_rewrite.specs.Mixes.{Sound, MixTick, MixOf, mix_list, mix_state, mix_counts}
-use Rattle.forward_rewrite.specs.OwnStreams.{is_mine}
-use Rattle.mixer.specs.Hearing.{Given, put, tick, voices_of, sound_for}
+use Rattle.media_items.specs.OwnStreams.{is_mine}
+use Rattle.mixer.specs.Hearing.{Given, put, tick, rate_of, voices_of, sound_for}
 
 -- ---- one stream
 
@@ -19,9 +20,10 @@ pub record Hears : Type 0 where
   pub member : MemberRow
   pub sound : Sound
 
--- a tick of a mix stream: what its member hears, if there is one and it hears anything, and the moment
+-- a tick of a mix stream: what its member hears, if there is one and it hears anything, the clock rate of the member's room, if there is one, and the moment
 pub record Turn : Type 0 where
   pub heard : Option Hears
+  pub rate : Option ℕ
   pub moment : ℕ
 
 -- what a member hears after all this, if anything
@@ -30,36 +32,54 @@ hears before d m = option_map (λ sound. record { member = m; sound = sound }) (
 
 -- the tick of a stream that comes after all this: what the member hears whose mix it is by the desk
 abbrev pub turn_of : ℕ → List Given → Desk → ℕ → Turn
-turn_of ssrc before d moment = record { heard = option_and_then (hears before d) (mix_member d ssrc); moment = moment }
+turn_of ssrc before d moment = record {
+  heard = option_and_then (hears before d) (mix_member d ssrc);
+  rate = option_map (rate_of d) (mix_member d ssrc);
+  moment = moment;
+}
 
 -- all ticks of a stream, those before this first
 abbrev pub turns_after : ℕ → List Given → List Given → List Turn
 turns_after ssrc before [] = []
-turns_after ssrc before (put source address ts samples ∷ given) = turns_after ssrc (before ++ put source address ts samples ∷ []) given
+turns_after ssrc before (put source address rate ts samples ∷ given) = turns_after ssrc (before ++ put source address rate ts samples ∷ []) given
 turns_after ssrc before (tick d moment ∷ given) = turn_of ssrc before d moment ∷ turns_after ssrc (before ++ tick d moment ∷ []) given
 
 -- all ticks of a stream
 abbrev pub turns : ℕ → List Given → List Turn
 turns ssrc given = turns_after ssrc [] given
 
--- a tick without whose mix it is
-abbrev pub tick_of : Turn → MixTick
-tick_of t = record { sound = option_map (λ h. h.sound) t.heard; moment = t.moment }
+-- a tick without whose mix it is, behind a tick at this clock rate: it has the rate of its sound. A silent one has the rate of the member's room, and
+-- without a member the rate of the tick before.
+abbrev pub tick_of : ℕ → Turn → MixTick
+tick_of before t = record {
+  sound = option_map (λ h. h.sound) t.heard;
+  rate = unwrap_or (option_map (λ h. format_rate h.sound.format) t.heard) (unwrap_or t.rate before);
+  moment = t.moment;
+}
+
+-- ticks behind a tick at this clock rate
+abbrev pub ticks_behind : ℕ → List Turn → List MixTick
+ticks_behind before [] = []
+ticks_behind before (t ∷ ts) = tick_of before t ∷ ticks_behind (tick_of before t).rate ts
+
+-- the ticks of a stream from its first sound on: no rate before it matters
+abbrev pub ticks_of : List Turn → List MixTick
+ticks_of ts = ticks_behind 0 ts
 
 -- the packets of these ticks: the stream begins with the first sound, and takes its first number and timestamp from the member's row of then
 abbrev pub packets_of : ℕ → List Turn → List Numbered
 packets_of ssrc [] = []
-packets_of ssrc (t ∷ ts) = unwrap_or (option_map (λ h. mix_list ssrc h.member.first_seq h.member.first_ts (map tick_of (t ∷ ts))) t.heard) (packets_of ssrc ts)
+packets_of ssrc (t ∷ ts) = unwrap_or (option_map (λ h. mix_list ssrc h.member.first_seq h.member.first_ts (ticks_of (t ∷ ts))) t.heard) (packets_of ssrc ts)
 
 -- the stream after these ticks, if it has begun
 abbrev pub stream_of : ℕ → List Turn → Option MixOf
 stream_of ssrc [] = None
-stream_of ssrc (t ∷ ts) = option_or (option_map (λ h. mix_state ssrc h.member.first_seq h.member.first_ts (map tick_of (t ∷ ts))) t.heard) (stream_of ssrc ts)
+stream_of ssrc (t ∷ ts) = option_or (option_map (λ h. mix_state ssrc h.member.first_seq h.member.first_ts (ticks_of (t ∷ ts))) t.heard) (stream_of ssrc ts)
 
 -- what a sender report tells of the stream after these ticks, once it has begun
 abbrev pub counts_of : ℕ → List Turn → Option Counts
 counts_of ssrc [] = None
-counts_of ssrc (t ∷ ts) = unwrap_or (option_map (λ h. mix_counts ssrc h.member.first_seq h.member.first_ts (map tick_of (t ∷ ts))) t.heard) (counts_of ssrc ts)
+counts_of ssrc (t ∷ ts) = unwrap_or (option_map (λ h. mix_counts ssrc h.member.first_seq h.member.first_ts (ticks_of (t ∷ ts))) t.heard) (counts_of ssrc ts)
 
 -- all packets of a stream
 abbrev pub mixes : ℕ → List Given → List Numbered

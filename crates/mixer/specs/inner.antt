@@ -1,2 +1,4 @@
 pub mod Rooms
 pub mod Ready
+pub mod Named
+pub mod Encoded

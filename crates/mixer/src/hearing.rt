@@ -1,47 +1,72 @@
 //! Mixes for one member.
 
-ghost use Rattle.std.specs.Prelude.{◌≡◌, ◌≤◌, ◌<◌, List, length, map, take};
+ghost use Rattle.std.specs.Prelude.{◌≡◌, ◌≤◌, ◌<◌, IfSome, List, length, map, take};
+ghost use Rattle.rtp_codec.specs.Packet.{most_csrcs};
 ghost use Rattle.desk_rows.specs.Desk.{good};
-ghost use Rattle.mixer.specs.declared.voices.Voice.{Voice};
+ghost use Rattle.media_items.specs.Formats.{tick_at};
+ghost use Rattle.mixer.specs.Hearing.{Voice};
+ghost use Rattle.mixer.specs.inner.Named.{IsHeardOf};
 ghost use Rattle.mixer.specs.inner.Rooms.{IsRoom, IsHeard};
 
+use crate::apart::{before_own, named_without, own_in_front, present};
 use crate::rooms::Room;
-use crate::voices::PLACES;
 use desk_rows::{Member, Rows};
-use mix_minus::{Contributors, mix_by_total};
+use forward_rewrite::Named;
+use mix_minus::{Contributors, is_the_mix, mix_by_total, mix_of_others, others_contribute};
 use std::alloc::Allocator;
-use topology::{gains_are_small, write_gains};
+use topology::{gains_are_small, hears_in_full, write_gains};
 
 /// The most audio sources of a room.
 const MOST_SOURCES: usize = 64;
 
-/// What a member hears in a tick.
-#[derive(Clone, Copy)]
-pub struct Heard {
-    /// The contributing sources.
-    pub named: Contributors,
-    /// The samples of the mix.
-    pub samples: [i16; PLACES],
-}
-
-/// The mix of its room for a member.
-pub fn listen<A: Allocator + Copy>(rows: &Rows<A>, member: &Member, room: &Room<'_, A>) -> Heard
+/// Writes the mix of its room for a member, and tells who contributes.
+pub fn listen<A: Allocator + Copy>(
+    rows: &Rows<A>,
+    member: &Member,
+    room: &Room<'_, A>,
+    samples: &mut [i16],
+) -> Contributors
     requires own { room.now.room ≡ member.now.room }
-    requires is { (voices : List Voice) × IsRoom voices room.now }
-    ensures { (voices : List Voice) → IsRoom voices room.now → IsHeard rows.now voices member.now result }
+    requires is { (voices : List Voice) × IsRoom rows.now voices room.now }
+    requires long { length samples.old ≡ tick_at room.now.rate }
+    ensures { (voices : List Voice) → IsRoom rows.now voices room.now
+        → IsHeard rows.now voices member.now samples.new result }
 {
     gains_are_small();
     let count = room.sources.len();
     let mut gains = [0; MOST_SOURCES];
     let gains = &mut gains[..count];
     write_gains(rows, member.member, &room.sources, gains);
-    let mut samples = [0; PLACES];
-    let named = mix_by_total(
-        &room.total,
-        &room.inputs,
-        gains,
-        member.member,
-        &mut samples,
-    );
-    Heard { named, samples }
+    mix_by_total(&room.total, &room.inputs, gains, member.member, samples)
+}
+
+/// Writes the mix of its room for a member without gains, and names who contributes. `None` for a member with gains,
+/// and where its own inputs don't stand side by side.
+pub fn listen_in_full<'b, A: Allocator + Copy>(
+    rows: &Rows<A>,
+    member: &Member,
+    room: &'b Room<'_, A>,
+    samples: &mut [i16],
+) -> Option<Named<'b>>
+    requires own { room.now.room ≡ member.now.room }
+    requires is { (voices : List Voice) × IsRoom rows.now voices room.now }
+    requires long { length samples.old ≡ tick_at room.now.rate }
+    ensures few { IfSome result (λ named. named.count ≤ most_csrcs) }
+    ensures heard { IfSome result (λ named. (voices : List Voice) → IsRoom rows.now voices room.now
+        → IsHeardOf rows.now voices member.now samples.new named) }
+{
+    is_the_mix();
+    others_contribute();
+    if !hears_in_full(rows, member.member) {
+        return None;
+    }
+    let (front, rest) = room
+        .inputs
+        .split_at(before_own(&room.inputs, member.member));
+    let (own, back) = rest.split_at(own_in_front(rest, member.member));
+    if before_own(back, member.member) < back.len() {
+        return None;
+    }
+    mix_of_others(&room.total, own, samples);
+    Some(named_without(&room.named, present(front), present(own)))
 }

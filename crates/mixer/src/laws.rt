@@ -22,8 +22,8 @@ pub fn ticks_add_what_is_heard()
         → mixes ssrc (before ++ tick d moment ∷ []) ≡ mixes ssrc before ++ mixes_at ssrc before d moment }
     ensures heard { (ssrc : ℕ) (before : List Given) (d : Desk) (moment : ℕ)
         → Carries ssrc (turn_of ssrc before d moment).heard (mixes_at ssrc before d moment) }
-    ensures samples { (ssrc : ℕ) (before : List Given) (source : ℕ) (address : Address) (ts : ℕ) (samples : List ℤ)
-        → mixes ssrc (before ++ put source address ts samples ∷ []) ≡ mixes ssrc before }
+    ensures samples { (ssrc : ℕ) (before : List Given) (source : ℕ) (address : Address) (rate ts : ℕ) (samples : List ℤ)
+        → mixes ssrc (before ++ put source address rate ts samples ∷ []) ≡ mixes ssrc before }
 {}
 
 /// A law: on a good desk, a tick sends what it adds to a mix once, to the member whose mix it is.

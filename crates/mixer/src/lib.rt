@@ -7,7 +7,7 @@
 //! ```rust
 //! let place = LanePlace { lane: 0, lanes: 1 };
 //! let mut mixer = Mixer::new(alloc)?;
-//! mixer.put(alloc, 21, &address, 1_000, &samples)?; // at 8000 Hz
+//! mixer.put(alloc, 21, &address, TimedSamples { rate: 8_000, ts: 1_000, samples: &samples })?;
 //! let packets = mixer.tick(alloc, &place, &rows, 0)?; // none: samples wait 60 ms, which are three ticks
 //! ```
 //!
@@ -15,9 +15,12 @@
 //! proved.
 #![tactic(auto)]
 
+mod apart;
+mod encoding;
 mod hearing;
 mod laws;
 mod mixer;
+mod preparing;
 mod rooms;
 mod streams;
 mod voices;
@@ -25,3 +28,4 @@ mod voices;
 pub use self::laws::{mixes_are_in_a_row, mixes_go_to_their_members, ticks_add_what_is_heard};
 pub use self::mixer::Mixer;
 pub use self::streams::MixPacket;
+pub use playout::TimedSamples;

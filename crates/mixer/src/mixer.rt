@@ -1,24 +1,23 @@
 //! The mixer of a lane.
 
-ghost use Rattle.std.specs.Prelude.{◌≡◌, ℕ, ◌<◌, ◌≤◌, true, List, [], length, IfOk, OnOk, OnErr};
-ghost use Rattle.forward_rewrite.specs.OwnStreams.{is_mine};
+ghost use Rattle.std.specs.Prelude.{◌≡◌, ℕ, ◌<◌, ◌≤◌, ◌*◌, true, List, [], length, IfOk, OnOk, OnErr};
+ghost use Rattle.media_items.specs.OwnStreams.{is_mine};
 ghost use Rattle.mixer.specs.Hearing.{Given, put};
 ghost use Rattle.mixer.specs.Mixes.{turns, counts_of};
 ghost use Rattle.mixer.specs.Mixers.{WasGiven, IsGiven, Ticks};
 
+use crate::preparing::Tick;
 use crate::streams::{MixPacket, Table, commit_all, pass_all, ready_all};
-use crate::voices::{PLACES, voices_of};
+use crate::voices::voices_of;
 use desk_rows::Rows;
-use forward_rewrite::{Counts, LanePlace};
+use forward_rewrite::Counts;
 use indexmap::IndexMap;
-use playout::Playouts;
+use media_items::LanePlace;
+use playout::{Playouts, TimedSamples};
 use rtp_codec::Address;
 use std::alloc::{AllocError, Allocator, Global};
 use std::marker::Model;
 use topology::{audio_sources, mixes_are_apart, rooms_are_small};
-
-/// The clock rate of audio in Hz (RFC 3551 section 4.5.14; for L16 it is the bridge's own choice).
-const RATE: usize = 8_000;
 
 /// The number of streams to allocate for at first.
 const FIRST_STREAMS: usize = 16;
@@ -31,15 +30,11 @@ pub struct Mixer<A: Allocator + Copy = Global> {
 }
 
 impl<A: Allocator + Copy> Model for Mixer<A> {
-    ghost use Rattle.std.specs.Prelude.{◌≡◌};
     ghost use Rattle.mixer.specs.Mixers.{MixerOf};
-    ghost use Rattle.forward_rewrite.specs.Rates.{audio_rate};
 
     ghost Value = { MixerOf };
 
     ghost view = { λ m. record { playouts = m.playouts; streams = m.streams.entries } };
-
-    ghost invariant = { λ m. m.playouts.rate ≡ audio_rate };
 }
 
 impl<A: Allocator + Copy> Mixer<A> {
@@ -47,34 +42,37 @@ impl<A: Allocator + Copy> Mixer<A> {
     pub fn new(alloc: A) -> Result<Self, AllocError>
         ensures nothing { IfOk result (λ mixer. (lane lanes : ℕ) → WasGiven lane lanes mixer []) }
     {
-        let playouts = Playouts::new(alloc, RATE)?;
+        let playouts = Playouts::new(alloc)?;
         let streams = IndexMap::with_capacity(alloc, FIRST_STREAMS)?;
         Ok(Self { playouts, streams })
     }
 
     /// Puts samples of a source into its jitter buffer, whatever the desk says.
     ///
-    /// They are 1 to 1,600 samples (200 ms) at 8000 Hz, and `ts` is the first one's RTP timestamp. Only the first put
-    /// of a source takes memory. On out of memory, the only error, nothing changes.
+    /// They are at most 200 ms at a clock rate of 50 to 48000 Hz. Only the first put of a source, and one at another
+    /// rate than the one before, take memory. On out of memory, the only error, nothing changes.
     pub fn put(
         &mut self,
         alloc: A,
         source: u32,
         address: &Address,
-        ts: u32,
-        samples: &[i16],
+        block: TimedSamples<'_>,
     ) -> Result<(), AllocError>
-        requires some { 0 < length samples.now }
-        requires few { length samples.now ≤ 1600 }
-        ensures given { OnOk result (IsGiven self.old self.new (put source address.now ts samples.now)) }
+        requires least { 50 ≤ block.rate }
+        requires most { block.rate ≤ 48000 }
+        requires some { 0 < length block.samples.now }
+        requires few { length block.samples.now * 5 ≤ block.rate }
+        ensures given { OnOk result
+            (IsGiven self.old self.new
+            (put source address.now block.entry.rate block.entry.ts block.entry.samples.now)) }
         ensures err { OnErr result (self.new ≡ self.old) }
     {
-        self.playouts.put(alloc, source, address, ts, samples)
+        self.playouts.put(alloc, source, address, block)
     }
 
     /// Runs a tick of 20 ms, and returns the packets of the lane's mix streams, by place of the member.
     ///
-    /// It takes 160 samples of each source, whatever the desk says. `moment` is in nanoseconds since 1970. On out of
+    /// It takes 20 ms of each source, whatever the desk says. `moment` is in nanoseconds since 1970. On out of
     /// memory, the only error, nothing changes.
     pub fn tick(
         &mut self,
@@ -91,12 +89,19 @@ impl<A: Allocator + Copy> Mixer<A> {
         rooms_are_small();
         mixes_are_apart();
         let sources = audio_sources(alloc, rows)?;
-        let voices = voices_of(alloc, &self.playouts, &sources)?;
-        let ready = ready_all(alloc, &self.streams, place, rows, &voices, moment)?;
+        let voices = voices_of(alloc, &self.playouts, rows, &sources)?;
+        let tick = Tick {
+            alloc,
+            streams: &self.streams,
+            rows,
+            voices: &voices,
+            moment,
+        };
+        let ready = ready_all(&tick, place)?;
         let mut out = Vec::with_capacity(alloc, ready.len())?;
         self.streams.reserve(ready.len())?;
-        self.playouts.take_all(PLACES);
-        pass_all(&mut self.streams, moment);
+        self.playouts.take_all();
+        pass_all(&mut self.streams, rows, moment);
         commit_all(&mut self.streams, ready, &mut out);
         Ok(out)
     }

@@ -1,12 +1,16 @@
 //! The inputs of a room's mixes.
 
-ghost use Rattle.std.specs.Prelude.{◌≡◌, ◌≤◌, ◌<◌, IfOk, OnOk, length, map, slice_index_or};
+ghost use Rattle.std.specs.Prelude.{◌≡◌, ◌≤◌, ◌<◌, All, IfOk, OnOk, length, map, slice_index_or};
 ghost use Rattle.mix_minus.specs.Mix.{ReachTo};
-ghost use Rattle.mixer.specs.Hearing.{tick_length};
-ghost use Rattle.mixer.specs.inner.Rooms.{plain, plain_voice, of_room, RoomOf, IsRoom};
+ghost use Rattle.desk_rows.specs.Desk.{Desk};
+ghost use Rattle.media_items.specs.Formats.{tick_at};
+ghost use Rattle.mixer.specs.Hearing.{Voice as VoiceOf, room_rate};
+ghost use Rattle.mixer.specs.inner.Rooms.{plain, plain_voice, of_room, AreLong, RoomOf, IsRoom};
 ghost use Rattle.mixer.specs.inner.Ready.{AreRooms};
 
-use crate::voices::{PLACES, Voice};
+use crate::apart::named_of;
+use crate::voices::{Voice, room_rate, tick_at};
+use desk_rows::Rows;
 use mix_minus::{Input, room_total};
 use std::alloc::{AllocError, Allocator};
 use std::marker::Model;
@@ -17,12 +21,16 @@ use topology::AudioSource;
 pub struct Room<'a, A: Allocator + Copy> {
     /// The room's number.
     pub room: u32,
+    /// The room's clock rate, in Hz.
+    pub rate: u32,
     /// The room's audio sources.
     pub sources: Vec<AudioSource, A>,
     /// The samples of each source, in the same order.
     pub inputs: Vec<Input<'a>, A>,
     /// The sum of all samples.
-    pub total: [i32; PLACES],
+    pub total: Vec<i32, A>,
+    /// The sources of which a sample is present, in network order: four octets each.
+    pub named: Vec<u8, A>,
 }
 
 impl<'a, A: Allocator + Copy> Model for Room<'a, A> {
@@ -30,13 +38,19 @@ impl<'a, A: Allocator + Copy> Model for Room<'a, A> {
 
     ghost Value = { RoomOf };
 
-    ghost view = { λ r. record { room = r.room; sources = r.sources.items; inputs = r.inputs.items; total = r.total } };
+    ghost view = { λ r. record {
+      room = r.room;
+      rate = r.rate;
+      sources = r.sources.items;
+      inputs = r.inputs.items;
+      total = r.total.items;
+      named = r.named.items;
+    } };
 }
 
 /// A voice as an input of a mix.
-fn input_of(voice: &Voice) -> Input<'_>
-    ensures same { plain result ≡ plain_voice voice.now }
-    ensures reach { tick_length ≤ length result.samples.now }
+fn input_of<A: Allocator + Copy>(voice: &Voice<A>) -> Input<'_>
+    ensures { plain result ≡ plain_voice voice.now }
 {
     Input {
         ssrc: voice.source.ssrc,
@@ -49,13 +63,12 @@ fn input_of(voice: &Voice) -> Input<'_>
 /// The voices of a room as inputs of a mix.
 fn inputs_of<A: Allocator + Copy>(
     alloc: A,
-    voices: &[Voice],
+    voices: &[Voice<A>],
     room: u32,
 ) -> Result<Vec<Input<'_>, A>, AllocError>
-    ensures same { IfOk result (λ v. map plain v.items ≡ map plain_voice (of_room room voices.now)) }
-    ensures reach { IfOk result (λ v. ReachTo tick_length v.items) }
+    ensures { IfOk result (λ v. map plain v.items ≡ map plain_voice (of_room room voices.now)) }
 {
-    let mut inputs = Vec::new(alloc);
+    let mut inputs = Vec::with_capacity(alloc, voices.len())?;
     for voice in voices {
         if voice.source.room == room {
             inputs.push(input_of(voice))?;
@@ -67,7 +80,7 @@ fn inputs_of<A: Allocator + Copy>(
 /// The sources of a room.
 fn sources_of<A: Allocator + Copy>(
     alloc: A,
-    voices: &[Voice],
+    voices: &[Voice<A>],
     room: u32,
 ) -> Result<Vec<AudioSource, A>, AllocError>
     ensures { IfOk result (λ v. v.items ≡ map (λ v. v.source) (of_room room voices.now)) }
@@ -80,44 +93,53 @@ fn sources_of<A: Allocator + Copy>(
 }
 
 /// The audio of a room, with at most 64 of these voices.
-pub fn room_of<A: Allocator + Copy>(
+pub fn room_of<'a, A: Allocator + Copy>(
     alloc: A,
-    voices: &[Voice],
+    rows: &Rows<A>,
+    voices: &'a [Voice<A>],
     room: u32,
-) -> Result<Room<'_, A>, AllocError>
-    requires { length (of_room room voices.now) ≤ 64 }
-    ensures is { IfOk result (λ r. IsRoom voices.now r) }
+) -> Result<Room<'a, A>, AllocError>
+    requires few { length (of_room room voices.now) ≤ 64 }
+    requires long { AreLong rows.now voices.now }
+    ensures is { IfOk result (λ r. IsRoom rows.now voices.now r) }
     ensures number { IfOk result (λ r. r.room ≡ room) }
 {
     let sources = sources_of(alloc, voices, room)?;
     let inputs = inputs_of(alloc, voices, room)?;
-    let mut total = [0; PLACES];
+    let rate = room_rate(rows, room);
+    let mut total = Vec::new(alloc);
+    total.resize(tick_at(rate), 0)?;
     room_total(&inputs, &mut total);
+    let named = named_of(alloc, &inputs)?;
     Ok(Room {
         room,
+        rate,
         sources,
         inputs,
         total,
+        named,
     })
 }
 
 /// The index of a room among these. A missing room is added.
 pub fn place_of<'a, A: Allocator + Copy>(
     alloc: A,
+    rows: &Rows<A>,
     rooms: &mut Vec<Room<'a, A>, A>,
-    voices: &'a [Voice],
+    voices: &'a [Voice<A>],
     room: u32,
 ) -> Result<usize, AllocError>
     requires few { length (of_room room voices.now) ≤ 64 }
-    requires rooms { AreRooms voices.now rooms.old.items }
-    ensures rooms { OnOk result (AreRooms voices.now rooms.new.items) }
+    requires long { AreLong rows.now voices.now }
+    requires rooms { AreRooms rows.now voices.now rooms.old.items }
+    ensures rooms { OnOk result (AreRooms rows.now voices.now rooms.new.items) }
     ensures within { IfOk result (λ i. i < length rooms.new.items) }
     ensures number { IfOk result (λ i. (d : RoomOf) → (slice_index_or rooms.new.items i d).room ≡ room) }
 {
     if let Some(i) = rooms.iter().position(|one| one.room == room) {
         return Ok(i);
     }
-    let one = room_of(alloc, voices, room)?;
+    let one = room_of(alloc, rows, voices, room)?;
     let i = rooms.len();
     rooms.push(one)?;
     Ok(i)

@@ -1,25 +1,31 @@
 //! The mix streams of a lane.
 
 ghost use Rattle.std.specs.Prelude.{◌≡◌, ◌≤◌, ◌<◌, ◌+◌, ◌++◌, ◌∷◌, [], ℕ, List, length, map, filter, IfOk, OnOk};
-ghost use Rattle.std.specs.Prelude.{IfSome, is_some, vec_len, vec_capacity};
-ghost use Rattle.std.specs.List.{AllByRecursion};
+ghost use Rattle.std.specs.Prelude.{IfSome, is_some, option_copied, slice_index_or, vec_len, vec_capacity};
 ghost use Rattle.indexmap.specs.IndexMap.{spare};
-ghost use Rattle.mixer.specs.declared.voices.Voice.{Voice};
+ghost use Rattle.forward_rewrite.specs.Mixes.{MixOf};
+ghost use Rattle.topology.specs.Mixes.{mix_member};
+ghost use Rattle.mixer.specs.Hearing.{Voice as VoiceOf};
 ghost use Rattle.mixer.specs.Mixers.{mix_at};
-ghost use Rattle.mixer.specs.inner.Rooms.{IsRoom, of_room};
+ghost use Rattle.mixer.specs.inner.Encoded.{IsEncoded, most_block};
+ghost use Rattle.mixer.specs.inner.Rooms.{AreLong, IsRoom, of_room};
 ghost use Rattle.mixer.specs.inner.Ready.{AreRooms, IsReady, Passes, current, hears_any, hearers, members_of};
+ghost use Rattle.mixer.specs.inner.Ready.{AreReady, pass_rate};
 ghost use Rattle.mixer.specs.inner.Ready.{kept_after, kept_after_one, sent_of};
 
-use crate::hearing::listen;
+use crate::apart::{MOST_NAMED, SSRC_OCTETS};
+use crate::preparing::{Scratch, Tick, prepare_for};
 use crate::rooms::{Room, place_of};
-use crate::voices::Voice;
+use crate::voices::room_rate;
 use desk_rows::{Member, Rows};
-use forward_rewrite::{LanePlace, MixStream, OutPacket, PreparedMix};
+use forward_rewrite::{MixStream, OutPacket, PreparedMix, format_of};
 use indexmap::IndexMap;
+use media_items::LanePlace;
 use rtp_codec::Address;
 use std::alloc::{AllocError, Allocator, Global};
 use std::hash::{BuildHasherDefault, FoldHasher};
 use std::marker::Model;
+use topology::mixes_are_apart;
 
 /// The mix streams by SSRC.
 pub type Table<A> = IndexMap<u32, MixStream, BuildHasherDefault<FoldHasher>, A>;
@@ -58,6 +64,31 @@ impl<A: Allocator + Copy> Model for Ready<A> {
     ghost view = { λ r. record { member = r.member; prepared = r.prepared } };
 }
 
+/// The most octets of a header with its contributing sources (RFC 3550 section 5.1).
+const MOST_HEADER: usize = 12 + SSRC_OCTETS * MOST_NAMED;
+
+/// The most octets of a payload: 882 samples of two octets.
+const MOST_PAYLOAD: usize = 882 * 2;
+
+/// The most octets of a block: 64 packets.
+const MOST_BLOCK: usize = 64 * (MOST_HEADER + MOST_PAYLOAD);
+
+/// The octets to reserve for the packets of a tick. A block for more packets grows.
+fn block_len<A: Allocator + Copy>(place: &LanePlace, rows: &Rows<A>) -> usize
+    ensures { result ≤ most_block }
+{
+    let mut octets: usize = 0;
+    for member in rows.members() {
+        let mine = place.is_mine(member.out_audio);
+        if mine {
+            let format = format_of(member.codec, room_rate(rows, member.room));
+            let payload = format.tick().saturating_mul(format.octets());
+            octets = octets.saturating_add(payload.saturating_add(MOST_HEADER));
+        }
+    }
+    octets.min(MOST_BLOCK)
+}
+
 /// The stream of a member's mix, or a new one.
 fn stream_for<A: Allocator + Copy>(streams: &Table<A>, member: &Member) -> MixStream
     ensures { result ≡ current (mix_at member.now.out_audio streams.now.entries) member.now }
@@ -68,64 +99,61 @@ fn stream_for<A: Allocator + Copy>(streams: &Table<A>, member: &Member) -> MixSt
     }
 }
 
-/// The packet of what a member hears in a tick, if it hears anything.
+/// The packet of what a member hears in a tick on its stream, if it hears anything.
 fn ready_for<A: Allocator + Copy>(
-    alloc: A,
-    streams: &Table<A>,
-    rows: &Rows<A>,
+    tick: &Tick<'_, A>,
     room: &Room<'_, A>,
     member: &Member,
-    moment: u64,
+    scratch: &mut Scratch<A>,
 ) -> Result<Option<Ready<A>>, AllocError>
     requires own { room.now.room ≡ member.now.room }
-    requires is { (voices : List Voice) × IsRoom voices room.now }
-    ensures none { IfOk result (λ ready. (voices : List Voice) → IsRoom voices room.now
-        → is_some ready ≡ hears_any rows.now voices member.now) }
+    requires is { (voices : List VoiceOf) × IsRoom tick.now.rows.now voices room.now }
+    requires last { IsEncoded scratch.old.last }
+    requires empty { scratch.old.block.items ≡ [] }
+    ensures none { IfOk result (λ ready. (voices : List VoiceOf) → IsRoom tick.now.rows.now voices room.now
+        → is_some ready ≡ hears_any tick.now.rows.now voices member.now) }
     ensures some { IfOk result
         (λ ready. IfSome ready
         (λ r. (r.member ≡ member.now)
-        × ((voices : List Voice) → IsRoom voices room.now → IsReady rows.now voices moment streams.now.entries r))) }
+        × ((voices : List VoiceOf) → IsRoom tick.now.rows.now voices room.now
+        → IsReady tick.now.rows.now voices tick.now.moment tick.now.streams.now.entries r))) }
+    ensures last { OnOk result (IsEncoded scratch.new.last) }
+    ensures empty { OnOk result (scratch.new.block.items ≡ []) }
 {
-    let heard = listen(rows, member, room);
-    let count = heard.named.count as usize;
-    if count == 0 {
-        return Ok(None);
+    let stream = stream_for(tick.streams, member);
+    match prepare_for(tick, &stream, room, member, scratch)? {
+        Some(prepared) => Ok(Some(Ready {
+            member: *member,
+            prepared,
+        })),
+        None => Ok(None),
     }
-    let stream = stream_for(streams, member);
-    let prepared = stream.prepare(
-        alloc,
-        member.codec,
-        &heard.named.ssrcs[..count],
-        &heard.samples,
-        moment,
-    )?;
-    Ok(Some(Ready {
-        member: *member,
-        prepared,
-    }))
 }
 
 /// Appends the packet of what a member hears, if it hears anything.
 fn add<'a, A: Allocator + Copy>(
-    alloc: A,
-    streams: &Table<A>,
-    rows: &Rows<A>,
+    tick: &Tick<'a, A>,
     rooms: &mut Vec<Room<'a, A>, A>,
-    voices: &'a [Voice],
     member: &Member,
-    moment: u64,
+    scratch: &mut Scratch<A>,
     ready: &mut Vec<Ready<A>, A>,
 ) -> Result<(), AllocError>
-    requires few { length (of_room member.now.room voices.now) ≤ 64 }
-    requires rooms { AreRooms voices.now rooms.old.items }
-    ensures rooms { OnOk result (AreRooms voices.now rooms.new.items) }
+    requires few { length (of_room member.now.room tick.now.voices.now) ≤ 64 }
+    requires long { AreLong tick.now.rows.now tick.now.voices.now }
+    requires rooms { AreRooms tick.now.rows.now tick.now.voices.now rooms.old.items }
+    requires last { IsEncoded scratch.old.last }
+    requires empty { scratch.old.block.items ≡ [] }
+    ensures rooms { OnOk result (AreRooms tick.now.rows.now tick.now.voices.now rooms.new.items) }
     ensures members { OnOk result (members_of ready.new.items
-        ≡ members_of ready.old.items ++ filter (hears_any rows.now voices.now) (member.now ∷ [])) }
-    ensures ready { OnOk result (AllByRecursion (IsReady rows.now voices.now moment streams.now.entries) ready.old.items
-        → AllByRecursion (IsReady rows.now voices.now moment streams.now.entries) ready.new.items) }
+        ≡ members_of ready.old.items ++ filter (hears_any tick.now.rows.now tick.now.voices.now) (member.now ∷ [])) }
+    ensures ready { OnOk result (AreReady tick.now.rows.now tick.now.voices.now tick.now.moment
+        tick.now.streams.now.entries ready.old.items
+        → AreReady tick.now.rows.now tick.now.voices.now tick.now.moment tick.now.streams.now.entries ready.new.items) }
+    ensures last { OnOk result (IsEncoded scratch.new.last) }
+    ensures empty { OnOk result (scratch.new.block.items ≡ []) }
 {
-    let place = place_of(alloc, rooms, voices, member.room)?;
-    if let Some(one) = ready_for(alloc, streams, rows, &rooms[place], member, moment)? {
+    let place = place_of(tick.alloc, tick.rows, rooms, tick.voices, member.room)?;
+    if let Some(one) = ready_for(tick, &rooms[place], member, scratch)? {
         ready.push(one)?;
     }
     Ok(())
@@ -133,39 +161,80 @@ fn add<'a, A: Allocator + Copy>(
 
 /// The packets of what the members of the lane's streams hear.
 pub fn ready_all<A: Allocator + Copy>(
-    alloc: A,
-    streams: &Table<A>,
+    tick: &Tick<'_, A>,
     place: &LanePlace,
-    rows: &Rows<A>,
-    voices: &[Voice],
-    moment: u64,
 ) -> Result<Vec<Ready<A>, A>, AllocError>
-    requires few { (room : ℕ) → length (of_room room voices.now) ≤ 64 }
+    requires few { (room : ℕ) → length (of_room room tick.now.voices.now) ≤ 64 }
+    requires long { AreLong tick.now.rows.now tick.now.voices.now }
     ensures members { IfOk result
-        (λ rs. members_of rs.items ≡ hearers rows.now voices.now place.now.lane place.now.lanes rows.now.members) }
+        (λ rs. members_of rs.items
+        ≡ hearers tick.now.rows.now tick.now.voices.now place.now.lane place.now.lanes tick.now.rows.now.members) }
     ensures ready { IfOk result
-        (λ rs. AllByRecursion (IsReady rows.now voices.now moment streams.now.entries) rs.items) }
+        (λ rs. AreReady tick.now.rows.now tick.now.voices.now tick.now.moment tick.now.streams.now.entries rs.items) }
 {
-    let mut rooms = Vec::new(alloc);
-    let mut ready = Vec::new(alloc);
-    for member in rows.members() {
+    let mut rooms = Vec::new(tick.alloc);
+    let mut ready = Vec::with_capacity(tick.alloc, tick.rows.members().len())?;
+    let mut scratch = Scratch::new(tick.alloc, block_len(place, tick.rows))?;
+    for member in tick.rows.members() {
         if place.is_mine(member.out_audio) {
-            add(
-                alloc, streams, rows, &mut rooms, voices, member, moment, &mut ready,
-            )?;
+            add(tick, &mut rooms, member, &mut scratch, &mut ready)?;
         }
     }
     Ok(ready)
 }
 
+/// The member whose mix has this SSRC. It is found at once if it stands at this place.
+fn mix_member<A: Allocator + Copy>(rows: &Rows<A>, place: usize, out_audio: u32) -> Option<&Member>
+    ensures { option_copied result ≡ mix_member rows.now out_audio }
+{
+    mixes_are_apart();
+    let members = rows.members();
+    if place < members.len() {
+        let member = &members[place];
+        if member.out_audio == out_audio {
+            return Some(member);
+        }
+    }
+    members.iter().find(|m| m.out_audio == out_audio)
+}
+
+/// The clock rate at which a stream passes a tick. Its member may stand at this place.
+fn pass_rate<A: Allocator + Copy>(
+    rows: &Rows<A>,
+    place: usize,
+    out_audio: u32,
+    stream: &MixStream,
+) -> u32
+    ensures { result ≡ pass_rate rows.now out_audio stream.now }
+{
+    match mix_member(rows, place, out_audio) {
+        Some(member) => room_rate(rows, member.room),
+        None => stream.rate().unwrap_or(0),
+    }
+}
+
+/// The clock rate at which the stream at an index passes a tick.
+fn pass_rate_at<A: Allocator + Copy>(rows: &Rows<A>, streams: &Table<A>, i: usize) -> u32
+    requires { i < length streams.now.entries }
+    ensures { (d : ℕ × MixOf)
+        → result ≡ (let e = slice_index_or streams.now.entries i d in pass_rate rows.now e.0 e.1) }
+{
+    match streams.get_index(i) {
+        Some((out_audio, stream)) => pass_rate(rows, i, *out_audio, stream),
+        None => unreachable!(),
+    }
+}
+
 /// Passes a silent tick on all streams. This takes no memory.
-pub fn pass_all<A: Allocator + Copy>(streams: &mut Table<A>, moment: u64)
-    ensures streams { (ssrc : ℕ) → Passes moment (mix_at ssrc streams.old.entries) (mix_at ssrc streams.new.entries) }
+pub fn pass_all<A: Allocator + Copy>(streams: &mut Table<A>, rows: &Rows<A>, moment: u64)
+    ensures streams { (ssrc : ℕ)
+        → Passes rows.now moment ssrc (mix_at ssrc streams.old.entries) (mix_at ssrc streams.new.entries) }
     ensures spare { spare streams.new ≡ spare streams.old }
 {
     for i in 0..streams.len() {
+        let rate = pass_rate_at(rows, streams, i);
         match streams.get_index_mut(i) {
-            Some(stream) => stream.pass(moment),
+            Some(stream) => stream.pass(rate, moment),
             None => unreachable!(),
         }
     }

@@ -1,16 +1,17 @@
 -- The voices of a room as inputs of its mixes.
 use Rattle.std.specs.Prelude.{◌≡◌, ℕ, ℤ, ◌≤◌, Bool, List, length, map, filter, take}
-use Rattle.std.specs.List.{range_with_len}
-use Rattle.rtp_codec.specs.Packet.{most_csrcs}
+use Rattle.std.specs.List.{AllByRecursion, range_with_len}
+use Rattle.rtp_codec.specs.Packet.{most_csrcs, number_octets}
 use Rattle.desk_rows.specs.declared.row.Member.{Member as MemberRow}
 use Rattle.desk_rows.specs.Desk.{Desk}
-use Rattle.mixer.specs.declared.hearing.Heard.{Heard}
+use Rattle.media_items.specs.Formats.{tick_at}
+use Rattle.mix_minus.specs.declared.contributors.Contributors.{Contributors}
 use Rattle.mix_minus.specs.declared.input.Input.{Input}
-use Rattle.mix_minus.specs.Mix.{IsTotal, ReachTo}
+use Rattle.mix_minus.specs.Mix.{IsTotal, ReachTo, present_in}
+use Rattle.mix_minus.specs.inner.Passes.{AreSmall}
 use Rattle.topology.specs.declared.hearing.AudioSource.{AudioSource}
 use Rattle.topology.specs.Mixes.{in_room}
-use Rattle.mixer.specs.declared.voices.Voice.{Voice}
-use Rattle.mixer.specs.Hearing.{tick_length, heard_at, contributors}
+use Rattle.mixer.specs.Hearing.{Voice, room_rate, rate_of, heard_at, contributors}
 
 -- an input without where its samples lie
 pub record Plain : Type 0 where
@@ -34,25 +35,34 @@ is_of room v = in_room room v.source
 abbrev pub of_room : ℕ → List Voice → List Voice
 of_room room voices = filter (is_of room) voices
 
--- a room: its sources and its inputs, in the same order, and their total
+-- Each voice has the samples of a tick at the clock rate of its room.
+abbrev pub AreLong : Desk → List Voice → Type 0
+AreLong d voices = AllByRecursion (λ v. length v.samples ≡ tick_at (room_rate d v.source.room)) voices
+
+-- a room: its clock rate, its sources and its inputs, in the same order, their total, and who is present, in network order
 pub record RoomOf : Type 0 where
   pub room : ℕ
+  pub rate : ℕ
   pub sources : List AudioSource
   pub inputs : List Input
   pub total : List ℤ
+  pub named : List ℕ
 
 -- This is the room of this number among these voices.
-pub record IsRoom (voices : List Voice) (r : RoomOf) : Type 0 where
+pub record IsRoom (d : Desk) (voices : List Voice) (r : RoomOf) : Type 0 where
+  pub rate : r.rate ≡ room_rate d r.room
   pub sources : r.sources ≡ map (λ v. v.source) (of_room r.room voices)
   pub inputs : map plain r.inputs ≡ map plain_voice (of_room r.room voices)
-  pub reach : ReachTo tick_length r.inputs
+  pub reach : ReachTo (tick_at r.rate) r.inputs
   pub few : length r.inputs ≤ 64
   pub total : IsTotal r.inputs r.total
-  pub long : length r.total ≡ tick_length
+  pub long : length r.total ≡ tick_at r.rate
+  pub small : AreSmall 16777216 r.total
+  pub named : r.named ≡ number_octets (present_in r.inputs)
 
 -- This is what the member hears of these voices.
-pub record IsHeard (d : Desk) (voices : List Voice) (m : MemberRow) (h : Heard) : Type 0 where
-  pub samples : h.samples ≡ map (heard_at voices d m) (range_with_len 0 tick_length)
-  pub count : h.named.count ≤ most_csrcs
-  pub room : h.named.count ≤ length h.named.ssrcs
-  pub named : take h.named.count h.named.ssrcs ≡ take most_csrcs (contributors voices d m)
+pub record IsHeard (d : Desk) (voices : List Voice) (m : MemberRow) (out : List ℤ) (who : Contributors) : Type 0 where
+  pub samples : out ≡ map (heard_at voices d m) (range_with_len 0 (tick_at (rate_of d m)))
+  pub count : who.count ≤ most_csrcs
+  pub room : who.count ≤ length who.ssrcs
+  pub named : take who.count who.ssrcs ≡ take most_csrcs (contributors voices d m)

@@ -1,12 +1,7 @@
 -- What there is are the inputs of the voices so far.
 use Rattle.std.proofs.Common.{◌≡◌, map, take}
-use Rattle.mix_minus.specs.Mix.{ReachTo}
-use Rattle.mixer.specs.Hearing.{tick_length}
 use Rattle.mixer.specs.inner.Rooms.{plain, plain_voice, of_room}
 use Rattle.mixer.proofs.rooms.inputs_of.Given as goal
 
 abbrev pub invariant-loop-voice : goal.invariant-loop-voice
-invariant-loop-voice g l = record {
-  same : map plain l.inputs.items ≡ map plain_voice (of_room l.room (take l.voice-index l.voices));
-  reach : ReachTo tick_length l.inputs.items;
-}
+invariant-loop-voice g l = map plain l.inputs.items ≡ map plain_voice (of_room l.room (take l.voice-index l.voices))

@@ -6,7 +6,7 @@ use Rattle.mixer.proofs.streams.pass_all.Given as goal
 
 abbrev pub invariant-loop-i : goal.invariant-loop-i
 invariant-loop-i g l = record {
-  partly : Partly l.moment l.i l.fn.streams.entries l.streams.entries;
+  partly : Partly l.rows l.moment l.i l.fn.streams.entries l.streams.entries;
   long : length l.streams.entries ≡ length l.fn.streams.entries;
   spare : spare l.streams ≡ spare l.fn.streams;
 }

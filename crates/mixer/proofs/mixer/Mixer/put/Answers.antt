@@ -8,6 +8,6 @@ use Rattle.mixer.proofs.mixer.Mixer.put.Goals as goal
 pub returns-clause-given : goal.returns-clause-given
 returns-clause-given g c =
     on_ok_weaker c.put.result (λ also.
-    subst (λ (old : MixerOf). IsGiven old (record { playouts = c.put.new.self; streams = c.self.inside.streams.entries }) (put c.args.source c.args.address.now c.args.ts c.args.samples.now)) c.self.view_is
-    (given_put (record { playouts = c.self.inside.playouts; streams = c.self.inside.streams.entries }) c.put.new.self c.args.source c.args.address.now c.args.ts c.args.samples.now also))
+    subst (λ (old : MixerOf). IsGiven old (record { playouts = c.put.new.self; streams = c.self.inside.streams.entries }) (put c.args.source c.args.address.now c.args.block.rate c.args.block.ts c.args.block.samples.now)) c.self.view_is
+    (given_put (record { playouts = c.self.inside.playouts; streams = c.self.inside.streams.entries }) c.put.new.self c.args.source c.args.address.now c.args.block.rate c.args.block.ts c.args.block.samples.now also))
     c.put.ensures.has

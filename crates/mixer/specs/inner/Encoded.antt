@@ -1,0 +1,19 @@
+-- A payload that is kept with the samples that it was encoded from, and the block that packets are cut off.
+use Rattle.std.specs.Prelude.{◌≡◌, true, ℕ, ◌+◌, ◌*◌}
+use Rattle.rtp_codec.specs.Packet.{most_csrcs}
+use Rattle.media_items.specs.declared.format.Format.TheVariants.{L16At44100}
+use Rattle.media_items.specs.Formats.{octets_of, tick_of}
+use Rattle.forward_rewrite.specs.Mixes.{encoded}
+use Rattle.mixer.specs.declared.encoding.Encoded.{Encoded}
+
+-- If the samples are kept, the payload is theirs in their format.
+abbrev pub IsEncoded : {A : Type 0} → Encoded A → Type 0
+IsEncoded e = e.kept ≡ true → e.payload.items ≡ encoded e.format e.samples.items
+
+-- the octets of the longest packet: a header with all contributing sources, and a tick of the longest format
+abbrev pub most_packet : ℕ
+most_packet = 12 + 4 * most_csrcs + octets_of L16At44100 * tick_of L16At44100
+
+-- the octets of the packets of a full room
+abbrev pub most_block : ℕ
+most_block = 64 * most_packet
