@@ -8,17 +8,17 @@ use Rattle.retransmit.specs.declared.owner.Owner.{Owner}
 use Rattle.retransmit.specs.SentPacket.{SentPacket}
 use Rattle.retransmit.specs.Window.{room, latest, resend_of}
 use Rattle.topology.specs.Looking.{member_from}
-use Rattle.forward_rewrite.specs.declared.sending.Stamp.{Stamp}
 use Rattle.forward_rewrite.specs.Streams.{StreamOf}
 use Rattle.feedback.specs.Asked.{firsts}
 use Rattle.feedback.specs.Resends.{resends_to, resends}
-use Rattle.forward_rewrite.specs.OwnStreams.{is_mine}
-use Rattle.intake.specs.Inputs.{Input, Request}
-use Rattle.feedback.specs.Upstream.{Asker}
+use Rattle.media_items.specs.OwnStreams.{is_mine}
+use Rattle.media_items.specs.Inputs.{Input, Request}
 use Rattle.bridge_core.specs.Sent.{Sent}
 use Rattle.bridge_core.specs.Lanes.{Visit, Routed, routed, packets_sent, stream_of, packets, goes, is_lanes}
-use Rattle.bridge_core.specs.LaneState.{StreamList, stream_at, visit_of, AreLeft}
+use Rattle.bridge_core.specs.LaneState.{StreamList, stream_at, AreLeft}
 use Rattle.bridge_core.specs.inner.VideoStreams.{Answers}
+use Rattle.bridge_core.specs.inner.Visits.{visit_on}
+use Rattle.bridge_core.specs.declared.visit.LaneVisit.{LaneVisit}
 use Rattle.bridge_core.proofs.Handled.{not_routed}
 use Rattle.bridge_core.proofs.OnStreams.{all_or_none}
 
@@ -39,12 +39,21 @@ nothing_again d from numbers = by (member_from d from)
     by None = refl
     by (Some member) = nothing_to (record { member = member; address = from }) (firsts numbers)
 
-module _ (who : Asker) (lane lanes : ℕ) (streams : StreamList) (stamp : Stamp) (desk : Desk) (request : Request) (sent : List Sent) where
+module _ {A : Type 0} (at : LaneVisit A) (streams : StreamList) (request : Request) (sent : List Sent) where
+  abbrev lane : ℕ
+  lane = at.place.lane
+
+  abbrev lanes : ℕ
+  lanes = at.place.lanes
+
+  abbrev desk : Desk
+  desk = at.rows.now
+
   abbrev k : ℕ
   k = request.out_ssrc
 
   abbrev visit : Visit
-  visit = visit_of stamp.version stamp.item desk (Input.nack request)
+  visit = visit_on at (Input.nack request)
 
   -- the streams stay
   stay : (before : List Visit) → AreLeft lane lanes streams before → AreLeft lane lanes streams (before ++ visit ∷ [])
@@ -54,21 +63,21 @@ module _ (who : Asker) (lane lanes : ℕ) (streams : StreamList) (stamp : Stamp)
   window_left [] o e = ap window_of e
   window_left (r ∷ rs) o e = ap window_of e
 
-  share : (window : List SentPacket) → filter (is_lanes lane lanes) (map (goes k (Some stamp.version)) (resends desk request.from request.numbers window))
-      ≡ cond (is_mine lane lanes k) (map (goes k (Some stamp.version)) (resends desk request.from request.numbers window)) []
-  share window = all_or_none (is_lanes lane lanes) (is_mine lane lanes k) k (Some stamp.version) (λ p. refl) (resends desk request.from request.numbers window)
+  share : (window : List SentPacket) → filter (is_lanes lane lanes) (map (goes k (Some at.stamp.version)) (resends desk request.from request.numbers window))
+      ≡ cond (is_mine lane lanes k) (map (goes k (Some at.stamp.version)) (resends desk request.from request.numbers window)) []
+  share window = all_or_none (is_lanes lane lanes) (is_mine lane lanes k) k (Some at.stamp.version) (λ p. refl) (resends desk request.from request.numbers window)
 
   -- the stream is another lane's
-  pub others_answered : is_mine lane lanes k ≡ false → sent ≡ [] → Answers who lane lanes streams streams visit sent
+  pub others_answered : is_mine lane lanes k ≡ false → sent ≡ [] → Answers at streams streams (Input.nack request) sent
   others_answered not is before left =
       let window = latest room (packets k before) in
-      (is ∙ sym (ap (λ b. cond b (map (goes k (Some stamp.version)) (resends desk request.from request.numbers window)) []) not) ∙ sym (share window), stay before left)
+      (is ∙ sym (ap (λ b. cond b (map (goes k (Some at.stamp.version)) (resends desk request.from request.numbers window)) []) not) ∙ sym (share window), stay before left)
 
   -- the stream is the lane's
-  pub mine_answered : is_mine lane lanes k ≡ true → sent ≡ map (goes k (Some stamp.version)) (resends desk request.from request.numbers (window_of (stream_at k streams))) → Answers who lane lanes streams streams visit sent
+  pub mine_answered : is_mine lane lanes k ≡ true → sent ≡ map (goes k (Some at.stamp.version)) (resends desk request.from request.numbers (window_of (stream_at k streams))) → Answers at streams streams (Input.nack request) sent
   mine_answered mine is before left =
       let window = latest room (packets k before) in (
-        is ∙ ap (λ w. map (goes k (Some stamp.version)) (resends desk request.from request.numbers w)) (window_left (routed k before) (stream_at k streams) (left k mine))
-            ∙ sym (ap (λ b. cond b (map (goes k (Some stamp.version)) (resends desk request.from request.numbers window)) []) mine) ∙ sym (share window),
+        is ∙ ap (λ w. map (goes k (Some at.stamp.version)) (resends desk request.from request.numbers w)) (window_left (routed k before) (stream_at k streams) (left k mine))
+            ∙ sym (ap (λ b. cond b (map (goes k (Some at.stamp.version)) (resends desk request.from request.numbers window)) []) mine) ∙ sym (share window),
         stay before left,
       )

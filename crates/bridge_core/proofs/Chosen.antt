@@ -11,11 +11,11 @@ use Rattle.topology.specs.declared.receivers.Receiver.{Receiver}
 use Rattle.topology.specs.Looking.{slot_at, is_this, comes_from}
 use Rattle.topology.specs.Choice.{choice, chosen}
 use Rattle.topology.specs.Receivers.{receivers, receiver_at, receiving, receiver_on, chooses, AreDistinct}
-use Rattle.forward_rewrite.specs.Frame.{SourceFrame}
+use Rattle.media_items.specs.Frame.{SourceFrame}
 use Rattle.forward_rewrite.specs.RoutedList.{part_of, numbered}
 use Rattle.frame_gate.specs.Frame.{SourcePacket}
-use Rattle.forward_rewrite.specs.OwnStreams.{is_mine}
-use Rattle.intake.specs.Inputs.{Input}
+use Rattle.media_items.specs.OwnStreams.{is_mine}
+use Rattle.media_items.specs.Inputs.{Input}
 use Rattle.feedback.specs.Upstream.{Asker}
 use Rattle.bridge_core.specs.Lanes.{Visit, routed_to, packets_at, goes, is_lanes, sends_at}
 use Rattle.bridge_core.specs.LaneState.{visit_of}

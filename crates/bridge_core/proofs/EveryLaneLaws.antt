@@ -4,7 +4,7 @@ use Rattle.std.specs.List.{range_with_len}
 use Rattle.std.proofs.lemmas.Bool.{cases_eq}
 use Rattle.std.proofs.lemmas.Bool.Decides.{nat_tests}
 use Rattle.desk_rows.specs.Desk.{Desk}
-use Rattle.intake.specs.Inputs.{Input}
+use Rattle.media_items.specs.Inputs.{Input}
 use Rattle.bridge_core.specs.Lanes.{Visit}
 use Rattle.bridge_core.specs.LaneState.{visit_of}
 use Rattle.bridge_core.specs.Steps.{Step, along, version_of, desk_of, count_of, visit_at, visits, visit_after}

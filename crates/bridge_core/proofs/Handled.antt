@@ -9,19 +9,21 @@ use Rattle.desk_rows.specs.Desk.{Desk}
 use Rattle.retransmit.specs.SentPacket.{SentPacket}
 use Rattle.topology.specs.declared.receivers.Receiver.{Receiver}
 use Rattle.topology.specs.Receivers.{receivers, receiver_on, receiver_at, AreDistinct}
-use Rattle.forward_rewrite.specs.declared.sending.Stamp.{Stamp}
-use Rattle.forward_rewrite.specs.Frame.{SourceFrame}
+use Rattle.media_items.specs.declared.stamp.Stamp.{Stamp}
+use Rattle.media_items.specs.Frame.{SourceFrame}
 use Rattle.forward_rewrite.specs.Sending.{sending_of}
 use Rattle.forward_rewrite.specs.RoutedList.{packets_of}
 use Rattle.forward_rewrite.specs.Streams.{PreparedOf, state_of, committed, SendsNext}
-use Rattle.forward_rewrite.specs.OwnStreams.{is_mine}
-use Rattle.intake.specs.Inputs.{Input}
+use Rattle.media_items.specs.OwnStreams.{is_mine}
+use Rattle.media_items.specs.Inputs.{Input}
 use Rattle.feedback.specs.Upstream.{Asker}
 use Rattle.bridge_core.specs.Sent.{Sent}
 use Rattle.bridge_core.specs.Lanes.{Visit, Routed, routed_to, routed_at, routed, sendings, packets_sent, stream_of, packets, packets_at, owner_of, goes, is_lanes, sends_at}
+use Rattle.bridge_core.specs.declared.visit.LaneVisit.{LaneVisit}
 use Rattle.bridge_core.specs.LaneState.{StreamList, stream_at, visit_of, AreLeft}
 use Rattle.bridge_core.specs.inner.Readies.{ReadyOf, current, IsNext, AreNext, receivers_of, kept_after, sent_for}
 use Rattle.bridge_core.specs.inner.VideoStreams.{Answers}
+use Rattle.bridge_core.specs.inner.Visits.{asker_of}
 use Rattle.bridge_core.proofs.Readies.{ready_at, receiver_at-receivers_of, receiver_at-mine, kept_by, kept_after-distinct, AreDistinct-filter, all-at, ready_at-ssrc, each_found, all_mine, readies_mine}
 
 -- one more frame of a routed list
@@ -153,18 +155,21 @@ module _ (who : Asker) (lane lanes : ℕ) (streams : StreamList) (stamp : Stamp)
       ∙ sym (share_of_all lane lanes packets_for (receivers desk f.source f.address))
 
 -- the streams answer a frame
-pub frame_answered : (who : Asker) (lane lanes : ℕ) (old new : StreamList) (stamp : Stamp) (desk : Desk) (f : SourceFrame) (rs : List ReadyOf) (sent : List Sent) → AreDistinct (receivers desk f.source f.address)
-    → ((k : ℕ) → receiver_at k (receivers desk f.source f.address) ≡ receiver_on desk f.source f.address k)
-    → receivers_of rs ≡ filter (λ r. is_mine lane lanes r.slot.out_ssrc) (receivers desk f.source f.address) → AreNext old stamp f rs
+pub frame_answered : {A : Type 0} → (at : LaneVisit A) (old new : StreamList) (f : SourceFrame) (rs : List ReadyOf) (sent : List Sent) → AreDistinct (receivers at.rows.now f.source f.address)
+    → ((k : ℕ) → receiver_at k (receivers at.rows.now f.source f.address) ≡ receiver_on at.rows.now f.source f.address k)
+    → receivers_of rs ≡ filter (λ r. is_mine at.place.lane at.place.lanes r.slot.out_ssrc) (receivers at.rows.now f.source f.address) → AreNext old at.stamp f rs
     → ((k : ℕ) → stream_at k new ≡ kept_after k rs (stream_at k old)) → sent ≡ sent_for rs
-    → Answers who lane lanes old new (visit_of stamp.version stamp.item desk (Input.frame f)) sent
-frame_answered who lane lanes old new stamp desk f rs sent distinct found same next streams are before left =
-    let is : IsFor lane lanes old stamp desk f rs = record {
+    → Answers at old new (Input.frame f) sent
+frame_answered at old new f rs sent distinct found same next streams are before left =
+    let lane = at.place.lane in
+    let lanes = at.place.lanes in
+    let desk = at.rows.now in
+    let is : IsFor lane lanes old at.stamp desk f rs = record {
       apart = subst AreDistinct (sym same) (AreDistinct-filter _ (receivers desk f.source f.address) distinct);
       all = same;
       found = found;
       next = next;
     } in (
-      are ∙ sent_alike who lane lanes old stamp desk f rs is before left,
-      λ k mine. streams k ∙ kept_after-distinct k rs (stream_at k old) is.apart ∙ sym ((at_key lane lanes old stamp desk f rs is before k mine (left k mine) (ready_at k rs) refl).0),
+      are ∙ sent_alike (asker_of at) lane lanes old at.stamp desk f rs is before left,
+      λ k mine. streams k ∙ kept_after-distinct k rs (stream_at k old) is.apart ∙ sym ((at_key lane lanes old at.stamp desk f rs is before k mine (left k mine) (ready_at k rs) refl).0),
     )

@@ -5,7 +5,7 @@ use Rattle.std.proofs.lemmas.Bool.{cases_eq}
 use Rattle.std.proofs.lemmas.Bool.Decides.{nat_tests}
 use Rattle.std.proofs.lemmas.List.Elements.{filter-append}
 use Rattle.desk_rows.specs.Desk.{Desk}
-use Rattle.forward_rewrite.specs.OwnStreams.{is_mine}
+use Rattle.media_items.specs.OwnStreams.{is_mine}
 use Rattle.feedback.specs.Upstream.{Asker}
 use Rattle.bridge_core.specs.Sent.{Sent}
 use Rattle.bridge_core.specs.Lanes.{Visit, sent_of_input, sends_at}

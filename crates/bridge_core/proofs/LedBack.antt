@@ -13,8 +13,8 @@ use Rattle.forward_rewrite.specs.laws.Laws.{IsFound}
 use Rattle.topology.specs.Looking.{member_from}
 use Rattle.feedback.specs.Resends.{resends_to, resends}
 use Rattle.feedback.specs.Asked.{firsts as each_once}
-use Rattle.forward_rewrite.specs.OwnStreams.{is_mine}
-use Rattle.intake.specs.Inputs.{Input, Request}
+use Rattle.media_items.specs.OwnStreams.{is_mine}
+use Rattle.media_items.specs.Inputs.{Input, Request}
 use Rattle.feedback.specs.Upstream.{Asker}
 use Rattle.bridge_core.specs.Sent.{Sent}
 use Rattle.bridge_core.specs.Lanes.{Visit, Routed, routed, sendings, packets_sent, packets, goes, is_lanes, sends_at}

@@ -3,6 +3,7 @@ pub mod Handled
 pub mod Shares
 pub mod Counted
 pub mod Told
+pub mod Sized
 pub mod PartsLaws
 pub mod StepLaws
 pub mod RunLaws

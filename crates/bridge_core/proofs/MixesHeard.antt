@@ -9,11 +9,11 @@ use Rattle.desk_rows.specs.Desk.{Desk, good}
 use Rattle.topology.specs.Mixes.{mix_member}
 use Rattle.forward_rewrite.specs.Sending.{Numbered}
 use Rattle.forward_rewrite.specs.Mixes.{Sound}
-use Rattle.forward_rewrite.specs.OwnStreams.{is_mine}
+use Rattle.media_items.specs.OwnStreams.{is_mine}
 use Rattle.mixer.specs.Hearing.{voices_of, sound_for}
 use Rattle.mixer.specs.Mixes.{Hears, hears, to_member, mixes_at, sent_by}
 use Rattle.mixer.specs.MixLists.{Carries, to_its_member}
-use Rattle.intake.specs.Inputs.{Input}
+use Rattle.media_items.specs.Inputs.{Input}
 use Rattle.feedback.specs.Upstream.{Asker}
 use Rattle.bridge_core.specs.Lanes.{Visit, given_of, mix_goes, is_lanes, sends_at}
 use Rattle.bridge_core.specs.LaneState.{visit_of}

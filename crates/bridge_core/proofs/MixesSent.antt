@@ -10,11 +10,11 @@ use Rattle.desk_rows.specs.declared.row.Member.{Member as MemberRow}
 use Rattle.desk_rows.specs.Desk.{Desk, good}
 use Rattle.topology.specs.Mixes.{mix_member}
 use Rattle.forward_rewrite.specs.Sending.{Numbered}
-use Rattle.forward_rewrite.specs.OwnStreams.{is_mine}
+use Rattle.media_items.specs.OwnStreams.{is_mine}
 use Rattle.mixer.specs.Hearing.{Given}
 use Rattle.mixer.specs.Mixes.{Hears, MixSent, hears, turn_of, to_member, mixes, mixes_at, sent_by}
 use Rattle.mixer.specs.MixLists.{GoOn, AreInARow, Carries, on_stream, to_its_member}
-use Rattle.intake.specs.Inputs.{Input}
+use Rattle.media_items.specs.Inputs.{Input}
 use Rattle.feedback.specs.Upstream.{Asker}
 use Rattle.bridge_core.specs.Sent.{Sent}
 use Rattle.bridge_core.specs.Sent.Sent.{media, control, note}
@@ -31,7 +31,7 @@ use Rattle.bridge_core.proofs.StepLaws.{desk_of-publish, desk_of-item, visits-pu
 pub record MixBelow : Type 0 where
   pub behind : (ssrc : ℕ) (before : List Given) (d : Desk) (moment : ℕ) → mixes ssrc (before ++ Given.tick d moment ∷ []) ≡ mixes ssrc before ++ mixes_at ssrc before d moment
   pub heard : (ssrc : ℕ) (before : List Given) (d : Desk) (moment : ℕ) → Carries ssrc (turn_of ssrc before d moment).heard (mixes_at ssrc before d moment)
-  pub samples : (ssrc : ℕ) (before : List Given) (source : ℕ) (address : Address) (ts : ℕ) (samples : List ℤ) → mixes ssrc (before ++ Given.put source address ts samples ∷ []) ≡ mixes ssrc before
+  pub samples : (ssrc : ℕ) (before : List Given) (source : ℕ) (address : Address) (rate ts : ℕ) (samples : List ℤ) → mixes ssrc (before ++ Given.put source address rate ts samples ∷ []) ≡ mixes ssrc before
   pub once : (ssrc : ℕ) (before : List Given) (d : Desk) (moment : ℕ) → good d ≡ true → on_stream ssrc (sent_by before d moment) ≡ to_its_member (mix_member d ssrc) (mixes_at ssrc before d moment)
 
 -- the packets of mixes on one stream
@@ -97,7 +97,7 @@ module _ (below : MixBelow) (who : Asker) (count k : ℕ) (start : Desk) where
   told-item before lane (Input.audio sound) h =
       let here = visits lane start before in
       told-still before lane (Input.audio sound)
-      (ap (mixes k) (is_given here (visit_after start before lane (Input.audio sound)) (Given.put sound.source sound.address sound.ts sound.samples) refl) ∙ below.samples k (given_of here) sound.source sound.address sound.ts sound.samples)
+      (ap (mixes k) (is_given here (visit_after start before lane (Input.audio sound)) (Given.put sound.source sound.address sound.rate sound.ts sound.samples) refl) ∙ below.samples k (given_of here) sound.source sound.address sound.rate sound.ts sound.samples)
   told-item before lane (Input.tick moment) h =
       let input = Input.tick moment in
       let here = visits lane start before in

@@ -10,15 +10,16 @@ use Rattle.std.specs.Int.{w32, to_be_bytes}
 use Rattle.rtp_codec.specs.declared.writing.Header.{Header}
 use Rattle.rtp_codec.specs.Packet.{written, number_octets, most_csrcs}
 use Rattle.desk_rows.specs.declared.row.Member.{Member as MemberRow}
-use Rattle.desk_rows.specs.declared.row.Codec.{Codec}
 use Rattle.desk_rows.specs.Desk.{Desk}
 use Rattle.topology.specs.Mixes.{mix_member}
 use Rattle.forward_rewrite.specs.Sending.{Numbered, out_of}
 use Rattle.forward_rewrite.specs.RoutedList.{Part, header_of, sent_packet, numbered}
 use Rattle.forward_rewrite.specs.Streams.{payload_octets}
-use Rattle.forward_rewrite.specs.Mixes.{Sound, MixTick, pt_of, payload_of, mix_packet, tick_units, mixed, begun, mix_list, sounds}
-use Rattle.mixer.specs.Hearing.{Given, put, tick, voices_of, sound_by, sound_for, contributors}
-use Rattle.mixer.specs.Mixes.{Hears, hears, turn_of, turns_after, turns, tick_of}
+use Rattle.media_items.specs.declared.format.Format.{Format}
+use Rattle.media_items.specs.Formats.{pt_of, tick_at}
+use Rattle.forward_rewrite.specs.Mixes.{Sound, MixTick, format_of, payload_of, mix_packet, packets_in, mixed, mixed_from, begun, mix_list, sounds}
+use Rattle.mixer.specs.Hearing.{Given, put, tick, rate_of, voices_of, sound_by, sound_for, contributors}
+use Rattle.mixer.specs.Mixes.{Hears, Turn, hears, turn_of, turns_after, turns, tick_of, ticks_behind}
 use Rattle.bridge_core.specs.Lanes.{goes}
 use Rattle.bridge_core.specs.Headline.{numbered_of}
 use Rattle.bridge_core.specs.Telling.{payload_size}
@@ -67,20 +68,23 @@ HaveFew ticks = AllByRecursion (λ (t : MixTick). HasFew t.sound) ticks
 abbrev heard_octets : List MixTick → ℕ
 heard_octets ticks = sum_by (λ sound. length (payload_of sound)) (sounds ticks)
 
-mixed_octets : (k n ts : ℕ) (spoke : Bool) (ticks : List MixTick) → HaveFew ticks → sizes (mixed k n ts spoke (map (λ (t : MixTick). t.sound) ticks)) ≡ heard_octets ticks
-mixed_octets k n ts spoke [] few = refl
-mixed_octets k n ts spoke (t ∷ ticks) few = by (λ m b. mixed_octets k m (ts + tick_units) b ticks few.1) t.sound few.0
+-- what a tick adds, and what goes on from there
+step_octets : (k n ts : ℕ) (marker : Bool) (t : MixTick) (ticks : List MixTick) → HasFew t.sound → ((m : ℕ) (b : Bool) → sizes (mixed k m ts b ticks) ≡ heard_octets ticks)
+    → sizes (packets_in k n ts marker t.sound ++ mixed k (n + length (packets_in k n ts marker t.sound)) ts (is_some t.sound) ticks) ≡ heard_octets (t ∷ ticks)
+step_octets k n ts marker t ticks few more = by t.sound few
   where
-    rest : ℕ → Bool → List Numbered
-    rest m b = mixed k m (ts + tick_units) b (map (λ (t : MixTick). t.sound) ticks)
-
-    by : ((m : ℕ) (b : Bool) → sizes (rest m b) ≡ heard_octets ticks) → (o : Option Sound) → HasFew o → sizes (mixed k n ts spoke (o ∷ map (λ (t : MixTick). t.sound) ticks)) ≡ heard_octets (record { sound = o; moment = t.moment } ∷ ticks)
-    by more None h = more n false
-    by more (Some sound) h =
-        let header : Header = record { marker = not spoke; pt = pt_of sound.codec; seq = n % 2 ^ 16; ts = ts % 2 ^ 32; ssrc = k } in
-        sum_by-cons size_of (mix_packet k n ts (not spoke) sound) (rest (n + 1) true)
-        ∙ ap (λ m. m + sizes (rest (n + 1) true)) (written_size header sound.csrcs (payload_of sound) h) ∙ ap (λ m. length (payload_of sound) + m) (more (n + 1) true)
+    by : (o : Option Sound) → HasFew o → sizes (packets_in k n ts marker o ++ mixed k (n + length (packets_in k n ts marker o)) ts (is_some o) ticks) ≡ heard_octets (record { sound = o; rate = t.rate; moment = t.moment } ∷ ticks)
+    by None h = more (n + 0) false
+    by (Some sound) h =
+        let header : Header = record { marker = marker; pt = pt_of sound.format; seq = n % 2 ^ 16; ts = ts % 2 ^ 32; ssrc = k } in
+        let rest = mixed k (n + 1) ts true ticks in
+        sum_by-cons size_of (mix_packet k n ts marker sound) rest
+        ∙ ap (λ m. m + sizes rest) (written_size header sound.csrcs (payload_of sound) h) ∙ ap (λ m. length (payload_of sound) + m) (more (n + 1) true)
         ∙ sym (sum_by-cons (λ sound. length (payload_of sound)) sound (sounds ticks))
+
+mixed_octets : (k n ts : ℕ) (spoke : Bool) (ticks : List MixTick) → HaveFew ticks → sizes (mixed k n ts spoke ticks) ≡ heard_octets ticks
+mixed_octets k n ts spoke [] few = refl
+mixed_octets k n ts spoke (t ∷ ticks) few = step_octets k n (ts + tick_at t.rate) (not spoke) t ticks few.0 (λ m b. mixed_octets k m (ts + tick_at t.rate) b ticks few.1)
 
 pub mix_octets : (k first_seq first_ts : ℕ) (ticks : List MixTick) → HaveFew ticks → sizes (mix_list k first_seq first_ts ticks) ≡ heard_octets ticks
 mix_octets k first_seq first_ts [] few = refl
@@ -88,12 +92,12 @@ mix_octets k first_seq first_ts (t ∷ ticks) few = by (mix_octets k first_seq f
   where
     by : sizes (mix_list k first_seq first_ts ticks) ≡ heard_octets ticks → (o : Option Sound) → t.sound ≡ o → sizes (mix_list k first_seq first_ts (t ∷ ticks)) ≡ heard_octets (t ∷ ticks)
     by more None e =
-        ap (λ b. sizes (mixed k first_seq first_ts false (map (λ (t : MixTick). t.sound) (cond b (t ∷ ticks) (begun ticks))))) (ap is_some e)
+        ap (λ b. sizes (mixed_from k first_seq first_ts (cond b (t ∷ ticks) (begun ticks)))) (ap is_some e)
         ∙ more
-        ∙ sym (ap (λ (o : Option Sound). heard_octets (record { sound = o; moment = t.moment } ∷ ticks)) e)
+        ∙ sym (ap (λ (o : Option Sound). heard_octets (record { sound = o; rate = t.rate; moment = t.moment } ∷ ticks)) e)
     by more (Some sound) e =
-        ap (λ b. sizes (mixed k first_seq first_ts false (map (λ (t : MixTick). t.sound) (cond b (t ∷ ticks) (begun ticks))))) (ap is_some e)
-        ∙ mixed_octets k first_seq first_ts false (t ∷ ticks) few
+        ap (λ b. sizes (mixed_from k first_seq first_ts (cond b (t ∷ ticks) (begun ticks)))) (ap is_some e)
+        ∙ step_octets k first_seq first_ts true t ticks few.0 (λ m b. mixed_octets k m first_ts b ticks few.1)
 
 -- ---- what is heard names few
 
@@ -102,25 +106,37 @@ take_few zero xs = omega arith
 take_few (suc n) [] = omega arith
 take_few (suc n) (x ∷ xs) = let rest = take_few n xs in omega (arith, rest)
 
-few_by : (codec : Codec) (named : List ℕ) (samples : List ℤ) → HasFew (sound_by codec named samples)
-few_by codec [] samples = tt
-few_by codec (s ∷ ss) samples = take_few most_csrcs (s ∷ ss)
+few_by : (format : Format) (named : List ℕ) (samples : List ℤ) → HasFew (sound_by format named samples)
+few_by format [] samples = tt
+few_by format (s ∷ ss) samples = take_few most_csrcs (s ∷ ss)
 
 few_heard : (o : Option Sound) (m : MemberRow) → HasFew o → HasFew (option_map (λ (h : Hears). h.sound) (option_map (λ sound. record { member = m; sound = sound }) o))
 few_heard None m h = tt
 few_heard (Some sound) m h = h
 
-few_at : (k : ℕ) (before : List Given) (d : Desk) (moment : ℕ) → HasFew (tick_of (turn_of k before d moment)).sound
+-- what is heard in a tick names few
+abbrev HearsFew : Turn → Type 0
+HearsFew t = HasFew (option_map (λ h. h.sound) t.heard)
+
+-- so does what is heard in each of these ticks
+abbrev pub HearFew : List Turn → Type 0
+HearFew ts = AllByRecursion HearsFew ts
+
+few_at : (k : ℕ) (before : List Given) (d : Desk) (moment : ℕ) → HearsFew (turn_of k before d moment)
 few_at k before d moment = by (mix_member d k)
   where
     by : (o : Option MemberRow) → HasFew (option_map (λ (h : Hears). h.sound) (option_and_then (hears before d) o))
     by None = tt
-    by (Some m) = few_heard (sound_for (voices_of before d) d m) m (few_by m.codec (contributors (voices_of before d) d m) _)
+    by (Some m) = few_heard (sound_for (voices_of before d) d m) m (few_by (format_of m.codec (rate_of d m)) (contributors (voices_of before d) d m) _)
 
-few_after : (k : ℕ) (before given : List Given) → HaveFew (map tick_of (turns_after k before given))
+few_after : (k : ℕ) (before given : List Given) → HearFew (turns_after k before given)
 few_after k before [] = tt
-few_after k before (put source address ts samples ∷ given) = few_after k (before ++ put source address ts samples ∷ []) given
+few_after k before (put source address rate ts samples ∷ given) = few_after k (before ++ put source address rate ts samples ∷ []) given
 few_after k before (tick d moment ∷ given) = (few_at k before d moment, few_after k (before ++ tick d moment ∷ []) given)
 
-pub few_turns : (k : ℕ) (given : List Given) → HaveFew (map tick_of (turns k given))
+pub few_turns : (k : ℕ) (given : List Given) → HearFew (turns k given)
 few_turns k given = few_after k [] given
+
+pub few_ticks : (rate : ℕ) (ts : List Turn) → HearFew ts → HaveFew (ticks_behind rate ts)
+few_ticks rate [] few = tt
+few_ticks rate (t ∷ ts) few = (few.0, few_ticks (tick_of rate t).rate ts few.1)

@@ -10,9 +10,9 @@ use Rattle.desk_rows.specs.Desk.{Desk}
 use Rattle.retransmit.specs.SentPacket.{SentPacket}
 use Rattle.topology.specs.declared.receivers.Receiver.{Receiver}
 use Rattle.topology.specs.Receivers.{receivers, receiver_on, receiver_at, AreDistinct}
-use Rattle.forward_rewrite.specs.Frame.{SourceFrame}
-use Rattle.forward_rewrite.specs.OwnStreams.{is_mine}
-use Rattle.intake.specs.Inputs.{Input}
+use Rattle.media_items.specs.Frame.{SourceFrame}
+use Rattle.media_items.specs.OwnStreams.{is_mine}
+use Rattle.media_items.specs.Inputs.{Input}
 use Rattle.feedback.specs.Upstream.{Asker}
 use Rattle.bridge_core.specs.Sent.{Sent, about}
 use Rattle.bridge_core.specs.Lanes.{Visit, routed_at, routed_to, packets, packets_at, packets_sent, goes, is_lanes, sent_of_input, sends_at}

@@ -9,11 +9,11 @@ use Rattle.retransmit.specs.declared.owner.Owner.{Owner}
 use Rattle.retransmit.specs.SentPacket.{SentPacket}
 use Rattle.topology.specs.declared.receivers.Receiver.{Receiver}
 use Rattle.topology.specs.Receivers.{receiver_at, AreDistinct}
-use Rattle.forward_rewrite.specs.declared.sending.Stamp.{Stamp}
-use Rattle.forward_rewrite.specs.Frame.{SourceFrame}
+use Rattle.media_items.specs.declared.stamp.Stamp.{Stamp}
+use Rattle.media_items.specs.Frame.{SourceFrame}
 use Rattle.forward_rewrite.specs.Sending.{sending_of, out_of, IsOf}
 use Rattle.forward_rewrite.specs.Streams.{StreamOf, committed}
-use Rattle.forward_rewrite.specs.OwnStreams.{is_mine}
+use Rattle.media_items.specs.OwnStreams.{is_mine}
 use Rattle.bridge_core.specs.Sent.{Sent}
 use Rattle.bridge_core.specs.Lanes.{owner_of, goes}
 use Rattle.bridge_core.specs.LaneState.{StreamList, stream_at}

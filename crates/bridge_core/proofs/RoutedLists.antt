@@ -7,11 +7,11 @@ use Rattle.std.proofs.lemmas.List.{drop_at, map_push, map-append}
 use Rattle.desk_rows.specs.Desk.{Desk, good}
 use Rattle.retransmit.specs.SentPacket.{SentPacket}
 use Rattle.retransmit.specs.Window.{AreInARow, GoOn}
-use Rattle.forward_rewrite.specs.Frame.{SourceFrame}
+use Rattle.media_items.specs.Frame.{SourceFrame}
 use Rattle.forward_rewrite.specs.Sending.{Sending}
 use Rattle.forward_rewrite.specs.RoutedList.{part_of, numbered, packets_of}
-use Rattle.forward_rewrite.specs.OwnStreams.{is_mine}
-use Rattle.intake.specs.Inputs.{Input}
+use Rattle.media_items.specs.OwnStreams.{is_mine}
+use Rattle.media_items.specs.Inputs.{Input}
 use Rattle.feedback.specs.Upstream.{Asker}
 use Rattle.bridge_core.specs.Sent.{Sent}
 use Rattle.bridge_core.specs.Lanes.{Visit, Routed, routed, routed_at, sendings, packets_sent, packets, packets_at, goes}

@@ -11,11 +11,11 @@ use Rattle.topology.specs.Looking.{member_from}
 use Rattle.topology.specs.Receivers.{slots_to}
 use Rattle.forward_rewrite.specs.declared.counts.Counts.{Counts}
 use Rattle.forward_rewrite.specs.Streams.{StreamOf}
-use Rattle.forward_rewrite.specs.OwnStreams.{is_mine}
+use Rattle.media_items.specs.OwnStreams.{is_mine}
 use Rattle.mixer.specs.Mixes.{turns, counts_of as mix_counts_of}
 use Rattle.feedback.specs.Upstream.{Asker}
 use Rattle.feedback.specs.PassedUp.{pli_up}
-use Rattle.intake.specs.Inputs.{Input, Told, Loss}
+use Rattle.media_items.specs.Inputs.{Input, Told, Loss}
 use Rattle.bridge_core.specs.Sent.{Sent, about}
 use Rattle.bridge_core.specs.Lanes.{Visit, given_of, routed, stream_of, video_counts, notes, passed_up, tells, reports_to, is_lanes}
 use Rattle.bridge_core.specs.Steps.{Step, visits, visit_after}

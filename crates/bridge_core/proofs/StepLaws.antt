@@ -5,12 +5,11 @@ use Rattle.std.proofs.lemmas.Bool.Decides.{nat_tests}
 use Rattle.std.proofs.lemmas.List.{length_push}
 use Rattle.desk_rows.specs.Desk.{Desk}
 use Rattle.mixer.specs.Mixers.{WasGiven}
-use Rattle.intake.specs.Inputs.{Input}
+use Rattle.media_items.specs.Inputs.{Input}
 use Rattle.feedback.specs.Upstream.{Asker}
 use Rattle.bridge_core.specs.Sent.{Sent}
 use Rattle.bridge_core.specs.Lanes.{Visit, given_of, sends_at}
 use Rattle.bridge_core.specs.LaneState.{LaneOf, visit_of, AreLeft, HasHandled, Handles}
-use Rattle.bridge_core.specs.inner.Parts.{PartsAnswer}
 use Rattle.bridge_core.specs.Sound.{HavePlaces, AreFresh}
 use Rattle.bridge_core.specs.Calls.{core_fault, most_lanes}
 use Rattle.intake.specs.Names.{is_name}
@@ -84,18 +83,25 @@ slice_get-set (z ∷ xs) (suc i) zero x y e = inr ((λ h. absurd (omega arith)),
 slice_get-set (z ∷ xs) (suc i) (suc j) x y e =
     elim (slice_get-set xs i j x y e) [ inl p ↦ inl (ap suc p.0, p.1) | inr p ↦ inr ((λ h. p.0 (omega arith)), p.1) ]
 
+-- Whatever items have left the old lane's parts, this is what it sends for one more, which leaves the new one's.
+abbrev pub LaneAnswers : LaneOf → LaneOf → Visit → List Sent → Type 0
+LaneAnswers old new visit sent =
+    (before : List Visit) → AreLeft old.lane old.lanes old.video before × WasGiven old.lane old.lanes old.audio (given_of before) →
+    (sent ≡ sends_at old.who old.lane old.lanes before visit)
+    × (AreLeft old.lane old.lanes new.video (before ++ visit ∷ []) × WasGiven old.lane old.lanes new.audio (given_of (before ++ visit ∷ [])))
+
 -- what the parts of a lane answer, a lane handles
-pub handles : (old new : LaneOf) (version : ℕ) (desk : Desk) (input : Input) (sent : List Sent) → PartsAnswer old new (visit_of version (old.handled + 1) desk input) sent
+pub handles : (old new : LaneOf) (version : ℕ) (desk : Desk) (input : Input) (sent : List Sent) → LaneAnswers old new (visit_of version (old.handled + 1) desk input) sent
     → new.lane ≡ old.lane → new.lanes ≡ old.lanes → new.handled ≡ old.handled + 1 → Handles old new version desk input sent
 handles old new version desk input sent does lane lanes handled before stands =
     let v = visit_of version (length before + 1) desk input in
     let same : visit_of version (old.handled + 1) desk input ≡ v = ap (λ n. visit_of version (n + 1) desk input) stands.handled in
-    let done = subst (λ (w : Visit). PartsAnswer old new w sent) same does before stands.video stands.audio in (
+    let done = subst (λ (w : Visit). LaneAnswers old new w sent) same does before (stands.video, stands.audio) in (
       done.0,
       record {
         handled = omega (arith, length_push before v, handled, stands.handled);
-        video = subst (λ l. AreLeft l new.lanes new.video (before ++ v ∷ [])) (sym lane) (subst (λ l. AreLeft old.lane l new.video (before ++ v ∷ [])) (sym lanes) done.1);
-        audio = subst (λ l. WasGiven l new.lanes new.audio (given_of (before ++ v ∷ []))) (sym lane) (subst (λ l. WasGiven old.lane l new.audio (given_of (before ++ v ∷ []))) (sym lanes) done.2);
+        video = subst (λ l. AreLeft l new.lanes new.video (before ++ v ∷ [])) (sym lane) (subst (λ l. AreLeft old.lane l new.video (before ++ v ∷ [])) (sym lanes) done.1.0);
+        audio = subst (λ l. WasGiven l new.lanes new.audio (given_of (before ++ v ∷ []))) (sym lane) (subst (λ l. WasGiven old.lane l new.audio (given_of (before ++ v ∷ []))) (sym lanes) done.1.1);
       },
     )
 

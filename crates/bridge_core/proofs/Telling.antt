@@ -21,12 +21,12 @@ use Rattle.forward_rewrite.specs.Timestamps.{stamped, last_of}
 use Rattle.forward_rewrite.specs.RoutedList.{Part, parts, numbered, packets_of}
 use Rattle.forward_rewrite.specs.Mixes.{mix_list, mix_counts}
 use Rattle.forward_rewrite.specs.laws.Laws.{IsFound, FindsEach, FindsOnlyWhatWasSent}
-use Rattle.forward_rewrite.specs.OwnStreams.{is_mine}
-use Rattle.mixer.specs.Mixes.{Hears, Turn, tick_of, turns, packets_of as mixes_of, counts_of as mix_counts_of, mixes}
+use Rattle.media_items.specs.OwnStreams.{is_mine}
+use Rattle.mixer.specs.Mixes.{Hears, Turn, ticks_of, turns, packets_of as mixes_of, counts_of as mix_counts_of, mixes}
 use Rattle.rtcp_codec.specs.Compound.{written}
 use Rattle.feedback.specs.Upstream.{Asker, upstream_packets}
 use Rattle.feedback.specs.PassedUp.{is_of_member_at, with_address, pli_up}
-use Rattle.intake.specs.Inputs.{Input, Told, Loss}
+use Rattle.media_items.specs.Inputs.{Input, Told, Loss}
 use Rattle.bridge_core.specs.Sent.{Sent}
 use Rattle.bridge_core.specs.Lanes.{Visit, Routed, given_of, routed, sendings, packets_sent, packets, stream_of, goes, notes, passed_up, video_counts, tells, sends_at}
 use Rattle.bridge_core.specs.Steps.{Step, visits, visit_after}
@@ -35,7 +35,7 @@ use Rattle.bridge_core.specs.Headline.{numbered_of}
 use Rattle.bridge_core.specs.Telling.{IsOwnStream, IsSenderReportOf, IsReached, IsNoteOf, IsPassedUpOf}
 use Rattle.bridge_core.specs.inner.Control.{own_tells, lanes_reports}
 use Rattle.bridge_core.proofs.Chosen.{all-append}
-use Rattle.bridge_core.proofs.Octets.{sizes, HaveFew, video_octets, mix_octets, few_turns}
+use Rattle.bridge_core.proofs.Octets.{sizes, HearFew, video_octets, mix_octets, few_turns, few_ticks}
 use Rattle.bridge_core.proofs.LedBack.{Contains-map, Contains-drop}
 use Rattle.bridge_core.proofs.Shares.{share_of_note, share_of_loss, share_of_reports}
 
@@ -68,19 +68,19 @@ video_counted k (r ∷ rs) counts e =
       octets = sym (ap (λ (c : Counts). c.octets) there.1) ∙ ap (λ n. n % 2 ^ 32) (sym (video_octets k r.slot.first_seq all));
     }
 
-mix_counted : (k : ℕ) (ts : List Turn) (counts : Counts) → HaveFew (map tick_of ts) → mix_counts_of k ts ≡ Some counts → Counted counts k (mixes_of k ts)
+mix_counted : (k : ℕ) (ts : List Turn) (counts : Counts) → HearFew ts → mix_counts_of k ts ≡ Some counts → Counted counts k (mixes_of k ts)
 mix_counted k [] counts few e = absurd (cc)
 mix_counted k (t ∷ ts) counts few e = by (mix_counted k ts counts few.1) t.heard e
   where
-    by : (mix_counts_of k ts ≡ Some counts → Counted counts k (mixes_of k ts)) → (o : Option Hears) → unwrap_or (option_map (λ h. mix_counts k h.member.first_seq h.member.first_ts (map tick_of (t ∷ ts))) o) (mix_counts_of k ts) ≡ Some counts
-        → Counted counts k (unwrap_or (option_map (λ h. mix_list k h.member.first_seq h.member.first_ts (map tick_of (t ∷ ts))) o) (mixes_of k ts))
+    by : (mix_counts_of k ts ≡ Some counts → Counted counts k (mixes_of k ts)) → (o : Option Hears) → unwrap_or (option_map (λ h. mix_counts k h.member.first_seq h.member.first_ts (ticks_of (t ∷ ts))) o) (mix_counts_of k ts) ≡ Some counts
+        → Counted counts k (unwrap_or (option_map (λ h. mix_list k h.member.first_seq h.member.first_ts (ticks_of (t ∷ ts))) o) (mixes_of k ts))
     by rest None e = rest e
     by rest (Some h) e =
         let there = mapped _ _ counts e in
         record {
           ssrc = sym (ap (λ (c : Counts). c.ssrc) there.1);
           packets = sym (ap (λ (c : Counts). c.packets) there.1);
-          octets = sym (ap (λ (c : Counts). c.octets) there.1) ∙ ap (λ n. n % 2 ^ 32) (sym (mix_octets k h.member.first_seq h.member.first_ts (map tick_of (t ∷ ts)) few));
+          octets = sym (ap (λ (c : Counts). c.octets) there.1) ∙ ap (λ n. n % 2 ^ 32) (sym (mix_octets k h.member.first_seq h.member.first_ts (ticks_of (t ∷ ts)) (few_ticks 0 (t ∷ ts) few)));
         }
 
 -- ---- sender reports

@@ -10,13 +10,13 @@ use Rattle.topology.specs.Looking.{comes_from, member_from}
 use Rattle.topology.specs.Choice.{choice}
 use Rattle.topology.specs.Receivers.{receiver_on}
 use Rattle.topology.specs.Mixes.{mix_member}
-use Rattle.forward_rewrite.specs.Frame.{SourceFrame}
+use Rattle.media_items.specs.Frame.{SourceFrame}
 use Rattle.forward_rewrite.specs.Sending.{Sending, Numbered}
 use Rattle.forward_rewrite.specs.Mixes.{Sound, mix_packet}
 use Rattle.forward_rewrite.specs.RoutedList.{part_of, numbered}
 use Rattle.mixer.specs.Hearing.{Given, voices_of, sound_for}
 use Rattle.mixer.specs.Mixes.{to_member}
-use Rattle.intake.specs.Inputs.{Request}
+use Rattle.media_items.specs.Inputs.{Request}
 use Rattle.bridge_core.specs.Sent.{Sent, MediaPacket}
 use Rattle.bridge_core.specs.Sent.Sent.{media, control, note}
 use Rattle.feedback.specs.Upstream.{Asker}

@@ -3,10 +3,10 @@ use Rattle.std.specs.Prelude.{◌≡◌, ℕ, ◌+◌, true, nat_eq, List, [], �
 use Rattle.std.specs.Map.{lookup}
 use Rattle.desk_rows.specs.Desk.{Desk}
 use Rattle.forward_rewrite.specs.Streams.{StreamOf}
-use Rattle.forward_rewrite.specs.OwnStreams.{is_mine}
+use Rattle.media_items.specs.OwnStreams.{is_mine}
 use Rattle.mixer.specs.Mixers.{MixerOf, WasGiven}
 use Rattle.feedback.specs.Upstream.{Asker}
-use Rattle.intake.specs.Inputs.{Input}
+use Rattle.media_items.specs.Inputs.{Input}
 use Rattle.bridge_core.specs.Sent.{Sent}
 use Rattle.bridge_core.specs.Lanes.{Visit, routed, stream_of, given_of, sends_at}
 

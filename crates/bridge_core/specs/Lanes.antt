@@ -10,15 +10,15 @@ use Rattle.retransmit.specs.SentPacket.{SentPacket}
 use Rattle.retransmit.specs.Window.{room, latest}
 use Rattle.topology.specs.declared.receivers.Receiver.{Receiver}
 use Rattle.topology.specs.Receivers.{receivers, receiver_on}
-use Rattle.forward_rewrite.specs.Frame.{SourceFrame}
+use Rattle.media_items.specs.Frame.{SourceFrame}
 use Rattle.forward_rewrite.specs.Sending.{Sending}
 use Rattle.forward_rewrite.specs.RoutedList.{packets_of}
 use Rattle.forward_rewrite.specs.Streams.{StreamOf, state_of}
 use Rattle.feedback.specs.Resends.{resends}
-use Rattle.forward_rewrite.specs.OwnStreams.{is_mine}
+use Rattle.media_items.specs.OwnStreams.{is_mine}
 use Rattle.mixer.specs.Hearing.{Given}
 use Rattle.mixer.specs.Mixes.{MixSent, sent_by}
-use Rattle.intake.specs.Inputs.{Input}
+use Rattle.media_items.specs.Inputs.{Input}
 use Rattle.rtp_codec.specs.declared.address.Address.{Address}
 use Rattle.rtcp_codec.specs.Compound.{written}
 use Rattle.desk_rows.specs.declared.row.Member.{Member as MemberRow}
@@ -31,8 +31,8 @@ use Rattle.feedback.specs.Upstream.{Asker, upstream_packets}
 use Rattle.feedback.specs.PassedUp.{pli_up}
 use Rattle.reports.specs.SenderReports.{sender_packets}
 use Rattle.reports.specs.LossNotes.{note_of}
-use Rattle.intake.specs.Inputs.{Told, Loss}
-use Rattle.intake.specs.Inputs.Input.{frame, audio, tick, nack, block, pli, report}
+use Rattle.media_items.specs.Inputs.{Told, Loss}
+use Rattle.media_items.specs.Inputs.Input.{frame, audio, tick, nack, block, pli, report}
 use Rattle.bridge_core.specs.Sent.{Sent, about}
 use Rattle.bridge_core.specs.Sent.Sent.{media, control, note}
 
@@ -116,7 +116,7 @@ goes ssrc resent_by p = media record {
 -- what an input gives the mixer: sound its samples, whatever the desk says, and a tick the desk of its version
 abbrev pub given_by : Desk → Input → Option Given
 given_by desk (frame f) = None
-given_by desk (audio sound) = Some (Given.put sound.source sound.address sound.ts sound.samples)
+given_by desk (audio sound) = Some (Given.put sound.source sound.address sound.rate sound.ts sound.samples)
 given_by desk (tick moment) = Some (Given.tick desk moment)
 given_by desk (nack request) = None
 given_by desk (block told) = None

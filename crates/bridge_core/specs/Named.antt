@@ -3,10 +3,10 @@
 use Rattle.std.specs.Prelude.{ℕ, Bool, true, false, if◌then◌else◌, nat_eq, List, [], filter}
 use Rattle.std.specs.List.{flat_map}
 use Rattle.desk_rows.specs.Desk.{Desk}
-use Rattle.intake.specs.Inputs.{Input}
+use Rattle.media_items.specs.Inputs.{Input}
 use Rattle.bridge_core.specs.Sent.{Sent, about}
 use Rattle.feedback.specs.Upstream.{Asker}
-use Rattle.intake.specs.Inputs.Input.{frame, audio, tick, nack, block, pli, report}
+use Rattle.media_items.specs.Inputs.Input.{frame, audio, tick, nack, block, pli, report}
 use Rattle.bridge_core.specs.Lanes.{sends_at}
 use Rattle.bridge_core.specs.Steps.{Step, along, visits, visit_after}
 

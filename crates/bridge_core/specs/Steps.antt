@@ -5,7 +5,7 @@ use Rattle.desk_rows.specs.Edit.{EditOf}
 use Rattle.desk_rows.specs.Desk.{Desk}
 use Rattle.desk_calls.specs.Desk.{DeskOf}
 use Rattle.feedback.specs.Upstream.{Asker}
-use Rattle.intake.specs.Inputs.{Input}
+use Rattle.media_items.specs.Inputs.{Input}
 use Rattle.intake.specs.inner.Holding.{IntakeOf}
 use Rattle.bridge_core.specs.Sent.{Sent}
 use Rattle.bridge_core.specs.Lanes.{Visit, sends_at}

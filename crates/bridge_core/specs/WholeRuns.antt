@@ -6,15 +6,15 @@ use Rattle.desk_rows.specs.Desk.{Desk}
 use Rattle.topology.specs.declared.receivers.Receiver.{Receiver}
 use Rattle.topology.specs.Receivers.{receiver_on}
 use Rattle.topology.specs.Mixes.{mix_member}
-use Rattle.forward_rewrite.specs.Frame.{SourceFrame}
+use Rattle.media_items.specs.Frame.{SourceFrame}
 use Rattle.forward_rewrite.specs.Mixes.{Sound}
-use Rattle.forward_rewrite.specs.OwnStreams.{is_mine}
+use Rattle.media_items.specs.OwnStreams.{is_mine}
 use Rattle.mixer.specs.Hearing.{voices_of, sound_for}
 use Rattle.mixer.specs.Mixes.{mixes}
 use Rattle.feedback.specs.Upstream.{Asker}
-use Rattle.intake.specs.Inputs.{Input, Told, Loss}
+use Rattle.media_items.specs.Inputs.{Input, Told, Loss}
 use Rattle.bridge_core.specs.Sent.{Sent}
-use Rattle.intake.specs.Inputs.Input.{frame, audio, tick, nack, block, pli, report}
+use Rattle.media_items.specs.Inputs.Input.{frame, audio, tick, nack, block, pli, report}
 use Rattle.topology.specs.Looking.{member_from}
 use Rattle.feedback.specs.PassedUp.{pli_up}
 use Rattle.bridge_core.specs.Lanes.{packets, goes, routed, routed_to, stream_of, given_of}

@@ -2,3 +2,4 @@ pub mod Readies
 pub mod VideoStreams
 pub mod Parts
 pub mod Control
+pub mod Visits

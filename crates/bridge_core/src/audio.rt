@@ -1,17 +1,17 @@
 //! A lane's sound: what goes into its mixer, and the packets of its mixes.
 
 ghost use Rattle.std.specs.Prelude.{◌≡◌, ◌+◌, ◌≤◌, ◌++◌, true, [], map, IfOk, OnOk, OnErr, vec_len, vec_capacity};
-ghost use Rattle.intake.specs.Inputs.{is_sized};
-ghost use Rattle.intake.specs.Inputs.Input.{audio as audio_input};
+ghost use Rattle.media_items.specs.Inputs.{is_sized};
+ghost use Rattle.media_items.specs.Inputs.Input.{audio as audio_input};
 ghost use Rattle.mixer.specs.Hearing.{Given};
 ghost use Rattle.mixer.specs.Mixers.{IsGiven};
 ghost use Rattle.bridge_core.specs.Sent.{sent_of};
 ghost use Rattle.bridge_core.specs.inner.Parts.{mix_to, TicksAs};
 
 use crate::egress::Egress;
-use desk_rows::Rows;
-use forward_rewrite::{LanePlace, Stamp};
-use mixer::{MixPacket, Mixer};
+use crate::visit::LaneVisit;
+use media_items::Stamp;
+use mixer::{MixPacket, Mixer, TimedSamples};
 use rtp_codec::Address;
 use std::alloc::{AllocError, Allocator};
 
@@ -21,16 +21,21 @@ pub fn put_sound<A: Allocator + Copy>(
     mixer: &mut Mixer<A>,
     source: u32,
     address: &Address,
-    ts: u32,
-    samples: &[i16],
+    block: TimedSamples<'_>,
 ) -> Result<Vec<Egress<A>, A>, AllocError>
-    requires sized { is_sized
-        (audio_input (record { source = source; address = address.now; ts = ts; samples = samples.now })) ≡ true }
-    ensures given { OnOk result (IsGiven mixer.old mixer.new (Given.put source address.now ts samples.now)) }
+    requires { is_sized (audio_input (record {
+      source = source;
+      address = address.now;
+      rate = block.rate;
+      ts = block.ts;
+      samples = block.samples.now;
+    })) ≡ true }
+    ensures given { OnOk result (IsGiven mixer.old mixer.new
+        (Given.put source address.now block.entry.rate block.entry.ts block.entry.samples.now)) }
     ensures nothing { IfOk result (λ sent. map sent_of sent.items ≡ []) }
     ensures err { OnErr result (mixer.new ≡ mixer.old) }
 {
-    mixer.put(alloc, source, address, ts, samples)?;
+    mixer.put(alloc, source, address, block)?;
     Ok(Vec::new(alloc))
 }
 
@@ -69,17 +74,16 @@ fn emit_mixes<A: Allocator + Copy>(
 pub fn send_mixes<A: Allocator + Copy>(
     alloc: A,
     mixer: &mut Mixer<A>,
-    place: &LanePlace,
-    stamp: Stamp,
-    rows: &Rows<A>,
+    visit: &LaneVisit<'_, A>,
     moment: u64,
 ) -> Result<Vec<Egress<A>, A>, AllocError>
-    ensures ticks { IfOk result (λ sent.
-        TicksAs place.now.lane place.now.lanes mixer.old mixer.new stamp rows.now moment (map sent_of sent.items)) }
+    ensures ticks { IfOk result
+        (λ sent. TicksAs visit.now mixer.old mixer.new moment (map sent_of sent.items)) }
     ensures err { OnErr result (mixer.new ≡ mixer.old) }
 {
+    let rows = visit.rows;
     let mut out = Vec::with_capacity(alloc, rows.members().len())?;
-    let mixes = mixer.tick(alloc, place, rows, moment)?;
-    emit_mixes(&mut out, stamp, mixes);
+    let mixes = mixer.tick(alloc, &visit.place, rows, moment)?;
+    emit_mixes(&mut out, visit.stamp, mixes);
     Ok(out)
 }

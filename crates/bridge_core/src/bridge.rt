@@ -5,7 +5,7 @@ ghost use Rattle.std.specs.Prelude.{map, length, None, Some, IfOk, IfErr, OnOk, 
 ghost use Rattle.desk_rows.specs.Desk.{blank, good};
 ghost use Rattle.desk_edit.specs.Asked.{asked_by};
 ghost use Rattle.desk_edit.specs.Calls.{CallHistory, no_calls};
-ghost use Rattle.intake.specs.Inputs.{input_of, is_sized};
+ghost use Rattle.media_items.specs.Inputs.{input_of, is_sized};
 ghost use Rattle.intake.specs.Sources.{no_sources};
 ghost use Rattle.intake.specs.Ingested.{ingested_of, datagram_of};
 ghost use Rattle.intake.specs.Names.{is_name};
@@ -23,7 +23,8 @@ use crate::reply::Reply;
 use desk_calls::Desk;
 use desk_edit::Call;
 use desk_rows::Rows;
-use intake::{Ingest, Intake, Item, Settings};
+use intake::{Ingest, Intake, Settings};
+use media_items::Item;
 use rtp_codec::Address;
 use std::alloc::{AllocError, Allocator, Global};
 use std::marker::Model;
@@ -135,8 +136,8 @@ impl<A: Allocator + Copy> Core<A> {
         }
     }
 
-    /// A lane handles an item under the desk of this version. Sound has 1 to 1,600 samples, as what the
-    /// intake gives has.
+    /// A lane handles an item under the desk of this version. Sound has 1 to 200 ms of samples at 8000 or 44100 Hz,
+    /// as what the intake gives has.
     pub fn item(
         &mut self,
         alloc: A,

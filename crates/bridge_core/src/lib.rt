@@ -22,9 +22,12 @@ mod egress;
 mod fault;
 mod lane;
 mod laws;
+mod parts;
+mod preparing;
 mod reply;
 mod reporting;
 mod video;
+mod visit;
 
 pub use self::bridge::Core;
 pub use self::egress::Egress;
@@ -38,8 +41,8 @@ pub use self::laws::{
     the_headline, undos_and_redos_are_accepted, undos_are_redone,
 };
 pub use self::reply::Reply;
-pub use forward_rewrite::MediaFrame;
 pub use frame_gate::{Frame, FrameFault, FramePacket};
-pub use intake::{Ingest, Intake, Item, Outcome, Settings};
+pub use intake::{Ingest, Intake, Outcome, Settings};
+pub use media_items::{Item, MediaFrame};
 pub use reports::LossNote;
 pub use retransmit::PacketBytes;

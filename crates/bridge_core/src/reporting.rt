@@ -2,30 +2,40 @@
 
 ghost use Rattle.std.specs.Prelude.{◌≡◌, ◌++◌, true, List, map, IfOk, OnOk};
 ghost use Rattle.std.specs.List.{flat_map};
-ghost use Rattle.desk_rows.specs.Desk.{Desk};
-ghost use Rattle.forward_rewrite.specs.OwnStreams.{is_mine};
-ghost use Rattle.intake.specs.Inputs.Input.{report as report_input};
+ghost use Rattle.intake.specs.Names.{is_name};
+ghost use Rattle.media_items.specs.OwnStreams.{is_mine};
 ghost use Rattle.bridge_core.specs.Sent.{sent_of};
 ghost use Rattle.bridge_core.specs.Lanes.{Visit, routed, video_counts, tells};
-ghost use Rattle.bridge_core.specs.LaneState.{visit_of};
-ghost use Rattle.bridge_core.specs.inner.Control.{LeftBy, lanes_reports, report_visit, mix_report};
+ghost use Rattle.bridge_core.specs.inner.Parts.{LeftBy};
+ghost use Rattle.bridge_core.specs.inner.Visits.{asker_of};
+ghost use Rattle.bridge_core.specs.inner.Control.{report_visit, mix_report};
 ghost use Rattle.bridge_core.specs.inner.Control.{slot_report, slot_reports, member_reports};
 
 use crate::egress::Egress;
-use crate::lane::LaneState;
-use desk_rows::{Member, Rows, Slot};
-use forward_rewrite::{Counts, Stamp};
+use crate::parts::LaneParts;
+use crate::visit::LaneVisit;
+use desk_rows::{Member, Slot};
+use forward_rewrite::Counts;
 use reports::sender_report;
-use std::alloc::{AllocError, Allocator};
+use std::alloc::{AllocError, Allocator, Global};
 use topology::slots_to;
 
-impl<A: Allocator + Copy> LaneState<A> {
+/// Sender reports that are due: of which parts, at which visit, and at which moment in nanoseconds since 1970.
+#[derive(Clone, Copy)]
+pub struct Reporting<'a, A: Allocator + Copy = Global> {
+    pub parts: &'a LaneParts<A>,
+    pub visit: LaneVisit<'a, A>,
+    pub moment: u64,
+}
+
+impl<A: Allocator + Copy> Reporting<'_, A> {
     /// What a report tells of a slot's stream, if it is the lane's and has begun.
     fn video_counts(&self, ssrc: u32) -> Option<Counts>
-        ensures { (before : List Visit) → is_mine self.now.lane self.now.lanes ssrc ≡ true → LeftBy self.now before
+        ensures { (before : List Visit) → is_mine self.now.visit.place.lane self.now.visit.place.lanes ssrc ≡ true
+            → LeftBy self.now.visit.place self.now.parts.now before
             → result ≡ video_counts ssrc (routed ssrc before) }
     {
-        match self.video.stream(ssrc) {
+        match self.parts.video.stream(ssrc) {
             Some(stream) => stream.counts(),
             None => None,
         }
@@ -36,25 +46,24 @@ impl<A: Allocator + Copy> LaneState<A> {
         &self,
         alloc: A,
         out: &mut Vec<Egress<A>, A>,
-        stamp: Stamp,
-        moment: u64,
         to: &Member,
         ssrc: u32,
         counts: Option<Counts>,
     ) -> Result<(), AllocError>
-        ensures { (d : Desk)
-            → OnOk result
+        requires { is_name self.now.visit.settings.now.cname ≡ true }
+        ensures { OnOk result
             (map sent_of out.new.items
             ≡ map sent_of out.old.items
-            ++ tells self.now.who (report_visit stamp d moment) moment to.now ssrc counts) }
+            ++ tells (asker_of self.now.visit) (report_visit self.now) self.now.moment to.now ssrc counts) }
     {
         let Some(counts) = counts else {
             return Ok(());
         };
-        let bytes = sender_report(alloc, &counts, moment, &self.settings.cname)?;
+        let settings = self.visit.settings;
+        let bytes = sender_report(alloc, &counts, self.moment, &settings.cname)?;
         out.push(Egress::Control {
-            version: stamp.version,
-            item: stamp.item,
+            version: self.visit.stamp.version,
+            item: self.visit.stamp.item,
             to: to.address,
             ssrc,
             bytes,
@@ -63,24 +72,17 @@ impl<A: Allocator + Copy> LaneState<A> {
     }
 
     /// Appends the sender report of a member's mix, if it is the lane's and has begun.
-    fn tell_mix(
-        &self,
-        alloc: A,
-        out: &mut Vec<Egress<A>, A>,
-        stamp: Stamp,
-        moment: u64,
-        to: &Member,
-    ) -> Result<(), AllocError>
-        ensures { (d : Desk) (before : List Visit) → LeftBy self.now before
+    fn tell_mix(&self, alloc: A, out: &mut Vec<Egress<A>, A>, to: &Member) -> Result<(), AllocError>
+        requires { is_name self.now.visit.settings.now.cname ≡ true }
+        ensures { (before : List Visit) → LeftBy self.now.visit.place self.now.parts.now before
             → OnOk result
-            (map sent_of out.new.items
-            ≡ map sent_of out.old.items ++ mix_report self.now stamp d moment before to.now) }
+            (map sent_of out.new.items ≡ map sent_of out.old.items ++ mix_report self.now before to.now) }
     {
         let ssrc = to.out_audio;
-        if !self.place.is_mine(ssrc) {
+        if !self.visit.place.is_mine(ssrc) {
             return Ok(());
         }
-        self.tell(alloc, out, stamp, moment, to, ssrc, self.audio.counts(ssrc))
+        self.tell(alloc, out, to, ssrc, self.parts.audio.counts(ssrc))
     }
 
     /// Appends the sender report of a slot's stream, if it is the lane's and has begun.
@@ -88,21 +90,19 @@ impl<A: Allocator + Copy> LaneState<A> {
         &self,
         alloc: A,
         out: &mut Vec<Egress<A>, A>,
-        stamp: Stamp,
-        moment: u64,
         to: &Member,
         slot: &Slot,
     ) -> Result<(), AllocError>
-        ensures { (d : Desk) (before : List Visit) → LeftBy self.now before
+        requires { is_name self.now.visit.settings.now.cname ≡ true }
+        ensures { (before : List Visit) → LeftBy self.now.visit.place self.now.parts.now before
             → OnOk result
-            (map sent_of out.new.items
-            ≡ map sent_of out.old.items ++ slot_report self.now stamp d moment before to.now slot.now) }
+            (map sent_of out.new.items ≡ map sent_of out.old.items ++ slot_report self.now before to.now slot.now) }
     {
         let ssrc = slot.out_ssrc;
-        if !self.place.is_mine(ssrc) {
+        if !self.visit.place.is_mine(ssrc) {
             return Ok(());
         }
-        self.tell(alloc, out, stamp, moment, to, ssrc, self.video_counts(ssrc))
+        self.tell(alloc, out, to, ssrc, self.video_counts(ssrc))
     }
 
     /// Appends the sender reports of slots' streams.
@@ -110,19 +110,16 @@ impl<A: Allocator + Copy> LaneState<A> {
         &self,
         alloc: A,
         out: &mut Vec<Egress<A>, A>,
-        stamp: Stamp,
-        moment: u64,
         to: &Member,
         slots: &[Slot],
     ) -> Result<(), AllocError>
-        ensures { (d : Desk) (before : List Visit) → LeftBy self.now before
+        requires { is_name self.now.visit.settings.now.cname ≡ true }
+        ensures { (before : List Visit) → LeftBy self.now.visit.place self.now.parts.now before
             → OnOk result
-            (map sent_of out.new.items
-            ≡ map sent_of out.old.items
-            ++ slot_reports self.now stamp d moment before to.now slots.now) }
+            (map sent_of out.new.items ≡ map sent_of out.old.items ++ slot_reports self.now before to.now slots.now) }
     {
         for slot in slots {
-            self.tell_slot(alloc, out, stamp, moment, to, slot)?;
+            self.tell_slot(alloc, out, to, slot)?;
         }
         Ok(())
     }
@@ -132,42 +129,30 @@ impl<A: Allocator + Copy> LaneState<A> {
         &self,
         alloc: A,
         out: &mut Vec<Egress<A>, A>,
-        stamp: Stamp,
-        moment: u64,
-        rows: &Rows<A>,
         to: &Member,
     ) -> Result<(), AllocError>
-        ensures { (before : List Visit) → LeftBy self.now before
+        requires { is_name self.now.visit.settings.now.cname ≡ true }
+        ensures { (before : List Visit) → LeftBy self.now.visit.place self.now.parts.now before
             → OnOk result
-            (map sent_of out.new.items
-            ≡ map sent_of out.old.items
-            ++ member_reports self.now stamp rows.now moment before to.now) }
+            (map sent_of out.new.items ≡ map sent_of out.old.items ++ member_reports self.now before to.now) }
     {
-        self.tell_mix(alloc, out, stamp, moment, to)?;
-        let slots = slots_to(rows, to.member);
-        self.tell_slots(alloc, out, stamp, moment, to, slots)
+        self.tell_mix(alloc, out, to)?;
+        let slots = slots_to(self.visit.rows, to.member);
+        self.tell_slots(alloc, out, to, slots)
     }
 
-    /// The sender reports of the lane's streams that have begun, at a moment in nanoseconds since 1970: to each member,
-    /// by place, that of its mix and then those of its slots' streams by index (RFC 3550 section 6.4.1).
-    pub(crate) fn report(
-        &self,
-        alloc: A,
-        stamp: Stamp,
-        rows: &Rows<A>,
-        moment: u64,
-    ) -> Result<Vec<Egress<A>, A>, AllocError>
-        ensures { (before : List Visit) → LeftBy self.now before
+    /// The sender reports of the lane's streams that have begun: to each member, by place, that of its mix and then
+    /// those of its slots' streams by index (RFC 3550 section 6.4.1).
+    pub fn all(&self, alloc: A) -> Result<Vec<Egress<A>, A>, AllocError>
+        requires { is_name self.now.visit.settings.now.cname ≡ true }
+        ensures { (before : List Visit) → LeftBy self.now.visit.place self.now.parts.now before
             → IfOk result (λ sent.
-            map sent_of sent.items
-            ≡ flat_map
-            (lanes_reports self.now.who self.now.lane self.now.lanes before
-            (visit_of stamp.version stamp.item rows.now (report_input moment)) moment)
-            rows.now.members) }
+            map sent_of sent.items ≡ flat_map (member_reports self.now before) self.now.visit.rows.now.members) }
     {
         let mut out = Vec::new(alloc);
+        let rows = self.visit.rows;
         for member in rows.members() {
-            self.tell_member(alloc, &mut out, stamp, moment, rows, member)?;
+            self.tell_member(alloc, &mut out, member)?;
         }
         Ok(out)
     }

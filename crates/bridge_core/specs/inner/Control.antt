@@ -3,23 +3,16 @@ use Rattle.std.specs.Prelude.{ℕ, if◌then◌else◌, List, [], ◌++◌, Opti
 use Rattle.std.specs.List.{flat_map}
 use Rattle.desk_rows.specs.declared.row.Member.{Member as MemberRow}
 use Rattle.desk_rows.specs.declared.row.Slot.{Slot as SlotRow}
-use Rattle.desk_rows.specs.Desk.{Desk}
-use Rattle.forward_rewrite.specs.declared.sending.Stamp.{Stamp}
 use Rattle.forward_rewrite.specs.declared.counts.Counts.{Counts}
 use Rattle.topology.specs.Receivers.{slots_to}
-use Rattle.forward_rewrite.specs.OwnStreams.{is_mine}
+use Rattle.media_items.specs.OwnStreams.{is_mine}
 use Rattle.mixer.specs.Mixes.{turns, counts_of as mix_counts_of}
-use Rattle.mixer.specs.Mixers.{WasGiven}
 use Rattle.feedback.specs.Upstream.{Asker}
-use Rattle.intake.specs.Inputs.{Input}
+use Rattle.media_items.specs.Inputs.{Input}
 use Rattle.bridge_core.specs.Sent.{Sent}
 use Rattle.bridge_core.specs.Lanes.{Visit, given_of, routed, video_counts, tells}
-use Rattle.bridge_core.specs.LaneState.{LaneOf, AreLeft, visit_of}
-
--- These items have left the lane's parts.
-abbrev pub LeftBy : LaneOf → List Visit → Type 0
-LeftBy lane before =
-    AreLeft lane.lane lane.lanes lane.video before × WasGiven lane.lane lane.lanes lane.audio (given_of before)
+use Rattle.bridge_core.specs.declared.reporting.Reporting.{Reporting}
+use Rattle.bridge_core.specs.inner.Visits.{visit_on, asker_of}
 
 -- a stream's sender report, where the stream is the lane's
 abbrev pub own_tells : Asker → (lane lanes : ℕ) → Visit → (moment : ℕ) → MemberRow → (ssrc : ℕ) → Option Counts
@@ -38,29 +31,27 @@ lanes_reports who lane lanes before visit moment m =
     (slots_to visit.desk m.member)
 
 -- the visit of a report
-abbrev pub report_visit : Stamp → Desk → (moment : ℕ) → Visit
-report_visit stamp d moment = visit_of stamp.version stamp.item d (Input.report moment)
+abbrev pub report_visit : {A : Type 0} → Reporting A → Visit
+report_visit due = visit_on due.visit (Input.report due.moment)
 
 -- the sender report of a stream of the lane, to a member
-abbrev pub own_report : LaneOf → Stamp → Desk → (moment : ℕ) → MemberRow → (ssrc : ℕ) → Option Counts → List Sent
-own_report lane stamp d moment m ssrc counts =
-    own_tells lane.who lane.lane lane.lanes (report_visit stamp d moment) moment m ssrc counts
+abbrev pub own_report : {A : Type 0} → Reporting A → MemberRow → (ssrc : ℕ) → Option Counts → List Sent
+own_report due m ssrc counts =
+    own_tells (asker_of due.visit) due.visit.place.lane due.visit.place.lanes (report_visit due) due.moment m ssrc counts
 
 -- that of a member's mix, after these items
-abbrev pub mix_report : LaneOf → Stamp → Desk → (moment : ℕ) → List Visit → MemberRow → List Sent
-mix_report lane stamp d moment before m =
-    own_report lane stamp d moment m m.out_audio (mix_counts_of m.out_audio (turns m.out_audio (given_of before)))
+abbrev pub mix_report : {A : Type 0} → Reporting A → List Visit → MemberRow → List Sent
+mix_report due before m = own_report due m m.out_audio (mix_counts_of m.out_audio (turns m.out_audio (given_of before)))
 
 -- that of a slot's stream
-abbrev pub slot_report : LaneOf → Stamp → Desk → (moment : ℕ) → List Visit → MemberRow → SlotRow → List Sent
-slot_report lane stamp d moment before m s =
-    own_report lane stamp d moment m s.out_ssrc (video_counts s.out_ssrc (routed s.out_ssrc before))
+abbrev pub slot_report : {A : Type 0} → Reporting A → List Visit → MemberRow → SlotRow → List Sent
+slot_report due before m s = own_report due m s.out_ssrc (video_counts s.out_ssrc (routed s.out_ssrc before))
 
 -- those of all these slots' streams
-abbrev pub slot_reports : LaneOf → Stamp → Desk → (moment : ℕ) → List Visit → MemberRow → List SlotRow → List Sent
-slot_reports lane stamp d moment before m slots = flat_map (slot_report lane stamp d moment before m) slots
+abbrev pub slot_reports : {A : Type 0} → Reporting A → List Visit → MemberRow → List SlotRow → List Sent
+slot_reports due before m slots = flat_map (slot_report due before m) slots
 
 -- all that go to a member
-abbrev pub member_reports : LaneOf → Stamp → Desk → (moment : ℕ) → List Visit → MemberRow → List Sent
-member_reports lane stamp d moment before m =
-    lanes_reports lane.who lane.lane lane.lanes before (report_visit stamp d moment) moment m
+abbrev pub member_reports : {A : Type 0} → Reporting A → List Visit → MemberRow → List Sent
+member_reports due before m =
+    lanes_reports (asker_of due.visit) due.visit.place.lane due.visit.place.lanes before (report_visit due) due.moment m

@@ -4,8 +4,8 @@ use Rattle.std.specs.Prelude.{length, map, Option, None, Some, unwrap_or, sum_by
 use Rattle.std.specs.List.{flat_map, AllByRecursion}
 use Rattle.desk_rows.specs.declared.row.Slot.{Slot as SlotRow}
 use Rattle.topology.specs.declared.receivers.Receiver.{Receiver}
-use Rattle.forward_rewrite.specs.declared.sending.Stamp.{Stamp}
-use Rattle.forward_rewrite.specs.Frame.{SourceFrame}
+use Rattle.media_items.specs.declared.stamp.Stamp.{Stamp}
+use Rattle.media_items.specs.Frame.{SourceFrame}
 use Rattle.forward_rewrite.specs.Sending.{Numbered, sending_of, IsOf}
 use Rattle.forward_rewrite.specs.Streams.{StreamOf, PreparedOf, state_of, committed, SendsNext}
 use Rattle.bridge_core.specs.Sent.{Sent}

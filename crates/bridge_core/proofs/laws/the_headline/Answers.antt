@@ -1,6 +1,6 @@
 use Rattle.std.proofs.Common.{[], ◌∷◌, length, refl, subst}
 use Rattle.desk_edit.specs.Calls.{no_calls}
-use Rattle.intake.specs.Inputs.{Input}
+use Rattle.media_items.specs.Inputs.{Input}
 use Rattle.bridge_core.specs.Steps.{Step}
 use Rattle.bridge_core.specs.Headline.{AreGood}
 use Rattle.bridge_core.specs.Events.{steps_of}
