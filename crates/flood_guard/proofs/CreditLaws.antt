@@ -5,9 +5,12 @@ use Rattle.std.specs.Prelude.{not}
 use Rattle.rtp_codec.specs.declared.address.Address.{Address}
 use Rattle.rtp_codec.specs.Address.{same_address}
 use Rattle.flood_guard.specs.declared.account.Account.{Account}
+use Rattle.flood_guard.specs.declared.quota.Quota.{Quota}
+use Rattle.flood_guard.specs.declared.quota.Quota.TheVariants.{Numbers, Items}
 use Rattle.flood_guard.specs.Accounts.{account_at, account_of, or_opened, used, earned, paid, counted, window_of}
 use Rattle.flood_guard.specs.Steps.{Step, earn, spend, ask, pays, may_spend, may_ask, after, octets_from, octets_to, enters, all_from, all_to, entries}
 use Rattle.flood_guard.proofs.PlaceLemmas.{same_address_is, same_itself}
+use Rattle.flood_guard.proofs.AskLaws.{address_counted}
 use Rattle.flood_guard.proofs.Turns.{address_of, own, IsKept, others}
 
 abbrev pub credit_in : Option Account → ℕ
@@ -38,9 +41,13 @@ pays_for : (address : Address) (octets : ℕ) (old : Option Account) → pays oc
 pays_for address octets None h = cc
 pays_for address octets (Some a) h = grind (arith, h)
 
-asks : (address : Address) (window granted : ℕ) (old : Option Account) → IsBounded 0 0 old (Some (counted window granted (or_opened address old)))
-asks address window granted None = omega arith
-asks address window granted (Some a) = omega arith
+credit_counted : (k : Quota) (window granted : ℕ) (a : Account) → (counted window k granted a).credit ≡ a.credit
+credit_counted Numbers window granted a = refl
+credit_counted Items window granted a = refl
+
+asks : (address : Address) (window : ℕ) (k : Quota) (granted : ℕ) (old : Option Account) → IsBounded 0 0 old (Some (counted window k granted (or_opened address old)))
+asks address window k granted None = omega (arith, credit_counted k window granted (or_opened address None))
+asks address window k granted (Some a) = omega (arith, credit_counted k window granted a)
 
 own_at : (address : Address) (x : Account) (accounts : List Account) → x.address ≡ address → account_at address (used x accounts) ≡ Some x
 own_at address x accounts e = own x address accounts (ap (λ (a : Address). same_address a address) e ∙ same_itself address)
@@ -63,12 +70,19 @@ step address (spend to octets) accounts = (elim (may_spend to octets accounts) a
     | false ↦ same 0 (account_at address accounts)
   ])
 ]) refl
-step address (ask from moment count) accounts =
+step address (ask from moment k count) accounts =
     let w = window_of moment in
-    (elim (same_address from address) as (λ y. same_address from address ≡ y → IsBounded 0 0 (account_at address accounts) (account_at address (after (ask from moment count) accounts))) [
-      | true ↦ λ t. subst (λ (f : Address). IsBounded 0 0 (account_at address accounts) (account_at address (after (ask f moment count) accounts))) (sym (same_address_is from address t))
-          (subst (IsBounded 0 0 (account_at address accounts)) (sym (own_at address (counted w (may_ask address moment count accounts) (account_of address accounts)) accounts (address_of address accounts))) (asks address w (may_ask address moment count accounts) (account_at address accounts)))
-      | false ↦ λ t. kept 0 (account_at address accounts) (account_at address (after (ask from moment count) accounts)) (others (counted w (may_ask from moment count accounts) (account_of from accounts)) address accounts (ap (λ (a : Address). same_address a address) (address_of from accounts) ∙ t))
+    (elim (same_address from address) as (λ y. same_address from address ≡ y → IsBounded 0 0 (account_at address accounts) (account_at address (after (ask from moment k count) accounts))) [
+      | true ↦ λ t.
+          let g = may_ask address moment k count accounts in
+          let x = counted w k g (account_of address accounts) in
+          subst (λ (f : Address). IsBounded 0 0 (account_at address accounts) (account_at address (after (ask f moment k count) accounts))) (sym (same_address_is from address t))
+          (subst (IsBounded 0 0 (account_at address accounts)) (sym (own_at address x accounts (address_counted k w g (account_of address accounts) ∙ address_of address accounts))) (asks address w k g (account_at address accounts)))
+      | false ↦ λ t.
+          let g = may_ask from moment k count accounts in
+          let x = counted w k g (account_of from accounts) in
+          kept 0 (account_at address accounts) (account_at address (used x accounts))
+          (others x address accounts (ap (λ (a : Address). same_address a address) (address_counted k w g (account_of from accounts) ∙ address_of from accounts) ∙ t))
     ]) refl
 
 pub run : (address : Address) (ss : List Step) (accounts : List Account) → all_to address ss accounts * 2 ≤ all_from address ss * 3 + entries address ss accounts * 256 * 2 + credit_in (account_at address accounts) * 2

@@ -1,8 +1,10 @@
--- What an address may be sent, and what it may ask for again (own).
+-- What an address may be sent, and what it may ask for and report (own).
 use Rattle.std.specs.Prelude.{ℕ, ◌+◌, ◌-◌, ◌*◌, ◌/◌, min, nat_eq, if◌then◌else◌, List, [], ◌∷◌, take, Option, None, Some}
 use Rattle.rtp_codec.specs.declared.address.Address.{Address}
 use Rattle.rtp_codec.specs.Address.{same_address}
 use Rattle.flood_guard.specs.declared.account.Account.{Account}
+use Rattle.flood_guard.specs.declared.quota.Quota.{Quota}
+use Rattle.flood_guard.specs.declared.quota.Quota.TheVariants.{Numbers, Items}
 
 -- so many addresses have an account at most
 abbrev pub most_addresses : ℕ
@@ -16,9 +18,10 @@ new_credit = 256
 abbrev pub most_credit : ℕ
 most_credit = 65536
 
--- so many numbers of an address are looked at in a window at most
-abbrev pub most_asked : ℕ
-most_asked = 512
+-- so much of a quota is granted to an address in a window at most: numbers that are asked for again; report blocks and PLIs
+abbrev pub most_of : Quota → ℕ
+most_of Numbers = 512
+most_of Items = 64
 
 -- the number of the window that a moment lies in: each has 20 ms, in nanoseconds
 abbrev pub window_of : ℕ → ℕ
@@ -26,7 +29,7 @@ window_of moment = moment / 20000000
 
 -- the account of a new address
 abbrev pub opened : Address → Account
-opened address = record { address = address; credit = new_credit; window = 0; asked = 0 }
+opened address = record { address = address; credit = new_credit; window = 0; numbers = 0; items = 0 }
 
 -- an account, or a new one where there is none
 abbrev pub or_opened : Address → Option Account → Account
@@ -53,20 +56,28 @@ used a accounts = a ∷ take (most_addresses - 1) (without a.address accounts)
 
 -- a datagram of so many octets came: 1.5 octets of credit for each, up to the most credit
 abbrev pub earned : ℕ → Account → Account
-earned octets a = record { address = a.address; credit = min (a.credit + octets * 3 / 2) most_credit; window = a.window; asked = a.asked }
+earned octets a = record { address = a.address; credit = min (a.credit + octets * 3 / 2) most_credit; window = a.window; numbers = a.numbers; items = a.items }
 
 -- so many octets were sent
 abbrev pub paid : ℕ → Account → Account
-paid octets a = record { address = a.address; credit = a.credit - octets; window = a.window; asked = a.asked }
+paid octets a = record { address = a.address; credit = a.credit - octets; window = a.window; numbers = a.numbers; items = a.items }
 
--- how many numbers were granted in a window
-abbrev pub asked_in : ℕ → Account → ℕ
-asked_in window a = if nat_eq a.window window then a.asked else 0
+-- how much of a quota was granted in the account's last window
+abbrev pub asked_of : Quota → Account → ℕ
+asked_of Numbers a = a.numbers
+asked_of Items a = a.items
 
--- how many numbers may still be granted in a window
-abbrev pub left_in : ℕ → Account → ℕ
-left_in window a = most_asked - asked_in window a
+-- how much of a quota was granted in a window
+abbrev pub asked_in : ℕ → Quota → Account → ℕ
+asked_in window quota a = if nat_eq a.window window then asked_of quota a else 0
 
--- so many numbers were granted in a window
-abbrev pub counted : ℕ → ℕ → Account → Account
-counted window granted a = record { address = a.address; credit = a.credit; window = window; asked = asked_in window a + granted }
+-- how much of a quota may still be granted in a window
+abbrev pub left_in : ℕ → Quota → Account → ℕ
+left_in window quota a = most_of quota - asked_in window quota a
+
+-- so much of a quota was granted in a window
+abbrev pub counted : ℕ → Quota → ℕ → Account → Account
+counted window Numbers granted a =
+    record { address = a.address; credit = a.credit; window = window; numbers = asked_in window Numbers a + granted; items = asked_in window Items a }
+counted window Items granted a =
+    record { address = a.address; credit = a.credit; window = window; numbers = asked_in window Numbers a; items = asked_in window Items a + granted }

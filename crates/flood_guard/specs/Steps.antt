@@ -4,13 +4,15 @@ use Rattle.std.specs.Option.{is_some}
 use Rattle.rtp_codec.specs.declared.address.Address.{Address}
 use Rattle.rtp_codec.specs.Address.{same_address}
 use Rattle.flood_guard.specs.declared.account.Account.{Account}
+use Rattle.flood_guard.specs.declared.quota.Quota.{Quota}
+use Rattle.flood_guard.specs.declared.quota.Quota.TheVariants.{Numbers, Items}
 use Rattle.flood_guard.specs.Accounts.{account_at, account_of, used, earned, paid, counted, left_in, window_of}
 
--- a datagram of so many octets came from an address; so many octets are to go up to it; it asks again for so many numbers
+-- a datagram of so many octets came from an address; so many octets are to go up to it; it asks for so much of a quota
 pub data Step : Type 0 where
   earn : (from : Address) → (octets : ℕ) → Step
   spend : (to : Address) → (octets : ℕ) → Step
-  ask : (from : Address) → (moment : ℕ) → (count : ℕ) → Step
+  ask : (from : Address) → (moment : ℕ) → (quota : Quota) → (count : ℕ) → Step
 
 -- whether an account pays for so many octets
 abbrev pub pays : ℕ → Option Account → Bool
@@ -21,33 +23,41 @@ pays octets (Some a) = nat_le octets a.credit
 abbrev pub may_spend : Address → ℕ → List Account → Bool
 may_spend to octets accounts = pays octets (account_at to accounts)
 
--- how many of the numbers that an address asks for again may be looked at
-abbrev pub may_ask : Address → ℕ → ℕ → List Account → ℕ
-may_ask from moment count accounts = min count (left_in (window_of moment) (account_of from accounts))
+-- how much of what an address asks for is granted
+abbrev pub may_ask : Address → ℕ → Quota → ℕ → List Account → ℕ
+may_ask from moment quota count accounts = min count (left_in (window_of moment) quota (account_of from accounts))
 
 -- the accounts after a step
 abbrev pub after : Step → List Account → List Account
 after (earn from octets) accounts = used (earned octets (account_of from accounts)) accounts
 after (spend to octets) accounts = if may_spend to octets accounts then used (paid octets (account_of to accounts)) accounts else accounts
-after (ask from moment count) accounts = used (counted (window_of moment) (may_ask from moment count accounts) (account_of from accounts)) accounts
+after (ask from moment quota count) accounts = used (counted (window_of moment) quota (may_ask from moment quota count accounts) (account_of from accounts)) accounts
 
 -- the octets that came from an address in a step
 abbrev pub octets_from : Address → Step → ℕ
 octets_from address (earn from octets) = if same_address from address then octets else 0
 octets_from address (spend to octets) = 0
-octets_from address (ask from moment count) = 0
+octets_from address (ask from moment quota count) = 0
 
 -- the octets that a step grants to an address
 abbrev pub octets_to : Address → Step → List Account → ℕ
 octets_to address (earn from octets) accounts = 0
 octets_to address (spend to octets) accounts = if same_address to address && may_spend to octets accounts then octets else 0
-octets_to address (ask from moment count) accounts = 0
+octets_to address (ask from moment quota count) accounts = 0
 
--- the numbers that a step grants to an address in a window
-abbrev pub numbers_to : Address → ℕ → Step → List Account → ℕ
-numbers_to address window (earn from octets) accounts = 0
-numbers_to address window (spend to octets) accounts = 0
-numbers_to address window (ask from moment count) accounts = if same_address from address && nat_eq (window_of moment) window then may_ask from moment count accounts else 0
+-- as much of a quota as this is, if it is so much of another
+abbrev pub part_of : Quota → Quota → ℕ → ℕ
+part_of Numbers Numbers count = count
+part_of Numbers Items count = 0
+part_of Items Numbers count = 0
+part_of Items Items count = count
+
+-- how much of a quota a step grants to an address in a window
+abbrev pub asked_by : Address → Quota → ℕ → Step → List Account → ℕ
+asked_by address quota window (earn from octets) accounts = 0
+asked_by address quota window (spend to octets) accounts = 0
+asked_by address quota window (ask from moment asked count) accounts =
+    if same_address from address && nat_eq (window_of moment) window then part_of quota asked (may_ask from moment asked count accounts) else 0
 
 -- 1 where a step enters an address anew, else 0
 abbrev pub enters : Address → Step → List Account → ℕ
@@ -63,10 +73,10 @@ abbrev pub all_to : Address → List Step → List Account → ℕ
 all_to address [] accounts = 0
 all_to address (s ∷ ss) accounts = octets_to address s accounts + all_to address ss (after s accounts)
 
--- the numbers that were granted to an address in a window
-abbrev pub all_numbers : Address → ℕ → List Step → List Account → ℕ
-all_numbers address window [] accounts = 0
-all_numbers address window (s ∷ ss) accounts = numbers_to address window s accounts + all_numbers address window ss (after s accounts)
+-- how much of a quota was granted to an address in a window
+abbrev pub all_asked : Address → Quota → ℕ → List Step → List Account → ℕ
+all_asked address quota window [] accounts = 0
+all_asked address quota window (s ∷ ss) accounts = asked_by address quota window s accounts + all_asked address quota window ss (after s accounts)
 
 -- how many times an address was entered anew
 abbrev pub entries : Address → List Step → List Account → ℕ
@@ -78,4 +88,4 @@ abbrev pub AreInOrder : ℕ → List Step → Type 0
 AreInOrder moment [] = Unit {0}
 AreInOrder moment (earn from octets ∷ ss) = AreInOrder moment ss
 AreInOrder moment (spend to octets ∷ ss) = AreInOrder moment ss
-AreInOrder moment (ask from next count ∷ ss) = (moment ≤ next) × AreInOrder next ss
+AreInOrder moment (ask from next quota count ∷ ss) = (moment ≤ next) × AreInOrder next ss

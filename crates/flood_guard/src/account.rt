@@ -1,16 +1,15 @@
 //! The account of an address.
 
 ghost use Rattle.std.specs.Prelude.{◌≡◌, ◌≤◌};
-ghost use Rattle.flood_guard.specs.Accounts.{opened, earned, paid, counted, left_in, window_of};
+ghost use Rattle.flood_guard.specs.Accounts.{opened, earned, paid, counted, asked_in, left_in, window_of};
 
+use crate::quota::Quota;
 use rtp_codec::Address;
 
 /// The credit of a new address, in octets.
 const NEW_CREDIT: u64 = 256;
 /// The most credit, in octets.
 const MOST_CREDIT: u64 = 65_536;
-/// The most numbers that are looked at for one address in a window.
-const MOST_ASKED: u64 = 512;
 /// The length of a window, in nanoseconds.
 const WINDOW: u64 = 20_000_000;
 
@@ -23,8 +22,10 @@ pub(crate) struct Account {
     pub(crate) credit: u64,
     /// The number of the last window in which it asked. Window 0 begins in 1970, and each has 20 ms.
     pub(crate) window: u64,
-    /// How many of the numbers that it asked for in that window were granted, 0 to 512.
-    pub(crate) asked: u64,
+    /// How many numbers it was granted in that window, 0 to 512.
+    pub(crate) numbers: u64,
+    /// How many items it was granted in that window, 0 to 64.
+    pub(crate) items: u64,
 }
 
 /// The number of the window that a moment lies in. The moment is in nanoseconds since 1970.
@@ -43,7 +44,8 @@ impl Account {
             address: *address,
             credit: NEW_CREDIT,
             window: 0,
-            asked: 0,
+            numbers: 0,
+            items: 0,
         }
     }
 
@@ -68,27 +70,46 @@ impl Account {
         }
     }
 
-    /// How many numbers may still be looked at in a window.
-    pub(crate) fn left_in(&self, window: u64) -> u64
-        ensures { result ≡ left_in window self.now }
+    /// How much of a quota was granted in a window.
+    fn asked_in(&self, window: u64, quota: Quota) -> u64
+        ensures { result ≡ asked_in window quota self.now }
     {
-        if self.window == window {
-            MOST_ASKED.saturating_sub(self.asked)
-        } else {
-            MOST_ASKED
+        if self.window != window {
+            return 0;
+        }
+        match quota {
+            Quota::Numbers => self.numbers,
+            Quota::Items => self.items,
         }
     }
 
-    /// The account after so many numbers were granted in a window.
-    pub(crate) fn counted(self, window: u64, granted: u64) -> Self
-        requires { granted ≤ left_in window self }
-        ensures { result ≡ counted window granted self }
+    /// How much of a quota may still be granted in a window.
+    pub(crate) fn left_in(&self, window: u64, quota: Quota) -> u64
+        ensures { result ≡ left_in window quota self.now }
     {
-        let before = if self.window == window { self.asked } else { 0 };
-        Self {
-            window,
-            asked: before + granted,
-            ..self
+        quota.most().saturating_sub(self.asked_in(window, quota))
+    }
+
+    /// The account after so much of a quota was granted in a window.
+    pub(crate) fn counted(self, window: u64, quota: Quota, granted: u64) -> Self
+        requires { granted ≤ left_in window quota self }
+        ensures { result ≡ counted window quota granted self }
+    {
+        let numbers = self.asked_in(window, Quota::Numbers);
+        let items = self.asked_in(window, Quota::Items);
+        match quota {
+            Quota::Numbers => Self {
+                window,
+                numbers: numbers + granted,
+                items,
+                ..self
+            },
+            Quota::Items => Self {
+                window,
+                numbers,
+                items: items + granted,
+                ..self
+            },
         }
     }
 }

@@ -7,6 +7,7 @@ ghost use Rattle.flood_guard.specs.Steps.{after, earn, spend, ask, may_spend, ma
 ghost use Rattle.flood_guard.specs.inner.Places.{place_of};
 
 use crate::account::{Account, window_of};
+use crate::quota::Quota;
 use rtp_codec::Address;
 use std::alloc::{AllocError, Allocator, Global};
 use std::marker::Model;
@@ -158,18 +159,23 @@ impl<A: Allocator + Copy> FloodGuard<A> {
         true
     }
 
-    /// How many of the numbers that an address asks for again may be looked at: at most 512 in a window of 20 ms.
+    /// How much of what an address asks for is granted: so much, as long as its quota lasts. A quota is 512 numbers, or
+    /// 64 report blocks and PLIs, in a window of 20 ms.
     ///
     /// The moment is in nanoseconds since 1970. A new address is entered.
-    pub fn ask(&mut self, from: &Address, moment: u64, count: u64) -> u64
-        ensures answer { result ≡ may_ask from.now moment count self.old }
-        ensures after { self.new ≡ after (ask from.now moment count) self.old }
+    pub fn ask(&mut self, from: &Address, moment: u64, quota: Quota, count: u64) -> u64
+        ensures answer { result ≡ may_ask from.now moment quota count self.old }
+        ensures after { self.new ≡ after (ask from.now moment quota count) self.old }
     {
         let place = place_of(from, &self.accounts);
         let account = found(&self.accounts, place, from);
         let window = window_of(moment);
-        let granted = count.min(account.left_in(window));
-        keep(&mut self.accounts, place, account.counted(window, granted));
+        let granted = count.min(account.left_in(window, quota));
+        keep(
+            &mut self.accounts,
+            place,
+            account.counted(window, quota, granted),
+        );
         granted
     }
 }

@@ -2,8 +2,9 @@
 
 ghost use Rattle.std.specs.Prelude.{◌≤◌, ◌+◌, ◌*◌, ℕ, List, []};
 ghost use Rattle.rtp_codec.specs.declared.address.Address.{Address};
-ghost use Rattle.flood_guard.specs.Accounts.{most_asked, new_credit};
-ghost use Rattle.flood_guard.specs.Steps.{Step, all_from, all_to, all_numbers, entries, AreInOrder};
+ghost use Rattle.flood_guard.specs.declared.quota.Quota.{Quota};
+ghost use Rattle.flood_guard.specs.Accounts.{most_of, new_credit};
+ghost use Rattle.flood_guard.specs.Steps.{Step, all_from, all_to, all_asked, entries, AreInOrder};
 
 /// A law over all steps of a new guard. The octets that may go up to an address are at most 1.5 times those that came
 /// from it, and 256 for each time that it was entered.
@@ -16,12 +17,12 @@ pub fn amplification_is_bounded()
         ≤ all_from address steps * 3 + entries address steps [] * new_credit * 2 }
 {}
 
-/// A law over all steps of a new guard whose moments never go back. The numbers that an address asks for again and
-/// that may be looked at in one window are at most 512 for each time that it was entered.
+/// A law over all steps of a new guard whose moments never go back. What an address is granted of a quota in one window
+/// is at most that quota for each time that it was entered: 512 numbers, and 64 report blocks and PLIs.
 ///
-/// An address that is forgotten loses the count of its window. If it is entered again in the same window, it may ask
-/// for 512 more. Where moments go back a window can begin again, and its count with it.
+/// An address that is forgotten loses the counts of its window. If it is entered again in the same window, it may ask
+/// for each quota once more. Where moments go back a window can begin again, and its counts with it.
 pub fn asks_are_bounded()
-    ensures { (address : Address) (window : ℕ) (steps : List Step) → AreInOrder 0 steps
-        → all_numbers address window steps [] ≤ entries address steps [] * most_asked }
+    ensures { (address : Address) (quota : Quota) (window : ℕ) (steps : List Step) → AreInOrder 0 steps
+        → all_asked address quota window steps [] ≤ entries address steps [] * most_of quota }
 {}

@@ -1,4 +1,5 @@
-//! A guard against two floods: it bounds what the bridge sends up to an address, and what an address asks for again.
+//! A guard against two floods: it bounds what the bridge sends up to an address, and what an address asks for and
+//! reports.
 //!
 //! Begin with [`FloodGuard::new`]. Each datagram that comes earns credit, and control that goes up spends it.
 //! A contract sees a [`FloodGuard`] as its accounts, the most recently used first.
@@ -9,13 +10,16 @@
 //! guard.earn(&member, 100); // the 256 octets of a new address, and 150
 //! let first = guard.spend(&member, 400); // true
 //! let second = guard.spend(&member, 7); // false: 6 octets are left
-//! let looked_at = guard.ask(&member, 40_000_000, 600); // 512, the most in a window of 20 ms
+//! let numbers = guard.ask(&member, 40_000_000, Quota::Numbers, 600); // 512, the most in a window of 20 ms
+//! let items = guard.ask(&member, 40_000_000, Quota::Items, 70); // 64, the most in a window of 20 ms
 //! ```
 #![tactic(auto)]
 
 mod account;
 mod guard;
 mod laws;
+mod quota;
 
 pub use guard::FloodGuard;
 pub use laws::{amplification_is_bounded, asks_are_bounded};
+pub use quota::Quota;
