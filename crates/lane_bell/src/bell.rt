@@ -9,11 +9,14 @@ use std::sync::{Arc, Condvar, Mutex, MutexGuard, Wait};
 struct Rings {
     /// How many parcels it was rung for.
     parcels: u64,
-    /// Nobody waits for it any more.
+    /// The lane doesn't wait for it.
     is_open: bool,
 }
 
 /// Wakes a lane. Whoever gives the lane parcels rings it, so that the lane can sleep until then.
+///
+/// It is open at first. The lane then waits at its ring and takes processor time, until it has a parcel. So a lane ends
+/// by its `End` also where the bridge does not start, since memory ends or a thread is refused to a later lane.
 #[derive(Drop)]
 pub struct Bell {
     rings: Mutex<Rings>,
@@ -21,12 +24,12 @@ pub struct Bell {
 }
 
 impl Bell {
-    /// A bell that has not rung.
+    /// An open bell that has not rung.
     pub fn new() -> Self {
         Self {
             rings: Mutex::new(Rings {
                 parcels: 0,
-                is_open: false,
+                is_open: true,
             }),
             rung: Condvar::new(),
         }
@@ -40,7 +43,14 @@ impl Bell {
         self.rung.notify_one();
     }
 
-    /// Lets the lane wait no more, as before it is given its end.
+    /// Lets the lane sleep from its next parcel on, as once all lanes of the bridge have started.
+    pub fn close<R: Wait>(&self, rt: &R) {
+        let mut rings = self.rings.lock(rt);
+        rings.is_open = false;
+        MutexGuard::unlock(rings);
+    }
+
+    /// Lets the lane sleep no more, as before it is given its `End`.
     pub fn open<R: Wait>(&self, rt: &R) {
         let mut rings = self.rings.lock(rt);
         rings.is_open = true;
@@ -75,7 +85,8 @@ impl Rouse for () {
     fn rouse(&self) {}
 }
 
-/// Lets each item pass once its parcel was rung for. Until then the lane sleeps, and says so before it does.
+/// Lets each item pass once its parcel was rung for, or while the bell is open. Until then the lane sleeps, and says so
+/// before it does.
 #[derive(Drop)]
 pub struct Rung<R: Wait + Drop, F: Rouse + Drop> {
     rt: R,

@@ -76,6 +76,7 @@ fn audio(alloc: Global, member: u32, row: u64) -> Option<Item> {
     Some(Item::Audio {
         ssrc: sound(member),
         address: address(member),
+        rate: 8_000,
         ts: (row % 1_000_000) as u32 * 160,
         samples,
     })

@@ -2,7 +2,7 @@
 
 ghost use Rattle.std.specs.Prelude.{◌≡◌, true};
 ghost use Rattle.std.specs.Bool.{OnTrue};
-ghost use Rattle.intake.specs.Inputs.{input_of, is_sized};
+ghost use Rattle.media_items.specs.Inputs.{input_of, is_sized};
 ghost use Rattle.media_workers.specs.Parcels.{IsFit};
 
 use crate::told::Told;
@@ -17,12 +17,15 @@ pub struct FitItem {
     ghost sized: { is_sized (input_of item) ≡ true },
 }
 
-/// Whether lanes may handle an item: sound has 1 to 1,600 samples.
+/// Whether lanes may handle an item: sound has 1 to 200 ms of samples at 8000 or 44100 Hz.
 fn is_fit(item: &Item) -> bool
     ensures { OnTrue result (is_sized (input_of item.now) ≡ true) }
 {
     match item {
-        Item::Audio { samples, .. } => !samples.is_empty() && samples.len() <= 1_600,
+        Item::Audio { rate, samples, .. } => {
+            (*rate == 8_000 || *rate == 44_100)
+                && (!samples.is_empty() && samples.len() <= *rate as usize / 5)
+        }
         _ => true,
     }
 }

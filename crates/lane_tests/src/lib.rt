@@ -48,3 +48,5 @@ mod streams;
 mod together;
 #[cfg(test)]
 mod told;
+#[cfg(test)]
+mod unrung;

@@ -124,7 +124,8 @@ fn paces<R: Wait + Copy + Drop>(rt: &R, alloc: Global, bed: &Bed) -> Option<Vec<
     Some(paces)
 }
 
-/// The same, with a lane that is started for it.
+/// The same, with a lane that is started for it. Its bell is closed before, so that it also sleeps before its first
+/// parcel.
 fn is_started<H: Hall + Send + Sync + 'static, R: Threads + Wait + Copy + Drop + Send + 'static>(
     rt: &R,
     alloc: Global,
@@ -134,6 +135,7 @@ fn is_started<H: Hall + Send + Sync + 'static, R: Threads + Wait + Copy + Drop +
     requires { All (λ reader. reader ≡ new_reader H.publisher H.start) readers.items }
 {
     let bed = made_bed(alloc)?;
+    bed.bell.close(rt);
     let paces = paces(rt, alloc, &bed)?;
     let running = begun::<H, Rung<R, Sleeps>, R>(rt, alloc, readers, paces)?;
     Some(sleeps_well(rt, alloc, running, &bed, told))

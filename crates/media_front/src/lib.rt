@@ -17,6 +17,7 @@
 //! media.tick(moment);
 //! media.ring(rt);
 //! media.send(&mut wire);
+//! desk.end(rt);
 //! let fault = fault_of(&media.close(rt));
 //! ```
 #![tactic(auto)]
@@ -38,5 +39,8 @@ mod trying;
 pub use self::ends::fault_of;
 pub use self::feed::LaneFeed;
 pub use self::front::MediaFront;
-pub use self::laws::{control_up_is_bounded, numbers_given_are_bounded, owed_notices_are_carried};
+pub use self::laws::{
+    control_up_is_bounded, items_given_are_bounded, numbers_given_are_bounded,
+    owed_notices_are_carried,
+};
 pub use self::naming::PublisherOf;

@@ -43,6 +43,13 @@ fn bells_for(alloc: Global, count: usize) -> Result<Vec<Arc<Bell, Global>>, Allo
     Ok(bells)
 }
 
+/// Closes each bell: each lane sleeps from its next parcel on.
+fn close_all<R: Wait>(rt: &R, bells: &Vec<Arc<Bell, Global>>) {
+    for bell in bells {
+        bell.close(rt);
+    }
+}
+
 /// A pace by each bell.
 fn paces_for<R: Wait + Copy + Drop, F: Rouse + Clone>(
     rt: &R,
@@ -87,8 +94,8 @@ where
     R: Threads + Wait + Copy + Send + Drop + 'static,
     F: Rouse + Clone + Send + Drop + 'static,
 {
-    /// Starts a lane for each of 1 to 16 readers, on a thread of its own. A lane sleeps while it has no parcel, and
-    /// tells `front` before it does.
+    /// Starts a lane for each of 1 to 16 readers, on a thread of its own. From its first parcel on a lane sleeps while it
+    /// has none, and tells `front` before it does. Until then it takes processor time.
     ///
     /// The fault is `Count` where there is no reader. All lanes have been ended and dropped after any fault.
     pub fn start(
@@ -123,11 +130,14 @@ where
             return Err(StartFault::OutOfMemory);
         };
         match Bridge::start(rt, alloc, lanes, paces) {
-            Ok(bridge) => Ok(LaneFeed {
-                bridge,
-                tallies,
-                bells,
-            }),
+            Ok(bridge) => {
+                close_all(rt, &bells);
+                Ok(LaneFeed {
+                    bridge,
+                    tallies,
+                    bells,
+                })
+            }
             Err((_, fault)) => Err(fault),
         }
     }

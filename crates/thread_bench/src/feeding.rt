@@ -1,7 +1,7 @@
 //! What is handed to lanes, and what is taken from them.
 
 ghost use Rattle.std.specs.Prelude.{◌≡◌, ◌<◌, ◌≤◌, true, length};
-ghost use Rattle.intake.specs.Inputs.{input_of, is_sized};
+ghost use Rattle.media_items.specs.Inputs.{input_of, is_sized};
 
 use crate::loads::Load;
 use bridge_core::{Core, Item};

@@ -1,7 +1,7 @@
 //! What lanes are given, step by step.
 
 ghost use Rattle.std.specs.Prelude.{◌≡◌, true, IfOk};
-ghost use Rattle.intake.specs.Inputs.{input_of, is_sized};
+ghost use Rattle.media_items.specs.Inputs.{input_of, is_sized};
 
 use crate::rooms::{Plan, address_of, picture_of, voice_of};
 use bridge_core::{Frame, FramePacket, Item, MediaFrame};
@@ -81,6 +81,7 @@ fn sound_of(alloc: Global, member: u16, step: u64) -> Result<Item, AllocError>
     Ok(Item::Audio {
         ssrc: voice_of(member),
         address: address_of(member),
+        rate: 8_000,
         ts: step.wrapping_mul(SAMPLES as u32),
         samples: Vec::from_slice(alloc, &samples_of(member))?,
     })

@@ -29,17 +29,23 @@ pub struct Paced<R: Wait + Drop> {
     pub sleeps: Rung<R, ()>,
 }
 
-/// Paces of so many lanes.
+fn closed_bell<R: Wait>(rt: &R, alloc: Global) -> Result<Arc<Bell, Global>, AllocError> {
+    let bell = Arc::new(alloc, Bell::new())?;
+    bell.close(rt);
+    Ok(bell)
+}
+
+/// Paces of so many lanes. Their bells are closed, so that a lane also sleeps before its first parcel.
 pub fn paces_for<R: Wait + Copy + Drop>(
     rt: &R,
     alloc: Global,
     lanes: u32,
 ) -> Result<Paced<R>, AllocError> {
-    let front = Arc::new(alloc, Bell::new())?;
+    let front = closed_bell(rt, alloc)?;
     let mut bells = Vec::new(alloc);
     let mut paces = Vec::new(alloc);
     for _lane in 0..lanes {
-        let bell = Arc::new(alloc, Bell::new())?;
+        let bell = closed_bell(rt, alloc)?;
         let rouser = Rouser {
             rt: *rt,
             bell: Arc::try_clone(&front)?,

@@ -1,0 +1,75 @@
+//! A lane whose bell nobody rings, closes or opens, as where the bridge does not start.
+
+ghost use Rattle.std.specs.Prelude.{◌≡◌, All};
+ghost use Rattle.desk_rows.specs.Desk.{blank as no_rows};
+ghost use Rattle.versions.specs.Published.{new_reader};
+
+use crate::beginning::begun;
+use crate::stage::OneDesk;
+use lane_bell::{Bell, Rung};
+use operator_desk::{Hall, Log};
+use std::alloc::Global;
+use std::marker::Brand;
+use std::sync::ledger::Blank;
+use std::sync::{Arc, Wait};
+use std::test::*;
+use std::thread::Threads;
+use versions::{LaneReader, Opened};
+
+/// A pace by a new bell.
+fn paces<R: Wait + Copy + Drop>(rt: &R, alloc: Global) -> Option<Vec<Rung<R, ()>>> {
+    let bell = Arc::new(alloc, Bell::new()).ok()?;
+    let mut paces = Vec::new(alloc);
+    paces.push(Rung::by(*rt, bell, ())).ok()?;
+    Some(paces)
+}
+
+/// Whether a lane that is started and closed has ended and handled nothing.
+fn has_ended<H: Hall + Send + Sync + 'static, R: Threads + Wait + Copy + Drop + Send + 'static>(
+    rt: &R,
+    alloc: Global,
+    readers: Vec<LaneReader>,
+) -> Option<bool>
+    requires { All (λ reader. reader ≡ new_reader H.publisher H.start) readers.items }
+{
+    let paces = paces(rt, alloc)?;
+    let running = begun::<H, Rung<R, ()>, R>(rt, alloc, readers, paces)?;
+    let ends = running.close(rt);
+    Some(match ends.as_slice() {
+        [end] => end.handled == 0 && end.refused.is_none(),
+        _ => false,
+    })
+}
+
+/// The same, over a desk that is not set up.
+fn scene<H: Hall + Send + Sync + 'static, R: Threads + Wait + Copy + Drop + Send + 'static>(
+    rt: &R,
+    alloc: Global,
+    log: &Log,
+    blank: Blank,
+    opened: Opened,
+) -> bool
+    requires log { log.now ≡ H.cells }
+    requires blank { (blank.name ≡ H.name) × (blank.parts ≡ H.parts) }
+    requires publisher { opened ≡ H.publisher }
+    requires start { no_rows 1 ≡ H.start }
+    requires seats { (1 ≡ H.seats) × (H.seats ≡ H.parts) }
+{
+    match OneDesk::<H>::open(rt, alloc, log, blank, opened, 1) {
+        Some((desk, readers)) => {
+            let has_ended = has_ended::<H, R>(rt, alloc, readers);
+            desk.end(rt);
+            has_ended == Some(true)
+        }
+        None => false,
+    }
+}
+
+/// A lane gets its `End` and ends, though its bell has never rung.
+#[test]
+fn a_lane_ends_unrung(rt: HostRuntime) -> Result<(), Fail> {
+    let alloc = rt.alloc();
+    let log = Log::new(alloc)?;
+    assert!(rt; scene::<Brand, _>(&rt, alloc, &log, Blank::new(1), Opened::new()));
+    Ok(())
+}
