@@ -66,8 +66,7 @@ fn main(rt: HostRuntime) -> io::Result<()> {
         tried = tried.saturating_add(1);
         let is_well = match line.strip_prefix("bridge ") {
             Some(rest) => match stage.begins(&rt, rest) {
-                Some(start) => {
-                    let Start { front, has_stopped } = start;
+                Some(Start { front, has_stopped }) => {
                     let run = move || {
                         let is_well = front.run(&rt).is_ok();
                         has_stopped.store(is_well, Ordering::SeqCst);

@@ -1,29 +1,31 @@
--- What lanes are given of what is asked for again, by the accounts of a flood guard (own).
+-- What lanes are given of what an address asks for and reports, by the accounts of a flood guard (own).
 use Rattle.std.specs.Prelude.{ℕ, Bool, false, nat_eq, if◌then◌else◌, List, [], ◌∷◌, ◌++◌, length, take, Option, None, Some}
 use Rattle.rtp_codec.specs.declared.address.Address.{Address}
-use Rattle.intake.specs.Inputs.{Input, frame, audio, tick, nack, block, pli, report}
+use Rattle.media_items.specs.Inputs.{Input, frame, audio, tick, nack, block, pli, report}
 use Rattle.flood_guard.specs.declared.account.Account.{Account}
+use Rattle.flood_guard.specs.declared.quota.Quota.{Quota}
+use Rattle.flood_guard.specs.declared.quota.Quota.TheVariants.{Numbers, Items}
 use Rattle.flood_guard.specs.Steps.{ask, after, may_ask}
 
--- who asks for packets again, and for how many numbers
-abbrev pub asked_count : Input → Option (Address × ℕ)
-asked_count (nack request) = Some (request.from, length request.numbers)
+-- which address's quota an input takes of, and how much: the numbers of a request, and one for a report block or a loss
+abbrev pub asked_count : Input → Option (Address × Quota × ℕ)
+asked_count (nack request) = Some (request.from, Numbers, length request.numbers)
+asked_count (block told) = Some (told.from, Items, 1)
+asked_count (pli loss) = Some (loss.from, Items, 1)
 asked_count (frame f) = None
 asked_count (audio sound) = None
 asked_count (tick moment) = None
-asked_count (block told) = None
-asked_count (pli loss) = None
 asked_count (report moment) = None
 
--- how many of these numbers are granted
-abbrev pub granted_count : ℕ → Option (Address × ℕ) → List Account → Option ℕ
+-- how much of it is granted
+abbrev pub granted_count : ℕ → Option (Address × Quota × ℕ) → List Account → Option ℕ
 granted_count moment None accounts = None
-granted_count moment (Some asked) accounts = Some (may_ask asked.0 moment asked.1 accounts)
+granted_count moment (Some asked) accounts = Some (may_ask asked.0 moment asked.1 asked.2 accounts)
 
--- the accounts after they were asked for
-abbrev pub after_ask : ℕ → Option (Address × ℕ) → List Account → List Account
+-- the accounts after it was asked for
+abbrev pub after_ask : ℕ → Option (Address × Quota × ℕ) → List Account → List Account
 after_ask moment None accounts = accounts
-after_ask moment (Some asked) accounts = after (ask asked.0 moment asked.1) accounts
+after_ask moment (Some asked) accounts = after (ask asked.0 moment asked.1 asked.2) accounts
 
 -- a request with its first numbers, so many; another input as it is
 abbrev pub with_first : ℕ → Input → Input
@@ -41,7 +43,7 @@ abbrev pub cut_at : Option ℕ → Input → Input
 cut_at None input = input
 cut_at (Some count) input = with_first count input
 
--- numbers were asked for, and none is granted
+-- the input takes of a quota, and is granted nothing
 abbrev pub is_left_out : Option ℕ → Bool
 is_left_out None = false
 is_left_out (Some count) = nat_eq count 0

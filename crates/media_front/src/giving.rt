@@ -5,8 +5,8 @@ ghost use Rattle.std.specs.Prelude.{slice_get, slice_set, vec_len};
 ghost use Rattle.std.specs.List.{list_all, AllZip};
 ghost use Rattle.std.specs.declared.alloc.Global.{Global as Heap};
 ghost use Rattle.std.specs.declared.vec.Vec.{Vec as Row};
-ghost use Rattle.intake.specs.Inputs.{input_of, is_sized};
-ghost use Rattle.intake.specs.declared.item.Item.{Item as AnItem};
+ghost use Rattle.media_items.specs.Inputs.{input_of, is_sized};
+ghost use Rattle.media_items.specs.declared.item.Item.{Item as AnItem};
 ghost use Rattle.media_front.specs.FedLanes.{FedLane, IsGiven, AreGiven, AllAreGiven};
 ghost use Rattle.media_front.specs.Granted.{asked_count, granted_count, after_ask, cut_at, as_granted};
 ghost use Rattle.media_front.specs.Granted.{granted_of, after_asking};
@@ -76,8 +76,8 @@ impl<N: PublisherName, P: Pace> LaneFeed<N, P> {
         }
     }
 
-    /// Gives every lane one of these copies of an item, cut at what the guard grants. An item of which numbers were
-    /// asked for and none is granted is left out.
+    /// Gives every lane one of these copies of an item, cut at what the guard grants. An item that takes of a quota and
+    /// is granted nothing is left out.
     fn hand_out_granted(
         &mut self,
         guard: &mut FloodGuard,

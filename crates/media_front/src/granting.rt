@@ -1,40 +1,36 @@
-//! What lanes are given of what is asked for again.
+//! What lanes are given of what an address asks for and reports.
 
 ghost use Rattle.std.specs.Prelude.{◌≡◌};
-ghost use Rattle.intake.specs.Inputs.{input_of};
+ghost use Rattle.media_items.specs.Inputs.{input_of};
 ghost use Rattle.media_front.specs.Granted.{asked_count, granted_count, after_ask, with_first, cut_at, is_left_out};
 
 use bridge_core::Item;
-use flood_guard::FloodGuard;
+use flood_guard::{FloodGuard, Quota};
 use rtp_codec::Address;
 
-/// Who asks for packets again, and for how many numbers.
-fn asked_count(item: &Item) -> Option<(Address, u64)>
+/// Which address's quota an item takes of, and how much: the numbers of a NACK, and one for a report block or a PLI.
+fn asked_count(item: &Item) -> Option<(Address, Quota, u64)>
     ensures { result ≡ asked_count (input_of item.now) }
 {
     match item {
-        Item::Nack { from, numbers, .. } => Some((*from, numbers.len() as u64)),
-        Item::Frame(_)
-        | Item::Audio { .. }
-        | Item::Tick { .. }
-        | Item::Block { .. }
-        | Item::Pli { .. }
-        | Item::Report { .. } => None,
+        Item::Nack { from, numbers, .. } => Some((*from, Quota::Numbers, numbers.len() as u64)),
+        Item::Block { from, .. } | Item::Pli { from, .. } => Some((*from, Quota::Items, 1)),
+        Item::Frame(_) | Item::Audio { .. } | Item::Tick { .. } | Item::Report { .. } => None,
     }
 }
 
-/// How many of its numbers are granted to an item that asks for packets again.
+/// How much is granted to an item that takes of a quota.
 pub(crate) fn granted_count(guard: &mut FloodGuard, moment: u64, item: &Item) -> Option<u64>
     ensures count { result ≡ granted_count moment (asked_count (input_of item.now)) guard.old }
     ensures guard { guard.new ≡ after_ask moment (asked_count (input_of item.now)) guard.old }
 {
     match asked_count(item) {
-        Some((from, count)) => Some(guard.ask(&from, moment, count)),
+        Some((from, quota, count)) => Some(guard.ask(&from, moment, quota, count)),
         None => None,
     }
 }
 
-/// Whether numbers were asked for, and none is granted.
+/// Whether an item takes of a quota, and is granted nothing.
 pub(crate) fn is_left_out(granted: Option<u64>) -> bool
     ensures { result ≡ is_left_out granted }
 {
@@ -44,7 +40,7 @@ pub(crate) fn is_left_out(granted: Option<u64>) -> bool
     }
 }
 
-/// An item, cut at what is granted of it: its first numbers.
+/// An item, cut at what is granted of it: a NACK to its first numbers.
 pub(crate) fn cut_at(item: Item, granted: Option<u64>) -> Item
     ensures { input_of result ≡ cut_at granted (input_of item) }
 {
@@ -75,11 +71,13 @@ fn with_first(item: Item, count: u64) -> Item
         Item::Audio {
             ssrc,
             address,
+            rate,
             ts,
             samples,
         } => Item::Audio {
             ssrc,
             address,
+            rate,
             ts,
             samples,
         },

@@ -1,18 +1,19 @@
-//! Laws: what a lane was told of, or will be; what goes up to an address, and what an address asks for again. The
-//! functions do nothing when they run.
+//! Laws: what a lane was told of, or will be; what goes up to an address; what lanes are given of what it asks for and
+//! reports. The functions do nothing when they run.
 
 ghost use Rattle.std.specs.Prelude.{◌≡◌, ◌≤◌, ◌+◌, ◌*◌, ℕ, List, [], Some, None};
 ghost use Rattle.rtp_codec.specs.declared.address.Address.{Address as AnAddress};
 ghost use Rattle.desk_rows.specs.Edit.{EditOf};
 ghost use Rattle.versions.specs.Published.{NoticeOf};
-ghost use Rattle.intake.specs.Inputs.{Input};
+ghost use Rattle.media_items.specs.Inputs.{Input};
 ghost use Rattle.intake.specs.Ingested.{Ingested};
-ghost use Rattle.flood_guard.specs.Accounts.{new_credit, most_asked};
+ghost use Rattle.flood_guard.specs.declared.quota.Quota.TheVariants.{Numbers, Items};
+ghost use Rattle.flood_guard.specs.Accounts.{new_credit, most_of};
 ghost use Rattle.flood_guard.specs.Steps.{entries};
 ghost use Rattle.media_front.specs.FedLanes.{FedLane, IsGiven, told};
 ghost use Rattle.media_front.specs.Fronts.{Arrival};
 ghost use Rattle.media_front.specs.Upward.{octets_in, octets_up, steps_over};
-ghost use Rattle.media_front.specs.Numbers.{numbers_given, CameInOrder};
+ghost use Rattle.media_front.specs.Counts.{count_given, CameInOrder};
 ghost use Rattle.media_front.specs.Carried.{HasCarried, IsTold};
 
 use flood_guard::{amplification_is_bounded, asks_are_bounded};
@@ -40,11 +41,20 @@ pub fn control_up_is_bounded()
     amplification_is_bounded();
 }
 
-/// A law over all datagrams that a front took in, from a new guard on, if their moments never go back. In each 20 ms the
-/// NACKs that lanes were given of an address have at most 512 numbers for each time that it was entered.
+/// A law over all datagrams that a front took in, from a new guard on, if their moments never go back. In each 20 ms
+/// the NACKs that lanes were given of an address have at most 512 numbers for each time that it was entered.
 pub fn numbers_given_are_bounded()
     ensures { (address : AnAddress) (window : ℕ) (run : List (Arrival × Ingested)) → CameInOrder 0 run
-        → numbers_given address window run [] ≤ entries address (steps_over run) [] * most_asked }
+        → count_given address Numbers window run [] ≤ entries address (steps_over run) [] * most_of Numbers }
+{
+    asks_are_bounded();
+}
+
+/// A law over all datagrams that a front took in, from a new guard on, if their moments never go back. In each 20 ms
+/// lanes were given at most 64 report blocks and PLIs of an address, together, for each time that it was entered.
+pub fn items_given_are_bounded()
+    ensures { (address : AnAddress) (window : ℕ) (run : List (Arrival × Ingested)) → CameInOrder 0 run
+        → count_given address Items window run [] ≤ entries address (steps_over run) [] * most_of Items }
 {
     asks_are_bounded();
 }
