@@ -3,7 +3,7 @@ use Rattle.std.proofs.Common.{◌≡◌, ◌<◌, ℕ, zero, suc, List, [], ◌�
 use Rattle.std.specs.List.{Contains}
 use Rattle.desk_rows.specs.Edit.{EditOf}
 use Rattle.versions.specs.Published.{NoticeOf}
-use Rattle.intake.specs.Inputs.{Input}
+use Rattle.media_items.specs.Inputs.{Input}
 use Rattle.media_workers.specs.declared.parcel.Parcel.TheVariants.{Work}
 use Rattle.media_front.specs.FedLanes.{FedLane, IsGiven}
 use Rattle.media_front.specs.Carried.{IsTold}

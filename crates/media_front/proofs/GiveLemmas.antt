@@ -5,8 +5,8 @@ use Rattle.std.proofs.lemmas.List.Elements.{All-set}
 use Rattle.std.specs.declared.alloc.Global.{Global}
 use Rattle.logbook.specs.Pages.{Book}
 use Rattle.versions.specs.Published.{NoticeOf}
-use Rattle.intake.specs.Inputs.{input_of}
-use Rattle.intake.specs.declared.item.Item.{Item}
+use Rattle.media_items.specs.Inputs.{input_of}
+use Rattle.media_items.specs.declared.item.Item.{Item}
 use Rattle.bridge_core.specs.declared.egress.Egress.{Egress}
 use Rattle.media_workers.specs.declared.parcel.Parcel.{Parcel}
 use Rattle.media_workers.specs.declared.parcel.Parcel.TheVariants.{Work}

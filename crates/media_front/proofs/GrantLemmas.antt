@@ -2,7 +2,7 @@
 use Rattle.std.proofs.Common.{◌≡◌, ◌<◌, ◌+◌, ℕ, Bool, true, false, if◌then◌else◌, List, [], ◌∷◌, ◌++◌, length, map, take, get_or, Option, None, Some, refl, ap, sym, subst, ◌∙◌, append_assoc}
 use Rattle.std.specs.List.{FoldsTo}
 use Rattle.std.proofs.lemmas.List.{append-nil, map_more}
-use Rattle.intake.specs.Inputs.{Input, frame, audio, tick, nack, block, pli, report, is_sized}
+use Rattle.media_items.specs.Inputs.{Input, frame, audio, tick, nack, block, pli, report, is_sized}
 use Rattle.flood_guard.specs.declared.account.Account.{Account}
 use Rattle.media_front.specs.FedLanes.{FedLane, AreGiven, AllAreGiven}
 use Rattle.media_front.specs.Granted.{asked_count, granted_count, after_ask, cut_at, is_left_out, as_granted, granted_of, after_asking}

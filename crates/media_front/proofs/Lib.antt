@@ -4,7 +4,7 @@ pub mod TryLemmas
 pub mod PaidLemmas
 pub mod GrantLemmas
 pub mod UpLemmas
-pub mod NumberLemmas
+pub mod CountLemmas
 pub mod ItemLemmas
 pub mod TickLemmas
 pub mod FaultLemmas

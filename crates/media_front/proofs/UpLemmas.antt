@@ -3,9 +3,10 @@ use Rattle.std.proofs.Common.{◌≡◌, ℕ, ◌+◌, ◌≤◌, Bool, true, fa
 use Rattle.std.specs.List.{flat_map}
 use Rattle.rtp_codec.specs.declared.address.Address.{Address}
 use Rattle.rtp_codec.specs.Address.{same_address}
-use Rattle.intake.specs.Inputs.{Input}
+use Rattle.media_items.specs.Inputs.{Input}
 use Rattle.intake.specs.Ingested.{Ingested}
 use Rattle.flood_guard.specs.declared.account.Account.{Account}
+use Rattle.flood_guard.specs.declared.quota.Quota.{Quota}
 use Rattle.flood_guard.specs.Steps.{Step, earn, spend, after, may_spend, octets_from, octets_to, all_from, all_to}
 use Rattle.media_front.specs.Paid.{is_from_member, paid_one, after_one, paid_of, after_paying}
 use Rattle.media_front.specs.Granted.{asked_count, after_ask, after_asking}
@@ -78,7 +79,7 @@ from_spends address (d ∷ ds) = zero-add (all_from address (spends ds)) ∙ fro
 abbrev pub asks : ℕ → List Input → List Step
 asks moment is = flat_map (λ i. ask_step moment (asked_count i)) is
 
-pub after_ask_step : (moment : ℕ) (asked : Option (Address × ℕ)) (g : List Account) → after_all (ask_step moment asked) g ≡ after_ask moment asked g
+pub after_ask_step : (moment : ℕ) (asked : Option (Address × Quota × ℕ)) (g : List Account) → after_all (ask_step moment asked) g ≡ after_ask moment asked g
 after_ask_step moment None g = refl
 after_ask_step moment (Some asked) g = refl
 
@@ -89,7 +90,7 @@ after_asks moment (i ∷ is) g =
     ∙ ap (after_all (asks moment is)) (after_ask_step moment (asked_count i) g)
     ∙ after_asks moment is (after_ask moment (asked_count i) g)
 
-to_ask_step : (address : Address) (moment : ℕ) (asked : Option (Address × ℕ)) (g : List Account) → all_to address (ask_step moment asked) g ≡ 0
+to_ask_step : (address : Address) (moment : ℕ) (asked : Option (Address × Quota × ℕ)) (g : List Account) → all_to address (ask_step moment asked) g ≡ 0
 to_ask_step address moment None g = refl
 to_ask_step address moment (Some asked) g = refl
 
@@ -101,7 +102,7 @@ to_asks address moment (i ∷ is) g =
     ∙ zero-add (all_to address (asks moment is) (after_all (ask_step moment (asked_count i)) g))
     ∙ to_asks address moment is (after_all (ask_step moment (asked_count i)) g)
 
-from_ask_step : (address : Address) (moment : ℕ) (asked : Option (Address × ℕ)) → all_from address (ask_step moment asked) ≡ 0
+from_ask_step : (address : Address) (moment : ℕ) (asked : Option (Address × Quota × ℕ)) → all_from address (ask_step moment asked) ≡ 0
 from_ask_step address moment None = refl
 from_ask_step address moment (Some asked) = refl
 

@@ -3,8 +3,8 @@ use Rattle.std.specs.Prelude.{◌≡◌, ◌⊎◌, ℕ, ◌+◌, ◌-◌, ◌^�
 use Rattle.std.specs.List.{AllZip, FoldsTo}
 use Rattle.std.specs.declared.alloc.Global.{Global}
 use Rattle.versions.specs.Published.{NoticeOf}
-use Rattle.intake.specs.Inputs.{Input, input_of}
-use Rattle.intake.specs.declared.item.Item.{Item}
+use Rattle.media_items.specs.Inputs.{Input, input_of}
+use Rattle.media_items.specs.declared.item.Item.{Item}
 use Rattle.bridge_core.specs.declared.egress.Egress.{Egress}
 use Rattle.media_workers.specs.declared.parcel.Parcel.TheVariants.{Work}
 use Rattle.media_workers.specs.LaneRuns.{LaneNow}

@@ -3,7 +3,7 @@ use Rattle.std.specs.Prelude.{◌≡◌, ◌⊎◌, ℕ, zero, suc, List, [], �
 use Rattle.rtp_codec.specs.declared.address.Address.{Address}
 use Rattle.desk_rows.specs.Desk.{Desk}
 use Rattle.intake.specs.Intakes.{TakesIn, Tells}
-use Rattle.intake.specs.Inputs.{Input}
+use Rattle.media_items.specs.Inputs.{Input}
 use Rattle.intake.specs.Ingested.{Ingested}
 use Rattle.intake.specs.inner.Holding.{IntakeOf}
 use Rattle.intake.specs.declared.outcome.Outcome.{Outcome}
@@ -46,12 +46,12 @@ once_earned arrival ingested accounts = credited ingested.outcome arrival.from (
 abbrev pub once_paid : Arrival → Ingested → List Account → List Account
 once_paid arrival ingested accounts = after_paying ingested.up (once_earned arrival ingested accounts)
 
--- the accounts once the numbers that are asked for were granted, too
+-- the accounts once the quotas were asked for, too
 abbrev pub once_asked : Arrival → Ingested → List Account → List Account
 once_asked arrival ingested accounts = after_asking arrival.moment ingested.items (once_paid arrival ingested accounts)
 
 -- The intake took the datagram in, and it earned its credit. What goes up and is paid for was tried on the wire. Then
--- every lane was given each item, requests cut at the numbers that are granted.
+-- every lane was given each item that its address's quota lasts for, requests cut at the numbers that are granted.
 pub record HasTaken {P : Type 0} (arrival : Arrival) (outcome : Outcome) (old new : FrontOf P)
     (before after : Option (List Attempt)) : Type 0 where
   pub ingested : Ingested

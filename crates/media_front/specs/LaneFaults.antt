@@ -13,13 +13,15 @@ is_memory (Some (item, lanes.NoEntry)) = false
 is_memory (Some (item, lanes.Spent)) = false
 is_memory (Some (item, lanes.OutOfMemory)) = true
 
--- an item was refused
-abbrev pub is_refused : Refused → Bool
-is_refused None = false
-is_refused (Some refused) = true
+-- an item was refused for another reason than that the desk had ended
+abbrev pub is_fault : Refused → Bool
+is_fault None = false
+is_fault (Some (item, lanes.NoEntry)) = false
+is_fault (Some (item, lanes.Spent)) = true
+is_fault (Some (item, lanes.OutOfMemory)) = true
 
--- why the bridge ends, by what its lanes refused: memory ran out for one of them, or one refused an item for another
--- reason, or none did
+-- why the bridge ends, by what its lanes refused behind the desk's end: memory ran out for one of them, or one refused an
+-- item for another reason than that end, or none did
 abbrev pub fault_among : List Refused → Option FrontFault
 fault_among all =
-    if list_any is_memory all then Some OutOfMemory else if list_any is_refused all then Some Io else None
+    if list_any is_memory all then Some OutOfMemory else if list_any is_fault all then Some Io else None

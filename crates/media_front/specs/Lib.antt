@@ -4,7 +4,7 @@ pub mod Paid
 pub mod Granted
 pub mod Fronts
 pub mod Upward
-pub mod Numbers
+pub mod Counts
 pub mod LaneFaults
 pub mod Carried
 pub mod inner

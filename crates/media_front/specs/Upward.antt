@@ -5,6 +5,7 @@ use Rattle.rtp_codec.specs.declared.address.Address.{Address}
 use Rattle.rtp_codec.specs.Address.{same_address}
 use Rattle.intake.specs.Ingested.{Ingested}
 use Rattle.flood_guard.specs.declared.account.Account.{Account}
+use Rattle.flood_guard.specs.declared.quota.Quota.{Quota}
 use Rattle.flood_guard.specs.Steps.{Step, earn, spend, ask}
 use Rattle.media_front.specs.Paid.{is_from_member, paid_of}
 use Rattle.media_front.specs.Granted.{asked_count}
@@ -27,13 +28,13 @@ octets_up address (t ∷ rest) accounts =
     octets_for address (paid_of t.1.up (once_earned t.0 t.1 accounts))
     + octets_up address rest (once_asked t.0 t.1 accounts)
 
--- numbers that are asked for, as a step of the guard
-abbrev pub ask_step : ℕ → Option (Address × ℕ) → List Step
+-- what an input takes of a quota, as a step of the guard
+abbrev pub ask_step : ℕ → Option (Address × Quota × ℕ) → List Step
 ask_step moment None = []
-ask_step moment (Some asked) = ask asked.0 moment asked.1 ∷ []
+ask_step moment (Some asked) = ask asked.0 moment asked.1 asked.2 ∷ []
 
 -- what the guard is asked for a datagram: it earns, if it is a member's, then what goes up is paid for, and then the
--- numbers are asked for
+-- quotas are asked for
 abbrev pub steps_by : Arrival → Ingested → List Step
 steps_by arrival ingested =
     (if is_from_member ingested.outcome then earn arrival.from (length arrival.octets) ∷ [] else [])

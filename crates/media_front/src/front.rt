@@ -5,7 +5,7 @@ ghost use Rattle.std.specs.Bool.{MatchBool};
 ghost use Rattle.std.specs.List.{flat_map, list_any};
 ghost use Rattle.std.specs.Prelude.{is_some};
 ghost use Rattle.std.specs.declared.alloc.Global.{Global as Heap};
-ghost use Rattle.intake.specs.Inputs.{Input};
+ghost use Rattle.media_items.specs.Inputs.{Input};
 ghost use Rattle.bridge_core.specs.Calls.{most_lanes};
 ghost use Rattle.bridge_core.specs.declared.egress.Egress.{Egress as AnEgress};
 ghost use Rattle.media_workers.specs.Bridges.{AllEnded};
@@ -96,8 +96,8 @@ impl<N: PublisherName, P: Pace> MediaFront<N, P> {
     /// - A datagram of a member earns the credit of its octets.
     /// - The front tries to send what the intake asks the sender for, in order. Each of these datagrams costs its
     ///   octets. One that its address has too little credit for is dropped.
-    /// - Every lane is given each item. A NACK is cut at the numbers that the guard grants it, the first ones. It is
-    ///   left out where the guard grants none.
+    /// - Every lane is given each item. A NACK is cut at the numbers that the guard grants it, the first ones. A NACK, a
+    ///   report block or a PLI is left out where the guard grants it nothing.
     ///
     /// On out of memory, the only error, nothing is sent, and no lane is given an item; the intake may have taken the
     /// datagram in.

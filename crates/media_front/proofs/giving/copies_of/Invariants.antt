@@ -1,7 +1,7 @@
 use Rattle.std.proofs.Common.{◌≡◌, ◌≤◌, length, All, vec_capacity}
 use Rattle.std.specs.declared.alloc.Global.{Global}
-use Rattle.intake.specs.Inputs.{input_of}
-use Rattle.intake.specs.declared.item.Item.{Item}
+use Rattle.media_items.specs.Inputs.{input_of}
+use Rattle.media_items.specs.declared.item.Item.{Item}
 use Rattle.media_front.proofs.giving.copies_of.Given as goal
 
 abbrev pub invariant-loop : goal.invariant-loop

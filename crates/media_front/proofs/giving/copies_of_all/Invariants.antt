@@ -2,8 +2,8 @@ use Rattle.std.proofs.Common.{◌≡◌, take, vec_len, vec_capacity}
 use Rattle.std.specs.List.{AllZip}
 use Rattle.std.specs.declared.alloc.Global.{Global}
 use Rattle.std.specs.declared.vec.Vec.{Vec}
-use Rattle.intake.specs.Inputs.{input_of}
-use Rattle.intake.specs.declared.item.Item.{Item}
+use Rattle.media_items.specs.Inputs.{input_of}
+use Rattle.media_items.specs.declared.item.Item.{Item}
 use Rattle.media_front.specs.inner.Copies.{AreCopies}
 use Rattle.media_front.proofs.giving.copies_of_all.Given as goal
 

@@ -1,5 +1,5 @@
 use Rattle.std.proofs.Common.{◌+◌, subst, refl, arith}
-use Rattle.intake.specs.Inputs.{Input}
+use Rattle.media_items.specs.Inputs.{Input}
 use Rattle.media_front.specs.FedLanes.{IsGiven}
 use Rattle.media_front.specs.inner.Beats.{input_at}
 use Rattle.media_front.proofs.PlaceLemmas.{length_up_to, up_to_more, up_to_all}

@@ -1,8 +1,8 @@
 use Rattle.std.proofs.Common.{◌≡◌, ◌∙◌, ◌+◌, ◌++◌, ◌∷◌, [], length, ap, sym, subst, refl, arith, append_assoc, length-append}
 use Rattle.std.specs.Vec.Iter.{into_iter_items}
 use Rattle.std.specs.declared.alloc.Global.{Global}
-use Rattle.intake.specs.Inputs.{Input, input_of, is_sized}
-use Rattle.intake.specs.declared.item.Item.{Item}
+use Rattle.media_items.specs.Inputs.{Input, input_of, is_sized}
+use Rattle.media_items.specs.declared.item.Item.{Item}
 use Rattle.media_front.specs.FedLanes.{IsGiven}
 use Rattle.media_front.specs.Granted.{cut_at}
 use Rattle.media_front.proofs.PlaceLemmas.{All_at, length_up_to, up_to_more, up_to_all}

@@ -1,6 +1,6 @@
 use Rattle.std.proofs.Common.{◌≡◌, ◌++◌, length}
 use Rattle.std.specs.Vec.Iter.{into_iter_items, into_iter_len}
-use Rattle.intake.specs.Inputs.{input_of}
+use Rattle.media_items.specs.Inputs.{input_of}
 use Rattle.media_front.specs.FedLanes.{IsGiven}
 use Rattle.media_front.specs.Granted.{cut_at}
 use Rattle.media_front.specs.inner.Places.{UpTo}

@@ -3,8 +3,8 @@ use Rattle.std.proofs.lemmas.List.{take_all}
 use Rattle.std.specs.Vec.Iter.{into_iter_items}
 use Rattle.std.specs.declared.alloc.Global.{Global}
 use Rattle.std.specs.declared.vec.Vec.{Vec}
-use Rattle.intake.specs.Inputs.{input_of}
-use Rattle.intake.specs.declared.item.Item.{Item}
+use Rattle.media_items.specs.Inputs.{input_of}
+use Rattle.media_items.specs.declared.item.Item.{Item}
 use Rattle.media_front.specs.FedLanes.{AllAreGiven}
 use Rattle.media_front.specs.Granted.{granted_of, after_asking}
 use Rattle.media_front.specs.inner.Copies.{AreCopies}

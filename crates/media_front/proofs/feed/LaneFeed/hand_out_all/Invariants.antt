@@ -1,6 +1,6 @@
 use Rattle.std.proofs.Common.{◌≡◌, ◌++◌, length, take, map}
 use Rattle.std.specs.Vec.Iter.{into_iter_items, into_iter_len}
-use Rattle.intake.specs.Inputs.{input_of}
+use Rattle.media_items.specs.Inputs.{input_of}
 use Rattle.media_front.specs.FedLanes.{AllAreGiven}
 use Rattle.media_front.specs.Granted.{granted_of, after_asking}
 use Rattle.media_front.proofs.feed.LaneFeed.hand_out_all.Given as goal

@@ -1,6 +1,6 @@
 use Rattle.std.proofs.Common.{sym}
 use Rattle.std.proofs.lemmas.List.Elements.{length_all_zip}
-use Rattle.intake.specs.Inputs.{input_of}
+use Rattle.media_items.specs.Inputs.{input_of}
 use Rattle.media_front.specs.FedLanes.{IsGiven}
 use Rattle.media_front.specs.Granted.{cut_at}
 use Rattle.media_front.proofs.GrantLemmas.{none_given, one_given}

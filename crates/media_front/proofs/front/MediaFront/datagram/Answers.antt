@@ -3,9 +3,9 @@ use Rattle.std.specs.List.{AllZip}
 use Rattle.std.specs.declared.alloc.Global.{Global}
 use Rattle.std.specs.declared.vec.Vec.{Vec}
 use Rattle.rtp_codec.specs.declared.address.Address.{Address}
-use Rattle.intake.specs.Inputs.{input_of}
+use Rattle.media_items.specs.Inputs.{input_of}
 use Rattle.intake.specs.Ingested.{ingested_of, datagram_of}
-use Rattle.intake.specs.declared.item.Item.{Item}
+use Rattle.media_items.specs.declared.item.Item.{Item}
 use Rattle.intake.specs.inner.Holding.{IntakeOf}
 use Rattle.media_front.specs.FedLanes.{AllAreGiven}
 use Rattle.media_front.specs.Tries.{WereTried}

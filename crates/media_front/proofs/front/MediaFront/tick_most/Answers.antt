@@ -1,7 +1,7 @@
 use Rattle.std.proofs.Common.{◌≡◌, ◌∙◌, ◌+◌, ◌-◌, ◌++◌, ◌∷◌, [], ℕ, List, map, refl, ap, sym, subst, arith, append_assoc}
 use Rattle.std.proofs.lemmas.List.{append-nil, map-append}
 use Rattle.std.proofs.lemmas.Fn.{FoldsTo-push}
-use Rattle.intake.specs.Inputs.{Input}
+use Rattle.media_items.specs.Inputs.{Input}
 use Rattle.udp_front.specs.declared.pacing.Ticks.{Ticks}
 use Rattle.media_front.specs.FedLanes.{AreGiven, AllAreGiven}
 use Rattle.media_front.specs.Fronts.{ticks_due, after_ticks}
