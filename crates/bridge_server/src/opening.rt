@@ -263,8 +263,9 @@ where
             let operators = Operators::new(rt, desk, seats);
             let mut rounds = rounds;
             let done = serve(rt, alloc, &operators, &waker, &mut rounds);
-            let lanes = close(rt, alloc, rounds);
+            // The desk ends first: a lane then ends at its next item, and what is left in its ring is dropped.
             let log = gather(rt, alloc, operators, count);
+            let lanes = close(rt, alloc, rounds);
             Stopped::told(done, lanes, log)
         }
         Err(fault) => {

@@ -43,8 +43,11 @@ pub(crate) struct Rounds<H: Hall, R: Wait + Drop> {
 }
 
 impl<H: Hall + Send + Sync + 'static, R: Wait + Clock + Copy + Send + Drop + 'static> Rounds<H, R> {
-    /// Waits until something has come, 5 ms at most.
+    /// Waits until something has come, 5 ms at most. A lane that has ended is a fault.
     pub(crate) fn wait(&mut self) -> Result<(), FrontFault> {
+        if self.media.has_ended() {
+            return Err(FrontFault::Io);
+        }
         let longest = if self.is_behind { 0 } else { LONGEST_WAIT };
         self.sockets.wait(longest)
     }

@@ -60,7 +60,7 @@ where
         {
             let mut done = Ok(());
             for _ in rt.forever() {
-                if operators.has_stopped() || rounds.media.has_ended() || done.is_err() {
+                if operators.has_stopped() || done.is_err() {
                     break;
                 }
                 if let Err(fault) = rounds.wait() {
