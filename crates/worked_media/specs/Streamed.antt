@@ -1,6 +1,6 @@
 -- What was sent in the examples of a stream: a frame of one packet of each of two sources, to member 1 at port 7.
 use Rattle.std.specs.Prelude.{ℕ, pos, true, List, [], ◌∷◌}
-use Rattle.forward_rewrite.specs.Frame.{SourceFrame}
+use Rattle.media_items.specs.Frame.{SourceFrame}
 use Rattle.forward_rewrite.specs.Sending.{Sending}
 use Rattle.forward_rewrite.specs.Streams.{StreamOf, state_of}
 use Rattle.worked_media.specs.Sent.{owner}

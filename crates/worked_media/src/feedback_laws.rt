@@ -1,6 +1,7 @@
 //! What the laws of feedback and of reports tell a caller, whatever is asked and told.
 
-ghost use Rattle.std.specs.Prelude.{◌≡◌, ◌+◌, ◌*◌, ◌≤◌, ◌%◌, ◌^◌, ℕ, true, nat_eq, if◌then◌else◌, List, [], ◌∷◌, filter, IfOk};
+ghost use Rattle.std.specs.Prelude.{◌≡◌, ◌+◌, ◌*◌, ◌≤◌, ◌%◌, ◌^◌, ◌∷◌, if◌then◌else◌};
+ghost use Rattle.std.specs.Prelude.{ℕ, true, nat_eq, List, [], filter, IfOk};
 ghost use Rattle.std.specs.List.{AllByRecursion, flat_map, list_any};
 ghost use Rattle.feedback.specs.Asked.{firsts};
 ghost use Rattle.rtcp_codec.specs.CanonicalName.{named};
@@ -65,15 +66,21 @@ pub fn reads_all_blocks_back(alloc: Global, blocks: &[ReportBlock]) -> Result<Ve
     read_compound(alloc, &octets).map_err(|_| AllocError)
 }
 
-/// At or before the last frame's moment a report has the frame's timestamp; so many whole seconds behind it, it is ahead by the rate
-/// as many times.
+/// At or before the last frame's moment a report has the frame's timestamp. So many whole seconds behind it, it is
+/// ahead by the rate as many times.
 pub fn reports_the_time_reached(
     alloc: Global,
     counts: &Counts,
     moment: u64,
 ) -> Result<Vec<u8>, AllocError>
-    ensures still { moment ≤ counts.now.moment → IfOk result (λ v. v.items ≡ written (Sender counts.now.ssrc (ntp_of moment) counts.now.ts counts.now.packets counts.now.octets [] ∷ named counts.now.ssrc bridge ∷ [])) }
-    ensures ahead { (seconds : ℕ) → moment ≡ counts.now.moment + seconds * second → IfOk result (λ v. v.items ≡ written (Sender counts.now.ssrc (ntp_of moment) ((counts.now.ts + seconds * counts.now.rate) % 2 ^ 32) counts.now.packets counts.now.octets [] ∷ named counts.now.ssrc bridge ∷ [])) }
+    ensures still { moment ≤ counts.now.moment
+        → IfOk result (λ v. v.items ≡ written
+        (Sender counts.now.ssrc (ntp_of moment) counts.now.ts counts.now.packets counts.now.octets []
+        ∷ named counts.now.ssrc bridge ∷ [])) }
+    ensures ahead { (seconds : ℕ) → moment ≡ counts.now.moment + seconds * second
+        → IfOk result (λ v. v.items ≡ written
+        (Sender counts.now.ssrc (ntp_of moment) ((counts.now.ts + seconds * counts.now.rate) % 2 ^ 32)
+        counts.now.packets counts.now.octets [] ∷ named counts.now.ssrc bridge ∷ [])) }
 {
     times_of_reports();
     sender_report(alloc, counts, moment, b"bridge")
@@ -85,7 +92,10 @@ pub fn reports_whole_seconds(
     counts: &Counts,
     seconds: u32,
 ) -> Result<Vec<u8>, AllocError>
-    ensures { IfOk result (λ v. v.items ≡ written (Sender counts.now.ssrc ((seconds + from_1900_to_1970) % 2 ^ 32 * 2 ^ 32) (ts_at counts.now (seconds * second)) counts.now.packets counts.now.octets [] ∷ named counts.now.ssrc bridge ∷ [])) }
+    ensures { IfOk result (λ v. v.items ≡ written
+        (Sender counts.now.ssrc ((seconds + from_1900_to_1970) % 2 ^ 32 * 2 ^ 32)
+        (ts_at counts.now (seconds * second)) counts.now.packets counts.now.octets []
+        ∷ named counts.now.ssrc bridge ∷ [])) }
 {
     times_of_reports();
     sender_report(alloc, counts, u64::from(seconds) * 1_000_000_000, b"bridge")

@@ -74,13 +74,49 @@ pub fn more_than_a_second_ahead_begins_anew(alloc: Global) -> Option<Placed>
     Some(playout.put(1046, &[7, 8]))
 }
 
+/// 20 ms at 44100 Hz are 882 samples.
+pub fn a_tick_at_44100_is_kept(alloc: Global) -> Option<Placed>
+    ensures { IfSome result (λ placed. placed ≡ Placed.Kept 882) }
+{
+    let Ok(mut playout) = Playout::new(alloc, 44_100) else {
+        return None;
+    };
+    Some(playout.put(1000, &[5; 882]))
+}
+
 /// Sources of one SSRC at two addresses have a playout each: of two samples, and of one. Nothing is there of who put nothing.
 pub fn each_address_has_its_own(playouts: &Playouts, address: &Address) -> u32
-    requires rate { playouts.now.rate ≡ 50 }
-    requires had { Has playouts.now (PutOf 21 (owner 1 7).address 1000 (pos 5 ∷ pos 6 ∷ []) ∷ PutOf 21 (owner 2 8).address 1000 (pos 9 ∷ []) ∷ TakeAll 3 ∷ []) }
+    requires had { Has playouts.now (PutOf 21 (owner 1 7).address 50 1000 (pos 5 ∷ pos 6 ∷ []) ∷ PutOf 21 (owner 2 8).address 50 1000 (pos 9 ∷ []) ∷ TakeAll ∷ TakeAll ∷ TakeAll ∷ []) }
     ensures two { address.now ≡ (owner 1 7).address → result ≡ 2 }
     ensures one { address.now ≡ (owner 2 8).address → result ≡ 1 }
     ensures none { address.now ≡ (owner 3 9).address → result ≡ 0 }
 {
-    playouts.peek(21, address, &mut [0; 4])
+    playouts.peek(21, address, 50, &mut [0; 4])
+}
+
+/// At 44100 Hz 60 ms are 2646 places: three ticks of 882 samples.
+pub fn three_ticks_come_first_at_44100(playouts: &Playouts, address: &Address) -> u32
+    requires address { address.now ≡ (owner 1 7).address }
+    ensures early { Has playouts.now (PutOf 21 (owner 1 7).address 44100 1000 (pos 5 ∷ []) ∷ TakeAll ∷ TakeAll ∷ []) → result ≡ 0 }
+    ensures then { Has playouts.now (PutOf 21 (owner 1 7).address 44100 1000 (pos 5 ∷ []) ∷ TakeAll ∷ TakeAll ∷ TakeAll ∷ []) → result ≡ 1 }
+{
+    playouts.peek(21, address, 44_100, &mut [0; 882])
+}
+
+/// Samples of another rate begin the playout anew, and the former ones are gone.
+pub fn another_rate_begins_anew(playouts: &Playouts, address: &Address) -> u32
+    requires address { address.now ≡ (owner 1 7).address }
+    requires had { Has playouts.now (PutOf 21 (owner 1 7).address 100 1000 (pos 5 ∷ pos 6 ∷ []) ∷ PutOf 21 (owner 1 7).address 50 1000 (pos 7 ∷ []) ∷ TakeAll ∷ TakeAll ∷ TakeAll ∷ []) }
+    ensures { result ≡ 1 }
+{
+    playouts.peek(21, address, 50, &mut [0; 4])
+}
+
+/// Nobody hears them at the former rate.
+pub fn none_is_heard_at_another_rate(playouts: &Playouts, address: &Address) -> u32
+    requires address { address.now ≡ (owner 1 7).address }
+    requires had { Has playouts.now (PutOf 21 (owner 1 7).address 50 1000 (pos 5 ∷ pos 6 ∷ []) ∷ TakeAll ∷ TakeAll ∷ TakeAll ∷ []) }
+    ensures { result ≡ 0 }
+{
+    playouts.peek(21, address, 100, &mut [0; 4])
 }

@@ -1,4 +1,5 @@
-//! Worked calls over the crates of single media streams and over the mixer: each answer is proved from the contract of the call alone.
+//! Worked calls over the crates of single media streams and over the mixer. Each answer is proved from the contract of
+//! the call alone.
 #![tactic(auto)]
 
 pub mod feedback_laws;

@@ -6,7 +6,8 @@ ghost use Rattle.mixer.specs.Mixers.{WasGiven};
 ghost use Rattle.worked_media.specs.Rooms.{first, second, third, mute, gain, three_with, sixteen_sources, two_ticks_later, three_ticks_later, four_ticks_later, all_sixteen_said, mix_to};
 
 use desk_rows::Rows;
-use forward_rewrite::{Counts, LanePlace};
+use forward_rewrite::Counts;
+use media_items::LanePlace;
 use mixer::{MixPacket, Mixer};
 use std::alloc::{AllocError, Global};
 

@@ -26,21 +26,24 @@ fn counts() -> Counts
 
 /// Half a second after the last frame the stream's time has gone on by 45000.
 pub fn time_goes_on_behind_the_last_frame(alloc: Global) -> Result<Vec<u8>, AllocError>
-    ensures { IfOk result (λ v. v.items ≡ octets_of (0x80c80006 ∷ 0x000001f5 ∷ 0x83aa7e81 ∷ 0x80000000 ∷ 0x0000b3b0 ∷ 0x00000002 ∷ 0x00000003 ∷ name 0x000001f5)) }
+    ensures { IfOk result (λ v. v.items ≡ octets_of
+        (0x80c80006 ∷ 0x000001f5 ∷ 0x83aa7e81 ∷ 0x80000000 ∷ 0x0000b3b0 ∷ 0x00000002 ∷ 0x00000003 ∷ name 0x000001f5)) }
 {
     sender_report(alloc, &counts(), 1_500_000_000, b"bridge")
 }
 
 /// Before the last frame it is the frame's.
 pub fn time_does_not_go_back(alloc: Global) -> Result<Vec<u8>, AllocError>
-    ensures { IfOk result (λ v. v.items ≡ octets_of (0x80c80006 ∷ 0x000001f5 ∷ 0x83aa7e80 ∷ 0x00000000 ∷ 0x000003e8 ∷ 0x00000002 ∷ 0x00000003 ∷ name 0x000001f5)) }
+    ensures { IfOk result (λ v. v.items ≡ octets_of
+        (0x80c80006 ∷ 0x000001f5 ∷ 0x83aa7e80 ∷ 0x00000000 ∷ 0x000003e8 ∷ 0x00000002 ∷ 0x00000003 ∷ name 0x000001f5)) }
 {
     sender_report(alloc, &counts(), 0, b"bridge")
 }
 
 /// 2,085,978,495 seconds after 1970 is the last second before NTP's begin anew.
 pub fn seconds_begin_anew_in_2036(alloc: Global) -> Result<Vec<u8>, AllocError>
-    ensures { IfOk result (λ v. v.items ≡ octets_of (0x80c80006 ∷ 0x000001f5 ∷ 0xffffffff ∷ 0xfffffffb ∷ 0x2ca5fc57 ∷ 0x00000002 ∷ 0x00000003 ∷ name 0x000001f5)) }
+    ensures { IfOk result (λ v. v.items ≡ octets_of
+        (0x80c80006 ∷ 0x000001f5 ∷ 0xffffffff ∷ 0xfffffffb ∷ 0x2ca5fc57 ∷ 0x00000002 ∷ 0x00000003 ∷ name 0x000001f5)) }
 {
     sender_report(alloc, &counts(), 2_085_978_495_999_999_999, b"bridge")
 }
@@ -75,7 +78,9 @@ fn second_block() -> ReportBlock
 
 /// Two sources are told of in one report, and the name stands behind it.
 pub fn two_sources_are_told_of(alloc: Global) -> Result<Vec<u8>, AllocError>
-    ensures { IfOk result (λ v. v.items ≡ octets_of ((0x82c9000d ∷ 0x00000001 ∷ 0x00000065 ∷ 0x40ffffff ∷ 0x00000067 ∷ 0x000000af ∷ 0x00000000 ∷ 0x00000000 ∷ 0x00000066 ∷ 0x00000000 ∷ 0x00010001 ∷ 0x00000000 ∷ 0x7e800000 ∷ 0x00010000 ∷ []) ++ name 0x00000001)) }
+    ensures { IfOk result (λ v. v.items ≡ octets_of ((0x82c9000d ∷ 0x00000001
+        ∷ 0x00000065 ∷ 0x40ffffff ∷ 0x00000067 ∷ 0x000000af ∷ 0x00000000 ∷ 0x00000000
+        ∷ 0x00000066 ∷ 0x00000000 ∷ 0x00010001 ∷ 0x00000000 ∷ 0x7e800000 ∷ 0x00010000 ∷ []) ++ name 0x00000001)) }
 {
     receiver_report(alloc, 1, &[first_block(), second_block()], b"bridge")
 }
@@ -89,7 +94,15 @@ pub fn no_source_is_told_of(alloc: Global) -> Result<Vec<u8>, AllocError>
 
 /// A receiver whose highest number is 65536 has got the packet 0, which is of source 6.
 fn heard_up_to_65536() -> ReportBlock
-    ensures { result ≡ record { ssrc = 500; fraction = 0; lost = neg_ℤ (pos 4); highest = 65536; jitter = 0; lsr = 0; dlsr = 0 } }
+    ensures { result ≡ record {
+      ssrc = 500;
+      fraction = 0;
+      lost = neg_ℤ (pos 4);
+      highest = 65536;
+      jitter = 0;
+      lsr = 0;
+      dlsr = 0;
+    } }
 {
     ReportBlock {
         ssrc: 500,
@@ -104,7 +117,12 @@ fn heard_up_to_65536() -> ReportBlock
 
 /// What it tells leads back to that source's packet.
 pub fn a_note_leads_back_to_the_source(alloc: Global) -> Result<LossNote, AllocError>
-    ensures { IfOk result (λ n. n ≡ record { out_ssrc = 500; fraction = 0; lost = neg_ℤ (pos 4); source = Some (6, pos 100) }) }
+    ensures { IfOk result (λ n. n ≡ record {
+      out_ssrc = 500;
+      fraction = 0;
+      lost = neg_ℤ (pos 4);
+      source = Some (6, pos 100);
+    }) }
 {
     let stream = switched(alloc)?;
     Ok(note(&heard_up_to_65536(), &owner(1, 7), &stream))

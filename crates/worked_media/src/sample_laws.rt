@@ -2,7 +2,7 @@
 
 ghost use Rattle.std.specs.Prelude.{◌≡◌, ◌*◌, length};
 
-use l16::{decode, encode};
+use sample_codecs::{decode_l16, encode_l16};
 
 /// Samples that are encoded and decoded again are the same, wherever they come from.
 pub fn samples_come_back(samples: &[i16], octets: &mut [u8], back: &mut [i16])
@@ -10,8 +10,8 @@ pub fn samples_come_back(samples: &[i16], octets: &mut [u8], back: &mut [i16])
     requires back { length back.old ≡ length samples.now }
     ensures { back.new ≡ samples.now }
 {
-    encode(samples, octets);
-    decode(octets, back);
+    encode_l16(samples, octets);
+    decode_l16(octets, back);
 }
 
 /// Octets that are decoded and encoded again are the same.
@@ -20,6 +20,6 @@ pub fn octets_come_back(octets: &[u8], samples: &mut [i16], back: &mut [u8])
     requires back { length back.old ≡ length octets.now }
     ensures { back.new ≡ octets.now }
 {
-    decode(octets, samples);
-    encode(samples, back);
+    decode_l16(octets, samples);
+    encode_l16(samples, back);
 }

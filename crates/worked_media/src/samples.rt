@@ -2,69 +2,69 @@
 
 ghost use Rattle.std.specs.Prelude.{◌≡◌, ℤ, pos, negsuc};
 
-use g711::{decode, encode, encode_again};
+use sample_codecs::{decode_sample, encode_again, encode_sample};
 
 /// Silence is all ones.
 pub fn silence_is_all_ones() -> u8
     ensures { result ≡ 255 }
 {
-    encode(0)
+    encode_sample(0)
 }
 
 /// The least magnitude below 0 has the code of the negative zero.
 pub fn minus_1_is_the_negative_zero() -> u8
     ensures { result ≡ 127 }
 {
-    encode(-1)
+    encode_sample(-1)
 }
 
 /// A step of the first segment.
 pub fn eight_is_one_step_up() -> u8
     ensures { result ≡ 254 }
 {
-    encode(8)
+    encode_sample(8)
 }
 
 /// A sample in the middle of the range.
 pub fn a_thousand_is_in_the_fourth_segment() -> u8
     ensures { result ≡ 206 }
 {
-    encode(1000)
+    encode_sample(1000)
 }
 
 /// The loudest sample is clipped to the last interval.
 pub fn the_loudest_sample_is_clipped() -> u8
     ensures { result ≡ 128 }
 {
-    encode(32767)
+    encode_sample(32767)
 }
 
 /// So is the loudest one below 0.
 pub fn the_loudest_sample_below_0_is_clipped() -> u8
     ensures { result ≡ 0 }
 {
-    encode(-32768)
+    encode_sample(-32768)
 }
 
 /// A code gives the middle of its interval.
 pub fn a_code_gives_the_middle_of_its_interval() -> i16
     ensures { result ≡ pos 988 }
 {
-    decode(0xce)
+    decode_sample(0xce)
 }
 
 /// The loudest code.
 pub fn the_loudest_code() -> i16
     ensures { result ≡ pos 32124 }
 {
-    decode(0x80)
+    decode_sample(0x80)
 }
 
 /// The loudest code below 0.
 pub fn the_loudest_code_below_0() -> i16
     ensures { result ≡ negsuc 32123 }
 {
-    decode(0)
+    decode_sample(0)
 }
 
 /// Both zeros are 0.
@@ -72,7 +72,7 @@ pub fn both_zeros_are_0() -> (i16, i16)
     ensures positive { result.0 ≡ pos 0 }
     ensures negative { result.1 ≡ pos 0 }
 {
-    (decode(0xff), decode(0x7f))
+    (decode_sample(0xff), decode_sample(0x7f))
 }
 
 /// A code stays what it is, decoded and encoded again.

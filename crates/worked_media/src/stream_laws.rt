@@ -3,13 +3,15 @@
 ghost use Rattle.std.specs.Prelude.{◌≡◌, ◌+◌, ◌%◌, ◌^◌, ℕ, Bool, true, List, [], ◌∷◌, length, map, IfSome, IfOk};
 ghost use Rattle.forward_rewrite.specs.Sending.{Sending};
 ghost use Rattle.forward_rewrite.specs.Streams.{HasSent};
-ghost use Rattle.forward_rewrite.specs.Mixes.{MixTick, HasMixed, mix_list, mix_packet, silent, sound_of};
+ghost use Rattle.forward_rewrite.specs.declared.tick_time.TickTime.{TickTime};
+ghost use Rattle.forward_rewrite.specs.Mixes.{MixTick, HasMixed, mix_list, mix_packet, sound_of};
 ghost use Rattle.forward_rewrite.specs.laws.Laws.{ts_behind};
+ghost use Rattle.forward_rewrite.specs.laws.MixLaws.{silent_at};
 
-use desk_rows::Codec;
 use forward_rewrite::{
     Counts, MixStream, OutPacket, Stream, mix_numbers_in_a_row, mix_time_goes_on, time_goes_on,
 };
+use media_items::Format;
 use std::alloc::{AllocError, Global};
 
 /// A stream that has sent one frame stands at its first timestamp.
@@ -37,7 +39,7 @@ pub fn numbers_the_next_packet(
     ensures { IfOk result (λ out. (first_seq first_ts : ℕ) (before : List MixTick) → HasMixed mix.old first_seq first_ts before → out.number ≡ (first_seq + length (mix_list mix.old.ssrc first_seq first_ts before)) % 2 ^ 16) }
 {
     mix_numbers_in_a_row();
-    mix.send(alloc, Codec::Pcmu, &[], samples, 0)
+    mix.send(alloc, Format::Pcmu, &[], samples, 0)
 }
 
 /// A mix that was silent in all its ticks begins with its first number, its first timestamp and the marker.
@@ -46,23 +48,23 @@ pub fn begins_with_the_marker(
     alloc: Global,
     samples: &[i16],
 ) -> Result<OutPacket, AllocError>
-    ensures { IfOk result (λ out. (first_seq first_ts : ℕ) (moments : List ℕ) → HasMixed mix.old first_seq first_ts (map silent moments) → out ≡ mix_packet mix.old.ssrc first_seq first_ts true (sound_of Codec.Pcmu [] samples.now)) }
+    ensures { IfOk result (λ out. (first_seq first_ts : ℕ) (silences : List TickTime) → HasMixed mix.old first_seq first_ts (map silent_at silences) → out ≡ mix_packet mix.old.ssrc first_seq first_ts true (sound_of Format.Pcmu [] samples.now)) }
 {
     mix_time_goes_on();
-    mix.send(alloc, Codec::Pcmu, &[], samples, 0)
+    mix.send(alloc, Format::Pcmu, &[], samples, 0)
 }
 
-/// A silent tick between two packets takes the timestamp on by 320, and the second one has the next number and the marker.
+/// A silent tick at 44100 Hz takes the timestamp on by 882, and a packet of PCMU behind it by 160. It has the next number and the marker.
 pub fn goes_on_behind_a_silent_tick(
     mix: &mut MixStream,
     alloc: Global,
     samples: &[i16],
 ) -> Result<(OutPacket, OutPacket), AllocError>
-    ensures { IfOk result (λ two. (first_seq first_ts : ℕ) (before : List MixTick) → HasMixed mix.old first_seq first_ts before → (ts : ℕ) × (marker : Bool) × (let sound = sound_of Codec.Pcmu [] samples.now in let number = first_seq + length (mix_list mix.old.ssrc first_seq first_ts before) in (two.0 ≡ mix_packet mix.old.ssrc number ts marker sound) × (two.1 ≡ mix_packet mix.old.ssrc (number + 1) (ts + 320) true sound))) }
+    ensures { IfOk result (λ two. (first_seq first_ts : ℕ) (before : List MixTick) → HasMixed mix.old first_seq first_ts before → (ts : ℕ) × (marker : Bool) × (let sound = sound_of Format.Pcmu [] samples.now in let number = first_seq + length (mix_list mix.old.ssrc first_seq first_ts before) in (two.0 ≡ mix_packet mix.old.ssrc number ts marker sound) × (two.1 ≡ mix_packet mix.old.ssrc (number + 1) (ts + 1042) true sound))) }
 {
     mix_time_goes_on();
-    let first = mix.send(alloc, Codec::Pcmu, &[], samples, 0)?;
-    mix.pass(20_000_000);
-    let second = mix.send(alloc, Codec::Pcmu, &[], samples, 40_000_000)?;
+    let first = mix.send(alloc, Format::Pcmu, &[], samples, 0)?;
+    mix.pass(44_100, 20_000_000);
+    let second = mix.send(alloc, Format::Pcmu, &[], samples, 40_000_000)?;
     Ok((first, second))
 }

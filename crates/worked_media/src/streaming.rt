@@ -6,8 +6,9 @@ ghost use Rattle.worked_media.specs.Sent.{owner as owner_of};
 ghost use Rattle.worked_media.specs.Streamed.{frame, sending, camera, after_both, second_octets};
 
 use bytes::Bytes;
-use forward_rewrite::{MediaFrame, OutPacket, Owner, Stamp, Stream};
+use forward_rewrite::{OutPacket, Owner, Stream};
 use frame_gate::{Frame, FramePacket};
+use media_items::{MediaFrame, Stamp};
 use rtp_codec::Address;
 use std::alloc::{AllocError, Global};
 

@@ -1,11 +1,10 @@
-use Rattle.std.proofs.Common.{ℕ, pos, [], ◌∷◌, ap, ◌∙◌}
-use Rattle.playout.specs.Calls.{Put, play_of, answer_of}
+use Rattle.std.proofs.Common.{ℕ, pos, [], ◌∷◌, subst, Some, None}
+use Rattle.playout.specs.Playout.{begun_by}
+use Rattle.playout.specs.inner.Holds.{Holds}
 use Rattle.worked_media.proofs.jitter_buffers.more_than_a_second_ahead_begins_anew.Goals as goal
 
 pub returns : goal.returns
 returns c =
-    let rate_0 = c.in-Ok.ensures.rate in
-    let step_0 = c.in-Ok.ensures.blank in
-    let step_1 = (c.put.ensures.puts ([]) step_0).1 in
-    let rate_1 = c.put.ensures.rate ∙ rate_0 in
-    (c.put-2.ensures.puts (Put 1000 (pos 5 ∷ pos 6 ∷ []) ∷ []) step_1).0 ∙ ap (λ (rate : ℕ). answer_of rate (play_of rate (Put 1000 (pos 5 ∷ pos 6 ∷ []) ∷ [])) 1046 (pos 7 ∷ pos 8 ∷ [])) rate_1
+    let play = begun_by 50 1000 (pos 5 ∷ pos 6 ∷ []) in
+    let step_1 = subst (λ (rate : ℕ). Holds c.put.new.self (Some (begun_by rate 1000 (pos 5 ∷ pos 6 ∷ [])))) c.in-Ok.ensures.rate (c.put.ensures.puts None c.in-Ok.ensures.blank).1 in
+    (c.put-2.ensures.puts (Some play) step_1).0

@@ -1,13 +1,10 @@
-use Rattle.std.proofs.Common.{ℕ, pos, [], ◌∷◌, ap, ◌∙◌, subst}
+use Rattle.std.proofs.Common.{ℕ, pos, [], ◌∷◌, ap, ◌∙◌, subst, Some, None}
 use Rattle.playout.specs.Playout.{begun_by, present}
-use Rattle.playout.specs.Calls.{Put, play_of, Takes}
+use Rattle.playout.specs.inner.Holds.{Holds}
 use Rattle.worked_media.proofs.jitter_buffers.they_come_60_ms_later.Goals as goal
 
 pub returns : goal.returns
 returns c =
-    let rate_0 = c.in-Ok.ensures.rate in
-    let step_1 = (c.put.ensures.puts [] c.in-Ok.ensures.blank).1 in
-    let taken = subst (λ (rate : ℕ). Takes (play_of rate (Put 1000 (pos 5 ∷ pos 6 ∷ []) ∷ [])) c.take.new.out c.take.result) (c.put.ensures.rate ∙ rate_0)
-    (c.take.ensures.shows (Put 1000 (pos 5 ∷ pos 6 ∷ []) ∷ []) step_1) in
     let play = begun_by 50 1000 (pos 5 ∷ pos 6 ∷ []) in
-    taken.1 ∙ ap (present play.pairs play.position) c.take.auto.out
+    let step_1 = subst (λ (rate : ℕ). Holds c.put.new.self (Some (begun_by rate 1000 (pos 5 ∷ pos 6 ∷ [])))) c.in-Ok.ensures.rate (c.put.ensures.puts None c.in-Ok.ensures.blank).1 in
+    (c.take.ensures.shows (Some play) step_1).1 ∙ ap (present play.pairs play.position) c.take.auto.out

@@ -4,7 +4,7 @@ use Rattle.worked_media.proofs.samples.a_thousand_is_in_the_fourth_segment.Goals
 
 pub returns : goal.returns
 returns c =
-    sym (c.encode.ensures.one 206 (record {
+    sym (c.encode_sample.ensures.one 206 (record {
       octet = omega arith;
       low = omega arith;
       high = omega arith;

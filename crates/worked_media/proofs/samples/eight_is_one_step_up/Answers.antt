@@ -4,7 +4,7 @@ use Rattle.worked_media.proofs.samples.eight_is_one_step_up.Goals as goal
 
 pub returns : goal.returns
 returns c =
-    sym (c.encode.ensures.one 254 (record {
+    sym (c.encode_sample.ensures.one 254 (record {
       octet = omega arith;
       low = omega arith;
       high = omega arith;

@@ -4,7 +4,7 @@ use Rattle.worked_media.proofs.samples.minus_1_is_the_negative_zero.Goals as goa
 
 pub returns : goal.returns
 returns c =
-    sym (c.encode.ensures.one 127 (record {
+    sym (c.encode_sample.ensures.one 127 (record {
       octet = omega arith;
       low = omega arith;
       high = omega arith;

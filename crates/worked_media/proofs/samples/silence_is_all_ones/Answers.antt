@@ -4,7 +4,7 @@ use Rattle.worked_media.proofs.samples.silence_is_all_ones.Goals as goal
 
 pub returns : goal.returns
 returns c =
-    sym (c.encode.ensures.one 255 (record {
+    sym (c.encode_sample.ensures.one 255 (record {
       octet = omega arith;
       low = omega arith;
       high = omega arith;

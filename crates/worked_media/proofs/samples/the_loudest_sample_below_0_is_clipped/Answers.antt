@@ -4,7 +4,7 @@ use Rattle.worked_media.proofs.samples.the_loudest_sample_below_0_is_clipped.Goa
 
 pub returns : goal.returns
 returns c =
-    sym (c.encode.ensures.one 0 (record {
+    sym (c.encode_sample.ensures.one 0 (record {
       octet = omega arith;
       low = omega arith;
       high = omega arith;

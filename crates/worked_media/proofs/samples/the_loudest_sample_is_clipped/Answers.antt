@@ -4,7 +4,7 @@ use Rattle.worked_media.proofs.samples.the_loudest_sample_is_clipped.Goals as go
 
 pub returns : goal.returns
 returns c =
-    sym (c.encode.ensures.one 128 (record {
+    sym (c.encode_sample.ensures.one 128 (record {
       octet = omega arith;
       low = omega arith;
       high = omega arith;
