@@ -2,17 +2,16 @@
 
 ghost use Rattle.std.specs.Prelude.{◌≡◌, true};
 ghost use Rattle.std.specs.Bool.{OnTrue};
-ghost use Rattle.intake.specs.Inputs.{input_of, is_sized};
+ghost use Rattle.media_items.specs.Inputs.{input_of, is_sized};
 
+use crate::calling::{call, redo_all, show, undo_all};
 use crate::direct::direct;
 use crate::halves::Besides;
-use crate::lines::{Answer, MOST, arrival_of, first_word, nack, unread};
-use crate::saying::{say, say_egress, say_outcome, say_reply, say_up};
-use bridge_core::{Core, Item, Reply, Settings};
+use crate::lines::{Answer, arrival_of, first_word, nack, unread};
+use crate::saying::{say_egress, say_outcome, say_up};
+use bridge_core::{Core, Item, Settings};
 use bytes::Bytes;
-use desk_edit::{Call, Refusal};
 use refusing::Refusing;
-use script_text::{ParseFault, parse_desk, print_rows};
 use std::alloc::{AllocError, Global};
 use std::collections::VecDeque;
 use std::io;
@@ -25,13 +24,6 @@ pub struct Bridge<'a> {
     core: Core<&'a Refusing>,
     waiting: VecDeque<Item<&'a Refusing>, &'a Refusing>,
     halves: Besides<'a>,
-}
-
-/// What a line of the desk comes to.
-enum Judged {
-    Told(Reply),
-    Refused,
-    Unread,
 }
 
 /// What a line's first word asks for.
@@ -69,12 +61,15 @@ fn verb_of(word: &str) -> Verb {
     }
 }
 
-/// Whether lanes may handle an item: sound has 1 to 1,600 samples.
+/// Whether lanes may handle an item: sound has 1 to 200 ms of samples at 8000 or 44100 Hz.
 fn is_fit<'a>(item: &Item<&'a Refusing>) -> bool
     ensures { OnTrue result (is_sized (input_of item.now) ≡ true) }
 {
     match item {
-        Item::Audio { samples, .. } => !samples.is_empty() && samples.len() <= 1_600,
+        Item::Audio { rate, samples, .. } => {
+            (*rate == 8_000 || *rate == 44_100)
+                && (!samples.is_empty() && samples.len() <= *rate as usize / 5)
+        }
         _ => true,
     }
 }
@@ -107,16 +102,16 @@ impl<'a> Bridge<'a> {
         let (word, words) = first_word(line);
         match verb_of(word) {
             Verb::Nothing => Ok(Answer::Whole),
-            Verb::Desk => self.desk(nth, words, out),
+            Verb::Desk => call(self.heap, &mut self.core, nth, words, out),
             Verb::Datagram => self.datagram(nth, words, out),
             Verb::Reports => self.reports(nth, words, out),
             Verb::Next => self.next_item(nth, out),
             Verb::Copy => self.copy(nth),
             Verb::Direct => self.direct(nth, word, words, out),
             Verb::Halves => self.halves.line(nth, word, words, out),
-            Verb::Show => self.show(nth, out),
-            Verb::AllBack => self.all_back(out),
-            Verb::AllAgain => self.all_again(out),
+            Verb::Show => show(self.heap, &self.core, nth, out),
+            Verb::AllBack => undo_all(self.heap, &mut self.core, out),
+            Verb::AllAgain => redo_all(self.heap, &mut self.core, out),
             Verb::Item => self.named_item(nth, word, words, out),
         }
     }
@@ -161,40 +156,6 @@ impl<'a> Bridge<'a> {
             }),
             "nack" => nack(self.heap, words),
             _ => None,
-        }
-    }
-
-    /// A call of an operator.
-    fn desk(&mut self, nth: u64, words: &str, out: &mut String) -> io::Result<Answer> {
-        self.heap.refuse(nth);
-        let asked = self.asked(words);
-        let met = self.heap.end(nth);
-        match asked {
-            Judged::Told(reply) => {
-                say_reply(self.heap, &reply, out)?;
-                Ok(Answer::after(met))
-            }
-            Judged::Refused => Ok(Answer::Refused),
-            Judged::Unread => unread(out),
-        }
-    }
-
-    fn asked(&mut self, words: &str) -> Judged {
-        let (op, text) = first_word(words);
-        let Ok(op) = op.parse::<u8>() else {
-            return Judged::Unread;
-        };
-        let call = match parse_desk(self.heap, text.as_bytes()) {
-            Ok(call) => call,
-            Err(ParseFault::OutOfMemory) => return Judged::Refused,
-            Err(_) => return Judged::Unread,
-        };
-        match self.core.desk(self.heap, op, call) {
-            Reply::Refused {
-                why: Refusal::OutOfMemory,
-                ..
-            } => Judged::Refused,
-            reply => Judged::Told(reply),
         }
     }
 
@@ -298,50 +259,5 @@ impl<'a> Bridge<'a> {
                 Ok(Answer::Refused)
             }
         }
-    }
-
-    /// The rows of the desk.
-    fn show(&self, nth: u64, out: &mut String) -> io::Result<Answer> {
-        let mut text = Vec::new(self.heap);
-        text.push(b'|')?;
-        self.heap.refuse(nth);
-        let is_shown = print_rows(self.core.rows(), self.core.version(), &mut text).is_ok();
-        let met = self.heap.end(nth);
-        if is_shown {
-            say(text.get(1..).unwrap_or(b""), out)?;
-            return Ok(Answer::after(met));
-        }
-        if text.as_slice() != b"|".as_slice() {
-            out.push_str("a part of ")?;
-        }
-        Ok(Answer::Refused)
-    }
-
-    /// Undoes all that is done, and says how much that was.
-    fn all_back(&mut self, out: &mut String) -> io::Result<Answer> {
-        let mut count: u64 = 0;
-        for _ in 0..MOST {
-            let last = self.core.version();
-            if let Reply::Refused { .. } = self.core.desk(self.heap, 0, Call::Undo { last }) {
-                break;
-            }
-            count = count.saturating_add(1);
-        }
-        write!(out, "undone {count}\n")?;
-        Ok(Answer::Whole)
-    }
-
-    /// Does again all that was undone, and says how much that was.
-    fn all_again(&mut self, out: &mut String) -> io::Result<Answer> {
-        let mut count: u64 = 0;
-        for _ in 0..MOST {
-            let last = self.core.version();
-            if let Reply::Refused { .. } = self.core.desk(self.heap, 0, Call::Redo { last }) {
-                break;
-            }
-            count = count.saturating_add(1);
-        }
-        write!(out, "redone {count}\n")?;
-        Ok(Answer::Whole)
     }
 }

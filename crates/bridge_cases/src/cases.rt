@@ -37,8 +37,8 @@ impl Cases {
         }
     }
 
-    /// Takes one more line: `** NAME` begins what all cases from there on begin with, `== NAME` a case, `%% NAME` a case that is a
-    /// script, and any other line belongs to what is being read.
+    /// Takes one more line: `** NAME` begins what all cases from there on begin with, `== NAME` a case, `%% NAME` a
+    /// case that is a script, and any other line belongs to what is being read.
     pub fn line(&mut self, rt: &HostRuntime, line: &str) -> io::Result<()> {
         if let Some(name) = line.strip_prefix("** ") {
             self.end(rt)?;

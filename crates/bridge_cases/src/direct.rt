@@ -3,9 +3,10 @@
 use crate::lines::{Answer, unread};
 use bridge_core::{Item, PacketBytes};
 use bytes::Bytes;
-use desk_rows::{Codec, Rows};
-use forward_rewrite::{MediaFrame, MixStream, OutPacket, Owner, Stamp, Stream};
+use desk_rows::Rows;
+use forward_rewrite::{MixStream, OutPacket, Owner, Stream};
 use frame_gate::{Gate, Packet};
+use media_items::{Format, MediaFrame, Stamp};
 use refusing::Refusing;
 use rtp_codec::Address;
 use std::alloc::{AllocError, Global};
@@ -70,12 +71,12 @@ fn stream<'a>(
     Ok(Answer::after(met))
 }
 
-/// Appends the packet of a mix of two samples of the source 102 on a new stream, of the SSRC 9002 with the number 65535 and the timestamp
-/// 1000 first.
+/// Appends the packet of a mix of two samples of the source 102 on a new stream, of the SSRC 9002 with the number 65535
+/// and the timestamp 1000 first.
 fn mix<'a>(alloc: Global, heap: &'a Refusing, nth: u64, out: &mut String) -> io::Result<Answer> {
     let mut stream = MixStream::new(9_002, 65_535, 1_000);
     heap.refuse(nth);
-    let sent = stream.send(heap, Codec::L16, &[102], &[1, -2], 0);
+    let sent = stream.send(heap, Format::L16At8000, &[102], &[1, -2], 0);
     let met = heap.end(nth);
     let Ok(packet) = sent else {
         return Ok(Answer::Refused);
@@ -146,8 +147,8 @@ fn roster<'a>(
     Ok(Answer::after(met))
 }
 
-/// How many frames a gate closes and how many numbers it finds missing, at the end of a frame, at the last packet of a frame of two, and at
-/// its first one.
+/// How many frames a gate closes and how many numbers it finds missing, at the end of a frame, at the last packet of a
+/// frame of two, and at its first one.
 fn admitted<'a>(heap: &'a Refusing) -> Result<Vec<(usize, usize), &'a Refusing>, AllocError> {
     let mut gate = Gate::new(heap)?;
     let mut counts = Vec::new(heap);

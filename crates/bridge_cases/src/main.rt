@@ -1,9 +1,10 @@
-//! Cases of a bridge, call by call, in which each request for memory is refused in turn. They are read from standard input. A case
-//! that is answered otherwise prints its name and what differs; last stands how many cases there were. How many requests each case
-//! makes stands on standard error.
+//! Cases of a bridge, call by call, in which each request for memory is refused in turn. They are read from standard
+//! input. A case that is answered otherwise prints its name and what differs. Last stands how many cases there were.
+//! How many requests each case makes stands on standard error.
 #![tactic(auto)]
 
 mod bridge;
+mod calling;
 mod case;
 mod cases;
 mod direct;

@@ -67,8 +67,8 @@ fn shows<'a>(alloc: Global, bridge: &mut Bridge<'a>, before: &String) -> io::Res
     Ok(shown == *before)
 }
 
-/// A bridge refuses the line at each of its requests in turn, until it answers. Where other rows are shown after a refusal, the answer
-/// has that.
+/// A bridge refuses the line at each of its requests in turn, until it answers. Where other rows are shown after a
+/// refusal, the answer has that.
 fn told_at_last<'a>(alloc: Global, bridge: &mut Bridge<'a>, case: &Case) -> io::Result<String> {
     let mut text = String::new(alloc);
     answers(bridge, case.before.as_str(), &mut text)?;
@@ -137,8 +137,8 @@ fn is_told(
     Ok(false)
 }
 
-/// How many requests the line makes, if the bridge is as before after each refusal, or as after an answer where it answers anyway.
-/// Prints what isn't.
+/// How many requests the line makes, if the bridge is as before after each refusal, or as after an answer where it
+/// answers anyway. Prints what isn't.
 fn requests(rt: &HostRuntime, alloc: Global, case: &Case) -> io::Result<Option<u64>> {
     let line = case.refused.as_str();
     let before = said(alloc, case, "", 0, case.asked.as_str())?;

@@ -1,6 +1,6 @@
 //! What whole scripts give.
 
-ghost use Rattle.std.specs.Prelude.{◌≡◌, ℕ, Some, [], codes, IfOk};
+ghost use Rattle.std.specs.Prelude.{◌≡◌, ◌++◌, ℕ, Some, [], codes, IfOk};
 
 use script_text::{Fault, RunFault, output};
 use std::alloc::Global;
@@ -15,7 +15,8 @@ pub fn an_empty_script(alloc: Global) -> Result<Vec<u8>, RunFault>
 
 /// A room of no number is a fault.
 pub fn a_room_of_no_number(alloc: Global) -> Option<RunFault>
-    ensures { (line word : ℕ) (fault : Fault) → result ≡ Some (RunFault.Script line word fault) → (line ≡ 1) × (word ≡ 4) × (fault ≡ Fault.BadNumber) }
+    ensures { (line word : ℕ) (fault : Fault) → result ≡ Some (RunFault.Script line word fault)
+        → (line ≡ 1) × (word ≡ 4) × (fault ≡ Fault.BadNumber) }
 {
     output(alloc, b"desk 0 add-room x").err()
 }
@@ -34,29 +35,50 @@ pub fn a_script_sets_up(alloc: Global) -> Result<Vec<u8>, RunFault>
 {
     let out = output(
         alloc,
-        b"desk 0 add-room 1\ndesk 0 add-member 10 1 10.0.0.1:5000 pcmu 9001 0 0\ndesk 0 add-member 11 1 10.0.0.2:5000 pcmu 9002 0 0\ndesk 0 add-source 101 10 video\ndesk 0 add-slot 501 11 0 65535 1000\ndesk 0 subscribe 501 101\n",
+        b"desk 0 add-room 1\n\
+          desk 0 add-member 10 1 10.0.0.1:5000 pcmu 9001 0 0\n\
+          desk 0 add-member 11 1 10.0.0.2:5000 pcmu 9002 0 0\n\
+          desk 0 add-source 101 10 video\n\
+          desk 0 add-slot 501 11 0 65535 1000\n\
+          desk 0 subscribe 501 101\n",
     )?;
     Ok(out)
 }
 
 /// A frame behind the usual setup.
 pub fn a_script_sends_a_frame(alloc: Global) -> Result<Vec<u8>, RunFault>
-    ensures { IfOk result (λ out. out.items ≡ codes "ok 1\nok 2\nok 3\nok 4\nok 5\nok 6\ntx 6 1 10.0.0.2:5000 501 65535 8164ffff000003e8000001f500000065aabb\ntx 6 1 10.0.0.2:5000 501 0 81e40000000003e8000001f500000065cc\n") }
+    ensures { IfOk result (λ out. out.items ≡ codes "ok 1\nok 2\nok 3\nok 4\nok 5\nok 6\n"
+        ++ codes "tx 6 1 10.0.0.2:5000 501 65535 8164ffff000003e8000001f500000065aabb\n"
+        ++ codes "tx 6 1 10.0.0.2:5000 501 0 81e40000000003e8000001f500000065cc\n") }
 {
     let out = output(
         alloc,
-        b"desk 0 add-room 1\ndesk 0 add-member 10 1 10.0.0.1:5000 pcmu 9001 0 0\ndesk 0 add-member 11 1 10.0.0.2:5000 pcmu 9002 0 0\ndesk 0 add-source 101 10 video\ndesk 0 add-slot 501 11 0 65535 1000\ndesk 0 subscribe 501 101\nframe 1000000000 10.0.0.1:5000 101 1 90000 7/0/100/aabb 8/1/100/cc\n",
+        b"desk 0 add-room 1\n\
+          desk 0 add-member 10 1 10.0.0.1:5000 pcmu 9001 0 0\n\
+          desk 0 add-member 11 1 10.0.0.2:5000 pcmu 9002 0 0\n\
+          desk 0 add-source 101 10 video\n\
+          desk 0 add-slot 501 11 0 65535 1000\n\
+          desk 0 subscribe 501 101\n\
+          frame 1000000000 10.0.0.1:5000 101 1 90000 7/0/100/aabb 8/1/100/cc\n",
     )?;
     Ok(out)
 }
 
 /// The rows behind the usual setup.
 pub fn a_script_shows_rows(alloc: Global) -> Result<Vec<u8>, RunFault>
-    ensures { IfOk result (λ out. out.items ≡ codes "ok 1\nok 2\nok 3\nok 4\nok 5\nok 6\nroom 1\nmember 0 10 1 10.0.0.1:5000 pcmu 9001 0 0\nmember 1 11 1 10.0.0.2:5000 pcmu 9002 0 0\nsource 101 10 video\nslot 501 11 0 65535 1000\nsub 501 101\nend 6\n") }
+    ensures { IfOk result (λ out. out.items ≡ codes "ok 1\nok 2\nok 3\nok 4\nok 5\nok 6\nroom 1\n"
+        ++ codes "member 0 10 1 10.0.0.1:5000 pcmu 9001 0 0\nmember 1 11 1 10.0.0.2:5000 pcmu 9002 0 0\n"
+        ++ codes "source 101 10 video\nslot 501 11 0 65535 1000\nsub 501 101\nend 6\n") }
 {
     let out = output(
         alloc,
-        b"desk 0 add-room 1\ndesk 0 add-member 10 1 10.0.0.1:5000 pcmu 9001 0 0\ndesk 0 add-member 11 1 10.0.0.2:5000 pcmu 9002 0 0\ndesk 0 add-source 101 10 video\ndesk 0 add-slot 501 11 0 65535 1000\ndesk 0 subscribe 501 101\nshow\n",
+        b"desk 0 add-room 1\n\
+          desk 0 add-member 10 1 10.0.0.1:5000 pcmu 9001 0 0\n\
+          desk 0 add-member 11 1 10.0.0.2:5000 pcmu 9002 0 0\n\
+          desk 0 add-source 101 10 video\n\
+          desk 0 add-slot 501 11 0 65535 1000\n\
+          desk 0 subscribe 501 101\n\
+          show\n",
     )?;
     Ok(out)
 }

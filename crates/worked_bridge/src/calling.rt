@@ -108,7 +108,8 @@ pub fn carries_out_no_group_with_a_refused_part(
 ) -> Reply
     requires version { core.old.version ≡ 6 }
     requires desk { core.old.desk ≡ small }
-    requires commands { commands.items ≡ Command.AddRoom (record { room = 1 }) ∷ Command.AddRoom (record { room = 2 }) ∷ [] }
+    requires commands { commands.items
+        ≡ Command.AddRoom (record { room = 1 }) ∷ Command.AddRoom (record { room = 2 }) ∷ [] }
     ensures answer { result ≡ Reply.Refused 6 (Refusal.PartRefused 0 Reason.Exists) }
     ensures same { core.new ≡ core.old }
 {

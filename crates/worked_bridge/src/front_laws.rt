@@ -13,8 +13,10 @@ pub fn hears_nothing_behind_too_long_a_line(
     alloc: Global,
     octets: &[u8],
 ) -> Result<Fed, AllocError>
-    ensures none { IfOk result (λ fed. (before : List ℕ) → StandsFor lines.old before → is_too_long before ≡ true → texts fed.lines.items ≡ []) }
-    ensures long { IfOk result (λ fed. (before : List ℕ) → StandsFor lines.old before → is_too_long before ≡ true → fed.too_long ≡ true) }
+    ensures none { IfOk result (λ fed. (before : List ℕ) → StandsFor lines.old before → is_too_long before ≡ true
+        → texts fed.lines.items ≡ []) }
+    ensures long { IfOk result (λ fed. (before : List ℕ) → StandsFor lines.old before → is_too_long before ≡ true
+        → fed.too_long ≡ true) }
 {
     too_long_for_good();
     lines.feed(alloc, octets)

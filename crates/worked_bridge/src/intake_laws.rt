@@ -26,7 +26,10 @@ pub fn reports_leave_others_alone(
     rows: &Rows,
     moment: u64,
 ) -> Result<Vec<(Address, Vec<u8>)>, AllocError>
-    ensures { IfOk result (λ up. (s : Sources) → Knows intake.old s → (t : Sources) × Knows intake.new t × (map (λ k. k.origin) t.known ≡ map (λ k. k.origin) s.known) × ((o : Origin) → comes_from rows.now o.ssrc o.address ≡ false → story_at o t.known ≡ story_at o s.known)) }
+    ensures { IfOk result (λ up. (s : Sources) → Knows intake.old s
+        → (t : Sources) × Knows intake.new t
+        × (map (λ k. k.origin) t.known ≡ map (λ k. k.origin) s.known)
+        × ((o : Origin) → comes_from rows.now o.ssrc o.address ≡ false → story_at o t.known ≡ story_at o s.known)) }
 {
     reports_begin_intervals();
     intake.reports(alloc, rows, moment)

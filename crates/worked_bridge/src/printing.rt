@@ -46,15 +46,25 @@ pub fn prints_a_refused_group(why: Refusal, out: &mut Vec<u8>) -> Result<(), All
     requires { out.old.items ≡ [] }
     ensures empty { why ≡ Refusal.EmptyGroup → OnOk result (out.new.items ≡ codes "no 6 18 EmptyGroup\n") }
     ensures long { why ≡ Refusal.GroupTooLong 64 → OnOk result (out.new.items ≡ codes "no 6 19 GroupTooLong 64\n") }
-    ensures part { why ≡ Refusal.PartRefused 2 Reason.NoMember → OnOk result (out.new.items ≡ codes "no 6 20 PartRefused 2 3 NoMember\n") }
-    ensures full { why ≡ Refusal.PartRefused 63 (Reason.Full Table.Rooms 64) → OnOk result (out.new.items ≡ codes "no 6 20 PartRefused 63 12 Full rooms 64\n") }
+    ensures part { why ≡ Refusal.PartRefused 2 Reason.NoMember
+        → OnOk result (out.new.items ≡ codes "no 6 20 PartRefused 2 3 NoMember\n") }
+    ensures full { why ≡ Refusal.PartRefused 63 (Reason.Full Table.Rooms 64)
+        → OnOk result (out.new.items ≡ codes "no 6 20 PartRefused 63 12 Full rooms 64\n") }
 {
     print_reply(&Reply::Refused { at: 6, why }, out)
 }
 
 /// The line of a packet behind another line.
 pub fn prints_a_packet(egress: &Egress, out: &mut Vec<u8>) -> Result<(), AllocError>
-    requires packet { sent_of egress.now ≡ Sent.media record { version = 6; item = 1; to = record { ip = 10 ∷ 0 ∷ 0 ∷ 2 ∷ []; port = 5000 }; ssrc = 501; number = 65535; bytes = 129 ∷ 100 ∷ 15 ∷ 240 ∷ []; resent_by = None } }
+    requires packet { sent_of egress.now ≡ Sent.media record {
+      version = 6;
+      item = 1;
+      to = record { ip = 10 ∷ 0 ∷ 0 ∷ 2 ∷ []; port = 5000 };
+      ssrc = 501;
+      number = 65535;
+      bytes = 129 ∷ 100 ∷ 15 ∷ 240 ∷ [];
+      resent_by = None;
+    } }
     requires behind { out.old.items ≡ codes "ok 6\n" }
     ensures { OnOk result (out.new.items ≡ codes "ok 6\ntx 6 1 10.0.0.2:5000 501 65535 81640ff0\n") }
 {
@@ -63,7 +73,15 @@ pub fn prints_a_packet(egress: &Egress, out: &mut Vec<u8>) -> Result<(), AllocEr
 
 /// The line of a packet that is sent again, by version 11.
 pub fn prints_a_resend(egress: &Egress, out: &mut Vec<u8>) -> Result<(), AllocError>
-    requires packet { sent_of egress.now ≡ Sent.media record { version = 6; item = 1; to = record { ip = 10 ∷ 0 ∷ 0 ∷ 2 ∷ []; port = 5000 }; ssrc = 501; number = 0; bytes = 129 ∷ 228 ∷ []; resent_by = Some 11 } }
+    requires packet { sent_of egress.now ≡ Sent.media record {
+      version = 6;
+      item = 1;
+      to = record { ip = 10 ∷ 0 ∷ 0 ∷ 2 ∷ []; port = 5000 };
+      ssrc = 501;
+      number = 0;
+      bytes = 129 ∷ 228 ∷ [];
+      resent_by = Some 11;
+    } }
     requires behind { out.old.items ≡ [] }
     ensures { OnOk result (out.new.items ≡ codes "re 11 6 1 10.0.0.2:5000 501 0 81e4\n") }
 {
@@ -72,7 +90,13 @@ pub fn prints_a_resend(egress: &Egress, out: &mut Vec<u8>) -> Result<(), AllocEr
 
 /// The line of an RTCP compound.
 pub fn prints_a_compound(egress: &Egress, out: &mut Vec<u8>) -> Result<(), AllocError>
-    requires compound { sent_of egress.now ≡ Sent.control record { version = 6; item = 2; to = record { ip = 10 ∷ 0 ∷ 0 ∷ 1 ∷ []; port = 5000 }; ssrc = 501; bytes = 128 ∷ 201 ∷ 0 ∷ 1 ∷ [] } }
+    requires compound { sent_of egress.now ≡ Sent.control record {
+      version = 6;
+      item = 2;
+      to = record { ip = 10 ∷ 0 ∷ 0 ∷ 1 ∷ []; port = 5000 };
+      ssrc = 501;
+      bytes = 128 ∷ 201 ∷ 0 ∷ 1 ∷ [];
+    } }
     requires behind { out.old.items ≡ [] }
     ensures { OnOk result (out.new.items ≡ codes "ct 6 2 10.0.0.1:5000 80c90001\n") }
 {
@@ -81,7 +105,12 @@ pub fn prints_a_compound(egress: &Egress, out: &mut Vec<u8>) -> Result<(), Alloc
 
 /// The line of a receiver that had more packets than were sent, and its highest from a source.
 pub fn prints_a_note(egress: &Egress, out: &mut Vec<u8>) -> Result<(), AllocError>
-    requires note { sent_of egress.now ≡ Sent.note record { version = 6; item = 3; from = record { ip = 10 ∷ 0 ∷ 0 ∷ 2 ∷ []; port = 5000 }; note = record { out_ssrc = 501; fraction = 64; lost = negsuc 1; source = Some (101, negsuc 7) } } }
+    requires note { sent_of egress.now ≡ Sent.note record {
+      version = 6;
+      item = 3;
+      from = record { ip = 10 ∷ 0 ∷ 0 ∷ 2 ∷ []; port = 5000 };
+      note = record { out_ssrc = 501; fraction = 64; lost = negsuc 1; source = Some (101, negsuc 7) };
+    } }
     requires behind { out.old.items ≡ [] }
     ensures { OnOk result (out.new.items ≡ codes "note 6 3 10.0.0.2:5000 501 64 -2 101 -8\n") }
 {
@@ -90,7 +119,12 @@ pub fn prints_a_note(egress: &Egress, out: &mut Vec<u8>) -> Result<(), AllocErro
 
 /// The line of a receiver whose highest packet leads back to none of a source.
 pub fn prints_a_note_without_a_source(egress: &Egress, out: &mut Vec<u8>) -> Result<(), AllocError>
-    requires note { sent_of egress.now ≡ Sent.note record { version = 6; item = 3; from = record { ip = 10 ∷ 0 ∷ 0 ∷ 2 ∷ []; port = 5000 }; note = record { out_ssrc = 501; fraction = 0; lost = pos 1; source = None } } }
+    requires note { sent_of egress.now ≡ Sent.note record {
+      version = 6;
+      item = 3;
+      from = record { ip = 10 ∷ 0 ∷ 0 ∷ 2 ∷ []; port = 5000 };
+      note = record { out_ssrc = 501; fraction = 0; lost = pos 1; source = None };
+    } }
     requires behind { out.old.items ≡ [] }
     ensures { OnOk result (out.new.items ≡ codes "note 6 3 10.0.0.2:5000 501 0 1 - -\n") }
 {

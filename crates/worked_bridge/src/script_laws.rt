@@ -1,10 +1,11 @@
 //! What the laws of scripts tell a caller, whatever the words are.
 
-ghost use Rattle.std.specs.Prelude.{◌≡◌, ◌≢◌, pos, ◌≤◌, ◌<◌, ◌+◌, ◌%◌, ◌^◌, ◌++◌, ◌∷◌, ℕ, ℤ, true, List, [], codes, length, Some, IfSome, IfOk, OnOk};
+ghost use Rattle.std.specs.Prelude.{◌≡◌, ◌≢◌, ◌≤◌, ◌<◌, ◌+◌, ◌%◌, ◌^◌, ◌++◌, ◌∷◌};
+ghost use Rattle.std.specs.Prelude.{ℕ, ℤ, pos, true, List, [], codes, length, Some, IfSome, IfOk, OnOk};
 ghost use Rattle.rtp_codec.specs.declared.address.Address.{Address};
 ghost use Rattle.desk_rows.specs.Desk.{Desk, blank, good};
 ghost use Rattle.frame_gate.specs.Frame.{SourcePacket};
-ghost use Rattle.forward_rewrite.specs.Frame.{SourceFrame};
+ghost use Rattle.media_items.specs.Frame.{SourceFrame};
 ghost use Rattle.desk_edit.specs.Asked.{asked_by};
 ghost use Rattle.desk_edit.specs.declared.refusal.Refusal.{Refusal as RefusalOf};
 ghost use Rattle.desk_edit.specs.Refusals.{first_case};
@@ -74,7 +75,8 @@ pub fn one_address_is_spelt_in_one_way(first: &[u8], second: &[u8]) -> Option<(A
 /// The number of an accepted call reads back from its line.
 pub fn reads_back_the_number_of_a_call(no: u64, out: &mut Vec<u8>) -> Result<(), AllocError>
     requires { out.old.items ≡ [] }
-    ensures { OnOk result ((word : List ℕ) × (out.new.items ≡ codes "ok " ++ word ++ 10 ∷ []) × (decimal_of 18446744073709551615 word ≡ Some no)) }
+    ensures { OnOk result ((word : List ℕ) × (out.new.items ≡ codes "ok " ++ word ++ 10 ∷ [])
+        × (decimal_of 18446744073709551615 word ≡ Some no)) }
 {
     number_words();
     print_reply(&Reply::Accepted { no }, out)
@@ -86,9 +88,16 @@ pub fn reads_back_the_number_of_a_noted_packet(
     egress: &Egress,
     out: &mut Vec<u8>,
 ) -> Result<(), AllocError>
-    requires note { sent_of egress.now ≡ Sent.note record { version = 6; item = 2; from = record { ip = 10 ∷ 0 ∷ 0 ∷ 2 ∷ []; port = 5000 }; note = record { out_ssrc = 501; fraction = 0; lost = pos 0; source = Some (101, ext) } } }
+    requires note { sent_of egress.now ≡ Sent.note record {
+      version = 6;
+      item = 2;
+      from = record { ip = 10 ∷ 0 ∷ 0 ∷ 2 ∷ []; port = 5000 };
+      note = record { out_ssrc = 501; fraction = 0; lost = pos 0; source = Some (101, ext) };
+    } }
     requires behind { out.old.items ≡ [] }
-    ensures { OnOk result ((word : List ℕ) × (out.new.items ≡ codes "note 6 2 10.0.0.2:5000 501 0 0 101 " ++ word ++ 10 ∷ []) × (FitsExt ext → ext_of word ≡ Some ext)) }
+    ensures { OnOk result ((word : List ℕ)
+        × (out.new.items ≡ codes "note 6 2 10.0.0.2:5000 501 0 0 101 " ++ word ++ 10 ∷ [])
+        × (FitsExt ext → ext_of word ≡ Some ext)) }
 {
     ext_words();
     print_egress(egress, out)
@@ -112,7 +121,9 @@ pub fn reads_back_octets(alloc: Global, octets: &[u8]) -> Option<Vec<u8>>
 pub fn others_are_printed_otherwise()
     ensures packets { (p q : SourcePacket) → IsReadable p → IsReadable q → packet_text p ≡ packet_text q → p ≡ q }
     ensures frames { (f g : SourceFrame) → IsFrame f → IsFrame g → frame_line f ≡ frame_line g → f ≡ g }
-    ensures datagrams { (m n : ℕ) (from to : Address) (octets bytes : List ℕ) → IsDatagram m from octets → IsDatagram n to bytes → rx_line m from octets ≡ rx_line n to bytes → octets ≡ bytes }
+    ensures datagrams { (m n : ℕ) (from to : Address) (octets bytes : List ℕ)
+        → IsDatagram m from octets → IsDatagram n to bytes
+        → rx_line m from octets ≡ rx_line n to bytes → octets ≡ bytes }
     ensures ticks { (m n : ℕ) → m < 2 ^ 64 → n < 2 ^ 64 → tick_line m ≡ tick_line n → m ≡ n }
     ensures reports { (m n : ℕ) → m < 2 ^ 64 → n < 2 ^ 64 → report_line m ≡ report_line n → m ≡ n }
 {
@@ -125,7 +136,9 @@ pub fn others_are_printed_otherwise()
 
 /// A call that is refused is told the first reason that holds.
 pub fn tells_the_first_reason(alloc: Global, core: &mut Core, call: Call) -> Reply
-    ensures { (at : ℕ) (why : RefusalOf) → result ≡ Reply.Refused at why → why ≢ RefusalOf.OutOfMemory → first_case (call_cases core.old.version core.old.desk (length core.old.done) (length core.old.undone) (asked_by call)) ≡ Some why }
+    ensures { (at : ℕ) (why : RefusalOf) → result ≡ Reply.Refused at why → why ≢ RefusalOf.OutOfMemory
+        → first_case (call_cases core.old.version core.old.desk
+        (length core.old.done) (length core.old.undone) (asked_by call)) ≡ Some why }
 {
     refusal_words();
     core.desk(alloc, 0, call)
@@ -140,7 +153,8 @@ pub fn a_datagram_is_heard(octets: &[u8])
 
 /// The output of a script is that of a wire on which the script is heard, whatever its lines are.
 pub fn a_script_has_an_output(alloc: Global, script: &[u8]) -> Result<Vec<u8>, RunFault>
-    ensures { IfOk result (λ out. (wire : Wire) × HearsAll wire (lines_of script.now) × (out.items ≡ (output_of wire script.now).text)) }
+    ensures { IfOk result (λ out. (wire : Wire) × HearsAll wire (lines_of script.now)
+        × (out.items ≡ (output_of wire script.now).text)) }
 {
     output(alloc, script)
 }
@@ -151,7 +165,8 @@ pub fn two_scripts_have_one_wire(
     first: &[u8],
     second: &[u8],
 ) -> Result<(Vec<u8>, Vec<u8>), RunFault>
-    ensures { IfOk result (λ both. (wire : Wire) × (both.0.items ≡ (output_of wire first.now).text) × (both.1.items ≡ (output_of wire second.now).text)) }
+    ensures { IfOk result (λ both. (wire : Wire) × (both.0.items ≡ (output_of wire first.now).text)
+        × (both.1.items ≡ (output_of wire second.now).text)) }
 {
     scripts_are_heard();
     let one = output(alloc, first)?;
@@ -159,18 +174,24 @@ pub fn two_scripts_have_one_wire(
     Ok((one, other))
 }
 
-/// What a script sends is what the core sends over its steps, from the blank desk of SSRC 1 and under the name `bridge`.
+/// What a script sends is what the core sends over its steps. The desk is blank at first and of SSRC 1; the name is
+/// `bridge`.
 pub fn a_script_sends_as_the_core_does()
-    ensures { (wire : Wire) (input : List ℕ) → sent_in (answers_of wire input) ≡ sends (record { ssrc = 1; cname = codes "bridge" }) 1 (blank 1) (steps_of wire input) }
+    ensures { (wire : Wire) (input : List ℕ) → sent_in (answers_of wire input)
+        ≡ sends (record { ssrc = 1; cname = codes "bridge" }) 1 (blank 1) (steps_of wire input) }
 {
     script_bridge();
     script_sends();
 }
 
-/// The second packet that a script sends for the first time on a stream is numbered one more than the first, and the first desk that it publishes is good.
+/// The second packet that a script sends for the first time on a stream is numbered one more than the first, and the
+/// first desk that it publishes is good.
 pub fn a_script_numbers_without_a_gap()
-    ensures second { (wire : Wire) (input : List ℕ) (name : Name) (m n : ℕ) (ns : List ℕ) → numbers (firsts script_asker 1 (blank 1) name (steps_of wire input)) ≡ m ∷ n ∷ ns → n ≡ (m + 1) % 2 ^ 16 }
-    ensures good { (wire : Wire) (input : List ℕ) (desk : Desk) (steps : List Step) → steps_of wire input ≡ Step.publish desk ∷ steps → good desk ≡ true }
+    ensures second { (wire : Wire) (input : List ℕ) (name : Name) (m n : ℕ) (ns : List ℕ)
+        → numbers (firsts script_asker 1 (blank 1) name (steps_of wire input)) ≡ m ∷ n ∷ ns
+        → n ≡ (m + 1) % 2 ^ 16 }
+    ensures good { (wire : Wire) (input : List ℕ) (desk : Desk) (steps : List Step)
+        → steps_of wire input ≡ Step.publish desk ∷ steps → good desk ≡ true }
 {
     script_bridge();
     script_streams_have_no_gap();

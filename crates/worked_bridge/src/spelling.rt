@@ -20,8 +20,18 @@ pub fn spells_an_undo(alloc: Global, text: &[u8]) -> Result<Call, ParseFault>
 
 /// A call of one command. The empty text has no word.
 pub fn spells_a_command(alloc: Global, text: &[u8]) -> Result<Call, ParseFault>
-    ensures member { text.now ≡ codes "add-member 1 2 3.4.5.6:7 l16 8 9 10" → result ≡ Ok (Call.Apply (Command.AddMember (record { member = 1; room = 2; address = record { ip = 3 ∷ 4 ∷ 5 ∷ 6 ∷ []; port = 7 }; codec = Codec.L16; out_audio = 8; first_seq = 9; first_ts = 10 }))) }
-    ensures address { text.now ≡ codes "add-member 1 2 3.4.5.06:7 l16 8 9 10" → result ≡ Err (ParseFault.Line 4 Fault.BadAddress) }
+    ensures member { text.now ≡ codes "add-member 1 2 3.4.5.6:7 l16 8 9 10"
+        → result ≡ Ok (Call.Apply (Command.AddMember (record {
+          member = 1;
+          room = 2;
+          address = record { ip = 3 ∷ 4 ∷ 5 ∷ 6 ∷ []; port = 7 };
+          codec = Codec.L16;
+          out_audio = 8;
+          first_seq = 9;
+          first_ts = 10;
+        }))) }
+    ensures address { text.now ≡ codes "add-member 1 2 3.4.5.06:7 l16 8 9 10"
+        → result ≡ Err (ParseFault.Line 4 Fault.BadAddress) }
     ensures number { text.now ≡ codes "add-room x" → result ≡ Err (ParseFault.Line 2 Fault.BadNumber) }
     ensures nothing { text.now ≡ [] → result ≡ Err (ParseFault.Line 1 Fault.MissingWord) }
 {
@@ -30,11 +40,16 @@ pub fn spells_a_command(alloc: Global, text: &[u8]) -> Result<Call, ParseFault>
 
 /// A call of a group: commands with a `/` between them, and no other call among them.
 pub fn spells_a_group(alloc: Global, text: &[u8]) -> Result<Call, ParseFault>
-    ensures two { text.now ≡ codes "group add-room 7 / remove-room 7" → IfOk result (λ call. asked_by call ≡ CallOf.Group (Command.AddRoom (record { room = 7 }) ∷ Command.RemoveRoom 7 ∷ [])) }
-    ensures good { text.now ≡ codes "group add-room 7 / remove-room 7" → (word : ℕ) (fault : Fault) → result ≢ Err (ParseFault.Line word fault) }
+    ensures two { text.now ≡ codes "group add-room 7 / remove-room 7"
+        → IfOk result (λ call. asked_by call ≡ CallOf.Group
+        (Command.AddRoom (record { room = 7 }) ∷ Command.RemoveRoom 7 ∷ [])) }
+    ensures good { text.now ≡ codes "group add-room 7 / remove-room 7" → (word : ℕ) (fault : Fault)
+        → result ≢ Err (ParseFault.Line word fault) }
     ensures empty { text.now ≡ codes "group" → IfOk result (λ call. ⊥) }
-    ensures missing { text.now ≡ codes "group" → (word : ℕ) (fault : Fault) → result ≡ Err (ParseFault.Line word fault) → (word ≡ 2) × (fault ≡ Fault.MissingWord) }
-    ensures undo { text.now ≡ codes "group add-room 7 / undo 1" → (word : ℕ) (fault : Fault) → result ≡ Err (ParseFault.Line word fault) → (word ≡ 5) × (fault ≡ Fault.UnknownWord) }
+    ensures missing { text.now ≡ codes "group" → (word : ℕ) (fault : Fault)
+        → result ≡ Err (ParseFault.Line word fault) → (word ≡ 2) × (fault ≡ Fault.MissingWord) }
+    ensures undo { text.now ≡ codes "group add-room 7 / undo 1" → (word : ℕ) (fault : Fault)
+        → result ≡ Err (ParseFault.Line word fault) → (word ≡ 5) × (fault ≡ Fault.UnknownWord) }
 {
     parse_desk(alloc, text)
 }

@@ -1,7 +1,7 @@
 //! Items of a lane, at the end of what it can count.
 
 ghost use Rattle.std.specs.Prelude.{◌≡◌, ◌≢◌, true, Err};
-ghost use Rattle.intake.specs.Inputs.{input_of, is_sized};
+ghost use Rattle.media_items.specs.Inputs.{input_of, is_sized};
 
 use bridge_core::{Egress, Item, LaneFault, LaneState};
 use desk_rows::Rows;

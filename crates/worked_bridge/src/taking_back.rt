@@ -13,9 +13,12 @@ use bridge_core::{
 use desk_edit::{Call, Command};
 use std::alloc::Global;
 
-/// How an undo behind an accepted command is answered: where the log has room it is accepted, and the desk is the one before.
+/// How an undo behind an accepted command is answered. Where the log has room it is accepted, and the desk is the one
+/// before.
 pub fn a_command_comes_back(alloc: Global, core: &mut Core, command: Command) -> Option<Reply>
-    ensures { IfSome result (λ reply. core.old.version + 2 ≤ call_limit → (reply ≡ Reply.Accepted (core.old.version + 2)) × (core.new.desk ≡ core.old.desk) × (core.new.done ≡ core.old.done)) }
+    ensures { IfSome result (λ reply. core.old.version + 2 ≤ call_limit
+        → (reply ≡ Reply.Accepted (core.old.version + 2))
+        × (core.new.desk ≡ core.old.desk) × (core.new.done ≡ core.old.done)) }
 {
     commands_come_back();
     match core.desk(alloc, 0, Call::Apply(command)) {
@@ -24,9 +27,12 @@ pub fn a_command_comes_back(alloc: Global, core: &mut Core, command: Command) ->
     }
 }
 
-/// How an undo behind an accepted group is answered: where the log has room it is accepted, and the desk is the one before the group.
+/// How an undo behind an accepted group is answered. Where the log has room it is accepted, and the desk is the one
+/// before the group.
 pub fn the_group_comes_back(alloc: Global, core: &mut Core, commands: Vec<Command>) -> Option<Reply>
-    ensures { IfSome result (λ reply. core.old.version + 2 ≤ call_limit → (reply ≡ Reply.Accepted (core.old.version + 2)) × (core.new.desk ≡ core.old.desk) × (core.new.done ≡ core.old.done)) }
+    ensures { IfSome result (λ reply. core.old.version + 2 ≤ call_limit
+        → (reply ≡ Reply.Accepted (core.old.version + 2))
+        × (core.new.desk ≡ core.old.desk) × (core.new.done ≡ core.old.done)) }
 {
     commands_come_back();
     match core.desk(alloc, 0, Call::Group(commands)) {
@@ -37,7 +43,8 @@ pub fn the_group_comes_back(alloc: Global, core: &mut Core, commands: Vec<Comman
 
 /// An undo that names the last call, where something is done and the log has room.
 pub fn an_undo_is_accepted(alloc: Global, core: &mut Core) -> Reply
-    ensures { 1 ≤ length core.old.done → core.old.version + 1 ≤ call_limit → result ≡ Reply.Accepted (core.old.version + 1) }
+    ensures { 1 ≤ length core.old.done → core.old.version + 1 ≤ call_limit
+        → result ≡ Reply.Accepted (core.old.version + 1) }
 {
     undos_and_redos_are_accepted();
     let last = core.version();
@@ -46,7 +53,9 @@ pub fn an_undo_is_accepted(alloc: Global, core: &mut Core) -> Reply
 
 /// A redo behind it: all is as it was.
 pub fn an_undo_is_redone(alloc: Global, core: &mut Core) -> Reply
-    ensures { 1 ≤ length core.old.done → core.old.version + 2 ≤ call_limit → (result ≡ Reply.Accepted (core.old.version + 2)) × (core.new.desk ≡ core.old.desk) × (core.new.done ≡ core.old.done) × (core.new.undone ≡ core.old.undone) }
+    ensures { 1 ≤ length core.old.done → core.old.version + 2 ≤ call_limit
+        → (result ≡ Reply.Accepted (core.old.version + 2))
+        × (core.new.desk ≡ core.old.desk) × (core.new.done ≡ core.old.done) × (core.new.undone ≡ core.old.undone) }
 {
     undos_and_redos_are_accepted();
     undos_are_redone();
@@ -58,8 +67,10 @@ pub fn an_undo_is_redone(alloc: Global, core: &mut Core) -> Reply
 
 /// Whatever is called, the edits that are kept lead from the first desk to the one at hand, and back.
 pub fn edits_lead_there_and_back(alloc: Global, core: &mut Core, call: Call) -> bool
-    ensures leads { result ≡ true → (h : CallHistory) → HasCalled core.old h → fold after h.start core.new.done ≡ core.new.desk }
-    ensures back { result ≡ true → (h : CallHistory) → HasCalled core.old h → rewound after inverse core.new.desk (reverse core.new.done) ≡ h.start }
+    ensures leads { result ≡ true → (h : CallHistory) → HasCalled core.old h
+        → fold after h.start core.new.done ≡ core.new.desk }
+    ensures back { result ≡ true → (h : CallHistory) → HasCalled core.old h
+        → rewound after inverse core.new.desk (reverse core.new.done) ≡ h.start }
 {
     edits_lead_back();
     match core.desk(alloc, 0, call) {

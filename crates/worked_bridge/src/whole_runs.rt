@@ -3,7 +3,7 @@
 ghost use Rattle.std.specs.Prelude.{◌≡◌, ◌%◌, ℕ, true, [], ◌∷◌, length, map, None, IfSome};
 ghost use Rattle.desk_rows.specs.Desk.{Desk, blank};
 ghost use Rattle.mixer.specs.Mixes.{mixes};
-ghost use Rattle.intake.specs.Inputs.{input_of, is_sized};
+ghost use Rattle.media_items.specs.Inputs.{input_of, is_sized};
 ghost use Rattle.bridge_core.specs.Sent.{sent_of};
 ghost use Rattle.bridge_core.specs.Lanes.{given_of, goes, packets};
 ghost use Rattle.bridge_core.specs.Steps.{Step, HasTaken, sends, visits};
@@ -16,12 +16,24 @@ use bridge_core::{
 };
 use std::alloc::Global;
 
-/// What a new bridge of three lanes sends for its first item is what is given for this run, whose streams are their lists.
+/// What a new bridge of three lanes sends for its first item is what is given for this run, whose streams are their
+/// lists.
 pub fn sends_its_lists(alloc: Global, settings: Settings, item: &Item) -> Option<Vec<Egress>>
     requires { is_sized (input_of item.now) ≡ true }
-    ensures given { IfSome result (λ sent. map sent_of sent.items ∷ [] ≡ sends (record { ssrc = settings.bridge_ssrc; cname = settings.cname }) 3 (blank settings.bridge_ssrc) (Step.item 2 (input_of item.now) ∷ [])) }
-    ensures videos { IfSome result (λ sent. (ssrc : ℕ) → firsts (record { ssrc = settings.bridge_ssrc; cname = settings.cname }) 3 (blank settings.bridge_ssrc) (record { kind = Kind.video; ssrc = ssrc }) (Step.item 2 (input_of item.now) ∷ []) ≡ map (goes ssrc None) (packets ssrc (visits (ssrc % 3) (blank settings.bridge_ssrc) (Step.item 2 (input_of item.now) ∷ [])))) }
-    ensures mixes { IfSome result (λ sent. (ssrc : ℕ) → map numbered_of (firsts (record { ssrc = settings.bridge_ssrc; cname = settings.cname }) 3 (blank settings.bridge_ssrc) (record { kind = Kind.mix; ssrc = ssrc }) (Step.item 2 (input_of item.now) ∷ [])) ≡ mixes ssrc (given_of (visits (ssrc % 3) (blank settings.bridge_ssrc) (Step.item 2 (input_of item.now) ∷ [])))) }
+    ensures given { IfSome result (λ sent. map sent_of sent.items ∷ []
+        ≡ sends (record { ssrc = settings.bridge_ssrc; cname = settings.cname }) 3 (blank settings.bridge_ssrc)
+        (Step.item 2 (input_of item.now) ∷ [])) }
+    ensures videos { IfSome result (λ sent. (ssrc : ℕ)
+        → firsts (record { ssrc = settings.bridge_ssrc; cname = settings.cname }) 3 (blank settings.bridge_ssrc)
+        (record { kind = Kind.video; ssrc = ssrc }) (Step.item 2 (input_of item.now) ∷ [])
+        ≡ map (goes ssrc None) (packets ssrc (visits (ssrc % 3) (blank settings.bridge_ssrc)
+        (Step.item 2 (input_of item.now) ∷ [])))) }
+    ensures mixes { IfSome result (λ sent. (ssrc : ℕ)
+        → map numbered_of (firsts
+        (record { ssrc = settings.bridge_ssrc; cname = settings.cname }) 3 (blank settings.bridge_ssrc)
+        (record { kind = Kind.mix; ssrc = ssrc }) (Step.item 2 (input_of item.now) ∷ []))
+        ≡ mixes ssrc (given_of (visits (ssrc % 3) (blank settings.bridge_ssrc)
+        (Step.item 2 (input_of item.now) ∷ [])))) }
 {
     all_that_is_sent();
     streams_are_routed_lists();
@@ -46,7 +58,9 @@ pub fn is_the_same_on_two_lanes(
     requires two { length two.old.lanes ≡ 2 }
     requires name { two.old.intake.asker ≡ one.old.intake.asker }
     requires sized { is_sized (input_of item.now) ≡ true }
-    ensures { IfSome result (λ sent. (start : Desk) (ssrc : ℕ) → HasTaken one.old start [] → HasTaken two.old start [] → sent_on ssrc (map sent_of sent.0.items ∷ []) ≡ sent_on ssrc (map sent_of sent.1.items ∷ map sent_of sent.2.items ∷ [])) }
+    ensures { IfSome result (λ sent. (start : Desk) (ssrc : ℕ) → HasTaken one.old start [] → HasTaken two.old start []
+        → sent_on ssrc (map sent_of sent.0.items ∷ [])
+        ≡ sent_on ssrc (map sent_of sent.1.items ∷ map sent_of sent.2.items ∷ [])) }
 {
     lane_count_does_not_matter();
     let Ok(alone) = one.item(alloc, 0, item) else {

@@ -3,7 +3,7 @@ use Rattle.desk_rows.specs.Desk.{blank, good}
 use Rattle.desk_edit.specs.Asked.{asked_by}
 use Rattle.desk_edit.specs.Calls.{no_calls}
 use Rattle.feedback.specs.Upstream.{Asker}
-use Rattle.intake.specs.Inputs.{input_of}
+use Rattle.media_items.specs.Inputs.{input_of}
 use Rattle.intake.specs.inner.Holding.{IntakeOf}
 use Rattle.bridge_core.specs.Sent.{sent_of}
 use Rattle.bridge_core.specs.Events.{Event, Accepts, Sends, Plays, steps_of}

@@ -1,6 +1,6 @@
 use Rattle.std.proofs.Common.{List, length, map, filter, ap, sym, subst, ◌∙◌}
 use Rattle.std.proofs.lemmas.Result.{IfOk-weaker}
-use Rattle.intake.specs.Inputs.{Input}
+use Rattle.media_items.specs.Inputs.{Input}
 use Rattle.bridge_core.specs.Sent.{Sent, sent_of}
 use Rattle.bridge_core.specs.Lanes.{given_of, sends_at}
 use Rattle.bridge_core.specs.Steps.{Step, sent_at, visit_after, visits}
