@@ -1,7 +1,7 @@
 //! The cases.
 
 ghost use Rattle.std.specs.Prelude.{◌≡◌, true};
-ghost use Rattle.intake.specs.Inputs.{input_of, is_sized};
+ghost use Rattle.media_items.specs.Inputs.{input_of, is_sized};
 
 use crate::asking::{Case, Order};
 use crate::coding::{decoded, encoded};
@@ -12,7 +12,8 @@ use crate::room::{RECEIVERS, core_with, last_owner};
 use crate::talking::{heard, silent, unheard};
 use crate::tally::Tally;
 use bridge_core::{Core, Egress, Item, PacketBytes};
-use forward_rewrite::{Owner, Stamp, Stream};
+use forward_rewrite::{Owner, Stream};
+use media_items::Stamp;
 use std::alloc::{AllocError, Global};
 use std::io;
 

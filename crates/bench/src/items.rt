@@ -1,7 +1,7 @@
 //! The items that are given to the core.
 
 ghost use Rattle.std.specs.Prelude.{◌≡◌, true};
-ghost use Rattle.intake.specs.Inputs.{input_of, is_sized};
+ghost use Rattle.media_items.specs.Inputs.{input_of, is_sized};
 
 use bridge_core::{Frame, FramePacket, Item, MediaFrame};
 use bytes::Bytes;

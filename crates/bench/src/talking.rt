@@ -1,7 +1,7 @@
 //! Members that speak, and the ticks at which they are heard.
 
 ghost use Rattle.std.specs.Prelude.{◌≡◌, true, IfOk};
-ghost use Rattle.intake.specs.Inputs.{input_of, is_sized};
+ghost use Rattle.media_items.specs.Inputs.{input_of, is_sized};
 
 use crate::asking::Order;
 use crate::driving::give;
@@ -80,6 +80,7 @@ fn sound_of(alloc: Global, speaker: &Speaker, time: u64) -> Result<Item, AllocEr
     Ok(Item::Audio {
         ssrc: source_of(speaker.member),
         address: address_of(speaker.member),
+        rate: 8_000,
         ts: time.wrapping_mul(SAMPLES as u32),
         samples: Vec::from_slice(alloc, &speaker.samples)?,
     })

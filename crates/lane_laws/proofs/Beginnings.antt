@@ -16,7 +16,7 @@ use Rattle.desk_calls.specs.Accepted.{after_calls}
 use Rattle.versions.specs.Published.{NoticeOf, after_lists}
 use Rattle.versions.proofs.Prefixes.{prefix_self, prefix_trans, prefix_whole, prefix_length}
 use Rattle.feedback.specs.Upstream.{Asker}
-use Rattle.intake.specs.declared.item.Item.{Item}
+use Rattle.media_items.specs.declared.item.Item.{Item}
 use Rattle.bridge_core.specs.Sent.{Sent, sent_of}
 use Rattle.bridge_core.specs.Lanes.{Visit}
 use Rattle.bridge_core.specs.LaneState.{visit_of}

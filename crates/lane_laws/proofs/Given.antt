@@ -8,8 +8,8 @@ use Rattle.desk_edit.specs.Calls.{CallHistory, no_calls, desk_now, after_call}
 use Rattle.desk_calls.specs.Accepted.{after_calls}
 use Rattle.feedback.specs.Upstream.{Asker}
 use Rattle.retransmit.specs.SentPacket.{SentPacket}
-use Rattle.forward_rewrite.specs.Frame.{SourceFrame}
-use Rattle.intake.specs.Inputs.{Input, Request, Told, Loss}
+use Rattle.media_items.specs.Frame.{SourceFrame}
+use Rattle.media_items.specs.Inputs.{Input, Request, Told, Loss}
 use Rattle.bridge_core.specs.Sent.{Sent}
 use Rattle.bridge_core.specs.Lanes.{goes, given_of}
 use Rattle.bridge_core.specs.Steps.{Step, version_of, desk_of, along, sent_at, visits, visit_after, sends}

@@ -6,7 +6,7 @@ use mathlib.Core.List.{IsPrefix}
 use Rattle.desk_rows.specs.Desk.{Desk, good}
 use Rattle.desk_rows.specs.Edit.{EditOf}
 use Rattle.versions.specs.Published.{NoticeOf}
-use Rattle.intake.specs.declared.item.Item.{Item}
+use Rattle.media_items.specs.declared.item.Item.{Item}
 use Rattle.bridge_core.specs.Events.{Event}
 use Rattle.operator_desk.specs.Entry.{EntryOf}
 use Rattle.operator_desk.specs.LegalLogs.{calls_of, IsLegal}

@@ -3,7 +3,7 @@
 ghost use Rattle.std.specs.Prelude.{◌≡◌, ◌⊎◌, ◌+◌, ◌-◌, ◌^◌, true, Err, length, map, IfOk, OnOk, OnErr};
 ghost use mathlib.Core.List.{IsPrefix};
 ghost use Rattle.versions.specs.Published.{after_lists};
-ghost use Rattle.intake.specs.Inputs.{input_of, is_sized};
+ghost use Rattle.media_items.specs.Inputs.{input_of, is_sized};
 ghost use Rattle.bridge_core.specs.Sent.{sent_of};
 ghost use Rattle.bridge_core.specs.LaneState.{Handles};
 ghost use Rattle.media_workers.specs.LaneRuns.{IsSameLane};

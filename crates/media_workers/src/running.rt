@@ -7,7 +7,7 @@ ghost use Rattle.rtrb.specs.Ring.{received, SameConsumer};
 ghost use Rattle.rtrb.specs.declared.consumer.Consumer.{Consumer};
 ghost use Rattle.rtrb.specs.declared.AnyItems.{AnyItems};
 ghost use Rattle.versions.specs.Published.{NoticeOf};
-ghost use Rattle.intake.specs.Inputs.{input_of, is_sized};
+ghost use Rattle.media_items.specs.Inputs.{input_of, is_sized};
 ghost use Rattle.bridge_core.specs.Sent.{sent_of};
 ghost use Rattle.bridge_core.specs.declared.egress.Egress.{Egress};
 ghost use Rattle.media_workers.specs.Parcels.{IsFit};

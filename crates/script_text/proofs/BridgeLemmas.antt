@@ -11,8 +11,8 @@ use Rattle.desk_edit.specs.Calls.{no_calls, desk_now, refusal_of, after_call as 
 use Rattle.bridge_core.specs.declared.reply.Reply.{Reply}
 use Rattle.bridge_core.specs.declared.reply.Reply.TheVariants.{Accepted, Refused}
 use Rattle.feedback.specs.Upstream.{Asker}
-use Rattle.intake.specs.Inputs.{Input, is_sized}
-use Rattle.intake.specs.Inputs.Input.{report}
+use Rattle.media_items.specs.Inputs.{Input, is_sized}
+use Rattle.media_items.specs.Inputs.Input.{report}
 use Rattle.bridge_core.specs.Sent.{Sent}
 use Rattle.std.specs.Prelude.{slice_get}
 use Rattle.bridge_core.specs.LaneState.{LaneOf}

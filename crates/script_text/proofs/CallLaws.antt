@@ -18,7 +18,7 @@ use Rattle.script_text.specs.Values.{field_of, value_text, Fits, AllFit, values_
 use Rattle.script_text.specs.Calls.{name_text, fields_of, command_of, command_words, is_slash, commands_of, group_words, AreCommands, head_text, all_heads, head_of, last_of, headed, single, call_by, call_of, call_words, call_line, IsCall}
 use Rattle.frame_gate.specs.declared.frame.FrameFault.{FrameFault}
 use Rattle.frame_gate.specs.Frame.{fault_of}
-use Rattle.forward_rewrite.specs.Frame.{SourceFrame}
+use Rattle.media_items.specs.Frame.{SourceFrame}
 use Rattle.rtp_codec.specs.declared.address.Address.{Address as Endpoint}
 use Rattle.script_text.specs.Requests.{Desk, kind_text, line_kind_of, line_kinds, front_of, some_packets, sighted, framed, frame_of, some_octets, rx_of, request_with, words_request, desk_line}
 use Rattle.script_text.proofs.Joined.{AllFree, free_test, parts_joined}

@@ -6,9 +6,9 @@ use Rattle.std.proofs.lemmas.List.Splits.{join_with_byte-slice_split}
 use Rattle.hex.specs.Hex.{encode_lower, encode_with, lower_digits}
 use Rattle.frame_gate.specs.declared.frame.FrameFault.{FrameFault}
 use Rattle.frame_gate.specs.Frame.{SourcePacket, fault_of}
-use Rattle.forward_rewrite.specs.Frame.{SourceFrame}
-use Rattle.intake.specs.Inputs.{Input}
-use Rattle.intake.specs.Inputs.Input.{frame}
+use Rattle.media_items.specs.Frame.{SourceFrame}
+use Rattle.media_items.specs.Inputs.{Input}
+use Rattle.media_items.specs.Inputs.Input.{frame}
 use Rattle.script_text.specs.declared.fault.Fault.{Fault}
 use Rattle.script_text.specs.declared.fault.Fault.TheVariants.{UnknownWord}
 use Rattle.script_text.specs.declared.value.Value.{Value}

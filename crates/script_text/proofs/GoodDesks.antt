@@ -18,8 +18,8 @@ use Rattle.desk_edit.specs.Refusals.{reason_against, refused}
 use Rattle.desk_edit.specs.Calls.{CallHistory, desk_now, call_limit, front, final, or_log_full, refusal_of, after_call as history_after}
 use Rattle.bridge_core.specs.Steps.{Step}
 use Rattle.bridge_core.specs.Headline.{IsGood, AreGood}
-use Rattle.intake.specs.Inputs.{Input}
-use Rattle.intake.specs.Inputs.Input.{report}
+use Rattle.media_items.specs.Inputs.{Input}
+use Rattle.media_items.specs.Inputs.Input.{report}
 use Rattle.script_text.specs.Requests.{Request, Nothing, Desk, Item, Rx, Report, Show}
 use Rattle.script_text.specs.Wire.{Wire}
 use Rattle.script_text.specs.Lines.{lines_of}

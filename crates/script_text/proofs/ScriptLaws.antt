@@ -7,8 +7,8 @@ use Rattle.desk_edit.specs.Calls.{CallHistory, refusal_of, after_call as history
 use Rattle.bridge_core.specs.Sent.{Sent}
 use Rattle.bridge_core.specs.Steps.{Step, along, sent_at, sends}
 use Rattle.script_text.specs.declared.fault.Fault.{Fault}
-use Rattle.intake.specs.Inputs.{Input}
-use Rattle.intake.specs.Inputs.Input.{report}
+use Rattle.media_items.specs.Inputs.{Input}
+use Rattle.media_items.specs.Inputs.Input.{report}
 use Rattle.intake.specs.Ingested.{Ingested}
 use Rattle.intake.specs.Sources.{Sources}
 use Rattle.script_text.specs.Requests.{Request, Nothing, Desk, Item, Rx, Report, Show, request_of}

@@ -12,7 +12,7 @@ use Rattle.script_text.specs.declared.fault.RunFault.{RunFault}
 use Rattle.script_text.specs.declared.fault.RunFault.TheVariants as errors
 use Rattle.desk_edit.specs.declared.refusal.Refusal.{Refusal}
 use Rattle.desk_edit.specs.Calls.{CallHistory, refusal_of, after_call as history_after}
-use Rattle.intake.specs.Inputs.{Input}
+use Rattle.media_items.specs.Inputs.{Input}
 use Rattle.script_text.specs.Wire.{Wire, Hears, HearsAll}
 use Rattle.script_text.specs.Bridge.{Bridge, answer_call, after_item, after_items, knowing, taken_at, answer_text, after}
 use Rattle.bridge_core.specs.Steps.{CoreOf}

@@ -4,8 +4,8 @@ use Rattle.std.specs.List.{join_with_byte}
 use Rattle.std.proofs.lemmas.List.Splits.{join_with_byte-slice_split}
 use Rattle.frame_gate.specs.declared.frame.FrameFault.{FrameFault}
 use Rattle.frame_gate.specs.Frame.{fault_of}
-use Rattle.forward_rewrite.specs.Frame.{SourceFrame}
-use Rattle.intake.specs.Inputs.Input.{tick}
+use Rattle.media_items.specs.Frame.{SourceFrame}
+use Rattle.media_items.specs.Inputs.Input.{tick}
 use Rattle.script_text.specs.declared.fault.Fault.TheVariants.{UnknownWord}
 use Rattle.script_text.specs.declared.value.Value.{Value}
 use Rattle.script_text.specs.declared.value.Value.TheVariants as values

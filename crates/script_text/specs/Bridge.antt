@@ -9,8 +9,8 @@ use Rattle.bridge_core.specs.declared.reply.Reply.{Reply}
 use Rattle.bridge_core.specs.declared.reply.Reply.TheVariants.{Accepted, Refused}
 use Rattle.rtp_codec.specs.declared.address.Address.{Address}
 use Rattle.intake.specs.declared.outcome.Outcome.{Outcome}
-use Rattle.intake.specs.Inputs.{Input}
-use Rattle.intake.specs.Inputs.Input.{report}
+use Rattle.media_items.specs.Inputs.{Input}
+use Rattle.media_items.specs.Inputs.Input.{report}
 use Rattle.intake.specs.Ingested.{Ingested}
 use Rattle.intake.specs.Sources.{Sources, no_sources}
 use Rattle.intake.specs.Taking.{Datagram, taken_in}

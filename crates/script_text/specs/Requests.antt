@@ -9,9 +9,9 @@ use Rattle.hex.specs.Hex.{IsBytes, decode_of, encode_lower}
 use Rattle.rtp_codec.specs.declared.address.Address.{Address as Endpoint}
 use Rattle.frame_gate.specs.declared.frame.FrameFault.{FrameFault}
 use Rattle.frame_gate.specs.Frame.{SourcePacket, fault_of}
-use Rattle.forward_rewrite.specs.Frame.{SourceFrame}
-use Rattle.intake.specs.Inputs.{Input}
-use Rattle.intake.specs.Inputs.Input.{frame, tick}
+use Rattle.media_items.specs.Frame.{SourceFrame}
+use Rattle.media_items.specs.Inputs.{Input}
+use Rattle.media_items.specs.Inputs.Input.{frame, tick}
 use Rattle.script_text.specs.declared.fault.Fault.{Fault}
 use Rattle.script_text.specs.declared.fault.Fault.TheVariants.{LineTooLong, BadByte, UnknownWord}
 use Rattle.script_text.specs.declared.fault.Fault.TheVariants.{MissingWord, BadHex, BadFrame}

@@ -3,7 +3,7 @@
 ghost use Rattle.std.specs.Prelude.{◌≡◌, ◌≢◌, ◌⊎◌, ◌^◌, ◌++◌, true, [], OnOk, map};
 ghost use Rattle.std.specs.List.{flat_map, list_all};
 ghost use Rattle.desk_edit.specs.Asked.{asked_by};
-ghost use Rattle.intake.specs.Inputs.{input_of, is_sized};
+ghost use Rattle.media_items.specs.Inputs.{input_of, is_sized};
 ghost use Rattle.bridge_core.specs.Sent.{sent_of};
 ghost use Rattle.script_text.specs.Text.{sent_text};
 ghost use Rattle.script_text.specs.Requests.{Desk, Rx, Report as ReportRequest, Show as ShowRequest};

@@ -5,7 +5,7 @@ use Rattle.std.specs.Bool.{OnTrue}
 use Rattle.std.specs.List.{All, AllByRecursion}
 use Rattle.desk_rows.specs.Edit.{EditOf}
 use Rattle.versions.specs.Published.{NoticeOf}
-use Rattle.intake.specs.declared.item.Item.TheVariants.{Tick}
+use Rattle.media_items.specs.declared.item.Item.TheVariants.{Tick}
 use Rattle.media_workers.specs.declared.parcel.Parcel.{Parcel}
 use Rattle.media_workers.specs.declared.parcel.Parcel.TheVariants.{Work}
 use Rattle.media_workers.specs.LaneRuns.{LaneNow}

@@ -4,7 +4,7 @@ use Rattle.std.specs.List.{AllByRecursion}
 use Rattle.desk_rows.specs.Desk.{Desk}
 use Rattle.desk_rows.specs.Edit.{EditOf}
 use Rattle.versions.specs.Published.{NoticeOf}
-use Rattle.intake.specs.declared.item.Item.TheVariants.{Tick}
+use Rattle.media_items.specs.declared.item.Item.TheVariants.{Tick}
 use Rattle.operator_desk.specs.Entry.{EntryOf}
 use Rattle.operator_desk.specs.LegalLogs.{calls_of}
 use Rattle.operator_desk.specs.Published.{AreDesks}

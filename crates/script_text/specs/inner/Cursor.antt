@@ -2,9 +2,9 @@
 use Rattle.std.specs.Prelude.{◌≡◌, ◌≢◌, ℕ, ◌+◌, List, [], ◌∷◌, length, Option, Some, None, ◌++◌, Result, Ok, Err}
 use Rattle.std.specs.Borrow.{Bor}
 use Rattle.frame_gate.specs.Frame.{SourcePacket}
-use Rattle.forward_rewrite.specs.Frame.{SourceFrame}
+use Rattle.media_items.specs.Frame.{SourceFrame}
 use Rattle.desk_edit.specs.Asked.{asked_by}
-use Rattle.intake.specs.Inputs.Input.{frame, tick}
+use Rattle.media_items.specs.Inputs.Input.{frame, tick}
 use Rattle.script_text.specs.declared.fault.ParseFault.{ParseFault}
 use Rattle.script_text.specs.declared.packet.Parts.{Parts}
 use Rattle.script_text.specs.declared.line.FrameHead.{FrameHead}

@@ -1,6 +1,6 @@
 use Rattle.std.proofs.Common.{◌≡◌, ◌+◌, ◌++◌, [], ◌∷◌, List, map, take, ap, sym, subst, ◌∙◌}
 use Rattle.std.proofs.lemmas.List.{take_more, take_all, map-append}
-use Rattle.intake.specs.Inputs.{Input, input_of}
+use Rattle.media_items.specs.Inputs.{Input, input_of}
 use Rattle.script_text.specs.inner.Steps.{HandsItems}
 use Rattle.script_text.proofs.BridgeLemmas.{hands_none, hands_more, each_sized}
 use Rattle.script_text.proofs.answer.answer_items.Goals as goal

@@ -1,5 +1,5 @@
 use Rattle.std.proofs.Common.{map, take}
-use Rattle.intake.specs.Inputs.{input_of}
+use Rattle.media_items.specs.Inputs.{input_of}
 use Rattle.script_text.specs.inner.Steps.{HasLane, HandsItems}
 use Rattle.script_text.proofs.answer.answer_items.Given as goal
 
