@@ -72,7 +72,8 @@ fn packet_text(alloc: Global, view: &RtpView<'_>) -> Result<String, AllocError> 
     let extension = extension_text(alloc, view.extension)?;
     let payload = octets_text(alloc, view.payload)?;
     format!(in alloc;
-        "marker={marker} pt={pt} seq={seq} ts={ts} ssrc={ssrc} csrcs={csrcs} extension={extension} payload={payload} padding={padding}"
+        "marker={marker} pt={pt} seq={seq} ts={ts} ssrc={ssrc} csrcs={csrcs} \
+         extension={extension} payload={payload} padding={padding}"
     )
 }
 

@@ -1,11 +1,11 @@
-//! Cases of the page. A line of standard input is a case: what comes, ` > `, and what has to become of it. The program prints
-//! each line that comes out otherwise, and then the number of lines.
+//! Cases of the page. A line of standard input is a case: what comes, ` > `, and what has to become of it. The program
+//! prints each line that comes out otherwise, and then the number of lines.
 //!
 //! - `** TEXT`: what the lines behind it show.
 //! - `hears REQUEST > asks LINE`: a page at 127.0.0.1:7080 with the token `secret` asks the bridge this line.
 //! - `hears REQUEST > STATUS TEXT`: it answers at once by this status, and the response has this text.
-//! - `tells LINE ; TOLD ; REQUEST > STATUS TEXT`: the bridge was asked a line, and TOLD is `said TEXT`, `busy`, `gone` or
-//!   `lost`. The request is answered so.
+//! - `tells LINE ; TOLD ; REQUEST > STATUS TEXT`: the bridge was asked a line, and TOLD is `said TEXT`, `busy`, `gone`
+//!   or `lost`. The request is answered so.
 //! - `comes LINE ; PIECE ; PIECE .. > PROGRESS`: pieces of an answer to a line come, and this is said of the last:
 //!   `more`, `whole`, `busy` or `broken`.
 //!

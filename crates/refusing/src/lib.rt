@@ -1,5 +1,5 @@
-//! Memory that is refused once: an allocator for tests, which answers `AllocError` to the request that it is told to refuse,
-//! and hands all others to the one below.
+//! Memory that is refused once: an allocator for tests, which answers `AllocError` to the request that it is told to
+//! refuse, and hands all others to the one below.
 #![tactic(auto)]
 
 use std::alloc::{AllocError, Allocator, Global};

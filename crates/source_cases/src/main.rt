@@ -1,6 +1,6 @@
-//! Streams of real senders, as a receiver got them: each packet with the verdict on it, and each report with the block that the
-//! rules of RFC 3550 give. They are read from standard input. A line that comes out otherwise is printed; last stands how many
-//! lines there were.
+//! Streams of real senders, as a receiver got them: each packet with the verdict on it, and each report with the block
+//! that the rules of RFC 3550 give. They are read from standard input. A line that comes out otherwise is printed. Last
+//! stands how many lines there were.
 #![tactic(auto)]
 
 mod stream;

@@ -92,7 +92,8 @@ pub(crate) fn udp_of(table: &Table) -> Result<Address, SettingsFault>
 
 /// The address of the operators' listener.
 pub(crate) fn tcp_of(table: &Table) -> Result<Address, SettingsFault>
-    ensures { Gives (λ x. x) result (needed SettingKey.Tcp loopback_in (get_member (codes "tcp") (table_view table.now))) }
+    ensures { Gives (λ x. x) result
+        (needed SettingKey.Tcp loopback_in (get_member (codes "tcp") (table_view table.now))) }
 {
     let key = SettingKey::Tcp;
     let Some(value) = value_at(table, key) else {
