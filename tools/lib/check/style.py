@@ -135,11 +135,14 @@ def check_documents():
 
 def body_of(lines, first, indent):
     """The line at which the body of a function opens, if it has one that isn't empty."""
+    depth = 0
     for at in range(first, len(lines)):
         line = lines[at]
         if line == indent + "{" or re.search(r"\)( -> .*)? \{$", line):
             return at
-        if not line or line.endswith((";", "{}")):
+        # A clause may hold a record over several lines, whose fields end in semicolons.
+        depth += line.count("{") - line.count("}")
+        if not line or line.endswith("{}") or (line.endswith(";") and depth == 0):
             return None
     return None
 
