@@ -42,7 +42,7 @@ pub use self::laws::{
 };
 pub use self::mix_packets::Named;
 pub use self::mix_stream::MixStream;
-pub use self::prepared::Prepared;
+pub use self::prepared::PreparedFrame;
 pub use self::prepared_mix::PreparedMix;
 pub use self::sending::OutPacket;
 pub use self::stream::Stream;

@@ -1,14 +1,14 @@
 //! The packets of a mix.
 
 ghost use Rattle.std.specs.Prelude.{◌≡◌, ◌≤◌, ◌++◌, ℕ, List, [], length, false, IfOk, OnOk};
-ghost use Rattle.rtp_codec.specs.Packet.{written, fixed_header, number_octets, most_pt, most_csrcs};
+ghost use Rattle.rtp_codec.specs.Packet.{written, number_octets, most_pt, most_csrcs};
 ghost use Rattle.forward_rewrite.specs.Mixes.{encoded};
 
 use crate::formats::{append_encoded, payload_len};
 use bytes::{Bytes, BytesMut};
 use media_items::Format;
 use retransmit::PacketBytes;
-use rtp_codec::{Header, write};
+use rtp_codec::{Header, fixed_header, write};
 use std::alloc::{AllocError, Allocator};
 
 /// The contributing sources of a packet, in network order: the octets of `front`, then those of `back`.
@@ -39,22 +39,6 @@ pub fn packet_of<A: Allocator + Copy>(
     write(header, csrcs, &[], &mut out)?;
     append_encoded(format, samples, &mut out)?;
     Ok(PacketBytes::whole(Bytes::from_vec(out)?))
-}
-
-/// The octets of the fixed header, with no padding and no extension (RFC 3550 section 5.1).
-fn fixed_header(header: &Header, csrc_count: u8) -> [u8; 12]
-    requires pt { header.now.pt ≤ most_pt }
-    requires csrcs { csrc_count ≤ most_csrcs }
-    ensures octets { result ≡ fixed_header false false header.now csrc_count }
-{
-    let (pt, seq) = (header.pt, header.seq);
-    let (ts, ssrc) = (header.ts, header.ssrc);
-    let [s0, s1] = seq.to_be_bytes();
-    let [t0, t1, t2, t3] = ts.to_be_bytes();
-    let [x0, x1, x2, x3] = ssrc.to_be_bytes();
-    let first = 128 + csrc_count;
-    let second = if header.marker { 128 + pt } else { pt };
-    [first, second, s0, s1, t0, t1, t2, t3, x0, x1, x2, x3]
 }
 
 /// The octets of a packet with this payload. They are written to an empty buffer and cut off it, with no second copy.

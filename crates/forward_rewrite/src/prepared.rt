@@ -10,7 +10,7 @@ use std::marker::Model;
 ///
 /// It has all the memory that sending takes. It fits the stream only as the stream was then.
 #[derive(Drop)]
-pub struct Prepared<A: Allocator + Copy = Global> {
+pub struct PreparedFrame<A: Allocator + Copy = Global> {
     /// The number of its first packet.
     pub(crate) first: u16,
     /// The number behind its last packet.
@@ -24,7 +24,7 @@ pub struct Prepared<A: Allocator + Copy = Global> {
     pub(crate) out: Vec<OutPacket<A>, A>,
 }
 
-impl<A: Allocator + Copy> Model for Prepared<A> {
+impl<A: Allocator + Copy> Model for PreparedFrame<A> {
     ghost use Rattle.forward_rewrite.specs.Streams.{PreparedOf};
     ghost use Rattle.forward_rewrite.specs.inner.Ready.{IsReady};
 

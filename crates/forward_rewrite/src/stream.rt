@@ -11,7 +11,7 @@ ghost use Rattle.forward_rewrite.specs.inner.Row.{MayGoOn};
 use crate::counts::Counts;
 use crate::last_sent::LastSent;
 use crate::packets::{Shared, entries_of, out_packets, payload_octets};
-use crate::prepared::Prepared;
+use crate::prepared::PreparedFrame;
 use crate::sending::OutPacket;
 use media_items::{MediaFrame, Stamp};
 use retransmit::{Entry, Owner, Window};
@@ -133,7 +133,7 @@ impl<A: Allocator + Copy> Stream<A> {
         frame: &MediaFrame<A>,
         stamp: Stamp,
         owner: Owner,
-    ) -> Result<Prepared<A>, AllocError>
+    ) -> Result<PreparedFrame<A>, AllocError>
         ensures sends { IfOk result
             (λ p. SendsNext self.now (committed self.now p) (sending_of frame.now stamp owner) p.packets) }
         ensures first { IfOk result (λ p. p.first ≡ self.now.next) }
@@ -150,7 +150,7 @@ impl<A: Allocator + Copy> Stream<A> {
         frame: &MediaFrame<A>,
         stamp: Stamp,
         owner: Owner,
-    ) -> Result<Prepared<A>, AllocError>
+    ) -> Result<PreparedFrame<A>, AllocError>
         ensures { IfOk result (λ p. IsPrepared self.now (sending_of frame.now stamp owner) p) }
     {
         let whole = &frame.frame;
@@ -163,7 +163,7 @@ impl<A: Allocator + Copy> Stream<A> {
         };
         let entries = entries_of(alloc, &shared, self.next, frame, whole.sent())?;
         let out = out_packets(alloc, &entries)?;
-        Ok(Prepared {
+        Ok(PreparedFrame {
             first: self.next,
             next: self.next.wrapping_add(whole.len()),
             octets: payload_octets(whole.sent()),
@@ -176,12 +176,12 @@ impl<A: Allocator + Copy> Stream<A> {
     /// Sends a prepared frame, and keeps its packets. This takes no memory.
     ///
     /// The stream must be as it was when the frame was prepared.
-    pub fn commit(&mut self, prepared: Prepared<A>) -> Vec<OutPacket<A>, A>
+    pub fn commit(&mut self, prepared: PreparedFrame<A>) -> Vec<OutPacket<A>, A>
         requires { prepared.first ≡ self.old.next }
         ensures stream { self.new ≡ committed self.old prepared }
         ensures packets { result.items ≡ map out_of prepared.packets }
     {
-        let Prepared {
+        let PreparedFrame {
             first: _,
             next,
             octets,

@@ -32,4 +32,4 @@ pub use self::laws::faultless_is_packet;
 pub use self::reading::read;
 pub use self::sequence::{seq_distance, seq_next};
 pub use self::view::RtpView;
-pub use self::writing::{Header, write, written_is_packet};
+pub use self::writing::{Header, fixed_header, write, written_is_packet};

@@ -24,7 +24,8 @@ pub struct Header {
     pub ssrc: u32,
 }
 
-/// The octets of the fixed header, without padding and extension:
+/// The octets of the fixed header of a packet without padding and extension (RFC 3550 section 5.1). It has at most 15
+/// contributing sources (`csrc_count`, CC), and a payload type of at most 127:
 ///
 /// ```text
 ///  0                   1                   2                   3
@@ -37,7 +38,7 @@ pub struct Header {
 /// |                             SSRC                              |
 /// +-+-+-+-+-+-+-+-+-+-+-+-+-+-+-+-+-+-+-+-+-+-+-+-+-+-+-+-+-+-+-+-+
 /// ```
-fn fixed_header(header: &Header, csrc_count: u8) -> [u8; 12]
+pub fn fixed_header(header: &Header, csrc_count: u8) -> [u8; 12]
     requires pt { header.now.pt ≤ most_pt }
     requires csrcs { csrc_count ≤ most_csrcs }
     ensures octets { result ≡ fixed_header false false header.now csrc_count }
