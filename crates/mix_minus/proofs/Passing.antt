@@ -5,7 +5,8 @@ use Rattle.std.proofs.lemmas.List.{drop_all}
 use Rattle.std.proofs.lemmas.Int.{ints}
 use Rattle.mix_minus.specs.declared.input.Input.{Input}
 use Rattle.mix_minus.specs.Mix.{heard, heard_sum, sample_at, sample_sum, IsTotal}
-use Rattle.mix_minus.specs.inner.Passes.{at, four_at, Moves, Passes, IsWithin, AreSmall}
+use Rattle.mix_minus.specs.Sums.{at, IsWithin, AreSmall}
+use Rattle.mix_minus.specs.inner.Passes.{four_at, Moves, Passes}
 
 -- After k passes: what the others will add is left.
 pub record Underway (base : ℕ) (rest : ℕ → ℕ → ℤ) (old now : List ℤ) (k : ℕ) : Type 0 where

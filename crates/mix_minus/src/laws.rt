@@ -11,8 +11,9 @@ pub fn is_the_mix()
         → IsMix inputs gains receiver out }
 {}
 
-/// A law: where a receiver's gains are all 256, all others of which a sample was present contribute. So the contributors
-/// of a room can be listed once. Of two parts of a room, those of the first stand before those of the second.
+/// A law: where a receiver's gains are all 256, all others of which a sample was present contribute. So the
+/// contributors of a room can be listed once. Of two parts of a room, those of the first stand before those of the
+/// second.
 pub fn others_contribute()
     ensures others { (inputs : List Input) (gains : List ℕ) (receiver : ℕ) → AreFull inputs gains
         → contributing receiver inputs gains ≡ present_in (others_of receiver inputs) }

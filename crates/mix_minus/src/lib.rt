@@ -1,8 +1,9 @@
 //! The mix that one member of a room hears (mix-minus, RFC 7667 section 3.6.1): the sum of all others, each at this
 //! listener's gain, clamped once.
 //!
-//! [`mix`] sums for one listener. For a whole room, call [`room_total`] once, and for each listener [`mix_by_total`],
-//! or [`mix_of_others`] where all its gains are 256: the mixes are the same. A contract states each sample as a clamped sum over the inputs.
+//! [`mix`] sums for one listener. For a whole room, call [`room_total`] once. Then call [`mix_by_total`] for each
+//! listener, or [`mix_of_others`] where all its gains are 256: the mixes are the same. A contract states each sample as
+//! a clamped sum over the inputs.
 //!
 //! ```rust
 //! let inputs = [

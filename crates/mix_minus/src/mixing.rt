@@ -2,7 +2,7 @@
 
 ghost use Rattle.std.specs.Prelude.{◌≡◌, ℕ, ◌+◌, ◌<◌, ◌≤◌, length, take};
 ghost use Rattle.mix_minus.specs.Mix.{IsMix, IsTotal, IsLeft, AreMixable, ReachTo, contributing};
-ghost use Rattle.mix_minus.specs.inner.Passes.{AreSmall};
+ghost use Rattle.mix_minus.specs.Sums.{AreSmall};
 
 use crate::contributors::{Contributors, first_heard};
 use crate::input::Input;
@@ -72,8 +72,8 @@ pub fn mix_by_total(
 
 /// Writes the same as [`mix`] for a receiver without gains, from the room's total and the receiver's own inputs alone.
 ///
-/// There are at most 64 own inputs, each at least as long as `out`. The law [`is_the_mix`](crate::is_the_mix) ties it to
-/// the mix, and [`others_contribute`](crate::others_contribute) tells who contributes.
+/// There are at most 64 own inputs, each at least as long as `out`. The law [`is_the_mix`](crate::is_the_mix) ties it
+/// to the mix, and [`others_contribute`](crate::others_contribute) tells who contributes.
 pub fn mix_of_others(total: &[i32], own: &[Input], out: &mut [i16])
     requires few { length own.now ≤ 64 }
     requires reach { ReachTo (length out.old) own.now }

@@ -2,7 +2,8 @@
 
 ghost use Rattle.std.specs.Prelude.{◌≡◌, ℕ, ◌+◌, ◌<◌, ◌≤◌, pos, neg_ℤ, ◌+ℤ◌, ◌-ℤ◌, ◌≤ℤ◌, length};
 ghost use Rattle.mix_minus.specs.Mix.{scaled, clamped};
-ghost use Rattle.mix_minus.specs.inner.Passes.{Passes, AreSmall, at, four_at};
+ghost use Rattle.mix_minus.specs.Sums.{AreSmall, at};
+ghost use Rattle.mix_minus.specs.inner.Passes.{Passes, four_at};
 
 /// A sample at a gain.
 fn scale(sample: i16, gain: u32) -> i32

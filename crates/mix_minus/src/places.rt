@@ -2,7 +2,7 @@
 
 ghost use Rattle.std.specs.Prelude.{◌≡◌, ℕ, ◌+◌, ◌<◌, ◌≤◌, pos, ◌-ℤ◌, length};
 ghost use Rattle.mix_minus.specs.Mix.{clamped, heard_sum, sample_sum, AreMixable, ReachTo, IsTotal};
-ghost use Rattle.mix_minus.specs.inner.Passes.{AreSmall, at};
+ghost use Rattle.mix_minus.specs.Sums.{AreSmall, at};
 
 use crate::input::Input;
 use crate::parts::clamp;

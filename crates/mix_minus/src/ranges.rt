@@ -4,7 +4,7 @@
 ghost use Rattle.std.specs.Prelude.{ℕ, ◌<◌, length, slice_index_or};
 ghost use Rattle.mix_minus.specs.declared.input.Input.{Input as InputOf};
 ghost use Rattle.mix_minus.specs.Mix.{sample_at};
-ghost use Rattle.mix_minus.specs.inner.Passes.{IsWithin, at};
+ghost use Rattle.mix_minus.specs.Sums.{IsWithin, at};
 
 use crate::input::Input;
 

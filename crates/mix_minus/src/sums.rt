@@ -2,7 +2,8 @@
 
 ghost use Rattle.std.specs.Prelude.{◌≡◌, ℕ, ◌+◌, ◌<◌, ◌≤◌, pos, ◌+ℤ◌, ◌-ℤ◌, length};
 ghost use Rattle.mix_minus.specs.Mix.{heard, heard_sum, sample_at, sample_sum, AreMixable, ReachTo};
-ghost use Rattle.mix_minus.specs.inner.Passes.{Passes, Raised, AreSmall, at};
+ghost use Rattle.mix_minus.specs.Sums.{AreSmall, at};
+ghost use Rattle.mix_minus.specs.inner.Passes.{Passes, Raised};
 
 use crate::input::Input;
 use crate::parts::{add, add_four, add_scaled, correct, take_off};

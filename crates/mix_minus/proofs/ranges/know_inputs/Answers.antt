@@ -2,7 +2,7 @@ use Rattle.std.proofs.Common.{◌≡◌, ℕ, zero, suc, ◌<◌, List, [], ◌�
 use borrow.Author.Count.{below_none, below_more}
 use Rattle.mix_minus.specs.declared.input.Input.{Input}
 use Rattle.mix_minus.specs.Mix.{sample_at}
-use Rattle.mix_minus.specs.inner.Passes.{IsWithin}
+use Rattle.mix_minus.specs.Sums.{IsWithin}
 use Rattle.mix_minus.proofs.ranges.know_inputs.Goals as goal
 
 -- an input that is there is the same whatever stands in for one that isn't

@@ -1,7 +1,7 @@
 use Rattle.std.proofs.Common.{ℕ, ◌<◌, get_or}
 use Rattle.mix_minus.specs.declared.input.Input.{Input}
 use Rattle.mix_minus.specs.Mix.{sample_at}
-use Rattle.mix_minus.specs.inner.Passes.{IsWithin}
+use Rattle.mix_minus.specs.Sums.{IsWithin}
 use Rattle.mix_minus.proofs.ranges.know_inputs.Given as goal
 
 abbrev pub invariant-loop-k : goal.invariant-loop-k

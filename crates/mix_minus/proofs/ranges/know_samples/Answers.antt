@@ -5,7 +5,7 @@ use borrow.Author.Count.{below_none, below_more}
 use Rattle.std.proofs.lemmas.Bool.{cases_lt}
 use Rattle.std.proofs.lemmas.Int.{ints}
 use Rattle.std.proofs.lemmas.List.{get_or_past}
-use Rattle.mix_minus.specs.inner.Passes.{at, IsWithin}
+use Rattle.mix_minus.specs.Sums.{at, IsWithin}
 use Rattle.mix_minus.proofs.ranges.know_samples.Goals as goal
 
 within : (s : ℤ) → SFits w16 s → IsWithin 32768 s

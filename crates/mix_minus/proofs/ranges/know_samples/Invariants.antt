@@ -1,5 +1,5 @@
 use Rattle.std.proofs.Common.{ℕ, ◌<◌}
-use Rattle.mix_minus.specs.inner.Passes.{at, IsWithin}
+use Rattle.mix_minus.specs.Sums.{at, IsWithin}
 use Rattle.mix_minus.proofs.ranges.know_samples.Given as goal
 
 abbrev pub invariant-loop-i : goal.invariant-loop-i
