@@ -13,7 +13,7 @@ ghost use Rattle.bridge_core.specs.inner.Readies.{kept_after_one, first_to, sent
 ghost use Rattle.bridge_core.specs.inner.Readies.{packet_count, ssrc_of};
 
 use crate::egress::Egress;
-use forward_rewrite::{OutPacket, Prepared, Stream};
+use forward_rewrite::{OutPacket, PreparedFrame, Stream};
 use indexmap::IndexMap;
 use media_items::{MediaFrame, Stamp};
 use retransmit::Owner;
@@ -30,7 +30,7 @@ pub type Table<A> = IndexMap<u32, Stream<A>, BuildHasherDefault<FoldHasher>, A>;
 pub struct ReadyFrame<A: Allocator + Copy = Global> {
     receiver: Receiver,
     begun: Option<Stream<A>>,
-    prepared: Prepared<A>,
+    prepared: PreparedFrame<A>,
 }
 
 impl<A: Allocator + Copy> Model for ReadyFrame<A> {

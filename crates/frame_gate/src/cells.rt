@@ -9,14 +9,16 @@ ghost use Rattle.frame_gate.specs.Packets.{NumberedPacket, frame_packet};
 ghost use Rattle.frame_gate.specs.Frame.{has_bad_kind};
 
 use crate::frame::FramePacket;
-use crate::held::Held;
+use crate::held::HeldPacket;
 use std::alloc::{AllocError, Allocator};
 
 /// The cells of a gate: it can hold this many numbers from the first undecided one on.
 pub const ROOM: u64 = 256;
 
 /// Empty cells.
-pub fn empty_cells<A: Allocator + Copy>(alloc: A) -> Result<Vec<Option<Held<A>>, A>, AllocError>
+pub fn empty_cells<A: Allocator + Copy>(
+    alloc: A,
+) -> Result<Vec<Option<HeldPacket<A>>, A>, AllocError>
     ensures len { IfOk result (λ cells. vec_len cells ≡ 256) }
     ensures empty { IfOk result (λ cells. (i : ℕ) → cell cells.items i ≡ None) }
 {
@@ -29,10 +31,10 @@ pub fn empty_cells<A: Allocator + Copy>(alloc: A) -> Result<Vec<Option<Held<A>>,
 
 /// The packet of this number, if it is held or is the newcomer.
 pub fn find_held<'a, A: Allocator + Copy>(
-    cells: &'a [Option<Held<A>>],
-    newcomer: Option<&'a Held<A>>,
+    cells: &'a [Option<HeldPacket<A>>],
+    newcomer: Option<&'a HeldPacket<A>>,
     number: u64,
-) -> Option<&'a Held<A>>
+) -> Option<&'a HeldPacket<A>>
     requires { length cells.now ≡ 256 }
     ensures { option_copied result ≡ held cells.now (option_copied newcomer.entry) number }
 {
@@ -52,7 +54,7 @@ pub fn find_held<'a, A: Allocator + Copy>(
 /// Appends the packet that was found, unless it is empty.
 fn keep<A: Allocator + Copy>(
     out: &mut Vec<FramePacket<A>, A>,
-    found: Option<&Held<A>>,
+    found: Option<&HeldPacket<A>>,
 ) -> Result<(), AllocError>
     ensures items { OnOk result (out.new.items
         ≡ out.old.items ++ map frame_packet (full (option_to_list (option_copied found.entry)))) }
@@ -69,8 +71,8 @@ fn keep<A: Allocator + Copy>(
 /// The packets with payload from number `from` up to `to`, which is left out.
 pub fn piece<A: Allocator + Copy>(
     alloc: A,
-    cells: &[Option<Held<A>>],
-    newcomer: Option<&Held<A>>,
+    cells: &[Option<HeldPacket<A>>],
+    newcomer: Option<&HeldPacket<A>>,
     from: u64,
     to: u64,
 ) -> Result<Vec<FramePacket<A>, A>, AllocError>
@@ -88,7 +90,11 @@ pub fn piece<A: Allocator + Copy>(
 }
 
 /// The least held number from `from` on. `number` if none below it is held.
-pub fn least_held<A: Allocator + Copy>(cells: &[Option<Held<A>>], from: u64, number: u64) -> u64
+pub fn least_held<A: Allocator + Copy>(
+    cells: &[Option<HeldPacket<A>>],
+    from: u64,
+    number: u64,
+) -> u64
     requires cells { length cells.now ≡ 256 }
     requires far { from + 256 ≤ number }
     ensures bounds { (from ≤ result) × (result ≤ number) }
@@ -105,7 +111,7 @@ pub fn least_held<A: Allocator + Copy>(cells: &[Option<Held<A>>], from: u64, num
 }
 
 /// Empties the cell of a number, if the packet in it is numbered below `to`.
-fn forget<A: Allocator + Copy>(cells: &mut [Option<Held<A>>], number: u64, to: u64)
+fn forget<A: Allocator + Copy>(cells: &mut [Option<HeldPacket<A>>], number: u64, to: u64)
     requires { length cells.old ≡ 256 }
     ensures len { length cells.new ≡ 256 }
     ensures here { cell cells.new (number % 256) ≡ from_on to (cell cells.old (number % 256)) }
@@ -120,7 +126,7 @@ fn forget<A: Allocator + Copy>(cells: &mut [Option<Held<A>>], number: u64, to: u
 }
 
 /// Forgets the packets from number `from` up to `to`, which is left out.
-pub fn forget_between<A: Allocator + Copy>(cells: &mut [Option<Held<A>>], from: u64, to: u64)
+pub fn forget_between<A: Allocator + Copy>(cells: &mut [Option<HeldPacket<A>>], from: u64, to: u64)
     requires { length cells.old ≡ 256 }
     ensures len { length cells.new ≡ 256 }
     ensures others { MayForget to cells.old cells.new }

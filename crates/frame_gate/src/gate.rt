@@ -10,10 +10,10 @@ ghost use Rattle.frame_gate.specs.Packets.{NumberedPacket, numbered, ext_of, IsE
 ghost use Rattle.frame_gate.specs.Frame.{WholeFrame, highest_pt};
 
 use crate::cells::{ROOM, empty_cells, find_held, forget_between};
-use crate::held::Held;
+use crate::held::HeldPacket;
 use crate::missing::missing;
 use crate::packet::{Packet, Place};
-use crate::prepared::{Admitted, Prepared};
+use crate::prepared::{Admitted, PreparedAnswer};
 use crate::resync::resync;
 use crate::walk::{Walk, drain};
 use std::alloc::{AllocError, Allocator, Global};
@@ -25,7 +25,7 @@ use std::marker::Model;
 /// first, which takes the memory, and [`commit`](Self::commit) last, which can't fail.
 #[derive(Drop)]
 pub struct Gate<A: Allocator + Copy = Global> {
-    cells: Vec<Option<Held<A>>, A>,
+    cells: Vec<Option<HeldPacket<A>>, A>,
     walk: Walk,
     greatest: Option<u64>,
 }
@@ -46,11 +46,11 @@ impl<A: Allocator + Copy> Model for Gate<A> {
 #[inline(always)]
 fn take<A: Allocator + Copy>(
     alloc: A,
-    cells: &[Option<Held<A>>],
+    cells: &[Option<HeldPacket<A>>],
     walk: Walk,
     greatest: Option<u64>,
-    packet: Held<A>,
-) -> Result<Prepared<A>, AllocError>
+    packet: HeldPacket<A>,
+) -> Result<PreparedAnswer<A>, AllocError>
     requires cells { length cells.now ≡ 256 }
     requires ordered { walk.next ≤ walk.after }
     requires number { (walk.next ≤ packet.number) × (packet.number < 2 ^ 63) }
@@ -74,7 +74,7 @@ fn take<A: Allocator + Copy>(
     let far = drain(alloc, cells, Some(&packet), near, to, &mut frames)?;
     let nacks = missing(alloc, greatest, far.next, packet.number)?;
     let pli = packet.number - walk.next >= ROOM;
-    Ok(Prepared {
+    Ok(PreparedAnswer {
         packet,
         walk: far,
         answer: Admitted {
@@ -90,9 +90,9 @@ fn take<A: Allocator + Copy>(
 fn unchanged<A: Allocator + Copy>(
     alloc: A,
     walk: Walk,
-    packet: Held<A>,
+    packet: HeldPacket<A>,
     place: Place,
-) -> Prepared<A>
+) -> PreparedAnswer<A>
     requires ordered { walk.next ≤ walk.after }
     requires number { packet.number < 2 ^ 63 }
     ensures place { result.answer.place ≡ place }
@@ -100,7 +100,7 @@ fn unchanged<A: Allocator + Copy>(
     ensures nacks { result.answer.nacks ≡ [] }
     ensures pli { result.answer.pli ≡ false }
 {
-    Prepared {
+    PreparedAnswer {
         packet,
         walk,
         answer: Admitted {
@@ -130,7 +130,7 @@ impl<A: Allocator + Copy> Gate<A> {
     }
 
     /// The gate's walk. The first packet begins it at its number.
-    fn opened(&self, packet: &Held<A>) -> Walk
+    fn opened(&self, packet: &HeldPacket<A>) -> Walk
         ensures tied { (e : Epoch) → IsAt self.now e
             → Tied (held self.now.cells None) (frames_of e) (opened e packet.now) result [] }
         ensures above { (e : Epoch) → IsAt self.now e → self.now.walk.next ≤ result.next }
@@ -150,7 +150,7 @@ impl<A: Allocator + Copy> Gate<A> {
 
     /// The answer to a numbered packet, and what the gate would remember.
     #[inline(always)]
-    fn judge(&self, alloc: A, packet: Held<A>) -> Result<Prepared<A>, AllocError>
+    fn judge(&self, alloc: A, packet: HeldPacket<A>) -> Result<PreparedAnswer<A>, AllocError>
         ensures ok { IfOk result (λ r. Prepares self.now packet r) }
         ensures few { IfOk result (λ r. length r.answer.nacks ≤ most_missing) }
     {
@@ -169,18 +169,23 @@ impl<A: Allocator + Copy> Gate<A> {
     /// `ext` is the packet's extended sequence number, at least -65536. The answer asks for at most 255 numbers. The
     /// only error is out of memory.
     #[inline(always)]
-    pub fn prepare(&self, alloc: A, ext: i64, packet: Packet<A>) -> Result<Prepared<A>, AllocError>
+    pub fn prepare(
+        &self,
+        alloc: A,
+        ext: i64,
+        packet: Packet<A>,
+    ) -> Result<PreparedAnswer<A>, AllocError>
         requires ext { IsExt ext }
         requires pt { packet.pt ≤ highest_pt }
         ensures ok { IfOk result (λ r. Prepares self.now (numbered ext packet) r) }
         ensures few { IfOk result (λ r. length r.answer.nacks ≤ most_missing) }
     {
-        self.judge(alloc, Held::new(ext, packet))
+        self.judge(alloc, HeldPacket::new(ext, packet))
     }
 
     /// Keeps a packet, and forgets what is decided.
     #[inline(always)]
-    fn keep(&mut self, packet: Held<A>, walk: Walk)
+    fn keep(&mut self, packet: HeldPacket<A>, walk: Walk)
         requires ordered { walk.next ≤ walk.after }
         requires number { packet.number < 2 ^ 63 }
         ensures { Takes self.old packet walk self.new }
@@ -194,11 +199,11 @@ impl<A: Allocator + Copy> Gate<A> {
 
     /// Takes the prepared packet in, and gives its answer. The gate must be as it was when this was prepared.
     #[inline(always)]
-    pub fn commit(&mut self, prepared: Prepared<A>) -> Admitted<A>
+    pub fn commit(&mut self, prepared: PreparedAnswer<A>) -> Admitted<A>
         ensures gate { Commits self.old prepared self.new }
         ensures answer { result ≡ prepared.answer }
     {
-        let Prepared {
+        let PreparedAnswer {
             packet,
             walk,
             answer,

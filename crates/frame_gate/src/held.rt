@@ -16,7 +16,7 @@ const BELOW: i64 = 65536;
 
 /// A packet and its number: its extended sequence number plus 65536, so that it is not negative.
 #[derive(Drop)]
-pub struct Held<A: Allocator + Copy = Global> {
+pub struct HeldPacket<A: Allocator + Copy = Global> {
     pub number: u64,
     pub marker: bool,
     pub pt: u8,
@@ -24,7 +24,7 @@ pub struct Held<A: Allocator + Copy = Global> {
     pub payload: Bytes<A>,
 }
 
-impl<A: Allocator + Copy> Model for Held<A> {
+impl<A: Allocator + Copy> Model for HeldPacket<A> {
     ghost use Rattle.std.specs.Prelude.{◌<◌, ◌≤◌, ◌^◌};
     ghost use Rattle.frame_gate.specs.Packets.{NumberedPacket};
     ghost use Rattle.frame_gate.specs.Frame.{highest_pt};
@@ -53,7 +53,7 @@ pub fn ext_of(number: u64) -> i64
     number as i64 - BELOW
 }
 
-impl<A: Allocator + Copy> Held<A> {
+impl<A: Allocator + Copy> HeldPacket<A> {
     /// A packet with its number.
     pub fn new(ext: i64, packet: Packet<A>) -> Self
         requires ext { IsExt ext }

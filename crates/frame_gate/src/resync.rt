@@ -8,14 +8,14 @@ ghost use Rattle.frame_gate.specs.Frame.{WholeFrame};
 
 use crate::cells::{ROOM, least_held};
 use crate::frame::Frame;
-use crate::held::Held;
+use crate::held::HeldPacket;
 use crate::walk::{Walk, drain};
 use std::alloc::{AllocError, Allocator};
 
 /// Places one cut, where reassembly starts afresh.
 fn cut<A: Allocator + Copy>(
     alloc: A,
-    cells: &[Option<Held<A>>],
+    cells: &[Option<HeldPacket<A>>],
     walk: Walk,
     number: u64,
     frames: &mut Vec<Frame<A>, A>,
@@ -41,7 +41,7 @@ fn cut<A: Allocator + Copy>(
 /// Places cuts until the number fits the cells.
 pub fn resync<A: Allocator + Copy>(
     alloc: A,
-    cells: &[Option<Held<A>>],
+    cells: &[Option<HeldPacket<A>>],
     from: Walk,
     number: u64,
     frames: &mut Vec<Frame<A>, A>,

@@ -12,7 +12,7 @@ ghost use Rattle.frame_gate.specs.inner.Walks.{Stands, tells_apart_at, closed_at
 
 use crate::cells::{find_held, piece};
 use crate::frame::Frame;
-use crate::held::Held;
+use crate::held::HeldPacket;
 use std::alloc::{AllocError, Allocator};
 
 /// How far the run was followed since the last cut.
@@ -29,7 +29,7 @@ pub struct Walk {
 }
 
 /// Whether the packet begins a new piece behind packets of this timestamp.
-fn tells_apart<A: Allocator + Copy>(ts: u32, packet: &Held<A>) -> bool
+fn tells_apart<A: Allocator + Copy>(ts: u32, packet: &HeldPacket<A>) -> bool
     ensures { result ≡ tells_apart_at (Some ts) packet.now }
 {
     !packet.is_empty() && ts != packet.ts
@@ -38,8 +38,8 @@ fn tells_apart<A: Allocator + Copy>(ts: u32, packet: &Held<A>) -> bool
 /// Divides the run behind the packets that were followed. Their piece is a frame, unless it is the first.
 fn close<A: Allocator + Copy>(
     alloc: A,
-    cells: &[Option<Held<A>>],
-    newcomer: Option<&Held<A>>,
+    cells: &[Option<HeldPacket<A>>],
+    newcomer: Option<&HeldPacket<A>>,
     walk: Walk,
     ts: u32,
     frames: &mut Vec<Frame<A>, A>,
@@ -68,7 +68,7 @@ fn close<A: Allocator + Copy>(
 }
 
 /// Adds a packet to the unclosed piece.
-fn join<A: Allocator + Copy>(walk: Walk, packet: &Held<A>) -> Walk
+fn join<A: Allocator + Copy>(walk: Walk, packet: &HeldPacket<A>) -> Walk
     requires { walk.after < 2 ^ 63 + 256 }
     ensures { result ≡ joined_at walk packet.now }
 {
@@ -91,10 +91,10 @@ fn join<A: Allocator + Copy>(walk: Walk, packet: &Held<A>) -> Walk
 /// Divides before the packet, if its timestamp differs from that of the unclosed piece.
 fn part<A: Allocator + Copy>(
     alloc: A,
-    cells: &[Option<Held<A>>],
-    newcomer: Option<&Held<A>>,
+    cells: &[Option<HeldPacket<A>>],
+    newcomer: Option<&HeldPacket<A>>,
     walk: Walk,
-    packet: &Held<A>,
+    packet: &HeldPacket<A>,
     frames: &mut Vec<Frame<A>, A>,
 ) -> Result<Walk, AllocError>
     requires cells { length cells.now ≡ 256 }
@@ -119,10 +119,10 @@ fn part<A: Allocator + Copy>(
 /// Divides behind the packet, if it ends a piece.
 fn end<A: Allocator + Copy>(
     alloc: A,
-    cells: &[Option<Held<A>>],
-    newcomer: Option<&Held<A>>,
+    cells: &[Option<HeldPacket<A>>],
+    newcomer: Option<&HeldPacket<A>>,
     walk: Walk,
-    packet: &Held<A>,
+    packet: &HeldPacket<A>,
     frames: &mut Vec<Frame<A>, A>,
 ) -> Result<Walk, AllocError>
     requires cells { length cells.now ≡ 256 }
@@ -146,10 +146,10 @@ fn end<A: Allocator + Copy>(
 /// Follows the run by one packet.
 fn follow<A: Allocator + Copy>(
     alloc: A,
-    cells: &[Option<Held<A>>],
-    newcomer: Option<&Held<A>>,
+    cells: &[Option<HeldPacket<A>>],
+    newcomer: Option<&HeldPacket<A>>,
     walk: Walk,
-    packet: &Held<A>,
+    packet: &HeldPacket<A>,
     frames: &mut Vec<Frame<A>, A>,
 ) -> Result<Walk, AllocError>
     requires cells { length cells.now ≡ 256 }
@@ -173,8 +173,8 @@ fn follow<A: Allocator + Copy>(
 /// Follows the run up to the first number that is not held, or to `to`.
 pub fn drain<'a, A: Allocator + Copy>(
     alloc: A,
-    cells: &'a [Option<Held<A>>],
-    newcomer: Option<&'a Held<A>>,
+    cells: &'a [Option<HeldPacket<A>>],
+    newcomer: Option<&'a HeldPacket<A>>,
     from: Walk,
     to: u64,
     frames: &mut Vec<Frame<A>, A>,

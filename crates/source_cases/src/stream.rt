@@ -1,7 +1,7 @@
 //! One stream, line by line.
 
 use rtcp_codec::ReportBlock;
-use source_valid::{Source, Verdict};
+use source_valid::{SourceState, Verdict};
 
 /// Nanoseconds in a second.
 const NANOSECONDS: u128 = 1_000_000_000;
@@ -12,7 +12,7 @@ pub(crate) struct Stream {
     /// The clock rate in Hz.
     rate: u32,
     ssrc: u32,
-    source: Option<Source>,
+    source: Option<SourceState>,
 }
 
 /// The value of the next word, which is NAME=VALUE.
@@ -105,7 +105,7 @@ impl Stream {
     /// A packet that came.
     fn packet(&mut self, moment: u64, seq: u16, ts: u32) -> Verdict {
         let Some(source) = &mut self.source else {
-            self.source = Some(Source::first(seq));
+            self.source = Some(SourceState::first(seq));
             return Verdict::Probation;
         };
         let verdict = source.update(seq);

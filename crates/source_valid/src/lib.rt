@@ -1,10 +1,10 @@
 //! Validates the sequence numbers of one RTP source, and counts for its report blocks (RFC 3550 A.1, A.3, A.8).
 //!
-//! Begin with [`Source::first`], then give each packet's number to [`Source::update`]. A contract speaks of the list of
-//! what the source was given so far: numbers, arrivals, sender reports and blocks.
+//! Begin with [`SourceState::first`], then give each packet's number to [`SourceState::update`]. A contract speaks of
+//! the list of what the source was given so far: numbers, arrivals, sender reports and blocks.
 //!
 //! ```rust
-//! let mut source = Source::first(65_534); // on probation
+//! let mut source = SourceState::first(65_534); // on probation
 //! source.update(65_535); // Accepted { ext: 65535 }: two numbers in a row end probation
 //! source.update(0); // Accepted { ext: 65536 }
 //! ```
@@ -22,5 +22,5 @@ mod timing;
 mod verdict;
 
 pub use laws::{delays, intervals, losses, probations, restarts, steady, true_numbers};
-pub use source::Source;
+pub use source::SourceState;
 pub use verdict::Verdict;

@@ -21,13 +21,13 @@ use std::marker::Model;
 ///
 /// It is `Copy`, so a caller can judge on a copy first. It takes no memory.
 #[derive(Clone, Copy)]
-pub struct Source {
+pub struct SourceState {
     phase: Phase,
     timing: Timing,
     heard: Option<Heard>,
 }
 
-impl Model for Source {
+impl Model for SourceState {
     ghost use Rattle.std.specs.Prelude.{◌≤◌, ◌^◌};
     ghost use Rattle.source_valid.specs.inner.Kept.{Kept};
     ghost use Rattle.source_valid.specs.inner.Phases.{SoundPhase};
@@ -41,12 +41,12 @@ impl Model for Source {
     ghost invariant = { λ s. SoundPhase s.phase × (s.timing.jitter ≤ 2 ^ 35) };
 }
 
-impl Source {
+impl SourceState {
     /// A source after its first packet. It is on probation (RFC 3550 A.1).
-    pub fn first(seq: u16) -> Source
+    pub fn first(seq: u16) -> SourceState
         ensures { Represents result (Number seq ∷ []) }
     {
-        Source {
+        SourceState {
             phase: Phase::OnProbation(seq),
             timing: Timing {
                 transit: None,
