@@ -38,6 +38,37 @@ count-cells (true ∷ ps) (s ∷ ss) e =
 count-cells (false ∷ ps) (s ∷ ss) e =
     sum_by-cons (λ (o : Option ℤ). cond (is_some o) 1 0) None (cells_of ps ss) ∙ ap (λ (n : ℕ). 0 + n) (count-cells ps ss (omega (arith, e))) ∙ sym (sum_by-cons (λ (b : Bool). cond b 1 0) false ps)
 
+-- at most all have one
+count-most : (ps : List Bool) → count_by (λ b. b) ps ≤ length ps
+count-most [] = omega arith
+count-most (true ∷ ps) = let counted : count_by (λ b. b) (true ∷ ps) ≡ 1 + count_by (λ b. b) ps = sum_by-cons (λ (b : Bool). cond b 1 0) true ps in
+    omega (arith, counted, count-most ps)
+count-most (false ∷ ps) = let counted : count_by (λ b. b) (false ∷ ps) ≡ 0 + count_by (λ b. b) ps = sum_by-cons (λ (b : Bool). cond b 1 0) false ps in
+    omega (arith, counted, count-most ps)
+
+-- where all have one, what is heard are the samples
+pub all_heard : (ps : List Bool) (ss : List ℤ) → length ss ≡ length ps → count_by (λ b. b) ps ≡ length ps → ss ≡ map heard (cells_of ps ss)
+all_heard [] [] e all = refl
+all_heard [] (s ∷ ss) e all = absurd cc
+all_heard (b ∷ ps) [] e all = absurd cc
+all_heard (true ∷ ps) (s ∷ ss) e all =
+    let counted : count_by (λ b. b) (true ∷ ps) ≡ 1 + count_by (λ b. b) ps = sum_by-cons (λ (b : Bool). cond b 1 0) true ps in
+    ap (λ (xs : List ℤ). s ∷ xs) (all_heard ps ss (omega (arith, e)) (omega (arith, all, counted)))
+all_heard (false ∷ ps) (s ∷ ss) e all =
+    let counted : count_by (λ b. b) (false ∷ ps) ≡ 0 + count_by (λ b. b) ps = sum_by-cons (λ (b : Bool). cond b 1 0) false ps in
+    absurd (omega (arith, all, counted, count-most ps))
+
+-- where none has one, zeros
+pub none_heard : (ps : List Bool) (ss : List ℤ) → length ss ≡ length ps → count_by (λ b. b) ps ≡ 0 → replicate (length ps) (pos 0) ≡ map heard (cells_of ps ss)
+none_heard [] ss e none = refl
+none_heard (b ∷ ps) [] e none = absurd cc
+none_heard (true ∷ ps) (s ∷ ss) e none =
+    let counted : count_by (λ b. b) (true ∷ ps) ≡ 1 + count_by (λ b. b) ps = sum_by-cons (λ (b : Bool). cond b 1 0) true ps in
+    absurd (omega (arith, none, counted))
+none_heard (false ∷ ps) (s ∷ ss) e none =
+    let counted : count_by (λ b. b) (false ∷ ps) ≡ 0 + count_by (λ b. b) ps = sum_by-cons (λ (b : Bool). cond b 1 0) false ps in
+    ap (λ (xs : List ℤ). pos 0 ∷ xs) (none_heard ps ss (omega (arith, e)) (omega (arith, none, counted)))
+
 -- one place written
 pub cells-set : (ps : List Bool) (ss : List ℤ) (i : ℕ) (s : ℤ) → length ss ≡ length ps
     → cells_of (set ps i true) (set ss i s) ≡ set (cells_of ps ss) i (Some s)

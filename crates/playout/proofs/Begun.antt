@@ -1,7 +1,7 @@
 -- A beginning, and what becomes of a put behind it.
 use Rattle.std.proofs.Common.{◌≡◌, ℕ, ℤ, ◌+◌, ◌-◌, ◌≤◌, ◌≢◌, ◌^◌, Bool, true, false, cond, List, [], ◌∷◌, ◌++◌, length, Option, None, Some, refl, sym, ap, ◌∙◌, arith, subst, length-append}
-use Rattle.playout.specs.declared.placed.Placed.{Placed}
-use Rattle.playout.specs.declared.placed.Placed.TheVariants.{Kept, Late, Reset}
+use Rattle.playout.specs.declared.placed.PlacedSamples.{PlacedSamples}
+use Rattle.playout.specs.declared.placed.PlacedSamples.TheVariants.{Kept, Late, Reset}
 use Rattle.playout.specs.Playout.{Pair, Play, sample_at, offers, delay, is_reset, place_of, placed_of, pairs_after, begun_by}
 use Rattle.playout.specs.Calls.{put_after, play_put, answer_of}
 use Rattle.playout.specs.inner.Agrees.{Agrees}
@@ -30,7 +30,7 @@ reset_is late kept true h = refl
 reset_is true kept false h = absurd cc
 reset_is false kept false h = absurd cc
 
-not_reset : (late : Bool) (kept : ℕ) (placed : Placed) (b : Bool) → placed ≢ Reset → cond b Reset (cond late Late (Kept kept)) ≡ placed → b ≡ false
+not_reset : (late : Bool) (kept : ℕ) (placed : PlacedSamples) (b : Bool) → placed ≢ Reset → cond b Reset (cond late Late (Kept kept)) ≡ placed → b ≡ false
 not_reset late kept placed true other h = absurd (other (sym h))
 not_reset late kept placed false other h = refl
 
@@ -46,7 +46,7 @@ after_reset rate play ts samples h =
     (reset_is _ _ (is_reset rate play.position (place_of play.position ts) (length samples)) h)
 
 -- all else leaves the position as it is
-pub after_other : (rate : ℕ) (play : Play) (ts : ℕ) (samples : List ℤ) (placed : Placed) → placed ≢ Reset → placed_of rate play.position play.pairs ts samples ≡ placed
+pub after_other : (rate : ℕ) (play : Play) (ts : ℕ) (samples : List ℤ) (placed : PlacedSamples) → placed ≢ Reset → placed_of rate play.position play.pairs ts samples ≡ placed
     → put_after (with_rate rate play) ts samples ≡ record { rate = rate; position = play.position; pairs = pairs_after rate play.position play.pairs ts samples }
 after_other rate play ts samples placed other h =
     ap (λ (b : Bool). cond b (begun_by rate ts samples) (record { rate = rate; position = play.position; pairs = pairs_after rate play.position play.pairs ts samples }))
@@ -57,7 +57,7 @@ pub put_own : (rate : ℕ) (play : Play) (ts : ℕ) (samples : List ℤ) → pla
 put_own rate play ts samples same = ap (λ (b : Bool). cond b (put_after play ts samples) (begun_by rate ts samples)) (eq_yes play.rate rate same)
 
 -- A put on a playout that has begun is known by what it does to each play.
-pub puts_by : (old new : PlayoutOf) (ts : ℕ) (samples : List ℤ) (placed : Placed) → old.begun ≡ true
+pub puts_by : (old new : PlayoutOf) (ts : ℕ) (samples : List ℤ) (placed : PlacedSamples) → old.begun ≡ true
     → ((play : Play) → Holds old (Some play)
     → (placed ≡ placed_of (length old.cells) play.position play.pairs ts samples) × Holds new (Some (put_after (with_rate (length old.cells) play) ts samples)))
     → Puts old new ts samples placed
@@ -75,7 +75,7 @@ puts_by old new ts samples placed begun step play h = by play h
         )
 
 -- one that is no Reset
-pub other_step : (old new : PlayoutOf) (ts : ℕ) (samples : List ℤ) (placed : Placed) (play : Play) → placed ≢ Reset
+pub other_step : (old new : PlayoutOf) (ts : ℕ) (samples : List ℤ) (placed : PlacedSamples) (play : Play) → placed ≢ Reset
     → new.begun ≡ true → new.position ≡ old.position → length new.cells ≡ length old.cells → placed ≡ placed_of (length old.cells) play.position play.pairs ts samples
     → Agrees new.cells (pairs_after (length old.cells) play.position play.pairs ts samples) play.position → Holds old (Some play)
     → (placed ≡ placed_of (length old.cells) play.position play.pairs ts samples) × Holds new (Some (put_after (with_rate (length old.cells) play) ts samples))

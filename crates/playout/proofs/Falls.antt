@@ -2,7 +2,7 @@
 use Rattle.std.proofs.Common.{◌≡◌, ℕ, ℤ, ◌+◌, ◌-◌, ◌<◌, ◌≤◌, ◌^◌, ◌%◌, false, nat_lt, nat_le, List, length, drop, take, length-drop, refl, sym, ap, ◌∙◌, arith}
 use Rattle.std.proofs.lemmas.List.{take_all}
 use Rattle.std.proofs.lemmas.Bool.Decides.{nat_tests}
-use Rattle.playout.specs.declared.placed.Placed.TheVariants.{Kept}
+use Rattle.playout.specs.declared.placed.PlacedSamples.TheVariants.{Kept}
 use Rattle.playout.specs.Playout.{Pair, offers, place_of, placed_of, pairs_after}
 use Rattle.playout.proofs.Offered.{below_left}
 

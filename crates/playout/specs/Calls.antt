@@ -1,7 +1,7 @@
 -- What becomes of a playout by a put and by a take, and what it answers (own).
 use Rattle.std.specs.Prelude.{◌≡◌, ℕ, ℤ, ◌+◌, ◌/◌, if◌then◌else◌, nat_eq, List, [], length, Option, None, Some}
-use Rattle.playout.specs.declared.placed.Placed.{Placed}
-use Rattle.playout.specs.declared.placed.Placed.TheVariants.{Kept}
+use Rattle.playout.specs.declared.placed.PlacedSamples.{PlacedSamples}
+use Rattle.playout.specs.declared.placed.PlacedSamples.TheVariants.{Kept}
 use Rattle.playout.specs.Playout.{Play, begun_by, is_reset, place_of, placed_of, pairs_after, present, AreTaken}
 
 -- a playout that has begun, after one more put at its rate: too far from its position, it begins anew as by a first put
@@ -30,7 +30,7 @@ play_ticked None = None
 play_ticked (Some play) = play_taken (tick_samples play.rate) (Some play)
 
 -- what becomes of a put at the playout's rate: the first one is kept whole
-abbrev pub answer_of : Option Play → ℕ → List ℤ → Placed
+abbrev pub answer_of : Option Play → ℕ → List ℤ → PlacedSamples
 answer_of None ts samples = Kept (length samples)
 answer_of (Some play) ts samples = placed_of play.rate play.position play.pairs ts samples
 

@@ -1,7 +1,7 @@
 -- A jitter buffer of samples: a position that never wraps, and samples at places (own).
 use Rattle.std.specs.Prelude.{◌≡◌, ℕ, ℤ, pos, ◌+◌, ◌-◌, ◌<◌, ◌%◌, ◌^◌, ◌/◌, ◌*◌, Bool, ◌||◌, if◌then◌else◌, nat_eq, nat_lt, nat_le, is_some, zero, suc, List, [], ◌∷◌, ◌++◌, length, Option, None, Some, unwrap_or, slice_index_or}
-use Rattle.playout.specs.declared.placed.Placed.{Placed}
-use Rattle.playout.specs.declared.placed.Placed.TheVariants.{Kept, Late, Reset}
+use Rattle.playout.specs.declared.placed.PlacedSamples.{PlacedSamples}
+use Rattle.playout.specs.declared.placed.PlacedSamples.TheVariants.{Kept, Late, Reset}
 
 -- a sample at a place; places are timestamps that don't wrap
 pub record Pair : Type 0 where
@@ -50,7 +50,7 @@ abbrev pub is_reset : ℕ → ℕ → ℕ → ℕ → Bool
 is_reset rate position place count = nat_lt (position + rate) (place + count) || nat_lt (place + rate) position
 
 -- what becomes of a put after the first
-abbrev pub placed_of : ℕ → ℕ → List Pair → ℕ → List ℤ → Placed
+abbrev pub placed_of : ℕ → ℕ → List Pair → ℕ → List ℤ → PlacedSamples
 placed_of rate position pairs ts samples =
     if is_reset rate position (place_of position ts) (length samples) then Reset
     else if nat_le (place_of position ts + length samples) position then Late

@@ -5,7 +5,7 @@ ghost use Rattle.playout.specs.Playout.{delay, begun_by};
 ghost use Rattle.playout.specs.inner.Agrees.{Agrees, IsBlank};
 ghost use Rattle.playout.specs.inner.Holds.{Holds, Puts, Shows, HasTaken};
 
-use crate::placed::Placed;
+use crate::placed::PlacedSamples;
 use crate::putting::put_begun;
 use crate::ring::Ring;
 use std::alloc::{AllocError, Allocator, Global};
@@ -82,7 +82,7 @@ impl<A: Allocator> Playout<A> {
     }
 
     /// Puts samples at the places from this RTP timestamp on: 1 sample to a fifth of a second.
-    pub fn put(&mut self, ts: u32, samples: &[i16]) -> Placed
+    pub fn put(&mut self, ts: u32, samples: &[i16]) -> PlacedSamples
         requires some { 0 < length samples.now }
         requires few { length samples.now * 5 ≤ length self.old.cells }
         ensures puts { Puts self.old self.new ts samples.now result }
@@ -90,15 +90,15 @@ impl<A: Allocator> Playout<A> {
     {
         if !self.begun {
             let count = self.begin(ts, samples);
-            return Placed::Kept { count };
+            return PlacedSamples::Kept { count };
         }
         match put_begun(&mut self.ring, self.position, ts, samples) {
-            Placed::Kept { count } => Placed::Kept { count },
-            Placed::Late => Placed::Late,
-            Placed::Reset => {
+            PlacedSamples::Kept { count } => PlacedSamples::Kept { count },
+            PlacedSamples::Late => PlacedSamples::Late,
+            PlacedSamples::Reset => {
                 self.ring.clear();
                 self.begin(ts, samples);
-                Placed::Reset
+                PlacedSamples::Reset
             }
         }
     }

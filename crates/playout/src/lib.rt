@@ -23,5 +23,5 @@ mod timed_samples;
 
 pub use jitter_buffer::Playout;
 pub use many::Playouts;
-pub use placed::Placed;
+pub use placed::PlacedSamples;
 pub use timed_samples::TimedSamples;

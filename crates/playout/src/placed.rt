@@ -2,7 +2,7 @@
 
 /// What became of samples that were put.
 #[derive(Clone, Copy, PartialEq, Eq)]
-pub enum Placed {
+pub enum PlacedSamples {
     /// Some were kept. The others came too late, or their places had samples.
     Kept {
         /// The number of samples that were kept.

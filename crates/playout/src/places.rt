@@ -1,6 +1,7 @@
 //! Places in two arrays: whether a sample is there, and the sample.
 
-ghost use Rattle.std.specs.Prelude.{◌≡◌, ◌+◌, ◌<◌, ◌≤◌, length, slice_index_or, is_none, is_some, None, map, take, drop};
+ghost use Rattle.std.specs.Prelude.{◌≡◌, ◌+◌, ◌<◌, ◌≤◌, length, slice_index_or, is_none, is_some, None};
+ghost use Rattle.std.specs.Prelude.{map, take, drop};
 ghost use Rattle.std.specs.Prelude.{count_by};
 ghost use Rattle.playout.specs.inner.Agrees.{filled};
 ghost use Rattle.playout.specs.inner.Cells.{cells_of, heard, fills, news, emptied};
@@ -120,6 +121,17 @@ pub fn clear_from<A: Allocator>(
     clear(present, samples, at, count);
 }
 
+/// Copies the samples of these places one by one. A missing sample is 0.
+fn read_each(present: &[bool], samples: &[i16], out: &mut [i16])
+    requires alike { length samples.now ≡ length present.now }
+    requires all { length out.old ≡ length present.now }
+    ensures { out.new ≡ map heard (cells_of present.now samples.now) }
+{
+    for i in 0..out.len() {
+        out[i] = if present[i] { samples[i] } else { 0 };
+    }
+}
+
 /// Copies the samples of these places, and counts those present. A missing sample is 0.
 fn read(present: &[bool], samples: &[i16], out: &mut [i16]) -> u32
     requires alike { length samples.now ≡ length present.now }
@@ -129,10 +141,15 @@ fn read(present: &[bool], samples: &[i16], out: &mut [i16]) -> u32
     ensures count { result ≡ count_by is_some (cells_of present.now samples.now) }
     ensures most { result ≤ length present.now }
 {
-    for i in 0..out.len() {
-        out[i] = if present[i] { samples[i] } else { 0 };
+    let there = count(present);
+    if there as usize == present.len() {
+        out.copy_from_slice(samples);
+    } else if there == 0 {
+        out.fill(0);
+    } else {
+        read_each(present, samples, out);
     }
-    count(present)
+    there
 }
 
 /// Copies the samples from a place on, and counts those present. A missing sample is 0.

@@ -4,7 +4,7 @@ ghost use Rattle.std.specs.Prelude.{◌≡◌, ℕ, ◌+◌, ◌-◌, ◌<◌, �
 ghost use Rattle.playout.specs.Playout.{Pair, placed_of, pairs_after};
 ghost use Rattle.playout.specs.inner.Agrees.{Agrees};
 
-use crate::placed::Placed;
+use crate::placed::PlacedSamples;
 use crate::ring::Ring;
 use std::alloc::Allocator;
 
@@ -24,7 +24,7 @@ pub fn put_begun<A: Allocator>(
     position: u32,
     ts: u32,
     samples: &[i16],
-) -> Placed
+) -> PlacedSamples
     requires rate { length ring.old ≤ 48000 }
     requires few { (0 < length samples.now) × (length samples.now ≤ length ring.old) }
     ensures placed { (p : ℕ) (pairs : List Pair) → Agrees ring.old pairs p → p % 2 ^ 32 ≡ position → 2 ^ 31 ≤ p
@@ -38,20 +38,20 @@ pub fn put_begun<A: Allocator>(
     if far >= HALF_A_TURN as usize {
         let offset = far - HALF_A_TURN as usize;
         if offset + samples.len() > rate {
-            return Placed::Reset;
+            return PlacedSamples::Reset;
         }
-        Placed::Kept {
+        PlacedSamples::Kept {
             count: ring.keep(offset, samples),
         }
     } else {
         let behind = HALF_A_TURN as usize - far;
         if behind > rate {
-            return Placed::Reset;
+            return PlacedSamples::Reset;
         }
         if samples.len() <= behind {
-            return Placed::Late;
+            return PlacedSamples::Late;
         }
-        Placed::Kept {
+        PlacedSamples::Kept {
             count: ring.keep(0, &samples[behind..]),
         }
     }

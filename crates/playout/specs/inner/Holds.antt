@@ -1,6 +1,6 @@
 -- How what is kept of a playout stands to the playout.
 use Rattle.std.specs.Prelude.{◌≡◌, ℕ, ℤ, ◌≤◌, ◌%◌, ◌^◌, Bool, true, false, List, length, Option, None, Some}
-use Rattle.playout.specs.declared.placed.Placed.{Placed}
+use Rattle.playout.specs.declared.placed.PlacedSamples.{PlacedSamples}
 use Rattle.playout.specs.Playout.{Play}
 use Rattle.playout.specs.Calls.{play_put, play_taken, answer_of, PlaysOut, at_rate}
 use Rattle.playout.specs.inner.Agrees.{Agrees, IsBlank}
@@ -25,7 +25,7 @@ pub record IsSound (begun : Bool) (cells : List (Option ℤ)) : Type 0 where
   pub blank : begun ≡ false → IsBlank cells
 
 -- Whatever playout the old one holds, this becomes of one more put at its rate, and the new one holds what the put makes of it.
-abbrev pub Puts : PlayoutOf → PlayoutOf → ℕ → List ℤ → Placed → Type 0
+abbrev pub Puts : PlayoutOf → PlayoutOf → ℕ → List ℤ → PlacedSamples → Type 0
 Puts old new ts samples placed =
     (play : Option Play) → Holds old play
     → (placed ≡ answer_of play ts samples) × Holds new (Some (play_put (length old.cells) play ts samples))

@@ -1,16 +1,21 @@
-use Rattle.std.proofs.Common.{◌≡◌, ◌∙◌, pos, length, map, sym, arith}
-use Rattle.std.proofs.lemmas.List.{ext_get_or, length-map}
-use Rattle.playout.specs.inner.Cells.{cells_of, heard}
-use Rattle.playout.proofs.Arrays.{length-cells, heard_at, count-cells}
+use Rattle.std.proofs.Common.{◌∙◌, ap, ℕ, pos, replicate, sym}
+use Rattle.playout.proofs.Arrays.{count-cells, all_heard, none_heard}
 use Rattle.playout.proofs.places.read.Goals as goal
 
-pub returns-clause-samples : goal.returns-clause-samples
-returns-clause-samples c =
-    let cells = cells_of c.args.present.now c.args.samples.now in
-    let many = length-cells c.args.present.now c.args.samples.now c.requires.alike in
-    let long : length c.loop-i.out ≡ length cells = c.loop-i.invariant.long ∙ c.requires.all ∙ sym many in
-    ext_get_or (pos 0) c.loop-i.out (map heard cells) (long ∙ sym (length-map cells heard))
-    (λ j lt. c.loop-i.invariant.samples j (omega (arith, lt, c.loop-i-test.false, c.loop-i.auto.i-end, c.loop-i.auto.out, c.loop-i.invariant.long)) ∙ sym (heard_at c.args.present.now c.args.samples.now j c.requires.alike))
+pub returns-then-there-present-clause-samples : goal.returns-then-there-present-clause-samples
+returns-then-there-present-clause-samples c =
+    c.copy_from_slice.ensures.after ∙ all_heard c.args.present.now c.args.samples.now c.requires.alike (sym c.count-there.ensures ∙ c.if-there-present.true)
 
-pub returns-clause-count : goal.returns-clause-count
-returns-clause-count c = c.count.ensures ∙ sym (count-cells c.args.present.now c.args.samples.now c.requires.alike)
+pub returns-then-there-present-clause-count : goal.returns-then-there-present-clause-count
+returns-then-there-present-clause-count c = c.count-there.ensures ∙ sym (count-cells c.args.present.now c.args.samples.now c.requires.alike)
+
+pub returns-then-there-eq0-clause-samples : goal.returns-then-there-eq0-clause-samples
+returns-then-there-eq0-clause-samples c =
+    c.fill.ensures.after (λ y h. h) ∙ ap (λ (n : ℕ). replicate n (pos 0)) c.requires.all
+    ∙ none_heard c.args.present.now c.args.samples.now c.requires.alike (sym c.count-there.ensures ∙ c.if-there-eq0.true)
+
+pub returns-then-there-eq0-clause-count : goal.returns-then-there-eq0-clause-count
+returns-then-there-eq0-clause-count c = c.count-there.ensures ∙ sym (count-cells c.args.present.now c.args.samples.now c.requires.alike)
+
+pub returns-else-there-eq0-clause-count : goal.returns-else-there-eq0-clause-count
+returns-else-there-eq0-clause-count c = c.count-there.ensures ∙ sym (count-cells c.args.present.now c.args.samples.now c.requires.alike)

@@ -1,5 +1,5 @@
 use Rattle.std.proofs.Common.{◌≡◌, ◌∙◌, sym, ap, ◌<◌, ◌≤◌, ◌+◌, ◌-◌, length, arith, subst, List}
-use Rattle.playout.specs.declared.placed.Placed.TheVariants.{Kept}
+use Rattle.playout.specs.declared.placed.PlacedSamples.TheVariants.{Kept}
 use Rattle.playout.specs.Playout.{Pair, place_of}
 use Rattle.playout.specs.inner.Agrees.{Agrees}
 use Rattle.playout.proofs.Falls.{place_far, placed_kept, after_kept, count_is, late_part}

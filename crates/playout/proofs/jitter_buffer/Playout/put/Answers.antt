@@ -1,5 +1,5 @@
 use Rattle.std.proofs.Common.{◌≡◌, ◌≤◌, ◌∙◌, ℕ, sym, subst, refl, Some, length, arith}
-use Rattle.playout.specs.declared.placed.Placed.TheVariants.{Kept, Late, Reset}
+use Rattle.playout.specs.declared.placed.PlacedSamples.TheVariants.{Kept, Late, Reset}
 use Rattle.playout.specs.Playout.{begun_by}
 use Rattle.playout.specs.inner.Holds.{PlayoutOf, Holds, Puts}
 use Rattle.playout.proofs.Begun.{puts_by, other_step, reset_step, half_below}

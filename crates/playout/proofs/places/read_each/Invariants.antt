@@ -1,5 +1,5 @@
 use Rattle.std.proofs.Common.{◌≡◌, ℕ, pos, ◌<◌, length, get_or, cond, false}
-use Rattle.playout.proofs.places.read.Given as goal
+use Rattle.playout.proofs.places.read_each.Given as goal
 
 abbrev pub invariant-loop-i : goal.invariant-loop-i
 invariant-loop-i l = record {
