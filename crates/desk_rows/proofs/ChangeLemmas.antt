@@ -1,7 +1,7 @@
 -- What an edit takes and puts, found by keys.
 use Rattle.std.specs.Prelude.{◌≡◌, ◌||◌, ◌∷◌, ◌++◌}
 use Rattle.desk_rows.specs.laws.Words.{ℕ, Bool, true, cond, List, [], None, Some, refl, sym, ap, ◌∙◌, map, not, list_any-append, find, list_any, is_some, Placed, Key, Row, Member, EditOf, is_in, with_rows, same_row, has_key, listed_rows, change_rows, come_rows, takes, puts}
-use Rattle.desk_rows.specs.declared.row.Key.TheVariants as keys
+use Rattle.desk_rows.specs.declared.key.Key.TheVariants as keys
 use Rattle.desk_rows.specs.laws.ListLaws.{or_turned, is_found}
 use Rattle.desk_rows.specs.laws.OrderLaws.{list_any-with_rows}
 use Rattle.desk_rows.proofs.Finding.{found_there}

@@ -3,8 +3,8 @@ pub use Rattle.desk_rows.specs.laws.OrderLaws.{length-with_rows}
 use Rattle.std.specs.Prelude.{◌≡◌, ◌≤◌, ◌||◌, ◌∷◌, ◌+◌, ◌-◌, ◌&&◌, if◌then◌else◌}
 use Rattle.desk_rows.specs.laws.Words.{ℕ, Bool, true, false, cond, List, [], length, refl, sym, ap, ◌∙◌, arith, map, nat_eq, not, inl, inr, filter, eqb-true, or_right, or_cases, and_parts, and_from, false_from_ne_true, length-filter_both, length-map, length-filter, list_any, list_all, count_by, eq-eqb, Placed, Key, Kind, MemberRow as Member, Row, Desk, rows_of, blank, is_named_there, good, is_of, member_limit, slot_limit, other_limit, numbers_precede, is_in, in_order, precedes, take_at, can_take, can_put, places_rise, put_within, has_key, rank, kind_of, own_numbers, key_numbers, key_of, owner_of, same_key}
 use Rattle.desk_rows.specs.declared.row.Row.TheVariants as rows
-use Rattle.desk_rows.specs.declared.row.Key.TheVariants as keys
-use Rattle.desk_rows.specs.declared.row.Kind.TheVariants as kinds
+use Rattle.desk_rows.specs.declared.key.Key.TheVariants as keys
+use Rattle.desk_rows.specs.declared.key.Kind.TheVariants as kinds
 use Rattle.desk_rows.specs.laws.ClaimLaws.{witness}
 use Rattle.desk_rows.specs.laws.Equal.{same_key_is, key_itself, its_key}
 use Rattle.desk_rows.specs.laws.Laws.{good_parts, good_order, any_counts, is_in-append}

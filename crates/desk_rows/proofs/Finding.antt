@@ -2,7 +2,7 @@
 pub use Rattle.desk_rows.specs.laws.ListLaws.{found_nothing, is_found}
 use Rattle.std.specs.Prelude.{◌≡◌, ◌≤◌, ◌∷◌, ◌+◌}
 use Rattle.desk_rows.specs.laws.Words.{Bool, true, false, List, [], None, Some, sym, ap, ◌∙◌, arith, not, inl, inr, and_parts, cases_Bool, false_from_ne_true, find, list_any, list_all, count_by, Key, Row, Desk, rows_of, row_at, is_alone, good, EditOf, exchanged, IsKeyed, is_of, is_in, in_order, precedes, key_precedes, same_row, has_key, key_of, come_rows, takes, puts, stay_rows, go_rows}
-use Rattle.desk_rows.specs.declared.row.Kind.TheVariants as kinds
+use Rattle.desk_rows.specs.declared.key.Kind.TheVariants as kinds
 use Rattle.desk_rows.specs.declared.claim.Claim.TheVariants as claims
 use Rattle.desk_rows.specs.laws.ClaimLaws.{witness, claimed_once}
 use Rattle.desk_rows.specs.laws.Equal.{its_key, not_before_itself, same_row_is, row_itself}

@@ -1,7 +1,7 @@
 -- The gains of a member stand together among rows in order.
 use Rattle.std.specs.Prelude.{◌≡◌, ◌<◌, ◌≤◌, ◌||◌, ◌&&◌}
 use Rattle.desk_rows.specs.laws.Words.{ℕ, Bool, true, false, List, length, get_or, nat_lt, refl, sym, ap, ◌∙◌, arith, nat_eq, not, inl, inr, filter, take, drop, not-true, nat_tests, Row, Gain, is_gain_of, in_order, precedes, key_precedes, key_of, Parts}
-use Rattle.desk_rows.specs.declared.row.Key.TheVariants as keys
+use Rattle.desk_rows.specs.declared.key.Key.TheVariants as keys
 use Rattle.desk_rows.specs.laws.ListLaws.{each_at, ahead_may}
 use Rattle.desk_rows.specs.laws.OrderLaws.{order_stands}
 use Rattle.desk_rows.proofs.Halving.{order_of_rest, rest_fails, none_in_front, all_in_front}

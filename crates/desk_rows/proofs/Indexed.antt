@@ -2,7 +2,7 @@
 use Rattle.std.specs.Prelude.{◌≡◌, ◌≤◌, ◌∷◌, ◌++◌, ◌+◌}
 use Rattle.desk_rows.specs.laws.Words.{ℕ, suc, Bool, true, false, cond, List, [], length, Option, None, Some, refl, sym, ap, ◌∙◌, arith, map, nat_eq, append_assoc, nat_tests, sum_by-IsPermutation, find, slice_get, IsNonDecreasingBy, IsPermutation, option_map, option_and_then, count_by, Entry, MemberRow as Member, Desk, good, place_in, has_key, entries_from, entry_in, IsIndex}
 use Rattle.desk_rows.specs.declared.row.Row.TheVariants as rows
-use Rattle.desk_rows.specs.declared.row.Key.TheVariants as keys
+use Rattle.desk_rows.specs.declared.key.Key.TheVariants as keys
 use Rattle.desk_rows.specs.declared.claim.Claim.TheVariants as claims
 use Rattle.desk_rows.specs.laws.ClaimLaws.{claimed_once}
 use Rattle.desk_rows.specs.laws.Laws.{good_parts}

@@ -1,8 +1,10 @@
 -- A desk after an edit is good exactly where it is judged so.
 use Rattle.std.specs.Prelude.{◌≡◌, ◌||◌, ◌∷◌, ◌+◌, ◌&&◌, ◌⊎◌}
-use Rattle.desk_rows.specs.laws.Words.{ℕ, Bool, true, false, List, [], nat_lt, refl, sym, ap, ◌∙◌, arith, map, nat_eq, not, inl, inr, eqb-true, or_left, or_right, and_parts, and_from, cases_Bool, list_any, list_all, count_by, eq-eqb, Claim, Key, Row, Member, Source, Slot, Mute, Desk, rows_of, is_named_there, is_alone, is_within_limits, is_made_once, is_bridges, obeys, good, EditOf, outs, ins, exchanged, IsKeyed, is_of, is_in, in_order, without_rows, precedes, key_is_new, take_at, has_key, key_of, makes, same_claim, other_claims, claims_of, names, come_rows, takes, puts, stay_rows, all_come, all_stay, go_rows, keeps_names, moves, is_shaken, is_sound, stays_sound}
-use Rattle.desk_rows.specs.declared.row.Kind.TheVariants as kinds
+use Rattle.desk_rows.specs.laws.Words.{ℕ, Bool, true, false, List, [], nat_lt, refl, sym, ap, ◌∙◌, arith, map, nat_eq, not, inl, inr, eqb-true, or_left, or_right, and_parts, and_from, cases_Bool, list_any, list_all, count_by, eq-eqb, Claim, Key, Row, Member, Source, Slot, Mute, Desk, rows_of, is_named_there, is_alone, is_within_limits, is_made_once, is_bridges, obeys, good, EditOf, outs, ins, exchanged, IsKeyed, is_of, is_in, in_order, without_rows, precedes, key_is_new, take_at, has_key, key_of, makes, same_claim, other_claims, claims_of, names, is_in_range, all_suit, are_together, come_rows, takes, puts, stay_rows, all_come, all_stay, go_rows, keeps_names, moves, is_shaken, is_sound, stays_sound}
+use Rattle.desk_rows.specs.declared.key.Kind.TheVariants as kinds
 use Rattle.desk_rows.specs.declared.claim.Claim.TheVariants as claims
+use Rattle.desk_rows.specs.declared.key.Key.TheVariants as keys
+use Rattle.desk_rows.specs.Row.Want.{Carries}
 use Rattle.desk_rows.specs.laws.ClaimLaws.{claimed, witness}
 use Rattle.desk_rows.specs.laws.Equal.{key_itself, its_key, one_precedes, claim_itself}
 use Rattle.desk_rows.specs.laws.Laws.{Apt, ins_order, good_parts, good_from, good_order, any_counts, is_in-append, claims_key, one_key}
@@ -10,7 +12,7 @@ use Rattle.desk_rows.specs.laws.ListLaws.{true_false, and_turned, any_count, no_
 use Rattle.desk_rows.specs.laws.OrderLaws.{at_each, from_each, in_order-filter, with_rows_in_order, list_all-with_rows}
 use Rattle.desk_rows.proofs.Counts.{two_counts, all_after}
 use Rattle.desk_rows.proofs.Finding.{keyed_alone, before, later, was_there}
-use Rattle.desk_rows.proofs.Unshaken.{unshaken}
+use Rattle.desk_rows.proofs.Unshaken.{unshaken, one_kept}
 
 -- what follows for each row follows for all
 pub each_row : (p q : Row → Bool) (rs : List Row) → ((r : Row) → is_in rs r ≡ true → p r ≡ true → q r ≡ true) → list_all p rs ≡ true → list_all q rs ≡ true
@@ -170,13 +172,15 @@ module _ (d : Desk) (e : EditOf) (g : good d ≡ true) (a : Apt d e) where
     by : (is_shaken (moves d e) d e r ≡ true) ⊎ (is_shaken (moves d e) d e r ≡ false) → (moves d e ≡ true) ⊎ (moves d e ≡ false) → obeys (exchanged d e) r ≡ true
     by (inl shaken) m = asked (is_shaken (moves d e) d e r) (obeys (exchanged d e) r) h shaken
     by (inr calm) (inr still) = unshaken d e g a keyed plain still keep r one (sym (ap (λ b. is_shaken b d e r) still) ∙ calm) before'
-    by (inr calm) (inl moved) = anyway r (sym (ap (λ b. is_shaken b d e r) moved) ∙ calm) before' where
-      anyway : (r : Row) → is_shaken true d e r ≡ false → obeys d r ≡ true → obeys (exchanged d e) r ≡ true
-      anyway (Member m) calm h = h
-      anyway (Source s) calm h = h
-      anyway (Slot s) calm h = h
-      anyway (Mute s) calm h = h
-      anyway _ calm h = absurd (true_false calm)
+    by (inr calm) (inl moved) = anyway r (was_there d e g a r one) (sym (ap (λ b. is_shaken b d e r) moved) ∙ calm) before' where
+      anyway : (r : Row) → is_in (rows_of d) r ≡ true → is_shaken true d e r ≡ false → obeys d r ≡ true → obeys (exchanged d e) r ≡ true
+      anyway (Member m) there calm h =
+          let both = and_parts (is_in_range (Member m) && true) (all_suit d (Member m) && are_together d (names (Member m))) h in
+          and_from _ _ both.0 (one_kept d e g a keyed (Carries m.codec) (keys.Room m.room) calm (at_each (is_named_there d) (rows_of d) (Member m) (good_parts d g).named there) both.1)
+      anyway (Source s) there calm h = h
+      anyway (Slot s) there calm h = h
+      anyway (Mute s) there calm h = h
+      anyway _ there calm h = absurd (true_false calm)
 
   -- what is judged of single rows makes the new desk good
   pub sound_good : list_all (λ r. not (is_of kinds.Member r)) (ins e) ≡ true → is_within_limits (exchanged d e) ≡ true →

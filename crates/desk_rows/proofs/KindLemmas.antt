@@ -2,8 +2,8 @@
 use Rattle.std.specs.Prelude.{◌≡◌, ◌≤◌, ◌∷◌, ◌++◌}
 use Rattle.desk_rows.specs.laws.Words.{ℕ, Bool, true, false, cond, List, [], length, None, Some, refl, sym, ap, ◌∙◌, arith, map, not, filter, nat_le, append-nil, and_parts, leb-true, find-append, length-map, length-filter, find, list_all, option_or, count_by, Key, Kind, MemberRow as Member, Row, Desk, count_of, good, is_of, member_limit, slot_limit, room_limit, source_limit, gain_limit, in_order, has_key}
 use Rattle.desk_rows.specs.declared.row.Row.TheVariants as rows
-use Rattle.desk_rows.specs.declared.row.Kind.TheVariants as kinds
-use Rattle.desk_rows.specs.declared.row.Key.TheVariants as keys
+use Rattle.desk_rows.specs.declared.key.Kind.TheVariants as kinds
+use Rattle.desk_rows.specs.declared.key.Key.TheVariants as keys
 use Rattle.desk_rows.specs.laws.Laws.{good_parts}
 
 members_first : (ms : List Member) (os : List Row) → filter (is_of kinds.Member) (map rows.Member ms ++ os) ≡ map rows.Member ms ++ filter (is_of kinds.Member) os

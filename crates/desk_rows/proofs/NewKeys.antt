@@ -1,7 +1,7 @@
 -- No row comes under the key of another, and what is judged is right.
 use Rattle.std.specs.Prelude.{◌≡◌, ◌≤◌, ◌∷◌, ◌+◌, ◌&&◌, ◌⊎◌}
 use Rattle.desk_rows.specs.laws.Words.{ℕ, Bool, true, false, List, [], nat_lt, refl, sym, ap, ◌∙◌, arith, map, nat_eq, not, inl, inr, eqb-true, or_left, or_right, or_cases, and_parts, and_from, cases_Bool, false_from_ne_true, not-true, list_all-map, list_any, list_all, is_some, count_by, eq-eqb, Placed, Key, Row, Member, Desk, rows_of, is_named_there, row_at, is_within_limits, is_made_once, obeys, good, EditOf, ins, exchanged, IsKeyed, is_of, is_in, has_key, rank, kind_of, key_of, other_claims, come_rows, takes, stay_rows, all_come, all_stay, go_rows, moves, is_free, comes_once, is_sound, stays_sound, keys_are_new, is_sound_beside, judged}
-use Rattle.desk_rows.specs.declared.row.Kind.TheVariants as kinds
+use Rattle.desk_rows.specs.declared.key.Kind.TheVariants as kinds
 use Rattle.desk_rows.specs.declared.claim.Claim.TheVariants as claims
 use Rattle.desk_rows.specs.laws.ClaimLaws.{witness}
 use Rattle.desk_rows.specs.laws.Equal.{key_itself, its_key}

@@ -1,7 +1,7 @@
 -- What is asked of rows and an edit to judge the desk that it leads to.
 use Rattle.std.specs.Prelude.{◌≡◌, ◌≤◌, ◌||◌, ◌+◌, ◌&&◌}
 use Rattle.desk_rows.specs.laws.Words.{ℕ, Bool, true, length, nat_lt, sym, ap, ◌∙◌, arith, nat_eq, not, filter, nat_le, and_parts, list_all, is_some, count_by, Key, Row, Member, Desk, rows_of, row_at, is_within_limits, good, EditOf, outs, ins, exchanged, is_apt, fits, after, is_of, member_limit, slot_limit, other_limit, is_in, with_rows, in_order, without_rows, key_is_new, are_apart, have_same_keys, take_at, can_take, can_put, put_at, takes, stay_rows, stay_count, go_count, come_count, all_come, all_stay, moves, is_free, HasOrders, stays_sound, keys_are_new, is_sound_beside, judged}
-use Rattle.desk_rows.specs.declared.row.Kind.TheVariants as kinds
+use Rattle.desk_rows.specs.declared.key.Kind.TheVariants as kinds
 use Rattle.desk_rows.specs.laws.Laws.{outs_order, apt_parts, apt_from, good_order, fits_parts, after_fits}
 use Rattle.desk_rows.specs.laws.ListLaws.{all_count}
 use Rattle.desk_rows.specs.laws.OrderLaws.{count_by-with_rows, count_by-without_rows}

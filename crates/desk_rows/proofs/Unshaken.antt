@@ -1,8 +1,10 @@
 -- The rule of a row that stays holds on where the edit does not touch what it looks at.
 use Rattle.std.specs.Prelude.{◌≡◌, ◌≤◌, ◌||◌, ◌∷◌, ◌&&◌}
-use Rattle.desk_rows.specs.laws.Words.{ℕ, Bool, true, false, List, [], Option, None, Some, refl, sym, ap, ◌∙◌, arith, map, nat_eq, not, inl, inr, eqb-true, nat_le, or_left, or_right, or_cases, and_parts, and_from, cases_Bool, false_from_ne_true, not-true, not-false, or_parts, leb-true, le-leb, list_any, list_all, is_some, count_by, Placed, Key, Media, Audio, Video, MemberRow, Row, Member, Room, Source, Slot, Sub, Gain, Pin, Floor, Desk, rows_of, is_named_there, row_at, obeys, room_of_member, room_of, room_of_found, room_at, same_room, is_audio_in, all_suit, are_together, good, EditOf, outs, ins, exchanged, IsKeyed, is_of, room_audio_limit, is_in, with_rows, without_rows, take_at, has_key, names, same_media, suits, is_in_range, finds, is_elsewhere, come_rows, takes, puts, stay_rows, keeps_names, moves, is_shaken}
-use Rattle.desk_rows.specs.declared.row.Key.TheVariants as keys
-use Rattle.desk_rows.specs.declared.row.Kind.TheVariants as kinds
+use Rattle.desk_rows.specs.laws.Words.{ℕ, Bool, true, false, List, [], Option, None, Some, refl, sym, ap, ◌∙◌, arith, map, nat_eq, not, inl, inr, eqb-true, nat_le, or_left, or_right, or_cases, and_parts, and_from, cases_Bool, false_from_ne_true, not-true, not-false, or_parts, leb-true, le-leb, list_any, list_all, is_some, count_by, Placed, Key, Media, Audio, Video, MemberRow, Row, Member, Room, Source, Slot, Sub, Gain, Pin, Floor, Desk, rows_of, is_named_there, row_at, obeys, room_of_member, room_of, room_of_found, room_at, same_room, is_audio_in, all_suit, are_together, good, EditOf, outs, ins, exchanged, IsKeyed, is_of, room_audio_limit, is_in, with_rows, without_rows, take_at, has_key, names, same_media, Want, suits, is_in_range, finds, is_elsewhere, come_rows, takes, puts, stay_rows, keeps_names, moves, is_shaken}
+use Rattle.desk_rows.specs.declared.key.Key.TheVariants as keys
+use Rattle.desk_rows.specs.declared.key.Kind.TheVariants as kinds
+use Rattle.desk_rows.specs.Row.Want.{Anything, Sends, Carries}
+use Rattle.desk_rows.specs.Desk.{has_few_audio}
 use Rattle.desk_rows.specs.laws.ClaimLaws.{witness}
 use Rattle.desk_rows.specs.laws.Equal.{row_itself}
 use Rattle.desk_rows.specs.laws.Laws.{Apt, outs_order, good_parts, good_order, any_counts, is_in-append}
@@ -35,7 +37,23 @@ was_elsewhere d _ = false
 pub neither : (b c : Bool) → (b || c) ≡ false → (b ≡ false) × (c ≡ false)
 neither b c e = or_parts b c e
 
--- ---- given a good desk and an apt edit by which no row comes under the key of another and no member moves
+-- ---- given a good desk and an apt edit by which no row comes under the key of another
+
+module _ (d : Desk) (e : EditOf) (g : good d ≡ true) (a : Apt d e) (keyed : IsKeyed (exchanged d e)) where
+  -- a row that is there and is not taken is found as before
+  row_kept : (key : Key) → takes e key ≡ false → list_any (has_key key) (rows_of d) ≡ true → row_at (exchanged d e) key ≡ row_at d key
+  row_kept key none there =
+      let old = some_row (row_at d key) (sym (is_found (has_key key) (rows_of d)) ∙ there) in
+      found_kept d e g a keyed key old.0 none old.1 ∙ sym old.1
+
+  -- the rule of a row that names one
+  pub one_kept : (want : Want) (x : Key) → (takes e x || false) ≡ false → (list_any (has_key x) (rows_of d) && true) ≡ true →
+      ((suits want (row_at d x) && true) && true) ≡ true → ((suits want (row_at (exchanged d e) x) && true) && true) ≡ true
+  one_kept want x calm there h =
+      let kept = row_kept x (neither (takes e x) false calm).0 (and_parts (list_any (has_key x) (rows_of d)) true there).0 in
+      (λ i. (suits want (kept i) && true) && true) ∙ h
+
+-- ---- and by which no member moves
 
 module _ (d : Desk) (e : EditOf) (g : good d ≡ true) (a : Apt d e) (keyed : IsKeyed (exchanged d e)) (plain : list_all (λ r. not (is_of kinds.Member r)) (ins e) ≡ true) (still : moves d e ≡ false) where
   not_elsewhere : (r : Row) → is_in (map (λ (p : Placed). Member p.row) e.put.members) r ≡ true → was_elsewhere d r ≡ false
@@ -122,24 +140,29 @@ module _ (d : Desk) (e : EditOf) (g : good d ≡ true) (a : Apt d e) (keyed : Is
         }
 
     -- the rule of a row that names two
-    pair_kept : (want : Option Media) (x y : Key) → (takes e x || takes e y) ≡ false → (list_any (has_key x) (rows_of d) && (list_any (has_key y) (rows_of d) && true)) ≡ true →
+    pair_kept : (want : Want) (x y : Key) → (takes e x || (takes e y || false)) ≡ false → (list_any (has_key x) (rows_of d) && (list_any (has_key y) (rows_of d) && true)) ≡ true →
         ((suits want (row_at d x) && (suits want (row_at d y) && true)) && same_room (room_at d x) (room_at d y)) ≡ true →
         ((suits want (row_at (exchanged d e) x) && (suits want (row_at (exchanged d e) y) && true)) && same_room (room_at (exchanged d e) x) (room_at (exchanged d e) y)) ≡ true
     pair_kept want x y calm there h =
-        let none = neither (takes e x) (takes e y) calm in
+        let none = neither (takes e x) (takes e y || false) calm in
         let both = and_parts (list_any (has_key x) (rows_of d)) (list_any (has_key y) (rows_of d) && true) there in
         let one = found_as x none.0 both.0 in
-        let two = found_as y none.1 (and_parts (list_any (has_key y) (rows_of d)) true both.1).0 in
+        let two = found_as y (neither (takes e y) false none.1).0 (and_parts (list_any (has_key y) (rows_of d)) true both.1).0 in
         (λ i. (suits want (one.row i) && (suits want (two.row i) && true)) && same_room (one.room i) (two.room i)) ∙ h
 
     pub unshaken : (r : Row) → is_in (stay_rows d e) r ≡ true → is_shaken false d e r ≡ false → obeys d r ≡ true → obeys (exchanged d e) r ≡ true
     unshaken (Room r) one calm h =
         let none = neither (list_any (is_audio_in (exchanged d e) r.room) (ins e)) false calm in
-        and_from _ _ (few_audio r.room none.0 (and_parts _ true h).0) refl
-    unshaken (Sub s) one calm h = pair_kept (Some Video) (keys.Source s.source) (keys.Slot s.out_ssrc) calm (named (Sub s) one).0 h
+        let parts = and_parts (is_in_range (Room r) && has_few_audio d (Room r)) true h in
+        let both = and_parts (is_in_range (Room r)) (has_few_audio d (Room r)) parts.0 in
+        and_from _ _ (and_from _ _ both.0 (few_audio r.room none.0 both.1)) refl
+    unshaken (Member m) one calm h =
+        let both = and_parts (is_in_range (Member m) && true) (all_suit d (Member m) && are_together d (names (Member m))) h in
+        and_from _ _ both.0 (one_kept d e g a keyed (Carries m.codec) (keys.Room m.room) calm (named (Member m) one).0 both.1)
+    unshaken (Sub s) one calm h = pair_kept (Sends Video) (keys.Source s.source) (keys.Slot s.out_ssrc) calm (named (Sub s) one).0 h
     unshaken (Gain s) one calm h =
         let both = and_parts (is_in_range (Gain s) && true) (all_suit d (Gain s) && are_together d (names (Gain s))) h in
-        and_from _ _ both.0 (pair_kept (Some Audio) (keys.Member s.member) (keys.Source s.source) calm (named (Gain s) one).0 both.1)
-    unshaken (Pin s) one calm h = pair_kept (Some Video) (keys.Room s.room) (keys.Source s.source) calm (named (Pin s) one).0 h
-    unshaken (Floor s) one calm h = pair_kept None (keys.Room s.room) (keys.Member s.member) calm (named (Floor s) one).0 h
+        and_from _ _ both.0 (pair_kept (Sends Audio) (keys.Member s.member) (keys.Source s.source) calm (named (Gain s) one).0 both.1)
+    unshaken (Pin s) one calm h = pair_kept (Sends Video) (keys.Room s.room) (keys.Source s.source) calm (named (Pin s) one).0 h
+    unshaken (Floor s) one calm h = pair_kept Anything (keys.Room s.room) (keys.Member s.member) calm (named (Floor s) one).0 h
     unshaken _ one calm h = h

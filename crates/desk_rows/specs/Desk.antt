@@ -7,10 +7,10 @@ use Rattle.desk_rows.specs.declared.row.Member.{Member}
 use Rattle.desk_rows.specs.declared.row.Row.{Row}
 use Rattle.desk_rows.specs.declared.row.Row.TheVariants as rows
 use Rattle.desk_rows.specs.declared.row.Media.TheVariants.{Audio}
-use Rattle.desk_rows.specs.declared.row.Key.{Key}
-use Rattle.desk_rows.specs.declared.row.Key.TheVariants as keys
-use Rattle.desk_rows.specs.declared.row.Kind.{Kind}
-use Rattle.desk_rows.specs.declared.row.Kind.TheVariants as kinds
+use Rattle.desk_rows.specs.declared.key.Key.{Key}
+use Rattle.desk_rows.specs.declared.key.Key.TheVariants as keys
+use Rattle.desk_rows.specs.declared.key.Kind.{Kind}
+use Rattle.desk_rows.specs.declared.key.Kind.TheVariants as kinds
 use Rattle.desk_rows.specs.declared.claim.Claim.{Claim}
 use Rattle.desk_rows.specs.declared.claim.Claim.TheVariants as claims
 use Rattle.desk_rows.specs.Row.{has_key, names, wants, suits, is_in_range, claims_of, makes, same_media}
@@ -106,6 +106,11 @@ room_of_found d (Some r) = room_of d r
 abbrev pub room_at : Desk → Key → Option ℕ
 room_at d key = room_of_found d (row_at d key)
 
+-- the clock rate of a room that was found
+abbrev pub rate_of_room : Option Row → Option ℕ
+rate_of_room (Some (rows.Room r)) = Some r.rate
+rate_of_room _ = None
+
 -- both are in a room, and in one
 abbrev pub same_room : Option ℕ → Option ℕ → Bool
 same_room (Some a) (Some b) = nat_eq a b
@@ -116,7 +121,7 @@ abbrev pub are_together : Desk → List Key → Bool
 are_together d (a ∷ b ∷ []) = same_room (room_at d a) (room_at d b)
 are_together d _ = true
 
--- what a row names is of the kind that it wants
+-- what a row names is what it wants
 abbrev pub all_suit : Desk → Row → Bool
 all_suit d r = list_all (λ key. suits (wants r) (row_at d key)) (names r)
 
@@ -137,7 +142,7 @@ has_few_audio d (rows.Gain g) = true
 has_few_audio d (rows.Pin p) = true
 has_few_audio d (rows.Floor f) = true
 
--- the rule of rows: values are in their ranges, a room has few audio sources, and what a row names is of the kind that it wants and in one room
+-- the rule of rows: values are in their ranges, a room has few audio sources, and what a row names is what it wants, and in one room
 abbrev pub obeys : Desk → Row → Bool
 obeys d r = (is_in_range r && has_few_audio d r) && (all_suit d r && are_together d (names r))
 

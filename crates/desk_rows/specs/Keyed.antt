@@ -1,8 +1,8 @@
 -- Desks in which a key finds one row at most.
 use Rattle.std.specs.Prelude.{◌≡◌, ◌≤◌, true, not, count_by}
 use Rattle.std.specs.List.{list_all}
-use Rattle.desk_rows.specs.declared.row.Key.{Key}
-use Rattle.desk_rows.specs.declared.row.Kind.TheVariants as kinds
+use Rattle.desk_rows.specs.declared.key.Key.{Key}
+use Rattle.desk_rows.specs.declared.key.Kind.TheVariants as kinds
 use Rattle.desk_rows.specs.Row.{has_key}
 use Rattle.desk_rows.specs.Kinds.{is_of}
 use Rattle.desk_rows.specs.Desk.{Desk, rows_of}

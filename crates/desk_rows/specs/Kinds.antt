@@ -1,8 +1,8 @@
 -- Kinds of row.
 use Rattle.std.specs.Prelude.{ℕ, Bool, List, [], ◌∷◌, nat_eq}
 use Rattle.desk_rows.specs.declared.row.Row.{Row}
-use Rattle.desk_rows.specs.declared.row.Kind.{Kind}
-use Rattle.desk_rows.specs.declared.row.Kind.TheVariants as kinds
+use Rattle.desk_rows.specs.declared.key.Kind.{Kind}
+use Rattle.desk_rows.specs.declared.key.Kind.TheVariants as kinds
 use Rattle.desk_rows.specs.Limits.{room_limit, member_limit, source_limit, slot_limit, gain_limit}
 use Rattle.desk_rows.specs.Row.{rank, kind_of, key_of}
 

@@ -2,7 +2,7 @@
 use Rattle.std.specs.Prelude.{Bool, true, false, ◌&&◌, ◌||◌, not, List, [], ◌∷◌, filter, if◌then◌else◌}
 use Rattle.std.specs.List.{list_any, list_all}
 use Rattle.desk_rows.specs.declared.row.Row.{Row}
-use Rattle.desk_rows.specs.declared.row.Key.{Key}
+use Rattle.desk_rows.specs.declared.key.Key.{Key}
 use Rattle.desk_rows.specs.Numbers.{numbers_precede}
 use Rattle.desk_rows.specs.Row.{key_numbers, key_of, same_key, same_row}
 

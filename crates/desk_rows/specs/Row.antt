@@ -1,5 +1,5 @@
 -- Rows: each kind is told here once, by its numbers, its key, what it names and what it claims.
-use Rattle.std.specs.Prelude.{ℕ, Bool, true, not, List, [], ◌∷◌, ◌++◌, nat_eq, nat_le, Option, None, Some}
+use Rattle.std.specs.Prelude.{ℕ, Bool, true, not, ◌||◌, List, [], ◌∷◌, ◌++◌, nat_eq, nat_le, Option, None, Some}
 use Rattle.std.specs.List.{list_any}
 use Rattle.desk_rows.specs.declared.row.Codec.{Codec}
 use Rattle.desk_rows.specs.declared.row.Codec.TheVariants as codecs
@@ -7,10 +7,10 @@ use Rattle.desk_rows.specs.declared.row.Media.{Media}
 use Rattle.desk_rows.specs.declared.row.Media.TheVariants as medias
 use Rattle.desk_rows.specs.declared.row.Row.{Row}
 use Rattle.desk_rows.specs.declared.row.Row.TheVariants.{Room, Member, Source, Slot, Sub, Mute, Gain, Pin, Floor}
-use Rattle.desk_rows.specs.declared.row.Kind.{Kind}
-use Rattle.desk_rows.specs.declared.row.Kind.TheVariants as kinds
-use Rattle.desk_rows.specs.declared.row.Key.{Key}
-use Rattle.desk_rows.specs.declared.row.Key.TheVariants as keys
+use Rattle.desk_rows.specs.declared.key.Kind.{Kind}
+use Rattle.desk_rows.specs.declared.key.Kind.TheVariants as kinds
+use Rattle.desk_rows.specs.declared.key.Key.{Key}
+use Rattle.desk_rows.specs.declared.key.Key.TheVariants as keys
 use Rattle.desk_rows.specs.declared.claim.Claim.{Claim}
 use Rattle.desk_rows.specs.declared.claim.Claim.TheVariants as claims
 use Rattle.desk_rows.specs.Numbers.{same_numbers}
@@ -96,7 +96,7 @@ same_media a b = nat_eq (media_number a) (media_number b)
 
 -- the numbers that tell a row from all others: its kind's, and those of its fields before as many 0 as make twelve
 abbrev pub row_numbers : Row → List ℕ
-row_numbers (Room r) = 1 ∷ r.room ∷ 0 ∷ 0 ∷ 0 ∷ 0 ∷ 0 ∷ 0 ∷ 0 ∷ 0 ∷ 0 ∷ 0 ∷ []
+row_numbers (Room r) = 1 ∷ r.room ∷ r.rate ∷ 0 ∷ 0 ∷ 0 ∷ 0 ∷ 0 ∷ 0 ∷ 0 ∷ 0 ∷ 0 ∷ []
 row_numbers (Member m) = 2 ∷ m.member ∷ m.room ∷ codec_number m.codec ∷ m.out_audio ∷ m.first_seq ∷ m.first_ts ∷ m.address.port ∷ m.address.ip
 row_numbers (Source s) = 3 ∷ s.ssrc ∷ s.member ∷ media_number s.media ∷ 0 ∷ 0 ∷ 0 ∷ 0 ∷ 0 ∷ 0 ∷ 0 ∷ 0 ∷ []
 row_numbers (Slot s) = 4 ∷ s.out_ssrc ∷ s.member ∷ s.index ∷ s.first_seq ∷ s.first_ts ∷ 0 ∷ 0 ∷ 0 ∷ 0 ∷ 0 ∷ 0 ∷ []
@@ -136,26 +136,41 @@ owner_of (keys.Gain m n) = keys.Gain m n
 owner_of (keys.Pin n) = keys.Room n
 owner_of (keys.Floor n) = keys.Room n
 
--- what a source that a row names has to send
-abbrev pub wants : Row → Option Media
-wants (Room r) = None
-wants (Member m) = None
-wants (Source s) = None
-wants (Slot s) = None
-wants (Sub s) = Some medias.Video
-wants (Mute m) = None
-wants (Gain g) = Some medias.Audio
-wants (Pin p) = Some medias.Video
-wants (Floor f) = None
+-- what a row wants of those that it names
+pub data Want : Type 0 where
+  -- nothing
+  Anything : Want
+  -- sources that send this
+  Sends : (media : Media) → Want
+  -- a room that carries this codec
+  Carries : (codec : Codec) → Want
+
+-- a sub and a pin want video, a gain wants audio, and a member wants a room that carries its codec
+abbrev pub wants : Row → Want
+wants (Room r) = Anything
+wants (Member m) = Carries m.codec
+wants (Source s) = Anything
+wants (Slot s) = Anything
+wants (Sub s) = Sends medias.Video
+wants (Mute m) = Anything
+wants (Gain g) = Sends medias.Audio
+wants (Pin p) = Sends medias.Video
+wants (Floor f) = Anything
+
+-- a room of this clock rate, in Hz, carries a codec: PCMU is at 8000 Hz alone (RFC 3551 section 4.5.14)
+abbrev pub carries : ℕ → Codec → Bool
+carries rate codecs.Pcmu = nat_eq rate 8000
+carries rate codecs.L16 = true
 
 -- whether what was found under a name is what is wanted
-abbrev pub suits : Option Media → Option Row → Bool
-suits (Some media) (Some (Source s)) = same_media s.media media
+abbrev pub suits : Want → Option Row → Bool
+suits (Sends media) (Some (Source s)) = same_media s.media media
+suits (Carries codec) (Some (Room r)) = carries r.rate codec
 suits _ _ = true
 
--- the values are in their ranges: a port is not 0, a slot has a place among few, a gain a greatest value
+-- the values are in their ranges: a room's rate is one of two, a port is not 0, a slot has a place among few, a gain a greatest value
 abbrev pub is_in_range : Row → Bool
-is_in_range (Room r) = true
+is_in_range (Room r) = nat_eq r.rate 8000 || nat_eq r.rate 44100
 is_in_range (Member m) = not (nat_eq m.address.port 0)
 is_in_range (Source s) = true
 is_in_range (Slot s) = nat_le s.index index_limit

@@ -10,8 +10,9 @@ ghost use Rattle.desk_rows.specs.inner.Judged.{listed_rows, takes, coming, go_co
 
 use crate::counting::{Test, count_placed, count_rows};
 use crate::edit::{Edit, Placed};
+use crate::key::Key;
 use crate::ordering::find_row;
-use crate::row::{Key, Row};
+use crate::row::Row;
 use std::alloc::Allocator;
 
 impl<A: Allocator + Copy> Edit<A> {

@@ -6,7 +6,7 @@ ghost use Rattle.desk_rows.specs.Few.{listed};
 ghost use Rattle.desk_rows.specs.Row.{claim_numbers, same_claim};
 
 use crate::few::Few;
-use crate::row::Key;
+use crate::key::Key;
 use rtp_codec::Address;
 
 /// A value that only one row of a desk may have.

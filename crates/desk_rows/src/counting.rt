@@ -6,7 +6,8 @@ ghost use Rattle.desk_rows.specs.inner.Tests.{passes};
 
 use crate::claim::Claim;
 use crate::edit::Placed;
-use crate::row::{Kind, Member, Row};
+use crate::key::Kind;
+use crate::row::{Member, Row};
 
 /// The test by which rows are counted.
 #[derive(Clone, Copy)]

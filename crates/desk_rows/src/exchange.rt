@@ -1,34 +1,25 @@
-//! Checks an edit of rows, and carries it out.
+//! Checks an edit of rows.
 
-ghost use Rattle.std.specs.Prelude.{◌≡◌, ℕ, ◌+◌, ◌≤◌, ◌&&◌, true, not, count_by, nat_eq, length, vec_len, vec_capacity};
-ghost use Rattle.std.specs.Prelude.{IfSome};
-ghost use Rattle.std.specs.List.{list_any, list_all};
-ghost use Rattle.desk_rows.specs.declared.limits.TheConstants.{MAX_MEMBERS, MAX_OTHERS};
-ghost use Rattle.desk_rows.specs.declared.row.Kind.TheVariants as kinds;
+ghost use Rattle.std.specs.Prelude.{◌≡◌, ◌&&◌, true, not, count_by};
+ghost use Rattle.std.specs.List.{list_all};
+ghost use Rattle.desk_rows.specs.declared.key.Kind.TheVariants as kinds;
 ghost use Rattle.desk_rows.specs.declared.row.Row.TheVariants.{Member as MemberRow};
 ghost use Rattle.desk_rows.specs.Row.{key_of, has_key};
 ghost use Rattle.desk_rows.specs.Kinds.{is_of};
-ghost use Rattle.desk_rows.specs.Order.{in_order, is_in, are_apart, have_same_keys, with_rows, without_rows};
-ghost use Rattle.desk_rows.specs.Places.{places_rise, can_take, can_put, take_at, put_at};
+ghost use Rattle.desk_rows.specs.Order.{in_order, is_in, are_apart, have_same_keys, with_rows};
+ghost use Rattle.desk_rows.specs.Places.{places_rise, can_take, can_put, take_at};
 ghost use Rattle.desk_rows.specs.Edit.{outs, ins};
 ghost use Rattle.desk_rows.specs.Exchange.{is_apt, exchanged, fits};
 ghost use Rattle.desk_rows.specs.Desk.{good};
-ghost use Rattle.desk_rows.specs.inner.Index.{IsIndex};
-ghost use Rattle.desk_rows.specs.inner.Addressed.{IsByAddress};
-ghost use Rattle.desk_rows.specs.inner.Roomed.{IsByRoom};
-ghost use Rattle.desk_rows.specs.inner.Judged.{HasOrders, OnlyReplaces, takes, puts, coming, is_free, comes_once};
-ghost use Rattle.desk_rows.specs.inner.Judged.{keys_are_new};
+ghost use Rattle.desk_rows.specs.inner.Judged.{takes, puts, coming, is_free, comes_once, keys_are_new};
 
-use crate::borrowed::EditLists;
 use crate::edit::{Edit, Placed};
-use crate::index::{Entry, move_members};
+use crate::key::{Key, Kind};
 use crate::ordering::{are_apart, contains_all, have_same_keys};
 use crate::overlay::Overlay;
 use crate::places::{can_be_put, can_be_taken};
-use crate::row::{Key, Kind, Member, Row};
+use crate::row::{Member, Row};
 use crate::rows::Rows;
-use crate::sliding::replace_one;
-use crate::sweeping::{put_rows, take_rows};
 use std::alloc::Allocator;
 
 /// A desk and an edit of it. The rows that go are there, those that come have places, and each replaced row keeps its
@@ -216,93 +207,4 @@ pub(crate) fn fits<A: Allocator + Copy>(rows: &Rows<A>, edit: &Edit<A>) -> bool
     }
     let exchange = Exchange { rows, edit };
     exchange.is_good()
-}
-
-/// Takes the members that go from their places, and puts those that come at theirs.
-pub(crate) fn exchange_members<A: Allocator + Copy>(
-    members: &mut Vec<Member, A>,
-    index: &mut Vec<Entry, A>,
-    by_address: &mut Vec<Member, A>,
-    by_room: &mut Vec<Member, A>,
-    edit: &EditLists<'_>,
-)
-    requires index { IsIndex members.old.items index.old.items }
-    requires addresses { IsByAddress members.old.items by_address.old.items }
-    requires rooms { IsByRoom members.old.items by_room.old.items }
-    requires take { can_take edit.now.taken.members members.old.items ≡ true }
-    requires put { can_put edit.now.put.members (take_at edit.now.taken.members members.old.items) ≡ true }
-    requires numbers { (n : ℕ)
-        → count_by
-        (λ m. nat_eq m.member n) (put_at edit.now.put.members (take_at edit.now.taken.members members.old.items)) ≤ 1 }
-    requires few { length (take_at edit.now.taken.members members.old.items) + length edit.now.put.members
-        ≤ MAX_MEMBERS }
-    requires room { (MAX_MEMBERS ≤ vec_capacity members.old) × (MAX_MEMBERS ≤ vec_capacity index.old)
-        × (MAX_MEMBERS ≤ vec_capacity by_address.old) × (MAX_MEMBERS ≤ vec_capacity by_room.old) }
-    ensures items { members.new.items ≡ put_at edit.now.put.members (take_at edit.now.taken.members members.old.items) }
-    ensures index { IsIndex members.new.items index.new.items }
-    ensures addresses { IsByAddress members.new.items by_address.new.items }
-    ensures rooms { IsByRoom members.new.items by_room.new.items }
-    ensures room { (MAX_MEMBERS ≤ vec_capacity members.new) × (MAX_MEMBERS ≤ vec_capacity index.new)
-        × (MAX_MEMBERS ≤ vec_capacity by_address.new) × (MAX_MEMBERS ≤ vec_capacity by_room.new) }
-{
-    let (taken, put) = (edit.taken_members(), edit.put_members());
-    move_members(members, index, by_address, by_room, taken, put);
-}
-
-/// The replaced row and its replacement, if the edit changes no other row beside the members.
-fn only_replaced(edit: &EditLists<'_>) -> Option<(Row, Row)>
-    ensures { IfSome result (λ pair. OnlyReplaces edit.now pair.0 pair.1) }
-{
-    let (old, new) = (edit.old(), edit.new());
-    let moved = edit.taken_others().len() + edit.put_others().len();
-    if moved == 0 && old.len() == 1 && new.len() == 1 {
-        return Some((old[0], new[0]));
-    }
-    None
-}
-
-/// Takes the other rows that go, and puts those that come where they keep the order. There is room for them.
-#[tactic(auto, using(crate::proofs::Merging::put_in_turn, crate::proofs::SlidingLemmas::rest_in_order, crate::proofs::Counts::length_of_both))]
-fn move_rows<A: Allocator + Copy>(
-    others: &mut Vec<Row, A>,
-    spare: &mut Vec<Row, A>,
-    edit: &EditLists<'_>,
-)
-    requires rows { in_order others.old.items ≡ true }
-    requires fit { length others.old.items ≤ MAX_OTHERS }
-    requires orders { HasOrders edit.now }
-    requires apart { are_apart edit.now.put.others edit.now.replaced.new ≡ true }
-    requires later { in_order (with_rows (ins edit.now) (without_rows (outs edit.now) others.old.items)) ≡ true }
-    requires few { length (with_rows (ins edit.now) (without_rows (outs edit.now) others.old.items)) ≤ MAX_OTHERS }
-    requires room { (MAX_OTHERS ≤ vec_capacity others.old) × (MAX_OTHERS ≤ vec_capacity spare.old) }
-    ensures items { others.new.items ≡ with_rows (ins edit.now) (without_rows (outs edit.now) others.old.items) }
-    ensures room { (MAX_OTHERS ≤ vec_capacity others.new) × (MAX_OTHERS ≤ vec_capacity spare.new) }
-{
-    take_rows(others, spare, edit.taken_others(), edit.old());
-    put_rows(others, spare, edit.put_others());
-    put_rows(others, spare, edit.new());
-}
-
-/// Takes the other rows that go, and puts those that come. A single replaced row is overwritten. There is room for all.
-pub(crate) fn exchange_rows<A: Allocator + Copy>(
-    others: &mut Vec<Row, A>,
-    spare: &mut Vec<Row, A>,
-    edit: &EditLists<'_>,
-)
-    requires rows { in_order others.old.items ≡ true }
-    requires fit { length others.old.items ≤ MAX_OTHERS }
-    requires orders { HasOrders edit.now }
-    requires there { list_all (is_in others.old.items) (outs edit.now) ≡ true }
-    requires paired { have_same_keys edit.now.replaced.old edit.now.replaced.new ≡ true }
-    requires apart { are_apart edit.now.put.others edit.now.replaced.new ≡ true }
-    requires later { in_order (with_rows (ins edit.now) (without_rows (outs edit.now) others.old.items)) ≡ true }
-    requires few { length (with_rows (ins edit.now) (without_rows (outs edit.now) others.old.items)) ≤ MAX_OTHERS }
-    requires room { (MAX_OTHERS ≤ vec_capacity others.old) × (MAX_OTHERS ≤ vec_capacity spare.old) }
-    ensures items { others.new.items ≡ with_rows (ins edit.now) (without_rows (outs edit.now) others.old.items) }
-    ensures room { (MAX_OTHERS ≤ vec_capacity others.new) × (MAX_OTHERS ≤ vec_capacity spare.new) }
-{
-    match only_replaced(edit) {
-        Some((old, new)) => replace_one(others, &old, &new),
-        None => move_rows(others, spare, edit),
-    }
 }

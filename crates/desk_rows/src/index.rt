@@ -9,7 +9,7 @@ ghost use Rattle.desk_rows.specs.inner.Roomed.{IsByRoom};
 
 use crate::addressing::list_by_address;
 use crate::edit::Placed;
-use crate::grouping::list_by_room;
+use crate::following::list_by_room;
 use crate::places::{put_members, take_members};
 use crate::row::Member;
 use std::alloc::Allocator;

@@ -7,45 +7,56 @@
 //! ```rust
 //! let mut rows = Rows::new(alloc, 1)?; // for a bridge of SSRC 1
 //! let mut others = Vec::with_capacity(alloc, 1)?;
-//! others.push(Row::Room(Room { room: 1 }))?;
+//! others.push(Row::Room(Room { room: 1, rate: 8_000 }))?;
 //! let put = Part::new(Vec::new(alloc), others);
 //! let edit = Edit { taken: Part::none(alloc), put, replaced: Replaced::none(alloc) };
 //! rows.absorb(&edit); // the desk has room 1
-//! let room = rows.find(&Key::Room(1)); // Some(Row::Room(Room { room: 1 }))
+//! let room = rows.find(&Key::Room(1)); // Some(Row::Room(Room { room: 1, rate: 8_000 }))
 //! ```
 //!
 //! `absorb`, `part`, `edit` and `find` of worked_desk are these calls, with their answers proved.
 #![tactic(auto)]
 
+mod absorbing;
 mod addressing;
 mod borrowed;
 mod changes;
 mod claim;
+mod comparing;
 mod counting;
 mod edit;
 mod exchange;
 mod few;
+mod following;
 mod grouping;
 mod index;
+mod key;
 mod limits;
 mod looking;
+mod moving;
 mod ordering;
 mod overlay;
 mod places;
 mod row;
 mod rows;
+mod searching;
 mod sliding;
+mod staying;
 mod sweeping;
 
 pub use self::claim::Claim;
 pub use self::edit::{Edit, Part, Placed, Replaced};
 pub use self::few::Few;
+pub use self::key::{Key, Kind};
 pub use self::limits::{
     MAX_GAIN, MAX_GAINS, MAX_INDEX, MAX_MEMBERS, MAX_ROOM_AUDIO, MAX_ROOMS, MAX_SLOTS, MAX_SOURCES,
 };
-pub use self::looking::{Look, all_suit, are_together, count_audio, room_at, room_of};
+pub use self::looking::{
+    Look, all_suit, are_together, count_audio, rate_of_room, room_at, room_of,
+};
 pub use self::ordering::find_row;
 pub use self::row::{
-    Codec, Floor, Gain, Key, Kind, Media, Member, Mute, Pin, Room, Row, Slot, Source, Sub,
+    Codec, DEFAULT_RATE, Floor, Gain, MUSIC_RATE, Media, Member, Mute, Pin, Room, Row, Slot,
+    Source, Sub,
 };
 pub use self::rows::Rows;

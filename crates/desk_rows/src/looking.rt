@@ -3,13 +3,14 @@
 ghost use Rattle.std.specs.Prelude.{◌≡◌, count_by};
 ghost use Rattle.std.specs.List.{list_any, list_all};
 ghost use Rattle.desk_rows.specs.Desk.{Desk, row_at, room_of_member, room_of, room_of_found, room_at, same_room};
-ghost use Rattle.desk_rows.specs.Desk.{are_together, all_suit, is_audio_in};
+ghost use Rattle.desk_rows.specs.Desk.{rate_of_room, are_together, all_suit, is_audio_in};
 ghost use Rattle.desk_rows.specs.Few.{listed};
 ghost use Rattle.desk_rows.specs.Keyed.{IsKeyed};
 ghost use Rattle.desk_rows.specs.Row.{names, suits, wants};
 
 use crate::few::Few;
-use crate::row::{Key, Media, Row};
+use crate::key::Key;
+use crate::row::{Media, Row};
 
 /// A desk that can be asked for the row of a key.
 pub trait Look {
@@ -56,6 +57,16 @@ fn room_of_found<D: Look>(rows: &D, found: Option<Row>) -> Option<u32>
     }
 }
 
+/// The clock rate of a room row that was found, in Hz.
+pub fn rate_of_room(found: Option<Row>) -> Option<u32>
+    ensures { result ≡ rate_of_room found }
+{
+    match found {
+        Some(Row::Room(room)) => Some(room.rate),
+        _ => None,
+    }
+}
+
 /// The room of the row of this key, if there is one.
 pub fn room_at<D: Look>(rows: &D, key: Key) -> Option<u32>
     ensures { result ≡ room_at (D.desk rows.now) key }
@@ -90,8 +101,8 @@ fn one_suits<D: Look>(rows: &D, row: &Row, key: Key) -> bool
     row.suits(rows.look(key))
 }
 
-/// Whether each source that the row names sends the media that the row needs: video for a subscription or a pin, audio
-/// for a gain.
+/// Whether each row that the row names is what it wants: video for a subscription or a pin, audio for a gain, and a
+/// room that carries a member's codec.
 pub fn all_suit<D: Look>(rows: &D, row: &Row) -> bool
     ensures { result ≡ all_suit (D.desk rows.now) row.now }
 {

@@ -7,7 +7,8 @@ ghost use Rattle.desk_rows.specs.Kinds.{is_of};
 ghost use Rattle.desk_rows.specs.Naming.{is_gain_of};
 ghost use Rattle.desk_rows.specs.Order.{precedes, in_order, key_is_new, are_apart, have_same_keys, is_in};
 
-use crate::row::{Key, Kind, Row};
+use crate::key::{Key, Kind};
+use crate::row::Row;
 
 /// Whether the row stands before the first of these, if there is one.
 pub(crate) fn precedes_first(row: &Row, rows: &[Row]) -> bool

@@ -1,30 +1,28 @@
-//! Judges the desk that an edit would lead to, without making it.
+//! The desk that an edit would lead to, without making it, and whether what comes into it is sound.
 
-ghost use Rattle.std.specs.Prelude.{◌≡◌, ◌≤◌, ◌+◌, ◌&&◌, not, count_by, nat_eq, nat_le};
+ghost use Rattle.std.specs.Prelude.{◌≡◌, ◌≤◌, not, count_by, nat_eq, nat_le};
 ghost use Rattle.std.specs.List.{list_any, list_all};
 ghost use Rattle.desk_rows.specs.declared.row.Row.TheVariants.{Member as MemberRow};
 ghost use Rattle.desk_rows.specs.Few.{listed};
 ghost use Rattle.desk_rows.specs.Limits.{gain_limit, room_audio_limit};
 ghost use Rattle.desk_rows.specs.Kinds.{is_of};
 ghost use Rattle.desk_rows.specs.Row.{has_key};
-ghost use Rattle.desk_rows.specs.Desk.{rows_of, row_at, is_bridges, is_within_limits, is_named_there, is_made_once};
+ghost use Rattle.desk_rows.specs.Desk.{rows_of, is_bridges, is_within_limits, is_named_there, is_made_once};
 ghost use Rattle.desk_rows.specs.Desk.{is_audio_in, has_few_audio, obeys};
 ghost use Rattle.desk_rows.specs.Edit.{ins};
 ghost use Rattle.desk_rows.specs.Exchange.{exchanged};
 ghost use Rattle.desk_rows.specs.Keyed.{IsKeyed};
 ghost use Rattle.desk_rows.specs.inner.Tests.{passes};
-ghost use Rattle.desk_rows.specs.inner.Found.{finds, is_elsewhere};
-ghost use Rattle.desk_rows.specs.inner.Judged.{takes, puts, keeps_names, moves, gains_audio, takes_either, is_room};
-ghost use Rattle.desk_rows.specs.inner.Judged.{is_pair, is_shaken, is_sound_beside, stays_sound, all_come, all_stay};
+ghost use Rattle.desk_rows.specs.inner.Judged.{is_sound_beside, all_come};
 
 use crate::claim::Claim;
 use crate::counting::{Test, count_members, count_rows};
-use crate::edit::Placed;
 use crate::exchange::Exchange;
 use crate::few::Few;
+use crate::key::{Key, Kind};
 use crate::limits::{MAX_GAINS, MAX_MEMBERS, MAX_ROOM_AUDIO, MAX_ROOMS, MAX_SLOTS, MAX_SOURCES};
-use crate::looking::{Look, all_suit, are_together, count_audio, has_audio};
-use crate::row::{Key, Kind, Member, Row};
+use crate::looking::{Look, all_suit, are_together, count_audio};
+use crate::row::{Member, Row};
 use std::alloc::Allocator;
 
 /// A desk and an edit of it. No row comes under the key of another.
@@ -49,8 +47,6 @@ impl<A: Allocator + Copy> Look for Overlay<'_, A> {
 }
 
 impl<A: Allocator + Copy> Overlay<'_, A> {
-    // ---- what comes
-
     /// Whether the kind keeps its limit. Its rows and those that come are no more than the limit and those that go.
     #[tactic(auto, using(crate::proofs::OverlayLemmas::most_is, crate::proofs::ExchangeLemmas::rows_few))]
     fn is_within(&self, kind: Kind, limit: usize) -> bool
@@ -154,7 +150,7 @@ impl<A: Allocator + Copy> Overlay<'_, A> {
         }
     }
 
-    fn obeys(&self, row: &Row) -> bool
+    pub(crate) fn obeys(&self, row: &Row) -> bool
         ensures { result ≡ obeys (exchanged self.now.of.rows.now self.now.of.edit.now) row.now }
     {
         let by_itself = row.is_in_range() && self.has_few_audio(row);
@@ -203,189 +199,5 @@ impl<A: Allocator + Copy> Overlay<'_, A> {
             ≡ all_come (is_sound_beside (exchanged self.now.of.rows.now self.now.of.edit.now)) self.now.of.edit.now }
     {
         self.all_members_come() && self.all_others_come()
-    }
-
-    // ---- what stays
-
-    /// Whether a row with this key is there afterwards, if one was before.
-    fn keeps(&self, key: Key) -> bool
-        ensures { result ≡ not (takes self.now.of.edit.now key && not (puts self.now.of.edit.now key)) }
-    {
-        !self.of.takes(key) || self.of.puts(key)
-    }
-
-    fn keeps_names(&self, row: &Row) -> bool
-        ensures { result ≡ keeps_names self.now.of.edit.now row.now }
-    {
-        match row.names() {
-            Few::Nothing => true,
-            Few::One(key) => self.keeps(key),
-            Few::Two(key, other) => self.keeps(key) && self.keeps(other),
-        }
-    }
-
-    /// Whether the member was in another room.
-    fn is_moved(&self, placed: &Placed) -> bool
-        ensures { result
-            ≡ finds (is_elsewhere placed.now.row.room)
-            (row_at self.now.of.rows.now (Key.Member placed.now.row.member)) }
-    {
-        let found = self.of.rows.find(&Key::Member(placed.row.member));
-        is_elsewhere(found, placed.row.room)
-    }
-
-    /// Whether a member comes into another room than it was in.
-    pub(crate) fn moves(&self) -> bool
-        ensures { result ≡ moves self.now.of.rows.now self.now.of.edit.now }
-    {
-        self.of
-            .edit
-            .put_members()
-            .iter()
-            .any(|one| self.is_moved(one))
-    }
-
-    /// Whether an audio source comes into the room.
-    #[tactic(auto, using(crate::proofs::Counts::any_of_both))]
-    fn audio_comes(&self, room: u32) -> bool
-        ensures { result
-            ≡ list_any (is_audio_in (exchanged self.now.of.rows.now self.now.of.edit.now) room)
-            (ins self.now.of.edit.now) }
-    {
-        has_audio(self, self.of.edit.new(), room)
-            || has_audio(self, self.of.edit.put_others(), room)
-    }
-
-    fn gains_audio(&self, row: &Row) -> bool
-        ensures { result ≡ gains_audio self.now.of.rows.now self.now.of.edit.now row.now }
-    {
-        match row {
-            Row::Room(room) => self.audio_comes(room.room),
-            _ => false,
-        }
-    }
-
-    /// Whether the row names two rows of which one is taken.
-    fn takes_either(&self, names: Few<Key>) -> bool
-        ensures { result ≡ takes_either self.now.of.edit.now (listed names) }
-    {
-        match names {
-            Few::Two(key, other) => self.of.takes(key) || self.of.takes(other),
-            _ => false,
-        }
-    }
-
-    /// Whether what the row's rule looks at may have changed.
-    fn is_shaken(&self, row: &Row, moved: bool) -> bool
-        ensures { result ≡ is_shaken moved self.now.of.rows.now self.now.of.edit.now row.now }
-    {
-        let minds_moves = moved && (is_room(row) || is_pair(row.names()));
-        minds_moves || (self.gains_audio(row) || self.takes_either(row.names()))
-    }
-
-    /// Whether a row that stays is sound.
-    #[tactic(auto, unfolding(crate::specs::inner::Judged::stays_sound))]
-    fn stays_sound(&self, row: &Row, moved: bool) -> bool
-        ensures { result ≡ stays_sound moved self.now.of.rows.now self.now.of.edit.now row.now }
-    {
-        self.keeps_names(row) && (!self.is_shaken(row, moved) || self.obeys(row))
-    }
-
-    fn count_unsound(&self, rows: &[Row], moved: bool) -> usize
-        ensures { result
-            ≡ count_by (λ r. not (stays_sound moved self.now.of.rows.now self.now.of.edit.now r)) rows.now }
-    {
-        rows.iter()
-            .filter(|row| !self.stays_sound(row, moved))
-            .count()
-    }
-
-    fn count_unsound_members(&self, members: &[Member], moved: bool) -> usize
-        ensures { result
-            ≡ count_by
-            (λ m. not (stays_sound moved self.now.of.rows.now self.now.of.edit.now (MemberRow m))) members.now }
-    {
-        members
-            .iter()
-            .filter(|member| !self.stays_sound(&Row::Member(**member), moved))
-            .count()
-    }
-
-    fn count_unsound_placed(&self, placed: &[Placed], moved: bool) -> usize
-        ensures { result
-            ≡ count_by
-            (λ p. not (stays_sound moved self.now.of.rows.now self.now.of.edit.now (MemberRow p.row))) placed.now }
-    {
-        placed
-            .iter()
-            .filter(|one| !self.stays_sound(&Row::Member(one.row), moved))
-            .count()
-    }
-
-    fn members_stay(&self, moved: bool) -> bool
-        ensures { result
-            ≡ nat_eq (count_by
-            (λ m. not
-            (stays_sound moved self.now.of.rows.now self.now.of.edit.now (MemberRow m))) self.now.of.rows.now.members)
-            (count_by
-            (λ p. not
-            (stays_sound moved self.now.of.rows.now self.now.of.edit.now
-            (MemberRow p.row))) self.now.of.edit.now.taken.members) }
-    {
-        self.count_unsound_members(self.of.rows.members(), moved)
-            == self.count_unsound_placed(self.of.edit.taken_members(), moved)
-    }
-
-    fn others_stay(&self, moved: bool) -> bool
-        ensures { result
-            ≡ nat_eq (count_by
-            (λ r. not (stays_sound moved self.now.of.rows.now self.now.of.edit.now r)) self.now.of.rows.now.others)
-            (count_by
-            (λ r. not (stays_sound moved self.now.of.rows.now self.now.of.edit.now r)) self.now.of.edit.now.taken.others
-            + count_by
-            (λ r. not
-            (stays_sound moved self.now.of.rows.now self.now.of.edit.now r)) self.now.of.edit.now.replaced.old) }
-    {
-        let going = self.count_unsound(self.of.edit.taken_others(), moved)
-            + self.count_unsound(self.of.edit.old(), moved);
-        self.count_unsound(self.of.rows.others(), moved) == going
-    }
-
-    /// Whether each row that stays is sound.
-    #[tactic(auto, using(crate::proofs::OverlayLemmas::stay_test))]
-    pub(crate) fn all_stay(&self, moved: bool) -> bool
-        ensures { result
-            ≡ all_stay
-            (stays_sound moved self.now.of.rows.now self.now.of.edit.now) self.now.of.rows.now self.now.of.edit.now }
-    {
-        self.members_stay(moved) && self.others_stay(moved)
-    }
-}
-
-fn is_room(row: &Row) -> bool
-    ensures { result ≡ is_room row.now }
-{
-    match row {
-        Row::Room(_) => true,
-        _ => false,
-    }
-}
-
-fn is_pair(names: Few<Key>) -> bool
-    ensures { result ≡ is_pair (listed names) }
-{
-    match names {
-        Few::Two(_, _) => true,
-        _ => false,
-    }
-}
-
-/// Whether a member of another room is found.
-fn is_elsewhere(found: Option<Row>, room: u32) -> bool
-    ensures { result ≡ finds (is_elsewhere room) found }
-{
-    match found {
-        Some(Row::Member(row)) => row.room != room,
-        _ => false,
     }
 }

@@ -1,17 +1,21 @@
 //! The kinds of rows.
 
-ghost use Rattle.std.specs.Prelude.{◌≡◌, ◌∷◌, []};
+ghost use Rattle.std.specs.Prelude.{◌≡◌};
 ghost use Rattle.desk_rows.specs.Few.{listed};
 ghost use Rattle.desk_rows.specs.Kinds.{is_of};
-ghost use Rattle.desk_rows.specs.Order.{key_precedes, precedes};
-ghost use Rattle.desk_rows.specs.Row.{codec_number, media_number, same_media, row_numbers, same_row, kind_of, key_of};
-ghost use Rattle.desk_rows.specs.Row.{rank, key_numbers, same_key, has_key, names, owner_of, wants, suits, is_in_range};
-ghost use Rattle.desk_rows.specs.Row.{other_claims, makes};
+ghost use Rattle.desk_rows.specs.Row.{key_of, has_key, names, wants, carries, suits, is_in_range, other_claims, makes};
 
 use crate::claim::Claim;
 use crate::few::Few;
+use crate::key::{Key, Kind};
 use crate::limits::{MAX_GAIN, MAX_INDEX};
 use rtp_codec::Address;
+
+/// The clock rate of a room's audio where none is asked for, in Hz.
+pub const DEFAULT_RATE: u32 = 8_000;
+
+/// The clock rate of the audio of a room for music, in Hz.
+pub const MUSIC_RATE: u32 = 44_100;
 
 /// How a member's mix is encoded.
 #[derive(Clone, Copy, PartialEq, Eq)]
@@ -36,6 +40,8 @@ pub enum Media {
 pub struct Room {
     /// The room's number.
     pub room: u32,
+    /// The clock rate of its audio, 8000 or 44100 Hz. At 44100 Hz all audio is L16.
+    pub rate: u32,
 }
 
 /// A member of a room, with its address and its mix, an outgoing audio stream.
@@ -47,13 +53,13 @@ pub struct Member {
     pub room: u32,
     /// The address that it sends from, and that it is sent to. The port is not 0.
     pub address: Address,
-    /// How its mix is encoded.
+    /// How its mix is encoded. A room at 44100 Hz has L16 alone.
     pub codec: Codec,
     /// The SSRC of the mix.
     pub out_audio: u32,
     /// The sequence number of the mix's first packet.
     pub first_seq: u16,
-    /// The RTP timestamp of the mix's first packet, at 8000 Hz.
+    /// The RTP timestamp of the mix's first packet, at the room's rate.
     pub first_ts: u32,
 }
 
@@ -142,103 +148,15 @@ pub enum Row {
     Floor(Floor),
 }
 
-/// The key of a row: its kind and one number, or two for a gain. No two rows of a desk have one key.
-#[derive(Clone, Copy)]
-pub enum Key {
-    Room(u32),
-    Member(u32),
-    Source(u32),
-    Slot(u32),
-    Sub(u32),
-    Mute(u32),
-    Gain { member: u32, source: u32 },
-    Pin(u32),
-    Floor(u32),
-}
-
-/// The kinds of row.
-#[derive(Clone, Copy)]
-pub enum Kind {
-    Room,
-    Member,
-    Source,
-    Slot,
-    Sub,
-    Mute,
-    Gain,
-    Pin,
-    Floor,
-}
-
 impl Codec {
-    fn number(self) -> u32
-        ensures { result ≡ codec_number self }
+    /// Whether a room of this clock rate, in Hz, carries the codec. PCMU is at 8000 Hz alone (RFC 3551 section 4.5.14).
+    pub fn is_carried(self, rate: u32) -> bool
+        ensures { result ≡ carries rate self }
     {
         match self {
-            Codec::Pcmu => 0,
-            Codec::L16 => 1,
+            Codec::Pcmu => rate == DEFAULT_RATE,
+            Codec::L16 => true,
         }
-    }
-}
-
-impl Media {
-    fn number(self) -> u32
-        ensures { result ≡ media_number self }
-    {
-        match self {
-            Media::Audio => 0,
-            Media::Video => 1,
-        }
-    }
-
-    /// Whether both are equal.
-    pub fn is_same(self, other: Media) -> bool
-        ensures { result ≡ same_media self other }
-    {
-        self.number() == other.number()
-    }
-}
-
-impl Member {
-    fn numbers(&self) -> [u32; 12]
-        ensures { result ≡ row_numbers (Row.Member self.now) }
-    {
-        let [a, b, c, d] = self.address.ip;
-        [
-            2,
-            self.member,
-            self.room,
-            self.codec.number(),
-            self.out_audio,
-            u32::from(self.first_seq),
-            self.first_ts,
-            u32::from(self.address.port),
-            u32::from(a),
-            u32::from(b),
-            u32::from(c),
-            u32::from(d),
-        ]
-    }
-}
-
-impl Slot {
-    fn numbers(&self) -> [u32; 12]
-        ensures { result ≡ row_numbers (Row.Slot self.now) }
-    {
-        [
-            4,
-            self.out_ssrc,
-            self.member,
-            self.index,
-            u32::from(self.first_seq),
-            self.first_ts,
-            0,
-            0,
-            0,
-            0,
-            0,
-            0,
-        ]
     }
 }
 
@@ -263,26 +181,6 @@ impl Row {
         }
     }
 
-    /// Numbers that are equal for equal rows only.
-    fn numbers(&self) -> [u32; 12]
-        ensures { result ≡ row_numbers self.now }
-    {
-        match self {
-            Row::Room(room) => [1, room.room, 0, 0, 0, 0, 0, 0, 0, 0, 0, 0],
-            Row::Member(member) => member.numbers(),
-            Row::Source(source) => {
-                let media = source.media.number();
-                [3, source.ssrc, source.member, media, 0, 0, 0, 0, 0, 0, 0, 0]
-            }
-            Row::Slot(slot) => slot.numbers(),
-            Row::Sub(sub) => [5, sub.out_ssrc, sub.source, 0, 0, 0, 0, 0, 0, 0, 0, 0],
-            Row::Mute(mute) => [6, mute.source, 0, 0, 0, 0, 0, 0, 0, 0, 0, 0],
-            Row::Gain(gain) => [0, gain.member, gain.source, gain.q8, 0, 0, 0, 0, 0, 0, 0, 0],
-            Row::Pin(pin) => [7, pin.room, pin.source, 0, 0, 0, 0, 0, 0, 0, 0, 0],
-            Row::Floor(floor) => [8, floor.room, floor.member, 0, 0, 0, 0, 0, 0, 0, 0, 0],
-        }
-    }
-
     /// The keys of the rows that this row names, by rising kind.
     pub fn names(&self) -> Few<Key>
         ensures { listed result ≡ names self.now }
@@ -300,46 +198,32 @@ impl Row {
         }
     }
 
-    /// The media that a source must send if this row names it.
-    fn wants(&self) -> Option<Media>
-        ensures { result ≡ wants self.now }
-    {
-        match self {
-            Row::Sub(_) | Row::Pin(_) => Some(Media::Video),
-            Row::Gain(_) => Some(Media::Audio),
-            Row::Room(_)
-            | Row::Member(_)
-            | Row::Source(_)
-            | Row::Slot(_)
-            | Row::Mute(_)
-            | Row::Floor(_) => None,
-        }
-    }
-
-    /// Whether the row that was found under a name suits this row.
+    /// Whether the row that was found under a name suits this row: a subscription and a pin name video, a gain audio,
+    /// and a member a room that carries its codec.
     pub(crate) fn suits(&self, found: Option<Row>) -> bool
         ensures { result ≡ suits (wants self.now) found }
     {
-        match (self.wants(), found) {
-            (Some(media), Some(Row::Source(source))) => source.media.is_same(media),
+        match (self, found) {
+            (Row::Sub(_) | Row::Pin(_), Some(Row::Source(source))) => source
+                .media
+                .is_same(Media::Video),
+            (Row::Gain(_), Some(Row::Source(source))) => source.media.is_same(Media::Audio),
+            (Row::Member(member), Some(Row::Room(room))) => member.codec.is_carried(room.rate),
             _ => true,
         }
     }
 
-    /// Whether its values are in range: a port is not 0, a slot's index is at most 15, and a gain is at most 1,024.
+    /// Whether its values are in range: a room's rate is 8000 or 44100, a port is not 0, a slot's index is at most 15,
+    /// and a gain is at most 1,024.
     pub fn is_in_range(&self) -> bool
         ensures { result ≡ is_in_range self.now }
     {
         match self {
+            Row::Room(room) => room.rate == DEFAULT_RATE || room.rate == MUSIC_RATE,
             Row::Member(member) => member.address.port != 0,
             Row::Slot(slot) => slot.index <= MAX_INDEX,
             Row::Gain(gain) => gain.q8 <= MAX_GAIN,
-            Row::Room(_)
-            | Row::Source(_)
-            | Row::Sub(_)
-            | Row::Mute(_)
-            | Row::Pin(_)
-            | Row::Floor(_) => true,
+            Row::Source(_) | Row::Sub(_) | Row::Mute(_) | Row::Pin(_) | Row::Floor(_) => true,
         }
     }
 
@@ -371,20 +255,6 @@ impl Row {
         }
     }
 
-    /// Whether both rows are equal.
-    pub fn is_same(&self, other: &Row) -> bool
-        ensures { result ≡ same_row self.now other.now }
-    {
-        self.numbers() == other.numbers()
-    }
-
-    /// Whether this row stands before the other in the order of kinds and keys.
-    pub fn precedes(&self, other: &Row) -> bool
-        ensures { result ≡ precedes self.now other.now }
-    {
-        self.key().precedes(other.key())
-    }
-
     /// Whether this is the row's key.
     pub fn has_key(&self, key: Key) -> bool
         ensures { result ≡ has_key key self.now }
@@ -407,99 +277,5 @@ impl Row {
             Claim::Key(key) => self.has_key(*key),
             _ => claim.is_among(self.claims()),
         }
-    }
-}
-
-impl Kind {
-    /// The place of the kind among all kinds. Gains may be many, so they stand first: only a change of a gain moves
-    /// them.
-    pub(crate) fn rank(self) -> u32
-        ensures { result ≡ rank self }
-    {
-        match self {
-            Kind::Gain => 0,
-            Kind::Room => 1,
-            Kind::Member => 2,
-            Kind::Source => 3,
-            Kind::Slot => 4,
-            Kind::Sub => 5,
-            Kind::Mute => 6,
-            Kind::Pin => 7,
-            Kind::Floor => 8,
-        }
-    }
-}
-
-impl Key {
-    /// The kind of the row that it names.
-    pub fn kind(self) -> Kind
-        ensures { result ≡ kind_of self }
-    {
-        match self {
-            Key::Room(_) => Kind::Room,
-            Key::Member(_) => Kind::Member,
-            Key::Source(_) => Kind::Source,
-            Key::Slot(_) => Kind::Slot,
-            Key::Sub(_) => Kind::Sub,
-            Key::Mute(_) => Kind::Mute,
-            Key::Gain { .. } => Kind::Gain,
-            Key::Pin(_) => Kind::Pin,
-            Key::Floor(_) => Kind::Floor,
-        }
-    }
-
-    /// Numbers that are equal for equal keys only: the kind's rank, then 0 or a gain's member, then the other number.
-    pub(crate) fn numbers(self) -> [u32; 3]
-        ensures { result ≡ key_numbers self }
-    {
-        let kind = self.kind().rank();
-        match self {
-            Key::Room(number) => [kind, 0, number],
-            Key::Member(number) => [kind, 0, number],
-            Key::Source(number) => [kind, 0, number],
-            Key::Slot(number) => [kind, 0, number],
-            Key::Sub(number) => [kind, 0, number],
-            Key::Mute(number) => [kind, 0, number],
-            Key::Gain { member, source } => [kind, member, source],
-            Key::Pin(number) => [kind, 0, number],
-            Key::Floor(number) => [kind, 0, number],
-        }
-    }
-
-    /// The key of the row whose number this key has: the slot of a subscription, the source of a mute, the room of a
-    /// pin or a floor. Any other key is its own owner.
-    pub fn owner(self) -> Key
-        ensures { result ≡ owner_of self }
-    {
-        match self {
-            Key::Sub(number) => Key::Slot(number),
-            Key::Mute(number) => Key::Source(number),
-            Key::Pin(number) => Key::Room(number),
-            Key::Floor(number) => Key::Room(number),
-            Key::Room(_) | Key::Member(_) | Key::Source(_) | Key::Slot(_) | Key::Gain { .. } =>
-                self,
-        }
-    }
-
-    /// Whether both keys are equal.
-    pub fn is_same(self, other: Key) -> bool
-        ensures { result ≡ same_key self other }
-    {
-        self.numbers() == other.numbers()
-    }
-
-    /// Whether this key stands before the other. The first numbers that differ decide.
-    pub(crate) fn precedes(self, other: Key) -> bool
-        ensures { result ≡ key_precedes self other }
-    {
-        let [kind, first, second] = self.numbers();
-        let [other_kind, other_first, other_second] = other.numbers();
-        if kind != other_kind {
-            return kind < other_kind;
-        }
-        if first != other_first {
-            return first < other_first;
-        }
-        second < other_second
     }
 }

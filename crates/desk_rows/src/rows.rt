@@ -1,35 +1,30 @@
 //! The rows of a desk, with look-ups.
 
-ghost use Rattle.std.specs.Prelude.{◌≡◌, ℕ, ◌++◌, ◌≤◌, true, IfOk, IfNone, length, map, filter, nat_eq, slice_get};
-ghost use Rattle.std.specs.Prelude.{vec_capacity, refl};
-ghost use Rattle.std.specs.List.{find};
+ghost use Rattle.std.specs.Prelude.{◌≡◌, ℕ, ◌≤◌, true, IfOk, filter, nat_eq, slice_get, vec_capacity};
 ghost use Rattle.std.specs.List.Sorted.{IsNonDecreasingBy};
-ghost use Rattle.desk_rows.specs.declared.row.Row.TheVariants.{Member as MemberRow};
-ghost use Rattle.desk_rows.specs.Row.{has_key};
 ghost use Rattle.desk_rows.specs.Kinds.{is_of};
 ghost use Rattle.desk_rows.specs.Naming.{members_in, subs_naming, slots_naming, gains_naming};
-ghost use Rattle.desk_rows.specs.Order.{in_order, is_in};
+ghost use Rattle.desk_rows.specs.Order.{in_order};
 ghost use Rattle.desk_rows.specs.inner.Index.{IsIndex};
 ghost use Rattle.desk_rows.specs.Places.{place_in};
 ghost use Rattle.desk_rows.specs.Desk.{blank, good, holds, row_at, rows_of_kind, count_of, roster, member_at_address};
-ghost use Rattle.desk_rows.specs.Edit.{inverse};
 ghost use Rattle.desk_rows.specs.Exchange.{fits, after};
-ghost use Rattle.desk_rows.specs.laws.Laws.{inverse_fits, undoes, stays};
 
 use crate::addressing::find_at;
 use crate::borrowed::EditLists;
-use crate::edit::Edit;
-use crate::exchange::{exchange_members, exchange_rows, fits};
-use crate::grouping::{follow, group_of};
+use crate::following::follow;
+use crate::grouping::group_of;
 use crate::index::{Entry, entry_of};
+use crate::key::{Key, Kind};
 use crate::limits::{MAX_MEMBERS, MAX_OTHERS, MAX_SLOTS};
 use crate::looking::Look;
-use crate::ordering::{contains, find_row, gains_of, rows_of_kind};
-use crate::row::{Key, Kind, Member, Row, Slot, Sub};
+use crate::moving::{exchange_members, exchange_rows};
+use crate::ordering::{gains_of, rows_of_kind};
+use crate::row::{Member, Row, Slot, Sub};
+use crate::searching::{is_among, member_row, numbers_in, other_row, row_with};
 use rtp_codec::Address;
 use std::alloc::{AllocError, Allocator, Global};
 use std::marker::Model;
-use undo_log::Reversible;
 
 /// The rows of a desk. All memory is allocated at first, so absorbing an edit takes none.
 ///
@@ -252,7 +247,7 @@ impl<A: Allocator + Copy> Rows<A> {
     }
 
     /// Takes the rows that go, and puts those that come. It takes no memory.
-    fn exchange(&mut self, edit: &EditLists<'_>)
+    pub(crate) fn exchange(&mut self, edit: &EditLists<'_>)
         requires { fits self.old edit.now ≡ true }
         ensures { self.new ≡ after self.old edit.now }
     {
@@ -283,131 +278,10 @@ fn copied<T: Copy, A: Allocator>(
     Ok(all)
 }
 
-fn is_member_among(members: &[Member], row: &Row) -> bool
-    ensures { result ≡ is_in (map MemberRow members.now) row.now }
-{
-    members
-        .iter()
-        .map(|member| Row::Member(*member))
-        .any(|other| row.is_same(&other))
-}
-
-fn is_among(members: &[Member], others: &[Row], row: &Row) -> bool
-    requires { in_order others.now ≡ true }
-    ensures { result ≡ is_in (map MemberRow members.now ++ others.now) row.now }
-{
-    is_member_among(members, row) || contains(others, row)
-}
-
-fn numbers_in<A: Allocator>(
-    alloc: A,
-    members: &[Member],
-    room: u32,
-) -> Result<Vec<u32, A>, AllocError>
-    ensures { IfOk result
-        (λ numbers. numbers.items ≡ map (λ m. m.member) (filter (λ m. nat_eq m.room room) members.now)) }
-{
-    members
-        .iter()
-        .filter(|member| member.room == room)
-        .map(|member| member.member)
-        .collect(alloc)
-}
-
-fn member_with(members: &[Member], index: &[Entry], number: u32) -> Option<Row>
-    requires { IsIndex members.now index.now }
-    ensures { result ≡ find (has_key (Key.Member number)) (map MemberRow members.now) }
-{
-    match entry_of(index, number) {
-        None => None,
-        Some(entry) => member_row(members, entry.place),
-    }
-}
-
-/// The row of this key.
-fn row_with(members: &[Member], index: &[Entry], others: &[Row], key: Key) -> Option<Row>
-    requires index { IsIndex members.now index.now }
-    requires order { in_order others.now ≡ true }
-    ensures { result ≡ find (has_key key) (map MemberRow members.now ++ others.now) }
-{
-    match key {
-        Key::Member(number) => match member_with(members, index, number) {
-            Some(row) => Some(row),
-            None => find_row(others, key),
-        },
-        _ => find_row(others, key),
-    }
-}
-
-fn member_row(members: &[Member], i: usize) -> Option<Row>
-    ensures row { result ≡ slice_get (map MemberRow members.now) i }
-    ensures past { IfNone result (length members.now ≤ i) }
-{
-    if i >= members.len() {
-        return None;
-    }
-    Some(Row::Member(members[i]))
-}
-
-fn other_row(others: &[Row], i: usize) -> Option<Row>
-    ensures { result ≡ slice_get others.now i }
-{
-    if i >= others.len() {
-        return None;
-    }
-    Some(others[i])
-}
-
 impl<A: Allocator + Copy> Look for Rows<A> {
     ghost desk = { λ d. d };
 
     fn look(&self, key: Key) -> Option<Row> {
         self.find(&key)
     }
-}
-
-impl<A: Allocator + Copy> Reversible for Rows<A> {
-    type Edit = Edit<A>;
-
-    type Alloc = A;
-
-    ghost can_absorb = { fits };
-
-    ghost after = { after };
-
-    ghost inverse = { inverse };
-
-    fn fits(&mut self, edit: &Edit<A>) -> bool {
-        fits(self, edit)
-    }
-
-    fn absorb(&mut self, edit: &Edit<A>) {
-        if self.fits(edit) {
-            self.absorb_fitting(edit);
-        }
-    }
-
-    fn absorb_fitting(&mut self, edit: &Edit<A>) {
-        self.exchange(&EditLists::of(edit));
-    }
-
-    fn absorb_back(&mut self, edit: &Edit<A>) {
-        self.exchange(&EditLists::back(edit));
-    }
-
-    fn invert(edit: Edit<A>) -> Edit<A> {
-        edit.inverted()
-    }
-
-    fn copy(alloc: A, edit: &Edit<A>) -> Result<Edit<A>, AllocError> {
-        edit.copy(alloc)
-    }
-
-    ghost inverse_twice = { λ e. refl };
-
-    ghost inverse_fits = { inverse_fits };
-
-    ghost undoes = { undoes };
-
-    ghost stays = { stays };
 }

@@ -4,9 +4,9 @@ use Rattle.std.specs.Prelude.{◌≡◌, true, ℕ, Bool, false, ◌&&◌, ◌||
 use Rattle.std.specs.List.{find, list_any, list_all}
 use Rattle.desk_rows.specs.declared.row.Row.{Row}
 use Rattle.desk_rows.specs.declared.row.Row.TheVariants.{Room, Member}
-use Rattle.desk_rows.specs.declared.row.Key.{Key}
-use Rattle.desk_rows.specs.declared.row.Key.TheVariants as keys
-use Rattle.desk_rows.specs.declared.row.Kind.TheVariants as kinds
+use Rattle.desk_rows.specs.declared.key.Key.{Key}
+use Rattle.desk_rows.specs.declared.key.Key.TheVariants as keys
+use Rattle.desk_rows.specs.declared.key.Kind.TheVariants as kinds
 use Rattle.desk_rows.specs.Row.{key_of, has_key, names, other_claims}
 use Rattle.desk_rows.specs.declared.edit.Placed.{Placed}
 use Rattle.desk_rows.specs.Order.{in_order, with_rows, without_rows}
@@ -102,19 +102,18 @@ abbrev pub is_room : Row → Bool
 is_room (Room r) = true
 is_room _ = false
 
--- what a row names is two rows, of which one is taken
-abbrev pub takes_either : EditOf → List Key → Bool
-takes_either e (a ∷ b ∷ []) = takes e a || takes e b
-takes_either e _ = false
+-- a row of these keys is taken
+abbrev pub takes_any : EditOf → List Key → Bool
+takes_any e ks = list_any (takes e) ks
 
 -- what a row names is two rows
 abbrev pub is_pair : List Key → Bool
 is_pair (a ∷ b ∷ []) = true
 is_pair _ = false
 
--- what the rule of a row that stays looks at may have changed: a member moves, audio comes into a room, or one of two rows that are to be in one room is taken
+-- what the rule of a row that stays looks at may have changed: a member moves, audio comes into a room, or a row that it names is taken
 abbrev pub is_shaken : Bool → Desk → EditOf → Row → Bool
-is_shaken moved d e r = (moved && (is_room r || is_pair (names r))) || (gains_audio d e r || takes_either e (names r))
+is_shaken moved d e r = (moved && (is_room r || is_pair (names r))) || (gains_audio d e r || takes_any e (names r))
 
 -- a row that stays is sound in the new desk: only where it is shaken is its rule asked for again
 unfoldable pub stays_sound : Bool → Desk → EditOf → Row → Bool

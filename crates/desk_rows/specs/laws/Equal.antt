@@ -3,8 +3,8 @@ use Rattle.std.specs.Prelude.{◌≡◌, ◌||◌, ◌∷◌, ◌++◌, if◌the
 use Rattle.desk_rows.specs.laws.Words.{ℕ, zero, suc, true, false, List, [], length, refl, sym, ap, ◌∙◌, nat_eq, eq-eqb, Claim, Codec, Key, Media, Row, Member, Room, Source, Slot, Sub, Mute, Gain, Pin, Floor, precedes, key_precedes, same_row, has_key, rank, kind_of, own_numbers, key_numbers, key_of, same_key, same_claim, codec_number, media_number, row_numbers, claim_numbers}
 use Rattle.desk_rows.specs.declared.row.Codec.TheVariants as codecs
 use Rattle.desk_rows.specs.declared.row.Media.TheVariants as medias
-use Rattle.desk_rows.specs.declared.row.Kind.TheVariants as kinds
-use Rattle.desk_rows.specs.declared.row.Key.TheVariants as keys
+use Rattle.desk_rows.specs.declared.key.Kind.TheVariants as kinds
+use Rattle.desk_rows.specs.declared.key.Key.TheVariants as keys
 use Rattle.desk_rows.specs.declared.claim.Claim.TheVariants as claims
 use Rattle.desk_rows.specs.laws.ListLaws.{or_turned}
 use Rattle.desk_rows.specs.laws.NumberLaws.{same_numbers_is, numbers_themselves, numbers_not_before, numbers_precede_on, one_list_precedes}
@@ -72,7 +72,7 @@ media_from _ = medias.Video
 
 row_by : ℕ → ℕ → ℕ → ℕ → ℕ → ℕ → ℕ → ℕ → List ℕ → Row
 row_by r a b c d e f g h =
-    if nat_eq r (rank kinds.Room) then Room record { room = a } else
+    if nat_eq r (rank kinds.Room) then Room record { room = a; rate = b } else
     if nat_eq r (rank kinds.Member) then Member record { member = a; room = b; codec = codec_from c; out_audio = d; first_seq = e; first_ts = f; address = record { ip = h; port = g } } else
     if nat_eq r (rank kinds.Source) then Source record { ssrc = a; member = b; media = media_from c } else
     if nat_eq r (rank kinds.Slot) then Slot record { out_ssrc = a; member = b; index = c; first_seq = d; first_ts = e } else
@@ -83,7 +83,7 @@ row_by r a b c d e f g h =
 
 row_from : List ℕ → Row
 row_from (kind ∷ a ∷ b ∷ c ∷ d ∷ e ∷ f ∷ g ∷ h) = row_by kind a b c d e f g h
-row_from _ = Room record { room = 0 }
+row_from _ = Room record { room = 0; rate = 0 }
 
 -- a row is read off its numbers
 row_back : (r : Row) → row_from (row_numbers r) ≡ r

@@ -1,5 +1,5 @@
 use Rattle.desk_rows.specs.laws.Words.{take, sym, ap, subst, ◌∙◌, rules, IsPartitionedBy, IsPartitionPoint-from_clause, is_gain_of, Parts}
-use Rattle.desk_rows.specs.declared.row.Key.TheVariants as keys
+use Rattle.desk_rows.specs.declared.key.Key.TheVariants as keys
 use Rattle.desk_rows.proofs.Halving.{parted, key_falls}
 use Rattle.desk_rows.proofs.GainLemmas.{is_before, gains_parted, gains_together}
 use Rattle.desk_rows.proofs.ordering.gains_of.Goals as goal

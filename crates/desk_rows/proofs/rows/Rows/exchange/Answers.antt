@@ -1,6 +1,6 @@
 use Rattle.std.specs.Prelude.{◌≡◌}
 use Rattle.desk_rows.specs.laws.Words.{true, length, filter, ap, subst, ◌∙◌, arith, count_by, is_of, in_order, slot_in, sub_in, passes_in, IsTableOf, Desk, good, EditOf, exchanged, fits, after, desk_of}
-use Rattle.desk_rows.specs.declared.row.Kind.TheVariants as kinds
+use Rattle.desk_rows.specs.declared.key.Kind.TheVariants as kinds
 use Rattle.desk_rows.specs.laws.Laws.{good_order}
 use Rattle.desk_rows.proofs.ExchangeLemmas.{few_rows}
 use Rattle.desk_rows.proofs.OverlayLemmas.{Absorbs, absorbs}

@@ -1,0 +1,15 @@
+use Rattle.desk_rows.specs.laws.Words.{true, arith}
+use Rattle.desk_rows.specs.laws.ListLaws.{count_all}
+use Rattle.desk_rows.proofs.following.exchange_each.Goals as goal
+
+pub put_each-requires-clause-room : goal.put_each-requires-clause-room
+put_each-requires-clause-room g c =
+    let first = c.take_each.ensures.taken (λ x. true) in
+    let second = c.take_each-2.ensures.taken (λ x. true) in
+    omega (arith, first, second, c.requires.room, count_all c.take_each-2.new.table.items, c.take_each.ensures.capacity, c.take_each-2.ensures.capacity)
+
+pub put_each-requires-2-clause-room : goal.put_each-requires-2-clause-room
+put_each-requires-2-clause-room g c =
+    let first = c.take_each.ensures.taken (λ x. true) in
+    let second = c.take_each-2.ensures.taken (λ x. true) in
+    omega (arith, first, second, c.requires.room, c.put_each.ensures.put (λ x. true), count_all c.put_each.new.table.items, c.take_each.ensures.capacity, c.take_each-2.ensures.capacity, c.put_each.ensures.capacity)
