@@ -2,8 +2,8 @@
 use Rattle.std.specs.Prelude.{◌≡◌, ◌+◌, ◌&&◌, ◌||◌, ◌∷◌, ◌++◌, ◌⊎◌}
 use Rattle.desk_edit.proofs.Words.{ℕ, nat_lt, nat_eq, Bool, true, false, not, cond, List, [], filter, inl, inr, refl, sym, ap, ◌∙◌, arith, append-nil, eqb-true, list_any, list_all, and_parts, cases_Bool, not-true, false_from_ne_true, filter-append, Row, Key, Kind, rank, kind_of, key_of, has_key, same_key, names, is_of, precedes, in_order, is_in, Desk, good, rows_of, at_each, from_each, filter_all, good_order, true_false, below_falls, plain_others, goes_within, goes_with, is_above, can_go}
 use Rattle.desk_rows.specs.declared.row.Row.TheVariants as rows
-use Rattle.desk_rows.specs.declared.row.Key.TheVariants as keys
-use Rattle.desk_rows.specs.declared.row.Kind.TheVariants as kinds
+use Rattle.desk_rows.specs.declared.key.Key.TheVariants as keys
+use Rattle.desk_rows.specs.declared.key.Kind.TheVariants as kinds
 use Rattle.desk_edit.proofs.Lists.{any_none, in_filter, filter_none, filter_alike}
 use Rattle.desk_edit.proofs.GoingLemmas.{none_goes}
 

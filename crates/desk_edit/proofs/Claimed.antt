@@ -2,8 +2,8 @@
 use Rattle.std.specs.Prelude.{◌≡◌, ◌&&◌, ◌||◌, ◌∷◌}
 use Rattle.desk_edit.proofs.Words.{ℕ, nat_eq, Bool, true, false, not, List, [], map, filter, count_by, refl, sym, ap, ◌∙◌, arith, list_any, and-true, or-false, or_comm, list_any-append, Address, Row, has_key, makes, is_of, Desk, good, is_audio_in, at_each, true_false, list_any-map, plain_others, has, is_claimed, is_audio_of}
 use Rattle.desk_rows.specs.declared.row.Row.TheVariants as rows
-use Rattle.desk_rows.specs.declared.row.Key.TheVariants as keys
-use Rattle.desk_rows.specs.declared.row.Kind.TheVariants as kinds
+use Rattle.desk_rows.specs.declared.key.Key.TheVariants as keys
+use Rattle.desk_rows.specs.declared.key.Kind.TheVariants as kinds
 use Rattle.desk_rows.specs.declared.claim.Claim.TheVariants as claims
 use Rattle.desk_edit.proofs.Lists.{turned, any_none, any_alike, count_wider, any_wider, any_other}
 

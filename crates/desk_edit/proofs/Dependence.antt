@@ -2,7 +2,7 @@
 use Rattle.std.specs.Prelude.{◌≡◌, ◌<◌, ◌≤◌, ◌&&◌, ◌∷◌, ◌⊎◌}
 use Rattle.desk_edit.proofs.Words.{ℕ, zero, suc, nat_lt, Bool, true, List, [], inl, inr, refl, sym, ap, ◌∙◌, subst, arith, list_any, list_all, and_parts, and_from, or_left, or_right, or_cases, Row, Key, Kind, kind_of, key_of, has_key, names, Desk, rows_of, holds, its_key, both_ways, true_false, witness, Names, Depends, IsDependent, goes_within, goes_with, level}
 use Rattle.desk_rows.specs.declared.row.Row.TheVariants as rows
-use Rattle.desk_rows.specs.declared.row.Kind.TheVariants as kinds
+use Rattle.desk_rows.specs.declared.key.Kind.TheVariants as kinds
 use Rattle.desk_edit.proofs.Lists.{row_some}
 
 -- a key that passes, where some do

@@ -1,9 +1,9 @@
 -- An edit fits where the rows that come are sound and those that stay remain so.
 use Rattle.std.specs.Prelude.{◌≡◌, ◌≤◌, ◌&&◌, ◌||◌, ◌∷◌}
-use Rattle.desk_edit.proofs.Words.{ℕ, nat_lt, Bool, true, false, not, List, [], count_by, Option, Some, None, refl, sym, ap, ◌∙◌, is_some, list_all, and_parts, and_from, or_left, or_right, not-true, Row, RoomRow, Audio, Key, room_audio_limit, kind_of, has_key, same_media, names, is_of, is_in, EditOf, ins, Desk, good, rows_of, row_at, room_of_member, room_of, room_of_found, room_at, same_room, are_together, is_audio_in, is_within_limits, obeys, takes, puts, keeps_names, moves, gains_audio, takes_either, all_come, all_stay, Apt, fits_from, after_fits, is_found, sound_good, has, level}
+use Rattle.desk_edit.proofs.Words.{ℕ, nat_lt, Bool, true, false, not, List, [], count_by, Option, Some, None, refl, sym, ap, ◌∙◌, is_some, list_all, and_parts, and_from, or_left, or_right, not-true, Row, RoomRow, Audio, Key, room_audio_limit, kind_of, has_key, same_media, names, is_of, is_in, EditOf, ins, Desk, good, rows_of, row_at, room_of_member, room_of, room_of_found, room_at, same_room, are_together, is_audio_in, is_within_limits, obeys, takes, puts, keeps_names, moves, gains_audio, takes_any, all_come, all_stay, Apt, fits_from, after_fits, is_found, sound_good, has, level}
 use Rattle.desk_rows.specs.declared.row.Row.TheVariants as rows
-use Rattle.desk_rows.specs.declared.row.Key.TheVariants as keys
-use Rattle.desk_rows.specs.declared.row.Kind.TheVariants as kinds
+use Rattle.desk_rows.specs.declared.key.Key.TheVariants as keys
+use Rattle.desk_rows.specs.declared.key.Kind.TheVariants as kinds
 use Rattle.desk_rows.specs.Exchange.{exchanged, fits, after}
 use Rattle.desk_rows.specs.inner.Judged.{is_sound as is_sound_row, stays_sound}
 use Rattle.desk_edit.proofs.Lists.{at_most, all_both, obeyed}
@@ -33,13 +33,13 @@ pub stays_asked : (moved : Bool) (d : Desk) (e : EditOf) (r : Row) → keeps_nam
 unfolding stays_sound
 stays_asked moved d e r a b = and_from _ _ a (or_right _ _ b)
 
-untouched : (e : EditOf) (ks : List Key) → list_all (λ k. not (takes e k)) ks ≡ true → (list_all (λ k. not (takes e k && not (puts e k))) ks ≡ true) × (takes_either e ks ≡ false)
+untouched : (e : EditOf) (ks : List Key) → list_all (λ k. not (takes e k)) ks ≡ true → (list_all (λ k. not (takes e k && not (puts e k))) ks ≡ true) × (takes_any e ks ≡ false)
 untouched e ks h = (all_both (λ k. not (takes e k)) (λ k. not (takes e k)) (λ k. not (takes e k && not (puts e k))) (λ k a b. ap (λ t. not (t && not (puts e k))) (not-true (takes e k) a)) ks h h, neither ks h) where
-  neither : (ks : List Key) → list_all (λ k. not (takes e k)) ks ≡ true → takes_either e ks ≡ false
-  neither (x ∷ y ∷ []) h =
-      let both = and_parts (not (takes e x)) (not (takes e y) && true) h in
-      (λ i. not-true (takes e x) both.0 i || not-true (takes e y) (and_parts (not (takes e y)) true both.1).0 i)
-  neither ks h = refl
+  neither : (ks : List Key) → list_all (λ k. not (takes e k)) ks ≡ true → takes_any e ks ≡ false
+  neither [] h = refl
+  neither (x ∷ xs) h =
+      let both = and_parts (not (takes e x)) (list_all (λ k. not (takes e k)) xs) h in
+      (λ i. not-true (takes e x) both.0 i || neither xs both.1 i)
 
 -- or where nothing that it names is taken, and no audio comes into it
 pub stays_untouched : (d : Desk) (e : EditOf) (r : Row) → list_all (λ k. not (takes e k)) (names r) ≡ true → gains_audio d e r ≡ false → stays_sound false d e r ≡ true

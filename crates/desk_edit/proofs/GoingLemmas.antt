@@ -1,7 +1,7 @@
 -- What goes is found by keys.
 use Rattle.std.specs.Prelude.{◌≡◌, ◌≤◌, ◌&&◌}
 use Rattle.desk_edit.proofs.Words.{ℕ, true, false, filter, inl, inr, sym, ap, ◌∙◌, arith, ltb-false, list_any, and_right, cases_Bool, Key, kind_of, key_of, has_key, same_key, Desk, good, rows_of, row_at, IsKeyed, finds, same_key_is, its_key, good_order, order_once, found_passes, skipped, goes_within, goes_with, has, level, is_above, found_list}
-use Rattle.desk_rows.specs.declared.row.Key.TheVariants as keys
+use Rattle.desk_rows.specs.declared.key.Key.TheVariants as keys
 use Rattle.desk_edit.proofs.Lists.{and_first, any_none, filter_alike, filter_found}
 use Rattle.desk_edit.proofs.Dependence.{own_goes, three_at_most, own_only}
 

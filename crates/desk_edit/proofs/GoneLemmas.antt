@@ -1,9 +1,10 @@
 -- What goes beside members is told by the sources and the slots that go, by the members and by the key.
 use Rattle.std.specs.Prelude.{◌≡◌, ◌<◌, ◌≤◌, ◌&&◌, ◌||◌}
 use Rattle.desk_edit.proofs.Words.{ℕ, nat_eq, Bool, true, false, not, List, [], map, filter, Some, inl, inr, refl, sym, ap, ◌∙◌, arith, eqb-true, list_any, or-false, and_parts, or_cases, cases_Bool, false_from_ne_true, Row, GainRow, Audio, Key, Kind, rank, kind_of, key_of, has_key, suits, is_of, in_order, is_in, is_gain_of, gains_naming, Desk, good, rows_of, row_at, is_named_there, number_itself, its_key, at_each, in_order-filter, good_parts, good_order, is_in-append, true_false, witness, list_any-map, found_one, order_once, keyed_good, plain_others, not_its, skipped, goes_within, goes_with, has, level, can_go, found_list, is_sound}
+use Rattle.desk_rows.specs.Row.Want.{Sends}
 use Rattle.desk_rows.specs.declared.row.Row.TheVariants as rows
-use Rattle.desk_rows.specs.declared.row.Key.TheVariants as keys
-use Rattle.desk_rows.specs.declared.row.Kind.TheVariants as kinds
+use Rattle.desk_rows.specs.declared.key.Key.TheVariants as keys
+use Rattle.desk_rows.specs.declared.key.Kind.TheVariants as kinds
 use Rattle.desk_edit.proofs.Lists.{and_first, turned, row_some, any_none, in_filter, filter_alike, any_filter, filter_wider, filter_found, other_in, obeyed, any_other}
 use Rattle.desk_edit.proofs.Dependence.{steady, own_only}
 use Rattle.desk_edit.proofs.GoingLemmas.{none_goes, same_goes, no_members_key}
@@ -111,8 +112,8 @@ module _ (d : Desk) (key : Key) (g : good d ≡ true) (low : level (kind_of key)
       let w = witness (has_key name) (going_of kinds.Source) (stream_goes name refl ∙ e) in
       let there = (in_filter (is_of kinds.Source) d.others w.0 (in_filter goes (filter (is_of kinds.Source) d.others) w.0 w.1).0).0 in
       let found = found_one (has_key name) (rows_of d) w.0 ((keyed_good d g).once name) (other_in d w.0 there) w.2 in
-      true_false (sym (row_some is_sound (going_of kinds.Source) w.0 w.1 (sound w.0 (ap kind_of (its_key name w.0 w.2)) (ap (suits (Some Audio)) (sym found) ∙ (and_parts _ _ (and_parts _ _ (obeyed d g (rows.Gain s) (other_in d (rows.Gain s) one)).2).1).0))) ∙ none)) where
-        sound : (x : Row) → kind_of (key_of x) ≡ kinds.Source → suits (Some Audio) (Some x) ≡ true → is_sound x ≡ true
+      true_false (sym (row_some is_sound (going_of kinds.Source) w.0 w.1 (sound w.0 (ap kind_of (its_key name w.0 w.2)) (ap (suits (Sends Audio)) (sym found) ∙ (and_parts _ _ (and_parts _ _ (obeyed d g (rows.Gain s) (other_in d (rows.Gain s) one)).2).1).0))) ∙ none)) where
+        sound : (x : Row) → kind_of (key_of x) ≡ kinds.Source → suits (Sends Audio) (Some x) ≡ true → is_sound x ≡ true
         sound (rows.Source r) is h = h
         sound x is h = cc
 

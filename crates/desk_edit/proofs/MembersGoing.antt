@@ -2,7 +2,7 @@
 use Rattle.std.specs.Prelude.{◌≡◌, ◌+◌, ◌∷◌}
 use Rattle.desk_edit.proofs.Words.{ℕ, nat_eq, Bool, true, false, List, [], inl, inr, refl, sym, ap, ◌∙◌, arith, eqb-true, list_any, list_all, or-false, and_parts, cases_Bool, MemberRow, Key, Desk, good, is_named_there, good_parts, two_alls, goes_with, has, placed_from, picks, picked_with}
 use Rattle.desk_rows.specs.declared.row.Row.TheVariants as rows
-use Rattle.desk_rows.specs.declared.row.Key.TheVariants as keys
+use Rattle.desk_rows.specs.declared.key.Key.TheVariants as keys
 use Rattle.desk_edit.proofs.Dependence.{own_only}
 use Rattle.desk_edit.proofs.GoingLemmas.{none_goes, same_goes}
 

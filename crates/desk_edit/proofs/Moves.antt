@@ -2,7 +2,7 @@
 use Rattle.std.specs.Prelude.{◌≡◌, ◌+◌, ◌∷◌, ◌++◌}
 use Rattle.desk_edit.proofs.Words.{ℕ, Bool, true, not, cond, List, [], map, count_by, find, Option, Some, refl, ap, ◌∙◌, arith, list_all, fold-map, Row, MemberRow, Key, has_key, same_row, is_of, is_in, Desk, rows_of, row_at, IsKeyed, row_itself, any_counts, count_some, into_room, with_member_in, row_into_room}
 use Rattle.desk_rows.specs.declared.row.Row.TheVariants as rows
-use Rattle.desk_rows.specs.declared.row.Kind.TheVariants as kinds
+use Rattle.desk_rows.specs.declared.key.Kind.TheVariants as kinds
 use Rattle.std.specs.Option.{option_map}
 
 -- a row, the member of this number in this room

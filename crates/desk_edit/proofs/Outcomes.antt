@@ -50,6 +50,7 @@ never_memory (reasons.BadValue) h = cc
 never_memory (reasons.Already) h = cc
 never_memory (reasons.NotThere) h = cc
 never_memory (reasons.Full table limit) h = cc
+never_memory (reasons.RateMismatch) h = cc
 
 -- the error, or else this refusal
 abbrev pub error_or : {X : Type 0} → Refusal → Result X Refusal → Refusal

@@ -2,7 +2,7 @@
 use Rattle.std.specs.Prelude.{◌≡◌, ◌&&◌, ◌∷◌}
 use Rattle.desk_edit.proofs.Words.{ℕ, nat_eq, true, false, not, cond, List, [], filter, Option, Some, inl, inr, refl, sym, ap, ◌∙◌, list_any, or_parts, cases_Bool, Row, MemberRow, Key, has_key, names, Desk, good, rows_of, row_at, room_of_member, room_of_found, room_at, same_room, are_together, finds, true_false, keyed_good, goes_within, goes_with, into_room, with_member_in, row_into_room}
 use Rattle.desk_rows.specs.declared.row.Row.TheVariants as rows
-use Rattle.desk_rows.specs.declared.row.Key.TheVariants as keys
+use Rattle.desk_rows.specs.declared.key.Key.TheVariants as keys
 use Rattle.desk_edit.proofs.Lists.{filter_wider, other_in, obeyed}
 use Rattle.desk_edit.proofs.GoingLemmas.{name_goes}
 use Rattle.desk_edit.proofs.GoneLemmas.{name_goes_at}

@@ -2,8 +2,8 @@
 use Rattle.std.specs.Prelude.{◌≡◌, ◌||◌, ◌∷◌}
 use Rattle.desk_edit.proofs.Words.{nat_eq, true, false, not, [], filter, length, Option, Some, None, refl, sym, ap, ◌∙◌, arith, or-false, and_from, or_left, insert_end, Row, MemberRow, Key, rank, kind_of, key_of, has_key, same_row, is_of, is_in, with_row, without_rows, Desk, good, rows_of, row_at, finds, is_elsewhere, its_key, same_row_is, row_itself, both_ways, from_each, filter_all, true_false, found_nothing, found_one, found_there, keyed_good, among_others, with_put, first_case, put_cases, found_list, puts_other, puts_member, replaces, puts_in_place}
 use Rattle.desk_rows.specs.declared.row.Row.TheVariants as rows
-use Rattle.desk_rows.specs.declared.row.Key.TheVariants as keys
-use Rattle.desk_rows.specs.declared.row.Kind.TheVariants as kinds
+use Rattle.desk_rows.specs.declared.key.Key.TheVariants as keys
+use Rattle.desk_rows.specs.declared.key.Kind.TheVariants as kinds
 use Rattle.desk_rows.specs.Exchange.{exchanged}
 use Rattle.desk_edit.specs.inner.Edits.{puts as puts_row}
 use Rattle.desk_edit.proofs.Lists.{most, filter_alike, other_in}

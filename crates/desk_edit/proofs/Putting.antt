@@ -2,12 +2,12 @@
 use Rattle.std.specs.Prelude.{◌≡◌, ◌+◌, ◌≤◌, ◌&&◌, ◌||◌, ◌∷◌}
 use Rattle.desk_edit.proofs.Words.{ℕ, nat_le, nat_eq, Bool, true, false, not, cond, List, [], map, count_by, Option, Some, None, inl, inr, refl, sym, ap, ◌∙◌, arith, eqb-true, eq-eqb, leb-false, list_any, list_all, not-not, and_parts, and_from, cases_Bool, not-true, false_from_ne_true, Row, RoomRow, Audio, Key, Kind, Claim, room_audio_limit, rank, kind_of, key_of, has_key, same_key, same_media, names, wants, suits, makes, other_claims, is_of, limits, is_in, EditOf, ins, Desk, good, rows_of, row_at, count_of, room_of_member, room_of, same_room, is_audio_in, has_few_audio, is_named_there, is_bridges, is_made_once, is_alone, IsKeyed, stay_rows, go_rows, come_rows, go_count, come_count, takes, moves, key_itself, its_key, at_each, from_each, count_next, Apt, good_parts, good_order, true_false, no_count, some_count, before_count, after_count, found_there, keyed_good, was_there, found_still, bridge_same, own_claims, sound_from, plain_later, has, is_claimed, is_replaced, table_of, is_full, found_list}
 use Rattle.desk_rows.specs.declared.row.Row.TheVariants as rows
-use Rattle.desk_rows.specs.declared.row.Key.TheVariants as keys
-use Rattle.desk_rows.specs.declared.row.Kind.TheVariants as kinds
+use Rattle.desk_rows.specs.declared.key.Key.TheVariants as keys
+use Rattle.desk_rows.specs.declared.key.Kind.TheVariants as kinds
 use Rattle.desk_edit.specs.declared.refusal.Reason.TheVariants as reasons
 use Rattle.desk_rows.specs.Exchange.{exchanged}
 use Rattle.desk_rows.specs.inner.Judged.{is_sound as is_sound_row, stays_sound}
-use Rattle.desk_edit.proofs.Lists.{at_most, most, one_yes, one_no, all_both, any_none, count_alike, count_wider, fewer_pass, filter_found, count_other}
+use Rattle.desk_edit.proofs.Lists.{at_most, most, one_yes, one_no, all_both, any_none, count_alike, count_wider, fewer_pass, filter_found, count_other, obeyed}
 use Rattle.desk_edit.proofs.Cases.{NoneHolds}
 use Rattle.desk_edit.proofs.Asked.{Free}
 use Rattle.desk_edit.proofs.Fitting.{Carries, stays_asked, stays_untouched, is_base, names_base, audio_alike, each_alike, named_alike, together_alike, good_audio}
@@ -161,7 +161,7 @@ module _ (d : Desk) (e : EditOf) (r : Row) (g : good d ≡ true) (p : Puts d e r
   stays : (x : Row) → is_in (rows_of d) x ≡ true → stays_sound false d e x ≡ true
   stays x one = by x one (all_both other other (λ k. not (takes e k)) (λ k h h'. ap not (untaken k h)) (names x) (others_in x one) (others_in x one)) where
     by : (x : Row) → is_in (rows_of d) x ≡ true → list_all (λ k. not (takes e k)) (names x) ≡ true → stays_sound false d e x ≡ true
-    by (rows.Room room) one h = stays_asked false d e (rows.Room room) refl (and_from _ _ (most _ _ (few_audio room one)) refl)
+    by (rows.Room room) one h = stays_asked false d e (rows.Room room) refl (and_from _ _ (and_from _ _ (obeyed d g (rows.Room room) one).0 (most _ _ (few_audio room one))) refl)
     by x one h = stays_untouched d e x h refl
 
   comes_sound : is_sound_row d' r ≡ true

@@ -1,13 +1,19 @@
 -- A member is put into another room, and what would cross rooms is taken: the desk stays good.
 use Rattle.std.specs.Prelude.{◌≡◌, ◌+◌, ◌≤◌, ◌&&◌, ◌||◌, ◌∷◌, ◌++◌, ◌⊎◌}
-use Rattle.desk_edit.proofs.Words.{ℕ, nat_eq, Bool, true, false, not, cond, List, [], map, filter, count_by, find, Option, Some, None, inl, inr, refl, sym, ap, ◌∙◌, arith, eqb-true, eq-eqb, ltb-false, is_some, list_any, list_all, not-not, and_parts, and_from, or_left, cases_Bool, not-false, false_from_ne_true, filter-append, list_any-append, Row, RoomRow, MemberRow, Media, Audio, Key, Claim, Placed, room_audio_limit, key_of, has_key, same_media, names, wants, suits, makes, claims_of, is_of, is_in, EditOf, Desk, good, rows_of, row_at, room_of_member, room_of, same_room, are_together, all_suit, is_audio_in, has_few_audio, is_bridges, is_made_once, is_alone, is_within_limits, obeys, stay_rows, come_rows, takes, puts, keeps_names, moves, its_key, at_each, from_each, filter_all, is_in-filter, Apt, good_parts, any_counts, is_in-append, true_false, two_alls, is_found, found_there, keyed_good, was_there, plain_others, own_claims, sound_from, into_room, with_member_in, with_moved, has, first_case, is_audio_of, move_cases, placed_from, placed_in, moves_member, row_into_room}
+use Rattle.desk_edit.proofs.Words.{ℕ, nat_eq, Bool, true, false, not, cond, List, [], map, filter, count_by, find, Option, Some, None, inl, inr, refl, sym, ap, ◌∙◌, arith, eqb-true, eq-eqb, ltb-false, is_some, list_any, list_all, not-not, and_parts, and_from, or_left, cases_Bool, not-false, false_from_ne_true, filter-append, list_any-append, Row, RoomRow, MemberRow, Media, Audio, Key, Claim, Placed, room_audio_limit, key_of, has_key, same_media, names, Want, wants, suits, makes, claims_of, is_of, is_in, EditOf, Desk, good, rows_of, row_at, room_of_member, room_of, same_room, are_together, all_suit, is_audio_in, has_few_audio, is_bridges, is_made_once, is_alone, is_within_limits, obeys, stay_rows, come_rows, takes, puts, keeps_names, moves, its_key, at_each, from_each, filter_all, is_in-filter, Apt, good_parts, any_counts, is_in-append, true_false, two_alls, is_found, found_one, found_there, keyed_good, was_there, plain_others, own_claims, sound_from, into_room, with_member_in, with_moved, has, first_case, is_audio_of, move_cases, placed_from, placed_in, moves_member, row_into_room}
+use Rattle.desk_rows.specs.Row.Want.{Anything, Sends, Carries}
+use Rattle.desk_rows.specs.Row.{carries}
+use Rattle.desk_rows.specs.Desk.{rate_of_room}
+use Rattle.desk_rows.specs.declared.row.Codec.{Codec}
+use Rattle.desk_edit.specs.Refusals.{rate_at, rate_of_member, same_rate}
 use Rattle.desk_rows.specs.declared.row.Row.TheVariants as rows
-use Rattle.desk_rows.specs.declared.row.Key.TheVariants as keys
+use Rattle.desk_rows.specs.declared.key.Key.TheVariants as keys
 use Rattle.desk_rows.specs.declared.claim.Claim.TheVariants as claims
 use Rattle.desk_rows.specs.Exchange.{exchanged}
 use Rattle.desk_rows.specs.inner.Judged.{is_sound as is_sound_row, stays_sound}
 use Rattle.std.proofs.lemmas.List.Folds.{list_all-map}
 use Rattle.std.proofs.Math.Bool.{and-not_self}
+use Rattle.std.specs.Option.{option_and_then}
 use Rattle.desk_edit.proofs.Lists.{most, all_both, any_none, in_filter, fewer_pass, count_filter, two_pass, obeyed, found_filter}
 use Rattle.desk_edit.proofs.Moves.{into_keeps, moved_keeps, moved_in, rows_moved, found_moved, count_moved}
 use Rattle.desk_edit.proofs.Cases.{none_holds}
@@ -21,10 +27,20 @@ still_there : (n room : ℕ) (o : Option Row) → is_some (row_into_room n room 
 still_there n room (Some (rows.Member r)) = refl
 still_there n room o = refl
 
-suits_still : (want : Option Media) (n room : ℕ) (o : Option Row) → suits want (row_into_room n room o) ≡ suits want o
-suits_still None n room o = refl
-suits_still (Some m) n room (Some (rows.Member r)) = refl
-suits_still (Some m) n room o = refl
+suits_still : (want : Want) (n room : ℕ) (o : Option Row) → suits want (row_into_room n room o) ≡ suits want o
+suits_still Anything n room o = refl
+suits_still (Sends m) n room (Some (rows.Member r)) = refl
+suits_still (Sends m) n room o = refl
+suits_still (Carries c) n room (Some (rows.Member r)) = refl
+suits_still (Carries c) n room o = refl
+
+-- a room of the same rate carries the same codec
+carries_too : (codec : Codec) (o p : Option Row) → same_rate (rate_of_room o) (rate_of_room p) ≡ true → suits (Carries codec) o ≡ true → suits (Carries codec) p ≡ true
+carries_too codec o (Some (rows.Room s)) e h = by o e h where
+  by : (o : Option Row) → same_rate (rate_of_room o) (Some s.rate) ≡ true → suits (Carries codec) o ≡ true → carries s.rate codec ≡ true
+  by (Some (rows.Room r)) e h = ap (λ n. carries n codec) (sym (eqb-true r.rate s.rate e)) ∙ h
+  by o e h = cc
+carries_too codec o p e h = refl
 
 base_together : (d : Desk) (x : Row) → is_base (key_of x) ≡ true → are_together d (names x) ≡ true
 base_together d (rows.Room r) h = refl
@@ -154,13 +170,24 @@ module _ (d : Desk) (n room : ℕ) (g : good d ≡ true) (h : first_case (move_c
             let some = any_counts (makes c) (rows_of w) (rows.Member (into_room n room m)) here (into_keeps n room (λ x. makes c (rows.Member x)) (λ x. same_claims room x c) m ∙ own) in
             and_from _ _ (eq-eqb (count_by (makes c) (rows_of w)) 1 (omega (arith, was, less, some))) (ap not (same_bridge d w refl c) ∙ both.1)
 
+  -- the room that it comes into carries its codec, as its own room does
+  carried : (m : MemberRow) → is_in (rows_of d) (rows.Member m) ≡ true → is_it m ≡ true → suits (Carries m.codec) (row_at w (keys.Room room)) ≡ true
+  carried m there it =
+      let found : row_at d (keys.Member n) ≡ Some (rows.Member m) = found_one (has_key (keys.Member n)) (rows_of d) (rows.Member m) ((keyed_good d g).once (keys.Member n)) there it in
+      let own = (and_parts (suits (Carries m.codec) (row_at d (keys.Room m.room))) true (obeyed d g (rows.Member m) there).2).0 in
+      let rates = not-false (same_rate (rate_of_member d n) (rate_at d room)) (none_holds (move_cases d n room) h).1.1.1.1.0 in
+      let same : same_rate (rate_at d m.room) (rate_at d room) ≡ true = sym (ap (λ o. same_rate (option_and_then (rate_at d) (room_of_member o)) (rate_at d room)) found) ∙ rates in
+      ap (suits (Carries m.codec)) (found_w (keys.Room room) refl ∙ found_m (keys.Room room))
+      ∙ suits_still (Carries m.codec) n room (row_at d (keys.Room room))
+      ∙ carries_too m.codec (row_at d (keys.Room m.room)) (row_at d (keys.Room room)) same own
+
   come_sound : (m : MemberRow) → is_in (map rows.Member d.members) (rows.Member m) ≡ true → is_it m ≡ true → is_sound_row w (rows.Member (into m)) ≡ true
   come_sound m one it =
       let there : is_in (rows_of d) (rows.Member m) ≡ true = is_in-append (map rows.Member d.members) d.others (rows.Member m) ∙ or_left _ _ one in
       sound_from w (rows.Member (into m))
       (and_from _ _ (there_w (keys.Room room) refl ∙ not-false (has d (keys.Room room)) (none_holds (move_cases d n room) h).0) refl)
       (sym (ap (λ b. is_alone w (rows.Member (cond b (into m) m))) it) ∙ alone_w m there)
-      (at_each (obeys d) (rows_of d) (rows.Member m) (good_parts d g).obey there)
+      (and_from _ _ (and_from _ _ (obeyed d g (rows.Member m) there).0 refl) (and_from _ _ (and_from _ _ (carried m there it) refl) refl))
 
   -- ---- the rows that stay
 

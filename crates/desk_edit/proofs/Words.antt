@@ -17,13 +17,13 @@ pub use Rattle.desk_rows.specs.declared.row.Member.{Member as MemberRow}
 pub use Rattle.desk_rows.specs.declared.row.Gain.{Gain as GainRow}
 pub use Rattle.desk_rows.specs.declared.row.Media.{Media}
 pub use Rattle.desk_rows.specs.declared.row.Media.TheVariants.{Audio}
-pub use Rattle.desk_rows.specs.declared.row.Key.{Key}
-pub use Rattle.desk_rows.specs.declared.row.Kind.{Kind}
+pub use Rattle.desk_rows.specs.declared.key.Key.{Key}
+pub use Rattle.desk_rows.specs.declared.key.Kind.{Kind}
 pub use Rattle.desk_rows.specs.declared.claim.Claim.{Claim}
 pub use Rattle.desk_rows.specs.declared.edit.Placed.{Placed}
 pub use Rattle.desk_rows.specs.Limits.{room_audio_limit}
 pub use Rattle.desk_rows.specs.Few.{listed}
-pub use Rattle.desk_rows.specs.Row.{rank, kind_of, key_of, has_key, same_key, same_row, same_media, names, wants, suits, is_in_range, makes, other_claims, claims_of}
+pub use Rattle.desk_rows.specs.Row.{rank, kind_of, key_of, has_key, same_key, same_row, same_media, names, Want, wants, suits, is_in_range, makes, other_claims, claims_of}
 pub use Rattle.desk_rows.specs.Kinds.{is_of, limits}
 pub use Rattle.desk_rows.specs.Order.{precedes, in_order, is_in, with_row, without_rows}
 pub use Rattle.desk_rows.specs.Places.{is_at, places_rise, take_at, put_at, can_take, can_put}
@@ -32,7 +32,7 @@ pub use Rattle.desk_rows.specs.Edit.{EditOf, outs, ins}
 pub use Rattle.desk_rows.specs.Desk.{Desk, good, rows_of, row_at, holds, count_of, room_of_member, room_of, room_of_found, room_at, same_room, are_together, all_suit, is_audio_in, has_few_audio, is_named_there, is_bridges, is_made_once, is_alone, is_within_limits, obeys}
 pub use Rattle.desk_rows.specs.Keyed.{IsKeyed}
 pub use Rattle.desk_rows.specs.inner.Found.{finds, is_elsewhere}
-pub use Rattle.desk_rows.specs.inner.Judged.{stay_rows, go_rows, come_rows, go_count, come_count, takes, puts, keeps_names, moves, gains_audio, takes_either, is_shaken, all_come, all_stay}
+pub use Rattle.desk_rows.specs.inner.Judged.{stay_rows, go_rows, come_rows, go_count, come_count, takes, puts, keeps_names, moves, gains_audio, takes_any, is_shaken, all_come, all_stay}
 pub use Rattle.desk_rows.specs.laws.Equal.{number_itself, same_key_is, key_itself, its_key, same_row_is, row_itself}
 pub use Rattle.desk_rows.specs.laws.OrderLaws.{both_ways, at_each, from_each, in_order-filter, filter_all, is_in-filter}
 pub use Rattle.desk_rows.specs.laws.PlaceLaws.{count_next}

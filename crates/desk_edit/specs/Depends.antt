@@ -3,7 +3,7 @@ use Rattle.std.specs.Prelude.{◌≡◌, ℕ, zero, suc, Bool, true, ◌&&◌, �
 use Rattle.std.specs.List.{list_any}
 use Rattle.desk_rows.specs.declared.row.Row.{Row}
 use Rattle.desk_rows.specs.declared.row.Row.TheVariants as rows
-use Rattle.desk_rows.specs.declared.row.Key.{Key}
+use Rattle.desk_rows.specs.declared.key.Key.{Key}
 use Rattle.desk_rows.specs.Row.{has_key, names}
 use Rattle.desk_rows.specs.Desk.{Desk, rows_of, holds}
 

@@ -25,6 +25,7 @@ refusal_for reasons.BadValue = refusals.BadValue
 refusal_for reasons.Already = refusals.Already
 refusal_for reasons.NotThere = refusals.NotThere
 refusal_for (reasons.Full table limit) = refusals.Full table limit
+refusal_for reasons.RateMismatch = refusals.RateMismatch
 
 -- what a group is refused by
 abbrev pub refusal_of_group : GroupRefusal → Refusal

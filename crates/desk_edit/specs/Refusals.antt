@@ -1,19 +1,20 @@
 -- When commands are refused, and by which refusal: the first that holds.
 use Rattle.std.specs.Prelude.{ℕ, ◌+◌, Bool, true, false, not, ◌&&◌, ◌||◌, List, [], ◌∷◌, ◌++◌, map, nat_eq, nat_le, nat_lt, count_by, Option, Some, None, option_map, if◌then◌else◌}
 use Rattle.std.specs.List.{list_any}
+use Rattle.std.specs.Option.{option_and_then}
 use Rattle.desk_rows.specs.declared.row.Row.{Row}
 use Rattle.desk_rows.specs.declared.row.Row.TheVariants as rows
 use Rattle.desk_rows.specs.declared.row.Media.TheVariants.{Audio}
-use Rattle.desk_rows.specs.declared.row.Key.{Key}
-use Rattle.desk_rows.specs.declared.row.Key.TheVariants as keys
-use Rattle.desk_rows.specs.declared.row.Kind.{Kind}
-use Rattle.desk_rows.specs.declared.row.Kind.TheVariants as kinds
+use Rattle.desk_rows.specs.declared.key.Key.{Key}
+use Rattle.desk_rows.specs.declared.key.Key.TheVariants as keys
+use Rattle.desk_rows.specs.declared.key.Kind.{Kind}
+use Rattle.desk_rows.specs.declared.key.Kind.TheVariants as kinds
 use Rattle.desk_rows.specs.declared.claim.Claim.{Claim}
 use Rattle.desk_rows.specs.declared.claim.Claim.TheVariants as claims
 use Rattle.desk_rows.specs.Limits.{room_audio_limit}
 use Rattle.desk_rows.specs.Kinds.{is_of, limits}
 use Rattle.desk_rows.specs.Row.{kind_of, key_of, owner_of, has_key, names, other_claims, makes, same_media, is_in_range}
-use Rattle.desk_rows.specs.Desk.{Desk, rows_of, row_at, holds, count_of, is_bridges, room_of_member, room_of, same_room, are_together, all_suit, is_audio_in}
+use Rattle.desk_rows.specs.Desk.{Desk, rows_of, row_at, holds, count_of, is_bridges, room_of_member, room_of, rate_of_room, same_room, are_together, all_suit, is_audio_in}
 use Rattle.desk_edit.specs.declared.command.Command.{Command}
 use Rattle.desk_edit.specs.declared.command.Form.{Form}
 use Rattle.desk_edit.specs.declared.command.Form.TheVariants.{Put, Remove, Move}
@@ -93,10 +94,14 @@ is_ssrc_taken d c = is_ssrc c && (is_bridges d c || is_claimed d c)
 abbrev pub ssrc_is_taken : Desk → Row → Bool
 ssrc_is_taken d r = list_any (is_ssrc_taken d) (other_claims r)
 
+-- a source that it names is of the other kind: it isn't a member, which names a room
+abbrev pub is_wrong_kind : Desk → Row → Bool
+is_wrong_kind d r = not (is_of kinds.Member r) && not (all_suit d r)
+
 -- a source that it names is of the other kind; what it names is in two rooms; its SSRC is taken; a value is out of its range; the same row is there
 abbrev pub rule_cases : Desk → Row → List (Bool × Reason)
 rule_cases d r =
-    (not (all_suit d r), reasons.WrongKind)
+    (is_wrong_kind d r, reasons.WrongKind)
     ∷ (not (are_together d (names r)), reasons.OtherRoom)
     ∷ (ssrc_is_taken d r, reasons.SsrcTaken)
     ∷ (not (is_in_range r), reasons.BadValue)
@@ -133,9 +138,17 @@ abbrev pub audio_cases : Desk → Row → List (Bool × Reason)
 audio_cases d (rows.Source s) = (same_media s.media Audio && room_is_full d (room_of d (rows.Source s)), reasons.Full tables.RoomAudio room_audio_limit) ∷ []
 audio_cases d _ = []
 
--- against a row, by number: it is there; what it names is missing; it breaks a rule; there is no room for it
+-- a member's room doesn't carry its codec
+abbrev pub is_mismatch : Desk → Row → Bool
+is_mismatch d r = is_of kinds.Member r && not (all_suit d r)
+
+-- the rates of a room and a codec don't go together
+abbrev pub rate_cases : Desk → Row → List (Bool × Reason)
+rate_cases d r = (is_mismatch d r, reasons.RateMismatch) ∷ []
+
+-- against a row, by number: it is there; what it names is missing; it breaks a rule; there is no room for it; its rate is another
 abbrev pub put_cases : Desk → Row → List (Bool × Reason)
-put_cases d r = (is_there d r, reasons.Exists) ∷ (lacking d (names r) ++ (rule_cases d r ++ (full_cases d r ++ audio_cases d r)))
+put_cases d r = (is_there d r, reasons.Exists) ∷ (lacking d (names r) ++ (rule_cases d r ++ (full_cases d r ++ (audio_cases d r ++ rate_cases d r))))
 
 -- ---- against a row that is taken, and a member that is moved
 
@@ -151,13 +164,27 @@ abbrev pub is_audio_of : ℕ → Row → Bool
 is_audio_of member (rows.Source s) = same_media s.media Audio && nat_eq s.member member
 is_audio_of member _ = false
 
--- the room is missing; the member is missing; it is there already; the room would have more audio sources than it may
+-- the clock rate of a room
+abbrev pub rate_at : Desk → ℕ → Option ℕ
+rate_at d room = rate_of_room (row_at d (keys.Room room))
+
+-- the clock rate of the room that a member is in
+abbrev pub rate_of_member : Desk → ℕ → Option ℕ
+rate_of_member d member = option_and_then (rate_at d) (room_of_member (row_at d (keys.Member member)))
+
+-- both have a rate, and one
+abbrev pub same_rate : Option ℕ → Option ℕ → Bool
+same_rate (Some a) (Some b) = nat_eq a b
+same_rate _ _ = false
+
+-- the room is missing; the member is missing; it is there already; the room would have more audio sources than it may; the room has another rate than its own
 abbrev pub move_cases : Desk → ℕ → ℕ → List (Bool × Reason)
 move_cases d member room =
     (not (has d (keys.Room room)), reasons.NoRoom)
     ∷ (not (has d (keys.Member member)), reasons.NoMember)
     ∷ (same_room (room_of_member (row_at d (keys.Member member))) (Some room), reasons.Already)
     ∷ (nat_lt room_audio_limit (count_by (is_audio_in d room) d.others + count_by (is_audio_of member) d.others), reasons.Full tables.RoomAudio room_audio_limit)
+    ∷ (not (same_rate (rate_of_member d member) (rate_at d room)), reasons.RateMismatch)
     ∷ []
 
 -- ---- all

@@ -3,7 +3,7 @@ use Rattle.std.specs.Prelude.{ℕ, List, codes}
 use Rattle.desk_edit.specs.declared.refusal.Table.{Table}
 use Rattle.desk_edit.specs.declared.refusal.Table.TheVariants.{Rooms, Members, Sources, Slots, Gains, RoomAudio}
 use Rattle.desk_edit.specs.declared.refusal.Refusal.{Refusal}
-use Rattle.desk_edit.specs.declared.refusal.Refusal.TheVariants.{Exists, NoRoom, NoMember, NoSource, NoSlot, WrongKind, OtherRoom, SsrcTaken, BadValue, Already, NotThere, Full, OutOfMemory, NewerCommand, NothingToUndo, NothingToRedo, LogFull, EmptyGroup, GroupTooLong, PartRefused}
+use Rattle.desk_edit.specs.declared.refusal.Refusal.TheVariants.{Exists, NoRoom, NoMember, NoSource, NoSlot, WrongKind, OtherRoom, SsrcTaken, BadValue, Already, NotThere, Full, OutOfMemory, NewerCommand, NothingToUndo, NothingToRedo, LogFull, EmptyGroup, GroupTooLong, PartRefused, RateMismatch}
 use Rattle.desk_edit.specs.declared.refusal.Carried.{Carried}
 use Rattle.desk_edit.specs.declared.refusal.Carried.TheVariants.{Nothing, Limit, Last, Most, Part}
 use Rattle.desk_edit.specs.declared.refusal.RefusalRow.{RefusalRow}
@@ -45,6 +45,7 @@ told_of LogFull = record { number = 17; name = codes "LogFull"; carries = Nothin
 told_of EmptyGroup = record { number = 18; name = codes "EmptyGroup"; carries = Nothing }
 told_of (GroupTooLong limit) = record { number = 19; name = codes "GroupTooLong"; carries = Most limit }
 told_of (PartRefused part why) = record { number = 20; name = codes "PartRefused"; carries = Part part why }
+told_of RateMismatch = record { number = 21; name = codes "RateMismatch"; carries = Nothing }
 
 -- what a row of the code tells
 abbrev pub told_in : RefusalRow → Told

@@ -5,12 +5,14 @@ ghost use Rattle.std.specs.List.{list_any};
 ghost use Rattle.desk_rows.specs.declared.row.Row.TheVariants.{Member as MemberRow};
 ghost use Rattle.desk_rows.specs.Row.{makes, other_claims};
 ghost use Rattle.desk_rows.specs.Few.{listed};
-ghost use Rattle.desk_rows.specs.Desk.{good, is_audio_in, is_bridges, room_of_member, row_at};
+ghost use Rattle.desk_rows.specs.Desk.{good, is_audio_in, is_bridges, room_of_member, rate_of_room, row_at};
 ghost use Rattle.desk_edit.specs.Refusals.{has, is_claimed, is_ssrc, is_replaced, is_there, is_other_claimed};
 ghost use Rattle.desk_edit.specs.Refusals.{is_ssrc_taken, ssrc_is_taken, room_is_full, is_audio_of};
+ghost use Rattle.desk_edit.specs.Refusals.{is_wrong_kind, is_mismatch, rate_at, rate_of_member, same_rate};
 
 use desk_rows::{
-    Claim, Few, Key, Kind, Look, MAX_ROOM_AUDIO, Media, Member, Row, Rows, count_audio,
+    Claim, Few, Key, Kind, Look, MAX_ROOM_AUDIO, Media, Member, Row, Rows, all_suit, count_audio,
+    rate_of_room,
 };
 use std::alloc::Allocator;
 
@@ -125,6 +127,54 @@ pub(crate) fn ssrc_is_taken<A: Allocator + Copy>(rows: &Rows<A>, row: &Row) -> b
         Few::One(claim) => is_ssrc_taken(rows, &claim),
         Few::Two(claim, other) => is_ssrc_taken(rows, &claim) || is_ssrc_taken(rows, &other),
     }
+}
+
+/// Whether a source that the row names sends other media than the row needs.
+pub(crate) fn is_wrong_kind<A: Allocator + Copy>(rows: &Rows<A>, row: &Row) -> bool
+    ensures { result ≡ is_wrong_kind rows.now row.now }
+{
+    !row.is_of(Kind::Member) && !all_suit(rows, row)
+}
+
+/// Whether the row is a member whose room doesn't carry its codec.
+pub(crate) fn is_mismatch<A: Allocator + Copy>(rows: &Rows<A>, row: &Row) -> bool
+    ensures { result ≡ is_mismatch rows.now row.now }
+{
+    row.is_of(Kind::Member) && !all_suit(rows, row)
+}
+
+/// The clock rate of the room, in Hz.
+fn rate_at<A: Allocator + Copy>(rows: &Rows<A>, room: u32) -> Option<u32>
+    ensures { result ≡ rate_at rows.now room }
+{
+    rate_of_room(rows.look(Key::Room(room)))
+}
+
+/// The clock rate of the room that the member is in, in Hz.
+fn rate_of_member<A: Allocator + Copy>(rows: &Rows<A>, member: u32) -> Option<u32>
+    ensures { result ≡ rate_of_member rows.now member }
+{
+    match room_of_member(rows, member) {
+        None => None,
+        Some(room) => rate_at(rows, room),
+    }
+}
+
+/// Whether both are rates, and equal.
+fn same_rate(a: Option<u32>, b: Option<u32>) -> bool
+    ensures { result ≡ same_rate a b }
+{
+    match (a, b) {
+        (Some(a), Some(b)) => a == b,
+        _ => false,
+    }
+}
+
+/// Whether the room has the clock rate of the room that the member is in.
+pub(crate) fn keeps_rate<A: Allocator + Copy>(rows: &Rows<A>, member: u32, room: u32) -> bool
+    ensures { result ≡ same_rate (rate_of_member rows.now member) (rate_at rows.now room) }
+{
+    same_rate(rate_of_member(rows, member), rate_at(rows, room))
 }
 
 /// The number of audio sources of the room.

@@ -9,7 +9,7 @@ use std::alloc::{Allocator, Global};
 /// A command of an operator. A removed row takes along all rows that name it, directly or through others.
 #[derive(Clone, Copy)]
 pub enum Command {
-    /// Adds a room.
+    /// Adds a room. Its clock rate is 8000 or 44100 Hz.
     AddRoom(Room),
     /// Removes a room, with its members and all that names them.
     RemoveRoom {
@@ -23,7 +23,7 @@ pub enum Command {
         /// The member.
         member: u32,
     },
-    /// Moves a member to another room. It keeps its place among the members.
+    /// Moves a member to another room of the same clock rate. It keeps its place among the members.
     ///
     /// Rows that name two different rooms then go: subscriptions and gains of the member and of its sources, the pin of
     /// its source, and its floor.

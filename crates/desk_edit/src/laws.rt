@@ -2,7 +2,7 @@
 
 ghost use Rattle.std.specs.Prelude.{◌≡◌, true, None, ◌⊎◌};
 ghost use Rattle.desk_rows.specs.declared.row.Row.{Row};
-ghost use Rattle.desk_rows.specs.declared.row.Key.{Key};
+ghost use Rattle.desk_rows.specs.declared.key.Key.{Key};
 ghost use Rattle.desk_rows.specs.Row.{has_key};
 ghost use Rattle.desk_rows.specs.Desk.{Desk, good};
 ghost use Rattle.desk_edit.specs.declared.command.Command.{Command};

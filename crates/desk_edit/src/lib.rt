@@ -5,7 +5,7 @@
 //! its number.
 //!
 //! ```rust
-//! let command = Command::AddRoom(Room { room: 1 });
+//! let command = Command::AddRoom(Room { room: 1, rate: 8_000 });
 //! let edit = plan(alloc, &rows, &command)?; // or the first refusal, as Exists
 //! rows.absorb(&edit); // the desk with room 1
 //! ```
@@ -19,6 +19,7 @@ mod editing;
 mod going;
 mod grouping;
 mod laws;
+mod listing;
 mod moving;
 mod picking;
 mod planning;

@@ -51,6 +51,8 @@ pub enum Reason {
         /// Its limit.
         limit: u32,
     },
+    /// The room is at another clock rate than the member's codec, or than the room that the member leaves.
+    RateMismatch,
 }
 
 impl Reason {
@@ -71,6 +73,7 @@ impl Reason {
             Reason::Already => Refusal::Already,
             Reason::NotThere => Refusal::NotThere,
             Reason::Full { table, limit } => Refusal::Full { table, limit },
+            Reason::RateMismatch => Refusal::RateMismatch,
         }
     }
 }
@@ -120,6 +123,8 @@ pub enum Refusal {
     /// A command of the group is refused on the desk after those before it. Commands count from 0.
     #[error("command {part} of the group is refused")]
     PartRefused { part: u32, why: Reason },
+    #[error("the room is at another clock rate")]
+    RateMismatch,
 }
 
 /// Why a group is refused.
@@ -170,7 +175,7 @@ pub enum Carried {
 /// A refusal as its texts have it.
 #[derive(Clone, Copy)]
 pub struct RefusalRow {
-    /// The number, 1 to 20.
+    /// The number, 1 to 21.
     pub number: u16,
     /// The name.
     pub name: &'static [u8],
@@ -194,15 +199,22 @@ impl Table {
     }
 }
 
-/// A refusal that carries nothing.
-fn bare(number: u16, name: &'static [u8]) -> RefusalRow
-    ensures { result ≡ record { number = number; name = name.entry; carried = Carried.Nothing } }
+/// A refusal of this number and name.
+fn row(number: u16, name: &'static [u8], carried: Carried) -> RefusalRow
+    ensures { result ≡ record { number = number; name = name.entry; carried = carried } }
 {
     RefusalRow {
         number,
         name,
-        carried: Carried::Nothing,
+        carried,
     }
+}
+
+/// A refusal that carries nothing.
+fn bare(number: u16, name: &'static [u8]) -> RefusalRow
+    ensures { result ≡ record { number = number; name = name.entry; carried = Carried.Nothing } }
+{
+    row(number, name, Carried::Nothing)
 }
 
 impl Refusal {
@@ -222,31 +234,16 @@ impl Refusal {
             Refusal::BadValue => bare(9, b"BadValue"),
             Refusal::Already => bare(10, b"Already"),
             Refusal::NotThere => bare(11, b"NotThere"),
-            Refusal::Full { table, limit } => RefusalRow {
-                number: 12,
-                name: b"Full",
-                carried: Carried::Limit(table, limit),
-            },
+            Refusal::Full { table, limit } => row(12, b"Full", Carried::Limit(table, limit)),
             Refusal::OutOfMemory => bare(13, b"OutOfMemory"),
-            Refusal::NewerCommand { last } => RefusalRow {
-                number: 14,
-                name: b"NewerCommand",
-                carried: Carried::Last(last),
-            },
+            Refusal::NewerCommand { last } => row(14, b"NewerCommand", Carried::Last(last)),
             Refusal::NothingToUndo => bare(15, b"NothingToUndo"),
             Refusal::NothingToRedo => bare(16, b"NothingToRedo"),
             Refusal::LogFull => bare(17, b"LogFull"),
             Refusal::EmptyGroup => bare(18, b"EmptyGroup"),
-            Refusal::GroupTooLong { limit } => RefusalRow {
-                number: 19,
-                name: b"GroupTooLong",
-                carried: Carried::Most(limit),
-            },
-            Refusal::PartRefused { part, why } => RefusalRow {
-                number: 20,
-                name: b"PartRefused",
-                carried: Carried::Part(part, why),
-            },
+            Refusal::GroupTooLong { limit } => row(19, b"GroupTooLong", Carried::Most(limit)),
+            Refusal::PartRefused { part, why } => row(20, b"PartRefused", Carried::Part(part, why)),
+            Refusal::RateMismatch => bare(21, b"RateMismatch"),
         }
     }
 }

@@ -5,17 +5,19 @@ ghost use Rattle.std.specs.Option.{option_or};
 ghost use Rattle.desk_rows.specs.Few.{listed};
 ghost use Rattle.desk_rows.specs.Row.{names};
 ghost use Rattle.desk_edit.specs.Refusals.{missing, table_of, has, is_full, first_case, lacking, rule_cases};
-ghost use Rattle.desk_edit.specs.Refusals.{full_cases, audio_cases, put_cases, remove_cases, move_cases, cases_of};
+ghost use Rattle.desk_edit.specs.Refusals.{full_cases, audio_cases, rate_cases};
+ghost use Rattle.desk_edit.specs.Refusals.{put_cases, remove_cases, move_cases, cases_of};
 ghost use Rattle.desk_edit.specs.Refusals.{reason_against};
 
 use crate::asking::{
-    count_audio_in, count_audio_of, has, is_there, room_is_full, room_of_member, ssrc_is_taken,
+    count_audio_in, count_audio_of, has, is_mismatch, is_there, is_wrong_kind, keeps_rate,
+    room_is_full, room_of_member, ssrc_is_taken,
 };
 use crate::command::{Command, Form};
 use crate::refusal::{Reason, Table};
 use desk_rows::{
     Few, Key, Kind, MAX_GAINS, MAX_MEMBERS, MAX_ROOM_AUDIO, MAX_ROOMS, MAX_SLOTS, MAX_SOURCES,
-    Media, Row, Rows, all_suit, are_together, room_of,
+    Media, Row, Rows, are_together, room_of,
 };
 use std::alloc::Allocator;
 
@@ -68,7 +70,7 @@ fn lacks_any<A: Allocator + Copy>(rows: &Rows<A>, names: Few<Key>) -> Option<Rea
 fn breaks_rules<A: Allocator + Copy>(rows: &Rows<A>, row: &Row) -> Option<Reason>
     ensures { result ≡ first_case (rule_cases rows.now row.now) }
 {
-    if !all_suit(rows, row) {
+    if is_wrong_kind(rows, row) {
         return Some(Reason::WrongKind);
     }
     if !are_together(rows, row) {
@@ -141,6 +143,17 @@ fn fills_room<A: Allocator + Copy>(rows: &Rows<A>, row: &Row) -> Option<Reason>
     }
 }
 
+/// The reason against a member whose room doesn't carry its codec.
+fn mismatches<A: Allocator + Copy>(rows: &Rows<A>, row: &Row) -> Option<Reason>
+    ensures { result ≡ first_case (rate_cases rows.now row.now) }
+{
+    if is_mismatch(rows, row) {
+        Some(Reason::RateMismatch)
+    } else {
+        None
+    }
+}
+
 /// The first reason against putting a row.
 fn against_put<A: Allocator + Copy>(rows: &Rows<A>, row: &Row) -> Option<Reason>
     ensures { result ≡ first_case (put_cases rows.now row.now) }
@@ -148,7 +161,8 @@ fn against_put<A: Allocator + Copy>(rows: &Rows<A>, row: &Row) -> Option<Reason>
     if is_there(rows, row) {
         return Some(Reason::Exists);
     }
-    let full = or_next(fills_table(rows, row), fills_room(rows, row));
+    let last = or_next(fills_room(rows, row), mismatches(rows, row));
+    let full = or_next(fills_table(rows, row), last);
     or_next(
         lacks_any(rows, row.names()),
         or_next(breaks_rules(rows, row), full),
@@ -184,6 +198,9 @@ fn against_move<A: Allocator + Copy>(rows: &Rows<A>, member: u32, room: u32) -> 
     }
     if count_audio_in(rows, room) + count_audio_of(rows, member) > MAX_ROOM_AUDIO {
         return full(Table::RoomAudio, MAX_ROOM_AUDIO);
+    }
+    if !keeps_rate(rows, member, room) {
+        return Some(Reason::RateMismatch);
     }
     None
 }

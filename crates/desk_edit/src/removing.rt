@@ -4,19 +4,19 @@
 ghost use Rattle.std.specs.Prelude.{◌≡◌, ◌≤◌, ◌&&◌, ◌||◌, ◌++◌, true, false, [], filter, IfOk, OnOk};
 ghost use Rattle.std.specs.List.{list_any};
 ghost use Rattle.desk_rows.specs.declared.row.Row.TheVariants.{Member as MemberRow};
-ghost use Rattle.desk_rows.specs.declared.row.Kind.TheVariants as kinds;
+ghost use Rattle.desk_rows.specs.declared.key.Kind.TheVariants as kinds;
 ghost use Rattle.desk_rows.specs.Row.{kind_of, has_key};
 ghost use Rattle.desk_rows.specs.Kinds.{is_of};
 ghost use Rattle.desk_rows.specs.Order.{in_order};
 ghost use Rattle.desk_rows.specs.Desk.{Desk, good, rows_of};
 ghost use Rattle.desk_edit.specs.Depends.{goes_within, goes_with};
-ghost use Rattle.desk_edit.specs.inner.Levels.{level, can_go, found_list, is_sound};
+ghost use Rattle.desk_edit.specs.inner.Levels.{level, can_go, is_sound};
 ghost use Rattle.desk_edit.specs.inner.Edits.{placed_from};
 
-use crate::editing::one_row;
 use crate::going::{Going, can_go, level};
+use crate::listing::{any_sound, any_source, found_alone, going_by_members};
 use crate::picking::{Picked, members_picked};
-use desk_rows::{Few, Key, Kind, Media, Placed, Row, Rows, find_row};
+use desk_rows::{Few, Key, Kind, Placed, Row, Rows, find_row};
 use std::alloc::{AllocError, Allocator};
 
 /// The members that go with the row of this key, with their places.
@@ -30,31 +30,6 @@ pub(crate) fn members_going<A: Allocator + Copy>(
     ensures good { good rows.now ≡ true }
 {
     members_picked(alloc, rows.members(), Picked::with(key))
-}
-
-/// The row that was found, as a list.
-fn found_alone<A: Allocator>(alloc: A, found: Option<Row>) -> Result<Vec<Row, A>, AllocError>
-    ensures { IfOk result (λ v. v.items ≡ found_list found) }
-{
-    match found {
-        None => Ok(Vec::new(alloc)),
-        Some(row) => one_row(alloc, row),
-    }
-}
-
-/// The rows among these that go, of kinds that name members at most.
-fn going_by_members<A: Allocator + Copy>(
-    alloc: A,
-    going: &Going<'_, A>,
-    others: &[Row],
-) -> Result<Vec<Row, A>, AllocError>
-    ensures { IfOk result (λ v. v.items ≡ filter (goes_within 2 going.now.rows.now going.now.key) others.now) }
-{
-    others
-        .iter()
-        .filter(|row| going.goes_by_member(row))
-        .copied()
-        .collect(alloc)
 }
 
 /// The sources or the slots that go.
@@ -83,6 +58,9 @@ fn streams_going<A: Allocator + Copy>(
     }
     going_by_members(alloc, going, going.rows.others_of(kind))
 }
+
+/// The most sources for a linear search.
+const FEW: usize = 8;
 
 /// A removal, with the sources and slots that go.
 #[derive(Drop)]
@@ -299,40 +277,6 @@ impl<'a, A: Allocator + Copy> Gone<'a, A> {
         self.append(alloc, Kind::Floor, &mut out)?;
         Ok(out)
     }
-}
-
-/// The most sources for a linear search.
-const FEW: usize = 8;
-
-fn is_source(row: &Row, ssrc: u32) -> bool
-    ensures { result ≡ has_key (Key.Source ssrc) row.now }
-{
-    match row {
-        Row::Source(source) => source.ssrc == ssrc,
-        _ => false,
-    }
-}
-
-fn any_source(rows: &[Row], ssrc: u32) -> bool
-    ensures { result ≡ list_any (has_key (Key.Source ssrc)) rows.now }
-{
-    rows.iter().any(|row| is_source(row, ssrc))
-}
-
-/// Whether the row is a source of audio.
-fn is_sound(row: &Row) -> bool
-    ensures { result ≡ is_sound row.now }
-{
-    match row {
-        Row::Source(source) => source.media.is_same(Media::Audio),
-        _ => false,
-    }
-}
-
-fn any_sound(rows: &[Row]) -> bool
-    ensures { result ≡ list_any is_sound rows.now }
-{
-    rows.iter().any(|row| is_sound(row))
 }
 
 /// The rows beside members that go. If no row can name the key's kind, that is its row alone.

@@ -3,8 +3,8 @@ use Rattle.std.specs.Prelude.{ℕ, Bool, false, nat_eq, Option, Some}
 use Rattle.desk_rows.specs.declared.row.Row.{Row}
 use Rattle.desk_rows.specs.declared.row.Member.{Member as MemberRow}
 use Rattle.desk_rows.specs.declared.row.Row.TheVariants.{Member}
-use Rattle.desk_rows.specs.declared.row.Key.{Key}
-use Rattle.desk_rows.specs.declared.row.Key.TheVariants as keys
+use Rattle.desk_rows.specs.declared.key.Key.{Key}
+use Rattle.desk_rows.specs.declared.key.Key.TheVariants as keys
 use Rattle.desk_edit.specs.declared.picking.Picked.{Picked}
 use Rattle.desk_edit.specs.declared.picking.Picked.TheVariants.{In, Only, Nobody}
 use Rattle.desk_edit.specs.Commands.{into_room}

@@ -1,5 +1,5 @@
 use Rattle.desk_edit.proofs.Words.{Bool, ◌∙◌, Row, goes_with}
-use Rattle.desk_rows.specs.declared.row.Kind.TheVariants as kinds
+use Rattle.desk_rows.specs.declared.key.Kind.TheVariants as kinds
 use Rattle.desk_edit.proofs.removing.Gone.all.Goals as goal
 use Rattle.desk_edit.proofs.ByKinds.{one_kind_more, members_more, first_kind, last_kind}
 

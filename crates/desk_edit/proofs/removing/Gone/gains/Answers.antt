@@ -1,6 +1,6 @@
 use Rattle.std.specs.Prelude.{◌≡◌}
 use Rattle.desk_edit.proofs.Words.{List, filter, IfOk, sym, ap, ◌∙◌, subst, list_any, Row, Key, is_of, goes_with, is_sound}
-use Rattle.desk_rows.specs.declared.row.Kind.TheVariants as kinds
+use Rattle.desk_rows.specs.declared.key.Kind.TheVariants as kinds
 use Rattle.desk_edit.proofs.removing.Gone.gains.Goals as goal
 use Rattle.desk_edit.proofs.GoneLemmas.{no_gains, own_gains}
 

@@ -1,5 +1,5 @@
 use Rattle.desk_edit.proofs.Words.{refl, sym, ap, ◌∙◌, is_some, list_any, kind_of, has_key, in_order, is_found}
-use Rattle.desk_rows.specs.declared.row.Kind.TheVariants as kinds
+use Rattle.desk_rows.specs.declared.key.Kind.TheVariants as kinds
 use Rattle.desk_edit.proofs.removing.Gone.goes.Goals as goal
 use Rattle.desk_edit.proofs.GoneLemmas.{stream_found, streams_in_order}
 

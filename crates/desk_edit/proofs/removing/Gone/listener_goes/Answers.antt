@@ -1,6 +1,6 @@
 use Rattle.std.specs.Prelude.{◌&&◌}
 use Rattle.desk_edit.proofs.Words.{not, sym, ap, ◌∙◌, ne_eqb, has}
-use Rattle.desk_rows.specs.declared.row.Key.TheVariants as keys
+use Rattle.desk_rows.specs.declared.key.Key.TheVariants as keys
 use Rattle.desk_edit.proofs.removing.Gone.listener_goes.Goals as goal
 use Rattle.desk_edit.proofs.GoneLemmas.{name_goes_at, no_member_goes, own_listener}
 

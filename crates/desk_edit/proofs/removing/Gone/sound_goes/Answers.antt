@@ -1,5 +1,5 @@
 use Rattle.desk_edit.proofs.Words.{refl, ap, ◌∙◌, list_any, has_key}
-use Rattle.desk_rows.specs.declared.row.Key.TheVariants as keys
+use Rattle.desk_rows.specs.declared.key.Key.TheVariants as keys
 use Rattle.desk_edit.proofs.removing.Gone.sound_goes.Goals as goal
 use Rattle.desk_edit.proofs.GoneLemmas.{stream_goes}
 
