@@ -8,9 +8,9 @@ use Rattle.desk_rows.specs.declared.row.Row.{Row}
 use Rattle.desk_rows.specs.declared.row.Row.TheVariants.{Room, Member, Source, Slot, Sub, Mute, Gain, Pin, Floor}
 use Rattle.desk_rows.specs.declared.row.Member.{Member as MemberRow}
 use Rattle.desk_rows.specs.declared.row.Slot.{Slot as SlotRow}
-use Rattle.desk_rows.specs.declared.row.Key.{Key}
-use Rattle.desk_rows.specs.declared.row.Key.TheVariants as keys
-use Rattle.desk_rows.specs.declared.row.Kind.TheVariants as kinds
+use Rattle.desk_rows.specs.declared.key.Key.{Key}
+use Rattle.desk_rows.specs.declared.key.Key.TheVariants as keys
+use Rattle.desk_rows.specs.declared.key.Kind.TheVariants as kinds
 use Rattle.desk_rows.specs.Row.{has_key, names, is_in_range}
 use Rattle.desk_rows.specs.Kinds.{is_of}
 use Rattle.desk_rows.specs.Order.{precedes, in_order}

@@ -10,8 +10,9 @@ use Rattle.desk_rows.specs.declared.row.Source.{Source as SourceRow}
 use Rattle.desk_rows.specs.declared.row.Slot.{Slot as SlotRow}
 use Rattle.desk_rows.specs.declared.row.Sub.{Sub as SubRow}
 use Rattle.desk_rows.specs.declared.row.Media.TheVariants.{Video}
-use Rattle.desk_rows.specs.declared.row.Key.TheVariants as keys
+use Rattle.desk_rows.specs.declared.key.Key.TheVariants as keys
 use Rattle.desk_rows.specs.Row.{names, suits, wants, is_in_range}
+use Rattle.desk_rows.specs.Row.Want.{Sends}
 use Rattle.desk_rows.specs.laws.Equal.{number_itself}
 use Rattle.desk_rows.specs.laws.Laws.{good_parts}
 use Rattle.desk_rows.specs.Desk.{Desk, good, rows_of, row_at, room_at, same_room, are_together, all_suit, has_few_audio, obeys}
@@ -96,12 +97,12 @@ by_sub d k source h e =
     let told = of_found (obeys d) (keys.Sub k) (Sub s) (rows_of d) (good_parts d h).obey sub.1 in
     let both = and_parts (is_in_range (Sub s) && has_few_audio d (Sub s)) (all_suit d (Sub s) && are_together d (names (Sub s))) told.0 in
     let parts = and_parts (all_suit d (Sub s)) (are_together d (names (Sub s))) both.1 in
-    let suit = and_parts (suits (Some Video) (row_at d (keys.Source s.source))) (list_all (λ key. suits (wants (Sub s)) (row_at d key)) (keys.Slot s.out_ssrc ∷ [])) parts.0 in
+    let suit = and_parts (suits (Sends Video) (row_at d (keys.Source s.source))) (list_all (λ key. suits (wants (Sub s)) (row_at d key)) (keys.Slot s.out_ssrc ∷ [])) parts.0 in
     let one : same_room (room_at d (keys.Source source)) (room_at d (keys.Slot k)) ≡ true =
     subst (λ (n : ℕ). same_room (room_at d (keys.Source source)) (room_at d (keys.Slot n)) ≡ true) (eqb-true s.out_ssrc k told.1)
     (subst (λ (n : ℕ). same_room (room_at d (keys.Source n)) (room_at d (keys.Slot s.out_ssrc)) ≡ true) sub.2 parts.1) in
     let room = in_one (room_at d (keys.Source source)) (room_at d (keys.Slot k)) one in
-    let is = suiting d source room.0 (subst (λ (n : ℕ). suits (Some Video) (row_at d (keys.Source n)) ≡ true) sub.2 suit.0) room.1 in
+    let is = suiting d source room.0 (subst (λ (n : ℕ). suits (Sends Video) (row_at d (keys.Source n)) ≡ true) sub.2 suit.0) room.1 in
     record { video = its_media d source is.0 is.1.is; together = one }
 
 by_room : (d : Desk) (k source room : ℕ) (slot : SlotRow) → good d ≡ true → slot_at d k ≡ Some slot → room_of_member d slot.member ≡ Some room → shown d room ≡ Some source → Meets d k source

@@ -17,6 +17,7 @@ pub mod Order
 pub mod LeastVideo
 pub mod Heard
 pub mod SmallRooms
+pub mod Rates
 pub mod OneMix
 pub mod OwnGains
 pub mod Senders

@@ -7,8 +7,8 @@ use Rattle.desk_rows.specs.declared.row.Row.TheVariants.{Room, Member, Source, S
 use Rattle.desk_rows.specs.declared.row.Member.{Member as MemberRow}
 use Rattle.desk_rows.specs.declared.row.Source.{Source as SourceRow}
 use Rattle.desk_rows.specs.declared.row.Slot.{Slot as SlotRow}
-use Rattle.desk_rows.specs.declared.row.Key.{Key}
-use Rattle.desk_rows.specs.declared.row.Key.TheVariants as keys
+use Rattle.desk_rows.specs.declared.key.Key.{Key}
+use Rattle.desk_rows.specs.declared.key.Key.TheVariants as keys
 use Rattle.desk_rows.specs.Row.{has_key}
 use Rattle.desk_rows.specs.Desk.{Desk, rows_of, row_at, room_of_member as room_in, room_of_found, room_at, same_room}
 use Rattle.desk_rows.specs.Naming.{member_in, slot_in}

@@ -11,8 +11,9 @@ use Rattle.desk_rows.specs.declared.row.Pin.{Pin as PinRow}
 use Rattle.desk_rows.specs.declared.row.Floor.{Floor as FloorRow}
 use Rattle.desk_rows.specs.declared.row.Media.{Media}
 use Rattle.desk_rows.specs.declared.row.Media.TheVariants.{Audio, Video}
-use Rattle.desk_rows.specs.declared.row.Key.TheVariants as keys
+use Rattle.desk_rows.specs.declared.key.Key.TheVariants as keys
 use Rattle.desk_rows.specs.Row.{names, suits, wants, is_in_range, same_media}
+use Rattle.desk_rows.specs.Row.Want.{Sends}
 use Rattle.desk_rows.specs.laws.Laws.{good_parts}
 use Rattle.desk_rows.specs.Desk.{Desk, good, rows_of, row_at, room_at, are_together, all_suit, has_few_audio, obeys}
 use Rattle.topology.specs.Looking.{source_in, pin_in, floor_in, source_at, pinned, holder, sender_of, room_of_member}
@@ -46,10 +47,10 @@ pub its_room : (d : Desk) (room source : ℕ) (s : SourceRow) → ShownIn d room
 its_room d room source s in_room = room_at_source d source ∙ ap (option_and_then (λ (s : SourceRow). room_of_member d s.member)) in_room.is.found ∙ in_room.room_is
 
 -- a source that is wanted to send video, and is in a room
-pub suiting : (d : Desk) (source room : ℕ) → suits (Some Video) (row_at d (keys.Source source)) ≡ true → room_at d (keys.Source source) ≡ Some room → (s : SourceRow) × ShownIn d room source s
+pub suiting : (d : Desk) (source room : ℕ) → suits (Sends Video) (row_at d (keys.Source source)) ≡ true → room_at d (keys.Source source) ≡ Some room → (s : SourceRow) × ShownIn d room source s
 suiting d source room suit in_room = by (source_at d source) refl (sym (room_at_source d source) ∙ in_room)
   where
-    from_row : (o : Option Row) (s : SourceRow) → option_and_then source_in o ≡ Some s → suits (Some Video) o ≡ true → s.media ≡ Video
+    from_row : (o : Option Row) (s : SourceRow) → option_and_then source_in o ≡ Some s → suits (Sends Video) o ≡ true → s.media ≡ Video
     from_row None s e h = absurd (cc)
     from_row (Some (Source r)) s e h = (let same : r ≡ s = cc in subst (λ (t : SourceRow). t.media ≡ Video) same (is_video r.media h))
     from_row (Some (Room r)) s e h = absurd (cc)
@@ -86,10 +87,10 @@ by_pin d room source h e =
     let told = of_found (obeys d) (keys.Pin room) (Pin p) (rows_of d) (good_parts d h).obey pin.1 in
     let both = and_parts (is_in_range (Pin p) && has_few_audio d (Pin p)) (all_suit d (Pin p) && are_together d (names (Pin p))) told.0 in
     let parts = and_parts (all_suit d (Pin p)) (are_together d (names (Pin p))) both.1 in
-    let suit = and_parts (suits (Some Video) (row_at d (keys.Room p.room))) (list_all (λ key. suits (wants (Pin p)) (row_at d key)) (keys.Source p.source ∷ [])) parts.0 in
-    let video = and_parts (suits (Some Video) (row_at d (keys.Source p.source))) true suit.1 in
+    let suit = and_parts (suits (Sends Video) (row_at d (keys.Room p.room))) (list_all (λ key. suits (wants (Pin p)) (row_at d key)) (keys.Source p.source ∷ [])) parts.0 in
+    let video = and_parts (suits (Sends Video) (row_at d (keys.Source p.source))) true suit.1 in
     let in_room : room_at d (keys.Source p.source) ≡ Some room = with_room d p.room (room_at d (keys.Source p.source)) parts.1 ∙ ap Some (eqb-true p.room room told.1) in
-    suiting d source room (subst (λ (n : ℕ). suits (Some Video) (row_at d (keys.Source n)) ≡ true) pin.2 video.0) (subst (λ (n : ℕ). room_at d (keys.Source n) ≡ Some room) pin.2 in_room)
+    suiting d source room (subst (λ (n : ℕ). suits (Sends Video) (row_at d (keys.Source n)) ≡ true) pin.2 video.0) (subst (λ (n : ℕ). room_at d (keys.Source n) ≡ Some room) pin.2 in_room)
 
 -- ---- floors
 

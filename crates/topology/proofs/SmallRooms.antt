@@ -13,7 +13,7 @@ use Rattle.desk_rows.specs.declared.row.Room.{Room as RoomRow}
 use Rattle.desk_rows.specs.declared.row.Member.{Member as MemberRow}
 use Rattle.desk_rows.specs.declared.row.Source.{Source as SourceRow}
 use Rattle.desk_rows.specs.declared.row.Media.TheVariants.{Audio}
-use Rattle.desk_rows.specs.declared.row.Key.TheVariants as keys
+use Rattle.desk_rows.specs.declared.key.Key.TheVariants as keys
 use Rattle.desk_rows.specs.Row.{same_media, has_key, names, is_in_range}
 use Rattle.desk_rows.specs.Desk.{Desk, good, rows_of, row_at, same_room, is_named_there, is_audio_in, has_few_audio, all_suit, are_together, obeys}
 use Rattle.desk_rows.specs.laws.PlaceLaws.{count_next}
@@ -183,7 +183,7 @@ counted_rows d room (r ∷ rs) = by (source_in r) refl (counted_rows d room rs)
 
 -- ---- the room of a member has a row
 
-its_room_row : (k : ℕ) (r : Row) → has_key (keys.Room k) r ≡ true → (q : RoomRow) × (r ≡ Room q) × (q.room ≡ k)
+pub its_room_row : (k : ℕ) (r : Row) → has_key (keys.Room k) r ≡ true → (q : RoomRow) × (r ≡ Room q) × (q.room ≡ k)
 its_room_row k (Room q) e = (q, refl, eqb-true q.room k e)
 its_room_row k (Member r) e = absurd (cc)
 its_room_row k (Source r) e = absurd (cc)

@@ -10,8 +10,8 @@ use Rattle.desk_rows.specs.declared.row.Slot.{Slot as SlotRow}
 use Rattle.desk_rows.specs.declared.row.Pin.{Pin as PinRow}
 use Rattle.desk_rows.specs.declared.row.Floor.{Floor as FloorRow}
 use Rattle.desk_rows.specs.declared.row.Row.{Row}
-use Rattle.desk_rows.specs.declared.row.Row.TheVariants.{Source, Pin, Floor}
-use Rattle.desk_rows.specs.declared.row.Key.TheVariants as keys
+use Rattle.desk_rows.specs.declared.row.Row.TheVariants.{Room, Source, Pin, Floor}
+use Rattle.desk_rows.specs.declared.key.Key.TheVariants as keys
 use Rattle.desk_rows.specs.Desk.{Desk, row_at}
 use Rattle.desk_rows.specs.Naming.{member_in, slot_in, sub_in}
 
@@ -76,6 +76,19 @@ sender_of d source = option_map (λ s. s.member) (source_at d source)
 -- the room that a member is in
 abbrev pub room_of_member : Desk → ℕ → Option ℕ
 room_of_member d member = option_map (λ m. m.room) (member_at d member)
+
+-- the row is of a room for music: its audio is at 44100 Hz, the one rate at which L16 has payload types of its own (RFC 3551 section 6)
+abbrev pub is_music : Option Row → Bool
+is_music (Some (Room r)) = nat_eq r.rate 44100
+is_music _ = false
+
+-- the clock rate of a room's audio, in Hz: 44100 where its row says so, else that of PCMU, 8000 (RFC 3551 section 4.5.14)
+abbrev pub room_rate : Desk → ℕ → ℕ
+room_rate d room = if is_music (row_at d (keys.Room room)) then 44100 else 8000
+
+-- the clock rate of a member's audio, in Hz: that of its room; none where there is no such member
+abbrev pub rate_of : Desk → ℕ → Option ℕ
+rate_of d member = option_map (room_rate d) (room_of_member d member)
 
 -- the room that a source is in: that of its member
 abbrev pub room_of_source : Desk → ℕ → Option ℕ

@@ -6,7 +6,7 @@ use Rattle.desk_rows.specs.declared.row.Source.{Source as SourceRow}
 use Rattle.desk_rows.specs.declared.row.Row.{Row}
 use Rattle.desk_rows.specs.declared.row.Row.TheVariants.{Gain}
 use Rattle.desk_rows.specs.declared.row.Media.TheVariants.{Audio}
-use Rattle.desk_rows.specs.declared.row.Key.TheVariants as keys
+use Rattle.desk_rows.specs.declared.key.Key.TheVariants as keys
 use Rattle.desk_rows.specs.Row.{same_media}
 use Rattle.desk_rows.specs.Desk.{Desk, row_at}
 use Rattle.topology.specs.declared.hearing.AudioSource.{AudioSource}

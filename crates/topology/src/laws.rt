@@ -5,13 +5,16 @@ ghost use Rattle.std.specs.Prelude.{filter, None, Some};
 ghost use Rattle.std.specs.List.{find};
 ghost use Rattle.std.specs.Option.{is_some, option_map, option_and_then};
 ghost use Rattle.rtp_codec.specs.declared.address.Address.{Address};
+ghost use Rattle.desk_rows.specs.declared.row.Room.{Room};
 ghost use Rattle.desk_rows.specs.declared.row.Member.{Member};
 ghost use Rattle.desk_rows.specs.declared.row.Slot.{Slot};
+ghost use Rattle.desk_rows.specs.declared.row.Codec.TheVariants.{Pcmu};
 ghost use Rattle.desk_rows.specs.declared.row.Media.TheVariants.{Video};
-ghost use Rattle.desk_rows.specs.declared.row.Key.TheVariants as keys;
-ghost use Rattle.desk_rows.specs.Desk.{Desk, good, room_at, same_room};
+ghost use Rattle.desk_rows.specs.declared.row.Row.TheVariants as rows;
+ghost use Rattle.desk_rows.specs.declared.key.Key.TheVariants as keys;
+ghost use Rattle.desk_rows.specs.Desk.{Desk, good, row_at, room_at, same_room};
 ghost use Rattle.topology.specs.Looking.{member_at, slot_at, source_at, subscribed, pinned, holder, is_muted, is_this};
-ghost use Rattle.topology.specs.Looking.{sender_of, room_of_member};
+ghost use Rattle.topology.specs.Looking.{sender_of, room_of_member, room_rate, rate_of};
 ghost use Rattle.topology.specs.Choice.{is_video_of, first_video, shown, is_barred, choice};
 ghost use Rattle.topology.specs.Receivers.{receivers, receiver_at, receiver_on, AreDistinct};
 ghost use Rattle.topology.specs.Mixes.{in_room, audio_sources, gain_of, mix_plan, mix_member};
@@ -102,4 +105,13 @@ pub fn mixes_have_one_member()
 pub fn mixes_stay_in_the_room()
     ensures { (desk : Desk) (member : ℕ) → good desk ≡ true
         → All (λ s. room_of_member desk s.member ≡ room_of_member desk member) (mix_plan desk member) }
+{}
+
+/// A law: on a good desk a room has the clock rate that its row says. A member whose codec is PCMU is in a room at
+/// 8000 Hz.
+pub fn rates_are_of_rooms()
+    ensures room { (desk : Desk) (room : ℕ) (row : Room) → good desk ≡ true
+        → row_at desk (keys.Room room) ≡ Some (rows.Room row) → room_rate desk room ≡ row.rate }
+    ensures pcmu { (desk : Desk) (member : ℕ) (row : Member) → good desk ≡ true → member_at desk member ≡ Some row
+        → row.codec ≡ Pcmu → rate_of desk member ≡ Some 8000 }
 {}

@@ -1,8 +1,8 @@
 //! Who gets what, by the rows of a desk: the source that each slot chooses, the receivers of a source, the sources of a
 //! mix.
 //!
-//! Begin with [`receivers_of`] for a source, [`choice`] for a slot, and [`mix_plan`] for a member. A contract sees the
-//! rows as a desk. Each answer is a definition over the whole desk.
+//! Begin with [`receivers_of`] for a source, [`choice`] for a slot, and [`mix_plan`] and [`rate_of`] for a member. A
+//! contract sees the rows as a desk. Each answer is a definition over the whole desk.
 //!
 //! ```rust
 //! // Slots 504 and 508, of members 11 and 13, have subscribed to source 101 of member 10 at this address.
@@ -28,7 +28,9 @@ pub use self::hearing::{
 pub use self::laws::{
     all_who_chose_receive, choices_stay_in_the_room, first_videos_are_least, gains_are_small,
     mixes_are_apart, mixes_have_one_member, mixes_stay_in_the_room, nothing_falls_through,
-    receivers_are_distinct, rooms_are_small,
+    rates_are_of_rooms, receivers_are_distinct, rooms_are_small,
 };
-pub use self::looking::{member_at, member_from, sender_of, slot_at, slots_to, source_from};
+pub use self::looking::{
+    member_at, member_from, rate_of, room_rate, sender_of, slot_at, slots_to, source_from,
+};
 pub use self::receivers::{Receiver, receivers_of};

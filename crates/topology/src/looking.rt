@@ -4,10 +4,10 @@ ghost use Rattle.std.specs.Prelude.{◌≡◌, true};
 ghost use Rattle.desk_rows.specs.Desk.{good, same_room};
 ghost use Rattle.topology.specs.Looking.{member_at, slot_at, source_at, subscribed, pinned, holder, is_muted, is_this};
 ghost use Rattle.topology.specs.Looking.{sender_of, room_of_member, room_of_source, has_address, source_from};
-ghost use Rattle.topology.specs.Looking.{member_from};
+ghost use Rattle.topology.specs.Looking.{member_from, is_music, room_rate, rate_of};
 ghost use Rattle.topology.specs.Receivers.{slots_to};
 
-use desk_rows::{Key, Member, Row, Rows, Slot, Source};
+use desk_rows::{DEFAULT_RATE, Key, MUSIC_RATE, Member, Row, Rows, Slot, Source};
 use rtp_codec::Address;
 use std::alloc::Allocator;
 
@@ -117,6 +117,37 @@ pub(crate) fn room_of_member<A: Allocator + Copy>(rows: &Rows<A>, member: u32) -
     match member_at(rows, member) {
         None => None,
         Some(member) => Some(member.room),
+    }
+}
+
+/// Whether the row that was found is of a room for music.
+fn is_music(found: Option<Row>) -> bool
+    ensures { result ≡ is_music found }
+{
+    match found {
+        Some(Row::Room(room)) => room.rate == MUSIC_RATE,
+        _ => false,
+    }
+}
+
+/// The clock rate of a room's audio in Hz, 8000 or 44100. It is 8000 if there is no such room.
+pub fn room_rate<A: Allocator + Copy>(rows: &Rows<A>, room: u32) -> u32
+    ensures { result ≡ room_rate rows.now room }
+{
+    if is_music(rows.find(&Key::Room(room))) {
+        MUSIC_RATE
+    } else {
+        DEFAULT_RATE
+    }
+}
+
+/// The clock rate of the audio of a member's room in Hz, 8000 or 44100.
+pub fn rate_of<A: Allocator + Copy>(rows: &Rows<A>, member: u32) -> Option<u32>
+    ensures { result ≡ rate_of rows.now member }
+{
+    match room_of_member(rows, member) {
+        None => None,
+        Some(room) => Some(room_rate(rows, room)),
     }
 }
 

@@ -6,7 +6,7 @@ use Rattle.desk_rows.specs.declared.row.Source.{Source as SourceRow}
 use Rattle.desk_rows.specs.declared.row.Row.{Row}
 use Rattle.desk_rows.specs.declared.row.Row.TheVariants.{Source}
 use Rattle.desk_rows.specs.declared.row.Media.TheVariants.{Audio}
-use Rattle.desk_rows.specs.declared.row.Key.TheVariants as keys
+use Rattle.desk_rows.specs.declared.key.Key.TheVariants as keys
 use Rattle.desk_rows.specs.Row.{same_media, has_key}
 use Rattle.desk_rows.specs.Desk.{Desk}
 use Rattle.topology.specs.declared.hearing.AudioSource.{AudioSource}
