@@ -1,5 +1,5 @@
 -- What a datagram comes to, and what is known of sources after it: the first outcome that holds (own).
-use Rattle.std.specs.Prelude.{ℕ, ℤ, ◌+◌, ◌-◌, ◌<◌, ◌^◌, Bool, not, ◌&&◌, nat_eq, if◌then◌else◌, List, [], ◌∷◌, length, map, Option, None, Some}
+use Rattle.std.specs.Prelude.{ℕ, ℤ, ◌+◌, ◌-◌, ◌<◌, ◌^◌, Bool, not, ◌&&◌, nat_eq, if◌then◌else◌, List, [], ◌∷◌, length, map, Option, None, Some, unwrap_or}
 use Rattle.std.specs.List.{flat_map, AllByRecursion}
 use Rattle.rtp_codec.specs.declared.address.Address.{Address}
 use Rattle.rtcp_codec.specs.declared.nack.NackWord.{NackWord}
@@ -11,7 +11,7 @@ use Rattle.desk_rows.specs.Desk.{Desk}
 use Rattle.desk_rows.specs.declared.row.Media.{Media}
 use Rattle.desk_rows.specs.declared.row.Media.TheVariants.{Audio, Video}
 use Rattle.desk_rows.specs.declared.row.Source.{Source}
-use Rattle.topology.specs.Looking.{source_from, member_from}
+use Rattle.topology.specs.Looking.{source_from, member_from, rate_of as rate_of_member}
 use Rattle.feedback.specs.Upstream.{Asker, seq_of, upstream_packets}
 use Rattle.intake.specs.declared.outcome.Outcome.TheVariants.{TooLong, Neither, BadRtp, BadRtcp, Unknown, BadPayload, Spent, Rtcp}
 use Rattle.intake.specs.Readings.{Reading, too_long, neither, no_packet, packet, no_compound, compound}
@@ -82,9 +82,9 @@ taken_by voice rate course_of c s story =
 abbrev pub sourced : Voice → ℕ → (Verdict → Story → Course) → Coming → Sources → Ingested × Sources
 sourced voice rate course_of c s = taken_by voice rate course_of c s (story_by rate (story_at (origin_of c) s.known))
 
--- the clock rate of audio in the room of a source's member, in Hz: every room has this one (own)
+-- the clock rate of audio in the room of a source's member, in Hz; 8000 where there is no such member, which no good desk has
 abbrev pub room_rate : Desk → Source → ℕ
-room_rate d row = 8000
+room_rate d row = unwrap_or (rate_of_member d row.member) 8000
 
 -- an audio packet, by its format if it has one
 abbrev pub of_format : Voice → Option Format → Coming → Sources → Ingested × Sources

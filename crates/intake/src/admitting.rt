@@ -6,7 +6,7 @@ ghost use Rattle.frame_gate.specs.Frame.{highest_pt};
 ghost use Rattle.frame_gate.specs.Packets.{IsExt, numbered};
 ghost use Rattle.intake.specs.inner.Kept.{Admits, Settles, base_of};
 
-use frame_gate::{Admitted, Gate, Packet, Prepared};
+use frame_gate::{Admitted, Gate, Packet, PreparedAnswer};
 use std::alloc::{AllocError, Allocator, Global};
 use std::marker::Model;
 
@@ -15,7 +15,7 @@ use std::marker::Model;
 pub(crate) struct Admission<A: Allocator + Copy = Global> {
     /// A new gate, if there was none.
     fresh: Option<Gate<A>>,
-    prepared: Prepared<A>,
+    prepared: PreparedAnswer<A>,
 }
 
 impl<A: Allocator + Copy> Model for Admission<A> {

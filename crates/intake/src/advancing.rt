@@ -20,11 +20,11 @@ use crate::known::Key;
 use crate::outcome::Outcome;
 use frame_gate::Admitted;
 use media_items::Item;
-use source_valid::{Source, Verdict};
+use source_valid::{SourceState, Verdict};
 use std::alloc::{AllocError, Allocator};
 
 /// The state of a known source.
-fn source_in<A: Allocator + Copy>(kept: Option<&Kept<A>>) -> Option<Source>
+fn source_in<A: Allocator + Copy>(kept: Option<&Kept<A>>) -> Option<SourceState>
     ensures { result ≡ source_in (option_copied kept.entry) }
 {
     match kept {

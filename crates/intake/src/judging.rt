@@ -7,7 +7,7 @@ ghost use Rattle.source_valid.specs.Ranges.{IsInRange};
 ghost use Rattle.intake.specs.Stories.{units_of, initialises, arrival};
 ghost use Rattle.intake.specs.inner.Kept.{HasGiven, Judges};
 
-use source_valid::{Source, Verdict};
+use source_valid::{SourceState, Verdict};
 use std::marker::Model;
 
 /// Nanoseconds in a second.
@@ -18,7 +18,7 @@ const NANOSECONDS: u64 = 1_000_000_000;
 pub(crate) struct Judged {
     /// The clock rate, in Hz.
     pub(crate) rate: u32,
-    pub(crate) source: Source,
+    pub(crate) source: SourceState,
     pub(crate) verdict: Verdict,
     /// Whether the packet initialises the source.
     pub(crate) begins: bool,
@@ -95,7 +95,7 @@ fn initialises(was_past: bool, verdict: Verdict) -> bool
 }
 
 /// The source after the packet's arrival, if the packet is accepted.
-fn arrived(source: Source, verdict: Verdict, mark: Mark) -> Source
+fn arrived(source: SourceState, verdict: Verdict, mark: Mark) -> SourceState
     ensures { (given : List Step) → Represents source given → Represents result (given ++ arrival verdict mark) }
 {
     let mut source = source;
@@ -110,7 +110,7 @@ fn arrived(source: Source, verdict: Verdict, mark: Mark) -> Source
 
 /// Judges a packet of a known source.
 #[inline(always)]
-fn judge_known(source: Source, epoch: u64, mark: Mark) -> Judged
+fn judge_known(source: SourceState, epoch: u64, mark: Mark) -> Judged
     ensures judges { Judges (Some source) mark result }
     ensures epoch { result.epoch ≡ epoch }
 {
@@ -128,14 +128,14 @@ fn judge_known(source: Source, epoch: u64, mark: Mark) -> Judged
 
 /// Judges a packet of a source in this epoch. An unknown source begins on probation.
 #[inline(always)]
-pub(crate) fn judge(source: Option<Source>, epoch: u64, mark: Mark) -> Judged
+pub(crate) fn judge(source: Option<SourceState>, epoch: u64, mark: Mark) -> Judged
     ensures judges { Judges source mark result }
     ensures epoch { result.epoch ≡ epoch }
 {
     match source {
         None => Judged {
             rate: mark.rate,
-            source: Source::first(mark.seq),
+            source: SourceState::first(mark.seq),
             verdict: Verdict::Probation,
             begins: false,
             epoch,

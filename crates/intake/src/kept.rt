@@ -10,7 +10,7 @@ ghost use Rattle.intake.specs.inner.Kept.{Keeps, base_of, gate_for, kept_by, Set
 use crate::admitting::{Admission, settle};
 use frame_gate::{Admitted, Gate};
 use rtcp_codec::ReportBlock;
-use source_valid::Source;
+use source_valid::SourceState;
 use std::alloc::{Allocator, Global};
 use std::marker::Model;
 
@@ -19,7 +19,7 @@ use std::marker::Model;
 pub(crate) struct Kept<A: Allocator + Copy = Global> {
     /// In Hz.
     pub(crate) rate: u32,
-    pub(crate) source: Source,
+    pub(crate) source: SourceState,
     pub(crate) epoch: u64,
     pub(crate) gate: Option<Gate<A>>,
 }
@@ -37,7 +37,7 @@ impl<A: Allocator + Copy> Model for Kept<A> {
 pub(crate) struct Next<A: Allocator + Copy = Global> {
     /// The clock rate, in Hz.
     pub(crate) rate: u32,
-    pub(crate) source: Source,
+    pub(crate) source: SourceState,
     pub(crate) epoch: u64,
     /// Whether the epoch begins with the packet.
     pub(crate) begins: bool,

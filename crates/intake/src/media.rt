@@ -21,20 +21,20 @@ use crate::judging::{Mark, units_of};
 use crate::known::key_of;
 use crate::outcome::Outcome;
 use crate::sounding::{audio_format, sounds};
-use desk_rows::{Media, Rows, Source};
+use desk_rows::{DEFAULT_RATE, Media, Rows, Source};
 use media_items::Format;
 use rtp_codec::{Address, read};
 use std::alloc::{AllocError, Allocator};
-use topology::source_from;
+use topology::{rate_of, source_from};
 
 /// The clock rate of video in Hz (RFC 3551 section 5).
 const VIDEO_RATE: u32 = 90_000;
 
-/// The clock rate of audio in the room of a source's member, in Hz. Every room has 8000.
+/// The clock rate of audio in the room of a source's member, in Hz.
 fn room_rate<A: Allocator + Copy>(rows: &Rows<A>, source: &Source) -> u32
     ensures { result ≡ room_rate rows.now source.now }
 {
-    8_000
+    rate_of(rows, source.member).unwrap_or(DEFAULT_RATE)
 }
 
 /// The parts of a packet that a source of this clock rate judges.

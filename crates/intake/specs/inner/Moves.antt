@@ -1,5 +1,5 @@
 -- What the functions of the intake say to one another.
-use Rattle.std.specs.Prelude.{◌≡◌, ℕ, ℤ, ◌+◌, Bool, ◌||◌, if◌then◌else◌, Option, None, Some}
+use Rattle.std.specs.Prelude.{◌≡◌, ℕ, ◌+◌, ◌||◌, if◌then◌else◌, Option, None, Some}
 use Rattle.std.specs.Option.{option_map}
 use Rattle.source_valid.specs.inner.Kept.{Kept as SourceOf}
 use Rattle.source_valid.specs.declared.verdict.Verdict.{Verdict}

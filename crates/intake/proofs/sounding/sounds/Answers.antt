@@ -1,7 +1,6 @@
 use Rattle.std.proofs.Common.{◌∙◌, ap, sym, is_some, if◌then◌else◌, []}
 use Rattle.std.specs.List.{list_all}
-use Rattle.source_valid.specs.Histories.{accepted}
-use Rattle.media_items.specs.Inputs.{Input, is_sized}
+use Rattle.media_items.specs.Inputs.{is_sized}
 use Rattle.intake.specs.Media.{sound_of}
 use Rattle.intake.specs.inner.Comings.{coming_of}
 use Rattle.intake.proofs.Results.{from_fact}

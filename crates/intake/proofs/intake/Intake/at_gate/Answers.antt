@@ -1,4 +1,4 @@
-use Rattle.std.proofs.Common.{◌≡◌, ◌∙◌, ap, sym, map, ◌||◌, ◌++◌, ◌+◌, if◌then◌else◌}
+use Rattle.std.proofs.Common.{◌∙◌, ap, sym, map, ◌||◌, ◌++◌, ◌+◌, if◌then◌else◌}
 use Rattle.std.specs.List.{list_all}
 use Rattle.frame_gate.specs.Answer.{Answer}
 use Rattle.media_items.specs.Inputs.{input_of, is_sized}

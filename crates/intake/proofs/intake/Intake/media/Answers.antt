@@ -1,8 +1,7 @@
 use Rattle.std.proofs.Common.{◌≡◌, ◌∙◌, ap, sym, subst, length}
-use Rattle.media_items.specs.Formats.{rate_of}
 use Rattle.intake.specs.Ingested.{ingested_of}
-use Rattle.intake.specs.Media.{Coming, audio_format, audio_course}
-use Rattle.intake.specs.Taking.{sourced, of_row, of_media, of_format, room_rate}
+use Rattle.intake.specs.Media.{Coming, audio_format}
+use Rattle.intake.specs.Taking.{of_row, of_media, of_format, room_rate}
 use Rattle.intake.specs.Intakes.{Knows}
 use Rattle.intake.specs.inner.Comings.{coming_of}
 use Rattle.intake.proofs.Results.{from_fact}
