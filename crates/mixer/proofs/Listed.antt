@@ -9,7 +9,8 @@ use Rattle.topology.specs.declared.hearing.AudioSource.{AudioSource}
 use Rattle.topology.specs.Mixes.{in_room}
 use Rattle.mixer.specs.inner.Rooms.{of_room}
 use Rattle.desk_rows.specs.Desk.{Desk}
-use Rattle.mixer.specs.Hearing.{Given, Voice, room_rate, voice_at, voice_of, sample_in, filled_in}
+use Rattle.topology.specs.Looking.{room_rate}
+use Rattle.mixer.specs.Hearing.{Given, Voice, voice_at, voice_of, sample_in, filled_in}
 
 -- so many values, each that of a function at its place
 pub listed : (f : ℕ → ℤ) (out : List ℤ) (n : ℕ) → length out ≡ n → ((i : ℕ) → i < n → slice_index_or out i (pos 0) ≡ f i) → out ≡ map f (range_with_len 0 n)

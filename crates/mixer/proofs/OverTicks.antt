@@ -1,15 +1,15 @@
 -- Mixes over all ticks.
-use Rattle.std.proofs.Common.{◌≡◌, ℕ, ℤ, ◌+◌, ◌%◌, ◌^◌, Bool, true, false, cond, List, [], ◌∷◌, ◌++◌, length, map, drop, Option, Some, None, refl, sym, ap, subst, ◌∙◌, arith, append_assoc, append-nil}
+use Rattle.std.proofs.Common.{◌≡◌, ℕ, ℤ, ◌+◌, ◌%◌, ◌^◌, Bool, true, false, cond, List, [], ◌∷◌, ◌++◌, length, drop, Option, Some, None, refl, sym, ap, subst, ◌∙◌, arith, append_assoc, append-nil}
 use Rattle.std.specs.Prelude.{is_some, not, unwrap_or}
 use Rattle.std.specs.Option.{option_map}
-use Rattle.std.proofs.lemmas.List.{map-append, drop_at}
+use Rattle.std.proofs.lemmas.List.{drop_at}
 use Rattle.rtp_codec.specs.declared.address.Address.{Address}
 use Rattle.desk_rows.specs.Desk.{Desk}
 use Rattle.forward_rewrite.specs.Sending.{Numbered}
 use Rattle.media_items.specs.Formats.{tick_at}
 use Rattle.forward_rewrite.specs.Mixes.{Sound, MixTick, mix_packet, packets_in, mixed, mixed_from, begun, mix_list}
 use Rattle.mixer.specs.Hearing.{Given, put, tick}
-use Rattle.mixer.specs.Mixes.{Hears, Turn, turn_of, turns_after, turns, tick_of, ticks_behind, ticks_of, packets_of, mixes, mixes_at}
+use Rattle.mixer.specs.Mixes.{Hears, Turn, turn_of, turns_after, turns, tick_of, ticks_of, packets_of, mixes, mixes_at}
 use Rattle.mixer.specs.MixLists.{GoOn, AreInARow, Carries}
 use Rattle.mixer.proofs.Ticks.{rate_behind, ticks_push}
 

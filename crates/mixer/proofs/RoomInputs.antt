@@ -1,5 +1,5 @@
 -- The inputs of a room, voice by voice.
-use Rattle.std.proofs.Common.{◌≡◌, ℕ, ◌+◌, ◌<◌, ◌≤◌, zero, suc, true, false, subst, arith, refl, drop, ◌⊎◌, inl, inr, List, [], ◌∷◌, ◌++◌, length, map, take, slice_index_or, ap, sym, ◌∙◌, cond, append-nil}
+use Rattle.std.proofs.Common.{◌≡◌, ℕ, ◌+◌, ◌<◌, ◌≤◌, true, false, subst, arith, drop, ◌⊎◌, inl, inr, List, [], ◌∷◌, ◌++◌, length, map, take, slice_index_or, ap, sym, ◌∙◌, cond, append-nil}
 use Rattle.std.proofs.lemmas.List.{map_push}
 use Rattle.std.proofs.lemmas.List.Elements.{All-from_recursion, filter_more}
 use Rattle.mix_minus.specs.declared.input.Input.{Input}
@@ -9,7 +9,7 @@ use Rattle.std.proofs.lemmas.Bool.{eqb-true}
 use Rattle.media_items.specs.Formats.{tick_at}
 use Rattle.mix_minus.specs.Mix.{ReachTo}
 use Rattle.desk_rows.specs.Desk.{Desk}
-use Rattle.mixer.specs.Hearing.{room_rate}
+use Rattle.topology.specs.Looking.{room_rate}
 use Rattle.mixer.specs.inner.Rooms.{Plain, plain, plain_voice, is_of, of_room, AreLong}
 use Rattle.mixer.proofs.StreamSteps.{tells}
 use Rattle.mixer.proofs.HeardOf.{first}

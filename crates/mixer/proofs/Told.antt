@@ -1,5 +1,5 @@
 -- What a sender report tells of a mix stream, by the stream as it stands.
-use Rattle.std.proofs.Common.{◌≡◌, ℕ, List, [], ◌∷◌, map, Option, None, Some, unwrap_or, subst, refl}
+use Rattle.std.proofs.Common.{◌≡◌, ℕ, List, [], ◌∷◌, Option, None, Some, unwrap_or, subst, refl}
 use Rattle.std.specs.Option.{option_map, option_or}
 use Rattle.forward_rewrite.specs.declared.counts.Counts.{Counts}
 use Rattle.forward_rewrite.specs.Mixes.{MixTick, MixOf, mix_state, mix_counts, HasMixed}

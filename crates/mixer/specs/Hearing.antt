@@ -8,13 +8,13 @@ use Rattle.media_items.specs.declared.format.Format.{Format}
 use Rattle.media_items.specs.Formats.{tick_at}
 use Rattle.desk_rows.specs.Desk.{Desk}
 use Rattle.topology.specs.declared.hearing.AudioSource.{AudioSource}
+use Rattle.topology.specs.Looking.{room_rate}
 use Rattle.topology.specs.Mixes.{audio_sources, in_room, gain_of}
 use Rattle.playout.specs.Playout.{Play, sample_at, present}
 use Rattle.playout.specs.Playouts.{AudioEvent, PutOf, TakeAll, play_on}
 use Rattle.playout.specs.Calls.{at_rate}
 use Rattle.mix_minus.specs.Mix.{scaled, clamped}
 use Rattle.forward_rewrite.specs.Mixes.{Sound, format_of}
-use Rattle.media_items.specs.Rates.{audio_rate}
 
 -- ---- what came in
 
@@ -34,11 +34,7 @@ play_after given source address = play_on source address (map to_playouts given)
 
 -- ---- clock rates
 
--- the clock rate of a room, in Hz
-abbrev pub room_rate : Desk → ℕ → ℕ
-room_rate d room = audio_rate
-
--- the clock rate of the member's room
+-- the clock rate of the member's room, in Hz
 abbrev pub rate_of : Desk → MemberRow → ℕ
 rate_of d m = room_rate d m.room
 

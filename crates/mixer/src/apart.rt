@@ -1,8 +1,9 @@
 //! The inputs and the contributors of a room without a member's own.
 
-ghost use Rattle.std.specs.Prelude.{◌≡◌, ℕ, ◌<◌, ◌≤◌, ◌+◌, ◌*◌, ◌++◌, List, [], length, take, IfOk};
+ghost use Rattle.std.specs.Prelude.{◌≡◌, ℕ, ◌<◌, ◌≤◌, ◌+◌, ◌*◌, ◌++◌, List, [], length, map, take, IfOk};
 ghost use Rattle.rtp_codec.specs.Packet.{number_octets, most_csrcs};
 ghost use Rattle.mix_minus.specs.Mix.{own_of, others_of, present_in};
+ghost use Rattle.mixer.specs.inner.Counted.{member_of, AreBefore};
 ghost use Rattle.mixer.specs.inner.Named.{IsNamed};
 
 use forward_rewrite::Named;
@@ -14,20 +15,6 @@ pub const MOST_NAMED: usize = 15;
 
 /// The octets of an SSRC.
 pub const SSRC_OCTETS: usize = 4;
-
-/// The number of inputs before the first one of a member.
-pub fn before_own(inputs: &[Input], member: u32) -> usize
-    ensures within { result ≤ length inputs.now }
-    ensures own { own_of member (take result inputs.now) ≡ [] }
-    ensures others { others_of member (take result inputs.now) ≡ take result inputs.now }
-{
-    for i in 0..inputs.len() {
-        if inputs[i].member == member {
-            return i;
-        }
-    }
-    inputs.len()
-}
 
 /// The number of inputs from the first one on that are a member's own.
 pub fn own_in_front(inputs: &[Input], member: u32) -> usize
@@ -43,17 +30,60 @@ pub fn own_in_front(inputs: &[Input], member: u32) -> usize
     inputs.len()
 }
 
-/// The number of inputs of which a sample is present.
-pub fn present(inputs: &[Input]) -> usize
-    ensures { result ≡ length (present_in inputs.now) }
+/// The member of each input.
+pub fn members_of<A: Allocator + Copy>(
+    alloc: A,
+    inputs: &[Input],
+) -> Result<Vec<u32, A>, AllocError>
+    ensures { IfOk result (λ v. v.items ≡ map member_of inputs.now) }
+{
+    inputs.iter().map(|input| input.member).collect(alloc)
+}
+
+/// The number of inputs that are a member's own. `members` has the member of each input.
+pub fn own_count(members: &[u32], member: u32) -> u32
+    requires { length members.now ≤ 64 }
+    ensures { (inputs : List Input) → members.now ≡ map member_of inputs → result ≡ length (own_of member inputs) }
 {
     let mut count = 0;
-    for i in 0..inputs.len() {
-        if inputs[i].filled > 0 {
-            count += 1;
-        }
+    for i in 0..members.len() {
+        count += (members[i] == member) as u32;
     }
     count
+}
+
+/// Where a member's own inputs probably begin: at the place `near`, or else at the first one. `members` has the member
+/// of each input.
+pub fn own_start(members: &[u32], member: u32, near: usize) -> usize
+    ensures { result ≤ length members.now }
+{
+    if near < members.len() && members[near] == member {
+        return near;
+    }
+    for i in 0..members.len() {
+        if members[i] == member {
+            return i;
+        }
+    }
+    members.len()
+}
+
+/// The number of inputs before each place of which a sample is present. The last number is that of all.
+pub fn counts_before<A: Allocator + Copy>(
+    alloc: A,
+    inputs: &[Input],
+) -> Result<Vec<u32, A>, AllocError>
+    requires { length inputs.now ≤ 64 }
+    ensures { IfOk result (λ v. AreBefore v.items inputs.now) }
+{
+    let mut counts = Vec::with_capacity(alloc, inputs.len() + 1)?;
+    let mut count = 0;
+    counts.push(count)?;
+    for i in 0..inputs.len() {
+        count += (inputs[i].filled > 0) as u32;
+        counts.push(count)?;
+    }
+    Ok(counts)
 }
 
 /// The SSRCs of the inputs of which a sample is present, in network order.

@@ -8,8 +8,8 @@ ghost use Rattle.mixer.specs.Hearing.{Voice};
 ghost use Rattle.mixer.specs.inner.Named.{IsHeardOf};
 ghost use Rattle.mixer.specs.inner.Rooms.{IsRoom, IsHeard};
 
-use crate::apart::{before_own, named_without, own_in_front, present};
-use crate::rooms::Room;
+use crate::apart::{named_without, own_count, own_in_front, own_start};
+use crate::rooms::RoomSound;
 use desk_rows::{Member, Rows};
 use forward_rewrite::Named;
 use mix_minus::{Contributors, is_the_mix, mix_by_total, mix_of_others, others_contribute};
@@ -23,7 +23,7 @@ const MOST_SOURCES: usize = 64;
 pub fn listen<A: Allocator + Copy>(
     rows: &Rows<A>,
     member: &Member,
-    room: &Room<'_, A>,
+    room: &RoomSound<'_, A>,
     samples: &mut [i16],
 ) -> Contributors
     requires own { room.now.room ≡ member.now.room }
@@ -41,11 +41,13 @@ pub fn listen<A: Allocator + Copy>(
 }
 
 /// Writes the mix of its room for a member without gains, and names who contributes. `None` for a member with gains,
-/// and where its own inputs don't stand side by side.
+/// and where its own inputs don't stand side by side. They probably stand at the place `near`, where the next member's
+/// are expected afterwards.
 pub fn listen_in_full<'b, A: Allocator + Copy>(
     rows: &Rows<A>,
     member: &Member,
-    room: &'b Room<'_, A>,
+    room: &'b RoomSound<'_, A>,
+    near: &mut usize,
     samples: &mut [i16],
 ) -> Option<Named<'b>>
     requires own { room.now.room ≡ member.now.room }
@@ -60,13 +62,16 @@ pub fn listen_in_full<'b, A: Allocator + Copy>(
     if !hears_in_full(rows, member.member) {
         return None;
     }
-    let (front, rest) = room
-        .inputs
-        .split_at(before_own(&room.inputs, member.member));
-    let (own, back) = rest.split_at(own_in_front(rest, member.member));
-    if before_own(back, member.member) < back.len() {
+    let start = own_start(&room.members, member.member, *near);
+    let (_, rest) = room.inputs.split_at(start);
+    let count = own_in_front(rest, member.member);
+    if own_count(&room.members, member.member) as usize != count {
         return None;
     }
+    *near = start + count;
+    let (own, _) = rest.split_at(count);
     mix_of_others(&room.total, own, samples);
-    Some(named_without(&room.named, present(front), present(own)))
+    let before = room.before[start] as usize;
+    let through = room.before[start + count] as usize;
+    Some(named_without(&room.named, before, through - before))
 }

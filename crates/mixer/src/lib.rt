@@ -21,6 +21,7 @@ mod hearing;
 mod laws;
 mod mixer;
 mod preparing;
+mod rates;
 mod rooms;
 mod streams;
 mod voices;

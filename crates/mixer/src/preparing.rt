@@ -15,7 +15,7 @@ ghost use Rattle.mixer.specs.inner.Encoded.{IsEncoded};
 use crate::apart::SSRC_OCTETS;
 use crate::encoding::Encoded;
 use crate::hearing::{listen, listen_in_full};
-use crate::rooms::Room;
+use crate::rooms::RoomSound;
 use crate::streams::Table;
 use crate::voices::{Voice, tick_at};
 use bytes::BytesMut;
@@ -42,6 +42,8 @@ pub struct Tick<'a, A: Allocator + Copy> {
 /// What a tick works in. Its packets are cut off one block.
 #[derive(Drop)]
 pub struct Scratch<A: Allocator + Copy> {
+    /// Where the next member's own inputs probably stand among those of its room.
+    pub near: usize,
     /// The samples of a mix.
     pub samples: Vec<i16, A>,
     /// The last payload.
@@ -57,6 +59,7 @@ impl<A: Allocator + Copy> Scratch<A> {
         ensures last { IfOk result (λ s. IsEncoded s.last) }
     {
         Ok(Scratch {
+            near: 0,
             samples: Vec::new(alloc),
             last: Encoded::new(alloc),
             block: BytesMut::with_capacity(alloc, octets)?,
@@ -110,7 +113,7 @@ fn prepare_in_full<A: Allocator + Copy>(
 fn prepare_by_gains<A: Allocator + Copy>(
     tick: &Tick<'_, A>,
     stream: &MixStream,
-    room: &Room<'_, A>,
+    room: &RoomSound<'_, A>,
     member: &Member,
     samples: &mut [i16],
 ) -> Result<Option<PreparedMix<A>>, AllocError>
@@ -142,7 +145,7 @@ fn prepare_by_gains<A: Allocator + Copy>(
 pub fn prepare_for<A: Allocator + Copy>(
     tick: &Tick<'_, A>,
     stream: &MixStream,
-    room: &Room<'_, A>,
+    room: &RoomSound<'_, A>,
     member: &Member,
     scratch: &mut Scratch<A>,
 ) -> Result<Option<PreparedMix<A>>, AllocError>
@@ -158,12 +161,13 @@ pub fn prepare_for<A: Allocator + Copy>(
     ensures empty { OnOk result (scratch.new.block.items ≡ []) }
 {
     let Scratch {
+        near,
         samples,
         last,
         block,
     } = scratch;
     samples.resize(tick_at(room.rate), 0)?;
-    match listen_in_full(tick.rows, member, room, samples) {
+    match listen_in_full(tick.rows, member, room, near, samples) {
         Some(named) => {
             let format = format_of(member.codec, room.rate);
             let heard = Heard {

@@ -4,21 +4,22 @@ ghost use Rattle.std.specs.Prelude.{◌≡◌, ◌≤◌, ◌<◌, All, IfOk, On
 ghost use Rattle.mix_minus.specs.Mix.{ReachTo};
 ghost use Rattle.desk_rows.specs.Desk.{Desk};
 ghost use Rattle.media_items.specs.Formats.{tick_at};
-ghost use Rattle.mixer.specs.Hearing.{Voice as VoiceOf, room_rate};
+ghost use Rattle.topology.specs.Looking.{room_rate};
+ghost use Rattle.mixer.specs.Hearing.{Voice as VoiceOf};
 ghost use Rattle.mixer.specs.inner.Rooms.{plain, plain_voice, of_room, AreLong, RoomOf, IsRoom};
 ghost use Rattle.mixer.specs.inner.Ready.{AreRooms};
 
-use crate::apart::named_of;
-use crate::voices::{Voice, room_rate, tick_at};
+use crate::apart::{counts_before, members_of, named_of};
+use crate::voices::{Voice, tick_at};
 use desk_rows::Rows;
 use mix_minus::{Input, room_total};
 use std::alloc::{AllocError, Allocator};
 use std::marker::Model;
-use topology::AudioSource;
+use topology::{AudioSource, room_rate};
 
 /// The audio of a room in a tick.
 #[derive(Drop)]
-pub struct Room<'a, A: Allocator + Copy> {
+pub struct RoomSound<'a, A: Allocator + Copy> {
     /// The room's number.
     pub room: u32,
     /// The room's clock rate, in Hz.
@@ -27,13 +28,17 @@ pub struct Room<'a, A: Allocator + Copy> {
     pub sources: Vec<AudioSource, A>,
     /// The samples of each source, in the same order.
     pub inputs: Vec<Input<'a>, A>,
+    /// The member of each input, in the same order.
+    pub members: Vec<u32, A>,
+    /// The number of inputs before each place of which a sample is present, and that of all.
+    pub before: Vec<u32, A>,
     /// The sum of all samples.
     pub total: Vec<i32, A>,
     /// The sources of which a sample is present, in network order: four octets each.
     pub named: Vec<u8, A>,
 }
 
-impl<'a, A: Allocator + Copy> Model for Room<'a, A> {
+impl<'a, A: Allocator + Copy> Model for RoomSound<'a, A> {
     ghost use Rattle.mixer.specs.inner.Rooms.{RoomOf};
 
     ghost Value = { RoomOf };
@@ -43,6 +48,8 @@ impl<'a, A: Allocator + Copy> Model for Room<'a, A> {
       rate = r.rate;
       sources = r.sources.items;
       inputs = r.inputs.items;
+      members = r.members.items;
+      before = r.before.items;
       total = r.total.items;
       named = r.named.items;
     } };
@@ -98,7 +105,7 @@ pub fn room_of<'a, A: Allocator + Copy>(
     rows: &Rows<A>,
     voices: &'a [Voice<A>],
     room: u32,
-) -> Result<Room<'a, A>, AllocError>
+) -> Result<RoomSound<'a, A>, AllocError>
     requires few { length (of_room room voices.now) ≤ 64 }
     requires long { AreLong rows.now voices.now }
     ensures is { IfOk result (λ r. IsRoom rows.now voices.now r) }
@@ -111,11 +118,15 @@ pub fn room_of<'a, A: Allocator + Copy>(
     total.resize(tick_at(rate), 0)?;
     room_total(&inputs, &mut total);
     let named = named_of(alloc, &inputs)?;
-    Ok(Room {
+    let members = members_of(alloc, &inputs)?;
+    let before = counts_before(alloc, &inputs)?;
+    Ok(RoomSound {
         room,
         rate,
         sources,
         inputs,
+        members,
+        before,
         total,
         named,
     })
@@ -125,7 +136,7 @@ pub fn room_of<'a, A: Allocator + Copy>(
 pub fn place_of<'a, A: Allocator + Copy>(
     alloc: A,
     rows: &Rows<A>,
-    rooms: &mut Vec<Room<'a, A>, A>,
+    rooms: &mut Vec<RoomSound<'a, A>, A>,
     voices: &'a [Voice<A>],
     room: u32,
 ) -> Result<usize, AllocError>

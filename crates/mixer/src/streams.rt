@@ -8,15 +8,15 @@ ghost use Rattle.topology.specs.Mixes.{mix_member};
 ghost use Rattle.mixer.specs.Hearing.{Voice as VoiceOf};
 ghost use Rattle.mixer.specs.Mixers.{mix_at};
 ghost use Rattle.mixer.specs.inner.Encoded.{IsEncoded, most_block};
-ghost use Rattle.mixer.specs.inner.Rooms.{AreLong, IsRoom, of_room};
+ghost use Rattle.mixer.specs.inner.Rooms.{AreLong, IsRoom, IsRate, of_room};
 ghost use Rattle.mixer.specs.inner.Ready.{AreRooms, IsReady, Passes, current, hears_any, hearers, members_of};
 ghost use Rattle.mixer.specs.inner.Ready.{AreReady, pass_rate};
 ghost use Rattle.mixer.specs.inner.Ready.{kept_after, kept_after_one, sent_of};
 
 use crate::apart::{MOST_NAMED, SSRC_OCTETS};
 use crate::preparing::{Scratch, Tick, prepare_for};
-use crate::rooms::{Room, place_of};
-use crate::voices::room_rate;
+use crate::rates::{RoomRate, rate_in, rated};
+use crate::rooms::{RoomSound, place_of};
 use desk_rows::{Member, Rows};
 use forward_rewrite::{MixStream, OutPacket, PreparedMix, format_of};
 use indexmap::IndexMap;
@@ -78,10 +78,11 @@ fn block_len<A: Allocator + Copy>(place: &LanePlace, rows: &Rows<A>) -> usize
     ensures { result ≤ most_block }
 {
     let mut octets: usize = 0;
+    let mut last = rated(rows, 0);
     for member in rows.members() {
         let mine = place.is_mine(member.out_audio);
         if mine {
-            let format = format_of(member.codec, room_rate(rows, member.room));
+            let format = format_of(member.codec, rate_in(rows, &mut last, member.room));
             let payload = format.tick().saturating_mul(format.octets());
             octets = octets.saturating_add(payload.saturating_add(MOST_HEADER));
         }
@@ -102,7 +103,7 @@ fn stream_for<A: Allocator + Copy>(streams: &Table<A>, member: &Member) -> MixSt
 /// The packet of what a member hears in a tick on its stream, if it hears anything.
 fn ready_for<A: Allocator + Copy>(
     tick: &Tick<'_, A>,
-    room: &Room<'_, A>,
+    room: &RoomSound<'_, A>,
     member: &Member,
     scratch: &mut Scratch<A>,
 ) -> Result<Option<Ready<A>>, AllocError>
@@ -133,7 +134,7 @@ fn ready_for<A: Allocator + Copy>(
 /// Appends the packet of what a member hears, if it hears anything.
 fn add<'a, A: Allocator + Copy>(
     tick: &Tick<'a, A>,
-    rooms: &mut Vec<Room<'a, A>, A>,
+    rooms: &mut Vec<RoomSound<'a, A>, A>,
     member: &Member,
     scratch: &mut Scratch<A>,
     ready: &mut Vec<Ready<A>, A>,
@@ -201,26 +202,36 @@ fn mix_member<A: Allocator + Copy>(rows: &Rows<A>, place: usize, out_audio: u32)
 /// The clock rate at which a stream passes a tick. Its member may stand at this place.
 fn pass_rate<A: Allocator + Copy>(
     rows: &Rows<A>,
+    last: &mut RoomRate,
     place: usize,
     out_audio: u32,
     stream: &MixStream,
 ) -> u32
-    ensures { result ≡ pass_rate rows.now out_audio stream.now }
+    requires { IsRate rows.now last.old }
+    ensures rate { result ≡ pass_rate rows.now out_audio stream.now }
+    ensures last { IsRate rows.now last.new }
 {
     match mix_member(rows, place, out_audio) {
-        Some(member) => room_rate(rows, member.room),
+        Some(member) => rate_in(rows, last, member.room),
         None => stream.rate().unwrap_or(0),
     }
 }
 
 /// The clock rate at which the stream at an index passes a tick.
-fn pass_rate_at<A: Allocator + Copy>(rows: &Rows<A>, streams: &Table<A>, i: usize) -> u32
-    requires { i < length streams.now.entries }
-    ensures { (d : ℕ × MixOf)
+fn pass_rate_at<A: Allocator + Copy>(
+    rows: &Rows<A>,
+    last: &mut RoomRate,
+    streams: &Table<A>,
+    i: usize,
+) -> u32
+    requires within { i < length streams.now.entries }
+    requires last { IsRate rows.now last.old }
+    ensures rate { (d : ℕ × MixOf)
         → result ≡ (let e = slice_index_or streams.now.entries i d in pass_rate rows.now e.0 e.1) }
+    ensures last { IsRate rows.now last.new }
 {
     match streams.get_index(i) {
-        Some((out_audio, stream)) => pass_rate(rows, i, *out_audio, stream),
+        Some((out_audio, stream)) => pass_rate(rows, last, i, *out_audio, stream),
         None => unreachable!(),
     }
 }
@@ -231,8 +242,9 @@ pub fn pass_all<A: Allocator + Copy>(streams: &mut Table<A>, rows: &Rows<A>, mom
         → Passes rows.now moment ssrc (mix_at ssrc streams.old.entries) (mix_at ssrc streams.new.entries) }
     ensures spare { spare streams.new ≡ spare streams.old }
 {
+    let mut last = rated(rows, 0);
     for i in 0..streams.len() {
-        let rate = pass_rate_at(rows, streams, i);
+        let rate = pass_rate_at(rows, &mut last, streams, i);
         match streams.get_index_mut(i) {
             Some(stream) => stream.pass(rate, moment),
             None => unreachable!(),

@@ -4,11 +4,11 @@ ghost use Rattle.std.specs.Prelude.{◌≡◌, ℕ, ◌≤◌, ◌*◌, IfOk, Li
 ghost use Rattle.desk_rows.specs.Desk.{Desk};
 ghost use Rattle.media_items.specs.Formats.{tick_at};
 ghost use Rattle.playout.specs.Playouts.{Has};
-ghost use Rattle.mixer.specs.Hearing.{Given, Voice as VoiceOf, to_playouts, room_rate, voice_at, voice_of};
+ghost use Rattle.mixer.specs.Hearing.{Given, Voice as VoiceOf, to_playouts, voice_at, voice_of};
 ghost use Rattle.mixer.specs.inner.Rooms.{AreLong};
 
+use crate::rates::{rate_in, rated};
 use desk_rows::Rows;
-use media_items::Format;
 use playout::Playouts;
 use std::alloc::{AllocError, Allocator};
 use std::marker::Model;
@@ -34,13 +34,6 @@ impl<A: Allocator + Copy> Model for Voice<A> {
     ghost Value = { VoiceOf };
 
     ghost view = { λ v. record { source = v.source; samples = v.samples.items; filled = v.filled } };
-}
-
-/// The clock rate of a room, in Hz.
-pub fn room_rate<A: Allocator + Copy>(_rows: &Rows<A>, _room: u32) -> u32
-    ensures { result ≡ room_rate _rows.now _room }
-{
-    Format::Pcmu.rate()
 }
 
 /// The samples of a tick of 20 ms at a clock rate.
@@ -85,8 +78,9 @@ pub fn voices_of<A: Allocator + Copy>(
     ensures long { IfOk result (λ v. AreLong rows.now v.items) }
 {
     let mut voices = Vec::with_capacity(alloc, sources.len())?;
+    let mut last = rated(rows, 0);
     for source in sources {
-        let rate = room_rate(rows, source.room);
+        let rate = rate_in(rows, &mut last, source.room);
         let voice = voice_of(alloc, playouts, source, rate)?;
         voices.push(voice)?;
     }

@@ -8,10 +8,13 @@ use Rattle.media_items.specs.Formats.{tick_at}
 use Rattle.mix_minus.specs.declared.contributors.Contributors.{Contributors}
 use Rattle.mix_minus.specs.declared.input.Input.{Input}
 use Rattle.mix_minus.specs.Mix.{IsTotal, ReachTo, present_in}
-use Rattle.mix_minus.specs.inner.Passes.{AreSmall}
+use Rattle.mix_minus.specs.Sums.{AreSmall}
 use Rattle.topology.specs.declared.hearing.AudioSource.{AudioSource}
 use Rattle.topology.specs.Mixes.{in_room}
-use Rattle.mixer.specs.Hearing.{Voice, room_rate, rate_of, heard_at, contributors}
+use Rattle.topology.specs.Looking.{room_rate}
+use Rattle.mixer.specs.declared.rates.RoomRate.{RoomRate}
+use Rattle.mixer.specs.inner.Counted.{member_of, AreBefore}
+use Rattle.mixer.specs.Hearing.{Voice, rate_of, heard_at, contributors}
 
 -- an input without where its samples lie
 pub record Plain : Type 0 where
@@ -39,12 +42,18 @@ of_room room voices = filter (is_of room) voices
 abbrev pub AreLong : Desk → List Voice → Type 0
 AreLong d voices = AllByRecursion (λ v. length v.samples ≡ tick_at (room_rate d v.source.room)) voices
 
--- a room: its clock rate, its sources and its inputs, in the same order, their total, and who is present, in network order
+-- It is the room's clock rate.
+abbrev pub IsRate : Desk → RoomRate → Type 0
+IsRate d r = r.rate ≡ room_rate d r.room
+
+-- a room: its clock rate, its sources and its inputs, in the same order, the member of each, how many are present before each, their total, and who is present, in network order
 pub record RoomOf : Type 0 where
   pub room : ℕ
   pub rate : ℕ
   pub sources : List AudioSource
   pub inputs : List Input
+  pub members : List ℕ
+  pub before : List ℕ
   pub total : List ℤ
   pub named : List ℕ
 
@@ -55,6 +64,8 @@ pub record IsRoom (d : Desk) (voices : List Voice) (r : RoomOf) : Type 0 where
   pub inputs : map plain r.inputs ≡ map plain_voice (of_room r.room voices)
   pub reach : ReachTo (tick_at r.rate) r.inputs
   pub few : length r.inputs ≤ 64
+  pub members : r.members ≡ map member_of r.inputs
+  pub before : AreBefore r.before r.inputs
   pub total : IsTotal r.inputs r.total
   pub long : length r.total ≡ tick_at r.rate
   pub small : AreSmall 16777216 r.total

@@ -1,5 +1,4 @@
-use Rattle.std.proofs.Common.{◌≡◌, ◌+◌, ◌++◌, [], ◌∷◌, take, sym, ap, ◌∙◌, append-nil}
-use Rattle.std.specs.Int.{w32, to_be_bytes}
+use Rattle.std.proofs.Common.{◌++◌, take, sym, ap, ◌∙◌}
 use Rattle.rtp_codec.specs.Packet.{number_octets}
 use Rattle.mix_minus.specs.Mix.{present_in}
 use Rattle.mixer.proofs.InFull.{there_more, there_same}

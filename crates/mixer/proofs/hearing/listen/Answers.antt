@@ -5,7 +5,8 @@ use Rattle.mix_minus.specs.Mix.{clamped, heard_sum, contributing}
 use Rattle.topology.specs.declared.hearing.AudioSource.{AudioSource}
 use Rattle.topology.specs.Mixes.{gain_of}
 use Rattle.media_items.specs.Formats.{tick_at}
-use Rattle.mixer.specs.Hearing.{rate_of, room_rate, heard_at, part_of, sum_of, contributes}
+use Rattle.topology.specs.Looking.{room_rate}
+use Rattle.mixer.specs.Hearing.{rate_of, heard_at, part_of, sum_of, contributes}
 use Rattle.mixer.specs.inner.Rooms.{RoomOf, of_room}
 use Rattle.mixer.proofs.Listed.{listed}
 use Rattle.mixer.proofs.HeardOf.{gains_for, heard_of, named_of, others_of, as_many, loud}

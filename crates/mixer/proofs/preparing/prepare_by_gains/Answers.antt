@@ -1,7 +1,8 @@
 use Rattle.std.proofs.Common.{◌≡◌, ap, sym, ◌∙◌, is_some, take, subst, [], ◌∷◌}
 use Rattle.media_items.specs.declared.format.Format.{Format}
 use Rattle.forward_rewrite.specs.Mixes.{GivesTick, sounding, sound_of, format_of}
-use Rattle.mixer.specs.Hearing.{rate_of, room_rate}
+use Rattle.topology.specs.Looking.{room_rate}
+use Rattle.mixer.specs.Hearing.{rate_of}
 use Rattle.mixer.specs.inner.Rooms.{RoomOf}
 use Rattle.mixer.proofs.Sounds.{nothing_heard, something_heard, many}
 use Rattle.mixer.proofs.preparing.prepare_by_gains.Goals as goal

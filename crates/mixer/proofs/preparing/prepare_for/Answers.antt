@@ -3,7 +3,8 @@ use Rattle.std.proofs.lemmas.List.{with_items_is}
 use Rattle.desk_rows.specs.declared.row.Member.{Member as MemberRow}
 use Rattle.desk_rows.specs.Desk.{Desk}
 use Rattle.forward_rewrite.specs.Mixes.{PreparedMixOf, format_of}
-use Rattle.mixer.specs.Hearing.{Voice, rate_of, room_rate}
+use Rattle.topology.specs.Looking.{room_rate}
+use Rattle.mixer.specs.Hearing.{Voice, rate_of}
 use Rattle.mixer.specs.inner.Rooms.{RoomOf, IsRoom}
 use Rattle.mixer.specs.inner.Named.{IsHeardOf}
 use Rattle.mixer.specs.inner.Ready.{IsPrepared, hears_any}

@@ -1,11 +1,12 @@
-use Rattle.std.proofs.Common.{◌≡◌, ◌≤◌, List, length, ap, sym, subst, ◌∙◌, arith}
+use Rattle.std.proofs.Common.{◌≡◌, List, length, map, ap, sym, subst, ◌∙◌, arith}
 use Rattle.std.proofs.lemmas.List.{length-map, with_items_is}
 use Rattle.media_items.specs.Formats.{tick_at}
 use Rattle.mix_minus.specs.declared.input.Input.{Input}
 use Rattle.rtp_codec.specs.Packet.{number_octets}
 use Rattle.mix_minus.specs.Mix.{IsTotal, ReachTo, present_in}
-use Rattle.mix_minus.specs.inner.Passes.{AreSmall}
-use Rattle.mixer.specs.Hearing.{room_rate}
+use Rattle.mix_minus.specs.Sums.{AreSmall}
+use Rattle.topology.specs.Looking.{room_rate}
+use Rattle.mixer.specs.inner.Counted.{member_of, AreBefore}
 use Rattle.mixer.specs.inner.Rooms.{plain, plain_voice, of_room}
 use Rattle.mixer.proofs.RoomInputs.{reach_of}
 use Rattle.mixer.proofs.rooms.room_of.Goals as goal
@@ -36,6 +37,8 @@ returns-clause-is g c =
       few = omega (arith, ap length c.in_ok-inputs.ensures, length-map inputs plain, length-map ws plain_voice, c.requires.few);
       total = subst (IsTotal inputs) (sym all) (subst (λ (xs : List Input). IsTotal xs out) c.deref.ensures.value c.room_total.ensures.total);
       small = subst (AreSmall 16777216) (sym all) c.room_total.ensures.small;
+      members = c.in_ok-members.ensures ∙ ap (map member_of) c.deref-3.ensures.value;
+      before = subst (λ (xs : List Input). AreBefore c.in_ok-before.before.items xs) c.deref-4.ensures.value c.in_ok-before.ensures;
       named = c.in_ok-named.ensures ∙ ap (λ xs. number_octets (present_in xs)) c.deref-2.ensures.value;
       long = ap length all ∙ long ∙ c.in_ok-resize.ensures.len ∙ c.tick_at.ensures;
     }

@@ -1,7 +1,7 @@
-use Rattle.std.proofs.Common.{◌≡◌, true, ℕ, ◌<◌, ◌∷◌, ◌++◌, List, Some, slice_index_or, take, drop, suc, length, ap, sym, ◌∙◌}
+use Rattle.std.proofs.Common.{◌≡◌, ℕ, ◌<◌, ◌∷◌, ◌++◌, List, Some, slice_index_or, take, drop, suc, length, ap, sym, ◌∙◌}
 use Rattle.std.proofs.Math.Seq.{split_at}
 use Rattle.desk_rows.specs.declared.row.Member.{Member as MemberRow}
-use Rattle.desk_rows.specs.Desk.{Desk, good}
+use Rattle.desk_rows.specs.Desk.{Desk}
 use Rattle.topology.specs.Mixes.{mix_member}
 use Rattle.mixer.proofs.streams.mix_member.Goals as goal
 

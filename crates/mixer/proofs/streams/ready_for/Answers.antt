@@ -1,4 +1,4 @@
-use Rattle.std.proofs.Common.{◌≡◌, List, Option, IfSome, ap, subst, ◌∙◌, refl, [], ◌∷◌}
+use Rattle.std.proofs.Common.{List, Option, IfSome, ap, subst, ◌∙◌, refl, [], ◌∷◌}
 use Rattle.forward_rewrite.specs.Mixes.{MixOf, PreparedMixOf, GivesTick, sounding}
 use Rattle.mixer.specs.Hearing.{Voice}
 use Rattle.mixer.specs.inner.Rooms.{IsRoom}

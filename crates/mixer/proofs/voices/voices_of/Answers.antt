@@ -1,9 +1,10 @@
-use Rattle.std.proofs.Common.{◌≡◌, List, length, map, take, ap, sym, subst, ◌∙◌, ◌++◌, ◌∷◌, [], arith}
+use Rattle.std.proofs.Common.{◌≡◌, length, map, take, ap, sym, subst, ◌∙◌, ◌++◌, ◌∷◌, [], arith}
 use Rattle.std.proofs.lemmas.List.{map_more, map_push, take_more, take_all}
 use Rattle.media_items.specs.Formats.{tick_at}
 use Rattle.mixer.proofs.Listed.{in_its_room, source_of}
 use Rattle.mixer.proofs.StreamSteps.{all-push}
-use Rattle.mixer.specs.Hearing.{Voice, room_rate, voice_of}
+use Rattle.topology.specs.Looking.{room_rate}
+use Rattle.mixer.specs.Hearing.{Voice, voice_of}
 use Rattle.mixer.specs.inner.Rooms.{AreLong}
 use Rattle.mixer.proofs.voices.voices_of.Goals as goal
 
@@ -12,7 +13,7 @@ loop-source-preserved g c =
     let d = c.args.rows.now in
     let n = c.loop-source.source-index in
     let voice = c.in_ok-voice.voice in
-    let rate = c.room_rate-rate.ensures in
+    let rate = c.rate_in-rate.ensures.rate in
     let source = c.in_ok-voice.ensures.source in
     record {
       heard = λ given has.
@@ -28,6 +29,7 @@ loop-source-preserved g c =
       long = subst (AreLong d) (sym c.in_ok-push.ensures.items)
           (all-push (λ (v : Voice). length v.samples ≡ tick_at (room_rate d v.source.room)) c.loop-source.voices.items voice c.loop-source.invariant.long
           (c.in_ok-voice.ensures.long ∙ ap tick_at rate ∙ ap (λ s. tick_at (room_rate d s.room)) (sym source)));
+      last = c.rate_in-rate.ensures.last;
     }
 
 pub returns-clause-heard : goal.returns-clause-heard
