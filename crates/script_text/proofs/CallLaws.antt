@@ -15,17 +15,17 @@ use Rattle.script_text.specs.declared.name.Kind.{Kind}
 use Rattle.script_text.specs.declared.name.Kind.TheVariants as kinds
 use Rattle.script_text.specs.Words.{words_of, word_at, none_left, value_or}
 use Rattle.script_text.specs.Values.{field_of, value_text, Fits, AllFit, values_of, value_at, number_at, address_at, number_in}
-use Rattle.script_text.specs.Calls.{name_text, fields_of, command_of, command_words, is_slash, commands_of, group_words, AreCommands, head_text, all_heads, head_of, last_of, headed, single, call_by, call_of, call_words, call_line, IsCall}
+use Rattle.script_text.specs.Calls.{name_text, fields_of, command_of, SpellCommand, is_slash, commands_of, group_words, SpellCommands, AreCommands, head_text, all_heads, head_of, last_of, headed, single, call_by, call_of, call_words, SpellCall, call_line, IsCall}
 use Rattle.frame_gate.specs.declared.frame.FrameFault.{FrameFault}
 use Rattle.frame_gate.specs.Frame.{fault_of}
 use Rattle.media_items.specs.Frame.{SourceFrame}
 use Rattle.rtp_codec.specs.declared.address.Address.{Address as Endpoint}
-use Rattle.script_text.specs.Requests.{Desk, kind_text, line_kind_of, line_kinds, front_of, some_packets, sighted, framed, frame_of, some_octets, rx_of, request_with, words_request, desk_line}
+use Rattle.script_text.specs.Requests.{Desk, kind_text, line_kind_of, line_kinds, front_of, some_packets, sighted, framed, frame_of, some_octets, rx_of, request_with, words_request, desk_words, desk_line}
 use Rattle.script_text.proofs.Joined.{AllFree, free_test, parts_joined}
 use Rattle.script_text.proofs.PartLemmas.{some_parts}
 use Rattle.script_text.proofs.ValueLaws.{found_text, free_values, bind_ok, word_back, or_back, values_back, values_again}
-use Rattle.script_text.proofs.CommandLaws.{name_no_head, head_free, kind_free, none_back, command_again, command_back, command_free}
-use Rattle.script_text.proofs.GroupLaws.{joined, joined_again, joined_words, commands_again, commands_back, group_free}
+use Rattle.script_text.proofs.CommandLaws.{name_no_head, head_free, kind_free, none_back, command_spelt, command_again, command_back, command_free}
+use Rattle.script_text.proofs.GroupLaws.{group_spelt, commands_again, commands_back, group_free}
 
 -- ---- undo and redo
 
@@ -60,23 +60,36 @@ last_back place words last e =
 
 -- ---- calls
 
--- the words of a call are read as the call
-pub call_again : (base : ℕ) (c : CallOf) → IsCall c → call_of base (call_words c) ≡ Ok c
+-- the words of a call spell it
+call_spelt : (c : CallOf) → IsCall c → SpellCall (call_words c) c
+call_spelt (Apply c) h = command_spelt c
+call_spelt (Group []) h = absurd h
+call_spelt (Group (c ∷ cs)) h = (group_words (c ∷ cs), refl, group_spelt c cs h)
+call_spelt (Undo last) h = refl
+call_spelt (Redo last) h = refl
+
+-- words that spell a command begin no other call
+command_begins : (base : ℕ) (words : List (List ℕ)) (c : Command) → SpellCommand words c → call_of base words ≡ single (base + 1) words
+unfolding call_of
+command_begins base words c spelt = rw (spelt.1, name_no_head (fields_of c).name) refl
+
+-- words that spell a call are read as the call
+pub call_again : (base : ℕ) (words : List (List ℕ)) (c : CallOf) → SpellCall words c → IsCall c → call_of base words ≡ Ok c
 unfolding call_of single headed
-call_again base (Apply c) h = rw (name_no_head (fields_of c).name, command_again (base + 1) c h) refl
-call_again base (Group []) h = absurd h
-call_again base (Group (c ∷ cs)) h = rw (commands_again (base + 1 + 1) c cs h) refl
-call_again base (Undo last) h = rw (last_again (base + 1 + 1) last h) refl
-call_again base (Redo last) h = rw (last_again (base + 1 + 1) last h) refl
+call_again base words (Apply c) spelt h = command_begins base words c spelt ∙ rw (command_again (base + 1) words c spelt h) refl
+call_again base words (Group []) spelt h = absurd h
+call_again base words (Group (c ∷ cs)) spelt h = rw (spelt.1, commands_again (base + 1 + 1) (slice_split is_slash spelt.0) (c ∷ cs) spelt.2 h) refl
+call_again base words (Undo last) spelt h = rw (spelt, last_again (base + 1 + 1) last h) refl
+call_again base words (Redo last) spelt h = rw (spelt, last_again (base + 1 + 1) last h) refl
 
--- words are those of a call, whose numbers are in range
+-- words spell a call, whose numbers are in range
 abbrev IsOf : List (List ℕ) → CallOf → Type 0
-IsOf words c = (words ≡ call_words c) × IsCall c
+IsOf words c = SpellCall words c × IsCall c
 
-group_back : (behind : List (List ℕ)) (cs : List Command) → slice_split is_slash behind ≡ map command_words cs → AreCommands cs → IsOf (head_text heads.Group ∷ behind) (Group cs)
-group_back behind [] is h = let rest = some_parts is_slash behind in let none : [] ≡ rest.0 ∷ rest.1 = sym is ∙ rest.2 in absurd cc
-group_back behind (c ∷ cs) is h =
-    (ap (λ (t : List (List ℕ)). head_text heads.Group ∷ t) (sym (joined_again behind) ∙ (ap joined is ∙ joined_words (c ∷ cs))), h)
+group_back : (behind : List (List ℕ)) (cs : List Command) → SpellCommands (slice_split is_slash behind) cs → AreCommands cs → IsOf (head_text heads.Group ∷ behind) (Group cs)
+group_back behind [] spelt h =
+    let rest = some_parts is_slash behind in absurd (subst (λ (parts : List (List (List ℕ))). SpellCommands parts []) rest.2 spelt)
+group_back behind (c ∷ cs) spelt h = ((behind, refl, spelt), h)
 
 headed_back : (h : Head) (place : ℕ) (behind : List (List ℕ)) (c : CallOf) → headed h place behind ≡ Ok c → IsOf (head_text h ∷ behind) c
 unfolding headed
@@ -103,8 +116,8 @@ single_back place words c e =
     let is : Apply one.0 ≡ c = cc (one.2) in
     subst (IsOf words) is (command_back place words one.0 one.1)
 
--- words that are read as a call are its words
-pub call_back : (base : ℕ) (words : List (List ℕ)) (c : CallOf) → call_of base words ≡ Ok c → (words ≡ call_words c) × IsCall c
+-- words that are read as a call spell it
+pub call_back : (base : ℕ) (words : List (List ℕ)) (c : CallOf) → call_of base words ≡ Ok c → SpellCall words c × IsCall c
 unfolding call_of
 call_back base words c e =
     let w = bind_ok (word_at (base + 1) words) _ c e in
@@ -113,8 +126,8 @@ call_back base words c e =
     by : (h : Option Head) (w : List ℕ × List (List ℕ)) → words ≡ w.0 ∷ w.1 → head_of w.0 ≡ h → call_by h (base + 1) words w.1 ≡ Ok c → IsOf words c
     by None w is none e = single_back (base + 1) words c e
     by (Some h) w is found e =
-        let b = headed_back h (base + 1) w.1 c e in
-        (is ∙ (ap (λ (t : List ℕ). t ∷ w.1) (found_text head_text w.0 all_heads h found) ∙ b.0), b.1)
+        let text : head_text h ∷ w.1 ≡ words = ap (λ (t : List ℕ). t ∷ w.1) (sym (found_text head_text w.0 all_heads h found)) ∙ sym is in
+        subst (λ (ws : List (List ℕ)). IsOf ws c) text (headed_back h (base + 1) w.1 c e)
 
 words_free : (c : CallOf) → IsCall c → AllFree 32 (call_words c)
 words_free (Apply c) h = command_free c h
@@ -138,13 +151,7 @@ words_again c h =
 
 -- a call's line is read as the call
 pub line_again : (c : CallOf) → IsCall c → call_of 0 (words_of (call_line c)) ≡ Ok c
-line_again c h = ap (call_of 0) (words_again c h) ∙ call_again 0 c h
-
--- a line that is read as a call is the call's line
-pub line_back : (line : List ℕ) (c : CallOf) → call_of 0 (words_of line) ≡ Ok c → (line ≡ call_line c) × IsCall c
-line_back line c e =
-    let b = call_back 0 (words_of line) c e in
-    (sym (join_with_byte-slice_split 32 line) ∙ ap (join_with_byte 32) b.0, b.1)
+line_again c h = ap (call_of 0) (words_again c h) ∙ call_again 0 (call_words c) c (call_spelt c h) h
 
 -- ---- the line of an operator
 
@@ -178,15 +185,15 @@ desk_by kinds.Tick vs words op c e = let none = bind_ok (none_left 3 words) _ (D
 desk_by kinds.Report vs words op c e = let none = bind_ok (none_left 3 words) _ (Desk op c) e in absurd cc
 desk_by kinds.Show vs words op c e = let none = bind_ok (none_left 2 words) _ (Desk op c) e in absurd cc
 
-desk_words : (op : ℕ) (c : CallOf) → op ≤ 15 → IsCall c → words_request (kind_text kinds.Desk ∷ value_text (values.Operator op) ∷ call_words c) ≡ Ok (Desk op c)
+operator_again : (op : ℕ) (c : CallOf) → op ≤ 15 → IsCall c → words_request (desk_words op (call_words c)) ≡ Ok (Desk op c)
 unfolding words_request
-desk_words op c small h = rw (values_again 2 (values.Operator op ∷ []) (call_words c) (small, tt), call_again 2 c h) refl
+operator_again op c small h = rw (values_again 2 (values.Operator op ∷ []) (call_words c) (small, tt), call_again 2 (call_words c) c (call_spelt c h) h) refl
 
 pub desk_again : (op : ℕ) (c : CallOf) → op ≤ 15 → IsCall c → words_request (words_of (desk_line op c)) ≡ Ok (Desk op c)
 desk_again op c small h =
     let texts = free_values (values.Operator op ∷ []) (small, tt) in
     ap words_request (parts_joined 32 (kind_text kinds.Desk) (value_text (values.Operator op) ∷ call_words c) (free_test 32 (kind_text kinds.Desk) (kind_free kinds.Desk)) (texts.0, words_free c h))
-    ∙ desk_words op c small h
+    ∙ operator_again op c small h
 
 -- an operator's value
 operator_of : (vs : List Value) → map field_of vs ≡ fields.Operator ∷ [] → AllFit vs → (op : ℕ) × (vs ≡ values.Operator op ∷ []) × (op ≤ 15)
@@ -200,7 +207,8 @@ operator_of (values.Address a ∷ vs) h fit = absurd cc
 operator_of (values.Codec codec ∷ vs) h fit = absurd cc
 operator_of (values.Media media ∷ vs) h fit = absurd cc
 
-pub desk_back : (line : List ℕ) (op : ℕ) (c : CallOf) → words_request (words_of line) ≡ Ok (Desk op c) → (line ≡ desk_line op c) × (op ≤ 15) × IsCall c
+pub desk_back : (line : List ℕ) (op : ℕ) (c : CallOf) → words_request (words_of line) ≡ Ok (Desk op c)
+    → (words : List (List ℕ)) × (line ≡ join_with_byte 32 (desk_words op words)) × SpellCall words c × (op ≤ 15) × IsCall c
 unfolding words_request
 desk_back line op c e =
     let w = bind_ok (word_at 1 (words_of line)) _ (Desk op c) e in
@@ -212,11 +220,13 @@ desk_back line op c e =
     let o = operator_of r.0.0 (v.1 ∙ ap front_of d.0) v.2 in
     let same : o.0 ≡ op = ap (λ (vs : List Value). number_in (value_at 0 vs)) (sym o.1) ∙ d.1 in
     let first : w.0.0 ≡ kind_text kinds.Desk = found_text kind_text w.0.0 line_kinds k.0 (or_back 1 UnknownWord (line_kind_of w.0.0) k.0 k.1) ∙ ap kind_text d.0 in
-    let others : w.0.1 ≡ value_text (values.Operator op) ∷ call_words c =
-    v.0 ∙ (ap (λ (vs : List Value). map value_text vs ++ r.0.1) o.1 ∙ (ap (λ (n : ℕ). value_text (values.Operator n) ∷ r.0.1) same ∙ ap (λ (t : List (List ℕ)). value_text (values.Operator op) ∷ t) b.0)) in
-    let all : words_of line ≡ kind_text kinds.Desk ∷ value_text (values.Operator op) ∷ call_words c =
+    let others : w.0.1 ≡ value_text (values.Operator op) ∷ r.0.1 =
+    v.0 ∙ (ap (λ (vs : List Value). map value_text vs ++ r.0.1) o.1 ∙ ap (λ (n : ℕ). value_text (values.Operator n) ∷ r.0.1) same) in
+    let all : words_of line ≡ desk_words op r.0.1 =
     word_back 1 (words_of line) w.0 w.1 ∙ (ap (λ (t : List ℕ). t ∷ w.0.1) first ∙ ap (λ (t : List (List ℕ)). kind_text kinds.Desk ∷ t) others) in (
+      r.0.1,
       sym (join_with_byte-slice_split 32 line) ∙ ap (join_with_byte 32) all,
+      b.0,
       subst (λ (n : ℕ). n ≤ 15) same o.2,
       b.1,
     )

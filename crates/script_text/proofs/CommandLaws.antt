@@ -15,7 +15,7 @@ use Rattle.script_text.specs.declared.name.Head.{Head}
 use Rattle.script_text.specs.declared.name.Kind.{Kind}
 use Rattle.script_text.specs.Words.{word_at, none_left, value_or}
 use Rattle.script_text.specs.Values.{field_of, value_text, AllFit, values_of, value_at, number_in, address_in, codec_in, media_in}
-use Rattle.script_text.specs.Calls.{name_text, all_names, name_of, shape_of, Spelt, fields_of, command_with, command_of, command_words, IsCommand, is_slash, head_text, head_of}
+use Rattle.script_text.specs.Calls.{name_text, all_names, name_of, shape_of, Spelt, fields_of, command_with, with_rate, command_of, command_words, SpellCommand, IsCommand, is_slash, head_text, head_of}
 use Rattle.script_text.specs.Requests.{kind_text}
 use Rattle.script_text.proofs.Joined.{AllFree, free_test}
 use Rattle.script_text.proofs.ValueLaws.{found_text, free_values, bind_ok, word_back, or_back, values_back, values_again}
@@ -106,39 +106,53 @@ read_all shape vs h = read_drop 0 shape vs h
 pub says_back : (n : Name) (vs : List Value) → map field_of vs ≡ shape_of n → fields_of (command_with n vs) ≡ record { name = n; values = vs }
 says_back n vs h = says n vs ∙ ap (λ (t : List Value). record { name = n; values = t }) (read_all (shape_of n) vs h)
 
+-- words spell a name with values
+abbrev Spells : List (List ℕ) → Spelt → Type 0
+Spells words s = (behind : List (List ℕ)) × (words ≡ name_text s.name ∷ behind) × (with_rate s.name behind ≡ map value_text s.values)
+
 pub none_back : (place : ℕ) (words : List (List ℕ)) → none_left place words ≡ Ok tt → words ≡ []
 none_back place [] e = refl
 none_back place (w ∷ ws) e = absurd cc
 
 -- ---- commands
 
--- the words of a command are read as the command
-pub command_again : (place : ℕ) (c : Command) → IsCommand c → command_of place (command_words c) ≡ Ok c
-unfolding command_of
-command_again place c h =
-    let s = fields_of c in
-    let texts = map value_text s.values in
-    let read : values_of (place + 1) (shape_of s.name) texts ≡ Ok (s.values, []) =
-    subst (λ (shape : List Field). values_of (place + 1) shape texts ≡ Ok (s.values, [])) (shaped c)
-    (subst (λ (ws : List (List ℕ)). values_of (place + 1) (map field_of s.values) ws ≡ Ok (s.values, [])) (append-nil texts) (values_again (place + 1) s.values [] h)) in
-    rw (name_again s.name, read, rebuilds c) refl
+-- the words of a command name the rate of its room
+rated : (c : Command) → with_rate (fields_of c).name (map value_text (fields_of c).values) ≡ map value_text (fields_of c).values
+rated c = grind arith
 
--- words that are read as a command are its words
-pub command_back : (place : ℕ) (words : List (List ℕ)) (c : Command) → command_of place words ≡ Ok c → (words ≡ command_words c) × IsCommand c
+-- a command's words spell it
+pub command_spelt : (c : Command) → SpellCommand (command_words c) c
+command_spelt c = (map value_text (fields_of c).values, refl, rated c)
+
+values_read : (place : ℕ) (c : Command) → IsCommand c → values_of place (shape_of (fields_of c).name) (map value_text (fields_of c).values) ≡ Ok ((fields_of c).values, [])
+values_read place c h =
+    let vs = (fields_of c).values in
+    let texts = map value_text vs in
+    subst (λ (shape : List Field). values_of place shape texts ≡ Ok (vs, [])) (shaped c)
+    (subst (λ (ws : List (List ℕ)). values_of place (map field_of vs) ws ≡ Ok (vs, [])) (append-nil texts) (values_again place vs [] h))
+
+-- words that spell a command are read as the command
+pub command_again : (place : ℕ) (words : List (List ℕ)) (c : Command) → SpellCommand words c → IsCommand c → command_of place words ≡ Ok c
+unfolding command_of
+command_again place words c spelt h =
+    rw (spelt.1, name_again (fields_of c).name, spelt.2, values_read (place + 1) c h, rebuilds c) refl
+
+-- words that are read as a command spell it
+pub command_back : (place : ℕ) (words : List (List ℕ)) (c : Command) → command_of place words ≡ Ok c → SpellCommand words c × IsCommand c
 unfolding command_of
 command_back place words c e =
     let w = bind_ok (word_at place words) _ c e in
     let n = bind_ok (value_or place UnknownWord (name_of w.0.0)) _ c w.2 in
-    let r = bind_ok (values_of (place + 1) (shape_of n.0) w.0.1) _ c n.2 in
+    let r = bind_ok (values_of (place + 1) (shape_of n.0) (with_rate n.0 w.0.1)) _ c n.2 in
     let l = bind_ok (none_left (place + 1 + length (shape_of n.0)) r.0.1) _ c r.2 in
     let is : command_with n.0 r.0.0 ≡ c = cc (l.2) in
-    let b = values_back (place + 1) (shape_of n.0) w.0.1 r.0 r.1 in
+    let b = values_back (place + 1) (shape_of n.0) (with_rate n.0 w.0.1) r.0 r.1 in
     let said : fields_of c ≡ record { name = n.0; values = r.0.0 } = ap fields_of (sym is) ∙ says_back n.0 r.0.0 b.1 in
     let name : w.0.0 ≡ name_text n.0 = found_text name_text w.0.0 all_names n.0 (or_back place UnknownWord (name_of w.0.0) n.0 n.1) in
     let none : r.0.1 ≡ [] = none_back _ r.0.1 l.1 in
-    let behind : w.0.1 ≡ map value_text r.0.0 = b.0 ∙ (ap (λ (t : List (List ℕ)). map value_text r.0.0 ++ t) none ∙ append-nil (map value_text r.0.0)) in
-    let text : words ≡ name_text n.0 ∷ map value_text r.0.0 = word_back place words w.0 w.1 ∙ (ap (λ (t : List ℕ). t ∷ w.0.1) name ∙ ap (λ (t : List (List ℕ)). name_text n.0 ∷ t) behind) in (
-      text ∙ ap (λ (s : Spelt). name_text s.name ∷ map value_text s.values) (sym said),
+    let filled : with_rate n.0 w.0.1 ≡ map value_text r.0.0 = b.0 ∙ (ap (λ (t : List (List ℕ)). map value_text r.0.0 ++ t) none ∙ append-nil (map value_text r.0.0)) in
+    let text : words ≡ name_text n.0 ∷ w.0.1 = word_back place words w.0 w.1 ∙ ap (λ (t : List ℕ). t ∷ w.0.1) name in (
+      subst (λ (s : Spelt). Spells words s) (sym said) (w.0.1, text, filled),
       subst (λ (s : Spelt). AllFit s.values) (sym said) b.2,
     )
 

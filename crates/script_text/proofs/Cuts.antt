@@ -1,10 +1,13 @@
 -- The first word of a text.
 use Rattle.std.proofs.Common.{◌≡◌, ℕ, ◌+◌, ◌<◌, ◌≤◌, List, [], ◌∷◌, length, Some, None, refl, sym, ap, ◌∙◌, arith, eqb, Bool, true, false, cond, Err, inl, inr}
+use Rattle.std.specs.Prelude.{Option, is_some, not, ◌==◌}
+use Rattle.std.specs.Borrow.{Bor}
 use Rattle.std.specs.List.{slice_split, onto_first, position_or_len, before_first, after_first}
 use Rattle.std.proofs.lemmas.List.Splits.{slice_split_first, slice_split_none}
 use Rattle.std.proofs.lemmas.List.Sums.{fails_before_first}
-use Rattle.std.proofs.lemmas.Bool.{cases_lt, lt-ltb, le-ltb}
+use Rattle.std.proofs.lemmas.Bool.{cases_lt, lt-ltb, le-ltb, eqb-true, ne_eqb}
 use Rattle.script_text.specs.Words.{cut_of, words_of, none_left}
+use Rattle.script_text.specs.inner.Cursor.{words_in}
 use Rattle.script_text.specs.declared.fault.Fault.TheVariants.{ExtraWord}
 
 pub cut_found : (at : ℕ) (text : List ℕ) → position_or_len (λ b. eqb b at) text < length text → cut_of at text ≡ Some (before_first (λ b. eqb b at) text, after_first (λ b. eqb b at) text)
@@ -92,3 +95,16 @@ many_parts at a x y z w e f h i =
   where
     not_none : (at : ℕ) (text : List ℕ) (x : List ℕ × List ℕ) → Some x ≡ cut_of at text → length (slice_split (λ b. eqb b at) text) ≡ 1 → ⊥
     not_none at text x e k = absurd (omega (arith, k, ap length (split_cut at text x e), some_part at x.1))
+
+-- a text is one word where none stands behind its first
+pub one_word : (text word : List ℕ) (behind : Option (Bor (List ℕ))) (none : Bool) → words_of text ≡ word ∷ words_in behind → is_some behind ≡ not none → none ≡ (length (words_of text) == 1)
+one_word text word None true e is = rw e refl
+one_word text word None false e is = absurd cc
+one_word text word (Some rest) true e is = absurd cc
+one_word text word (Some rest) false e is = sym (ne_eqb (length (words_of text)) 1 (λ one. omega (arith, one, ap length e, some_part 32 rest.now)))
+
+-- one word, and no other
+pub only_one : (words : List (List ℕ)) → (length words == 1) ≡ true → (word : List ℕ) × (words ≡ word ∷ [])
+only_one [] h = absurd cc
+only_one (word ∷ []) h = (word, refl)
+only_one (word ∷ next ∷ words) h = absurd (omega (arith, eqb-true (length (word ∷ next ∷ words)) 1 h))

@@ -24,7 +24,7 @@ use Rattle.desk_edit.specs.Groups.{part_or_later, part_refused}
 use Rattle.desk_edit.specs.Forms.{form_of}
 use Rattle.desk_edit.specs.Refusals.{cases_of, first_case, reason_against, refused}
 use Rattle.desk_edit.specs.Calls.{refusal_at, or_log_full}
-use Rattle.script_text.specs.Judged.{log_case, told_as, part_cases, call_cases, case_numbers, Rises, IsSingle}
+use Rattle.script_text.specs.Judged.{log_case, told_as, part_cases, call_cases, case_numbers, turn_of, Rises, IsSingle}
 
 log_last : (cases : List (Bool × Refusal)) (version : ℕ) → or_log_full (first_case cases) version ≡ first_case (cases ++ log_case version ∷ [])
 log_last [] version = refl
@@ -83,7 +83,7 @@ by_test (n ∷ m ∷ ns) h =
     let first : nat_le n m ≡ true = both.0 in
     (grind (arith, nat_tests), by_test (m ∷ ns) both.1)
 
-tested : (version done undone : ℕ) (d : Desk) (call : CallOf) → IsSingle call → rises (case_numbers (call_cases version d done undone call)) ≡ true
+tested : (version done undone : ℕ) (d : Desk) (call : CallOf) → IsSingle call → rises (map turn_of (case_numbers (call_cases version d done undone call))) ≡ true
 tested version done undone d (Apply (AddRoom r)) single = refl
 tested version done undone d (Apply (RemoveRoom room)) single = refl
 tested version done undone d (Apply (AddMember m)) single = refl
@@ -106,8 +106,8 @@ tested version done undone d (Group commands) single = absurd single
 tested version done undone d (Undo last) single = refl
 tested version done undone d (Redo last) single = refl
 
-pub rising : (version done undone : ℕ) (d : Desk) (call : CallOf) → IsSingle call → Rises (case_numbers (call_cases version d done undone call))
-rising version done undone d call single = by_test (case_numbers (call_cases version d done undone call)) (tested version done undone d call single)
+pub rising : (version done undone : ℕ) (d : Desk) (call : CallOf) → IsSingle call → Rises (map turn_of (case_numbers (call_cases version d done undone call)))
+rising version done undone d call single = by_test (map turn_of (case_numbers (call_cases version d done undone call))) (tested version done undone d call single)
 
 -- ---- the numbers of a group's refusals
 
@@ -137,4 +137,5 @@ part reasons.SsrcTaken = refl
 part reasons.BadValue = refl
 part reasons.Already = refl
 part reasons.NotThere = refl
+part reasons.RateMismatch = refl
 part (reasons.Full table limit) = refl

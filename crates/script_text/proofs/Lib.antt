@@ -2,6 +2,7 @@ pub mod Cuts
 pub mod PartLemmas
 pub mod GroupLemmas
 pub mod ValueSteps
+pub mod RateLemmas
 pub mod NumberLemmas
 pub mod PacketLemmas
 pub mod Known

@@ -1,6 +1,6 @@
 -- The lines of calls (own): the tables of their first words, of the fields behind each, and of what these are in a
 -- call.
-use Rattle.std.specs.Prelude.{ℕ, ◌+◌, ◌==◌, Bool, List, [], ◌∷◌, ◌++◌, map, length}
+use Rattle.std.specs.Prelude.{◌≡◌, ℕ, ◌+◌, ◌==◌, Bool, List, [], ◌∷◌, ◌++◌, map, length}
 use Rattle.std.specs.Prelude.{nat_lt, codes, Option, Some, None, Result, Ok, Err, if◌then◌else◌}
 use Rattle.std.specs.List.{find, join_with_byte, slice_split}
 use Rattle.std.specs.Str.{bytes_eq}
@@ -49,6 +49,20 @@ name_text names.Unpin = codes "unpin"
 name_text names.GiveFloor = codes "give-floor"
 name_text names.TakeFloor = codes "take-floor"
 
+-- the names of commands that set what is heard and seen
+abbrev pub setting_names : List Name
+setting_names =
+    names.Subscribe
+    ∷ names.Unsubscribe
+    ∷ names.SetGain
+    ∷ names.Mute
+    ∷ names.Unmute
+    ∷ names.Pin
+    ∷ names.Unpin
+    ∷ names.GiveFloor
+    ∷ names.TakeFloor
+    ∷ []
+
 -- all names
 abbrev pub all_names : List Name
 all_names =
@@ -61,20 +75,11 @@ all_names =
     ∷ names.RemoveSource
     ∷ names.AddSlot
     ∷ names.RemoveSlot
-    ∷ names.Subscribe
-    ∷ names.Unsubscribe
-    ∷ names.SetGain
-    ∷ names.Mute
-    ∷ names.Unmute
-    ∷ names.Pin
-    ∷ names.Unpin
-    ∷ names.GiveFloor
-    ∷ names.TakeFloor
-    ∷ []
+    ∷ setting_names
 
 -- the fields behind a name
 abbrev pub shape_of : Name → List Field
-shape_of names.AddRoom = fields.U32 ∷ []
+shape_of names.AddRoom = fields.U32 ∷ fields.U32 ∷ []
 shape_of names.RemoveRoom = fields.U32 ∷ []
 shape_of names.AddMember =
     fields.U32 ∷ fields.U32 ∷ fields.Address ∷ fields.Codec ∷ fields.U32 ∷ fields.U16 ∷ fields.U32 ∷ []
@@ -101,7 +106,7 @@ pub record Spelt : Type 0 where
 
 -- what the words of a command say
 abbrev pub fields_of : Command → Spelt
-fields_of (AddRoom r) = record { name = names.AddRoom; values = U32 r.room ∷ [] }
+fields_of (AddRoom r) = record { name = names.AddRoom; values = U32 r.room ∷ U32 r.rate ∷ [] }
 fields_of (RemoveRoom room) = record { name = names.RemoveRoom; values = U32 room ∷ [] }
 fields_of (AddMember m) = record {
   name = names.AddMember;
@@ -129,7 +134,7 @@ fields_of (TakeFloor room) = record { name = names.TakeFloor; values = U32 room 
 
 -- the command of a name with values of its fields
 abbrev pub command_with : Name → List Value → Command
-command_with names.AddRoom vs = AddRoom (record { room = number_at 0 vs })
+command_with names.AddRoom vs = AddRoom (record { room = number_at 0 vs; rate = number_at 1 vs })
 command_with names.RemoveRoom vs = RemoveRoom (number_at 0 vs)
 command_with names.AddMember vs =
     AddMember (record {
@@ -170,18 +175,33 @@ command_with names.TakeFloor vs = TakeFloor (number_at 0 vs)
 abbrev pub name_of : List ℕ → Option Name
 name_of word = find (λ name. bytes_eq word (name_text name)) all_names
 
+-- the one of these settings that a word is
+abbrev pub setting_of : List ℕ → Option Name
+setting_of word = find (λ name. bytes_eq word (name_text name)) setting_names
+
+-- the words behind a name, with the rate of a room that names none
+abbrev pub with_rate : Name → List (List ℕ) → List (List ℕ)
+with_rate names.AddRoom (room ∷ []) = room ∷ codes "8000" ∷ []
+with_rate name words = words
+
 -- the command that words spell, of which the first stands at this place on the line
 unfoldable pub command_of : ℕ → List (List ℕ) → Result Command (ℕ × Fault)
 command_of place words = do
   word ← word_at place words
   name ← value_or place UnknownWord (name_of word.0)
-  read ← values_of (place + 1) (shape_of name) word.1
+  read ← values_of (place + 1) (shape_of name) (with_rate name word.1)
   end ← none_left (place + 1 + length (shape_of name)) read.1
   Ok (command_with name read.0)
 
 -- the words of a command
 abbrev pub command_words : Command → List (List ℕ)
 command_words command = name_text (fields_of command).name ∷ map value_text (fields_of command).values
+
+-- words spell a command: its name, and its values behind it, where a room's rate of 8000 Hz may be left out
+abbrev pub SpellCommand : List (List ℕ) → Command → Type 0
+SpellCommand words command =
+    (behind : List (List ℕ)) × (words ≡ name_text (fields_of command).name ∷ behind)
+    × (with_rate (fields_of command).name behind ≡ map value_text (fields_of command).values)
 
 -- the numbers of a command are in range
 abbrev pub IsCommand : Command → Type 0
@@ -211,6 +231,13 @@ abbrev pub group_words : List Command → List (List ℕ)
 group_words [] = []
 group_words (command ∷ []) = command_words command
 group_words (command ∷ next ∷ commands) = command_words command ++ slash ∷ group_words (next ∷ commands)
+
+-- the parts of a group spell its commands, one after another
+abbrev pub SpellCommands : List (List (List ℕ)) → List Command → Type 0
+SpellCommands [] [] = Unit {0}
+SpellCommands (part ∷ parts) (command ∷ commands) = SpellCommand part command × SpellCommands parts commands
+SpellCommands [] (command ∷ commands) = ⊥
+SpellCommands (part ∷ parts) [] = ⊥
 
 -- the numbers of all commands are in range
 abbrev pub AreCommands : List Command → Type 0
@@ -275,6 +302,15 @@ call_words (Apply command) = command_words command
 call_words (Group commands) = head_text heads.Group ∷ group_words commands
 call_words (Undo last) = head_text heads.Undo ∷ value_text (U64 last) ∷ []
 call_words (Redo last) = head_text heads.Redo ∷ value_text (U64 last) ∷ []
+
+-- words spell a call: they are its words, where a room's rate of 8000 Hz may be left out
+abbrev pub SpellCall : List (List ℕ) → CallOf → Type 0
+SpellCall words (Apply command) = SpellCommand words command
+SpellCall words (Group commands) =
+    (behind : List (List ℕ)) × (words ≡ head_text heads.Group ∷ behind)
+    × SpellCommands (slice_split is_slash behind) commands
+SpellCall words (Undo last) = words ≡ call_words (Undo last)
+SpellCall words (Redo last) = words ≡ call_words (Redo last)
 
 -- the line of a call: its words with spaces (32) between them
 abbrev pub call_line : CallOf → List ℕ

@@ -1,5 +1,6 @@
 -- In which order the reasons against a call are asked, out of memory apart (own).
-use Rattle.std.specs.Prelude.{ℕ, ◌+◌, ◌≤◌, Bool, not, nat_eq, nat_lt, List, [], ◌∷◌, ◌++◌, length, map}
+use Rattle.std.specs.Prelude.{ℕ, ◌+◌, ◌≤◌, ◌==◌, Bool, not, nat_eq, nat_lt, List, [], ◌∷◌, ◌++◌, length, map}
+use Rattle.std.specs.Prelude.{position, unwrap_or}
 use Rattle.undo_log.specs.declared.history.TheConstants.{LIMIT}
 use Rattle.desk_rows.specs.Desk.{Desk}
 use Rattle.desk_edit.specs.declared.command.Command.{Command}
@@ -53,6 +54,14 @@ IsSingle (Apply command) = Unit {0}
 IsSingle (Group commands) = ⊥
 IsSingle (Undo last) = Unit {0}
 IsSingle (Redo last) = Unit {0}
+
+-- the numbers of the refusals of a single call, as they are asked: RateMismatch (21) behind Full (12)
+abbrev pub asking_order : List ℕ
+asking_order = 1 ∷ 2 ∷ 3 ∷ 4 ∷ 5 ∷ 6 ∷ 7 ∷ 8 ∷ 9 ∷ 10 ∷ 11 ∷ 12 ∷ 21 ∷ 14 ∷ 15 ∷ 16 ∷ 17 ∷ []
+
+-- where a number stands among them, or behind all
+abbrev pub turn_of : ℕ → ℕ
+turn_of number = unwrap_or (position (λ n. n == number) asking_order) (length asking_order)
 
 -- the numbers of refusals
 abbrev pub case_numbers : List (Bool × Refusal) → List ℕ

@@ -154,9 +154,13 @@ request_of line =
     else if length line == 0 || slice_index line 0 == 35 then Ok Nothing
     else words_request (words_of line)
 
+-- the words of an operator's line, with these of its call
+abbrev pub desk_words : ℕ → (words : List (List ℕ)) → List (List ℕ)
+desk_words op words = kind_text kinds.Desk ∷ value_text (Operator op) ∷ words
+
 -- the line of an operator's call: its words with spaces (32) between them
 abbrev pub desk_line : ℕ → CallOf → List ℕ
-desk_line op call = join_with_byte 32 (kind_text kinds.Desk ∷ value_text (Operator op) ∷ call_words call)
+desk_line op call = join_with_byte 32 (desk_words op (call_words call))
 
 -- the words of a datagram's line whose octets are written so
 abbrev pub rx_words : (moment : ℕ) → Endpoint → List ℕ → List (List ℕ)

@@ -1,17 +1,21 @@
 -- What is shown of a desk (own): a line for each row, by kind and within a kind by key, members by place.
-use Rattle.std.specs.Prelude.{ℕ, ◌+◌, List, [], ◌∷◌, ◌++◌, codes}
+use Rattle.std.specs.Prelude.{ℕ, ◌+◌, nat_eq, List, [], ◌∷◌, ◌++◌, codes, if◌then◌else◌}
 use Rattle.std.specs.List.{flat_map}
 use Rattle.desk_rows.specs.declared.row.Row.{Row}
 use Rattle.desk_rows.specs.declared.row.Row.TheVariants.{Room, Member, Source, Slot, Sub, Mute, Gain, Pin, Floor}
-use Rattle.desk_rows.specs.declared.row.Kind.{Kind}
-use Rattle.desk_rows.specs.declared.row.Kind.TheVariants as kinds
+use Rattle.desk_rows.specs.declared.key.Kind.{Kind}
+use Rattle.desk_rows.specs.declared.key.Kind.TheVariants as kinds
 use Rattle.desk_rows.specs.Desk.{Desk, rows_of_kind}
 use Rattle.script_text.specs.declared.value.Value.TheVariants.{U16, U32, U64, Address, Codec, Media}
 use Rattle.script_text.specs.Text.{Word, fixed, value, line_text}
 
+-- the word of a room's rate, which is left out where it is 8000 Hz
+abbrev pub rate_words : ℕ → List Word
+rate_words rate = if nat_eq rate 8000 then [] else value (U32 rate) ∷ []
+
 -- the words of a row that stands at this place among those of its kind: the place is told of members alone
 abbrev pub row_words : ℕ → Row → List Word
-row_words place (Room r) = fixed (codes "room") ∷ value (U32 r.room) ∷ []
+row_words place (Room r) = fixed (codes "room") ∷ value (U32 r.room) ∷ rate_words r.rate
 row_words place (Member m) =
     fixed (codes "member")
     ∷ value (U64 place)

@@ -67,6 +67,7 @@ full_words reasons.SsrcTaken = []
 full_words reasons.BadValue = []
 full_words reasons.Already = []
 full_words reasons.NotThere = []
+full_words reasons.RateMismatch = []
 
 -- the words of the reason against a command: those that the command alone is refused by
 abbrev pub reason_words : Reason → List Word

@@ -17,7 +17,7 @@ use crate::outcomes::{print_all_up, print_outcome};
 use crate::print::{print_egress, print_reply};
 use crate::sending::send;
 use crate::showing::print_rows;
-use crate::sink::Sink;
+use crate::sink::TextSink;
 use bridge_core::{Core, Egress, Item, Reply};
 use desk_edit::{Call, Refusal};
 use rtp_codec::Address;
@@ -183,7 +183,7 @@ fn answer_request<A: Allocator + Copy>(
 
 /// Answers the line of this number. All that it gives is sent at its end, so want of memory sends
 /// nothing of it.
-pub(crate) fn answer<T: Sink, A: Allocator + Copy>(
+pub(crate) fn answer<T: TextSink, A: Allocator + Copy>(
     alloc: A,
     core: &mut Core<A>,
     number: u64,

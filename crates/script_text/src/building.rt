@@ -8,11 +8,22 @@ ghost use Rattle.script_text.specs.Calls.{shape_of, command_with, command_of};
 
 use crate::fault::{Fault, ParseFault};
 use crate::name::{Name, parse_name, shape};
-use crate::reading::read_values;
+use crate::reading::read_fields;
 use crate::value::{Value, address_at, codec_at, media_at, u16_at, u32_at};
 use crate::words::{end_of_words, next_word};
 use desk_edit::Command;
 use desk_rows::{Floor, Gain, Member, Mute, Pin, Room, Slot, Source, Sub};
+
+/// The row of an `add-room`.
+fn room(values: &[Value]) -> Room
+    requires { map field_of values.now ≡ shape_of Name.AddRoom }
+    ensures { Command.AddRoom result ≡ command_with Name.AddRoom values.now }
+{
+    Room {
+        room: u32_at(values, 0),
+        rate: u32_at(values, 1),
+    }
+}
 
 /// The row of an `add-member`.
 fn member(values: &[Value]) -> Member
@@ -119,7 +130,7 @@ fn build(name: Name, values: &[Value]) -> Command
 {
     let first = u32_at(values, 0);
     match name {
-        Name::AddRoom => Command::AddRoom(Room { room: first }),
+        Name::AddRoom => Command::AddRoom(room(values)),
         Name::RemoveRoom => Command::RemoveRoom { room: first },
         Name::AddMember => Command::AddMember(member(values)),
         Name::RemoveMember => Command::RemoveMember { member: first },
@@ -151,8 +162,7 @@ pub(crate) fn command(place: u32, words: Option<&[u8]>) -> Result<Command, Parse
     let Some(name) = parse_name(word) else {
         return Err(Fault::UnknownWord.at(place));
     };
-    let shape = shape(name);
-    let (values, rest) = read_values(place + 1, shape, rest)?;
-    end_of_words(rest, place + 1 + shape.len() as u32)?;
+    let (values, rest) = read_fields(place + 1, name, rest)?;
+    end_of_words(rest, place + 1 + shape(name).len() as u32)?;
     Ok(build(name, values.as_slice()))
 }

@@ -19,7 +19,7 @@ ghost use Rattle.desk_edit.specs.Reasons.{refusal_for};
 ghost use Rattle.desk_edit.specs.Told.{told_of};
 ghost use Rattle.desk_edit.specs.Refusals.{first_case};
 ghost use Rattle.desk_edit.specs.Calls.{refusal_at};
-ghost use Rattle.script_text.specs.Judged.{part_cases, call_cases, case_numbers, Rises, IsSingle};
+ghost use Rattle.script_text.specs.Judged.{part_cases, call_cases, case_numbers, turn_of, Rises, IsSingle};
 ghost use Rattle.script_text.specs.Text.{told_words, reason_words};
 ghost use Rattle.script_text.specs.Values.{last_operator};
 ghost use Rattle.script_text.specs.Words.{words_of, Lacks};
@@ -31,8 +31,9 @@ ghost use Rattle.media_items.specs.Inputs.Input.{frame, tick};
 ghost use Rattle.desk_edit.specs.Asked.{CallOf};
 ghost use Rattle.desk_edit.specs.Asked.CallOf.{Group};
 ghost use Rattle.desk_edit.specs.declared.command.Command.{Command};
-ghost use Rattle.script_text.specs.Calls.{call_of, call_line, IsCall};
-ghost use Rattle.script_text.specs.Requests.{words_request, Desk, desk_line, Item, frame_words, frame_line, IsFrame};
+ghost use Rattle.script_text.specs.Calls.{call_of, call_line, SpellCall, IsCall};
+ghost use Rattle.script_text.specs.Requests.{words_request, Desk, desk_words, desk_line};
+ghost use Rattle.script_text.specs.Requests.{Item, frame_words, frame_line, IsFrame};
 ghost use Rattle.script_text.specs.Requests.{Rx, rx_words, rx_line, IsDatagram, tick_line, Report, report_line};
 ghost use Rattle.script_text.specs.Packets.{SpellPackets, packet_of, packet_text, SpellsExt};
 ghost use Rattle.script_text.specs.Packets.{SpellsHex, SpellsPacket, IsReadable};
@@ -76,16 +77,17 @@ pub fn address_words()
     ensures read { (x : Address) → IsAddress x → address_of (address_text x) ≡ Some x }
 {}
 
-/// The words of a call's line are that call, and what is read as a call is spelled by its line: once
-/// for all commands. So it is with an operator's line of a script.
+/// The words of a call's line are that call, and words are read as a call where they spell it, a rate of 8000 Hz being
+/// named or not: once for all commands. So it is with an operator's line of a script.
 pub fn call_lines()
     ensures read { (c : CallOf) → IsCall c → call_of 0 (words_of (call_line c)) ≡ Ok c }
-    ensures spelled { (line : List ℕ) (c : CallOf) → call_of 0 (words_of line) ≡ Ok c
-        → (line ≡ call_line c) × IsCall c }
+    ensures spelling { (words : List (List ℕ)) (c : CallOf) → SpellCall words c → IsCall c → call_of 0 words ≡ Ok c }
+    ensures spelled { (words : List (List ℕ)) (c : CallOf) → call_of 0 words ≡ Ok c → SpellCall words c × IsCall c }
     ensures desk_read { (op : ℕ) (c : CallOf) → op ≤ last_operator → IsCall c
         → words_request (words_of (desk_line op c)) ≡ Ok (Desk op c) }
     ensures desk_spelled { (line : List ℕ) (op : ℕ) (c : CallOf) → words_request (words_of line) ≡ Ok (Desk op c)
-        → (line ≡ desk_line op c) × (op ≤ last_operator) × IsCall c }
+        → (words : List (List ℕ)) × (line ≡ join_with_byte 32 (desk_words op words)) × SpellCall words c
+        × (op ≤ last_operator) × IsCall c }
 {}
 
 /// What is printed of octets in hexadecimal reads back as these octets, and a word that is read
@@ -145,14 +147,14 @@ pub fn script_bridge()
     ensures desk { first_desk ≡ blank BRIDGE_SSRC }
 {}
 
-/// The reason for which a call is refused is the first that holds. They are asked in the order of the
-/// refusals' numbers. Of a group first its size is asked (18, 19), then the log (17), and then each
-/// command (20). Of a command in a group the reason is printed as of the command alone.
+/// The reason for which a call is refused is the first that holds. They are asked in the order of the refusals'
+/// numbers, but RateMismatch (21) behind Full (12). Of a group first its size is asked (18, 19), then the log (17), and
+/// then each command (20). Of a command in a group the reason is printed as of the command alone.
 pub fn refusal_words()
     ensures first { (version done undone : ℕ) (d : Rows) (call : CallOf)
         → refusal_at version d done undone call ≡ first_case (call_cases version d done undone call) }
     ensures rising { (version done undone : ℕ) (d : Rows) (call : CallOf) → IsSingle call
-        → Rises (case_numbers (call_cases version d done undone call)) }
+        → Rises (map turn_of (case_numbers (call_cases version d done undone call))) }
     ensures group { (version done undone : ℕ) (d : Rows) (commands : List Command)
         → case_numbers (call_cases version d done undone (Group commands))
         ≡ 18 ∷ 19 ∷ 17 ∷ map (λ c. 20) (part_cases 0 d commands) }

@@ -2,7 +2,8 @@
 //!
 //! Begin with [`run`] for a script from a reader, or [`output`] for one in memory. [`parse_desk`] reads one call.
 //! [`print_reply`], [`print_rows`] and [`print_egress`] append lines of output. A contract sees a text as its octets.
-//! The crate opens no file and no socket: a script comes from a [`Source`], and its output goes to a [`Sink`].
+//! The crate opens no file and no socket: a script comes from a [`ScriptSource`], and its output goes to a
+//! [`TextSink`].
 //!
 //! ```rust
 //! let call = parse_desk(alloc, b"pin 1 101")?;
@@ -48,7 +49,7 @@ pub use self::laws::{
 pub use self::print::{print_egress, print_refused, print_reply};
 pub use self::running::{output, run};
 pub use self::showing::print_rows;
-pub use self::sink::{Portion, Sink, Writer};
-pub use self::source::{Piece, Reader, Source};
+pub use self::sink::{Portion, TextSink, Writer};
+pub use self::source::{Piece, Reader, ScriptSource};
 pub use self::spelling::parse_address;
 pub use self::words::cut;

@@ -1,7 +1,7 @@
 //! The tables of lines: names, and the fields behind each.
 
 ghost use Rattle.std.specs.Prelude.{◌≡◌, ◌≤◌, length};
-ghost use Rattle.script_text.specs.Calls.{name_of, shape_of, head_of};
+ghost use Rattle.script_text.specs.Calls.{name_of, setting_of, shape_of, head_of};
 ghost use Rattle.script_text.specs.Requests.{line_kind_of, front_of};
 
 use crate::value::Field;
@@ -103,7 +103,16 @@ pub(crate) fn parse_name(word: &[u8]) -> Option<Name>
         Some(Name::AddSlot)
     } else if word == b"remove-slot".as_slice() {
         Some(Name::RemoveSlot)
-    } else if word == b"subscribe".as_slice() {
+    } else {
+        parse_setting(word)
+    }
+}
+
+/// The name of a command that sets what is heard and seen, if a word is one.
+fn parse_setting(word: &[u8]) -> Option<Name>
+    ensures { result ≡ setting_of word.now }
+{
+    if word == b"subscribe".as_slice() {
         Some(Name::Subscribe)
     } else if word == b"unsubscribe".as_slice() {
         Some(Name::Unsubscribe)
@@ -132,7 +141,7 @@ pub(crate) fn shape(name: Name) -> &'static [Field]
     ensures few { length result.now ≤ 8 }
 {
     match name {
-        Name::AddRoom => &[Field::U32],
+        Name::AddRoom => &[Field::U32, Field::U32],
         Name::RemoveRoom => &[Field::U32],
         Name::AddMember => &[
             Field::U32,

@@ -1,8 +1,8 @@
 //! What is printed for replies and for what goes out.
 
-ghost use Rattle.std.specs.Prelude.{◌≡◌, ◌+◌, ◌<◌, ◌∷◌, ◌++◌, codes, length, map, OnOk, OnErr, vec_len, vec_capacity};
-ghost use Rattle.script_text.specs.declared.value.Value.TheVariants.{U64};
-ghost use Rattle.script_text.specs.Text.{fixed, value, line_text, told_words, reason_words, reply_text, refused_text};
+ghost use Rattle.std.specs.Prelude.{◌≡◌, ◌+◌, ◌<◌, [], ◌∷◌, ◌++◌, codes, length, map, OnOk, OnErr, vec_len, vec_capacity};
+ghost use Rattle.script_text.specs.declared.value.Value.TheVariants.{U16, U32, U64};
+ghost use Rattle.script_text.specs.Text.{fixed, value, hex, line_text, told_words, reason_words, reply_text, refused_text};
 ghost use Rattle.script_text.specs.Text.{head_words, media_words, source_words, loss_words, sent_text};
 ghost use Rattle.script_text.specs.inner.Shown.{said};
 ghost use Rattle.desk_edit.specs.Told.{told_in};
@@ -148,8 +148,51 @@ fn loss_words<'a>(note: LossNote) -> [Word<'a>; 5]
     [out_ssrc, fraction, lost, ssrc, ext]
 }
 
-/// Appends the line of what goes out. An `Err` changes nothing, and comes only where the line has
-/// no room.
+/// The words of a packet of a stream, with these first.
+fn packet_words<'a>(head: [Word<'a>; 3], ssrc: u32, number: u16, octets: Word<'a>) -> [Word<'a>; 6]
+    ensures { map said result ≡ map said head.entry ++ value (U32 ssrc) ∷ value (U16 number) ∷ said octets.entry ∷ [] }
+{
+    let [version, item, to] = head;
+    let ssrc = Word::Value(Value::U32(ssrc));
+    let number = Word::Value(Value::U16(number));
+    [version, item, to, ssrc, number, octets]
+}
+
+/// Appends the line of an RTCP compound, with these words first.
+fn print_control<A: Allocator>(
+    head: [Word<'_>; 3],
+    octets: &[u8],
+    out: &mut Vec<u8, A>,
+) -> Result<(), AllocError>
+    ensures ok { OnOk result (out.new.items ≡ out.old.items
+        ++ line_text (fixed (codes "ct") ∷ map said head.entry ++ hex octets.now ∷ [])) }
+    ensures err { OnErr result (out.new.items ≡ out.old.items) }
+    ensures full { OnErr result (vec_capacity out.old
+        < vec_len out.old + length (line_text (fixed (codes "ct") ∷ map said head.entry ++ hex octets.now ∷ []))) }
+{
+    let [version, item, to] = head;
+    print_line(b"ct", &[version, item, to, Word::Hex(octets)], out)
+}
+
+/// Appends the line of what a receiver tells of its losses, with these words first.
+fn print_note<A: Allocator>(
+    head: [Word<'_>; 3],
+    note: LossNote,
+    out: &mut Vec<u8, A>,
+) -> Result<(), AllocError>
+    ensures ok { OnOk result (out.new.items ≡ out.old.items
+        ++ line_text (fixed (codes "note") ∷ map said head.entry ++ loss_words note)) }
+    ensures err { OnErr result (out.new.items ≡ out.old.items) }
+    ensures full { OnErr result (vec_capacity out.old
+        < vec_len out.old + length (line_text (fixed (codes "note") ∷ map said head.entry ++ loss_words note))) }
+{
+    let [version, item, from] = head;
+    let [out_ssrc, fraction, lost, ssrc, ext] = loss_words(note);
+    let words = [version, item, from, out_ssrc, fraction, lost, ssrc, ext];
+    print_line(b"note", &words, out)
+}
+
+/// Appends the line of what goes out. An `Err` changes nothing, and comes only where the line has no room.
 pub fn print_egress<A: Allocator + Copy>(
     egress: &Egress<A>,
     out: &mut Vec<u8, A>,
@@ -168,12 +211,10 @@ pub fn print_egress<A: Allocator + Copy>(
             bytes,
             resent_by,
         } => {
-            let [version, item, to] = head_words(*version, *item, *to);
-            let ssrc = Word::Value(Value::U32(*ssrc));
-            let number = Word::Value(Value::U16(*number));
+            let head = head_words(*version, *item, *to);
             let (header, payload) = bytes.parts();
-            let octets = Word::Parts(header, payload);
-            print_media([version, item, to, ssrc, number, octets], *resent_by, out)
+            let words = packet_words(head, *ssrc, *number, Word::Parts(header, payload));
+            print_media(words, *resent_by, out)
         }
         Egress::Control {
             version,
@@ -181,23 +222,12 @@ pub fn print_egress<A: Allocator + Copy>(
             to,
             bytes,
             ..
-        } => {
-            let [version, item, to] = head_words(*version, *item, *to);
-            print_line(b"ct", &[version, item, to, Word::Hex(bytes)], out)
-        }
+        } => print_control(head_words(*version, *item, *to), bytes, out),
         Egress::Note {
             version,
             item,
             from,
             note,
-        } => {
-            let [version, item, from] = head_words(*version, *item, *from);
-            let [out_ssrc, fraction, lost, ssrc, ext] = loss_words(*note);
-            print_line(
-                b"note",
-                &[version, item, from, out_ssrc, fraction, lost, ssrc, ext],
-                out,
-            )
-        }
+        } => print_note(head_words(*version, *item, *from), *note, out),
     }
 }

@@ -1,14 +1,17 @@
 //! Reading the values that words spell.
 
-ghost use Rattle.std.specs.Prelude.{◌≡◌, ◌≢◌, ◌≤◌, ◌^◌, length, map, IfOk};
+ghost use Rattle.std.specs.Prelude.{◌≡◌, ◌≢◌, ◌≤◌, ◌^◌, ◌∷◌, [], ℕ, List, true, false, length, map, IfOk};
 ghost use Rattle.script_text.specs.Words.{Gives};
 ghost use Rattle.script_text.specs.inner.Cursor.{words_in, size_of};
 ghost use Rattle.script_text.specs.Values.{field_of, values_of};
+ghost use Rattle.script_text.specs.Calls.{shape_of, with_rate};
 
 use crate::fault::ParseFault;
+use crate::name::{Name, shape};
 use crate::value::{Field, Value, parse_value, word_fault};
-use crate::words::next_word;
+use crate::words::{is_one_word, next_word};
 use arrayvec::ArrayVec;
+use desk_rows::DEFAULT_RATE;
 
 /// How many values stand one after another at most.
 const MOST_VALUES: usize = 8;
@@ -45,4 +48,40 @@ pub(crate) fn read_values<'a>(
         at += 1;
     }
     Ok((values, rest))
+}
+
+/// Whether these words behind a name add a room and leave out its rate.
+fn lacks_rate(name: Name, words: Option<&[u8]>) -> bool
+    ensures lacking { result ≡ true
+        → (room : List ℕ) × (name ≡ Name.AddRoom) × (words_in words.entry ≡ room ∷ []) }
+    ensures named { result ≡ false → with_rate name (words_in words.entry) ≡ words_in words.entry }
+{
+    match name {
+        Name::AddRoom => is_one_word(words),
+        _ => false,
+    }
+}
+
+/// The values behind a name, of which the first stands at this place. A room without its rate is one of 8000 Hz.
+pub(crate) fn read_fields<'a>(
+    place: u32,
+    name: Name,
+    words: Option<&'a [u8]>,
+) -> Result<Front<'a>, ParseFault>
+    requires { place ≤ 2 ^ 18 }
+    ensures values { Gives (λ x. (x.0.items, words_in x.1)) result
+        (values_of place (shape_of name) (with_rate name (words_in words.entry))) }
+    ensures shape { IfOk result (λ x. map field_of x.0.items ≡ shape_of name) }
+    ensures memory { result ≢ Err ParseFault.OutOfMemory }
+{
+    if lacks_rate(name, words) {
+        let (mut values, rest) = match read_values(place, &[Field::U32], words) {
+            Err(fault) => return Err(fault),
+            Ok(front) => front,
+        };
+        values.push(Value::U32(DEFAULT_RATE));
+        Ok((values, rest))
+    } else {
+        read_values(place, shape(name), words)
+    }
 }

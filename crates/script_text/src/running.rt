@@ -11,15 +11,15 @@ use crate::fault::RunFault;
 use crate::laws::scripts_are_heard;
 use crate::script::Script;
 use crate::sending::MOST_CALLS;
-use crate::sink::Sink;
-use crate::source::{Piece, Source};
+use crate::sink::TextSink;
+use crate::source::{Piece, ScriptSource};
 use std::alloc::Allocator;
 
 /// How many octets are asked for at once.
 const CHUNK: usize = 4_096;
 
 /// Reads into this chunk, piece by piece.
-fn run_with<A: Allocator + Copy, S: Source, T: Sink>(
+fn run_with<A: Allocator + Copy, S: ScriptSource, T: TextSink>(
     alloc: A,
     script: &mut Script<A>,
     chunk: &mut [u8],
@@ -53,7 +53,7 @@ fn run_with<A: Allocator + Copy, S: Source, T: Sink>(
 }
 
 /// Reads a script to its end or its first fault.
-fn run_script<A: Allocator + Copy, S: Source, T: Sink>(
+fn run_script<A: Allocator + Copy, S: ScriptSource, T: TextSink>(
     alloc: A,
     reader: &mut S,
     writer: &mut T,
@@ -81,7 +81,7 @@ fn run_script<A: Allocator + Copy, S: Source, T: Sink>(
 /// where 2^32 calls have not told the end; a writer where a call fails or takes nothing, where
 /// 2^32 calls have not taken a line's text, or where memory runs out behind a part of it. Only
 /// want of memory may be told at any time.
-pub fn run<A: Allocator + Copy, S: Source, T: Sink>(
+pub fn run<A: Allocator + Copy, S: ScriptSource, T: TextSink>(
     alloc: A,
     reader: &mut S,
     writer: &mut T,

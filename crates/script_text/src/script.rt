@@ -6,7 +6,7 @@ ghost use Rattle.std.specs.Str.Lines.{strip_carriage_return};
 use crate::answer::answer;
 use crate::fault::{Fault, RunFault};
 use crate::line::LINE_LIMIT;
-use crate::sink::Sink;
+use crate::sink::TextSink;
 use bridge_core::{Core, CoreFault, Settings};
 use bytes::Bytes;
 use std::alloc::{AllocError, Allocator, Global};
@@ -95,7 +95,7 @@ impl<A: Allocator + Copy> Script<A> {
     }
 
     /// Takes an LF: answers the line before it.
-    fn end_line<T: Sink>(&mut self, alloc: A, writer: &mut T) -> Result<(), RunFault>
+    fn end_line<T: TextSink>(&mut self, alloc: A, writer: &mut T) -> Result<(), RunFault>
         requires { self.old.line + 1 < 2 ^ 64 }
         ensures step { Steps self.old (10 ∷ []) self.new (T.held writer.old) (T.held writer.new) result }
         ensures line { self.new.line ≤ self.old.line + 1 }
@@ -117,7 +117,7 @@ impl<A: Allocator + Copy> Script<A> {
     }
 
     /// Takes the next octet.
-    fn octet<T: Sink>(&mut self, alloc: A, octet: u8, writer: &mut T) -> Result<(), RunFault>
+    fn octet<T: TextSink>(&mut self, alloc: A, octet: u8, writer: &mut T) -> Result<(), RunFault>
         requires { self.old.line + 1 < 2 ^ 64 }
         ensures step { Steps self.old (octet ∷ []) self.new (T.held writer.old) (T.held writer.new) result }
         ensures line { self.new.line ≤ self.old.line + 1 }
@@ -134,7 +134,7 @@ impl<A: Allocator + Copy> Script<A> {
     }
 
     /// Takes the next octets.
-    pub(crate) fn feed<T: Sink>(
+    pub(crate) fn feed<T: TextSink>(
         &mut self,
         alloc: A,
         octets: &[u8],
@@ -158,7 +158,7 @@ impl<A: Allocator + Copy> Script<A> {
     }
 
     /// Takes the end of the input: it ends the last line.
-    pub(crate) fn finish<T: Sink>(&mut self, alloc: A, writer: &mut T) -> Result<(), RunFault>
+    pub(crate) fn finish<T: TextSink>(&mut self, alloc: A, writer: &mut T) -> Result<(), RunFault>
         ensures end { Finishes self.old (T.held writer.old) (T.held writer.new) result }
         ensures read { result ≢ Err RunFault.Read }
         ensures write { result ≡ Err RunFault.Write →

@@ -10,7 +10,7 @@ ghost use Rattle.script_text.specs.declared.value.Value.TheVariants.{U32};
 
 use crate::appending::{Word, print_line};
 use crate::value::Value;
-use desk_rows::{Kind, Member, Row, Rows, Slot};
+use desk_rows::{DEFAULT_RATE, Kind, Member, Room, Row, Rows, Slot};
 use std::alloc::{AllocError, Allocator};
 
 /// A number as a word.
@@ -18,6 +18,18 @@ fn number<'a>(n: u32) -> Word<'a>
     ensures { said result ≡ value (U32 n) }
 {
     Word::Value(Value::U32(n))
+}
+
+/// Appends the line of a room. A rate of 8000 Hz is left out.
+fn print_room<A: Allocator>(room: &Room, out: &mut Vec<u8, A>) -> Result<(), AllocError>
+    ensures ok { OnOk result (out.new.items ≡ out.old.items ++ line_text (row_words 0 (Row.Room room.now))) }
+    ensures err { OnErr result (out.new.items ≡ out.old.items) }
+{
+    if room.rate == DEFAULT_RATE {
+        print_line(b"room", &[number(room.room)], out)
+    } else {
+        print_line(b"room", &[number(room.room), number(room.rate)], out)
+    }
 }
 
 /// Appends the line of a member that stands at this place among all members.
@@ -63,7 +75,7 @@ fn print_row<A: Allocator>(place: usize, row: &Row, out: &mut Vec<u8, A>) -> Res
     ensures err { OnErr result (out.new.items ≡ out.old.items) }
 {
     match row {
-        Row::Room(room) => print_line(b"room", &[number(room.room)], out),
+        Row::Room(room) => print_room(room, out),
         Row::Member(member) => print_member(place, member, out),
         Row::Source(source) => {
             let media = Word::Value(Value::Media(source.media));

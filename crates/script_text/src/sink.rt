@@ -23,7 +23,7 @@ pub enum Portion {
 
 /// Where octets go. A contract over any sink learns that a call may fail, want memory or take a part
 /// only from a call that did.
-pub trait Sink {
+pub trait TextSink {
     /// The octets that the sink holds, where they are known.
     ghost held: { Self → Option (List ℕ) };
 
@@ -68,7 +68,7 @@ fn portion_of(answer: io::Result<usize>) -> Portion
 }
 
 /// A vector takes all or wants memory.
-impl<A: Allocator> Sink for Vec<u8, A> {
+impl<A: Allocator> TextSink for Vec<u8, A> {
     ghost held = { λ v. Some v.items };
 
     ghost may_fail = { ⊥ };
@@ -93,7 +93,7 @@ impl<A: Allocator> Sink for Vec<u8, A> {
 #[derive(Drop)]
 pub struct Writer<W: Write>(pub W);
 
-impl<W: Write> Sink for Writer<W> {
+impl<W: Write> TextSink for Writer<W> {
     ghost held = { λ s. W.contents s.0 };
 
     ghost may_fail = { Unit {0} };

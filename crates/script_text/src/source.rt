@@ -24,7 +24,7 @@ pub enum Piece {
 
 /// Where octets come from. A contract over any source learns that a call may fail or want memory
 /// only from a call that did.
-pub trait Source {
+pub trait ScriptSource {
     /// The octets that calls will give from here on, where they are known.
     ghost rest: { Self → Option (List ℕ) };
 
@@ -65,7 +65,7 @@ fn piece_of(answer: io::Result<usize>) -> Piece
 }
 
 /// Octets in memory: nothing goes wrong with them, and each call takes one at least.
-impl Source for &[u8] {
+impl ScriptSource for &[u8] {
     ghost use Rattle.std.proofs.Common.{rules};
 
     ghost rest = { λ s. Some s.now };
@@ -91,7 +91,7 @@ impl Source for &[u8] {
 #[derive(Drop)]
 pub struct Reader<R: Read>(pub R);
 
-impl<R: Read> Source for Reader<R> {
+impl<R: Read> ScriptSource for Reader<R> {
     ghost rest = { λ s. R.remaining s.0 };
 
     ghost may_fail = { Unit {0} };

@@ -50,6 +50,19 @@ pub(crate) fn next_word(
     }
 }
 
+/// Whether one word is left, and no other.
+pub(crate) fn is_one_word(words: Option<&[u8]>) -> bool
+    ensures { result ≡ (length (words_in words.entry) == 1) }
+{
+    match words {
+        None => false,
+        Some(text) => {
+            let (_, behind) = first_word(text);
+            behind.is_none()
+        }
+    }
+}
+
 /// The end of the line. The place is that of the first word too many.
 pub(crate) fn end_of_words(words: Option<&[u8]>, place: u32) -> Result<(), ParseFault>
     ensures end { Gives (λ x. x) result (none_left place (words_in words.entry)) }

@@ -1,11 +1,14 @@
-use Rattle.script_text.proofs.CallLaws.{line_again, line_back, desk_again, desk_back}
+use Rattle.script_text.proofs.CallLaws.{line_again, call_again, call_back, desk_again, desk_back}
 use Rattle.script_text.proofs.laws.call_lines.Goals as goal
 
 pub returns-clause-read : goal.returns-clause-read
 returns-clause-read c = line_again
 
+pub returns-clause-spelling : goal.returns-clause-spelling
+returns-clause-spelling c = call_again 0
+
 pub returns-clause-spelled : goal.returns-clause-spelled
-returns-clause-spelled c = line_back
+returns-clause-spelled c = call_back 0
 
 pub returns-clause-desk_read : goal.returns-clause-desk_read
 returns-clause-desk_read c = desk_again

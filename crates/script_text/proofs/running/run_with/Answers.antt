@@ -15,33 +15,33 @@ pub loop-init : goal.loop-init
 loop-init g c = record {
   line = omega (arith, c.requires.script.1);
   midline = c.requires.midline;
-  calls = g.met.S.Source.at_first c.args.reader.now;
+  calls = g.met.S.ScriptSource.at_first c.args.reader.now;
   so_far = λ wire input heard e. at_first wire input heard _ _ c.args.script.now c.requires.script e;
 }
 
 pub returns-in-Err-clause-run : goal.returns-in-Err-clause-run
 returns-in-Err-clause-run g c =
-    fails_exit (g.S.Source.rest c.args.reader.now) (g.S.Source.rest c.loop.reader) (g.S.Source.rest c.read_some.new.self) (g.T.Sink.held c.args.writer.now) (g.T.Sink.held c.loop.writer) (g.T.Sink.held c.feed.new.writer)
+    fails_exit (g.S.ScriptSource.rest c.args.reader.now) (g.S.ScriptSource.rest c.loop.reader) (g.S.ScriptSource.rest c.read_some.new.self) (g.T.TextSink.held c.args.writer.now) (g.T.TextSink.held c.loop.writer) (g.T.TextSink.held c.feed.new.writer)
     c.loop.script c.feed.new.self (take c.in-Octets.n c.read_some.new.chunk) c.in-Err.fault c.loop.invariant.so_far c.in-Octets.ensures.piece.1 c.in-Err.ensures.step
 
 pub returns-in-End-clause-run : goal.returns-in-End-clause-run
 returns-in-End-clause-run g c =
-    ends_exit (g.S.Source.rest c.args.reader.now) (g.S.Source.rest c.loop.reader) (g.S.Source.rest c.read_some.new.self) (g.T.Sink.held c.args.writer.now) (g.T.Sink.held c.loop.writer) (g.T.Sink.held c.finish.new.writer)
+    ends_exit (g.S.ScriptSource.rest c.args.reader.now) (g.S.ScriptSource.rest c.loop.reader) (g.S.ScriptSource.rest c.read_some.new.self) (g.T.TextSink.held c.args.writer.now) (g.T.TextSink.held c.loop.writer) (g.T.TextSink.held c.finish.new.writer)
     c.loop.script c.finish.result c.loop.invariant.so_far c.in-End.ensures.piece.0 c.in-End.ensures.piece.1 c.finish.ensures.end
 
 pub returns-in-OutOfMemory-clause-run : goal.returns-in-OutOfMemory-clause-run
 returns-in-OutOfMemory-clause-run g c =
-    starved_exit (g.S.Source.rest c.args.reader.now) (g.S.Source.rest c.loop.reader) (g.S.Source.rest c.read_some.new.self) (g.T.Sink.held c.args.writer.now) (g.T.Sink.held c.loop.writer)
+    starved_exit (g.S.ScriptSource.rest c.args.reader.now) (g.S.ScriptSource.rest c.loop.reader) (g.S.ScriptSource.rest c.read_some.new.self) (g.T.TextSink.held c.args.writer.now) (g.T.TextSink.held c.loop.writer)
     c.loop.script c.loop.invariant.so_far c.in-OutOfMemory.ensures.piece c.loop.invariant.midline
 
 pub returns-in-Failed-clause-run : goal.returns-in-Failed-clause-run
 returns-in-Failed-clause-run g c =
-    read_exit (g.S.Source.rest c.args.reader.now) (g.S.Source.rest c.loop.reader) (g.S.Source.rest c.read_some.new.self) (g.T.Sink.held c.args.writer.now) (g.T.Sink.held c.loop.writer)
+    read_exit (g.S.ScriptSource.rest c.args.reader.now) (g.S.ScriptSource.rest c.loop.reader) (g.S.ScriptSource.rest c.read_some.new.self) (g.T.TextSink.held c.args.writer.now) (g.T.TextSink.held c.loop.writer)
     c.loop.script c.loop.invariant.so_far c.in-Failed.ensures.piece c.loop.invariant.midline
 
 pub returns-clause-run : goal.returns-clause-run
 returns-clause-run g c =
-    stays_exit (g.S.Source.rest c.args.reader.now) (g.S.Source.rest c.loop.reader) (g.T.Sink.held c.args.writer.now) (g.T.Sink.held c.loop.writer)
+    stays_exit (g.S.ScriptSource.rest c.args.reader.now) (g.S.ScriptSource.rest c.loop.reader) (g.T.TextSink.held c.args.writer.now) (g.T.TextSink.held c.loop.writer)
     c.loop.script c.loop.invariant.so_far c.loop.invariant.midline
 
 pub loop-preserved : goal.loop-preserved
@@ -54,7 +54,7 @@ loop-preserved g c =
             line = rw w.script-is (omega (arith, w.in_default.ensures.line, length-take w.in-Octets.n c.read_some.new.chunk));
             so_far = λ wire input heard e.
                 rw (w.script-is, w.writer-is)
-                (goes_on wire input (g.S.Source.rest c.loop.reader) (g.S.Source.rest c.read_some.new.self) (g.T.Sink.held c.args.writer.now) (g.T.Sink.held c.loop.writer) (g.T.Sink.held w.feed.new.writer)
+                (goes_on wire input (g.S.ScriptSource.rest c.loop.reader) (g.S.ScriptSource.rest c.read_some.new.self) (g.T.TextSink.held c.args.writer.now) (g.T.TextSink.held c.loop.writer) (g.T.TextSink.held w.feed.new.writer)
                 c.loop.script w.feed.new.self (take w.in-Octets.n c.read_some.new.chunk) (c.loop.invariant.so_far wire input heard e) w.in-Octets.ensures.piece.1 w.in_default.ensures.step);
           }
       | in-Interrupted w ↦
@@ -64,11 +64,11 @@ loop-preserved g c =
             line = rw w.script-is (omega (arith, c.loop.invariant.line));
             so_far = λ wire input heard e.
                 rw (w.script-is, w.writer-is)
-                (waits wire input (g.S.Source.rest c.loop.reader) (g.S.Source.rest c.read_some.new.self) (g.T.Sink.held c.args.writer.now) (g.T.Sink.held c.loop.writer) c.loop.script (c.loop.invariant.so_far wire input heard e) w.in-Interrupted.ensures.piece);
+                (waits wire input (g.S.ScriptSource.rest c.loop.reader) (g.S.ScriptSource.rest c.read_some.new.self) (g.T.TextSink.held c.args.writer.now) (g.T.TextSink.held c.loop.writer) c.loop.script (c.loop.invariant.so_far wire input heard e) w.in-Interrupted.ensures.piece);
           }
     ]
 
 pub returns-clause-read : goal.returns-clause-read
 returns-clause-read g c = λ e.
     let all : c.loop.counter ≡ 2 ^ 32 = omega arith in
-    inr (subst (λ (n : ℕ). g.S.Source.goes_on n c.args.reader.now c.loop.reader) all c.loop.invariant.calls)
+    inr (subst (λ (n : ℕ). g.S.ScriptSource.goes_on n c.args.reader.now c.loop.reader) all c.loop.invariant.calls)

@@ -9,7 +9,7 @@ use Rattle.script_text.proofs.running.run_with.Given as goal
 abbrev pub invariant-loop : goal.invariant-loop
 invariant-loop g l = record {
   midline : IsMidLine l.script;
-  calls : g.S.Source.goes_on l.counter l.fn.reader l.reader;
+  calls : g.S.ScriptSource.goes_on l.counter l.fn.reader l.reader;
   line : l.script.line ≤ 1 + 4096 * l.counter;
-  so_far : (wire : Wire) (input : List ℕ) → HearsAll wire (lines_of input) → g.S.Source.rest l.fn.reader ≡ Some input → SoFar wire input (g.S.Source.rest l.reader) (g.T.Sink.held l.fn.writer) (g.T.Sink.held l.writer) l.script;
+  so_far : (wire : Wire) (input : List ℕ) → HearsAll wire (lines_of input) → g.S.ScriptSource.rest l.fn.reader ≡ Some input → SoFar wire input (g.S.ScriptSource.rest l.reader) (g.T.TextSink.held l.fn.writer) (g.T.TextSink.held l.writer) l.script;
 }

@@ -27,7 +27,7 @@ split_more S at n octets lt (inl whole) = inr (inr (omega (arith, length-take (l
 pub returns-else-at-octets-2-clause-write : goal.returns-else-at-octets-2-clause-write
 returns-else-at-octets-2-clause-write g c = λ e.
     let all : c.loop.counter ≡ 2 ^ 32 = omega arith in
-    inr (inr (c.args.writer.now, subst (λ (n : ℕ). g.T.Sink.goes_on n c.args.writer.now c.loop.writer) all (calls_waiting _ _ c.loop.at (length c.args.octets.now) c.if-at-octets-2.false c.loop.invariant.calls (λ o. o))))
+    inr (inr (c.args.writer.now, subst (λ (n : ℕ). g.T.TextSink.goes_on n c.args.writer.now c.loop.writer) all (calls_waiting _ _ c.loop.at (length c.args.octets.now) c.if-at-octets-2.false c.loop.invariant.calls (λ o. o))))
 
 pub returns-else-at-octets-2-clause-sends : goal.returns-else-at-octets-2-clause-sends
 returns-else-at-octets-2-clause-sends g c = (take c.loop.at c.args.octets.now, c.loop.invariant.sent, cut_at c.args.octets.now c.loop.at c.if-at-octets-2.false)

@@ -6,7 +6,7 @@ use Rattle.script_text.proofs.sending.send.Given as goal
 abbrev pub invariant-loop : goal.invariant-loop
 invariant-loop g l = record {
   small : l.at ≤ length l.octets;
-  sent : Appends (g.T.Sink.held l.fn.writer) (g.T.Sink.held l.writer) (take l.at l.octets);
-  calls : (l.at ≡ length l.octets) ⊎ g.T.Sink.goes_on l.counter l.fn.writer l.writer;
-  split : g.T.Sink.may_split ⊎ (l.at ≡ 0) ⊎ (l.at ≡ length l.octets);
+  sent : Appends (g.T.TextSink.held l.fn.writer) (g.T.TextSink.held l.writer) (take l.at l.octets);
+  calls : (l.at ≡ length l.octets) ⊎ g.T.TextSink.goes_on l.counter l.fn.writer l.writer;
+  split : g.T.TextSink.may_split ⊎ (l.at ≡ 0) ⊎ (l.at ≡ length l.octets);
 }

@@ -1,6 +1,6 @@
 use Rattle.std.proofs.Common.{◌++◌, ◌∙◌, sym, ap, append_assoc, take, get_or, ℕ, List}
 use Rattle.std.specs.List.{flat_map}
-use Rattle.desk_rows.specs.declared.row.Kind.TheVariants as kinds
+use Rattle.desk_rows.specs.declared.key.Kind.TheVariants as kinds
 use Rattle.script_text.specs.RowLines.{kind_lines, all_kinds}
 use Rattle.script_text.proofs.RowLemmas.{one_more, front_then}
 use Rattle.script_text.proofs.showing.print_kinds.Goals as goal

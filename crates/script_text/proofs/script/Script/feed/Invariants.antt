@@ -11,5 +11,5 @@ invariant-loop-octet g l = record {
   midline : IsMidLine l.self;
   line : l.self.line ≤ l.fn.self.line + l.octet-index;
   step : (first : Bridge) (tail : List ℕ) → HearsComing first.wire l.fn.self (take l.octet-index l.octets ++ tail) → Stands l.fn.self.core first
-      → (sent : List ℕ) × (bridge : Bridge) × Stands l.self.core bridge × Appends (g.T.Sink.held l.fn.writer) (g.T.Sink.held l.writer) sent × Goes (place_of l.fn.self first) (take l.octet-index l.octets) (place_of l.self bridge) sent × HearsComing bridge.wire l.self tail;
+      → (sent : List ℕ) × (bridge : Bridge) × Stands l.self.core bridge × Appends (g.T.TextSink.held l.fn.writer) (g.T.TextSink.held l.writer) sent × Goes (place_of l.fn.self first) (take l.octet-index l.octets) (place_of l.self bridge) sent × HearsComing bridge.wire l.self tail;
 }
