@@ -24,9 +24,9 @@ fn any_failed<N: PublisherName, S>(ends: &[LaneEnd<N, S>]) -> bool
     ))
 }
 
-/// Why the bridge ends, by how its lanes ended behind its desk: `OutOfMemory` where memory ran out for one of them, `Io`
-/// where one had handled 2^64 - 1 items, and otherwise `None`. That a lane refused an item since the desk had ended is
-/// no fault.
+/// Why the bridge ends, by how its lanes ended behind its desk: `OutOfMemory` where memory ran out for one of them,
+/// `Io` where one had handled 2^64 - 1 items, and otherwise `None`. That a lane refused an item since the desk had
+/// ended is no fault.
 pub fn fault_of<N: PublisherName, S>(ends: &[LaneEnd<N, S>]) -> Option<FrontFault>
     ensures { result ≡ fault_among (map (λ end. end.refused) ends.now) }
 {

@@ -96,8 +96,8 @@ impl<N: PublisherName, P: Pace> MediaFront<N, P> {
     /// - A datagram of a member earns the credit of its octets.
     /// - The front tries to send what the intake asks the sender for, in order. Each of these datagrams costs its
     ///   octets. One that its address has too little credit for is dropped.
-    /// - Every lane is given each item. A NACK is cut at the numbers that the guard grants it, the first ones. A NACK, a
-    ///   report block or a PLI is left out where the guard grants it nothing.
+    /// - Every lane is given each item. A NACK is cut at the numbers that the guard grants it, the first ones. A NACK,
+    ///   a report block or a PLI is left out where the guard grants it nothing.
     ///
     /// On out of memory, the only error, nothing is sent, and no lane is given an item; the intake may have taken the
     /// datagram in.

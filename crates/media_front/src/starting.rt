@@ -94,8 +94,8 @@ where
     R: Threads + Wait + Copy + Send + Drop + 'static,
     F: Rouse + Clone + Send + Drop + 'static,
 {
-    /// Starts a lane for each of 1 to 16 readers, on a thread of its own. From its first parcel on a lane sleeps while it
-    /// has none, and tells `front` before it does. Until then it takes processor time.
+    /// Starts a lane for each of 1 to 16 readers, on a thread of its own. From its first parcel on a lane sleeps while
+    /// it has none, and tells `front` before it does. Until then it takes processor time.
     ///
     /// The fault is `Count` where there is no reader. All lanes have been ended and dropped after any fault.
     pub fn start(
