@@ -1,12 +1,16 @@
 -- What texts spell.
 use Rattle.std.proofs.Common.{rules, ◌≡◌, ◌==◌, ℕ, Bool, true, false, nat_lt, if◌then◌else◌, List, [], ◌∷◌, length, Ok, Err, sym, ap, subst, ◌∙◌}
-use Rattle.std.specs.Prelude.{Result, OnOk}
+use Rattle.std.specs.Prelude.{Result, OnOk, codes}
+use Rattle.std.specs.List.{join_with_byte}
+use Rattle.std.proofs.lemmas.List.Splits.{join_with_byte-slice_split}
+use Rattle.desk_rows.specs.declared.row.Member.{Member}
+use Rattle.desk_edit.specs.declared.command.Command.TheVariants.{AddMember}
 use Rattle.desk_edit.specs.Asked.{CallOf}
 use Rattle.script_text.specs.declared.fault.Fault.{Fault}
 use Rattle.script_text.specs.declared.fault.Fault.TheVariants.{LineTooLong}
 use Rattle.script_text.specs.declared.line.TheConstants.{LINE_LIMIT}
 use Rattle.script_text.specs.Words.{words_of}
-use Rattle.script_text.specs.Calls.{call_of, spoken_words, spoken_call}
+use Rattle.script_text.specs.Calls.{command_words, SpellCommand, call_of, spoken_words, spoken_call}
 
 abbrev Fails : {A : Type 0} → Result A (ℕ × Fault) → Type 0
 Fails (Ok x) = ⊥
@@ -28,6 +32,14 @@ within true read call is = absurd (subst Fails is tt)
 -- a text that spells a call has words
 pub spoken : (text : List ℕ) (call : CallOf) → spoken_call text ≡ Ok call → call_of 0 (words_of text) ≡ Ok call
 spoken text call is = in_words text call (within (nat_lt LINE_LIMIT (length text)) (call_of 0 (spoken_words text)) call is)
+
+-- texts of the same words are one
+pub same_words : (first second : List ℕ) → words_of first ≡ words_of second → first ≡ second
+same_words first second same = sym (join_with_byte-slice_split 32 first) ∙ (ap (join_with_byte 32) same ∙ join_with_byte-slice_split 32 second)
+
+-- words that spell the addition of a member are its words
+pub member_words : (words : List (List ℕ)) (m : Member) → SpellCommand words (AddMember m) → words ≡ command_words (AddMember m)
+member_words words m spelt = spelt.1 ∙ ap (λ (t : List (List ℕ)). codes "add-member" ∷ t) spelt.2
 
 -- what follows holds too where it went well
 pub on_ok : {A E : Type 0} {P Q : Type 0} (r : Result A E) → (P → Q) → OnOk r P → OnOk r Q

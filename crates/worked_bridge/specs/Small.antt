@@ -22,7 +22,7 @@ member number host out_audio = record {
 -- room 1, the video source 101, the slot 501 and its sub
 abbrev pub small_rows : List Row
 small_rows =
-    rows.Room (record { room = 1 })
+    rows.Room (record { room = 1; rate = 8000 })
     ∷ rows.Source (record { ssrc = 101; member = 10; media = medias.Video })
     ∷ rows.Slot (record { out_ssrc = 501; member = 11; index = 0; first_seq = 65535; first_ts = 1000 })
     ∷ rows.Sub (record { out_ssrc = 501; source = 101 })

@@ -52,7 +52,14 @@ pub fn adds_no_room_twice(alloc: Global, core: &mut Core) -> Reply
     requires desk { core.old.desk ≡ small }
     ensures { result ≡ Reply.Refused 6 Refusal.Exists }
 {
-    core.desk(alloc, 0, Call::Apply(Command::AddRoom(Room { room: 1 })))
+    core.desk(
+        alloc,
+        0,
+        Call::Apply(Command::AddRoom(Room {
+            room: 1,
+            rate: 8_000,
+        })),
+    )
 }
 
 /// A full log is told where nothing else stands against a room.
@@ -63,7 +70,14 @@ pub fn adds_no_room_to_a_full_log(alloc: Global, core: &mut Core) -> Reply
     ensures answer { result ≡ Reply.Refused 1048576 Refusal.LogFull }
     ensures same { core.new ≡ core.old }
 {
-    core.desk(alloc, 0, Call::Apply(Command::AddRoom(Room { room: 2 })))
+    core.desk(
+        alloc,
+        0,
+        Call::Apply(Command::AddRoom(Room {
+            room: 2,
+            rate: 8_000,
+        })),
+    )
 }
 
 /// A group of no command is told so before a full log.
@@ -93,7 +107,7 @@ pub fn carries_out_no_group_in_a_full_log(
 ) -> Reply
     requires version { core.old.version ≡ 1048576 }
     requires desk { core.old.desk ≡ small }
-    requires commands { commands.items ≡ Command.AddRoom (record { room = 1 }) ∷ [] }
+    requires commands { commands.items ≡ Command.AddRoom (record { room = 1; rate = 8000 }) ∷ [] }
     ensures { result ≡ Reply.Refused 1048576 Refusal.LogFull }
 {
     core.desk(alloc, 0, Call::Group(commands))
@@ -109,7 +123,7 @@ pub fn carries_out_no_group_with_a_refused_part(
     requires version { core.old.version ≡ 6 }
     requires desk { core.old.desk ≡ small }
     requires commands { commands.items
-        ≡ Command.AddRoom (record { room = 1 }) ∷ Command.AddRoom (record { room = 2 }) ∷ [] }
+        ≡ Command.AddRoom (record { room = 1; rate = 8000 }) ∷ Command.AddRoom (record { room = 2; rate = 8000 }) ∷ [] }
     ensures answer { result ≡ Reply.Refused 6 (Refusal.PartRefused 0 Reason.Exists) }
     ensures same { core.new ≡ core.old }
 {

@@ -6,7 +6,8 @@ ghost use Rattle.rtp_codec.specs.declared.address.Address.{Address};
 ghost use Rattle.desk_rows.specs.Desk.{Desk, blank, good};
 ghost use Rattle.frame_gate.specs.Frame.{SourcePacket};
 ghost use Rattle.media_items.specs.Frame.{SourceFrame};
-ghost use Rattle.desk_edit.specs.Asked.{asked_by};
+ghost use Rattle.desk_rows.specs.declared.row.Member.{Member as MemberOf};
+ghost use Rattle.desk_edit.specs.Asked.{CallOf, asked_by};
 ghost use Rattle.desk_edit.specs.declared.refusal.Refusal.{Refusal as RefusalOf};
 ghost use Rattle.desk_edit.specs.Refusals.{first_case};
 ghost use Rattle.bridge_core.specs.Sent.{Sent, sent_of};
@@ -24,7 +25,7 @@ ghost use Rattle.script_text.specs.Scripts.{answers_of, sent_in, steps_of};
 ghost use Rattle.script_text.specs.Output.{output_of};
 
 use bridge_core::{Core, Egress, Reply};
-use desk_edit::Call;
+use desk_edit::{Call, Command};
 use hex::{decode, encode};
 use rtp_codec::Address;
 use script_text::{
@@ -44,13 +45,16 @@ pub fn texts_of_the_same_words_are_one(first: &[u8], second: &[u8]) -> bool
     first == second
 }
 
-/// Texts that spell one call are one text.
-pub fn one_call_is_spelt_in_one_way(
+/// Texts that spell one undo are one text, and so are texts that add one member.
+pub fn a_call_without_a_rate_is_spelt_in_one_way(
     alloc: Global,
     first: &[u8],
     second: &[u8],
 ) -> Option<(Call, Call)>
-    ensures { IfSome result (λ both. asked_by both.0 ≡ asked_by both.1 → first.now ≡ second.now) }
+    ensures undo { IfSome result (λ both. (last : ℕ) → asked_by both.0 ≡ CallOf.Undo last
+        → asked_by both.1 ≡ CallOf.Undo last → first.now ≡ second.now) }
+    ensures member { IfSome result (λ both. (m : MemberOf) → asked_by both.0 ≡ CallOf.Apply (Command.AddMember m)
+        → asked_by both.1 ≡ CallOf.Apply (Command.AddMember m) → first.now ≡ second.now) }
 {
     call_lines();
     let Ok(one) = parse_desk(alloc, first) else {

@@ -18,6 +18,18 @@ pub fn spells_an_undo(alloc: Global, text: &[u8]) -> Result<Call, ParseFault>
     parse_desk(alloc, text)
 }
 
+/// A call that adds a room. A rate may stand behind the room, and is else 8000 Hz.
+pub fn spells_a_room(alloc: Global, text: &[u8]) -> Result<Call, ParseFault>
+    ensures music { text.now ≡ codes "add-room 1 44100"
+        → result ≡ Ok (Call.Apply (Command.AddRoom (record { room = 1; rate = 44100 }))) }
+    ensures usual { text.now ≡ codes "add-room 1"
+        → result ≡ Ok (Call.Apply (Command.AddRoom (record { room = 1; rate = 8000 }))) }
+    ensures number { text.now ≡ codes "add-room 1 x" → result ≡ Err (ParseFault.Line 3 Fault.BadNumber) }
+    ensures behind { text.now ≡ codes "add-room 1 8000 2" → result ≡ Err (ParseFault.Line 4 Fault.ExtraWord) }
+{
+    parse_desk(alloc, text)
+}
+
 /// A call of one command. The empty text has no word.
 pub fn spells_a_command(alloc: Global, text: &[u8]) -> Result<Call, ParseFault>
     ensures member { text.now ≡ codes "add-member 1 2 3.4.5.6:7 l16 8 9 10"
@@ -42,7 +54,7 @@ pub fn spells_a_command(alloc: Global, text: &[u8]) -> Result<Call, ParseFault>
 pub fn spells_a_group(alloc: Global, text: &[u8]) -> Result<Call, ParseFault>
     ensures two { text.now ≡ codes "group add-room 7 / remove-room 7"
         → IfOk result (λ call. asked_by call ≡ CallOf.Group
-        (Command.AddRoom (record { room = 7 }) ∷ Command.RemoveRoom 7 ∷ [])) }
+        (Command.AddRoom (record { room = 7; rate = 8000 }) ∷ Command.RemoveRoom 7 ∷ [])) }
     ensures good { text.now ≡ codes "group add-room 7 / remove-room 7" → (word : ℕ) (fault : Fault)
         → result ≢ Err (ParseFault.Line word fault) }
     ensures empty { text.now ≡ codes "group" → IfOk result (λ call. ⊥) }

@@ -6,7 +6,7 @@ use Rattle.desk_edit.specs.declared.command.Command.TheVariants as commands
 use Rattle.worked_desk.specs.Rows.{member}
 
 abbrev pub add_room : ℕ → Command
-add_room number = commands.AddRoom (record { room = number })
+add_room number = commands.AddRoom (record { room = number; rate = 8000 })
 
 abbrev pub remove_room : ℕ → Command
 remove_room number = commands.RemoveRoom number

@@ -9,3 +9,4 @@ pub mod RefusalCases
 pub mod DeskCases
 pub mod GroupCases
 pub mod ShownRooms
+pub mod TwoRates

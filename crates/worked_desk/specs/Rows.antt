@@ -19,7 +19,7 @@ member number room port out_audio = record {
 }
 
 abbrev pub room : ℕ → Row
-room number = rows.Room (record { room = number })
+room number = rows.Room (record { room = number; rate = 8000 })
 
 -- a source of a member, by its SSRC
 abbrev pub video : ℕ → ℕ → Row

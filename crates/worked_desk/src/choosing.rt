@@ -15,7 +15,10 @@ use topology::{
 
 /// A slot with a subscription sends its source or nothing: neither pin nor floor stands in for it.
 pub fn sends_its_subscription_or_nothing(rows: &Rows, out_ssrc: u32) -> Option<u32>
-    ensures { (slot : Slot) (source : ℕ) → slot_at rows.now out_ssrc ≡ Some slot → subscribed rows.now out_ssrc ≡ Some source → IfSome result (λ chosen. chosen ≡ source) }
+    ensures { (slot : Slot) (source : ℕ)
+        → slot_at rows.now out_ssrc ≡ Some slot
+        → subscribed rows.now out_ssrc ≡ Some source
+        → IfSome result (λ chosen. chosen ≡ source) }
 {
     nothing_falls_through();
     choice(rows, out_ssrc)
@@ -23,7 +26,15 @@ pub fn sends_its_subscription_or_nothing(rows: &Rows, out_ssrc: u32) -> Option<u
 
 /// Where the floor decides, no video source of its holder has a lesser SSRC than the one that the slot sends.
 pub fn sends_the_least_video_of_the_floor(rows: &Rows, out_ssrc: u32) -> Option<u32>
-    ensures { (slot : Slot) (room member other : ℕ) → slot_at rows.now out_ssrc ≡ Some slot → subscribed rows.now out_ssrc ≡ None → slot.index ≡ 0 → room_of_member rows.now slot.member ≡ Some room → pinned rows.now room ≡ None → holder rows.now room ≡ Some member → option_map (is_video_of member) (source_at rows.now other) ≡ Some true → IfSome result (λ chosen. chosen ≤ other) }
+    ensures { (slot : Slot) (room member other : ℕ)
+        → slot_at rows.now out_ssrc ≡ Some slot
+        → subscribed rows.now out_ssrc ≡ None
+        → slot.index ≡ 0
+        → room_of_member rows.now slot.member ≡ Some room
+        → pinned rows.now room ≡ None
+        → holder rows.now room ≡ Some member
+        → option_map (is_video_of member) (source_at rows.now other) ≡ Some true
+        → IfSome result (λ chosen. chosen ≤ other) }
 {
     first_videos_are_least();
     nothing_falls_through();

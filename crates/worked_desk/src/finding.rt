@@ -173,7 +173,9 @@ pub fn subs_of(rows: &Rows, source: u32) -> &[Sub]
 /// The slots of a member are its own alone.
 pub fn slots_of(rows: &Rows, member: u32) -> &[Slot]
     requires { rows.now ≡ two_rooms }
-    ensures one { member ≡ 12 → filter (λ s. nat_eq s.index 0) result.now ≡ record { out_ssrc = 502; member = 12; index = 0; first_seq = 65535; first_ts = 1000 } ∷ [] }
+    ensures one { member ≡ 12
+        → filter (λ s. nat_eq s.index 0) result.now
+        ≡ record { out_ssrc = 502; member = 12; index = 0; first_seq = 65535; first_ts = 1000 } ∷ [] }
     ensures no_second { member ≡ 12 → filter (λ s. nat_eq s.index 1) result.now ≡ [] }
     ensures none { member ≡ 10 → filter (λ s. nat_eq s.index 0) result.now ≡ [] }
 {

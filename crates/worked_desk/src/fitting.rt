@@ -4,7 +4,8 @@ ghost use Rattle.std.specs.Prelude.{◌≡◌};
 ghost use Rattle.worked_desk.specs.Cases.{Answers};
 ghost use Rattle.worked_desk.specs.TwoRooms.{two_rooms};
 ghost use Rattle.worked_desk.specs.FullDesks.{of_rooms, of_audio};
-ghost use Rattle.worked_desk.specs.FitCases.{taking, taking_members, putting_members, putting, putting_subs, replacing, moving};
+ghost use Rattle.worked_desk.specs.FitCases.{taking, taking_members, putting_members, putting};
+ghost use Rattle.worked_desk.specs.FitCases.{putting_subs, replacing, moving};
 ghost use Rattle.worked_desk.specs.FitCases.{putting_a_65th_room, putting_a_65th_source};
 
 use desk_rows::{Edit, Rows};

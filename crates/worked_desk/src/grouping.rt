@@ -10,7 +10,8 @@ ghost use Rattle.worked_desk.specs.TwoRooms.{two_rooms};
 ghost use Rattle.worked_desk.specs.Edits.{takes, puts};
 ghost use Rattle.worked_desk.specs.Commands.{add_room};
 ghost use Rattle.worked_desk.specs.FullDesks.{of_rooms};
-ghost use Rattle.worked_desk.specs.GroupCases.{handing_over, handed_over, grouping, grouping_at_once, grouping_at_63_rooms, absorbing_lists};
+ghost use Rattle.worked_desk.specs.GroupCases.{handing_over, handed_over, absorbing_lists};
+ghost use Rattle.worked_desk.specs.GroupCases.{grouping, grouping_at_once, grouping_at_63_rooms};
 
 use desk_edit::{Command, GroupRefusal, Reason, Refusal, plan_group, size_refused};
 use desk_rows::{Edit, Rows};
@@ -61,7 +62,8 @@ pub fn comes_back_as_one(
 
 /// What stands against a group first. Memory may run out before it is found.
 pub fn group_refusal(alloc: Global, rows: &Rows, commands: &[Command]) -> Option<Refusal>
-    ensures { result ≢ Some Refusal.OutOfMemory → result ≡ option_map refusal_of_group (group_refused rows.now commands.now) }
+    ensures { result ≢ Some Refusal.OutOfMemory
+        → result ≡ option_map refusal_of_group (group_refused rows.now commands.now) }
 {
     match plan_group(alloc, rows, commands) {
         Ok(_) => None,
@@ -71,9 +73,12 @@ pub fn group_refusal(alloc: Global, rows: &Rows, commands: &[Command]) -> Option
 
 /// Each group is refused by its size or by its first part that is refused.
 pub fn refuses_groups(alloc: Global, rows: &Rows, commands: &[Command]) -> Option<Refusal>
-    ensures two_rooms { rows.now ≡ two_rooms → result ≢ Some Refusal.OutOfMemory → Answers grouping commands.now result }
-    ensures empty { rows.now ≡ blank 1 → result ≢ Some Refusal.OutOfMemory → Answers grouping_at_once commands.now result }
-    ensures rooms { rows.now ≡ of_rooms 63 → result ≢ Some Refusal.OutOfMemory → Answers grouping_at_63_rooms commands.now result }
+    ensures two_rooms { rows.now ≡ two_rooms → result ≢ Some Refusal.OutOfMemory
+        → Answers grouping commands.now result }
+    ensures empty { rows.now ≡ blank 1 → result ≢ Some Refusal.OutOfMemory
+        → Answers grouping_at_once commands.now result }
+    ensures rooms { rows.now ≡ of_rooms 63 → result ≢ Some Refusal.OutOfMemory
+        → Answers grouping_at_63_rooms commands.now result }
 {
     group_refusal(alloc, rows, commands)
 }

@@ -7,6 +7,7 @@
 #![tactic(auto)]
 
 pub mod choosing;
+pub mod clock_rates;
 pub mod comparing;
 pub mod exchanging;
 pub mod finding;

@@ -1,13 +1,13 @@
 //! What commands make of a desk: the cases of `specs/DeskCases.antt`, and the two rooms themselves.
 
 ghost use Rattle.std.specs.Prelude.{◌≡◌, IfOk, OnOk};
-ghost use Rattle.desk_rows.specs.declared.row.Key.TheVariants.{Room as RoomKey};
+ghost use Rattle.desk_rows.specs.declared.key.Key.TheVariants.{Room as RoomKey};
 ghost use Rattle.desk_edit.specs.Commands.{desk_after};
 ghost use Rattle.desk_edit.specs.Depends.{IsDependent};
 ghost use Rattle.worked_desk.specs.Cases.{Answers};
 ghost use Rattle.worked_desk.specs.Rows.{member, video, sub};
 ghost use Rattle.worked_desk.specs.TwoRooms.{two_rooms};
-ghost use Rattle.worked_desk.specs.Commands.{add_slot, subscribe};
+ghost use Rattle.worked_desk.specs.Commands.{add_room, add_slot, subscribe};
 ghost use Rattle.worked_desk.specs.DeskCases.{carrying_out, other_source};
 
 use desk_edit::{Command, Refusal, dependent_rows_go, plan};
@@ -30,6 +30,15 @@ pub fn carries_out(alloc: Global, rows: &mut Rows, command: &Command) -> Result<
     ensures { OnOk result (Answers carrying_out command.now rows.new) }
 {
     carry_out(alloc, rows, command)
+}
+
+fn room(number: u32) -> Command
+    ensures { result ≡ add_room number }
+{
+    Command::AddRoom(Room {
+        room: number,
+        rate: 8_000,
+    })
 }
 
 fn member(number: u32, room: u32, port: u16, out_audio: u32) -> Command
@@ -84,8 +93,8 @@ pub fn make_two_rooms(alloc: Global) -> Result<Rows, Refusal>
     let Ok(mut rows) = Rows::new(alloc, 1) else {
         return Err(Refusal::OutOfMemory);
     };
-    carry_out(alloc, &mut rows, &Command::AddRoom(Room { room: 1 }))?;
-    carry_out(alloc, &mut rows, &Command::AddRoom(Room { room: 2 }))?;
+    carry_out(alloc, &mut rows, &room(1))?;
+    carry_out(alloc, &mut rows, &room(2))?;
     carry_out(alloc, &mut rows, &member(10, 1, 5000, 9001))?;
     carry_out(alloc, &mut rows, &member(11, 1, 5001, 9002))?;
     carry_out(alloc, &mut rows, &member(12, 2, 5002, 9003))?;

@@ -3,7 +3,8 @@
 ghost use Rattle.std.specs.Prelude.{◌≡◌, true, IfOk};
 ghost use Rattle.desk_rows.specs.Desk.{good};
 ghost use Rattle.worked_desk.specs.Cases.{Answers};
-ghost use Rattle.worked_desk.specs.ShownRooms.{shown_rooms, by_subscription, by_room, by_nothing, who_gets, at_addresses};
+ghost use Rattle.worked_desk.specs.ShownRooms.{shown_rooms, by_subscription, by_room, by_nothing};
+ghost use Rattle.worked_desk.specs.ShownRooms.{who_gets, at_addresses};
 
 use desk_rows::Rows;
 use rtp_codec::Address;

@@ -11,15 +11,18 @@ ghost use Rattle.frame_gate.specs.laws.WholeDivision.{IsDivision};
 use frame_gate::{Admitted, Gate, Packet, whole_division};
 use std::alloc::{AllocError, Global};
 
-/// However someone divides what the gate has in a row after one more packet, if it is where a piece ends or the timestamp is
-/// another and nowhere else, the frames are those that the gate has let go of.
+/// One more packet comes, and someone divides what the gate then has in a row: where a piece ends or the timestamp is
+/// another, and nowhere else. The frames of that division are those that the gate has let go of.
 pub fn lets_go_of_the_one_division(
     gate: &mut Gate,
     alloc: Global,
     packet: Packet,
 ) -> Result<Admitted, AllocError>
     requires { packet.pt ≤ highest_pt }
-    ensures { IfOk result (λ a. (before : List NumberedPacket) (d : Divided) → Represents gate.old before → (let then = after (epoch_of before) (numbered (pos 7) packet) in IsDivision (run then) d → frames_of (epoch_of before) ++ a.frames ≡ then.earlier ++ frames_in d)) }
+    ensures { IfOk result (λ a. (before : List NumberedPacket) (d : Divided)
+        → Represents gate.old before
+        → (let then = after (epoch_of before) (numbered (pos 7) packet) in
+        IsDivision (run then) d → frames_of (epoch_of before) ++ a.frames ≡ then.earlier ++ frames_in d)) }
 {
     whole_division();
     gate.admit(alloc, 7, packet)

@@ -30,7 +30,8 @@ pub fn a_hole_is_asked_for(alloc: Global) -> Result<Admitted, AllocError>
 
 /// The packet that was asked for closes the frame.
 pub fn the_hole_is_filled(alloc: Global) -> Result<Admitted, AllocError>
-    ensures frames { IfOk result (λ a. a.frames ≡ frame 12000 (sent (pos 102) false (172 ∷ []) ∷ sent (pos 103) true (173 ∷ []) ∷ []) ∷ []) }
+    ensures frames { IfOk result (λ a.
+        a.frames ≡ frame 12000 (sent (pos 102) false (172 ∷ []) ∷ sent (pos 103) true (173 ∷ []) ∷ []) ∷ []) }
     ensures nacks { IfOk result (λ a. a.nacks ≡ []) }
 {
     let mut gate = Gate::new(alloc)?;

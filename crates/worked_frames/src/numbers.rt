@@ -40,7 +40,8 @@ pub fn the_first_piece_is_late_too(alloc: Global) -> Result<Admitted, AllocError
 
 /// A run goes on from below 0.
 pub fn numbers_go_on_from_below_zero(alloc: Global) -> Result<Admitted, AllocError>
-    ensures { IfOk result (λ a. a.frames ≡ frame 12000 (sent (negsuc 0) false (172 ∷ []) ∷ sent (pos 0) false (173 ∷ []) ∷ []) ∷ []) }
+    ensures { IfOk result (λ a.
+        a.frames ≡ frame 12000 (sent (negsuc 0) false (172 ∷ []) ∷ sent (pos 0) false (173 ∷ []) ∷ []) ∷ []) }
 {
     let mut gate = Gate::new(alloc)?;
     give(&mut gate, alloc, -2, true, 9000, b"\xab")?;

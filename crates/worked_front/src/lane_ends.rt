@@ -10,8 +10,8 @@ use media_front::fault_of;
 use media_workers::{LaneEnd, PublisherName};
 use udp_front::FrontFault;
 
-/// Three lanes: none refused an item, or two did since the desk had ended, or one had no numbers left, or memory ran out
-/// for another beside it.
+/// Three lanes: none refused an item, or two did since the desk had ended, or one had no numbers left, or memory ran
+/// out for another beside it.
 pub fn three_lanes_have_ended<N: PublisherName, S>(ends: &[LaneEnd<N, S>]) -> Option<FrontFault>
     ensures well { map (λ end. end.refused) ends.now ≡ None ∷ None ∷ None ∷ [] → result ≡ None }
     ensures stopped { (item other : Item Heap)

@@ -50,7 +50,7 @@ abbrev pub three_with : List Row → Desk
 three_with more = record {
   bridge_ssrc = 1;
   members = first ∷ second ∷ third ∷ [];
-  others = rows.Room (record { room = 1 }) ∷ audio 21 1 ∷ audio 22 2 ∷ audio 23 3 ∷ more;
+  others = rows.Room (record { room = 1; rate = 8000 }) ∷ audio 21 1 ∷ audio 22 2 ∷ audio 23 3 ∷ more;
 }
 
 -- one sample of each source
@@ -73,7 +73,7 @@ abbrev pub sixteen_sources : Desk
 sixteen_sources = record {
   bridge_ssrc = 1;
   members = first ∷ second ∷ [];
-  others = rows.Room (record { room = 1 }) ∷ map (λ ssrc. audio ssrc 2) (range_with_len 101 16);
+  others = rows.Room (record { room = 1; rate = 8000 }) ∷ map (λ ssrc. audio ssrc 2) (range_with_len 101 16);
 }
 
 -- each of them came in with one sample of 100, and then there were three ticks

@@ -3,7 +3,8 @@
 ghost use Rattle.std.specs.Prelude.{◌≡◌, pos, [], ◌∷◌, IfOk};
 ghost use Rattle.std.specs.List.{range_with_len};
 ghost use Rattle.mixer.specs.Mixers.{WasGiven};
-ghost use Rattle.worked_media.specs.Rooms.{first, second, third, mute, gain, three_with, sixteen_sources, two_ticks_later, three_ticks_later, four_ticks_later, all_sixteen_said, mix_to};
+ghost use Rattle.worked_media.specs.Rooms.{first, second, third, mute, gain, three_with, sixteen_sources, mix_to};
+ghost use Rattle.worked_media.specs.Rooms.{two_ticks_later, three_ticks_later, four_ticks_later, all_sixteen_said};
 
 use desk_rows::Rows;
 use forward_rewrite::Counts;
@@ -11,8 +12,8 @@ use media_items::LanePlace;
 use mixer::{MixPacket, Mixer};
 use std::alloc::{AllocError, Global};
 
-/// In the fourth tick after their samples, 60 ms on, each member hears the other two. A muted one isn't heard, and a gain of 128 makes
-/// it half as loud.
+/// In the fourth tick after their samples, 60 ms on, each member hears the other two. A muted one isn't heard, and a
+/// gain of 128 makes it half as loud.
 pub fn each_hears_the_other_two(
     alloc: Global,
     mixer: &mut Mixer,
@@ -22,9 +23,24 @@ pub fn each_hears_the_other_two(
     requires lane { place.now.lane ≡ 0 }
     requires lanes { place.now.lanes ≡ 1 }
     requires given { WasGiven 0 1 mixer.old (three_ticks_later rows.now) }
-    ensures all { rows.now ≡ three_with [] → IfOk result (λ sent. sent.items ≡ mix_to first (22 ∷ 23 ∷ []) (pos 6000) ∷ mix_to second (21 ∷ 23 ∷ []) (pos 5000) ∷ mix_to third (21 ∷ 22 ∷ []) (pos 3000) ∷ []) }
-    ensures muted { rows.now ≡ three_with (mute 22 ∷ []) → IfOk result (λ sent. sent.items ≡ mix_to first (23 ∷ []) (pos 4000) ∷ mix_to second (21 ∷ 23 ∷ []) (pos 5000) ∷ mix_to third (21 ∷ []) (pos 1000) ∷ []) }
-    ensures half { rows.now ≡ three_with (gain 1 22 128 ∷ []) → IfOk result (λ sent. sent.items ≡ mix_to first (22 ∷ 23 ∷ []) (pos 5000) ∷ mix_to second (21 ∷ 23 ∷ []) (pos 5000) ∷ mix_to third (21 ∷ 22 ∷ []) (pos 3000) ∷ []) }
+    ensures all { rows.now ≡ three_with [] → IfOk result (λ sent.
+        sent.items
+        ≡ mix_to first (22 ∷ 23 ∷ []) (pos 6000)
+        ∷ mix_to second (21 ∷ 23 ∷ []) (pos 5000)
+        ∷ mix_to third (21 ∷ 22 ∷ []) (pos 3000)
+        ∷ []) }
+    ensures muted { rows.now ≡ three_with (mute 22 ∷ []) → IfOk result (λ sent.
+        sent.items
+        ≡ mix_to first (23 ∷ []) (pos 4000)
+        ∷ mix_to second (21 ∷ 23 ∷ []) (pos 5000)
+        ∷ mix_to third (21 ∷ []) (pos 1000)
+        ∷ []) }
+    ensures half { rows.now ≡ three_with (gain 1 22 128 ∷ []) → IfOk result (λ sent.
+        sent.items
+        ≡ mix_to first (22 ∷ 23 ∷ []) (pos 5000)
+        ∷ mix_to second (21 ∷ 23 ∷ []) (pos 5000)
+        ∷ mix_to third (21 ∷ 22 ∷ []) (pos 3000)
+        ∷ []) }
 {
     mixer.tick(alloc, place, rows, 60_000_000)
 }
@@ -61,10 +77,11 @@ pub fn the_sixteenth_contributor_is_not_named(
     mixer.tick(alloc, place, rows, 60_000_000)
 }
 
-/// After its first packet, of 160 samples of two octets, this is told of the first member's mix; and nothing before it.
+/// Nothing is told of the first member's mix before its first packet, which has 160 samples of two octets.
 pub fn a_mix_is_told_of_from_its_first_packet_on(mixer: &Mixer) -> Option<Counts>
     ensures before { WasGiven 0 1 mixer.now (three_ticks_later (three_with [])) → result ≡ None }
-    ensures after { WasGiven 0 1 mixer.now (four_ticks_later (three_with [])) → result ≡ Some (record { ssrc = 9001; packets = 1; octets = 320; ts = 1000; moment = 60000000; rate = 8000 }) }
+    ensures after { WasGiven 0 1 mixer.now (four_ticks_later (three_with []))
+        → result ≡ Some (record { ssrc = 9001; packets = 1; octets = 320; ts = 1000; moment = 60000000; rate = 8000 }) }
 {
     mixer.counts(9001)
 }

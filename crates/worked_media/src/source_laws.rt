@@ -14,10 +14,12 @@ ghost use Rattle.source_valid.specs.laws.Steady.{Arrived, AreEven};
 ghost use Rattle.source_valid.specs.laws.TrueNumbers.{AreNear, with_numbers};
 
 use rtcp_codec::ReportBlock;
-use source_valid::{Source, delays, intervals, losses, probations, restarts, steady, true_numbers};
+use source_valid::{
+    SourceState, delays, intervals, losses, probations, restarts, steady, true_numbers,
+};
 
 /// The block of a source that is past probation.
-fn block(source: &mut Source, moment: u64) -> Option<ReportBlock>
+fn block(source: &mut SourceState, moment: u64) -> Option<ReportBlock>
     ensures { IfSome result (λ b. (before : List Step) (s : Stretch) → Represents source.old before
         → standing_of before ≡ Valid s → b ≡ block_of s (timing_of before) (heard_of before) 7 moment) }
 {
@@ -29,7 +31,7 @@ fn block(source: &mut Source, moment: u64) -> Option<ReportBlock>
 }
 
 /// Where each number that a sender gave is near the greatest before it, the greatest of all is told as the highest.
-pub fn tells_the_greatest_true_number(source: &mut Source) -> Option<ReportBlock>
+pub fn tells_the_greatest_true_number(source: &mut SourceState) -> Option<ReportBlock>
     ensures { IfSome result (λ b. (before : List Step) (s : Stretch) (xs : List ℕ) → standing_of before ≡ Valid s
         → AreNear (greatest_of s) xs → Represents source.old (before ++ map Number (map (λ x. x % 2 ^ 16) xs))
         → b.highest ≡ greatest_of (with_numbers s xs) % 2 ^ 32) }
@@ -39,7 +41,7 @@ pub fn tells_the_greatest_true_number(source: &mut Source) -> Option<ReportBlock
 }
 
 /// However many numbers came, none of which followed the one before it, the source is on probation.
-pub fn stays_on_probation(source: &Source) -> bool
+pub fn stays_on_probation(source: &SourceState) -> bool
     ensures { (first : ℕ) (ns : List ℕ) → NoneFollows first ns → Represents source.now (map Number (first ∷ ns))
         → result ≡ false }
 {
@@ -48,7 +50,7 @@ pub fn stays_on_probation(source: &Source) -> bool
 }
 
 /// The number that follows the last one of them ends probation.
-pub fn the_number_that_follows_ends_probation(source: &mut Source, seq: u16) -> bool
+pub fn the_number_that_follows_ends_probation(source: &mut SourceState, seq: u16) -> bool
     ensures { (first : ℕ) (ns : List ℕ) → NoneFollows first ns → Represents source.old (map Number (first ∷ ns))
         → seq ≡ following (last_of first ns) → result ≡ true }
 {
@@ -59,7 +61,7 @@ pub fn the_number_that_follows_ends_probation(source: &mut Source, seq: u16) -> 
 
 /// Behind two far numbers in a row a block tells of the second one alone: nothing is lost.
 pub fn tells_of_the_second_far_number_alone(
-    source: &mut Source,
+    source: &mut SourceState,
     far: u16,
     next: u16,
 ) -> Option<ReportBlock>
@@ -75,7 +77,7 @@ pub fn tells_of_the_second_far_number_alone(
 }
 
 /// Packets that were all as long on their way have no jitter.
-pub fn has_no_jitter(source: &mut Source) -> Option<ReportBlock>
+pub fn has_no_jitter(source: &mut SourceState) -> Option<ReportBlock>
     ensures { IfSome result (λ b. (before : List Step) (s : Stretch) (transit : ℕ) (arrived : List Arrived)
         → standing_of before ≡ Valid s → timing_of before ≡ untimed → AreEven transit arrived
         → Represents source.old (before ++ map (λ (a : Arrived). Arrival a.ts a.units) arrived) → b.jitter ≡ 0) }
@@ -85,7 +87,11 @@ pub fn has_no_jitter(source: &mut Source) -> Option<ReportBlock>
 }
 
 /// So many seconds behind a sender report the block tells just them, in units of 1/65536 second.
-pub fn tells_whole_seconds(source: &mut Source, moment: u32, seconds: u16) -> Option<ReportBlock>
+pub fn tells_whole_seconds(
+    source: &mut SourceState,
+    moment: u32,
+    seconds: u16,
+) -> Option<ReportBlock>
     ensures { IfSome result (λ b. (before : List Step) (s : Stretch) → Represents source.old before
         → standing_of before ≡ Valid s → b.dlsr ≡ seconds * 2 ^ 16) }
 {
@@ -97,7 +103,7 @@ pub fn tells_whole_seconds(source: &mut Source, moment: u32, seconds: u16) -> Op
 
 /// A block's fraction, of all that was expected so far, is no more than what was lost since the last block, and the
 /// fraction of what had been expected by then.
-pub fn tells_no_more_than_was_lost(source: &mut Source) -> Option<ReportBlock>
+pub fn tells_no_more_than_was_lost(source: &mut SourceState) -> Option<ReportBlock>
     ensures { IfSome result (λ b. (before : List Step) (s : Stretch) (later : List ℤ) → Represents source.old before
         → standing_of before ≡ Valid s → s.accepted ≡ s.told ++ later
         → (let expected = expected_of s.base s.accepted in
@@ -111,7 +117,7 @@ pub fn tells_no_more_than_was_lost(source: &mut Source) -> Option<ReportBlock>
 }
 
 /// All that was expected and didn't come is told as lost.
-pub fn tells_all_that_was_lost(source: &mut Source) -> Option<ReportBlock>
+pub fn tells_all_that_was_lost(source: &mut SourceState) -> Option<ReportBlock>
     ensures { IfSome result (λ b. (before : List Step) (s : Stretch) (n : ℕ) → Represents source.old before
         → standing_of before ≡ Valid s → expected_of s.base s.accepted ≡ received_of s.accepted + n → n < 2 ^ 23
         → b.lost ≡ pos n) }

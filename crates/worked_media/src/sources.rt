@@ -4,20 +4,20 @@ ghost use Rattle.std.specs.Prelude.{◌≡◌, pos, false, IfSome};
 ghost use Rattle.worked_media.specs.Blocks.{block};
 
 use rtcp_codec::ReportBlock;
-use source_valid::{Source, Verdict};
+use source_valid::{SourceState, Verdict};
 
 /// One number is not enough.
 pub fn is_on_probation_at_first() -> bool
     ensures { result ≡ false }
 {
-    Source::first(7).past_probation()
+    SourceState::first(7).past_probation()
 }
 
 /// Two numbers in a row are.
 pub fn two_in_a_row_end_probation() -> Verdict
     ensures { result ≡ Verdict.Accepted (pos 65535) }
 {
-    let mut source = Source::first(65534);
+    let mut source = SourceState::first(65534);
     source.update(65535)
 }
 
@@ -25,7 +25,7 @@ pub fn two_in_a_row_end_probation() -> Verdict
 pub fn two_with_one_left_out_do_not() -> Verdict
     ensures { result ≡ Verdict.Probation }
 {
-    let mut source = Source::first(7);
+    let mut source = SourceState::first(7);
     source.update(9)
 }
 
@@ -33,7 +33,7 @@ pub fn two_with_one_left_out_do_not() -> Verdict
 pub fn goes_on_over_the_wrap() -> Verdict
     ensures { result ≡ Verdict.Accepted (pos 65536) }
 {
-    let mut source = Source::first(65534);
+    let mut source = SourceState::first(65534);
     source.update(65535);
     source.update(0)
 }
@@ -42,7 +42,7 @@ pub fn goes_on_over_the_wrap() -> Verdict
 pub fn jumps_at_3000_ahead() -> Verdict
     ensures { result ≡ Verdict.Jump }
 {
-    let mut source = Source::first(0);
+    let mut source = SourceState::first(0);
     source.update(1);
     source.update(3001)
 }
@@ -51,7 +51,7 @@ pub fn jumps_at_3000_ahead() -> Verdict
 pub fn restarts_at_the_second_far_number() -> Verdict
     ensures { result ≡ Verdict.Restarted (pos 3002) }
 {
-    let mut source = Source::first(0);
+    let mut source = SourceState::first(0);
     source.update(1);
     source.update(3001);
     source.update(3002)
@@ -61,7 +61,7 @@ pub fn restarts_at_the_second_far_number() -> Verdict
 pub fn counts_what_comes_late() -> Verdict
     ensures { result ≡ Verdict.Accepted (pos 65438) }
 {
-    let mut source = Source::first(65534);
+    let mut source = SourceState::first(65534);
     source.update(65535);
     source.update(0);
     source.update(1);
@@ -73,7 +73,7 @@ pub fn tells_one_lost_of_four() -> Option<(ReportBlock, ReportBlock)>
     ensures first { IfSome result (λ blocks. blocks.0 ≡ block 64) }
     ensures again { IfSome result (λ blocks. blocks.1 ≡ block 0) }
 {
-    let mut source = Source::first(100);
+    let mut source = SourceState::first(100);
     source.update(101);
     source.update(102);
     source.update(104);

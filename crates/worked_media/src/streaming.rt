@@ -59,7 +59,8 @@ fn send(
     payload: &'static [u8],
 ) -> Result<Vec<OutPacket>, AllocError>
     ensures ssrc { stream.new.ssrc ≡ stream.old.ssrc }
-    ensures sends { IfOk result (λ out. GivesNext stream.old stream.new (sending source moment ts payload.now) out.items) }
+    ensures sends { IfOk result (λ out.
+        GivesNext stream.old stream.new (sending source moment ts payload.now) out.items) }
 {
     let frame = frame_of(alloc, source, moment, ts, payload)?;
     let stamp = Stamp {

@@ -3,7 +3,7 @@ use Rattle.std.proofs.Common.{◌≡◌, ℕ, List, length, sym, ap, ◌∙◌, 
 use Rattle.std.proofs.lemmas.List.{take_all}
 use Rattle.desk_rows.specs.Desk.{Desk, count_of}
 use Rattle.desk_rows.specs.Edit.{EditOf}
-use Rattle.desk_rows.specs.declared.row.Kind.{Kind}
+use Rattle.desk_rows.specs.declared.key.Kind.{Kind}
 use Rattle.desk_edit.specs.Calls.{desk_now}
 use Rattle.versions.specs.Published.{after_lists}
 use Rattle.operator_desk.specs.Entry.{EntryOf}

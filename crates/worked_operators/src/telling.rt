@@ -76,7 +76,10 @@ fn told_of_calls<'a, H: Hall, R: Wait + Print>(
 /// A room with two members, whose source is sent to the slot of the other.
 fn set_up() -> [Command; 6] {
     [
-        Command::AddRoom(Room { room: 1 }),
+        Command::AddRoom(Room {
+            room: 1,
+            rate: 8_000,
+        }),
         Command::AddMember(member(10, 1)),
         Command::AddMember(member(11, 2)),
         Command::AddSource(Source {

@@ -53,7 +53,7 @@ pub fn two_at_once<H: Hall + Send + Sync, R: Threads + Wait + Print + Sync>(
 }
 
 fn add_room(room: u32) -> Call {
-    Call::Apply(Command::AddRoom(Room { room }))
+    Call::Apply(Command::AddRoom(Room { room, rate: 8_000 }))
 }
 
 /// Two operators make a call each. Where both are accepted, the log is legal and has just these two, each by its

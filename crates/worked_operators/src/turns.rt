@@ -40,7 +40,7 @@ pub fn two_in_turn<H: Hall, R: Wait + Print>(
 }
 
 fn add_room(room: u32) -> Call {
-    Call::Apply(Command::AddRoom(Room { room }))
+    Call::Apply(Command::AddRoom(Room { room, rate: 8_000 }))
 }
 
 fn take_turns<'a, H: Hall, R: Wait + Print>(

@@ -29,7 +29,10 @@ pub fn used_log<H: Hall, R: Wait + Print>(
 {
     match SharedDesk::<H>::new(rt, alloc, log, blank, opened, 1, 1, 1) {
         Ok((desk, mut seats, _readers)) => {
-            let call = Call::Apply(Command::AddRoom(Room { room: 1 }));
+            let call = Call::Apply(Command::AddRoom(Room {
+                room: 1,
+                rate: 8_000,
+            }));
             let called = says(rt, alloc, &desk, &mut seats[0], call);
             let gathered = match desk.gather(rt, alloc, seats) {
                 Ok(log) => println!(rt; "gathered {}", log.len()),

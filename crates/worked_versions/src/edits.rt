@@ -18,7 +18,7 @@ pub fn puts_rooms(alloc: Global, first: u32, last: u32) -> Result<Edits<Edit>, A
     let mut edits = Vec::new(alloc);
     for room in first..=last {
         let mut rows = Vec::new(alloc);
-        rows.push(Row::Room(Room { room }))?;
+        rows.push(Row::Room(Room { room, rate: 8_000 }))?;
         edits.push(puts(alloc, Vec::new(alloc), rows))?;
     }
     Ok(Edits::new(edits))

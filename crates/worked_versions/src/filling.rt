@@ -16,7 +16,7 @@ const MEMBERS: u32 = MAX_MEMBERS as u32;
 fn rooms(alloc: Global) -> Result<Vec<Row>, AllocError> {
     let mut rows = Vec::new(alloc);
     for room in 0..ROOMS {
-        rows.push(Row::Room(Room { room }))?;
+        rows.push(Row::Room(Room { room, rate: 8_000 }))?;
     }
     Ok(rows)
 }

@@ -10,7 +10,7 @@ use Rattle.worked_bridge.proofs.Given.{asks, callless, faultless, told}
 use Rattle.worked_bridge.proofs.spelling.spells_a_group.Goals as goal
 
 abbrev two : CallOf
-two = Group (AddRoom (record { room = 7 }) ∷ RemoveRoom 7 ∷ [])
+two = Group (AddRoom (record { room = 7; rate = 8000 }) ∷ RemoveRoom 7 ∷ [])
 
 pub returns-clause-two : goal.returns-clause-two
 unfolding call_of headed last_of single command_of commands_of values_of address_of field_of

@@ -1,5 +1,5 @@
 use Rattle.std.proofs.Common.{◌⊎◌, inl, inr, refl}
-use Rattle.desk_rows.specs.declared.row.Key.TheVariants.{Room}
+use Rattle.desk_rows.specs.declared.key.Key.TheVariants.{Room}
 use Rattle.worked_desk.specs.Rows.{video, sub}
 use Rattle.worked_desk.specs.TwoRooms.{two_rooms}
 use Rattle.worked_desk.proofs.making.dependents.Goals as goal

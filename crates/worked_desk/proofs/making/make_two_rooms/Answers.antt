@@ -25,6 +25,8 @@ returns c =
       c.in_ok-carry_out-3.ensures,
       c.member.ensures,
       c.in_ok-carry_out-2.ensures,
+      c.room-2.ensures,
       c.in_ok-carry_out.ensures,
+      c.room.ensures,
       c.in-Ok.ensures.desk,
     ) refl
