@@ -84,7 +84,10 @@ fn add_rows(member: u32, commands: &mut Vec<Command>) -> Result<(), AllocError> 
 /// The commands that make the room. Each second slot shows the next member, and the first slots of two show member 3.
 pub fn set_up(alloc: Global) -> Result<Vec<Command>, AllocError> {
     let mut commands = Vec::new(alloc);
-    commands.push(Command::AddRoom(Room { room: 1 }))?;
+    commands.push(Command::AddRoom(Room {
+        room: 1,
+        rate: 8_000,
+    }))?;
     for before in 0..MEMBERS {
         add_rows(before + 1, &mut commands)?;
     }

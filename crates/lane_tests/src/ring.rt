@@ -7,6 +7,7 @@ ghost use Rattle.versions.specs.Published.{new_reader};
 use crate::beginning::begun;
 use crate::items::FitItem;
 use crate::paces::Held;
+use crate::rows::set_up;
 use crate::running::{Ends, Running};
 use crate::stage::OneDesk;
 use crate::told::{OfHall, Told};
@@ -106,7 +107,7 @@ fn is_held<H: Hall + Send + Sync + 'static, R: Threads + Wait + Copy + Send + 's
     }
 }
 
-/// The same, over a desk.
+/// The same, over a desk that is set up.
 fn scene<H: Hall + Send + Sync + 'static, R: Threads + Wait + Copy + Drop + Send + 'static>(
     rt: &R,
     alloc: Global,
@@ -122,10 +123,12 @@ fn scene<H: Hall + Send + Sync + 'static, R: Threads + Wait + Copy + Drop + Send
 {
     match OneDesk::<H>::open(rt, alloc, log, blank, opened, 1) {
         Some((desk, readers)) => {
+            let mut desk = desk;
+            let is_set_up = desk.does_all(rt, alloc, &set_up());
             let told = desk.notice(rt);
             let is_well = is_held(rt, alloc, readers, told);
             desk.end(rt);
-            is_well
+            is_set_up && is_well
         }
         None => false,
     }

@@ -31,7 +31,10 @@ fn member(member: u32, last: u32) -> Command {
 /// A room with two members. The video of one, source 101, goes to a slot of the other, 501, from number 65,535 on.
 pub fn set_up() -> [Command; 6] {
     [
-        Command::AddRoom(Room { room: 1 }),
+        Command::AddRoom(Room {
+            room: 1,
+            rate: 8_000,
+        }),
         member(10, 1),
         member(11, 2),
         Command::AddSource(Source {
