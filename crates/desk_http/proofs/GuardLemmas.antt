@@ -6,16 +6,16 @@ use Rattle.http_uri.specs.Uri.{uri_path}
 use Rattle.desk_http.specs.declared.site.Site.{Site}
 use Rattle.desk_http.specs.declared.asking.Wish.{Wish}
 use Rattle.desk_http.specs.declared.asking.Wish.TheVariants.{Page, Script, Style, Desk, Call, Refused}
-use Rattle.desk_http.specs.declared.asking.Refusal.{Refusal}
-use Rattle.desk_http.specs.declared.asking.Refusal.TheVariants.{ForeignHost, ForeignOrigin, NotAllowed, NoToken, NoLine, Reserved}
+use Rattle.desk_http.specs.declared.asking.PageRefusal.{PageRefusal}
+use Rattle.desk_http.specs.declared.asking.PageRefusal.TheVariants.{ForeignHost, ForeignOrigin, NotAllowed, NoToken, NoLine, Reserved}
 use Rattle.desk_http.specs.declared.asking.Place.{Place}
 use Rattle.desk_http.specs.declared.asking.Place.TheVariants as places
-use Rattle.desk_http.specs.Asked.{wish_of, wish_at, call_wish, line_wish, place_of, has_own_host, has_own_origin, has_token, is_method}
+use Rattle.desk_http.specs.Asked.{wish_of, wish_at, call_wish, line_wish, place_at, has_own_host, has_own_origin, has_token, is_method}
 use Rattle.desk_http.specs.Lines.{is_line, is_reserved}
 use Rattle.desk_http.specs.Guarded.{Passes}
 
 -- a wish behind two tests is a call only where both pass
-two_tests : (a b : Bool) (x y : Refusal) (w : Wish) → (if not a then Refused x else if not b then Refused y else w) ≡ Call
+two_tests : (a b : Bool) (x y : PageRefusal) (w : Wish) → (if not a then Refused x else if not b then Refused y else w) ≡ Call
     → (a ≡ true) × (b ≡ true) × (w ≡ Call)
 two_tests false b x y w e = absurd (cc)
 two_tests true false x y w e = absurd (cc)
@@ -44,7 +44,7 @@ at_call site request (Some places.Call) e = e
 
 pub call-passes : (site : Site) (request : Request (List ℕ)) → wish_of site request ≡ Call → Passes site request
 call-passes site request e =
-    let place = place_of (uri_path (head_of request).uri) in
+    let place = place_at (uri_path (head_of request).uri) in
     let own = two_tests (has_own_host site request) (has_own_origin site request) ForeignHost ForeignOrigin (wish_at site request place) e in
     let called = at_call site request place own.2 in
     let posted = two_tests (is_method request (codes "POST")) (has_token site request) NotAllowed NoToken (line_wish (body_of request)) called in

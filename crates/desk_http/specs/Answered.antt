@@ -7,8 +7,8 @@ use Rattle.desk_http.specs.declared.site.Site.{Site}
 use Rattle.desk_http.specs.declared.site.Files.{Files}
 use Rattle.desk_http.specs.declared.asking.Wish.{Wish}
 use Rattle.desk_http.specs.declared.asking.Wish.TheVariants as wishes
-use Rattle.desk_http.specs.declared.asking.Refusal.{Refusal}
-use Rattle.desk_http.specs.declared.asking.Refusal.TheVariants.{ForeignHost, ForeignOrigin, NotFound, NotAllowed, NoToken, NoLine, Reserved}
+use Rattle.desk_http.specs.declared.asking.PageRefusal.{PageRefusal}
+use Rattle.desk_http.specs.declared.asking.PageRefusal.TheVariants.{ForeignHost, ForeignOrigin, NotFound, NotAllowed, NoToken, NoLine, Reserved}
 use Rattle.desk_http.specs.declared.answering.Told.{Told}
 use Rattle.desk_http.specs.declared.answering.Told.TheVariants.{Said, Busy, Gone, Lost}
 
@@ -53,12 +53,13 @@ text_reply status text = record { status = status; kind = text_kind; body = text
 abbrev pub page_reply : Files → List ℕ → Reply
 page_reply files token = record { status = 200; kind = html_kind; body = files.front.now ++ token ++ files.back.now }
 
--- the page's script, in two parts
+-- the page's script, in three parts
 abbrev pub script_reply : Files → Reply
-script_reply files = record { status = 200; kind = script_kind; body = files.lines.now ++ files.script.now }
+script_reply files =
+    record { status = 200; kind = script_kind; body = files.lines.now ++ files.past.now ++ files.script.now }
 
 -- the status of a refusal
-abbrev pub refusal_status : Refusal → ℕ
+abbrev pub refusal_status : PageRefusal → ℕ
 refusal_status ForeignHost = 403
 refusal_status ForeignOrigin = 403
 refusal_status NotFound = 404
@@ -68,7 +69,7 @@ refusal_status NoLine = 400
 refusal_status Reserved = 400
 
 -- a refusal in words, its name first
-abbrev pub refusal_text : Refusal → List ℕ
+abbrev pub refusal_text : PageRefusal → List ℕ
 refusal_text ForeignHost = codes "ForeignHost: this page answers to its own address alone\n"
 refusal_text ForeignOrigin = codes "ForeignOrigin: this page takes nothing from other pages\n"
 refusal_text NotFound = codes "NotFound: the paths are / and /page.js, /page.css, /desk, /call\n"
@@ -78,7 +79,7 @@ refusal_text NoLine = codes "NoLine: a call is one line of 1 to 4096 printed oct
 refusal_text Reserved = codes "Reserved: show, quit and stop are not for the page\n"
 
 -- the reply to a request that is refused
-abbrev pub refusal_reply : Refusal → Reply
+abbrev pub refusal_reply : PageRefusal → Reply
 refusal_reply refusal = text_reply (refusal_status refusal) (refusal_text refusal)
 
 -- what stands for a reply while the bridge is asked; no browser gets it

@@ -9,7 +9,7 @@ use Rattle.http_uri.specs.Uri.{uri_path}
 use Rattle.desk_http.specs.declared.site.Site.{Site}
 use Rattle.desk_http.specs.declared.asking.Wish.{Wish}
 use Rattle.desk_http.specs.declared.asking.Wish.TheVariants as wishes
-use Rattle.desk_http.specs.declared.asking.Refusal.TheVariants.{ForeignHost, ForeignOrigin, NotFound, NotAllowed, NoToken, NoLine, Reserved}
+use Rattle.desk_http.specs.declared.asking.PageRefusal.TheVariants.{ForeignHost, ForeignOrigin, NotFound, NotAllowed, NoToken, NoLine, Reserved}
 use Rattle.desk_http.specs.declared.asking.Place.{Place}
 use Rattle.desk_http.specs.declared.asking.Place.TheVariants as places
 use Rattle.desk_http.specs.Lines.{is_line, is_reserved}
@@ -24,8 +24,8 @@ is_origin_of site origin =
     nat_le 7 (length origin) && bytes_eq (take 7 origin) (codes "http://") && is_host_of site (drop 7 origin)
 
 -- the first field of this name
-abbrev pub field_of : Request (List ℕ) → List ℕ → Option FieldValue
-field_of request name = get (head_of request).headers name
+abbrev pub header_field : Request (List ℕ) → List ℕ → Option FieldValue
+header_field request name = get (head_of request).headers name
 
 abbrev pub test_or : Bool → (List ℕ → Bool) → Option FieldValue → Bool
 test_or otherwise test None = otherwise
@@ -33,23 +33,23 @@ test_or otherwise test (Some value) = test value.bytes
 
 -- the request names the page's host
 abbrev pub has_own_host : Site → Request (List ℕ) → Bool
-has_own_host site request = test_or false (is_host_of site) (field_of request (codes "host"))
+has_own_host site request = test_or false (is_host_of site) (header_field request (codes "host"))
 
 -- the request comes from the page itself, or from no page
 abbrev pub has_own_origin : Site → Request (List ℕ) → Bool
-has_own_origin site request = test_or true (is_origin_of site) (field_of request (codes "origin"))
+has_own_origin site request = test_or true (is_origin_of site) (header_field request (codes "origin"))
 
 -- the request has the page's token
 abbrev pub has_token : Site → Request (List ℕ) → Bool
-has_token site request = test_or false (λ value. bytes_eq value site.token.items) (field_of request (codes "x-desk-token"))
+has_token site request = test_or false (λ value. bytes_eq value site.token.items) (header_field request (codes "x-desk-token"))
 
 -- the request has this method
 abbrev pub is_method : Request (List ℕ) → List ℕ → Bool
 is_method request method = bytes_eq (head_of request).method method
 
 -- what stands at a path
-abbrev pub place_of : List ℕ → Option Place
-place_of path =
+abbrev pub place_at : List ℕ → Option Place
+place_at path =
     if bytes_eq path (codes "/") then Some places.Page
     else if bytes_eq path (codes "/page.js") then Some places.Script
     else if bytes_eq path (codes "/page.css") then Some places.Style
@@ -89,4 +89,4 @@ abbrev pub wish_of : Site → Request (List ℕ) → Wish
 wish_of site request =
     if not (has_own_host site request) then wishes.Refused ForeignHost
     else if not (has_own_origin site request) then wishes.Refused ForeignOrigin
-    else wish_at site request (place_of (uri_path (head_of request).uri))
+    else wish_at site request (place_at (uri_path (head_of request).uri))

@@ -38,9 +38,9 @@ pub data Event : Type 0 where
   wants : List ℕ → Event
   takes : Event
 
-abbrev pub after : Event → Stage → Stage
-after (wants line) stage = after_want line stage
-after takes stage = after_take stage
+abbrev pub after_event : Event → Stage → Stage
+after_event (wants line) stage = after_want line stage
+after_event takes stage = after_take stage
 
 -- the lines that an event hands to the bridge
 abbrev pub listed : Option (List ℕ) → List (List ℕ)
@@ -52,10 +52,10 @@ given_by (wants line) stage = []
 given_by takes stage = listed (line_at stage)
 
 -- the lines that events hand to the bridge, one after another
-abbrev pub given : List Event → Stage → List (List ℕ)
-given [] stage = []
-given (event ∷ events) stage = given_by event stage ++ given events (after event stage)
+abbrev pub lines_given : List Event → Stage → List (List ℕ)
+lines_given [] stage = []
+lines_given (event ∷ events) stage = given_by event stage ++ lines_given events (after_event event stage)
 
 -- whatever happens, one line at most goes to the bridge
 abbrev pub GoesOnce : Type 0
-GoesOnce = (events : List Event) → length (given events hearing) ≤ 1
+GoesOnce = (events : List Event) → length (lines_given events hearing) ≤ 1

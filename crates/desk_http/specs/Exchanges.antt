@@ -17,8 +17,8 @@ abbrev pub has_end : List ℕ → Bool
 has_end text = list_any is_end text
 
 -- the text before the LF at its end, if it has one there
-abbrev pub ended : List ℕ → Option (List ℕ)
-ended text =
+abbrev pub before_last_lf : List ℕ → Option (List ℕ)
+before_last_lf text =
     if nat_lt 0 (length text) && nat_eq (slice_index text (length text - 1)) 10 then Some (take (length text - 1) text) else None
 
 -- the octets behind the last LF
@@ -44,5 +44,5 @@ abbrev pub progress_of : List ℕ → List ℕ → Progress
 progress_of line got =
     if bytes_eq got (codes "busy\n") then Busy
     else if nat_lt 16777216 (length got) then Broken
-    else if bytes_eq line (codes "show") then show_progress (ended got)
-    else call_progress got (ended got)
+    else if bytes_eq line (codes "show") then show_progress (before_last_lf got)
+    else call_progress got (before_last_lf got)

@@ -25,7 +25,7 @@ abbrev pub wanted_by : Hearing → Option (List ℕ)
 wanted_by hearing = option_map (λ line. line.items) hearing.wanted
 
 -- a request is answered at once, or its line is wanted
-pub record Hears (old : Hearing) (request : Request (List ℕ)) (response : Response) (new : Hearing) : Type 0 where
+pub record HearsRequest (old : Hearing) (request : Request (List ℕ)) (response : Response) (new : Hearing) : Type 0 where
   pub reply : IsReply (reply_of old.site old.files (wish_of old.site request)) response
   pub wanted : wanted_by new ≡ line_for (wish_of old.site request) (body_of request)
   pub site : new.site ≡ old.site
@@ -37,7 +37,7 @@ is_asked line None = false
 is_asked line (Some wanted) = bytes_eq line wanted
 
 -- a request is answered by what the bridge said to its own line, and to no other
-pub record Tells (old : Telling) (request : Request (List ℕ)) (response : Response) (new : Telling) : Type 0 where
+pub record TellsAnswer (old : Telling) (request : Request (List ℕ)) (response : Response) (new : Telling) : Type 0 where
   pub kept : new ≡ old
   pub reply : IsReply (if is_asked old.line.items (line_for (wish_of old.site.now request) (body_of request))
       then told_reply old.told else other_reply) response

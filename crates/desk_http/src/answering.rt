@@ -18,7 +18,7 @@ ghost use Rattle.desk_http.specs.Answered.{
   IsReply,
 };
 
-use crate::{Files, Refusal, Site, Wish};
+use crate::{Files, PageRefusal, Site, Wish};
 use bytes::{BufMut, Bytes};
 use http::{HeaderValue, StatusCode, header};
 use http_server::Response;
@@ -49,7 +49,8 @@ fn guard(response: &mut Response) -> Result<(), AllocError>
     response.add_header(
         header::CONTENT_SECURITY_POLICY,
         HeaderValue::from_static(
-            "default-src 'none'; script-src 'self'; style-src 'self'; connect-src 'self'; base-uri 'none'; form-action 'none'; frame-ancestors 'none'",
+            "default-src 'none'; script-src 'self'; style-src 'self'; connect-src 'self'; \
+             base-uri 'none'; form-action 'none'; frame-ancestors 'none'",
         ),
     )?;
     response.add_header(
@@ -119,33 +120,36 @@ fn fill_script(response: &mut Response, files: Files) -> Result<(), AllocError>
         kind,
         Bytes::from_static(files.lines),
     )?;
+    response.body.put_slice(files.past)?;
     response.body.put_slice(files.script)
 }
 
 /// The status of a refusal.
-fn refusal_status(refusal: Refusal) -> StatusCode
+fn refusal_status(refusal: PageRefusal) -> StatusCode
     ensures { result ≡ refusal_status refusal }
 {
     match refusal {
-        Refusal::ForeignHost | Refusal::ForeignOrigin | Refusal::NoToken => StatusCode::FORBIDDEN,
-        Refusal::NotFound => StatusCode::NOT_FOUND,
-        Refusal::NotAllowed => StatusCode::METHOD_NOT_ALLOWED,
-        Refusal::NoLine | Refusal::Reserved => StatusCode::BAD_REQUEST,
+        PageRefusal::ForeignHost | PageRefusal::ForeignOrigin | PageRefusal::NoToken =>
+            StatusCode::FORBIDDEN,
+        PageRefusal::NotFound => StatusCode::NOT_FOUND,
+        PageRefusal::NotAllowed => StatusCode::METHOD_NOT_ALLOWED,
+        PageRefusal::NoLine | PageRefusal::Reserved => StatusCode::BAD_REQUEST,
     }
 }
 
 /// A refusal in words, its name first.
-fn refusal_text(refusal: Refusal) -> &'static [u8]
+fn refusal_text(refusal: PageRefusal) -> &'static [u8]
     ensures { result.now ≡ refusal_text refusal }
 {
     match refusal {
-        Refusal::ForeignHost => b"ForeignHost: this page answers to its own address alone\n",
-        Refusal::ForeignOrigin => b"ForeignOrigin: this page takes nothing from other pages\n",
-        Refusal::NotFound => b"NotFound: the paths are / and /page.js, /page.css, /desk, /call\n",
-        Refusal::NotAllowed => b"NotAllowed: POST to /call, GET elsewhere\n",
-        Refusal::NoToken => b"NoToken: load the page again, its token is of an earlier run\n",
-        Refusal::NoLine => b"NoLine: a call is one line of 1 to 4096 printed octets\n",
-        Refusal::Reserved => b"Reserved: show, quit and stop are not for the page\n",
+        PageRefusal::ForeignHost => b"ForeignHost: this page answers to its own address alone\n",
+        PageRefusal::ForeignOrigin => b"ForeignOrigin: this page takes nothing from other pages\n",
+        PageRefusal::NotFound =>
+            b"NotFound: the paths are / and /page.js, /page.css, /desk, /call\n",
+        PageRefusal::NotAllowed => b"NotAllowed: POST to /call, GET elsewhere\n",
+        PageRefusal::NoToken => b"NoToken: load the page again, its token is of an earlier run\n",
+        PageRefusal::NoLine => b"NoLine: a call is one line of 1 to 4096 printed octets\n",
+        PageRefusal::Reserved => b"Reserved: show, quit and stop are not for the page\n",
     }
 }
 

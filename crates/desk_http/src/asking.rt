@@ -2,7 +2,17 @@
 
 ghost use Rattle.std.specs.Prelude.{◌≡◌, ◌≤◌, length};
 ghost use Rattle.std.specs.List.{list_all, prefix_len};
-ghost use Rattle.desk_http.specs.Asked.{place_of, line_wish, call_wish, got, wish_at, wish_of, has_own_host, has_own_origin, has_token};
+ghost use Rattle.desk_http.specs.Asked.{
+  place_at,
+  line_wish,
+  call_wish,
+  got,
+  wish_at,
+  wish_of,
+  has_own_host,
+  has_own_origin,
+  has_token,
+};
 ghost use Rattle.desk_http.specs.Lines.{is_printed, is_no_space, first_word, is_reserved, is_line};
 
 use crate::Site;
@@ -26,12 +36,12 @@ pub enum Wish {
     /// The answer to the line in its body.
     Call,
     /// Nothing that it gets.
-    Refused(Refusal),
+    Refused(PageRefusal),
 }
 
 /// Why a request is refused. The first that holds is told.
 #[derive(Clone, Copy, PartialEq, Eq)]
-pub enum Refusal {
+pub enum PageRefusal {
     /// It names another host, or none.
     ForeignHost,
     /// A page of another origin sends it.
@@ -60,7 +70,7 @@ pub(crate) enum Place {
 
 /// What stands at a path, if anything.
 fn stands_at(path: &str) -> Option<Place>
-    ensures { result ≡ place_of path.now }
+    ensures { result ≡ place_at path.now }
 {
     if path == "/" {
         Some(Place::Page)
@@ -119,9 +129,9 @@ fn of_line(body: &[u8]) -> Wish
     ensures { result ≡ line_wish body.now }
 {
     if !is_line(body) {
-        Wish::Refused(Refusal::NoLine)
+        Wish::Refused(PageRefusal::NoLine)
     } else if is_reserved(body) {
-        Wish::Refused(Refusal::Reserved)
+        Wish::Refused(PageRefusal::Reserved)
     } else {
         Wish::Call
     }
@@ -162,9 +172,9 @@ fn call(site: &Site, request: &Request<Bytes>) -> Wish
     ensures { result ≡ call_wish site.now request.now }
 {
     if request.method().as_str() != "POST" {
-        Wish::Refused(Refusal::NotAllowed)
+        Wish::Refused(PageRefusal::NotAllowed)
     } else if !has_token(site, request) {
-        Wish::Refused(Refusal::NoToken)
+        Wish::Refused(PageRefusal::NoToken)
     } else {
         of_line(request.body().as_slice())
     }
@@ -177,7 +187,7 @@ fn got(request: &Request<Bytes>, wish: Wish) -> Wish
     if request.method().as_str() == "GET" {
         wish
     } else {
-        Wish::Refused(Refusal::NotAllowed)
+        Wish::Refused(PageRefusal::NotAllowed)
     }
 }
 
@@ -191,7 +201,7 @@ fn at_place(site: &Site, request: &Request<Bytes>, place: Option<Place>) -> Wish
         Some(Place::Style) => got(request, Wish::Style),
         Some(Place::Desk) => got(request, Wish::Desk),
         Some(Place::Call) => call(site, request),
-        None => Wish::Refused(Refusal::NotFound),
+        None => Wish::Refused(PageRefusal::NotFound),
     }
 }
 
@@ -200,9 +210,9 @@ pub fn asked_for(site: &Site, request: &Request<Bytes>) -> Wish
     ensures { result ≡ wish_of site.now request.now }
 {
     if !has_own_host(site, request) {
-        Wish::Refused(Refusal::ForeignHost)
+        Wish::Refused(PageRefusal::ForeignHost)
     } else if !has_own_origin(site, request) {
-        Wish::Refused(Refusal::ForeignOrigin)
+        Wish::Refused(PageRefusal::ForeignOrigin)
     } else {
         at_place(site, request, stands_at(request.uri().path()))
     }

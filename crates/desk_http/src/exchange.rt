@@ -2,7 +2,15 @@
 
 ghost use Rattle.std.specs.Prelude.{◌≡◌, ◌+◌, ◌++◌, ◌∷◌, [], ◌≤◌, length, IfOk, OnOk, OnErr, option_map};
 ghost use Rattle.std.specs.List.{suffix_len};
-ghost use Rattle.desk_http.specs.Exchanges.{is_no_end, ended, has_end, begins_end, progress_of, call_progress, show_progress};
+ghost use Rattle.desk_http.specs.Exchanges.{
+  is_no_end,
+  before_last_lf,
+  has_end,
+  begins_end,
+  progress_of,
+  call_progress,
+  show_progress,
+};
 
 use std::alloc::{AllocError, Global};
 
@@ -32,8 +40,8 @@ pub struct Exchange {
 }
 
 /// The text before the LF at its end, if it has one there.
-fn ended(text: &[u8]) -> Option<&[u8]>
-    ensures { option_map (λ x. x.now) result ≡ ended text.now }
+fn before_last_lf(text: &[u8]) -> Option<&[u8]>
+    ensures { option_map (λ x. x.now) result ≡ before_last_lf text.now }
 {
     let length = text.len();
     if length > 0 && text[length - 1] == b'\n' {
@@ -72,9 +80,9 @@ fn has_end(text: &[u8]) -> bool
 
 /// What has come of the answer to `show`.
 fn show_progress(got: &[u8]) -> Progress
-    ensures { result ≡ show_progress (ended got.now) }
+    ensures { result ≡ show_progress (before_last_lf got.now) }
 {
-    match ended(got) {
+    match before_last_lf(got) {
         Some(text) => {
             if begins_end(text) {
                 Progress::Whole
@@ -88,9 +96,9 @@ fn show_progress(got: &[u8]) -> Progress
 
 /// What has come of the answer to a call.
 fn call_progress(got: &[u8]) -> Progress
-    ensures { result ≡ call_progress got.now (ended got.now) }
+    ensures { result ≡ call_progress got.now (before_last_lf got.now) }
 {
-    match ended(got) {
+    match before_last_lf(got) {
         Some(text) => {
             if has_end(text) {
                 Progress::Broken

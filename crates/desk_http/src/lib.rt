@@ -11,7 +11,7 @@ mod serving;
 mod site;
 
 pub use answering::Told;
-pub use asking::{MAX_LINE, Refusal, Wish, asked_for};
+pub use asking::{MAX_LINE, PageRefusal, Wish, asked_for};
 pub use calls::Calls;
 pub use errand::Errand;
 pub use exchange::{Exchange, Progress};

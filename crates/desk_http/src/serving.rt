@@ -1,10 +1,10 @@
-//! The page as a service, in two steps. A [`Hearing`] answers what needs no bridge, and otherwise says which line to ask
-//! the bridge. Once the bridge has answered, a [`Telling`] answers that same request.
+//! The page as a service, in two steps. A [`Hearing`] answers what needs no bridge, and otherwise says which line to
+//! ask the bridge. Once the bridge has answered, a [`Telling`] answers that same request.
 
 ghost use Rattle.std.specs.Prelude.{◌≡◌, IfOk, option_map};
 ghost use Rattle.http.specs.Request.{body_of};
 ghost use Rattle.desk_http.specs.Asked.{wish_of};
-ghost use Rattle.desk_http.specs.Served.{line_for, is_asked, Hears, Tells};
+ghost use Rattle.desk_http.specs.Served.{line_for, is_asked, HearsRequest, TellsAnswer};
 
 use crate::answering::{answer, answer_other, tell};
 use crate::{Files, Site, Told, Wish, asked_for};
@@ -38,7 +38,7 @@ pub struct Hearing {
 }
 
 impl Service for Hearing {
-    ghost answers = { λ old request response new. Hears old request response new };
+    ghost answers = { λ old request response new. HearsRequest old request response new };
 
     fn call(
         &mut self,
@@ -67,7 +67,9 @@ pub struct Telling<'a> {
 impl<'a> Telling<'a> {
     /// Whether the request asks this line.
     fn is_for(&self, request: &Request<Bytes>) -> bool
-        ensures { result ≡ is_asked self.now.line.items (line_for (wish_of self.now.site.now request.now) (body_of request.now)) }
+        ensures { result
+            ≡ is_asked self.now.line.items
+            (line_for (wish_of self.now.site.now request.now) (body_of request.now)) }
     {
         match asked_for(self.site, request) {
             Wish::Desk => self.line.as_slice() == b"show".as_slice(),
@@ -78,7 +80,7 @@ impl<'a> Telling<'a> {
 }
 
 impl<'a> Service for Telling<'a> {
-    ghost answers = { λ old request response new. Tells old request response new };
+    ghost answers = { λ old request response new. TellsAnswer old request response new };
 
     fn call(
         &mut self,

@@ -23,6 +23,8 @@ pub struct Files {
     pub back: &'static [u8],
     /// The first part of the page's script.
     pub lines: &'static [u8],
+    /// The second part of the page's script.
+    pub past: &'static [u8],
     /// The rest of the page's script.
     pub script: &'static [u8],
     /// The page's style sheet.

@@ -7,6 +7,7 @@
 mod link;
 mod markup;
 mod options;
+mod past;
 mod peer;
 mod peers;
 mod script;

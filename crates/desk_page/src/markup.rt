@@ -29,13 +29,17 @@ pub(crate) const BACK: &[u8] = br##"">
   <aside>
     <section aria-labelledby="add-title">
       <h2 id="add-title">Add</h2>
-      <form id="add-room" class="add"><label>Room <input name="room" inputmode="numeric" required></label>
+      <form id="add-room" class="add">
+        <label>Room <input name="room" inputmode="numeric" required></label>
+        <label class="wide">Rate <select name="rate"><option value="8000">8000 Hz, speech</option>
+          <option value="44100">44100 Hz, music</option></select></label>
         <button>Add room</button></form>
       <form id="add-member" class="add">
         <label>Member <input name="member" inputmode="numeric" required></label>
         <label>Room <select name="room"></select></label>
         <label>Address <input name="address" placeholder="127.0.0.1:6000" required></label>
-        <label>Codec <select name="codec"><option>pcmu</option><option>l16</option></select></label>
+        <label>Codec <select name="codec"><option value="">as the room</option>
+          <option>pcmu</option><option>l16</option></select></label>
         <label>Mix SSRC <input name="ssrc" inputmode="numeric" required></label>
         <button>Add member</button></form>
       <form id="add-source" class="add">

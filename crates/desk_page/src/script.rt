@@ -4,8 +4,8 @@
 pub(crate) const SCRIPT: &[u8] = br##"
 const at = (id) => document.getElementById(id);
 const token = () => document.querySelector('meta[name="desk-token"]').content;
-const EVERY = 250, PATIENCE = 4000;
-let desk = null, shownText = null, drag = null, group = [], seenRows = new Map(), looks = new Map(), timer = null, asking = false, names = {};
+const EVERY = 250, PATIENCE = 4000, seenRows = new Map(), looks = new Map();
+let desk = null, shownText = null, drag = null, group = [], timer = null, asking = false, names = {};
 try { names = JSON.parse(localStorage.getItem("desk-names")) ?? {}; } catch { names = {}; }
 
 // An element with properties, and children behind one another.
@@ -20,6 +20,9 @@ function el(tag, props, ...children) {
   node.append(...children.filter((child) => child !== null && child !== undefined));
   return node;
 }
+
+const soft = (text) => el("span", { className: "soft" }, text);
+const code = (text) => el("code", {}, text);
 
 // A button that sends a line, which it shows when it is pointed at or reached by Tab.
 function sends(text, line, kind = "") {
@@ -48,28 +51,18 @@ async function call(line) {
   if (at("collect").checked && !/^(undo|redo|group) /.test(line)) return collect(line);
   try {
     const reply = await ask("/call", { method: "POST", headers: { "X-Desk-Token": token() }, body: line });
-    const text = (await reply.text()).trim();
-    if (reply.ok) {
-      const { good, text: words } = inWords(text);
-      notice(`${line}: ${words}`, good);
-    } else if (text.startsWith("Busy")) {
-      notice(`${line}: all seats of the bridge are taken, so nothing was done. The page needs a seat: set operators to one more in the bridge's settings.`);
-    } else {
-      notice(`${line}: ${text || (reply.status === 413 ? "a call is one line of up to 4096 octets" : reply.status)}`);
-    }
+    const { good, text } = replyInWords(reply.status, (await reply.text()).trim());
+    notice(`${line}: ${text}`, good);
   } catch {
     notice(`${line}: no answer came. Look at the desk before you send it again.`);
   }
   show();
 }
 
-function collect(line) {
-  group.push(line);
-  showGroup();
-}
+function collect(line) { group.push(line); showGroup(); }
 
 function showGroup() {
-  at("collected").replaceChildren(...group.map((line) => el("li", {}, el("code", {}, line))));
+  at("collected").replaceChildren(...group.map((line) => el("li", {}, code(line))));
   at("collected").hidden = at("group-buttons").hidden = group.length === 0;
 }
 
@@ -82,8 +75,7 @@ async function show() {
     const reply = await ask("/desk");
     const text = await reply.text();
     if (reply.ok) take(text);
-    else if (text.startsWith("Busy")) gone("All seats of the bridge are taken. The page needs one: set operators to one more in the bridge's settings.");
-    else gone("The bridge is gone. Trying again.");
+    else gone(noDeskInWords(text));
   } catch {
     gone("The page's program is gone. Trying again; once it is back, load the page again.");
   }
@@ -101,8 +93,12 @@ function take(text) {
   document.body.classList.remove("gone");
   if (text === shownText || drag) return;
   const next = parseDesk(text);
-  if (desk && next.version > desk.version) seenRows.set(next.version, { from: desk.version, rows: changes(desk.rows, next.rows) });
-  if (desk && next.version < desk.version) { seenRows.clear(); looks.clear(); }
+  if (desk && next.version > desk.version) {
+    seenRows.set(next.version, { from: desk.version, rows: changes(desk.rows, next.rows) });
+  } else if (desk && next.version < desk.version) {
+    seenRows.clear();
+    looks.clear();
+  }
   looks.set(next.version, lookOf(next.rows));
   shownText = text;
   desk = next;
@@ -119,34 +115,42 @@ function rename(what, number) {
   render();
 }
 
-function title(what, number) {
-  const name = nameOf(what, number);
-  return el("h3", { className: "grow" }, name ? `${name} ` : "", el("span", { className: name ? "soft" : "" }, `${what} ${number}`));
+function title(what, number, more = null) {
+  const name = nameOf(what, number), plain = `${what} ${number}`;
+  return el("h3", { className: "grow" }, ...(name ? [`${name} `, soft(plain)] : [plain]), more);
 }
 
 function names_button(what, number) {
-  return el("button", { type: "button", className: "small", title: `a name for ${what} ${number}`, data: { key: `name ${what} ${number}` },
-    on: { click: () => rename(what, number) } }, "Name");
+  return el("button", { type: "button", className: "small", title: `a name for ${what} ${number}`,
+    data: { key: `name ${what} ${number}` }, on: { click: () => rename(what, number) } }, "Name");
 }
 
 // What can be dragged, and where it can be dropped.
 function drags(node, what) {
   node.draggable = true;
-  node.addEventListener("dragstart", (event) => { drag = what; event.dataTransfer.setData("text/plain", ""); event.stopPropagation(); });
+  node.addEventListener("dragstart", (event) => {
+    drag = what;
+    event.dataTransfer.setData("text/plain", "");
+    event.stopPropagation();
+  });
   node.addEventListener("dragend", () => { drag = null; shownText = null; });
   return node;
 }
 
 function drops(node, on) {
   const line = () => (drag && desk ? dropped(desk, drag, on) : null);
-  node.addEventListener("dragover", (event) => { if (line()) { event.preventDefault(); event.stopPropagation(); node.classList.add("over"); } });
+  const takes = (event) => { event.preventDefault(); event.stopPropagation(); };
+  node.addEventListener("dragover", (event) => {
+    if (!line()) return;
+    takes(event);
+    node.classList.add("over");
+  });
   node.addEventListener("dragleave", () => node.classList.remove("over"));
   node.addEventListener("drop", (event) => {
     node.classList.remove("over");
     const sent = line();
     if (!sent) return;
-    event.preventDefault();
-    event.stopPropagation();
+    takes(event);
     drag = null;
     call(sent);
   });
@@ -158,13 +162,19 @@ function chooses(label, options, lineOf, key) {
   if (options.length === 0) return null;
   const select = el("select", { ariaLabel: label, data: { key } }, el("option", { value: "" }, label),
     ...options.map((value) => el("option", { value }, String(value))));
-  select.addEventListener("change", () => { if (select.value !== "") { const line = lineOf(select.value); select.value = ""; call(line); } });
+  select.addEventListener("change", () => {
+    if (select.value === "") return;
+    const line = lineOf(select.value);
+    select.value = "";
+    call(line);
+  });
   return select;
 }
 
 function sourceChip(member, source) {
   const muted = desk.mutes.has(source.ssrc), video = source.kind === "video";
-  const chip = el("span", { className: muted ? "chip muted" : "chip" }, el("span", { className: "what" }, `${source.kind} ${source.ssrc}`),
+  const chip = el("span", { className: muted ? "chip muted" : "chip" },
+    el("span", { className: "what" }, `${source.kind} ${source.ssrc}`),
     muted ? sends("Unmute", lines.unmute(source.ssrc)) : sends("Mute", lines.mute(source.ssrc)),
     video && desk.pins.get(member.room) !== source.ssrc ? sends("Pin", lines.pin(member.room, source.ssrc)) : null,
     sends("Remove", lines.removeSource(source.ssrc), "danger"));
@@ -173,56 +183,58 @@ function sourceChip(member, source) {
 
 function slotBox(member, slot) {
   const what = seen(desk, slot), rule = { sub: "subscribed", pin: "by the pin", floor: "by the floor" }[what.by];
-  const videos = membersIn(desk, member.room).flatMap((m) => sourcesOf(desk, m.member, "video")).map((s) => s.ssrc);
   return drops(el("span", { className: "slot", data: { slot: slot.ssrc } }, `slot ${slot.index}: `,
-    what.source === null ? el("span", { className: "soft" }, `nothing, ${what.why}`) : el("span", {}, `${what.source} `, el("span", { className: "soft" }, rule)),
-    chooses("Subscribe", videos.filter((ssrc) => desk.subs.get(slot.ssrc) !== ssrc), (ssrc) => lines.subscribe(slot.ssrc, ssrc), `choose ${slot.ssrc}`),
+    what.source === null ? soft(`nothing, ${what.why}`) : el("span", {}, `${what.source} `, soft(rule)),
+    chooses("Subscribe", videosFor(desk, slot), (ssrc) => lines.subscribe(slot.ssrc, ssrc), `choose ${slot.ssrc}`),
     desk.subs.has(slot.ssrc) ? sends("Unsubscribe", lines.unsubscribe(slot.ssrc)) : null,
     sends("Remove", lines.removeSlot(slot.ssrc), "danger")), { slot: slot.ssrc });
 }
 
 function gainBox(member, source) {
-  const range = el("input", { type: "range", min: 0, max: 1024, step: 32, value: source.gain, ariaLabel: `gain of ${source.ssrc} for ${member.member}`,
-    title: lines.setGain(member.member, source.ssrc, source.gain), data: { key: `gain ${member.member} ${source.ssrc}` },
-    on: { change: () => call(lines.setGain(member.member, source.ssrc, range.value)) } });
+  const line = (gain) => lines.setGain(member.member, source.ssrc, gain);
+  const range = el("input", { type: "range", min: 0, max: 1024, step: 32, value: source.gain,
+    ariaLabel: `gain of ${source.ssrc} for ${member.member}`, title: line(source.gain),
+    data: { key: `gain ${member.member} ${source.ssrc}` }, on: { change: () => call(line(range.value)) } });
   return el("span", { className: source.muted ? "chip muted" : "chip" },
     el("span", { className: "what" }, `${source.ssrc} x${(source.gain / 256).toFixed(2)}`), range);
 }
 
 function memberCard(member) {
-  const part = (label, boxes) => [el("dt", {}, label), el("dd", {}, ...(boxes.length ? boxes : [el("span", { className: "soft" }, "nothing")]))];
-  const rooms = desk.rooms.filter((room) => room !== member.room), floor = desk.floors.get(member.room) === member.member;
+  const part = (label, boxes) => [el("dt", {}, label), el("dd", {}, ...(boxes.length ? boxes : [soft("nothing")]))];
+  const rooms = roomsFor(desk, member), floor = desk.floors.get(member.room) === member.member;
   const slots = desk.slots.filter((s) => s.member === member.member).sort((a, b) => a.index - b.index);
   return drags(el("article", { className: "member", data: { member: member.member } },
-    el("div", { className: "head" }, title("member", member.member), floor ? el("span", { className: "tag" }, "has the floor") : null,
-      names_button("member", member.member), floor ? null : sends("Give floor", lines.giveFloor(member.room, member.member)),
+    el("div", { className: "head" }, title("member", member.member),
+      floor ? el("span", { className: "tag" }, "has the floor") : null, names_button("member", member.member),
+      floor ? null : sends("Give floor", lines.giveFloor(member.room, member.member)),
       chooses("Move to room", rooms, (room) => lines.moveMember(member.member, room), `move ${member.member}`),
       sends("Remove", lines.removeMember(member.member), "danger")),
     el("div", { className: "soft" }, `${member.address} ${member.codec}, mix ${member.mix}`),
     el("dl", {}, ...part("sends", sourcesOf(desk, member.member).map((s) => sourceChip(member, s))),
-      ...part("sees", slots.map((s) => slotBox(member, s))), ...part("hears", heard(desk, member).map((s) => gainBox(member, s))))),
-    { member: member.member });
+      ...part("sees", slots.map((s) => slotBox(member, s))),
+      ...part("hears", heard(desk, member).map((s) => gainBox(member, s))))), { member: member.member });
 }
 
 function roomCard(room) {
   const floor = desk.floors.get(room), pin = desk.pins.get(room);
+  const tag = (text, button) => el("span", { className: "tag" }, text, button);
   return drops(el("section", { className: "room", data: { room } },
-    el("div", { className: "head" }, title("room", room), names_button("room", room),
-      pin !== undefined ? el("span", { className: "tag" }, `${pin} is pinned `, sends("Unpin", lines.unpin(room))) : null,
-      floor !== undefined ? el("span", { className: "tag" }, `floor: ${floor} `, sends("Take floor", lines.takeFloor(room))) : null,
+    el("div", { className: "head" }, title("room", room, isMusic(desk, room) ? soft(` ${MUSIC} Hz`) : null),
+      names_button("room", room),
+      pin !== undefined ? tag(`${pin} is pinned `, sends("Unpin", lines.unpin(room))) : null,
+      floor !== undefined ? tag(`floor: ${floor} `, sends("Take floor", lines.takeFloor(room))) : null,
       sends("Remove room", lines.removeRoom(room), "danger")),
     ...membersIn(desk, room).map(memberCard)), { room });
 }
 
 function callItem(entry) {
   if (entry.foreign) {
-    const rows = [...seenRows].filter(([version, seen]) => version >= entry.from && seen.from < entry.to).flatMap(([, seen]) => seen.rows);
-    return el("li", {}, el("span", { className: "soft" }, foreignWords(entry)),
-      ...rows.slice(0, 12).map((row) => el("div", {}, el("code", {}, row))));
+    const rows = rowsSeen(seenRows, entry).slice(0, 12);
+    return el("li", {}, soft(foreignWords(entry)), ...rows.map((row) => el("div", {}, code(row))));
   }
   const kind = entry.undone ? "undone" : entry.number === null ? "refused" : "";
   const became = entry.undone ? " undone" : entry.undone === null ? " may be undone" : "";
-  return el("li", { className: kind }, el("code", {}, entry.line), " ", el("code", { className: "said" }, entry.said), became);
+  return el("li", { className: kind }, code(entry.line), " ", el("code", { className: "said" }, entry.said), became);
 }
 
 function button(id, word, entry, line) {
@@ -246,7 +258,8 @@ function suggest(form, field, number) {
 
 function render() {
   const key = document.activeElement?.dataset?.key;
-  at("board").replaceChildren(...(desk.rooms.length ? desk.rooms.map(roomCard) : [el("p", { className: "soft" }, "There is no room yet: add one.")]));
+  const none = el("p", { className: "soft" }, "There is no room yet: add one.");
+  at("board").replaceChildren(...(desk.rooms.length ? desk.rooms.map(roomCard) : [none]));
   const past = history(desk.calls, desk.version, looks);
   button("undo", "Undo", past.undo, lines.undo(desk.version));
   button("redo", "Redo", past.redo, lines.redo(desk.version));
@@ -255,11 +268,7 @@ function render() {
   options("add-member", "room", desk.rooms);
   options("add-source", "member", desk.members.map((m) => m.member));
   options("add-slot", "member", desk.members.map((m) => m.member));
-  suggest("add-room", "room", free(desk, 1));
-  suggest("add-member", "member", free(desk, 10));
-  suggest("add-member", "ssrc", free(desk, 9001));
-  suggest("add-source", "ssrc", free(desk, 101));
-  suggest("add-slot", "ssrc", free(desk, 501));
+  for (const [id, field, number] of suggested(desk)) suggest(id, field, number);
   if (key) document.querySelector(`[data-key="${CSS.escape(key)}"]`)?.focus();
 }
 
@@ -270,12 +279,22 @@ function form(id, lineOf) {
   });
 }
 
-form("add-room", (f) => lines.addRoom(f.room));
-form("add-member", lines.addMember);
+form("add-room", (f) => lines.addRoom(f.room, f.rate));
+form("add-member", (f) => lines.addMember(f, codecOf(desk, f)));
 form("add-source", lines.addSource);
 form("add-slot", lines.addSlot);
-at("line-form").addEventListener("submit", (event) => { event.preventDefault(); call(at("line").value); at("line").value = ""; });
-at("send-group").addEventListener("click", () => { const line = lines.group(group); group = []; at("collect").checked = false; showGroup(); call(line); });
-at("drop-group").addEventListener("click", () => { group = []; showGroup(); });
+at("line-form").addEventListener("submit", (event) => {
+  event.preventDefault();
+  call(at("line").value);
+  at("line").value = "";
+});
+const dropGroup = () => { group = []; showGroup(); };
+at("drop-group").addEventListener("click", dropGroup);
+at("send-group").addEventListener("click", () => {
+  const line = lines.group(group);
+  at("collect").checked = false;
+  dropGroup();
+  call(line);
+});
 show();
 "##;

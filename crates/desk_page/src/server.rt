@@ -3,13 +3,12 @@
 use crate::link::Link;
 use crate::options::Options;
 use crate::peers::{PEERS, Peers};
-use crate::setup::{files, limits, site};
+use crate::setup::{hearing_at, terms};
 use crate::terms::Terms;
 use desk_http::{Calls, Hearing, Told};
 use mio::net::{TcpListener, TcpStream};
 use mio::{Events, Interest, Poll, Token};
 use std::alloc::{Alloc, AllocError, Global};
-use std::hash::RandomState;
 use std::io;
 use std::io::ErrorKind;
 use std::net::{Net, SocketAddr};
@@ -56,21 +55,11 @@ impl Server {
         let mut listener = TcpListener::bind(rt, SocketAddr::V4(options.listen))?;
         poll.registry()
             .register(&mut listener, LISTENER, Interest::READABLE)?;
-        let hearing = Hearing {
-            alloc,
-            site: site(rt, alloc, listener.local_addr()?)?,
-            files: files(),
-            wanted: None,
-        };
+        let hearing = hearing_at(rt, alloc, listener.local_addr()?)?;
         let mut chunk = Vec::new(alloc);
         chunk.resize(CHUNK, 0)?;
-        let terms = Terms {
-            alloc,
-            keys: RandomState::new(rt)?,
-            config: limits(),
-        };
         Ok(Self {
-            terms,
+            terms: terms(rt, alloc)?,
             poll,
             events: Events::with_capacity(alloc, PEERS)?,
             listener,

@@ -1,12 +1,15 @@
 //! What the page starts with.
 
 use crate::markup::{BACK, FRONT};
+use crate::past::PAST;
 use crate::script::SCRIPT;
 use crate::spelling::LINES;
 use crate::style::STYLE;
-use desk_http::{Files, MAX_LINE, Site};
+use crate::terms::Terms;
+use desk_http::{Files, Hearing, MAX_LINE, Site};
 use http_server::Config;
 use std::alloc::Global;
+use std::hash::RandomState;
 use std::io;
 use std::net::SocketAddr;
 use std::random::RandomSource;
@@ -24,11 +27,7 @@ fn token<R: RandomSource>(rt: &R, alloc: Global) -> io::Result<Vec<u8>> {
 }
 
 /// What is the page's own at this address.
-pub(crate) fn site<R: RandomSource>(
-    rt: &R,
-    alloc: Global,
-    address: SocketAddr,
-) -> io::Result<Site> {
+fn site<R: RandomSource>(rt: &R, alloc: Global, address: SocketAddr) -> io::Result<Site> {
     let port = address.port();
     let host = format!(in alloc; "{address}")?;
     let local = format!(in alloc; "localhost:{port}")?;
@@ -40,19 +39,43 @@ pub(crate) fn site<R: RandomSource>(
 }
 
 /// The page's files.
-pub(crate) fn files() -> Files {
+fn files() -> Files {
     Files {
         front: FRONT,
         back: BACK,
         lines: LINES,
+        past: PAST,
         script: SCRIPT,
         style: STYLE,
     }
 }
 
 /// The limits of a request. A body of one octet more than a line is still heard, and refused as no line.
-pub(crate) fn limits() -> Config {
+fn limits() -> Config {
     let mut config = Config::default();
     config.max_body_len = MAX_LINE + 1;
     config
+}
+
+/// Hears the requests to the page at this address.
+pub(crate) fn hearing_at<R: RandomSource>(
+    rt: &R,
+    alloc: Global,
+    address: SocketAddr,
+) -> io::Result<Hearing> {
+    Ok(Hearing {
+        alloc,
+        site: site(rt, alloc, address)?,
+        files: files(),
+        wanted: None,
+    })
+}
+
+/// What each connection begins with.
+pub(crate) fn terms<R: RandomSource>(rt: &R, alloc: Global) -> io::Result<Terms> {
+    Ok(Terms {
+        alloc,
+        keys: RandomState::new(rt)?,
+        config: limits(),
+    })
 }

@@ -26,7 +26,8 @@ h3 { font-size: .95rem; margin: 0; }
 #notice.good { border-color: var(--good); }
 main { display: grid; grid-template-columns: minmax(0, 1fr) 22rem; gap: 1rem; padding: 1rem; align-items: start; }
 #board { display: grid; grid-template-columns: repeat(auto-fill, minmax(min(21rem, 100%), 1fr)); gap: 1rem; }
-.room, aside > section { background: var(--card); border: 1px solid var(--line); border-radius: .5rem; padding: .75rem; }
+.room, aside > section { background: var(--card); border: 1px solid var(--line); border-radius: .5rem;
+  padding: .75rem; }
 aside { display: grid; gap: 1rem; }
 .room.over, .slot.over { background: var(--drop); outline: 2px dashed var(--accent); }
 .head { display: flex; flex-wrap: wrap; gap: .35rem; align-items: center; margin-bottom: .5rem; }
@@ -54,6 +55,7 @@ button.danger { color: var(--bad); }
   border-bottom: 1px solid var(--line); }
 .add:last-of-type { border: 0; margin: 0; padding: 0; }
 .add label { display: grid; font-size: .85em; color: var(--soft); flex: 1 1 6rem; min-width: 0; }
+.add .wide { flex-basis: 9rem; }
 .add input, .add select { width: 100%; color: var(--ink); }
 input[type="range"] { width: 6rem; padding: 0; }
 #calls { list-style: none; margin: 0; padding: 0; max-height: 26rem; overflow: auto; }
@@ -63,5 +65,8 @@ code { font: .92em ui-monospace, "DejaVu Sans Mono", monospace; }
 .refused .said { color: var(--bad); }
 .hint { color: var(--soft); font-size: .88em; margin: .3rem 0; }
 @media (max-width: 60rem) { main { grid-template-columns: minmax(0, 1fr); } }
-@media (max-width: 30rem) { main { padding: .5rem; } header { padding: .5rem; } .history-buttons { margin-left: 0; width: 100%; } }
+@media (max-width: 30rem) {
+  main, header { padding: .5rem; }
+  .history-buttons { margin-left: 0; width: 100%; }
+}
 "##;

@@ -57,6 +57,7 @@ impl Page {
             front: b"<front ",
             back: b" back>",
             lines: b"lines ",
+            past: b"past ",
             script: b"script",
             style: b"style",
         };
