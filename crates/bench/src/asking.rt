@@ -19,6 +19,8 @@ pub enum Case {
     Elsewhere,
     /// Each of so many members speaks, and a tick sends each the mix of the others.
     Tick,
+    /// The same in a room of 44100 Hz.
+    Music,
     /// The same sound and tick, where nobody is in the room.
     Sound,
     /// The tick alone, where nobody is in the room.
@@ -57,6 +59,7 @@ fn case_of(word: &str) -> Option<Case> {
         "datagram" => Some(Case::Datagram),
         "elsewhere" => Some(Case::Elsewhere),
         "tick" => Some(Case::Tick),
+        "music" => Some(Case::Music),
         "sound" => Some(Case::Sound),
         "silence" => Some(Case::Silence),
         "encode" => Some(Case::Encode),
@@ -92,6 +95,7 @@ pub fn asked(
         _ => None,
     };
     order.ok_or(io::Error::other(
-        "usage: bench frame|nobody|nack|find|datagram|elsewhere|tick|sound|silence|encode|decode|copy|keep|await TIMES SLOTS PACKETS",
+        "usage: bench frame|nobody|nack|find|datagram|elsewhere|tick|music|sound|silence|encode|decode|copy|keep|await \
+         TIMES SLOTS PACKETS",
     ))
 }

@@ -8,7 +8,7 @@ use crate::coding::{decoded, encoded};
 use crate::copying::{awaited, copied, kept};
 use crate::datagrams::taken;
 use crate::items::{SEEN, UNSEEN, address_of, frame_of, nack_of};
-use crate::room::{RECEIVERS, core_with, last_owner};
+use crate::room::{RECEIVERS, Sort, core_with, last_owner};
 use crate::talking::{heard, silent, unheard};
 use crate::tally::Tally;
 use bridge_core::{Core, Egress, Item, PacketBytes};
@@ -33,7 +33,8 @@ pub fn driven(alloc: Global, order: &Order) -> io::Result<Tally> {
         Case::Find => Ok(finds(alloc, order)?),
         Case::Datagram => taken(alloc, order, 0),
         Case::Elsewhere => taken(alloc, order, NOWHERE),
-        Case::Tick => heard(alloc, order),
+        Case::Tick => heard(alloc, Sort::Speech, order),
+        Case::Music => heard(alloc, Sort::Music, order),
         Case::Sound => unheard(alloc, order),
         Case::Silence => silent(alloc, order),
         Case::Encode => Ok(encoded(order.times)),

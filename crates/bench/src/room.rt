@@ -6,7 +6,7 @@ use crate::items::{ELSEWHERE, SEEN, UNSEEN, address_of};
 use bridge_core::{Core, Reply, Settings};
 use bytes::Bytes;
 use desk_edit::{Call, Command};
-use desk_rows::{Codec, Media, Member, Room, Slot, Source, Sub};
+use desk_rows::{Codec, DEFAULT_RATE, MUSIC_RATE, Media, Member, Room, Slot, Source, Sub};
 use std::alloc::Global;
 use std::io;
 
@@ -18,6 +18,33 @@ pub const RECEIVERS: u16 = 16;
 
 /// The stream of the first slot.
 const FIRST_STREAM: u32 = 300_000;
+
+/// What a room is for.
+#[derive(Clone, Copy)]
+pub enum Sort {
+    /// Speech: PCMU at 8000 Hz.
+    Speech,
+    /// Music: L16 at 44100 Hz.
+    Music,
+}
+
+impl Sort {
+    /// The codec of its members.
+    fn codec(self) -> Codec {
+        match self {
+            Sort::Speech => Codec::Pcmu,
+            Sort::Music => Codec::L16,
+        }
+    }
+
+    /// The clock rate of its audio, in Hz.
+    fn rate(self) -> u32 {
+        match self {
+            Sort::Speech => DEFAULT_RATE,
+            Sort::Music => MUSIC_RATE,
+        }
+    }
+}
 
 /// A slot's member, and its index there.
 #[derive(Clone, Copy)]
@@ -76,12 +103,13 @@ fn call(alloc: Global, core: &mut Core, command: Command) -> io::Result<()> {
     }
 }
 
-pub fn add_member(alloc: Global, core: &mut Core, member: u16) -> io::Result<()> {
+/// Adds a member to the room, which is of this sort.
+pub fn add_member(alloc: Global, core: &mut Core, sort: Sort, member: u16) -> io::Result<()> {
     let row = Member {
         member: u32::from(member),
         room: 1,
         address: address_of(member),
-        codec: Codec::Pcmu,
+        codec: sort.codec(),
         out_audio: 100_000 + u32::from(member),
         first_seq: 0,
         first_ts: 0,
@@ -120,8 +148,8 @@ fn add_slot(alloc: Global, core: &mut Core, slots: u16, slot: u16) -> io::Result
     call(alloc, core, Command::Subscribe(Sub { out_ssrc, source }))
 }
 
-/// A bridge with one lane and an empty room.
-pub fn empty_core(alloc: Global) -> io::Result<Core> {
+/// A bridge with one lane and an empty room of this sort.
+pub fn empty_core(alloc: Global, sort: Sort) -> io::Result<Core> {
     let settings = Settings {
         bridge_ssrc: 1,
         cname: Bytes::copy_from_slice(alloc, b"bridge")?,
@@ -129,16 +157,23 @@ pub fn empty_core(alloc: Global) -> io::Result<Core> {
     let Ok(mut core) = Core::new(alloc, 1, settings) else {
         return Err(io::Error::other("no core is made"));
     };
-    call(alloc, &mut core, Command::AddRoom(Room { room: 1 }))?;
+    call(
+        alloc,
+        &mut core,
+        Command::AddRoom(Room {
+            room: 1,
+            rate: sort.rate(),
+        }),
+    )?;
     Ok(core)
 }
 
 /// A bridge with one lane and this many slots, of which 16 have the source that is seen, all others
 /// another one, and none the one that is not seen.
 pub fn core_with(alloc: Global, slots: u16) -> io::Result<Core> {
-    let mut core = empty_core(alloc)?;
+    let mut core = empty_core(alloc, Sort::Speech)?;
     for member in 0..members(slots).saturating_add(1) {
-        add_member(alloc, &mut core, member)?;
+        add_member(alloc, &mut core, Sort::Speech, member)?;
     }
     for source in [SEEN, ELSEWHERE, UNSEEN] {
         add_source(alloc, &mut core, source, 0, Media::Video)?;

@@ -32,7 +32,10 @@ const ROOM: u32 = 2;
 /// The call that is made after so many.
 pub fn call_of(turn: Turn, made: u64) -> Call {
     let command = match (turn, made % 2) {
-        (Turn::Rooms, 0) => Command::AddRoom(Room { room: ROOM }),
+        (Turn::Rooms, 0) => Command::AddRoom(Room {
+            room: ROOM,
+            rate: 8_000,
+        }),
         (Turn::Rooms, _) => Command::RemoveRoom { room: ROOM },
         (Turn::Mutes { member }, 0) => Command::Mute(Mute {
             source: picture_of(member),

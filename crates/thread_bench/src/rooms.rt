@@ -122,7 +122,10 @@ fn subscribe(plan: &Plan, member: u16) -> Command {
 /// The commands that make the room.
 pub fn commands_for(alloc: Global, plan: &Plan) -> Result<Vec<Command>, AllocError> {
     let mut commands = Vec::new(alloc);
-    commands.push(Command::AddRoom(Room { room: 1 }))?;
+    commands.push(Command::AddRoom(Room {
+        room: 1,
+        rate: 8_000,
+    }))?;
     for member in 0..plan.members {
         commands.push(add_member(member))?;
     }

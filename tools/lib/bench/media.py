@@ -50,6 +50,7 @@ ROWS = {
     "datagram from nobody's address": row("elsewhere 2 1"),
     "tick of 16 members": tick(16),
     "tick of 64 members": tick(64),
+    "tick of 64 members at 44100 Hz, with their puts": row("music 64 1"),
     "tick with nobody in the room, 64 sources": row("silence 64 1"),
     "audio packet put to its source, 64 sources": ({"sound 64 1": 1, "silence 64 1": -1}, 64),
     "160 samples encoded": row("encode 1 1"),
