@@ -15,7 +15,10 @@ pub enum Reply {
 /// room of its own, undoes the last call, removes its room, and does again what was undone last.
 pub fn call_of(op: u32, made: usize, last: u64) -> Call {
     match made % 4 {
-        0 => Call::Apply(Command::AddRoom(Room { room: op })),
+        0 => Call::Apply(Command::AddRoom(Room {
+            room: op,
+            rate: 8_000,
+        })),
         1 => Call::Undo { last },
         2 => Call::Apply(Command::RemoveRoom { room: op }),
         _ => Call::Redo { last },

@@ -88,7 +88,7 @@ impl Plain {
 /// The edit that takes a room or puts it.
 fn edit(alloc: Global, room: u32, is_taken: bool) -> Result<Edit, AllocError> {
     let mut rows = Vec::new(alloc);
-    rows.push(Row::Room(Room { room }))?;
+    rows.push(Row::Room(Room { room, rate: 8_000 }))?;
     let part = Part::new(Vec::new(alloc), rows);
     let none = Part::none(alloc);
     let (taken, put) = if is_taken { (part, none) } else { (none, part) };
