@@ -91,6 +91,47 @@ def undoes_others(browser, shown, ask):
             fail(f"at version {version - 1} of another operator's change the buttons say {told}, not {wanted}")
 
 
+def adds_music(browser, shown):
+    """Adds a music room and a member there, whose codec the page chooses, and is refused a member with another codec."""
+    version = browser.run("version()")
+    before = browser.run("desk.rows")
+    for script, row in [
+        ('fill("add-room", { room: "3", rate: "44100" })', "room 3 44100"),
+        ('fill("add-member", { member: "12", room: "3", address: "127.0.0.1:6004", ssrc: "9003" })', "member "),
+    ]:
+        version += 1
+        browser.run(f"{script}; true")
+        browser.wait(f"version() === {version}")
+        rows = browser.run("desk.rows")
+        if [*rows, f"end {version}"] != shown() or not any(one.startswith(row) for one in rows if one not in before):
+            fail(f"after `{script}` the page shows {rows}")
+    for script, wanted in [
+        ("document.querySelector('[data-room=\"3\"] .head').textContent.includes('44100 Hz')", True),
+        ("document.querySelector('[data-room=\"1\"] .head').textContent.includes('Hz')", False),
+        ("document.querySelector('[data-member=\"12\"]').textContent.includes('127.0.0.1:6004 l16')", True),
+        ("document.querySelector('select[data-key=\"move 12\"]')", None),
+    ]:
+        told = browser.run(script)
+        if told != wanted:
+            fail(f"{script} is {told}, not {wanted}")
+    browser.run('fill("add-member", { member: "13", room: "3", address: "127.0.0.1:6006", codec: "pcmu", ssrc: "9004" }); true')
+    browser.wait("document.getElementById('notice').textContent.includes('the room has another rate')")
+    if browser.run("version()") != version:
+        fail("a refused member has changed the desk")
+
+
+def undoes_music(browser, shown):
+    """Undoes the member and the music room, which the redo button names then."""
+    version = browser.run("version()")
+    for _ in range(2):
+        version += 1
+        browser.run("document.getElementById('undo').click(); true")
+        browser.wait(f"version() === {version}")
+    rows, redo = browser.run("desk.rows"), browser.run("document.getElementById('redo').textContent")
+    if [*rows, f"end {version}"] != shown() or redo != "Redo: add-room 3 44100":
+        fail(f"after a music room is undone the page shows {rows}, and its button says {redo}")
+
+
 def opened(command, folder, address):
     browser = Browser(command, folder)
     browser.shows(1280, 900)
@@ -118,9 +159,11 @@ def drive(command, folder, address, shown, ask, pictures=None):
             if [*rows, f"end {version}"] != bridge:
                 fail(f"after {what} the page shows {rows}, the bridge {bridge}")
         look(one, version)
+        adds_music(one, shown)
+        look_at_sizes(one, pictures)
+        undoes_music(one, shown)
         by_keys(one, shown)
         undoes_others(one, shown, ask)
-        look_at_sizes(one, pictures)
     finally:
         one.close()
         two.close()
@@ -164,6 +207,7 @@ def look_at_sizes(browser, folder):
             fail(f"at {width} pixels, dark: {dark}, the text is {text} on {ground}")
         if folder:
             browser.picture(folder / f"{name}.png")
+    browser.shows(1280, 900)
 
 
 def contrast(one, other):

@@ -29,6 +29,10 @@ def options(parser):
 # Drawing calls
 
 
+# What may stand behind a room that is added: its clock rate. Two kinds of rooms are as frequent.
+RATES = ["", "", "", " 8000", " 44100", " 44100", " 44100", " 44100", " 16000"]
+
+
 def additions(r, room, member, video, audio, slot):
     """Commands that add a row or replace one, and one of the sources."""
     any_ssrc = r.choice([1, member + 900, video, audio, slot])
@@ -36,7 +40,7 @@ def additions(r, room, member, video, audio, slot):
     address = f"10.0.0.{r.randrange(1, 14)}:{r.choice([0, 5000, 5000, 5000, 5000, 5000])}"
     codec, out_audio = r.choice(["pcmu", "l16"]), r.choice([member + 900, member + 900, any_ssrc])
     return source, [
-        f"add-room {room}",
+        f"add-room {room}{r.choice(RATES)}",
         f"add-member {member} {room} {address} {codec} {out_audio} {r.randrange(65536)} {r.randrange(2**32)}",
         f"add-source {r.choice([video, any_ssrc])} {member} video",
         f"add-source {r.choice([audio, any_ssrc])} {member} audio",
@@ -118,8 +122,8 @@ def draw_group(r, desk):
 
 
 def group_with(r, desk, words, drawn):
-    """A group of commands that are accepted one after another, at times with the given one behind them. An undo or a redo stays alone."""
-    if words.split(" ")[0] in ("undo", "redo"):
+    """A group of commands that are accepted one after another, at times with the given one behind them. An undo, a redo or a group stays alone."""
+    if words.split(" ")[0] in ("undo", "redo", "group"):
         return words
     later = copy.deepcopy(desk)
     parts = [draw_part(drawn, later) for _ in range(r.randrange(1, 5))]

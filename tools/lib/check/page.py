@@ -1,10 +1,11 @@
 """Goes through a call at the page, over HTTP, against a bridge that runs.
 
-An operator adds a room and members, subscribes, mutes, moves a member, undoes three times and does one again. After each line
-the page's desk is what the bridge's `show` says. A second operator's change is there within half a second. Bad requests are
-refused by name and change nothing. A silent bridge keeps nobody waiting, and a bridge that comes back is found again. With
-node, the page's functions choose the lines of clicks as they should. With chromium, two browsers go through a call by clicks,
-forms and a drag: after each step the page shows what `show` says, and the second browser within half a second.
+An operator adds rooms, one of them for music, and members, subscribes, mutes, moves a member, undoes three times and does one
+again. After each line the page's desk is what the bridge's `show` says. A second operator's change is there within half a
+second. Bad requests are refused by name and change nothing. A silent bridge keeps nobody waiting, and a bridge that comes back
+is found again. With node, the page's functions choose the lines of clicks as they should. With chromium, two browsers go
+through a call by clicks, forms and a drag: after each step the page shows what `show` says, and the second browser within half
+a second.
 """
 
 import concurrent.futures
@@ -38,6 +39,15 @@ CALLS = [
     "mute 201",
     "group pin 1 101 / give-floor 1 10",
     "move-member 10 2",
+    "add-room 3 44100",
+    "add-member 12 3 127.0.0.1:6004 l16 9003 0 0",
+]
+# Calls that the bridge refuses, with the number and the name of each refusal.
+REFUSED = [
+    ("mute 999", "4 NoSource"),
+    ("add-room 4 16000", "9 BadValue"),
+    ("move-member 11 3", "21 RateMismatch"),
+    ("add-member 13 3 127.0.0.1:6006 pcmu 9004 0 0", "21 RateMismatch"),
 ]
 
 
@@ -127,14 +137,17 @@ def go_through(page, operator):
         version += 1
         check(page.call(line) == (200, f"ok {version}"), f"`{line}` is not answered `ok {version}`")
         check(page.desk()[0] == shown(operator), f"after `{line}` the page shows another desk than the bridge")
+    check("room 3 44100" in page.desk()[0], "the page doesn't show the rate of a music room")
+    for line, refusal in REFUSED:
+        told = page.call(line)
+        check(told == (200, f"no {version} {refusal}"), f"`{line}` is told as {told}")
     for word in "undo", "undo", "undo", "redo":
         version += 1
         check(page.call(f"{word} {version - 1}") == (200, f"ok {version}"), f"`{word}` is refused")
         check(page.desk()[0] == shown(operator), f"after `{word}` the page shows another desk than the bridge")
     calls = page.desk()[1]
-    check(len(calls) == 2 * version and calls[:2] == ["call add-room 1", "said ok 1"], f"the page has not all calls: {calls}")
-    refused = page.call("mute 999")
-    check(refused == (200, f"no {version} 4 NoSource"), f"a refusal is told as {refused}")
+    count = 2 * (version + len(REFUSED))
+    check(len(calls) == count and calls[:2] == ["call add-room 1", "said ok 1"], f"the page has not all calls: {calls}")
     return version
 
 
@@ -234,8 +247,8 @@ def try_functions():
     if not shutil.which("node"):
         print("there is no command `node`: the page's functions are not tried")
         return
-    text = (CRATES / "desk_page/src/spelling.rt").read_text()
-    script = re.search(r'br##"(.*)"##;', text, re.S)[1]
+    texts = [(CRATES / f"desk_page/src/{part}.rt").read_text() for part in ("spelling", "past")]
+    script = "".join(re.search(r'br##"(.*)"##;', text, re.S)[1] for text in texts)
     with tempfile.TemporaryDirectory() as folder:
         path = pathlib.Path(folder) / "lines.js"
         path.write_text(script)

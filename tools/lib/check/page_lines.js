@@ -39,6 +39,7 @@ same(desk.version, 17);
 same(desk.rooms, [1, 2]);
 same(desk.members[1], { place: 1, member: 11, room: 1, address: "127.0.0.1:6002", codec: "l16", mix: 9002 });
 same(desk.rows.length, 18);
+same([1, 2].map((room) => page.isMusic(desk, room)), [false, false]);
 same(desk.calls, [{ line: "mute 202", said: "ok 17" }, { line: "mute 202", said: "no 17 10 Already" }]);
 
 // A slot shows its subscription, else at index 0 the pin, else the floor holder's least video source.
@@ -70,12 +71,35 @@ same(lines.group(["mute 201", "unpin 1"]), "group mute 201 / unpin 1");
 same(lines.undo(17), "undo 17");
 same(page.free(desk, 101), 104);
 same(page.free(desk, 1), 3);
+same(page.suggested(desk)[0], ["add-room", "room", 3]);
+same(page.videosFor(desk, slot(502)), [101, 103]);
+
+// A music room: its rate is told beside its number, its members have l16 where nothing was chosen, and moves stay at a rate.
+const music = page.parseDesk(text.replace("room 2\n", "room 2 44100\nroom 3 44100\n").replace("pcmu 9003", "l16 9003"));
+same([music.rooms, music.rows.length, music.rows[1]], [[1, 2, 3], 19, "room 2 44100"]);
+same(music.rooms.map((room) => page.isMusic(music, room)), [false, true, true]);
+same(music.members.map((member) => page.roomsFor(music, member)), [[], [], [3]]);
+same(desk.members.map((member) => page.roomsFor(desk, member)), [[2], [2], [1]]);
+same(["1", "2", "3"].map((room) => page.codecOf(music, { room, codec: "" })), ["pcmu", "l16", "l16"]);
+same(page.codecOf(music, { room: "2", codec: "pcmu" }), "pcmu");
+same(page.codecOf(music, { room: "1", codec: "l16" }), "l16");
+same([lines.addRoom("4", "44100"), lines.addRoom("5", "8000"), lines.addRoom(6)], ["add-room 4 44100", "add-room 5", "add-room 6"]);
+const player = { member: "13", room: "2", address: "10.0.0.1:5000", codec: "", ssrc: "9004" };
+same(lines.addMember(player, page.codecOf(music, player)), "add-member 13 2 10.0.0.1:5000 l16 9004 0 0");
 
 same(page.inWords("ok 3").good, true);
 same(page.inWords("no 7 14 NewerCommand 9").text.includes("another change came first"), true);
 same(page.inWords("no 6 20 PartRefused 1 2 NoRoom").text.includes("Command 2 of it: there is no such room"), true);
 same(page.inWords("fault 2 6 BadNumber").text.includes("at word 2"), true);
+same(page.inWords("no 4 21 RateMismatch").text, "refused (21 RateMismatch): the room has another rate: a room of 44100 Hz takes l16 alone, and a member moves between rooms of one rate.");
+same(page.inWords("no 4 20 PartRefused 0 21 RateMismatch").text.includes("Command 1 of it: the room has another rate"), true);
+same(page.inWords("no 4 9 BadValue").text.includes("rate 8000 or 44100"), true);
 same(page.inWords("lost").good, false);
+same(page.replyInWords(200, "ok 3"), page.inWords("ok 3"));
+same(page.replyInWords(503, "Busy: all seats").text.includes("needs a seat"), true);
+same(page.replyInWords(413, "").text, "a call is one line of up to 4096 octets");
+same(page.replyInWords(400, "NoLine: a call"), { good: false, text: "NoLine: a call" });
+same(["Busy: all", "Gone: it"].map(page.noDeskInWords).map((words) => words.slice(0, 9)), ["All seats", "The bridg"]);
 
 // Undo and redo name what they take: the last command in force, and the last one that was undone.
 const calls = (...pairs) => pairs.map(([line, said]) => ({ line, said }));
@@ -92,6 +116,14 @@ same(page.named("Redo", past.redo), "Redo: add-room 2");
 past = page.history(calls(["add-room 1", "ok 1"], ["undo 1", "ok 2"], ["add-room 3", "ok 3"]), 3);
 same(page.named("Redo", past.redo), "Redo");
 same(past.undo.line, "add-room 3");
+// A music room that is added and undone.
+past = page.history(calls(["add-room 1", "ok 1"], ["add-room 2 44100", "ok 2"]), 2);
+same(page.named("Undo", past.undo), "Undo: add-room 2 44100");
+past = page.history(calls(["add-room 1", "ok 1"], ["add-room 2 44100", "ok 2"], ["undo 2", "ok 3"]), 3);
+same([page.named("Undo", past.undo), page.named("Redo", past.redo)], ["Undo: add-room 1", "Redo: add-room 2 44100"]);
+same(page.lookOf(["room 1"]) !== page.lookOf(["room 1 44100"]), true);
+same(page.changes(["room 1"], ["room 1", "room 2 44100"]), ["+ room 2 44100"]);
+
 // A version of another connection was a command, an undo or a redo. Where that isn't known the buttons name nothing.
 const told = (made, version, looks) => {
   past = page.history(calls(...made), version, looks);

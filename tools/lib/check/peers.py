@@ -1,7 +1,8 @@
-"""Holds a call between GStreamer and ffmpeg.
+"""Holds a call between GStreamer and ffmpeg, and another in a room for music.
 
 Both send to relays, one for each member: a relay has the member's one address, passes on to the bridge what its programs send,
-and passes on to the receiving program what the bridge sends. Each check prints a line, `ok` or `FAILED`.
+and passes on to the receiving program what the bridge sends. In the room for music both send and hear L16 at 44100 Hz, of which the tones
+are measured: their frequency and their level. Each check prints a line, `ok` or `FAILED`.
 
 It installs nothing. On Debian the packages are gstreamer1.0-tools, gstreamer1.0-plugins-base, -good and -bad, ffmpeg, tshark.
 """
@@ -19,7 +20,7 @@ import threading
 import time
 
 from lib.models.mix import samples_of
-from lib.packets import has_no_gap, is_rtcp, is_rtp_of, nack, payload_of, rtp, seq_of, ssrc_of
+from lib.packets import has_no_gap, is_rtcp, is_rtp_of, nack, number, payload_of, rtp, seq_of, ssrc_of
 from lib.serving import Operator, port_of, settings, started, udp_socket
 from lib.shared import add_program, fail, release_program
 
@@ -29,6 +30,9 @@ NEEDED = ("gst-launch-1.0", "ffmpeg", "tshark")
 RATE = 8000
 WIDTH, HEIGHT = 320, 240
 TONES = (440, 1000, 2000)
+# In the room for music: its clock rate, the tones of GStreamer and ffmpeg, and the level of each. A room of 8000 Hz can't carry the second.
+MUSIC, TICK = 44100, 882
+LEVELS = {440: 0.3 * 32767, 6000: 32767 / 8}
 
 
 def options(parser):
@@ -85,13 +89,33 @@ def samples(packets):
     return [sample for packet in packets for sample in samples_of(packet[1] & 127, payload_of(packet))]
 
 
-def power(sound, hertz):
-    """The share of a sound's power at a frequency, by Goertzel's sum: 0.5 for a pure tone."""
-    w, a, b = 2 * math.cos(2 * math.pi * hertz / RATE), 0.0, 0.0
+def strength(sound, hertz, rate):
+    """The square of a sound's Fourier sum at a frequency, as Goertzel adds it up."""
+    w, a, b = 2 * math.cos(2 * math.pi * hertz / rate), 0.0, 0.0
     for v in sound:
         a, b = v + w * a - b, a
+    return max(0.0, a * a + b * b - w * a * b)
+
+
+def power(sound, hertz):
+    """The share of a sound's power at a frequency: 0.5 for a pure tone."""
     whole = sum(v * v for v in sound) * len(sound)
-    return (a * a + b * b - w * a * b) / whole if whole else 0.0
+    return strength(sound, hertz, RATE) / whole if whole else 0.0
+
+
+def level(sound, hertz):
+    """The amplitude of the tone of a frequency in music."""
+    return 2 * math.sqrt(strength(sound, hertz, MUSIC)) / len(sound) if sound else 0.0
+
+
+def are_music(sound, wanted):
+    """Whether half a second of music has the wanted tones at their levels, the others not, and each at its frequency. What it has."""
+    half = sound[-MUSIC // 2 :]
+    levels = {hertz: round(level(half, hertz)) for hertz in LEVELS}
+    peaks = {hertz: max(range(hertz - 6, hertz + 7, 2), key=lambda near: level(half, near)) for hertz in wanted}
+    near = all(abs(levels[hertz] - LEVELS[hertz]) < LEVELS[hertz] / 10 for hertz in wanted)
+    quiet = all(levels[hertz] < 50 for hertz in LEVELS if hertz not in wanted)
+    return len(half) == MUSIC // 2 and near and quiet and all(abs(peak - hertz) <= 2 for hertz, peak in peaks.items()), levels, peaks
 
 
 def are_tones(sound, own):
@@ -108,6 +132,13 @@ def turns_of(pictures):
     middle = (min(lines) + max(lines)) / 2 if max(lines) - min(lines) > 5 else 0
     bright = [line > middle for line in lines]
     return 1 + sum(a != b for a, b in zip(bright, bright[1:]))
+
+
+def are_ticks_of_music(packets):
+    """Whether the packets have type 11 and 882 samples each, by which their timestamps go on."""
+    times = [number(packet[4:8]) for packet in packets]
+    are_whole = all(packet[1] & 127 == 11 and len(payload_of(packet)) == 2 * TICK for packet in packets)
+    return are_whole and all((b - a) % 2**32 == TICK for a, b in zip(times, times[1:]))
 
 
 def contributors(packets):
@@ -132,6 +163,13 @@ def gst_tone(hertz, relay, stream, codec):
     )
 
 
+def gst_music(hertz, relay, stream):
+    return gst(
+        f"audiotestsrc is-live=true samplesperbuffer=441 freq={hertz} volume=0.3 ! audio/x-raw,rate={MUSIC},channels=1 ! audioconvert !",
+        f"audio/x-raw,format=S16BE ! rtpL16pay ssrc={stream} pt=11 ! udpsink host=127.0.0.1 port={relay.inner_port}",
+    )
+
+
 def gst_video(relay, stream):
     return gst(
         f"videotestsrc is-live=true ! video/x-raw,width={WIDTH},height={HEIGHT},framerate=25/1 ! vp8enc deadline=1 keyframe-max-dist=25 !",
@@ -149,12 +187,16 @@ def ffmpeg_tone(hertz, relay, stream):
     return ffmpeg_sends(relay, stream, f"sine=frequency={hertz}:sample_rate=8000", "-ac 1 -c:a pcm_mulaw", 0, 172)
 
 
+def ffmpeg_music(hertz, relay, stream):
+    return ffmpeg_sends(relay, stream, f"sine=frequency={hertz}:sample_rate={MUSIC}", "-ac 1 -c:a pcm_s16be", 11, 1400)
+
+
 def ffmpeg_video(relay, stream):
     return ffmpeg_sends(relay, stream, f"testsrc=size={WIDTH}x{HEIGHT}:rate=25", "-c:v libvpx -deadline realtime -g 25", 100, 1100)
 
 
-def gst_hears(port, path):
-    caps = "application/x-rtp,media=audio,encoding-name=L16,clock-rate=8000,channels=1,payload=97"
+def gst_hears(port, path, rate=RATE, kind=97):
+    caps = f"application/x-rtp,media=audio,encoding-name=L16,clock-rate={rate},channels=1,payload={kind}"
     return gst(f"-e udpsrc port={port} caps={caps} ! rtpjitterbuffer ! rtpL16depay ! audioconvert ! wavenc ! filesink location={path}")
 
 
@@ -166,9 +208,9 @@ def gst_sees(port, path):
     )
 
 
-def ffmpeg_hears(port, path, folder):
-    sdp = folder / "mix.sdp"
-    sdp.write_text(f"v=0\no=- 0 0 IN IP4 127.0.0.1\ns=mix\nc=IN IP4 127.0.0.1\nt=0 0\nm=audio {port} RTP/AVP 0\n")
+def ffmpeg_hears(port, path, kind=0):
+    sdp = path.with_suffix(".sdp")
+    sdp.write_text(f"v=0\no=- 0 0 IN IP4 127.0.0.1\ns=mix\nc=IN IP4 127.0.0.1\nt=0 0\nm=audio {port} RTP/AVP {kind}\n")
     return ["ffmpeg", "-v", "error", "-protocol_whitelist", "file,udp,rtp", "-i", str(sdp), "-c:a", "pcm_s16le", "-f", "s16le", str(path)]
 
 
@@ -218,12 +260,16 @@ def dissected(capture, port):
 
 
 def check_checks(check, folder):
-    """Makes sure that the checks refuse a gap, a number twice, the own tone, a tone that is missing, and a report cut off."""
+    """Makes sure that the checks refuse a gap, a number twice, the own tone, a tone that is missing, soft or too high, and a report cut off."""
     packets = [rtp(n, 160 * n, 9001, b"\xff" * 160, pt=0) for n in range(65530, 65540)]
     wave = {hertz: [8000 * math.sin(2 * math.pi * hertz * n / RATE) for n in range(RATE)] for hertz in TONES}
     mixed = [a + b for a, b in zip(wave[1000], wave[2000])]
     numbers = has_no_gap(packets) and not has_no_gap(packets[:4] + packets[5:]) and not has_no_gap(packets[:4] + packets[3:])
     tones = are_tones(mixed, 440)[0] and not are_tones(mixed, 1000)[0] and not are_tones(wave[1000], 440)[0]
+    music = {hertz: [most * math.sin(2 * math.pi * hertz * n / MUSIC) for n in range(MUSIC // 2)] for hertz, most in LEVELS.items()}
+    both, soft, low = [a + b for a, b in zip(*music.values())], [v / 2 for v in music[440]], music[6000][::2] * 2
+    levels = are_music(both, [440, 6000])[0] and are_music(music[440], [440])[0] and not are_music(both, [440])[0]
+    levels = levels and not are_music(soft, [440])[0] and not are_music(low, [6000])[0]
     capture = str(folder / "wrong.pcap")
     with udp_socket() as one:
         port = port_of(one)
@@ -233,7 +279,8 @@ def check_checks(check, folder):
         time.sleep(1)
         stopped(shark)
     count, wrong = dissected(capture, port)
-    check(numbers and tones and count == 2 and len(wrong) == 1, "the checks refuse what is wrong", (numbers, tones, count, wrong))
+    seen = numbers, tones, levels, count, wrong
+    check(numbers and tones and levels and count == 2 and len(wrong) == 1, "the checks refuse what is wrong", seen)
 
 
 # The call
@@ -245,7 +292,7 @@ class Call:
     def __init__(self, check, folder, udp, tcp):
         self.check, self.folder, self.udp, self.running = check, folder, udp, []
         self.desk = Operator(socket.create_connection(("127.0.0.1", tcp), timeout=10))
-        self.p, self.q, self.r = (Relay(("127.0.0.1", udp)) for _ in range(3))
+        self.p, self.q, self.r, *self.players = (Relay(("127.0.0.1", udp)) for _ in range(6))
         self.heard, self.heard_by_ffmpeg, self.seen = folder / "heard.wav", folder / "heard.raw", folder / "seen.raw"
 
     def start(self, command, **where):
@@ -267,7 +314,7 @@ class Call:
         """Starts the programs that receive, and then those that send. The former."""
         p, q, r = self.p, self.q, self.r
         r.to[9003], r.to[501], q.to[9002] = even_port(), even_port(), even_port()
-        hearing = (gst_hears(r.to[9003], self.heard), gst_sees(r.to[501], self.seen), ffmpeg_hears(q.to[9002], self.heard_by_ffmpeg, self.folder))
+        hearing = (gst_hears(r.to[9003], self.heard), gst_sees(r.to[501], self.seen), ffmpeg_hears(q.to[9002], self.heard_by_ffmpeg))
         receivers = [self.start(command, stdin=subprocess.DEVNULL) for command in hearing]
         tones = gst_tone(440, p, 201, "pcmu"), ffmpeg_tone(1000, q, 202), gst_tone(2000, r, 203, "l16")
         for command in (*tones, gst_video(p, 101), ffmpeg_video(q, 102)):
@@ -325,6 +372,38 @@ class Call:
         good = len(seen) > 150 * WIDTH * HEIGHT and turns_of(seen) == 3
         self.check(good, "GStreamer sees the one video, the other, and the one again", (len(seen), turns_of(seen)))
 
+    def set_music(self):
+        """Sets the room for music: GStreamer's and ffmpeg's members send, and a third one hears them."""
+        members = zip((20, 21, 22), self.players)
+        lines = [f"add-room 2 {MUSIC}", *(f"add-member {n} 2 127.0.0.1:{relay.port} l16 {9000 + n} 0 0" for n, relay in members)]
+        told = [self.desk.ask(line) for line in [*lines, "add-source 220 20 audio", "add-source 221 21 audio"]]
+        self.check(all(answer.startswith("ok") for answer in told), "the room for music is set", told)
+        refused = self.desk.ask("add-member 23 2 127.0.0.1:1 pcmu 9023 0 0"), self.desk.ask("move-member 10 2")
+        self.check(all(answer.endswith(" 21 RateMismatch") for answer in refused), "PCMU and another room's member have no place in it", refused)
+
+    def check_music(self):
+        """Holds the call in the room for music and checks it."""
+        s, t, u = self.players
+        by_gst, by_ffmpeg = self.folder / "music.wav", self.folder / "music.raw"
+        self.set_music()
+        u.to[9022], t.to[9021] = even_port(), even_port()
+        hearing = gst_hears(u.to[9022], by_gst, MUSIC, 11), ffmpeg_hears(t.to[9021], by_ffmpeg, 11)
+        receivers = [self.start(command, stdin=subprocess.DEVNULL) for command in hearing]
+        for command in (gst_music(440, s, 220), ffmpeg_music(6000, t, 221)):
+            self.start(command, stdout=subprocess.DEVNULL)
+        time.sleep(6)
+        for relay, out, wanted in (s, 9020, [6000]), (t, 9021, [440]), (u, 9022, [440, 6000]):
+            mixes = relay.media(out)[-100:]
+            self.check(has_no_gap(mixes) and are_ticks_of_music(mixes), f"member {out - 9000} gets 882 samples a packet, of type 11")
+            good, *seen = are_music(samples(mixes), wanted)
+            self.check(good, f"member {out - 9000} hears {wanted} Hz at their levels, and nothing of its own", seen)
+        for program in receivers:
+            stopped(program)
+        for path, wanted, name in (by_gst, [440, 6000], "GStreamer"), (by_ffmpeg, [440], "ffmpeg"):
+            octets = path.read_bytes()[44:] if path.exists() else b""
+            good, *seen = are_music([sample for sample, in struct.iter_unpack("<h", octets[len(octets) % 2 :][-2 * MUSIC :])], wanted)
+            self.check(good, f"{name} hears the music: {wanted} Hz", seen)
+
     def hold(self):
         """Holds the call and checks it."""
         capture = str(self.folder / "call.pcap")
@@ -337,6 +416,7 @@ class Call:
         for program in receivers:
             stopped(program)
         self.check_files()
+        self.check_music()
         stopped(shark)
         count, wrong = dissected(capture, self.udp)
         self.check(count > 100 and not wrong, f"tshark dissects {count} datagrams of the bridge without a complaint", wrong[:3])

@@ -113,6 +113,8 @@ undo
 ! undo
 ! group unmute 201 / set-gain 11 201 256 / unpin 1
 ! undo
+! add-room 3 44100
+! add-member 12 3 127.0.0.1:6004 l16 9003 0 0
 ! show
 """.strip().splitlines()
 
@@ -332,7 +334,19 @@ def check_media(bridges):
     return total
 
 
-# Starts
+# Starts and ends
+
+
+def came_of(bridge, heap, what, statuses, goes_on, check_it):
+    """Waits until a bridge ends or goes on. The status with which it ended by a refused request, or None where none was refused and all is well."""
+    try:
+        until(lambda: bridge.poll() is not None or goes_on(), f"{what}: the bridge neither ends nor goes on")
+        if heap.release()[1]:
+            return status_of(bridge, statuses, what)
+        check_it()
+        return None
+    finally:
+        bridge.kill()
 
 
 def try_start(bridges, nth):
@@ -341,17 +355,13 @@ def try_start(bridges, nth):
     heap.refuse(ANY, nth)
     words = [bridges.program, "serve", bridges.path]
     bridge = subprocess.Popen(words, stdin=subprocess.DEVNULL, stderr=subprocess.PIPE, text=True, env=heap.environment)
-    try:
-        until(lambda: bridge.poll() is not None or is_started(bridge, bridges.lanes), f"{what}: the bridge neither starts nor ends")
-        _, is_refused = heap.release()
-        if is_refused:
-            return status_of(bridge, {2: OUT_OF_MEMORY, 3: FAILED}, what)
+
+    def is_served():
         listens = LISTENS.fullmatch(bridge.stderr.readline())
         check(listens, f"{what}: none is refused, and the bridge doesn't say where it listens")
         stopped(bridge, Operator(socket.create_connection(("127.0.0.1", int(listens[2])), timeout=PATIENCE)))
-        return None
-    finally:
-        bridge.kill()
+
+    return came_of(bridge, heap, what, {2: OUT_OF_MEMORY, 3: FAILED}, lambda: is_started(bridge, bridges.lanes), is_served)
 
 
 def check_starts(bridges):
@@ -361,27 +371,22 @@ def check_starts(bridges):
     return len(statuses)
 
 
-# Ends
-
-
 def try_end(bridges, nth):
     """Stops a bridge while a request of the front is refused. The status with which it ended, or None where it made fewer."""
     heap, what = bridges.heap(), f"request {nth} of the end"
     bridge, _, port = started(bridges.program, bridges.path, environment=heap.environment)
-    try:
-        front = own_threads(bridge, bridges.lanes)["front"]
-        operator = Operator(socket.create_connection(("127.0.0.1", port), timeout=PATIENCE))
-        check(operator.ask("add-room 1") == "ok 1", "`add-room 1` isn't accepted")
-        heap.refuse(front, nth)
-        operator.tell("stop")
-        status = bridge.wait(PATIENCE)
-        if heap.release()[1]:
-            return status_of(bridge, {2: OUT_OF_MEMORY}, what)
+    front = own_threads(bridge, bridges.lanes)["front"]
+    operator = Operator(socket.create_connection(("127.0.0.1", port), timeout=PATIENCE))
+    check(operator.ask("add-room 1") == "ok 1", "`add-room 1` isn't accepted")
+    heap.refuse(front, nth)
+    operator.tell("stop")
+
+    def are_counted():
         calls, _ = said_at_the_end(bridge.stderr.read())
-        check(status == 0 and calls == {0: 1, 1: 0}, f"{what}: none is refused, and the bridge ends with status {status} and {calls} calls")
-        return None
-    finally:
-        bridge.kill()
+        is_good = bridge.returncode == 0 and calls == {0: 1, 1: 0}
+        check(is_good, f"{what}: none is refused, and the bridge ends with status {bridge.returncode} and {calls} calls")
+
+    return came_of(bridge, heap, what, {2: OUT_OF_MEMORY}, lambda: False, are_counted)
 
 
 def check_ends(bridges):

@@ -1,14 +1,14 @@
 """Compares sender and receiver reports with a model of them.
 
-Senders of video and audio send as in `check rx`, and sender reports too. Receivers send report blocks, NACKs and PLIs. Ticks,
-reports and operators' calls come in between, with --groups mostly in groups.
+Senders of video and audio send as in `check rx`, one of them in a room for music, and sender reports too. Receivers send report
+blocks, NACKs and PLIs. Ticks, reports and operators' calls come in between, with --groups mostly in groups.
 
 With --cases nothing is compared. The lines are printed with the model's answers, in the form of script_cases.
 """
 
 import random
 
-from lib.check.rx import SETUP, P, Q, R, add_script, compare_script, draw_call, senders_of
+from lib.check.rx import SETUP, P, Q, R, S, add_script, compare_script, draw_call, senders_of
 from lib.models.reports import ReportBridge
 
 NEEDS = "a program, a minute"
@@ -43,7 +43,7 @@ def compound_of(r, bridge):
     blocks = b"".join(block_of(r, bridge) for _ in range(r.choice([0, 1, 1, 2])))
     count = len(blocks) // 24
     if r.random() < 0.4:
-        ssrc, ntp = r.choice([101, 102, 201, 9]), r.choice([bytes(8), r.randbytes(8)])
+        ssrc, ntp = r.choice([101, 102, 201, 301, 9]), r.choice([bytes(8), r.randbytes(8)])
         octets = bytes([128 + count, 200, 0, 6 + 6 * count]) + ssrc.to_bytes(4, "big") + ntp + bytes(12) + blocks
     else:
         octets = bytes([128 + count, 201, 0, 1 + 6 * count, 0, 0, 0, 9]) + blocks
@@ -62,7 +62,7 @@ def draw_line(r, bridge, senders, moment, groups):
     if kind < 0.10:
         return f"report {max(0, moment - r.choice([0, 0, 0, 10**9]))}"
     if kind < 0.20:
-        return f"rx {moment} {r.choice([P, P, Q, Q, R, '10.0.0.9:5000'])} {compound_of(r, bridge).hex()}"
+        return f"rx {moment} {r.choice([P, P, Q, Q, R, S, '10.0.0.9:5000'])} {compound_of(r, bridge).hex()}"
     sender = r.choice(senders)
     octets = sender.arriving()
     return f"rx {moment} {sender.address if r.random() < 0.99 else R} {octets.hex()}"

@@ -1,7 +1,8 @@
 """Compares random datagrams with a model of the bridge.
 
-Two video senders and an audio sender send packets that are reordered, lost, doubled, cut short and changed, with wraps and
-restarts. Receivers send NACKs. Operators mute, unsubscribe, remove and undo in between, with --groups mostly in groups.
+Two video senders and two audio senders, one of them in a room for music, send packets that are reordered, lost, doubled, cut short
+and changed, with wraps and restarts. Receivers send NACKs. Operators mute, unsubscribe, remove and undo in between, with --groups
+mostly in groups. They also have the second audio sender come back in the other room, or as a source of video.
 
 With --cases nothing is compared. The lines are printed with the model's answers, in the form of script_cases.
 """
@@ -16,7 +17,7 @@ from lib.shared import add_program_or_build, first_difference, replay
 
 NEEDS = "a program, a minute"
 
-P, Q, R = (f"10.0.0.{n}:5000" for n in (1, 2, 3))
+P, Q, R, S, T = (f"10.0.0.{n}:5000" for n in range(1, 6))
 SETUP = [
     "desk 0 add-room 1",
     f"desk 0 add-member 10 1 {P} pcmu 9001 0 0",
@@ -31,14 +32,28 @@ SETUP = [
     "desk 0 subscribe 501 101",
     "desk 0 subscribe 503 102",
     "desk 0 pin 1 101",
+    "desk 0 add-room 2 44100",
+    f"desk 0 add-member 13 2 {S} l16 9004 0 4294960000",
+    f"desk 0 add-member 14 2 {T} l16 9005 65500 0",
+    "desk 0 add-source 301 13 audio",
 ]
 CALLS = [
     "mute 101", "unmute 101", "mute 102", "unmute 102", "unsubscribe 501", "subscribe 501 101", "subscribe 502 102", "unsubscribe 502",
     "pin 1 102", "pin 1 101", "unpin 1", "give-floor 1 10", "take-floor 1", "remove-slot 501", "add-slot 501 12 2 5 5", "remove-source 101",
     "add-source 101 10 video", "remove-member 12", f"add-member 12 1 {R} l16 9003 0 0", "add-slot 502 12 0 7 7",
+    "remove-source 301", "remove-source 301", "add-source 301 13 video", "add-source 301 13 audio", "remove-member 13", "move-member 13 1",
+    f"add-member 13 1 {S} l16 9004 0 0", f"add-member 13 2 {S} l16 9004 0 0", f"add-member 13 2 {S} pcmu 9004 0 0",
 ]  # fmt: skip
+# Calls by which the second audio sender comes back in the other room, or as a source of video.
+CHANGES = [
+    *(f"group remove-member 13 / add-member 13 {room} {S} l16 9004 0 0 / add-source 301 13 audio" for room in (1, 1, 2)),
+    *(f"group remove-source 301 / add-source 301 13 {media}" for media in ("video", "audio")),
+]
 # Commands that add again what most packets are sent by or to.
-MENDS = ["add-source 101 10 video", f"add-member 12 1 {R} l16 9003 0 0", "add-slot 502 12 0 7 7", "subscribe 501 101"]
+MENDS = [
+    "add-source 101 10 video", f"add-member 12 1 {R} l16 9003 0 0", "add-slot 502 12 0 7 7", "subscribe 501 101",
+    f"add-member 13 2 {S} l16 9004 0 0", "add-source 301 13 audio",
+]  # fmt: skip
 
 
 def options(parser):
@@ -46,19 +61,19 @@ def options(parser):
 
 
 class Sender:
-    """A source that sends frames of one to four packets, and the packets that are under way."""
+    """A source that sends frames of one to four packets of some payload types, and the packets that are under way."""
 
-    def __init__(self, r, address, ssrc, audio):
-        self.r, self.address, self.ssrc, self.audio = r, address, ssrc, audio
+    def __init__(self, r, address, ssrc, types, steps=(3000, 3000, 160, 1)):
+        self.r, self.address, self.ssrc, self.types, self.steps = r, address, ssrc, types, steps
         self.seq, self.ts, self.way = r.choice([0, 65500, 65300, r.randrange(65536)]), r.randrange(2**32), []
 
     def more(self):
         """Sends a frame on its way."""
         r, last = self.r, self.r.randrange(1, 5)
-        self.ts += r.choice([3000, 3000, 160, 1])
+        self.ts += r.choice(self.steps)
         for n in range(1, last + 1):
             payload = bytes(r.randrange(256) for _ in range(r.choice([0, 1, 2, 2, 3])))
-            pt = r.choice([0, 97, 97, 8]) if self.audio else r.choice([96, 100])
+            pt = r.choice(self.types)
             self.way.append(rtp(self.seq, self.ts, self.ssrc, payload, int(n == last and r.random() < 0.9), pt))
             self.seq += 1
         if r.random() < 0.01:
@@ -80,13 +95,13 @@ class Sender:
 
 def senders_of(r):
     """The senders; the first one sends twice as often."""
-    first = Sender(r, P, 101, False)
-    return [first, first, Sender(r, Q, 102, False), Sender(r, P, 201, True)]
+    first, music = Sender(r, P, 101, [96, 100]), Sender(r, S, 301, [0, 97] + 8 * [11], [882, 441, 100, 1])
+    return [first, first, Sender(r, Q, 102, [96, 100]), Sender(r, P, 201, [0, 97, 97, 0, 97, 97, 8, 11]), music]
 
 
 def draw_call(r, bridge, groups):
     """The line of an operator's call."""
-    words = r.choice(CALLS + 5 * MENDS) if r.random() < 0.8 else f"{r.choice(['undo', 'redo'])} {bridge.version}"
+    words = r.choice(CALLS + 5 * MENDS + 3 * CHANGES) if r.random() < 0.8 else f"{r.choice(['undo', 'redo'])} {bridge.version}"
     words = group_with(r, bridge.desk, words, lambda: r.choice(CALLS)) if groups else words
     return f"desk {r.randrange(16)} {words}"
 

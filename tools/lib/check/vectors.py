@@ -91,7 +91,7 @@ class Script:
         lines = path.read_text().splitlines()
         head = fields_of(lines[0])
         ssrc, is_video = int(head["ssrc"]), head["rate"] == "90000"
-        address, source = self.add_sender(ssrc, "video" if is_video else "audio"), Source()
+        address, source = self.add_sender(ssrc, "video" if is_video else "audio"), Source(int(head["rate"]))
         for number, line in enumerate(lines, 1):
             if not line.startswith("rtp "):
                 continue

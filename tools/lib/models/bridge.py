@@ -3,7 +3,7 @@
 import collections
 
 from lib.models.codec import Dropped, nack_numbers, nack_words, read_rtcp, read_rtp
-from lib.models.desk import Log
+from lib.models.desk import MUSIC, USUAL, Log
 from lib.models.streams import Gate, Source, Stream
 from lib.packets import number
 
@@ -11,6 +11,9 @@ from lib.packets import number
 SENT_BEFORE = 512
 # So many sources are remembered.
 KEPT = 4096
+# The clock rate of video, in Hz, and the octets of a sample by a room's clock rate and the payload type.
+VIDEO_RATE = 90000
+WIDTHS = {USUAL: {0: 1, 97: 2}, MUSIC: {11: 2}}
 # A receiver report without blocks, and the bridge's name.
 FRONT = "80c9000100000001" + "81ca000400000001010662726964676500000000"
 
@@ -126,7 +129,7 @@ class Bridge:
     def arrived(self, source, verdict, moment, rate, ts):
         """Counts an accepted packet for reports."""
 
-    def sound(self, address, packet):
+    def sound(self, address, packet, rate):
         """Hands a packet's samples to the mixer."""
 
     # Datagrams
@@ -179,30 +182,33 @@ class Bridge:
         if not row or not member or row["member"] != member["member"]:
             raise Dropped("Unknown")
         is_audio = row["media"] == "audio"
+        rate = self.desk.rate_in(member["room"]) if is_audio else VIDEO_RATE
         if is_audio:
-            check_audio(p)
-        source = self.source_at(address, p["ssrc"])
+            check_audio(p, rate)
+        source = self.source_at(address, p["ssrc"], rate)
         verdict, ext = source.verdict(p["seq"])
         if ext is None:
             return [f"rx {verdict}"]
         if verdict in ("begun", "restarted"):
             self.epoch += 1
             source.epoch, source.gate = self.epoch, Gate()
-        self.arrived(source, verdict, moment, 8000 if is_audio else 90000, p["ts"])
+        self.arrived(source, verdict, moment, rate, p["ts"])
         return (self.audio if is_audio else self.video)(moment, address, p, source, verdict, ext)
 
-    def source_at(self, address, ssrc):
-        """The source with this number at this address, which is now the last one heard."""
-        source = self.kept.setdefault((address, ssrc), Source())
+    def source_at(self, address, ssrc, rate):
+        """The source with this number at this address, which is now the last one heard. At another clock rate it begins anew."""
+        source = self.kept.get((address, ssrc))
+        if not source or source.rate != rate:
+            source = self.kept[address, ssrc] = Source(rate)
         self.kept.move_to_end((address, ssrc))
         if len(self.kept) > KEPT:
             self.kept.popitem(last=False)
         return source
 
-    def audio(self, _moment, address, p, _source, verdict, ext):
+    def audio(self, _moment, address, p, source, verdict, ext):
         if p["payload"]:
             self.items += 1
-            self.sound(address, p)
+            self.sound(address, p, source.rate)
         return [f"rx {'restarted' if verdict == 'restarted' else 'accepted'} {ext}"]
 
     def video(self, moment, address, p, source, verdict, ext):
@@ -228,8 +234,8 @@ class Bridge:
         return self.frame(int(words[1]), words[2], int(words[3]), int(words[4]), packets)
 
 
-def check_audio(p):
-    """Drops what is no PCMU or L16 of up to 1,600 samples."""
-    octets, width = len(p["payload"]), 2 if p["pt"] == 97 else 1
-    if p["pt"] not in (0, 97) or octets % width or octets // width > 1600:
+def check_audio(p, rate):
+    """Drops what is no audio in a room of this clock rate, or over 200 ms: PCMU and L16 of type 97, or in a room for music L16 of type 11."""
+    octets, width = len(p["payload"]), WIDTHS[rate].get(p["pt"])
+    if not width or octets % width or octets // width > rate // 5:
         raise Dropped("BadPayload")

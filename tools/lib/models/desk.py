@@ -4,6 +4,8 @@ import copy
 
 MOST_PARTS = 64
 LIMITS = {"rooms": 64, "members": 1024, "sources": 2048, "slots": 4096, "gains": 65536, "room-audio": 64}
+# The clock rates of rooms, in Hz. A room for music has L16 alone.
+USUAL, MUSIC = 8000, 44100
 
 
 class Refused(Exception):
@@ -27,6 +29,13 @@ class Desk:
 
     def room_of(self, member):
         return self.one("members", member=member)["room"]
+
+    def rate_in(self, room):
+        return self.one("rooms", room=room)["rate"]
+
+    def rate_of(self, member):
+        """The clock rate of the room that a member is in."""
+        return self.rate_in(self.room_of(member))
 
     def room_of_source(self, ssrc):
         return self.room_of(self.source(ssrc)["member"])
@@ -65,9 +74,10 @@ class Desk:
             ordered = sorted(rows, key=lambda row: [row[key] for key in keys]) if keys else rows
             return [" ".join([word] + [str(row[field]) for field in fields.split()]) for row in ordered]
 
+        rooms = [{"room": row["room"], "shown": f"{row['room']} {MUSIC}" if row["rate"] == MUSIC else row["room"]} for row in self.rooms]
         members = [{"place": place, **row} for place, row in enumerate(self.members)]
         return [
-            *lines("room", self.rooms, "room", "room"),
+            *lines("room", rooms, "shown", "room"),
             *lines("member", members, "place member room address codec out_audio seq ts"),
             *lines("source", self.sources, "ssrc member media", "ssrc"),
             *lines("slot", self.slots, "out member index seq ts", "out"),
@@ -180,6 +190,10 @@ def refuse_taken(d, ssrc):
     refuse(ssrc in d.ssrcs(), "8 SsrcTaken")
 
 
+def refuse_rate(holds):
+    refuse(holds, "21 RateMismatch")
+
+
 def refuse_already(d, table, **fields):
     refuse(d.one(table, **fields), "10 Already")
 
@@ -200,10 +214,11 @@ def replace(d, table, keys, **row):
 # Commands, each with its refusals in their order
 
 
-def add_room(d, room):
+def add_room(d, room, rate=USUAL):
     refuse(d.one("rooms", room=room), "1 Exists")
+    refuse(rate not in (USUAL, MUSIC), "9 BadValue")
     refuse_full(d.rooms, "rooms")
-    d.rooms.append({"room": room})
+    d.rooms.append({"room": room, "rate": rate})
 
 
 def remove_room(d, room):
@@ -217,6 +232,7 @@ def add_member(d, member, room, address, codec, out_audio, seq, ts):
     refuse_taken(d, out_audio)
     refuse(address.endswith(":0"), "9 BadValue")
     refuse_full(d.members, "members")
+    refuse_rate(codec == "pcmu" and d.rate_in(room) != USUAL)
     d.members.append(dict(member=member, room=room, address=address, codec=codec, out_audio=out_audio, seq=seq, ts=ts))
 
 
@@ -232,6 +248,7 @@ def move_member(d, member, room):
     need_member(d, member)
     refuse(d.room_of(member) == room, "10 Already")
     refuse(d.audio_in(room) + len(own) > LIMITS["room-audio"], "12 Full room-audio 64")
+    refuse_rate(d.rate_of(member) != d.rate_in(room))
     old, sources = d.room_of(member), {s["ssrc"] for s in d.sources if s["member"] == member}
     slots = {s["out"] for s in d.slots if s["member"] == member}
     d.one("members", member=member)["room"] = room

@@ -9,7 +9,7 @@ FAULTS = {1: "LineTooLong", 2: "BadByte", 3: "UnknownWord", 4: "MissingWord", 5:
 U32, U16, U64 = 2**32 - 1, 2**16 - 1, 2**64 - 1
 CODEC, KIND, ADDRESS = ("pcmu", "l16"), ("audio", "video"), "address"
 COMMANDS = {
-    "add-room": [U32],
+    "add-room": [U32, U32],
     "remove-room": [U32],
     "add-member": [U32, U32, ADDRESS, CODEC, U32, U16, U32],
     "remove-member": [U32],
@@ -29,6 +29,8 @@ COMMANDS = {
     "take-floor": [U32],
 }
 TURNS = {"undo": [U64], "redo": [U64]}
+# How many of a command's last words may be left out.
+LEFT_OUT = {"add-room": 1}
 
 
 class Fault(Exception):
@@ -68,10 +70,12 @@ def read_part(words, place, commands):
     if words[0] not in commands:
         raise Fault(place, 3)
     kinds = commands[words[0]]
+    least = len(kinds) - LEFT_OUT.get(words[0], 0)
     for at, kind in enumerate(kinds, 1):
-        if at >= len(words):
+        if at < len(words):
+            judge(words[at], kind, place + at)
+        elif at <= least:
             raise Fault(place + at, 4)
-        judge(words[at], kind, place + at)
     if len(words) > 1 + len(kinds):
         raise Fault(place + 1 + len(kinds), 5)
 

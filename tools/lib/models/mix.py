@@ -1,10 +1,10 @@
 """A plain mixer: samples at places that never wrap, sums over lists, and the formula of G.711."""
 
-import collections
-
 from lib.models.bridge import Bridge
+from lib.models.desk import MUSIC
 
-RATE, TICK, DELAY = 8000, 160, 480
+# A tick is this part of a second. Samples wait three ticks before they are heard.
+TICKS, DELAY = 50, 3
 
 
 def expanded(octet):
@@ -25,7 +25,7 @@ def compressed(sample):
 
 
 def samples_of(pt, octets):
-    """The samples of a payload of type 0 (PCMU) or 97 (L16)."""
+    """The samples of a payload of type 0 (PCMU), 97 (L16 at 8000 Hz) or 11 (L16 at 44100 Hz)."""
     if pt == 0:
         return [expanded(octet) for octet in octets]
     return [int.from_bytes(octets[i : i + 2], "big", signed=True) for i in range(0, len(octets), 2)]
@@ -37,39 +37,50 @@ def octets_of(codec, samples):
     return b"".join(s.to_bytes(2, "big", signed=True) for s in samples)
 
 
-class Playout:
-    """A jitter buffer. The position is the place of the next sample to be heard."""
+def type_of(codec, rate):
+    """The payload type of a codec at a clock rate."""
+    if codec == "pcmu":
+        return 0
+    return 11 if rate == MUSIC else 97
 
-    def __init__(self):
-        self.position = None
+
+class Playout:
+    """A jitter buffer of samples at a clock rate. The position is the place of the next sample to be heard."""
+
+    def __init__(self, rate):
+        self.rate, self.tick, self.position = rate, rate // TICKS, None
 
     def put(self, ts, samples):
         if self.position is not None:
             far = (ts - self.position + 2**31) % 2**32 - 2**31
-            if -RATE <= far and far + len(samples) <= RATE:
+            if -self.rate <= far and far + len(samples) <= self.rate:
                 for place, sample in enumerate(samples, self.position + far):
                     if place >= self.position:
                         self.there.setdefault(place, sample)
                 return
-        self.position, self.there = ts - DELAY, dict(enumerate(samples, ts))
+        self.position, self.there = ts - DELAY * self.tick, dict(enumerate(samples, ts))
 
     def take(self):
-        """The next 160 samples, None where there is none."""
-        if self.position is None:
-            return [None] * TICK
-        self.position += TICK
-        return [self.there.pop(place, None) for place in range(self.position - TICK, self.position)]
+        """The samples of the next tick, None where there is none."""
+        self.position += self.tick
+        return [self.there.pop(place, None) for place in range(self.position - self.tick, self.position)]
 
 
 class Mix:
-    """An outgoing audio stream."""
+    """An outgoing audio stream. Its timestamp and its clock rate are those of its last tick."""
 
     def __init__(self, member):
-        self.next, self.ts, self.spoke = member["seq"], member["ts"], False
+        self.next, self.ts, self.rate, self.spoke = member["seq"], member["ts"], None, False
 
-    def header(self, codec, names, out):
+    def pass_on(self, rate):
+        """Goes on to a tick at a clock rate. The first one has the first timestamp."""
+        if self.rate:
+            self.ts += rate // TICKS
+        self.rate = rate
+
+    def header(self, pt, names, out):
         """The header of its next packet, which names those that are heard."""
-        head = bytes([0x80 | len(names), (0 if self.spoke else 128) | (0 if codec == "pcmu" else 97)])
+        head = bytes([0x80 | len(names), (0 if self.spoke else 128) | pt])
         head += self.next.to_bytes(2, "big") + (self.ts % 2**32).to_bytes(4, "big") + out.to_bytes(4, "big")
         return head + b"".join(name.to_bytes(4, "big") for name in names)
 
@@ -79,10 +90,13 @@ class MixBridge(Bridge):
 
     def __init__(self):
         super().__init__()
-        self.playouts, self.mixes = collections.defaultdict(Playout), {}
+        self.playouts, self.mixes = {}, {}
 
-    def sound(self, address, packet):
-        self.playouts[packet["ssrc"], address].put(packet["ts"], samples_of(packet["pt"], packet["payload"]))
+    def sound(self, address, packet, rate):
+        key = packet["ssrc"], address
+        if key not in self.playouts or self.playouts[key].rate != rate:
+            self.playouts[key] = Playout(rate)
+        self.playouts[key].put(packet["ts"], samples_of(packet["pt"], packet["payload"]))
 
     def sources_for(self, member):
         """The unmuted audio sources of the other members of a room, as (SSRC, address, gain)."""
@@ -96,10 +110,11 @@ class MixBridge(Bridge):
                     yield source["ssrc"], other["address"], gain["q8"] if gain else 256
 
     def heard(self, member, taken):
-        """Who is named, and the samples that the member hears."""
-        names, total = [], [0] * TICK
+        """Who is named, and the samples that the member hears. A source of another clock rate isn't heard."""
+        rate = self.desk.rate_in(member["room"])
+        names, total = [], [0] * (rate // TICKS)
         for ssrc, address, gain in self.sources_for(member):
-            samples = taken.get((ssrc, address))
+            samples = taken.get((ssrc, address, rate))
             if samples is None:
                 continue
             total = [t + (s or 0) * gain // 256 for t, s in zip(total, samples)]
@@ -110,19 +125,24 @@ class MixBridge(Bridge):
     def tick(self):
         """The mixes of a tick."""
         self.items += 1
-        taken = {key: playout.take() for key, playout in self.playouts.items()}
-        lines, spoke = [], set()
+        taken = {(*key, playout.rate): playout.take() for key, playout in self.playouts.items()}
+        lines, spoke, rates = [], set(), {m["out_audio"]: self.desk.rate_in(m["room"]) for m in self.desk.members}
+        for out, mix in self.mixes.items():
+            mix.pass_on(rates.get(out, mix.rate))
         for m in self.desk.members:
             names, samples = self.heard(m, taken)
             if names:
                 out, codec = m["out_audio"], m["codec"]
-                mix = self.mixes.setdefault(out, Mix(m))
-                octets = mix.header(codec, names[:15], out) + octets_of(codec, samples)
+                if out not in self.mixes:
+                    self.mixes[out] = Mix(m)
+                    self.mixes[out].pass_on(rates[out])
+                mix = self.mixes[out]
+                octets = mix.header(type_of(codec, mix.rate), names[:15], out) + octets_of(codec, samples)
                 lines.append(f"tx {self.version} {self.items} {m['address']} {out} {mix.next} {octets.hex()}")
                 mix.next = (mix.next + 1) % 65536
                 spoke.add(out)
         for out, mix in self.mixes.items():
-            mix.ts, mix.spoke = mix.ts + TICK, out in spoke
+            mix.spoke = out in spoke
         return lines
 
     def answer(self, line):

@@ -90,8 +90,8 @@ class ReportBridge(MixBridge):
         """The lines of all sender reports to a member."""
         mix, lines = self.mixes.get(member["out_audio"]), []
         if mix:
-            since = max(0, moment - self.ticked) // 1000 * 8 // 1000
-            lines.append(self.sender_report(member, "mix", member["out_audio"], mix.ts - 160 + since, moment))
+            since = max(0, moment - self.ticked) // 1000 * mix.rate // 10**6
+            lines.append(self.sender_report(member, "mix", member["out_audio"], mix.ts + since, moment))
         for slot in self.desk.slots_of(member["member"]):
             stream = self.streams.get(slot["out"])
             if stream:

@@ -2,9 +2,10 @@
 
 
 class Source:
-    """The sequence numbers of a source (RFC 3550 A.1)."""
+    """The sequence numbers of a source (RFC 3550 A.1), and its clock rate."""
 
-    def __init__(self):
+    def __init__(self, rate):
+        self.rate = rate
         self.before = self.greatest = self.awaited = self.epoch = self.gate = self.report = None
 
     def verdict(self, seq):
