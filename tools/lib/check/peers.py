@@ -338,7 +338,9 @@ class Call:
 
     def check_packets(self):
         """Checks what came to the relays."""
-        known, video = {payload_of(d) for relay in (self.p, self.q) for d in relay.sent if not is_rtcp(d)}, self.r.media(501)
+        # What came is listed first, for what is sent meanwhile comes later.
+        video = self.r.media(501)
+        known = {payload_of(d) for relay in (self.p, self.q) for d in relay.sent if not is_rtcp(d)}
         self.check(video and all(payload_of(d) in known for d in video), "each payload is one that a camera sent")
         self.check(has_no_gap(video), "the video's numbers have no gap")
         self.check(self.answers_nack(), "a NACK is answered with the same octets")
