@@ -48,7 +48,7 @@ class Call:
         self.udp, self.seq, self.ts = ("127.0.0.1", udp), 0, 0
         self.members = {number: udp_socket() for number in TONES}
         self.got = {number: [] for number in TONES}
-        self.has_reports = False
+        self.has_reports, self.operator = False, None
 
     def begin(self, lanes):
         """An operator makes the desk."""
@@ -109,7 +109,9 @@ class Call:
 
     def close(self):
         self.bridge.kill()
-        for one in self.members.values():
+        self.bridge.wait()
+        pipes = (self.bridge.stdout, self.bridge.stderr, self.operator and self.operator.lines)
+        for one in (*self.members.values(), *(pipe for pipe in pipes if pipe)):
             one.close()
 
 
