@@ -93,6 +93,14 @@ def undoes_others(browser, shown, ask):
             fail(f"at version {version - 1} of another operator's change the buttons say {told}, not {wanted}")
 
 
+def is_told(browser, looks):
+    """Each of these scripts has the value beside it."""
+    for script, wanted in looks:
+        told = browser.run(script)
+        if told != wanted:
+            fail(f"{script} is {told}, not {wanted}")
+
+
 def adds_music(browser, shown):
     """Adds a music room and a member there, whose codec the page chooses, and is refused a member with another codec."""
     version = browser.run("version()")
@@ -107,15 +115,12 @@ def adds_music(browser, shown):
         rows = browser.run("desk.rows")
         if [*rows, f"end {version}"] != shown() or not any(one.startswith(row) for one in rows if one not in before):
             fail(f"after `{script}` the page shows {rows}")
-    for script, wanted in [
+    is_told(browser, [
         ("document.querySelector('[data-room=\"3\"] .head').textContent.includes('44100 Hz')", True),
         ("document.querySelector('[data-room=\"1\"] .head').textContent.includes('Hz')", False),
         ("document.querySelector('[data-member=\"12\"]').textContent.includes('127.0.0.1:6004 l16')", True),
         ("document.querySelector('select[data-key=\"move 12\"]')", None),
-    ]:
-        told = browser.run(script)
-        if told != wanted:
-            fail(f"{script} is {told}, not {wanted}")
+    ])  # fmt: skip
     browser.run('fill("add-member", { member: "13", room: "3", address: "127.0.0.1:6006", codec: "pcmu", ssrc: "9004" }); true')
     browser.wait("document.getElementById('notice').textContent.includes('the room has another rate')")
     if browser.run("version()") != version:
@@ -176,7 +181,7 @@ def drive(command, folder, address, shown, ask, pictures=None):
 
 def look(browser, version):
     """What stands on the page at the end of the session, and a refusal in words."""
-    for script, wanted in [
+    is_told(browser, [
         ('document.getElementById("undo").textContent', "Undo: mute 201"),
         ('document.getElementById("redo").textContent', "Redo: give-floor 1 10"),
         ("document.querySelectorAll('.room').length", 2),
@@ -185,10 +190,7 @@ def look(browser, version):
         ("document.querySelector('[data-member=\"10\"] .muted').textContent.includes('201')", True),
         ("document.querySelectorAll('#calls li.undone').length", 2),
         ("document.querySelector('[data-member=\"10\"] [title=\"unmute 201\"]') !== null", True),
-    ]:
-        told = browser.run(script)
-        if told != wanted:
-            fail(f"{script} is {told}, not {wanted}")
+    ])  # fmt: skip
     browser.run('document.getElementById("line").value = "subscribe 501 999"; document.getElementById("line-form").requestSubmit(); true')
     browser.wait("document.getElementById('notice').textContent.includes('there is no such source')")
     if browser.run("version()") != version:
