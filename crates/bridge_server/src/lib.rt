@@ -20,6 +20,7 @@ mod rounds;
 mod serving;
 mod sockets;
 mod stopped;
+mod wakes;
 mod waking;
 
 pub use self::calls::calls_of;

@@ -1,6 +1,6 @@
 //! How a bridge begins and ends.
 
-ghost use Rattle.std.specs.Prelude.{◌≡◌, ◌≤◌, ◌+◌, true, vec_len};
+ghost use Rattle.std.specs.Prelude.{◌≡◌, ◌≤◌, ◌+◌, true, vec_len, IfOk};
 ghost use Rattle.std.specs.List.{All};
 ghost use Rattle.intake.specs.Names.{is_name};
 ghost use Rattle.desk_rows.specs.Desk.{blank as no_rows};
@@ -14,6 +14,7 @@ use crate::rounds::{Media, Rounds};
 use crate::serving::serve;
 use crate::sockets::Sockets;
 use crate::stopped::Stopped;
+use crate::wakes::Wakes;
 use crate::waking::{FrontWaker, LaneWaker};
 use bridge_core::{Intake, Settings};
 use flood_guard::FloodGuard;
@@ -30,7 +31,7 @@ use std::sync::ledger::Blank;
 use std::sync::{Arc, Wait};
 use std::thread::Threads;
 use std::time::Clock;
-use udp_front::{FrontFault, Moments};
+use udp_front::{FrontFault, FrontSettings, Moments};
 use versions::{LaneReader, Opened};
 
 /// Runs a bridge until an operator stops it.
@@ -106,6 +107,24 @@ fn start_fault(fault: StartFault) -> FrontFault {
     }
 }
 
+/// The sockets of a front, what ends a wait at them, and the settings.
+fn sockets_of(
+    alloc: Global,
+    front: Front,
+) -> Result<(Sockets, FrontWaker, FrontSettings), FrontFault>
+    ensures { IfOk result (λ parts. parts.2 ≡ front.settings) }
+{
+    let Front {
+        poll,
+        udp,
+        tcp,
+        settings,
+    } = front;
+    let waker = FrontWaker(Arc::new(alloc, Waker::new(poll.registry(), WAKER)?)?);
+    let sockets = Sockets::new(alloc, poll, udp, tcp)?;
+    Ok((sockets, waker, settings))
+}
+
 /// Starts the lanes, and gives the front and what wakes it.
 fn begin<H, R>(
     rt: &R,
@@ -120,29 +139,16 @@ where
     requires few { vec_len readers ≤ most_lanes + 1 }
 {
     let mut readers = readers;
-    let Front {
-        poll,
-        udp,
-        tcp,
-        settings,
-    } = front;
     let own = readers.pop();
-    let waker = FrontWaker(Arc::new(alloc, Waker::new(poll.registry(), WAKER)?)?);
-    let sockets = Sockets::new(alloc, poll, udp, tcp)?;
+    let (sockets, waker, settings) = sockets_of(alloc, front)?;
     let moments = Moments::begin(rt)?;
+    let start = moments.start();
     let has_members = Arc::new(alloc, AtomicBool::new(false))?;
     let lane_waker = LaneWaker {
         front: waker.clone()?,
         has_members: Arc::try_clone(&has_members)?,
     };
-    let media = media_of(
-        rt,
-        alloc,
-        readers,
-        settings.bridge,
-        &lane_waker,
-        moments.start(),
-    )?;
+    let media = media_of(rt, alloc, readers, settings.bridge, &lane_waker, start)?;
     let rounds = Rounds {
         alloc,
         sockets,
@@ -151,6 +157,7 @@ where
         media,
         is_behind: false,
         has_members,
+        wakes: Wakes::begin(start),
     };
     Ok((rounds, waker))
 }
@@ -196,6 +203,7 @@ where
         media,
         is_behind: _,
         has_members: _,
+        wakes: _,
     } = rounds;
     let dropped = dropped_of(alloc, &media);
     let ends = media.close(rt);

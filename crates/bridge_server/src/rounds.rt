@@ -3,6 +3,7 @@
 ghost use Rattle.std.specs.Prelude.{◌≡◌};
 
 use crate::sockets::{Read, Sockets};
+use crate::wakes::Wakes;
 use crate::waking::LaneWaker;
 use desk_rows::Rows;
 use lane_bell::Rung;
@@ -18,6 +19,7 @@ use versions::{LaneReader, Notice};
 
 /// How many milliseconds a round waits at most.
 const LONGEST_WAIT: u64 = 5;
+
 /// How many datagrams are taken in under one entry into the published desk, so that neither a tick nor an operator's
 /// call waits long for them.
 const DATAGRAMS: u32 = 64;
@@ -40,6 +42,7 @@ pub(crate) struct Rounds<H: Hall, R: Wait + Drop> {
     pub(crate) is_behind: bool,
     /// Lanes wake the front while it is set.
     pub(crate) has_members: Arc<AtomicBool, Global>,
+    pub(crate) wakes: Wakes,
 }
 
 impl<H: Hall + Send + Sync + 'static, R: Wait + Clock + Copy + Send + Drop + 'static> Rounds<H, R> {
@@ -78,8 +81,9 @@ impl<H: Hall + Send + Sync + 'static, R: Wait + Clock + Copy + Send + Drop + 'st
                 self.tick(rt)
             }
         };
-        self.media.ring(rt);
+        let woken = self.wake(rt);
         done?;
+        woken?;
         self.is_behind = self.media.send(&mut self.sockets.wire()) >= SENT;
         Ok(())
     }
@@ -121,6 +125,15 @@ impl<H: Hall + Send + Sync + 'static, R: Wait + Clock + Copy + Send + Drop + 'st
         let (octets, mut wire) = self.sockets.parts(octets);
         self.media
             .datagram(self.alloc, rows, &from, moment, octets, &mut wire)?;
+        Ok(())
+    }
+
+    /// Wakes the lanes for what they were given, if they have to be woken in this round.
+    fn wake(&mut self, rt: &R) -> Result<(), FrontFault> {
+        let has_members = self.has_members.load(Ordering::SeqCst);
+        if self.wakes.is_due(self.moments.now(rt)?, has_members) {
+            self.media.ring(rt);
+        }
         Ok(())
     }
 

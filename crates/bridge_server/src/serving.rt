@@ -1,6 +1,7 @@
 //! The threads of a bridge.
 
-ghost use Rattle.std.specs.Prelude.{◌≡◌};
+ghost use Rattle.std.specs.Prelude.{◌≡◌, false, IsOk, IsErr};
+ghost use Rattle.std.specs.Bool.{OnTrue};
 ghost use denote.Param.Send.{IsSend, IsSync};
 
 use crate::rounds::Rounds;
@@ -39,6 +40,26 @@ fn seated<'a, H: Hall, R: Net + Wait>(
     }
 }
 
+/// Whether another round follows. It waits until something has come, unless the last round had a fault or the bridge is
+/// stopped. A fault of the wait becomes that of the round.
+fn has_next<'a, H, R>(
+    operators: &Operators<'a, H>,
+    rounds: &mut Rounds<H, R>,
+    round: &mut Result<(), FrontFault>,
+) -> bool
+where
+    H: Hall + Send + Sync + 'static,
+    R: Wait + Clock + Copy + Send + Drop + 'static,
+    ensures well { OnTrue result (IsOk round.new) }
+    ensures fault { IsErr round.old → (round.new ≡ round.old) × (result ≡ false) }
+{
+    if operators.has_stopped() || round.is_err() {
+        return false;
+    }
+    *round = rounds.wait();
+    round.is_ok()
+}
+
 /// Runs the front and the operators' threads until an operator stops the bridge or a lane ends. All operators' threads
 /// have ended when it returns.
 pub(crate) fn serve<'a, H, R>(
@@ -60,11 +81,7 @@ where
         {
             let mut done = Ok(());
             for _ in rt.forever() {
-                if operators.has_stopped() || done.is_err() {
-                    break;
-                }
-                if let Err(fault) = rounds.wait() {
-                    done = Err(fault);
+                if !has_next(operators, rounds, &mut done) {
                     break;
                 }
                 for _ in 0..CONNECTIONS {
