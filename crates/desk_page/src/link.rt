@@ -72,6 +72,18 @@ fn write_line(stream: &mut TcpStream, out: &[u8], sent: &mut usize) -> bool {
     true
 }
 
+/// A connection that begins now.
+fn connection<N: Net>(
+    rt: &N,
+    registry: &Registry,
+    token: Token,
+    address: SocketAddr,
+) -> io::Result<TcpStream> {
+    let mut stream = TcpStream::connect(rt, address)?;
+    registry.register(&mut stream, token, Interest::READABLE | Interest::WRITABLE)?;
+    Ok(stream)
+}
+
 /// A connection that is opened where there is none, and the line that is under way.
 #[derive(Drop)]
 pub(crate) struct Link {
@@ -118,9 +130,7 @@ impl Link {
         address: SocketAddr,
     ) -> io::Result<()> {
         if self.stream.is_none() {
-            let mut stream = TcpStream::connect(rt, address)?;
-            registry.register(&mut stream, token, Interest::READABLE | Interest::WRITABLE)?;
-            self.stream = Some(stream);
+            self.stream = Some(connection(rt, registry, token, address)?);
         }
         Ok(())
     }

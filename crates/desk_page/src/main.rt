@@ -19,28 +19,9 @@ mod terms;
 
 use crate::options::{Ends, Options, options_in};
 use crate::server::Server;
-use std::alloc::AllocGlobal;
 use std::io::ErrorKind;
-use std::net::Net;
 use std::process::ExitCode;
-use std::random::RandomSource;
-use std::rt::Runtime;
-use std::sync::Wait;
 use std::{env, io};
-
-/// Serves the page until a socket, the clock or memory fails.
-fn serve<R: Runtime + AllocGlobal + Net + RandomSource + Wait>(
-    rt: &R,
-    options: Options,
-) -> io::Result<()> {
-    let mut server = Server::bind(rt, options)?;
-    let address = server.address()?;
-    let _ = eprintln!(rt; "desk_page: http://{address}/");
-    for _ in rt.forever() {
-        server.round(rt)?;
-    }
-    Ok(())
-}
 
 /// What the arguments ask for.
 fn asked(rt: &HostRuntime) -> Result<Options, Ends> {
@@ -63,7 +44,7 @@ fn ended(rt: &HostRuntime, error: &io::Error) -> Ends {
 
 fn main(rt: HostRuntime) -> ExitCode {
     let ends = match asked(&rt) {
-        Ok(options) => match serve(&rt, options) {
+        Ok(options) => match Server::serve(&rt, options) {
             Ok(()) => Ends::Served,
             Err(error) => ended(&rt, &error),
         },

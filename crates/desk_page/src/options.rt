@@ -1,7 +1,7 @@
 //! What the arguments say.
 
 use clap::{Arg, Command, Error};
-use std::alloc::{AllocGlobal, Global};
+use std::alloc::{AllocError, AllocGlobal, Global};
 use std::io::{Eprint, ErrorKind, Print};
 use std::net::{SocketAddr, SocketAddrV4};
 
@@ -48,24 +48,23 @@ impl Ends {
     }
 }
 
+/// An option that is an address.
+fn address_option<'a>(alloc: Global, name: &'a str, help: &'a str, default: &'a str) -> Arg<'a> {
+    Arg::new(alloc, name)
+        .long(name)
+        .value_name("ADDRESS")
+        .help(help)
+        .default_value(default)
+}
+
 /// The command line.
-fn command<'a>(alloc: Global) -> Result<Command<'a>, Error> {
-    let bridge = Arg::new(alloc, "bridge")
-        .long("bridge")
-        .value_name("ADDRESS")
-        .help("where the bridge takes operators")
-        .default_value("127.0.0.1:7000");
-    let listen = Arg::new(alloc, "listen")
-        .long("listen")
-        .value_name("ADDRESS")
-        .help("where browsers connect, on loopback")
-        .default_value("127.0.0.1:7080");
-    Ok(
-        Command::new(alloc, "desk_page")
-            .about("The operators' desk as a page in a browser")
-            .arg(bridge)?
-            .arg(listen)?,
-    )
+fn command<'a>(alloc: Global) -> Result<Command<'a>, AllocError> {
+    let bridge = "where the bridge takes operators";
+    let listen = "where browsers connect, on loopback";
+    Command::new(alloc, "desk_page")
+        .about("The operators' desk as a page in a browser")
+        .arg(address_option(alloc, "bridge", bridge, "127.0.0.1:7000"))?
+        .arg(address_option(alloc, "listen", listen, "127.0.0.1:7080"))
 }
 
 /// An address of loopback.
@@ -78,29 +77,19 @@ fn loopback(text: Option<&str>) -> Option<SocketAddrV4> {
     }
 }
 
-/// What the words say. Where they say nothing good, standard error has why.
-pub(crate) fn options_in<R: AllocGlobal + Print + Eprint>(
-    rt: &R,
-    words: &[String],
-) -> Result<Options, Ends> {
-    let command = match command(rt.alloc()) {
-        Ok(command) => command,
-        Err(_) => return Err(Ends::OutOfMemory),
-    };
-    let matches = match command.try_get_matches_from(words) {
-        Ok(matches) => matches,
-        Err(error) => {
-            let _ = error.print(rt);
-            return Err(if error.use_stderr() {
-                Ends::Usage
-            } else {
-                Ends::Served
-            });
-        }
-    };
-    let bridge = loopback(matches.get_str("bridge"));
-    let listen = loopback(matches.get_str("listen"));
-    match bridge.zip(listen) {
+/// The end where the words are no command line. It prints why, or the help that they ask for.
+fn refused<R: Print + Eprint>(rt: &R, error: &Error) -> Ends {
+    let _ = error.print(rt);
+    if error.use_stderr() {
+        Ends::Usage
+    } else {
+        Ends::Served
+    }
+}
+
+/// The options of these addresses.
+fn chosen<R: Eprint>(rt: &R, bridge: Option<&str>, listen: Option<&str>) -> Result<Options, Ends> {
+    match loopback(bridge).zip(loopback(listen)) {
         Some((bridge, listen)) => Ok(Options {
             bridge: SocketAddr::V4(bridge),
             listen,
@@ -111,5 +100,20 @@ pub(crate) fn options_in<R: AllocGlobal + Print + Eprint>(
             );
             Err(Ends::Usage)
         }
+    }
+}
+
+/// What the words say. Where they say nothing good, standard error has why.
+pub(crate) fn options_in<R: AllocGlobal + Print + Eprint>(
+    rt: &R,
+    words: &[String],
+) -> Result<Options, Ends> {
+    let command = match command(rt.alloc()) {
+        Ok(command) => command,
+        Err(_) => return Err(Ends::OutOfMemory),
+    };
+    match command.try_get_matches_from(words) {
+        Ok(matches) => chosen(rt, matches.get_str("bridge"), matches.get_str("listen")),
+        Err(error) => Err(refused(rt, &error)),
     }
 }

@@ -5,9 +5,9 @@ use desk_http::{Errand, Hearing, Site, Telling, Told};
 use http_server::Connection;
 use mio::net::TcpStream;
 use std::alloc::{AllocError, Global};
-use std::io;
 use std::io::{ErrorKind, Read, Write};
 use std::net::Shutdown;
+use std::{io, mem};
 
 /// How many milliseconds a browser has to send its request, or to take the response.
 const PATIENCE: u64 = 10_000;
@@ -157,13 +157,13 @@ impl Peer {
 
     /// Answers the request by what the bridge said to its line.
     fn answer(&mut self, terms: Terms, site: &Site, told: Told) -> io::Result<()> {
-        if let Some(line) = self.line.take() {
-            let mut connection = terms.connection();
-            feed(&mut connection, &self.request)?;
-            let mut telling = Telling { site, line, told };
-            connection.advance(&mut telling);
-            self.connection = connection;
-        }
+        let Some(line) = self.line.take() else {
+            return Ok(());
+        };
+        drop(mem::replace(&mut self.connection, terms.connection()));
+        feed(&mut self.connection, &self.request)?;
+        let mut telling = Telling { site, line, told };
+        self.connection.advance(&mut telling);
         Ok(())
     }
 

@@ -91,7 +91,7 @@ impl Peers {
     pub(crate) fn put(&mut self, at: usize, terms: Terms, stream: TcpStream, now: u64) {
         self.count = self.count.saturating_add(1);
         if let Some(place) = self.places.get_mut(at) {
-            *place = Some(Peer::new(terms, stream, self.count, now));
+            drop(place.replace(Peer::new(terms, stream, self.count, now)));
         }
     }
 
@@ -173,7 +173,7 @@ impl Peers {
         for place in &mut self.places {
             if let Some(peer) = place {
                 if peer.is_done(now) {
-                    *place = None;
+                    drop(place.take());
                 }
             }
         }

@@ -7,12 +7,14 @@ use crate::setup::{hearing_at, terms};
 use crate::terms::Terms;
 use desk_http::{Calls, Hearing, Told};
 use mio::net::{TcpListener, TcpStream};
-use mio::{Events, Interest, Poll, Token};
-use std::alloc::{Alloc, AllocError, Global};
+use mio::{Events, Interest, Poll, Registry, Token};
+use std::alloc::{AllocError, AllocGlobal, Global};
 use std::io;
 use std::io::ErrorKind;
-use std::net::{Net, SocketAddr};
+use std::net::{Net, SocketAddr, SocketAddrV4};
 use std::random::RandomSource;
+use std::rt::Runtime;
+use std::sync::Wait;
 use std::time::{Clock, Duration, Instant};
 
 /// What the listener is known by. A browser's connection is known by its place.
@@ -25,6 +27,24 @@ const PACE: u64 = 100;
 const LONGEST_WAIT: u64 = 25;
 /// How many octets are read at a time.
 const CHUNK: usize = 16_384;
+
+/// Opens the socket for browsers.
+fn listener_at<R: Net>(
+    rt: &R,
+    registry: &Registry,
+    address: SocketAddrV4,
+) -> io::Result<TcpListener> {
+    let mut listener = TcpListener::bind(rt, SocketAddr::V4(address))?;
+    registry.register(&mut listener, LISTENER, Interest::READABLE)?;
+    Ok(listener)
+}
+
+/// Where octets are read to.
+fn chunk(alloc: Global) -> Result<Vec<u8>, AllocError> {
+    let mut chunk = Vec::new(alloc);
+    chunk.resize(CHUNK, 0)?;
+    Ok(chunk)
+}
 
 /// The page, with its sockets.
 #[derive(Drop)]
@@ -45,42 +65,52 @@ pub(crate) struct Server {
 }
 
 impl Server {
-    /// Opens the page's sockets. Where the port is 0 the system chooses one.
-    pub(crate) fn bind<R: Net + Alloc<A = Global> + RandomSource + Clock>(
+    /// Opens the page's sockets, and serves until a socket, the clock or memory fails. Where the port is 0 the system
+    /// chooses one.
+    pub(crate) fn serve<R: Runtime + AllocGlobal + Net + RandomSource + Wait>(
         rt: &R,
         options: Options,
-    ) -> io::Result<Self> {
+    ) -> io::Result<()> {
         let alloc = rt.alloc();
+        let terms = terms(rt, alloc)?;
+        let begun = Instant::now(rt)?;
         let poll = Poll::new(rt)?;
-        let mut listener = TcpListener::bind(rt, SocketAddr::V4(options.listen))?;
-        poll.registry()
-            .register(&mut listener, LISTENER, Interest::READABLE)?;
+        let listener = listener_at(rt, poll.registry(), options.listen)?;
         let hearing = hearing_at(rt, alloc, listener.local_addr()?)?;
-        let mut chunk = Vec::new(alloc);
-        chunk.resize(CHUNK, 0)?;
-        Ok(Self {
-            terms: terms(rt, alloc)?,
+        let chunk = chunk(alloc)?;
+        let events = Events::with_capacity(alloc, PEERS)?;
+        let peers = Peers::new(alloc)?;
+        let mut server = Self {
+            terms,
             poll,
-            events: Events::with_capacity(alloc, PEERS)?,
+            events,
             listener,
             bridge: options.bridge,
-            begun: Instant::now(rt)?,
+            begun,
             hearing,
             calls: Calls::new(alloc),
-            peers: Peers::new(alloc)?,
+            peers,
             link: Link::new(alloc),
             next_show: 0,
             chunk,
-        })
+        };
+        let served = server.run(rt);
+        drop(server);
+        served
     }
 
-    /// Where it listens.
-    pub(crate) fn address(&self) -> io::Result<SocketAddr> {
-        self.listener.local_addr()
+    /// Tells where it listens, and serves.
+    fn run<R: Runtime + Net + Wait>(&mut self, rt: &R) -> io::Result<()> {
+        let address = self.listener.local_addr()?;
+        let _ = eprintln!(rt; "desk_page: http://{address}/");
+        for _ in rt.forever() {
+            self.round(rt)?;
+        }
+        Ok(())
     }
 
     /// One round: waits 25 ms at most, and does what the sockets allow.
-    pub(crate) fn round<R: Net + Clock>(&mut self, rt: &R) -> io::Result<()> {
+    fn round<R: Net + Clock>(&mut self, rt: &R) -> io::Result<()> {
         let comes = self.wait()?;
         let now = u64::try_from(self.begun.elapsed(rt)?.as_millis()).unwrap_or(u64::MAX);
         if comes {
@@ -174,7 +204,8 @@ impl Server {
     /// Notes an answer, and tells it to those who asked. Where the bridge isn't there for them, neither is it for those
     /// who still wait.
     fn settle(&mut self, line: Vec<u8>, told: Told, now: u64) -> io::Result<()> {
-        let told = self.noted(line, told)?;
+        let mut told = told;
+        self.note(line, &mut told)?;
         self.tell(&told, now);
         match told {
             Told::Said(_) => {}
@@ -190,28 +221,23 @@ impl Server {
         Ok(())
     }
 
+    /// Keeps a call with its answer.
+    fn keep(&mut self, line: Vec<u8>, said: &[u8]) -> Result<(), AllocError> {
+        let said = Vec::from_slice(self.terms.alloc, said)?;
+        self.calls.push(line, said)
+    }
+
     /// Keeps a call with its answer, and adds the calls to the desk.
-    fn noted(&mut self, line: Vec<u8>, told: Told) -> Result<Told, AllocError> {
+    fn note(&mut self, line: Vec<u8>, told: &mut Told) -> Result<(), AllocError> {
         let is_show = line.as_slice() == b"show".as_slice();
         match told {
-            Told::Said(mut text) => {
-                if is_show {
-                    self.calls.append_to(&mut text)?;
-                } else {
-                    self.next_show = 0;
-                    self.calls
-                        .push(line, Vec::from_slice(self.terms.alloc, &text)?)?;
-                }
-                Ok(Told::Said(text))
+            Told::Said(text) if is_show => self.calls.append_to(text),
+            Told::Said(text) => {
+                self.next_show = 0;
+                self.keep(line, text)
             }
-            Told::Lost => {
-                if !is_show {
-                    let lost = Vec::from_slice(self.terms.alloc, b"lost\n")?;
-                    self.calls.push(line, lost)?;
-                }
-                Ok(Told::Lost)
-            }
-            told => Ok(told),
+            Told::Lost if !is_show => self.keep(line, b"lost\n"),
+            Told::Busy | Told::Gone | Told::Lost => Ok(()),
         }
     }
 }

@@ -14,14 +14,18 @@ use std::io;
 use std::net::SocketAddr;
 use std::random::RandomSource;
 
+/// A digit of base 16.
+fn digit(value: u8) -> u8 {
+    b"0123456789abcdef"[(value % 16) as usize]
+}
+
 /// A secret of 32 digits.
 fn token<R: RandomSource>(rt: &R, alloc: Global) -> io::Result<Vec<u8>> {
     let mut octets = [0u8; 16];
     rt.fill_bytes(&mut octets)?;
     let mut digits = Vec::new(alloc);
     for octet in octets {
-        digits.push(b"0123456789abcdef"[(octet / 16) as usize])?;
-        digits.push(b"0123456789abcdef"[(octet % 16) as usize])?;
+        digits.extend_from_slice(&[digit(octet / 16), digit(octet % 16)])?;
     }
     Ok(digits)
 }
@@ -29,13 +33,10 @@ fn token<R: RandomSource>(rt: &R, alloc: Global) -> io::Result<Vec<u8>> {
 /// What is the page's own at this address.
 fn site<R: RandomSource>(rt: &R, alloc: Global, address: SocketAddr) -> io::Result<Site> {
     let port = address.port();
-    let host = format!(in alloc; "{address}")?;
-    let local = format!(in alloc; "localhost:{port}")?;
-    Ok(Site {
-        host: Vec::from_slice(alloc, host.as_bytes())?,
-        local: Vec::from_slice(alloc, local.as_bytes())?,
-        token: token(rt, alloc)?,
-    })
+    let token = token(rt, alloc)?;
+    let host = format!(in alloc; "{address}")?.into_bytes();
+    let local = format!(in alloc; "localhost:{port}")?.into_bytes();
+    Ok(Site { host, local, token })
 }
 
 /// The page's files.

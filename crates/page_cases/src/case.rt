@@ -33,6 +33,53 @@ fn is_answer(response: &[u8], wanted: &str) -> Option<bool> {
     Some(rest.starts_with(status) && rest.contains(part))
 }
 
+/// Gives a request to a connection.
+fn give(connection: &mut Connection, request: &[u8]) -> Option<()> {
+    let mut rest = request;
+    for _ in 0..16 {
+        connection.read_from(&mut rest).ok()?;
+        if rest.is_empty() {
+            break;
+        }
+    }
+    Some(())
+}
+
+/// Appends the response of a service to a request.
+fn respond<S: Service>(
+    connection: &mut Connection,
+    service: &mut S,
+    request: &[u8],
+    written: &mut Vec<u8>,
+) -> Option<()> {
+    give(connection, request)?;
+    connection.advance(service);
+    for _ in 0..16 {
+        if !connection.wants_write() {
+            break;
+        }
+        connection.write_to(written).ok()?;
+    }
+    Some(())
+}
+
+/// What is the page's own.
+fn site(alloc: Global) -> Result<Site, AllocError> {
+    let host = Vec::from_slice(alloc, b"127.0.0.1:7080")?;
+    let local = Vec::from_slice(alloc, b"localhost:7080")?;
+    let token = Vec::from_slice(alloc, b"secret")?;
+    Ok(Site { host, local, token })
+}
+
+/// Whether a request asked the bridge this line, or was answered so.
+fn is_heard(hearing: &Hearing, response: &[u8], wanted: &str) -> Option<bool> {
+    match (&hearing.wanted, wanted.strip_prefix("asks ")) {
+        (Some(line), Some(wanted)) => Some(line.as_slice() == wanted.as_bytes()),
+        (None, None) => is_answer(response, wanted),
+        _ => Some(false),
+    }
+}
+
 /// What the bridge said.
 fn told_of(alloc: Global, text: &str) -> Option<Told> {
     match text {
@@ -48,11 +95,7 @@ impl Page {
     pub fn new(alloc: Global, keys: RandomState) -> Result<Self, AllocError> {
         let mut config = Config::default();
         config.max_body_len = MAX_LINE + 1;
-        let site = Site {
-            host: Vec::from_slice(alloc, b"127.0.0.1:7080")?,
-            local: Vec::from_slice(alloc, b"localhost:7080")?,
-            token: Vec::from_slice(alloc, b"secret")?,
-        };
+        let site = site(alloc)?;
         let files = Files {
             front: b"<front ",
             back: b" back>",
@@ -83,22 +126,11 @@ impl Page {
         service: &mut S,
         request: &[u8],
     ) -> Option<Vec<u8>> {
-        let mut connection = Connection::new(alloc, keys, config);
-        let mut rest = request;
-        for _ in 0..16 {
-            connection.read_from(&mut rest).ok()?;
-            if rest.is_empty() {
-                break;
-            }
-        }
-        connection.advance(service);
         let mut written = Vec::new(alloc);
-        for _ in 0..16 {
-            if !connection.wants_write() {
-                break;
-            }
-            connection.write_to(&mut written).ok()?;
-        }
+        let mut connection = Connection::new(alloc, keys, config);
+        let answered = respond(&mut connection, service, request, &mut written);
+        drop(connection);
+        answered?;
         Some(written)
     }
 
@@ -113,11 +145,7 @@ impl Page {
             &mut self.hearing,
             &request,
         )?;
-        match (self.hearing.wanted.take(), wanted.strip_prefix("asks ")) {
-            (Some(line), Some(wanted)) => Some(line.as_slice() == wanted.as_bytes()),
-            (None, None) => is_answer(&response, wanted),
-            _ => Some(false),
-        }
+        is_heard(&self.hearing, &response, wanted)
     }
 
     /// Whether a request is answered so, once the bridge was asked.

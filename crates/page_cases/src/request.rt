@@ -1,52 +1,80 @@
 //! Requests and texts of cases.
 
-use std::alloc::Global;
+use std::alloc::{AllocError, Global};
+
+/// Appends a text with its escapes read.
+fn push_spoken(octets: &mut Vec<u8>, text: &str) -> Result<(), AllocError> {
+    let mut is_escaped = false;
+    for octet in text.bytes() {
+        if octet == b'\\' && !is_escaped {
+            is_escaped = true;
+        } else {
+            let is_end = is_escaped && octet == b'n';
+            octets.push(if is_end { b'\n' } else { octet })?;
+            is_escaped = false;
+        }
+    }
+    Ok(())
+}
 
 /// A text with its escapes read: `\n` is an LF.
 pub fn spoken(alloc: Global, text: &str) -> Option<Vec<u8>> {
     let mut octets = Vec::new(alloc);
-    let mut is_escaped = false;
-    for octet in text.bytes() {
-        if is_escaped {
-            octets.push(if octet == b'n' { b'\n' } else { octet }).ok()?;
-            is_escaped = false;
-        } else if octet == b'\\' {
-            is_escaped = true;
-        } else {
-            octets.push(octet).ok()?;
-        }
-    }
+    push_spoken(&mut octets, text).ok()?;
     Some(octets)
 }
 
-/// A body of a case: `a*5000` is so many times an `a`, and any other text stands for itself.
-fn body_of(alloc: Global, text: &str) -> Option<Vec<u8>> {
-    let Some(times) = text.strip_prefix("a*") else {
-        return spoken(alloc, text);
-    };
+/// So many times an `a`.
+fn many(alloc: Global, times: &str) -> Option<Vec<u8>> {
     let times: usize = times.parse().ok()?;
     let mut octets = Vec::new(alloc);
     octets.resize(times, b'a').ok()?;
     Some(octets)
 }
 
-/// The octets of a request: `METHOD PATH FIELD=VALUE ..`, and behind ` | ` its body.
-pub fn request_of(alloc: Global, text: &str) -> Option<Vec<u8>> {
-    let (head, body) = text.split_once(" | ").unwrap_or((text, ""));
+/// A body of a case: `a*5000` is so many times an `a`, and any other text stands for itself.
+fn body_of(alloc: Global, text: &str) -> Option<Vec<u8>> {
+    match text.strip_prefix("a*") {
+        Some(times) => many(alloc, times),
+        None => spoken(alloc, text),
+    }
+}
+
+/// Appends texts to octets.
+fn push_texts(octets: &mut Vec<u8>, texts: &[&str]) -> Option<()> {
+    for text in texts {
+        octets.extend_from_slice(text.as_bytes()).ok()?;
+    }
+    Some(())
+}
+
+/// Appends the first line of a request and its fields, from `METHOD PATH FIELD=VALUE ..`.
+fn push_head(octets: &mut Vec<u8>, head: &str) -> Option<()> {
     let mut words = head.split(' ');
     let method = words.next()?;
     let path = words.next()?;
-    let mut whole = format!(in alloc; "{method} {path} HTTP/1.1\r\n").ok()?;
+    push_texts(octets, &[method, " ", path, " HTTP/1.1\r\n"])?;
     for word in words {
         let (name, value) = word.split_once("=")?;
-        let field = format!(in alloc; "{name}: {value}\r\n").ok()?;
-        whole.push_str(field.as_str()).ok()?;
+        push_texts(octets, &[name, ": ", value, "\r\n"])?;
     }
-    let body = body_of(alloc, body)?;
+    Some(())
+}
+
+/// Appends the length of a body, the end of the head, and the body.
+fn push_body(alloc: Global, octets: &mut Vec<u8>, body: &[u8]) -> Option<()> {
     let length = body.len();
     let field = format!(in alloc; "content-length: {length}\r\n\r\n").ok()?;
-    whole.push_str(field.as_str()).ok()?;
-    let mut octets = Vec::from_slice(alloc, whole.as_bytes()).ok()?;
-    octets.extend_from_slice(&body).ok()?;
+    octets.extend_from_slice(field.as_bytes()).ok()?;
+    octets.extend_from_slice(body).ok()
+}
+
+/// The octets of a request: `METHOD PATH FIELD=VALUE ..`, and behind ` | ` its body.
+pub fn request_of(alloc: Global, text: &str) -> Option<Vec<u8>> {
+    let (head, body) = text.split_once(" | ").unwrap_or((text, ""));
+    let body = body_of(alloc, body)?;
+    let mut octets = Vec::new(alloc);
+    push_head(&mut octets, head)?;
+    push_body(alloc, &mut octets, &body)?;
     Some(octets)
 }
