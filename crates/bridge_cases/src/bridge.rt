@@ -5,7 +5,7 @@ ghost use Rattle.std.specs.Bool.{OnTrue};
 ghost use Rattle.media_items.specs.Inputs.{input_of, is_sized};
 
 use crate::calling::{call, redo_all, show, undo_all};
-use crate::direct::direct;
+use crate::direct::Parts;
 use crate::halves::Besides;
 use crate::lines::{Answer, arrival_of, first_word, nack, unread};
 use crate::saying::{say_egress, say_outcome, say_up};
@@ -118,17 +118,13 @@ impl<'a> Bridge<'a> {
 
     /// A function is called beside the bridge.
     fn direct(&self, nth: u64, word: &str, words: &str, out: &mut String) -> io::Result<Answer> {
-        let first = self.waiting.front();
-        direct(
-            self.alloc,
-            self.heap,
-            self.core.rows(),
-            first,
-            nth,
-            word,
-            words,
-            out,
-        )
+        let parts = Parts {
+            alloc: self.alloc,
+            heap: self.heap,
+            rows: self.core.rows(),
+            first: self.waiting.front(),
+        };
+        parts.line(nth, word, words, out)
     }
 
     /// The lanes handle an item that the line names.

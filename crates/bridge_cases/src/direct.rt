@@ -85,24 +85,32 @@ fn mix<'a>(alloc: Global, heap: &'a Refusing, nth: u64, out: &mut String) -> io:
     Ok(Answer::after(met))
 }
 
-/// Answers the line of such a call.
-pub fn direct<'a>(
-    alloc: Global,
-    heap: &'a Refusing,
-    rows: &Rows<&'a Refusing>,
-    first: Option<&Item<&'a Refusing>>,
-    nth: u64,
-    word: &str,
-    words: &str,
-    out: &mut String,
-) -> io::Result<Answer> {
-    match (word, first, words.parse::<u32>()) {
-        ("gate", _, _) => gate(heap, nth, out),
-        ("mix", _, _) => mix(alloc, heap, nth, out),
-        ("plan", _, Ok(member)) => plan(heap, rows, nth, member, out),
-        ("roster", _, Ok(room)) => roster(heap, rows, nth, room, out),
-        ("stream", Some(item), _) => stream(alloc, heap, nth, item, out),
-        _ => unread(out),
+/// What such calls are made with: memory, the rows of a desk, and the item that waits first.
+#[derive(Clone, Copy)]
+pub struct Parts<'b, 'a> {
+    pub alloc: Global,
+    pub heap: &'a Refusing,
+    pub rows: &'b Rows<&'a Refusing>,
+    pub first: Option<&'b Item<&'a Refusing>>,
+}
+
+impl<'b, 'a> Parts<'b, 'a> {
+    /// Answers the line of such a call, whose request for memory of this number is refused.
+    pub fn line(&self, nth: u64, word: &str, words: &str, out: &mut String) -> io::Result<Answer> {
+        let Parts {
+            alloc,
+            heap,
+            rows,
+            first,
+        } = *self;
+        match (word, first, words.parse::<u32>()) {
+            ("gate", _, _) => gate(heap, nth, out),
+            ("mix", _, _) => mix(alloc, heap, nth, out),
+            ("plan", _, Ok(member)) => plan(heap, rows, nth, member, out),
+            ("roster", _, Ok(room)) => roster(heap, rows, nth, room, out),
+            ("stream", Some(item), _) => stream(alloc, heap, nth, item, out),
+            _ => unread(out),
+        }
     }
 }
 

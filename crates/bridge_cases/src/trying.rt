@@ -23,41 +23,37 @@ fn answers<'a>(bridge: &mut Bridge<'a>, lines: &str, text: &mut String) -> io::R
     Ok(())
 }
 
-/// A bridge answers the case's first lines, then one with the request of this number refused, and then others.
-fn tell<'a>(
-    alloc: Global,
-    bridge: &mut Bridge<'a>,
-    case: &Case,
-    line: &str,
+/// What a bridge is told: the first lines of a case, then a line whose request for memory of this number is refused,
+/// and then others.
+#[derive(Clone, Copy)]
+struct Trial<'t> {
+    case: &'t Case,
+    line: &'t str,
     nth: u64,
-    others: &str,
-) -> io::Result<Told> {
+    others: &'t str,
+}
+
+/// What a bridge answers in a trial.
+fn tell<'a>(alloc: Global, bridge: &mut Bridge<'a>, trial: &Trial<'_>) -> io::Result<Told> {
     let mut text = String::new(alloc);
-    answers(bridge, case.before.as_str(), &mut text)?;
-    let answer = bridge.line(nth, line, &mut text)?;
-    answers(bridge, others, &mut text)?;
+    answers(bridge, trial.case.before.as_str(), &mut text)?;
+    let answer = bridge.line(trial.nth, trial.line, &mut text)?;
+    answers(bridge, trial.others, &mut text)?;
     Ok(Told { answer, text })
 }
 
 /// What a new bridge over this memory answers.
-fn said_over<'a>(
-    alloc: Global,
-    heap: &'a Refusing,
-    case: &Case,
-    line: &str,
-    nth: u64,
-    others: &str,
-) -> io::Result<Told> {
-    match Bridge::new(alloc, heap, case.lanes) {
-        Some(mut bridge) => tell(alloc, &mut bridge, case, line, nth, others),
+fn said_over<'a>(alloc: Global, heap: &'a Refusing, trial: &Trial<'_>) -> io::Result<Told> {
+    match Bridge::new(alloc, heap, trial.case.lanes) {
+        Some(mut bridge) => tell(alloc, &mut bridge, trial),
         None => Err(io::Error::from(AllocError)),
     }
 }
 
 /// What a new bridge answers.
-fn said(alloc: Global, case: &Case, line: &str, nth: u64, others: &str) -> io::Result<Told> {
+fn said(alloc: Global, trial: &Trial<'_>) -> io::Result<Told> {
     let heap = Refusing::new(alloc);
-    said_over(alloc, &heap, case, line, nth, others)
+    said_over(alloc, &heap, trial)
 }
 
 /// Whether the desk's rows are those that were shown before.
@@ -120,36 +116,42 @@ fn print_difference(
     println!(rt; "{name}, {when}: the end is wanted, and not {line}")
 }
 
-/// Whether a bridge tells what is wanted after a refusal. Prints what it doesn't.
+/// Whether a bridge tells what is wanted after the refusal of a trial. Prints what it doesn't.
 fn is_told(
     rt: &HostRuntime,
     alloc: Global,
-    case: &Case,
-    nth: u64,
+    trial: &Trial<'_>,
     want: &str,
     got: &str,
 ) -> io::Result<bool> {
     if got == want {
         return Ok(true);
     }
+    let nth = trial.nth;
     let when = format!(in alloc; "asked after refusal {nth}")?;
-    print_difference(rt, case, when.as_str(), want, got)?;
+    print_difference(rt, trial.case, when.as_str(), want, got)?;
     Ok(false)
 }
 
 /// How many requests the line makes, if the bridge is as before after each refusal, or as after an answer where it
 /// answers anyway. Prints what isn't.
 fn requests(rt: &HostRuntime, alloc: Global, case: &Case) -> io::Result<Option<u64>> {
-    let line = case.refused.as_str();
-    let before = said(alloc, case, "", 0, case.asked.as_str())?;
-    let after = said(alloc, case, line, 0, case.asked.as_str())?;
+    let whole = Trial {
+        case,
+        line: case.refused.as_str(),
+        nth: 0,
+        others: case.asked.as_str(),
+    };
+    let before = said(alloc, &Trial { line: "", ..whole })?;
+    let after = said(alloc, &whole)?;
     for nth in 1..MOST {
-        let told = said(alloc, case, line, nth, case.asked.as_str())?;
+        let trial = Trial { nth, ..whole };
+        let told = said(alloc, &trial)?;
         let got = told.text.as_str();
         let is_so = match told.answer {
             Answer::Whole => return Ok(Some(nth - 1)),
-            Answer::Anyway => is_told(rt, alloc, case, nth, after.text.as_str(), got)?,
-            Answer::Refused => is_told(rt, alloc, case, nth, before.text.as_str(), got)?,
+            Answer::Anyway => is_told(rt, alloc, &trial, after.text.as_str(), got)?,
+            Answer::Refused => is_told(rt, alloc, &trial, before.text.as_str(), got)?,
         };
         if !is_so {
             return Ok(None);
@@ -161,7 +163,13 @@ fn requests(rt: &HostRuntime, alloc: Global, case: &Case) -> io::Result<Option<u
 /// Whether the case is answered as it has to be. Prints what isn't.
 pub fn is_tried(rt: &HostRuntime, alloc: Global, case: &Case) -> io::Result<bool> {
     let wanted = case.wanted.as_str();
-    let whole = said(alloc, case, case.refused.as_str(), 0, case.after.as_str())?;
+    let trial = Trial {
+        case,
+        line: case.refused.as_str(),
+        nth: 0,
+        others: case.after.as_str(),
+    };
+    let whole = said(alloc, &trial)?;
     if whole.text.as_str() != wanted {
         print_difference(rt, case, "with ample memory", wanted, whole.text.as_str())?;
         return Ok(false);
