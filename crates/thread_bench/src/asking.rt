@@ -1,5 +1,6 @@
 //! What the argument asks for.
 
+use crate::rooms::{FEW, FULL, Plan};
 use std::io;
 
 /// How much is done, and whether its time is told.
@@ -9,6 +10,9 @@ pub struct Order {
     pub rounds: u64,
     /// The calls of one operator, an even number.
     pub calls: u64,
+    /// The desk that is called as a full one, and how often that is measured.
+    pub full: Plan,
+    pub full_rounds: u64,
     /// The calls of each of sixteen operators, an even number.
     pub crowd: u64,
     /// The entries of a reader.
@@ -25,6 +29,8 @@ pub struct Order {
 const CHECK: Order = Order {
     rounds: 1,
     calls: 10,
+    full: FEW,
+    full_rounds: 1,
     crowd: 4,
     entries: 100,
     batches: 2,
@@ -36,6 +42,8 @@ const CHECK: Order = Order {
 const RUN: Order = Order {
     rounds: 5,
     calls: 20_000,
+    full: FULL,
+    full_rounds: 2,
     crowd: 2_000,
     entries: 1_000_000,
     batches: 100,

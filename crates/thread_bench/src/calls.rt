@@ -3,7 +3,7 @@
 ghost use Rattle.std.specs.Prelude.{◌≡◌};
 ghost use Rattle.desk_rows.specs.Desk.{blank as no_rows};
 
-use crate::rooms::{Plan, commands_for, core_with, picture_of};
+use crate::rooms::{Plan, commands_for, core_with, picture_of, set_gain};
 use crate::timing::{Took, Watch, least_of};
 use bridge_core::{Core, Reply};
 use desk_edit::{Call, Command};
@@ -22,8 +22,10 @@ use versions::Opened;
 pub enum Turn {
     /// It adds a room, and removes it.
     Rooms,
-    /// It mutes the video source of this member, and ends the mute.
-    Mutes { member: u16 },
+    /// It mutes this video source, and ends the mute.
+    Mutes { picture: u16 },
+    /// It sets this member's gain for the first audio source.
+    Gains { member: u16 },
 }
 
 /// The room that comes and goes.
@@ -37,12 +39,14 @@ pub fn call_of(turn: Turn, made: u64) -> Call {
             rate: 8_000,
         }),
         (Turn::Rooms, _) => Command::RemoveRoom { room: ROOM },
-        (Turn::Mutes { member }, 0) => Command::Mute(Mute {
-            source: picture_of(member),
+        (Turn::Mutes { picture }, 0) => Command::Mute(Mute {
+            source: picture_of(picture),
         }),
-        (Turn::Mutes { member }, _) => Command::Unmute {
-            source: picture_of(member),
+        (Turn::Mutes { picture }, _) => Command::Unmute {
+            source: picture_of(picture),
         },
+        (Turn::Gains { member }, 0) => set_gain(member, 0, 1),
+        (Turn::Gains { member }, _) => set_gain(member, 0, 2),
     };
     Call::Apply(command)
 }

@@ -31,15 +31,15 @@ pub enum Callers {
 
 /// A seat at its desk.
 #[derive(Drop)]
-struct Post<'d, 'a, H: Hall> {
-    desk: &'d SharedDesk<'a, H>,
-    seat: Seat<'a, H>,
+pub struct Post<'d, 'a, H: Hall> {
+    pub desk: &'d SharedDesk<'a, H>,
+    pub seat: Seat<'a, H>,
 }
 
 /// The seat's operator mutes a source of its own, and ends the mute.
 fn turn_of(op: u32) -> Turn {
     Turn::Mutes {
-        member: (op % SEATS) as u16,
+        picture: (op % SEATS) as u16,
     }
 }
 

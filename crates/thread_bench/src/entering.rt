@@ -9,7 +9,7 @@ use std::time::{Clock, CpuClock};
 use versions::{LaneReader, Opened, start};
 
 /// Enters and leaves so often. It answers how often it could.
-fn enter_all(reader: LaneReader, times: u64) -> u64 {
+pub fn enter_all(reader: LaneReader, times: u64) -> u64 {
     let mut reader = reader;
     let mut entered = 0u64;
     for _ in 0..times {

@@ -6,6 +6,7 @@ use crate::crowd::{Callers, at_full_desk};
 use crate::entering::{entries, locks};
 use crate::figures::{Compared, Measure, tell};
 use crate::loads::{Load, frames_of, talk_of};
+use crate::publishing::{Calling, entries_beside};
 use crate::rooms::{EMPTY, FAN, HALL, HUNDREDS, Plan};
 use crate::running::{Way, batches_by_core, by_lanes, steps_by_core};
 use crate::streaming::Course;
@@ -26,13 +27,19 @@ const ROOMS: &str = "a call at a shared desk of 402 rows, add-room and remove-ro
 
 const MUTES: &str = "a call at a shared desk of 402 rows, mute and unmute in turn";
 
+const FULL_MUTES: &str = "a call at a full shared desk, mute and unmute in turn";
+
+const FULL_GAINS: &str = "a call at a full shared desk, set-gain over another";
+
 const SEATS: &str = "16 seats on 16 threads, mute and unmute in turn";
 
 const ENTRIES: &str = "enter and leave";
 
+const BESIDE: &str = "enter and leave while an operator calls";
+
 const LANE: &str = "an egress of a lane, frames of 4 packets to 16 receivers";
 
-const LANES: &str = "four lanes, ticks of 256 members of whom 16 speak";
+const LANES: &str = "four lanes, ticks of 256 members with gains of whom 16 speak";
 
 /// What was taken in the rounds, of which there has to be one.
 fn compared(mine: Option<Took>, floor: Option<Took>) -> io::Result<Compared> {
@@ -93,6 +100,24 @@ fn entering<R: Wait + Clock + CpuClock>(
     compared(mine, floor)
 }
 
+/// Entries of a reader while an operator calls, beside one that rests.
+fn entering_beside<R: Threads + Wait + Sync + Clock + CpuClock>(
+    rt: &R,
+    alloc: Global,
+    order: &Order,
+    plan: &Plan,
+) -> io::Result<Compared> {
+    let mut mine = None;
+    let mut floor = None;
+    for _round in 0..order.rounds {
+        let rest = entries_beside(rt, alloc, plan, Calling::Nothing, order.entries)?;
+        let busy = entries_beside(rt, alloc, plan, Calling::Mutes, order.entries)?;
+        floor = Some(least_of(floor, rest));
+        mine = Some(least_of(mine, busy));
+    }
+    compared(mine, floor)
+}
+
 /// A lane beside a core.
 fn one_lane<R: Threads + Wait + Clock + CpuClock + Copy + Send + Drop + 'static>(
     rt: &R,
@@ -147,8 +172,24 @@ fn tell_calls<R: Wait + Clock + CpuClock + Print>(
     tell(rt, order.is_timed, EMPTY_ROOMS, Measure::Time, &empty)?;
     let rooms = calls(rt, alloc, order, &HUNDREDS, Turn::Rooms)?;
     tell(rt, order.is_timed, ROOMS, Measure::Time, &rooms)?;
-    let mutes = calls(rt, alloc, order, &HUNDREDS, Turn::Mutes { member: 0 })?;
+    let mutes = calls(rt, alloc, order, &HUNDREDS, Turn::Mutes { picture: 0 })?;
     tell(rt, order.is_timed, MUTES, Measure::Time, &mutes)
+}
+
+/// Measures the calls of one operator at a full desk, and prints their lines.
+fn tell_full<R: Wait + Clock + CpuClock + Print>(
+    rt: &R,
+    alloc: Global,
+    order: &Order,
+) -> io::Result<()> {
+    let order = Order {
+        rounds: order.full_rounds,
+        ..*order
+    };
+    let mutes = calls(rt, alloc, &order, &order.full, Turn::Mutes { picture: 0 })?;
+    tell(rt, order.is_timed, FULL_MUTES, Measure::Time, &mutes)?;
+    let gains = calls(rt, alloc, &order, &order.full, Turn::Gains { member: 0 })?;
+    tell(rt, order.is_timed, FULL_GAINS, Measure::Time, &gains)
 }
 
 /// Measures desks and lanes, and prints a line for each figure.
@@ -158,10 +199,13 @@ pub fn measured<R: Threads + Wait + Sync + Clock + CpuClock + Print + Copy + Sen
     order: &Order,
 ) -> io::Result<()> {
     tell_calls(rt, alloc, order)?;
+    tell_full(rt, alloc, order)?;
     let all = crowd(rt, alloc, order, &HUNDREDS)?;
     tell(rt, order.is_timed, SEATS, Measure::Throughput, &all)?;
     let entered = entering(rt, alloc, order, &HUNDREDS)?;
     tell(rt, order.is_timed, ENTRIES, Measure::Time, &entered)?;
+    let beside = entering_beside(rt, alloc, order, &HUNDREDS)?;
+    tell(rt, order.is_timed, BESIDE, Measure::Time, &beside)?;
     let lane = one_lane(rt, alloc, order, &FAN, &frames_of(alloc, PACKETS)?)?;
     tell(rt, order.is_timed, LANE, Measure::Processor, &lane)?;
     let lanes = four_lanes(rt, alloc, order, &HALL, &talk_of(&HALL))?;

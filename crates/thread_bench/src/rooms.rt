@@ -3,28 +3,30 @@
 use bridge_core::{Core, Reply, Settings};
 use bytes::Bytes;
 use desk_edit::{Call, Command};
-use desk_rows::{Codec, Media, Member, Room, Slot, Source, Sub};
+use desk_rows::{Codec, Floor, Gain, Media, Member, Pin, Room, Slot, Source, Sub};
 use rtp_codec::Address;
 use std::alloc::{AllocError, Global};
 use std::io;
 
-/// The audio source of member 0. Those of the others follow.
+/// The first audio source. The others follow.
 const VOICE: u32 = 1_000;
 
-/// The video source of member 0. Those of the others follow.
+/// The first video source. The others follow.
 const PICTURE: u32 = 2_000;
 
-/// The stream of the slot of member 0. Those of the others follow.
+/// The stream of the first slot. Those of the others follow.
 const STREAM: u32 = 300_000;
 
-/// How many members the room has, numbered from 0. The first ones have an audio source, the first ones a video source,
-/// and those from 1 a slot each, which has the video source of the member before it.
+/// How many members the room has, numbered from 0, and how many audio sources, video sources and slots, in turn of the
+/// members. Each slot has a video source, the slots in turn of these.
 #[derive(Clone, Copy)]
 pub struct Plan {
     pub members: u16,
     pub voices: u16,
     pub pictures: u16,
     pub slots: u16,
+    /// Each member has a gain for each audio source. The room has a floor, and a pin where there is a video source.
+    pub has_gains: bool,
 }
 
 /// No member.
@@ -33,6 +35,7 @@ pub const EMPTY: Plan = Plan {
     voices: 0,
     pictures: 0,
     slots: 0,
+    has_gains: false,
 };
 
 /// 402 rows: a room, 101 members, 100 video sources, and 100 slots with their subscriptions.
@@ -41,6 +44,7 @@ pub const HUNDREDS: Plan = Plan {
     voices: 0,
     pictures: 100,
     slots: 100,
+    has_gains: false,
 };
 
 /// A source, and 16 receivers of it.
@@ -49,24 +53,44 @@ pub const FAN: Plan = Plan {
     voices: 0,
     pictures: 1,
     slots: 16,
+    has_gains: false,
 };
 
-/// 256 members, of whom 16 speak.
+/// 256 members with gains, of whom 16 speak: each hears a mix of its own.
 pub const HALL: Plan = Plan {
     members: 256,
     voices: 16,
     pictures: 0,
     slots: 0,
+    has_gains: true,
 };
 
-/// The audio source of a member.
-pub fn voice_of(member: u16) -> u32 {
-    VOICE + u32::from(member)
+/// Rows of each kind, few of each.
+pub const FEW: Plan = Plan {
+    members: 4,
+    voices: 2,
+    pictures: 4,
+    slots: 8,
+    has_gains: true,
+};
+
+/// A full desk: as many members, sources, slots, subscriptions and gains as a desk may have, a pin and a floor.
+pub const FULL: Plan = Plan {
+    members: 1_024,
+    voices: 64,
+    pictures: 1_984,
+    slots: 4_096,
+    has_gains: true,
+};
+
+/// The audio source of this number.
+pub fn voice_of(voice: u16) -> u32 {
+    VOICE + u32::from(voice)
 }
 
-/// The video source of a member.
-pub fn picture_of(member: u16) -> u32 {
-    PICTURE + u32::from(member)
+/// The video source of this number.
+pub fn picture_of(picture: u16) -> u32 {
+    PICTURE + u32::from(picture)
 }
 
 /// The address of a member.
@@ -90,32 +114,62 @@ fn add_member(member: u16) -> Command {
     })
 }
 
-fn add_source(ssrc: u32, member: u16, media: Media) -> Command {
+/// A source of this place among all, from the audio sources on.
+fn add_source(plan: &Plan, place: u16) -> Command {
+    let (ssrc, media) = if place < plan.voices {
+        (voice_of(place), Media::Audio)
+    } else {
+        (picture_of(place - plan.voices), Media::Video)
+    };
     Command::AddSource(Source {
         ssrc,
-        member: u32::from(member),
+        member: u32::from(place % plan.members.max(1)),
         media,
     })
 }
 
-fn add_slot(member: u16) -> Command {
+/// A slot of this number. The first ones are those of the members from 1 on.
+fn add_slot(plan: &Plan, slot: u16) -> Command {
+    let members = u32::from(plan.members.max(1));
     Command::AddSlot(Slot {
-        out_ssrc: STREAM + u32::from(member),
-        member: u32::from(member),
-        index: 0,
+        out_ssrc: STREAM + u32::from(slot),
+        member: (u32::from(slot) + 1) % members,
+        index: u32::from(slot) / members,
         first_seq: 0,
         first_ts: 0,
     })
 }
 
-/// The slot of a member has the video source of the one before it, where that has one.
-fn subscribe(plan: &Plan, member: u16) -> Command {
-    let before = member
-        .saturating_sub(1)
-        .min(plan.pictures.saturating_sub(1));
+fn subscribe(plan: &Plan, slot: u16) -> Command {
     Command::Subscribe(Sub {
-        out_ssrc: STREAM + u32::from(member),
-        source: picture_of(before),
+        out_ssrc: STREAM + u32::from(slot),
+        source: picture_of(slot % plan.pictures.max(1)),
+    })
+}
+
+/// The gains, a pin and a floor.
+fn gains(plan: &Plan, commands: &mut Vec<Command>) -> Result<(), AllocError> {
+    for member in 0..plan.members {
+        for voice in 0..plan.voices {
+            commands.push(set_gain(member, voice, 100))?;
+        }
+    }
+    if plan.pictures > 0 {
+        commands.push(Command::Pin(Pin {
+            room: 1,
+            source: picture_of(0),
+        }))?;
+    }
+    commands.push(Command::GiveFloor(Floor { room: 1, member: 0 }))?;
+    Ok(())
+}
+
+/// A member's gain for an audio source.
+pub fn set_gain(member: u16, voice: u16, q8: u32) -> Command {
+    Command::SetGain(Gain {
+        member: u32::from(member),
+        source: voice_of(voice),
+        q8,
     })
 }
 
@@ -129,16 +183,15 @@ pub fn commands_for(alloc: Global, plan: &Plan) -> Result<Vec<Command>, AllocErr
     for member in 0..plan.members {
         commands.push(add_member(member))?;
     }
-    for member in 0..plan.voices {
-        commands.push(add_source(voice_of(member), member, Media::Audio))?;
-    }
-    for member in 0..plan.pictures {
-        commands.push(add_source(picture_of(member), member, Media::Video))?;
+    for place in 0..plan.voices.saturating_add(plan.pictures) {
+        commands.push(add_source(plan, place))?;
     }
     for slot in 0..plan.slots {
-        let member = slot.saturating_add(1);
-        commands.push(add_slot(member))?;
-        commands.push(subscribe(plan, member))?;
+        commands.push(add_slot(plan, slot))?;
+        commands.push(subscribe(plan, slot))?;
+    }
+    if plan.has_gains {
+        gains(plan, &mut commands)?;
     }
     Ok(commands)
 }
