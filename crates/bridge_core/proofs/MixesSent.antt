@@ -20,7 +20,7 @@ use Rattle.bridge_core.specs.Sent.{Sent}
 use Rattle.bridge_core.specs.Sent.Sent.{media, control, note}
 use Rattle.bridge_core.specs.Lanes.{Visit, given_of, mix_goes, sent_of_input, sends_at}
 use Rattle.bridge_core.specs.LaneState.{visit_of}
-use Rattle.bridge_core.specs.Steps.{Step, visits, visit_after, along, desk_of, version_of, count_of}
+use Rattle.bridge_core.specs.Steps.{Step, visits, visit_after, along, desk_of, version_of, items_given}
 use Rattle.bridge_core.specs.Named.{Name, Kind, firsts_at, firsts}
 use Rattle.bridge_core.specs.Headline.{number_of, numbers, numbered_of, FollowOn, HaveNoGap, IsGood}
 use Rattle.bridge_core.proofs.OnStreams.{on, on_share}
@@ -104,12 +104,12 @@ module _ (below : MixBelow) (who : Asker) (count k : ℕ) (start : Desk) where
       let d = desk_of start before in
       let v = visit_after start before lane input in
       let added = map (mix_goes v) (to_its_member (mix_member d k) (mixes_at k (given_of here) d moment)) in
-      ap (λ es. told before ++ map numbered_of es) (mixes_on below (version_of before) (count_of lane before + 1) d moment here h who k lane count)
+      ap (λ es. told before ++ map numbered_of es) (mixes_on below (version_of before) (items_given lane before + 1) d moment here h who k lane count)
       ∙ (elim (cases_eq lane (k % count)) [
         | inl same ↦
             let mine : is_mine lane count k ≡ true = grind (arith, nat_tests) in
             ap (λ b. told before ++ map numbered_of (cond b added [])) mine
-            ∙ ap (λ ps. told before ++ ps) (all_told below (version_of before) (count_of lane before + 1) d moment here h k)
+            ∙ ap (λ ps. told before ++ ps) (all_told below (version_of before) (items_given lane before + 1) d moment here h k)
             ∙ subst (λ j. mixes k (given_of (visits j start before)) ++ mixes_at k (given_of here) d moment ≡ mixes k (given_of (visits j start (before ++ Step.item lane input ∷ [])))) same
             (sym (below.behind k (given_of here) d moment) ∙ ap (mixes k) (sym (is_given here v (Given.tick d moment) refl)) ∙ ap (λ vs. mixes k (given_of vs)) (sym (visits-mine lane start before input)))
         | inr other ↦

@@ -18,7 +18,7 @@ use Rattle.forward_rewrite.specs.Streams.{payload_octets}
 use Rattle.media_items.specs.declared.format.Format.{Format}
 use Rattle.media_items.specs.Formats.{pt_of, tick_at}
 use Rattle.forward_rewrite.specs.Mixes.{Sound, MixTick, format_of, payload_of, mix_packet, packets_in, mixed, mixed_from, begun, mix_list, sounds}
-use Rattle.mixer.specs.Hearing.{Given, put, tick, rate_of, voices_of, sound_by, sound_for, contributors}
+use Rattle.mixer.specs.Hearing.{Given, put, tick, member_rate, voices_of, sound_by, sound_for, contributors}
 use Rattle.mixer.specs.Mixes.{Hears, Turn, hears, turn_of, turns_after, turns, tick_of, ticks_behind}
 use Rattle.bridge_core.specs.Lanes.{goes}
 use Rattle.bridge_core.specs.Headline.{numbered_of}
@@ -127,7 +127,7 @@ few_at k before d moment = by (mix_member d k)
   where
     by : (o : Option MemberRow) → HasFew (option_map (λ (h : Hears). h.sound) (option_and_then (hears before d) o))
     by None = tt
-    by (Some m) = few_heard (sound_for (voices_of before d) d m) m (few_by (format_of m.codec (rate_of d m)) (contributors (voices_of before d) d m) _)
+    by (Some m) = few_heard (sound_for (voices_of before d) d m) m (few_by (format_of m.codec (member_rate d m)) (contributors (voices_of before d) d m) _)
 
 few_after : (k : ℕ) (before given : List Given) → HearFew (turns_after k before given)
 few_after k before [] = tt

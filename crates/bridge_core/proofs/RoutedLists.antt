@@ -15,7 +15,7 @@ use Rattle.media_items.specs.Inputs.{Input}
 use Rattle.feedback.specs.Upstream.{Asker}
 use Rattle.bridge_core.specs.Sent.{Sent}
 use Rattle.bridge_core.specs.Lanes.{Visit, Routed, routed, routed_at, sendings, packets_sent, packets, packets_at, goes}
-use Rattle.bridge_core.specs.Steps.{Step, visits, visit_after, along, desk_of, version_of, count_of}
+use Rattle.bridge_core.specs.Steps.{Step, visits, visit_after, along, desk_of, version_of, items_given}
 use Rattle.bridge_core.specs.Named.{Name, Kind, firsts_at, firsts}
 use Rattle.bridge_core.specs.Headline.{numbers, FollowOn, HaveNoGap, IsGood}
 use Rattle.bridge_core.proofs.Handled.{routed-more, not_routed}
@@ -93,7 +93,7 @@ module _ (below : Below) (who : Asker) (count k : ℕ) (start : Desk) where
       let input = Input.frame f in
       let v = visit_after start before lane input in
       let here = visits lane start before in
-      ap (λ es. told before ++ es) (on_of_lane who k lane count (version_of before) (count_of lane before + 1) (desk_of start before) f here (below.found (desk_of start before) f h))
+      ap (λ es. told before ++ es) (on_of_lane who k lane count (version_of before) (items_given lane before + 1) (desk_of start before) f here (below.found (desk_of start before) f h))
       ∙ (elim (cases_eq lane (k % count)) [
         | inl same ↦
             let mine : is_mine lane count k ≡ true = grind (arith, nat_tests) in

@@ -13,7 +13,7 @@ use Rattle.bridge_core.specs.LaneState.{LaneOf, visit_of, AreLeft, HasHandled, H
 use Rattle.bridge_core.specs.Sound.{HavePlaces, AreFresh}
 use Rattle.bridge_core.specs.Calls.{core_fault, most_lanes}
 use Rattle.intake.specs.Names.{is_name}
-use Rattle.bridge_core.specs.Steps.{Step, version_of, desk_of, count_of, along, visit_at, visits, visit_after, CoreOf, Takes}
+use Rattle.bridge_core.specs.Steps.{Step, version_of, desk_of, items_given, along, visit_at, visits, visit_after, CoreOf, Takes}
 
 pub version_of-publish : (steps : List Step) (desk : Desk) → version_of (steps ++ Step.publish desk ∷ []) ≡ version_of steps + 1
 version_of-publish [] desk = refl
@@ -41,12 +41,12 @@ along-append at before (s ∷ steps) step =
     ap (λ xs. at before s ++ xs) (along-append at (before ++ s ∷ []) steps step ∙ ap (λ b. along at (before ++ s ∷ []) steps ++ at b step) (append_assoc before (s ∷ []) steps))
     ∙ sym (append_assoc (at before s) (along at (before ++ s ∷ []) steps) (at (before ++ s ∷ steps) step))
 
-length-visits : (lane : ℕ) (start : Desk) (before steps : List Step) → length (along (visit_at lane start) before steps) ≡ count_of lane steps
+length-visits : (lane : ℕ) (start : Desk) (before steps : List Step) → length (along (visit_at lane start) before steps) ≡ items_given lane steps
 length-visits lane start before [] = refl
 length-visits lane start before (Step.publish next ∷ steps) = length-visits lane start (before ++ Step.publish next ∷ []) steps
 length-visits lane start before (Step.item to input ∷ steps) =
     let rest = length-visits lane start (before ++ Step.item to input ∷ []) steps in
-    elim (nat_eq to lane) as (λ b. length (cond b (visit_after start before lane input ∷ []) [] ++ along (visit_at lane start) (before ++ Step.item to input ∷ []) steps) ≡ cond b (1 + count_of lane steps) (count_of lane steps))
+    elim (nat_eq to lane) as (λ b. length (cond b (visit_after start before lane input ∷ []) [] ++ along (visit_at lane start) (before ++ Step.item to input ∷ []) steps) ≡ cond b (1 + items_given lane steps) (items_given lane steps))
     [ true ↦ omega (arith, rest) | false ↦ rest ]
 
 pub visits-publish : (lane : ℕ) (start : Desk) (before : List Step) (desk : Desk) → visits lane start (before ++ Step.publish desk ∷ []) ≡ visits lane start before
@@ -118,7 +118,7 @@ handled old new lane state after input sent sound at does version desk lanes sta
     let same : visit_of old.version (length vs + 1) old.desk input ≡ v =
     ap (λ n. visit_of n (length vs + 1) old.desk input) taken.version
     ∙ ap (λ n. visit_of (version_of before) (n + 1) old.desk input) (length-visits lane start [] before)
-    ∙ ap (λ d. visit_of (version_of before) (count_of lane before + 1) d input) taken.desk in (
+    ∙ ap (λ d. visit_of (version_of before) (items_given lane before + 1) d input) taken.desk in (
       ap (λ s. s ∷ []) (done.0 ∙ ap (λ l. sends_at state.who l state.lanes vs (visit_of old.version (length vs + 1) old.desk input)) place.0
           ∙ ap (λ l. sends_at state.who lane l vs (visit_of old.version (length vs + 1) old.desk input)) place.1
           ∙ ap (λ who. sends_at who lane (length old.lanes) vs (visit_of old.version (length vs + 1) old.desk input)) place.2

@@ -29,10 +29,10 @@ desk_of desk (Step.publish next ∷ steps) = desk_of next steps
 desk_of desk (Step.item to input ∷ steps) = desk_of desk steps
 
 -- how many items the lane was given
-abbrev pub count_of : ℕ → List Step → ℕ
-count_of lane [] = 0
-count_of lane (Step.publish next ∷ steps) = count_of lane steps
-count_of lane (Step.item to input ∷ steps) = if nat_eq to lane then 1 + count_of lane steps else count_of lane steps
+abbrev pub items_given : ℕ → List Step → ℕ
+items_given lane [] = 0
+items_given lane (Step.publish next ∷ steps) = items_given lane steps
+items_given lane (Step.item to input ∷ steps) = if nat_eq to lane then 1 + items_given lane steps else items_given lane steps
 
 -- what each step gives after those before it, joined
 abbrev pub along : {X : Type 0} → (List Step → Step → List X) → List Step → List Step → List X
@@ -43,7 +43,7 @@ along at before (step ∷ steps) = at before step ++ along at (before ++ step �
 -- version
 abbrev pub visit_after : Desk → List Step → ℕ → Input → Visit
 visit_after start before lane input =
-    visit_of (version_of before) (count_of lane before + 1) (desk_of start before) input
+    visit_of (version_of before) (items_given lane before + 1) (desk_of start before) input
 
 -- the visit that a step is to a lane, if it is one
 abbrev pub visit_at : ℕ → Desk → List Step → Step → List Visit

@@ -9,7 +9,7 @@ ghost use Rattle.media_items.specs.Inputs.{input_of, is_sized};
 ghost use Rattle.intake.specs.Sources.{no_sources};
 ghost use Rattle.intake.specs.Ingested.{ingested_of, datagram_of};
 ghost use Rattle.intake.specs.Names.{is_name};
-ghost use Rattle.intake.specs.Intakes.{Knows, TakesIn, Tells};
+ghost use Rattle.intake.specs.Intakes.{Knows, TakesIn, TellsSenders};
 ghost use Rattle.bridge_core.specs.Sent.{sent_of};
 ghost use Rattle.bridge_core.specs.Sound.{AreFresh};
 ghost use Rattle.bridge_core.specs.Steps.{CoreOf, HasTaken, Takes, Step, IsSpent};
@@ -192,7 +192,7 @@ impl<A: Allocator + Copy> Core<A> {
         moment: u64,
     ) -> Result<Vec<(Address, Vec<u8, A>), A>, AllocError>
         ensures tells { IfOk result
-            (λ up. Tells self.old.intake self.new.intake (map datagram_of up.items) self.old.desk moment) }
+            (λ up. TellsSenders self.old.intake self.new.intake (map datagram_of up.items) self.old.desk moment) }
         ensures others { (self.new.version ≡ self.old.version) × (self.new.desk ≡ self.old.desk)
             × (self.new.done ≡ self.old.done) × (self.new.undone ≡ self.old.undone)
             × (self.new.lanes ≡ self.old.lanes) }

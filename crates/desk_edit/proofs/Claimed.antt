@@ -66,3 +66,6 @@ members_source member r h = cc
 
 pub audio_of_members_sources : (d : Desk) (member : ℕ) → count_by (is_audio_of member) (filter (is_of kinds.Source) d.others) ≡ count_by (is_audio_of member) d.others
 audio_of_members_sources d member = count_wider (is_audio_of member) (is_of kinds.Source) d.others (members_source member)
+
+-- who may claim an address, a place and an SSRC
+pub ruleset claimed_by_kind = (address_claimed, place_claimed, ssrc_claimed)

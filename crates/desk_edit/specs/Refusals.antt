@@ -94,7 +94,7 @@ is_ssrc_taken d c = is_ssrc c && (is_bridges d c || is_claimed d c)
 abbrev pub ssrc_is_taken : Desk → Row → Bool
 ssrc_is_taken d r = list_any (is_ssrc_taken d) (other_claims r)
 
--- a source that it names is of the other kind: it isn't a member, which names a room
+-- it names a source of the other kind; a member names no source, and what it names is asked by its codec
 abbrev pub is_wrong_kind : Desk → Row → Bool
 is_wrong_kind d r = not (is_of kinds.Member r) && not (all_suit d r)
 

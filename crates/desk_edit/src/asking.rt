@@ -39,7 +39,7 @@ fn is_stream<A: Allocator + Copy>(rows: &Rows<A>, ssrc: u32) -> bool
 }
 
 /// Whether any row makes this claim. It looks only at the kinds that may make it.
-#[tactic(auto, using(crate::proofs::Claimed::address_claimed, crate::proofs::Claimed::place_claimed, crate::proofs::Claimed::ssrc_claimed))]
+#[tactic(auto, using(crate::proofs::Claimed::claimed_by_kind))]
 fn is_claimed<A: Allocator + Copy>(rows: &Rows<A>, claim: &Claim) -> bool
     ensures { result ≡ is_claimed rows.now claim.now }
 {

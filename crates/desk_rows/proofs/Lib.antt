@@ -18,3 +18,4 @@ pub mod NamingLemmas
 pub mod AddressLemmas
 pub mod RoomLemmas
 pub mod GainLemmas
+pub mod Together

@@ -62,7 +62,7 @@ fn only_replaced(edit: &EditLists<'_>) -> Option<(Row, Row)>
 }
 
 /// Takes the other rows that go, and puts those that come where they keep the order. There is room for them.
-#[tactic(auto, using(crate::proofs::Merging::put_in_turn, crate::proofs::SlidingLemmas::rest_in_order, crate::proofs::Counts::length_of_both))]
+#[tactic(auto, using(crate::proofs::Together::in_turn))]
 fn move_rows<A: Allocator + Copy>(
     others: &mut Vec<Row, A>,
     spare: &mut Vec<Row, A>,

@@ -173,7 +173,7 @@ pub(crate) fn take_rows<A: Allocator>(
 }
 
 /// The rows that this one does not stand before, and the others.
-#[tactic(auto, using(crate::proofs::Halving::order_of_rest, crate::proofs::Loops::before_all, crate::proofs::SlidingLemmas::front_passes))]
+#[tactic(auto, using(crate::proofs::Together::parted))]
 fn parted_before<'a>(rows: &'a [Row], row: &Row) -> (&'a [Row], &'a [Row])
     requires { in_order rows.now ≡ true }
     ensures all { rows.now ≡ result.0.now ++ result.1.now }

@@ -9,14 +9,14 @@ use Rattle.rtp_codec.specs.Address.{same_address}
 use Rattle.flood_guard.specs.declared.account.Account.{Account}
 use Rattle.flood_guard.specs.declared.quota.Quota.{Quota}
 use Rattle.flood_guard.specs.declared.quota.Quota.TheVariants.{Numbers, Items}
-use Rattle.flood_guard.specs.Accounts.{account_at, account_of, opened, or_opened, used, earned, paid, counted, most_of, asked_of, asked_in, left_in, window_of}
-use Rattle.flood_guard.specs.Steps.{Step, earn, spend, ask, may_spend, may_ask, after, part_of, asked_by, all_asked, enters, entries, AreInOrder}
+use Rattle.flood_guard.specs.Accounts.{account_at, account_of, opened, or_opened, used, earned, paid, counted, most_of, counted_of, counted_in, left_in, window_of}
+use Rattle.flood_guard.specs.Steps.{GuardStep, earn, spend, ask, may_spend, may_ask, accounts_after, counted_as, granted_at, all_asked, enters, entries, AreInOrder}
 use Rattle.flood_guard.proofs.PlaceLemmas.{same_address_is, same_itself}
 use Rattle.flood_guard.proofs.Turns.{address_of, own, IsKept, others}
 
 -- how much of a quota may still be granted in a window, now or later
 abbrev pub room_of : Quota → ℕ → Account → ℕ
-room_of q window a = if nat_lt a.window window then most_of q else (if nat_eq a.window window then most_of q - asked_of q a else 0)
+room_of q window a = if nat_lt a.window window then most_of q else (if nat_eq a.window window then most_of q - counted_of q a else 0)
 
 abbrev pub room_in : Quota → ℕ → Option Account → ℕ
 room_in q window None = 0
@@ -36,9 +36,9 @@ IsBefore now None = Unit {0}
 IsBefore now (Some a) = a.window ≤ now
 
 most_room : (q : Quota) (window : ℕ) (a : Account) → room_of q window a ≤ most_of q
-most_room q window a = (elim (nat_lt a.window window) as (λ y. (if y then most_of q else (if nat_eq a.window window then most_of q - asked_of q a else 0)) ≤ most_of q) [
+most_room q window a = (elim (nat_lt a.window window) as (λ y. (if y then most_of q else (if nat_eq a.window window then most_of q - counted_of q a else 0)) ≤ most_of q) [
   | true ↦ omega arith
-  | false ↦ (elim (nat_eq a.window window) as (λ z. (if z then most_of q - asked_of q a else 0) ≤ most_of q) [
+  | false ↦ (elim (nat_eq a.window window) as (λ z. (if z then most_of q - counted_of q a else 0) ≤ most_of q) [
     | true ↦ omega arith
     | false ↦ omega arith
   ])
@@ -54,16 +54,16 @@ same q window None = omega arith
 same q window (Some a) = omega arith
 
 -- an account with the same window and count
-stays : (q : Quota) (window : ℕ) (a b : Account) → b.window ≡ a.window → asked_of q b ≡ asked_of q a → IsBounded q window 0 (Some a) (Some b)
+stays : (q : Quota) (window : ℕ) (a b : Account) → b.window ≡ a.window → counted_of q b ≡ counted_of q a → IsBounded q window 0 (Some a) (Some b)
 stays q window a b w n =
-    let e : room_of q window b ≡ room_of q window a = ap (λ (v : ℕ). if nat_lt v window then most_of q else (if nat_eq v window then most_of q - asked_of q b else 0)) w ∙ ap (λ (m : ℕ). if nat_lt a.window window then most_of q else (if nat_eq a.window window then most_of q - m else 0)) n in
+    let e : room_of q window b ≡ room_of q window a = ap (λ (v : ℕ). if nat_lt v window then most_of q else (if nat_eq v window then most_of q - counted_of q b else 0)) w ∙ ap (λ (m : ℕ). if nat_lt a.window window then most_of q else (if nat_eq a.window window then most_of q - m else 0)) n in
     omega (arith, e)
 
-asked_earned : (q : Quota) (octets : ℕ) (a : Account) → asked_of q (earned octets a) ≡ asked_of q a
+asked_earned : (q : Quota) (octets : ℕ) (a : Account) → counted_of q (earned octets a) ≡ counted_of q a
 asked_earned Numbers octets a = refl
 asked_earned Items octets a = refl
 
-asked_paid : (q : Quota) (octets : ℕ) (a : Account) → asked_of q (paid octets a) ≡ asked_of q a
+asked_paid : (q : Quota) (octets : ℕ) (a : Account) → counted_of q (paid octets a) ≡ counted_of q a
 asked_paid Numbers octets a = refl
 asked_paid Items octets a = refl
 
@@ -81,25 +81,25 @@ granted_in window now granted = if nat_eq now window then granted else 0
 room_later : (q : Quota) (window : ℕ) (a : Account) → a.window < window → room_of q window a ≡ most_of q
 room_later q window a h = rw (lt-ltb a.window window h) refl
 
-room_now : (q : Quota) (window : ℕ) (a : Account) → a.window ≡ window → room_of q window a ≡ most_of q - asked_of q a
+room_now : (q : Quota) (window : ℕ) (a : Account) → a.window ≡ window → room_of q window a ≡ most_of q - counted_of q a
 room_now q window a h = rw (le-ltb a.window window (omega (arith, h))) (rw (eq-eqb a.window window h) refl)
 
 room_gone : (q : Quota) (window : ℕ) (a : Account) → window < a.window → room_of q window a ≡ 0
 room_gone q window a h = rw (le-ltb a.window window (omega (arith, h))) (rw (ne_eqb a.window window (λ e. omega (arith, h, e))) refl)
 
-asked_now : (q : Quota) (now : ℕ) (a : Account) → a.window ≡ now → asked_in now q a ≡ asked_of q a
+asked_now : (q : Quota) (now : ℕ) (a : Account) → a.window ≡ now → counted_in now q a ≡ counted_of q a
 asked_now q now a h = rw (eq-eqb a.window now h) refl
 
-asked_none : (q : Quota) (now : ℕ) (a : Account) → a.window < now → asked_in now q a ≡ 0
+asked_none : (q : Quota) (now : ℕ) (a : Account) → a.window < now → counted_in now q a ≡ 0
 asked_none q now a h = rw (ne_eqb a.window now (λ e. omega (arith, h, e))) refl
 
 -- so much is granted in the window of now
-grants : (q : Quota) (window now part : ℕ) (a b : Account) → a.window ≤ now → part ≤ left_in now q a → b.window ≡ now → asked_of q b ≡ asked_in now q a + part
+grants : (q : Quota) (window now part : ℕ) (a b : Account) → a.window ≤ now → part ≤ left_in now q a → b.window ≡ now → counted_of q b ≡ counted_in now q a + part
     → granted_in window now part + room_of q window b ≤ room_of q window a
 grants q window now part a b before few at more = elim (cases_order now window) [
   | inl e ↦
       let all : granted_in window now part ≡ part = rw (eq-eqb now window e) refl in
-      let left : room_of q window b ≡ most_of q - asked_of q b = room_now q window b (at ∙ e) in
+      let left : room_of q window b ≡ most_of q - counted_of q b = room_now q window b (at ∙ e) in
       elim (cases_lt a.window now) [
         | inl lt ↦ omega (arith, all, left, more, few, asked_none q now a lt, room_later q window a (omega (arith, lt, e)))
         | inr ge ↦ let is : a.window ≡ now = omega (arith, before, ge) in omega (arith, all, left, more, few, asked_now q now a is, room_now q window a (is ∙ e))
@@ -113,7 +113,7 @@ grants q window now part a b before few at more = elim (cases_order now window) 
 ]
 
 -- of the same quota or of the other one
-part_few : (q k : Quota) (now granted : ℕ) (a : Account) → granted ≤ left_in now k a → part_of q k granted ≤ left_in now q a
+part_few : (q k : Quota) (now granted : ℕ) (a : Account) → granted ≤ left_in now k a → counted_as q k granted ≤ left_in now q a
 part_few Numbers Numbers now granted a few = few
 part_few Numbers Items now granted a few = omega arith
 part_few Items Numbers now granted a few = omega arith
@@ -130,19 +130,19 @@ address_counted Items now granted a = refl
 no_more : (n : ℕ) → n ≡ n + 0
 no_more n = omega arith
 
-asked_counted : (q k : Quota) (now granted : ℕ) (a : Account) → asked_of q (counted now k granted a) ≡ asked_in now q a + part_of q k granted
+asked_counted : (q k : Quota) (now granted : ℕ) (a : Account) → counted_of q (counted now k granted a) ≡ counted_in now q a + counted_as q k granted
 asked_counted Numbers Numbers now granted a = refl
-asked_counted Numbers Items now granted a = no_more (asked_in now Numbers a)
-asked_counted Items Numbers now granted a = no_more (asked_in now Items a)
+asked_counted Numbers Items now granted a = no_more (counted_in now Numbers a)
+asked_counted Items Numbers now granted a = no_more (counted_in now Items a)
 asked_counted Items Items now granted a = refl
 
 grants_of : (q k : Quota) (window now granted : ℕ) (a : Account) → a.window ≤ now → granted ≤ left_in now k a
-    → granted_in window now (part_of q k granted) + room_of q window (counted now k granted a) ≤ room_of q window a
+    → granted_in window now (counted_as q k granted) + room_of q window (counted now k granted a) ≤ room_of q window a
 grants_of q k window now granted a before few =
-    grants q window now (part_of q k granted) a (counted now k granted a) before (part_few q k now granted a few) (window_counted k now granted a) (asked_counted q k now granted a)
+    grants q window now (counted_as q k granted) a (counted now k granted a) before (part_few q k now granted a few) (window_counted k now granted a) (asked_counted q k now granted a)
 
 asks : (q k : Quota) (window now granted : ℕ) (address : Address) (old : Option Account) → IsBefore now old → granted ≤ left_in now k (or_opened address old)
-    → IsBounded q window (granted_in window now (part_of q k granted)) old (Some (counted now k granted (or_opened address old)))
+    → IsBounded q window (granted_in window now (counted_as q k granted)) old (Some (counted now k granted (or_opened address old)))
 asks q k window now granted address None before few = omega (arith, grants_of q k window now granted (opened address) (omega arith) few, most_room q window (opened address))
 asks q k window now granted address (Some a) before few = omega (arith, grants_of q k window now granted a before few)
 
@@ -153,7 +153,7 @@ other_at : (from address : Address) (x : Account) (accounts : List Account) → 
 other_at from address x accounts e f = others x address accounts (ap (λ (a : Address). same_address a address) e ∙ f)
 
 -- the window of the step, if it asks; else the one of now
-abbrev pub window_after : ℕ → Step → ℕ
+abbrev pub window_after : ℕ → GuardStep → ℕ
 window_after now (earn from octets) = now
 window_after now (spend to octets) = now
 window_after now (ask from moment quota count) = window_of moment
@@ -164,9 +164,9 @@ before_kept now later None (Some a) k le h = cc
 before_kept now later (Some b) (Some a) k le h = let e : b ≡ a = cc in subst (λ (x : Account). x.window ≤ later) e (omega (arith, h, le))
 
 -- a step whose window is not before that of now
-pub record Goes (q : Quota) (address : Address) (window now : ℕ) (s : Step) (accounts : List Account) : Type 0 where
-  pub bounded : IsBounded q window (asked_by address q window s accounts) (account_at address accounts) (account_at address (after s accounts))
-  pub before : IsBefore (window_after now s) (account_at address (after s accounts))
+pub record Goes (q : Quota) (address : Address) (window now : ℕ) (s : GuardStep) (accounts : List Account) : Type 0 where
+  pub bounded : IsBounded q window (granted_at address q window s accounts) (account_at address accounts) (account_at address (accounts_after s accounts))
+  pub before : IsBefore (window_after now s) (account_at address (accounts_after s accounts))
 
 -- a step that grants nothing uses the account x of an address
 uses : (q : Quota) (from address : Address) (window now : ℕ) (x : Account) (accounts : List Account) → x.address ≡ from → IsBefore now (account_at address accounts)
@@ -222,9 +222,9 @@ own_ask q address window now moment k count accounts h le =
     let x = counted (window_of moment) k g (account_of address accounts) in
     let o = own_at address x accounts (address_counted k (window_of moment) g (account_of address accounts) ∙ address_of address accounts) in
     let few : g ≤ left_in (window_of moment) k (or_opened address old) = omega arith in
-    let b : IsBounded q window (granted_in window (window_of moment) (part_of q k g)) old (Some x) = asks q k window (window_of moment) g address old (before_more now (window_of moment) old le h) few in
+    let b : IsBounded q window (granted_in window (window_of moment) (counted_as q k g)) old (Some x) = asks q k window (window_of moment) g address old (before_more now (window_of moment) old le h) few in
     record {
-      bounded = subst (IsBounded q window (asked_by address q window (ask address moment k count) accounts) old) (sym o) (rw (same_itself address) b);
+      bounded = subst (IsBounded q window (granted_at address q window (ask address moment k count) accounts) old) (sym o) (rw (same_itself address) b);
       before = subst (IsBefore (window_of moment)) (sym o) (omega (arith, window_counted k (window_of moment) g (account_of address accounts)));
     }
 
@@ -237,7 +237,7 @@ ask_goes q address window now from moment k count accounts h le = (elim (same_ad
       let x = counted (window_of moment) k g (account_of from accounts) in
       let kp = other_at from address x accounts (address_counted k (window_of moment) g (account_of from accounts) ∙ address_of from accounts) t in
       record {
-        bounded = subst (λ (n : ℕ). IsBounded q window n (account_at address accounts) (account_at address (used x accounts))) (sym (ap (λ (y : Bool). if y && nat_eq (window_of moment) window then part_of q k g else 0) t)) (kept q window (account_at address accounts) (account_at address (used x accounts)) kp);
+        bounded = subst (λ (n : ℕ). IsBounded q window n (account_at address accounts) (account_at address (used x accounts))) (sym (ap (λ (y : Bool). if y && nat_eq (window_of moment) window then counted_as q k g else 0) t)) (kept q window (account_at address accounts) (account_at address (used x accounts)) kp);
         before = before_kept now (window_of moment) (account_at address accounts) (account_at address (used x accounts)) kp le h;
       }
 ]) refl
@@ -252,24 +252,24 @@ times Items true = refl
 times Items false = refl
 
 -- one step, and the others
-with_rest : (q : Quota) (address : Address) (window : ℕ) (s : Step) (ss : List Step) (accounts : List Account)
-    → IsBounded q window (asked_by address q window s accounts) (account_at address accounts) (account_at address (after s accounts))
-    → all_asked address q window ss (after s accounts) ≤ entries address ss (after s accounts) * most_of q + room_in q window (account_at address (after s accounts))
+with_rest : (q : Quota) (address : Address) (window : ℕ) (s : GuardStep) (ss : List GuardStep) (accounts : List Account)
+    → IsBounded q window (granted_at address q window s accounts) (account_at address accounts) (account_at address (accounts_after s accounts))
+    → all_asked address q window ss (accounts_after s accounts) ≤ entries address ss (accounts_after s accounts) * most_of q + room_in q window (account_at address (accounts_after s accounts))
     → all_asked address q window (s ∷ ss) accounts ≤ entries address (s ∷ ss) accounts * most_of q + room_in q window (account_at address accounts)
 with_rest q address window s ss accounts one rest =
-    let here : entered q (account_at address accounts) (account_at address (after s accounts)) ≡ enters address s accounts * most_of q =
-    times q (is_some (account_at address (after s accounts)) && not (is_some (account_at address accounts))) in
-    omega (arith, one, rest, here, add-mul (enters address s accounts) (entries address ss (after s accounts)) (most_of q))
+    let here : entered q (account_at address accounts) (account_at address (accounts_after s accounts)) ≡ enters address s accounts * most_of q =
+    times q (is_some (account_at address (accounts_after s accounts)) && not (is_some (account_at address accounts))) in
+    omega (arith, one, rest, here, add-mul (enters address s accounts) (entries address ss (accounts_after s accounts)) (most_of q))
 
-pub run : (q : Quota) (address : Address) (window moment : ℕ) (ss : List Step) (accounts : List Account) → AreInOrder moment ss → IsBefore (window_of moment) (account_at address accounts)
+pub run : (q : Quota) (address : Address) (window moment : ℕ) (ss : List GuardStep) (accounts : List Account) → AreInOrder moment ss → IsBefore (window_of moment) (account_at address accounts)
     → all_asked address q window ss accounts ≤ entries address ss accounts * most_of q + room_in q window (account_at address accounts)
 run q address window moment [] accounts order h = omega arith
 run q address window moment (earn from octets ∷ ss) accounts order h =
     let g = earn_goes q address window (window_of moment) from octets accounts h in
-    with_rest q address window (earn from octets) ss accounts g.bounded (run q address window moment ss (after (earn from octets) accounts) order g.before)
+    with_rest q address window (earn from octets) ss accounts g.bounded (run q address window moment ss (accounts_after (earn from octets) accounts) order g.before)
 run q address window moment (spend to octets ∷ ss) accounts order h =
     let g = spend_goes q address window (window_of moment) to octets accounts h in
-    with_rest q address window (spend to octets) ss accounts g.bounded (run q address window moment ss (after (spend to octets) accounts) order g.before)
+    with_rest q address window (spend to octets) ss accounts g.bounded (run q address window moment ss (accounts_after (spend to octets) accounts) order g.before)
 run q address window moment (ask from next k count ∷ ss) accounts order h =
     let g = ask_goes q address window (window_of moment) from next k count accounts h (later_window moment next order.0) in
-    with_rest q address window (ask from next k count) ss accounts g.bounded (run q address window next ss (after (ask from next k count) accounts) order.1 g.before)
+    with_rest q address window (ask from next k count) ss accounts g.bounded (run q address window next ss (accounts_after (ask from next k count) accounts) order.1 g.before)

@@ -8,7 +8,7 @@ use Rattle.flood_guard.specs.declared.account.Account.{Account}
 use Rattle.flood_guard.specs.declared.quota.Quota.{Quota}
 use Rattle.flood_guard.specs.declared.quota.Quota.TheVariants.{Numbers, Items}
 use Rattle.flood_guard.specs.Accounts.{account_at, account_of, or_opened, used, earned, paid, counted, window_of}
-use Rattle.flood_guard.specs.Steps.{Step, earn, spend, ask, pays, may_spend, may_ask, after, octets_from, octets_to, enters, all_from, all_to, entries}
+use Rattle.flood_guard.specs.Steps.{GuardStep, earn, spend, ask, pays, may_spend, may_ask, accounts_after, octets_from, octets_to, enters, all_from, all_to, entries}
 use Rattle.flood_guard.proofs.PlaceLemmas.{same_address_is, same_itself}
 use Rattle.flood_guard.proofs.AskLaws.{address_counted}
 use Rattle.flood_guard.proofs.Turns.{address_of, own, IsKept, others}
@@ -52,11 +52,11 @@ asks address window k granted (Some a) = omega (arith, credit_counted k window g
 own_at : (address : Address) (x : Account) (accounts : List Account) → x.address ≡ address → account_at address (used x accounts) ≡ Some x
 own_at address x accounts e = own x address accounts (ap (λ (a : Address). same_address a address) e ∙ same_itself address)
 
-step : (address : Address) (s : Step) (accounts : List Account) → IsBounded (octets_to address s accounts) (octets_from address s) (account_at address accounts) (account_at address (after s accounts))
-step address (earn from octets) accounts = (elim (same_address from address) as (λ y. same_address from address ≡ y → IsBounded 0 (if y then octets else 0) (account_at address accounts) (account_at address (after (earn from octets) accounts))) [
-  | true ↦ λ t. subst (λ (f : Address). IsBounded 0 octets (account_at address accounts) (account_at address (after (earn f octets) accounts))) (sym (same_address_is from address t))
+step : (address : Address) (s : GuardStep) (accounts : List Account) → IsBounded (octets_to address s accounts) (octets_from address s) (account_at address accounts) (account_at address (accounts_after s accounts))
+step address (earn from octets) accounts = (elim (same_address from address) as (λ y. same_address from address ≡ y → IsBounded 0 (if y then octets else 0) (account_at address accounts) (account_at address (accounts_after (earn from octets) accounts))) [
+  | true ↦ λ t. subst (λ (f : Address). IsBounded 0 octets (account_at address accounts) (account_at address (accounts_after (earn f octets) accounts))) (sym (same_address_is from address t))
       (subst (IsBounded 0 octets (account_at address accounts)) (sym (own_at address (earned octets (account_of address accounts)) accounts (address_of address accounts))) (earns address octets (account_at address accounts)))
-  | false ↦ λ t. kept 0 (account_at address accounts) (account_at address (after (earn from octets) accounts)) (others (earned octets (account_of from accounts)) address accounts (ap (λ (a : Address). same_address a address) (address_of from accounts) ∙ t))
+  | false ↦ λ t. kept 0 (account_at address accounts) (account_at address (accounts_after (earn from octets) accounts)) (others (earned octets (account_of from accounts)) address accounts (ap (λ (a : Address). same_address a address) (address_of from accounts) ∙ t))
 ]) refl
 step address (spend to octets) accounts = (elim (may_spend to octets accounts) as (λ z. may_spend to octets accounts ≡ z → IsBounded (if same_address to address && z then octets else 0) 0 (account_at address accounts) (account_at address (if z then used (paid octets (account_of to accounts)) accounts else accounts))) [
   | true ↦ λ m. (elim (same_address to address) as (λ y. same_address to address ≡ y → IsBounded (if y && true then octets else 0) 0 (account_at address accounts) (account_at address (used (paid octets (account_of to accounts)) accounts))) [
@@ -72,11 +72,11 @@ step address (spend to octets) accounts = (elim (may_spend to octets accounts) a
 ]) refl
 step address (ask from moment k count) accounts =
     let w = window_of moment in
-    (elim (same_address from address) as (λ y. same_address from address ≡ y → IsBounded 0 0 (account_at address accounts) (account_at address (after (ask from moment k count) accounts))) [
+    (elim (same_address from address) as (λ y. same_address from address ≡ y → IsBounded 0 0 (account_at address accounts) (account_at address (accounts_after (ask from moment k count) accounts))) [
       | true ↦ λ t.
           let g = may_ask address moment k count accounts in
           let x = counted w k g (account_of address accounts) in
-          subst (λ (f : Address). IsBounded 0 0 (account_at address accounts) (account_at address (after (ask f moment k count) accounts))) (sym (same_address_is from address t))
+          subst (λ (f : Address). IsBounded 0 0 (account_at address accounts) (account_at address (accounts_after (ask f moment k count) accounts))) (sym (same_address_is from address t))
           (subst (IsBounded 0 0 (account_at address accounts)) (sym (own_at address x accounts (address_counted k w g (account_of address accounts) ∙ address_of address accounts))) (asks address w k g (account_at address accounts)))
       | false ↦ λ t.
           let g = may_ask from moment k count accounts in
@@ -85,9 +85,9 @@ step address (ask from moment k count) accounts =
           (others x address accounts (ap (λ (a : Address). same_address a address) (address_counted k w g (account_of from accounts) ∙ address_of from accounts) ∙ t))
     ]) refl
 
-pub run : (address : Address) (ss : List Step) (accounts : List Account) → all_to address ss accounts * 2 ≤ all_from address ss * 3 + entries address ss accounts * 256 * 2 + credit_in (account_at address accounts) * 2
+pub run : (address : Address) (ss : List GuardStep) (accounts : List Account) → all_to address ss accounts * 2 ≤ all_from address ss * 3 + entries address ss accounts * 256 * 2 + credit_in (account_at address accounts) * 2
 run address [] accounts = omega arith
 run address (s ∷ ss) accounts =
-    let one : octets_to address s accounts * 2 + credit_in (account_at address (after s accounts)) * 2 ≤ octets_from address s * 3 + enters address s accounts * 512 + credit_in (account_at address accounts) * 2 = step address s accounts in
-    let rest = run address ss (after s accounts) in
+    let one : octets_to address s accounts * 2 + credit_in (account_at address (accounts_after s accounts)) * 2 ≤ octets_from address s * 3 + enters address s accounts * 512 + credit_in (account_at address accounts) * 2 = step address s accounts in
+    let rest = run address ss (accounts_after s accounts) in
     omega (arith, one, rest)

@@ -8,7 +8,7 @@ use Rattle.std.specs.Str.{bytes_eq}
 use Rattle.rtp_codec.specs.declared.address.Address.{Address}
 use Rattle.rtp_codec.specs.Address.{same_address}
 use Rattle.flood_guard.specs.declared.account.Account.{Account}
-use Rattle.flood_guard.specs.Accounts.{account_at, without}
+use Rattle.flood_guard.specs.Accounts.{account_at, other_accounts}
 use Rattle.flood_guard.specs.inner.Places.{place_of}
 
 -- one address
@@ -26,7 +26,7 @@ pub record IsPlaced (address : Address) (accounts : List Account) (place : ℕ) 
   pub within : place < length accounts
   pub at : (d : Account) → account_at address accounts ≡ Some (get_or accounts place d)
   pub address_is : (a : Account) → account_at address accounts ≡ Some a → a.address ≡ address
-  pub rest : without address accounts ≡ take place accounts ++ drop (suc place) accounts
+  pub rest : other_accounts address accounts ≡ take place accounts ++ drop (suc place) accounts
 
 pub placed : (address : Address) (accounts : List Account) (place : ℕ) → place_of address accounts ≡ Some place → IsPlaced address accounts place
 placed address [] place h = cc
@@ -48,12 +48,12 @@ placed address (a ∷ rest) place h = (elim (same_address a.address address) as 
 ]) refl
 
 -- no account of an address
-pub unplaced : (address : Address) (accounts : List Account) → place_of address accounts ≡ None → (account_at address accounts ≡ None) × (without address accounts ≡ accounts)
+pub unplaced : (address : Address) (accounts : List Account) → place_of address accounts ≡ None → (account_at address accounts ≡ None) × (other_accounts address accounts ≡ accounts)
 unplaced address [] h = (refl, refl)
-unplaced address (a ∷ rest) h = (elim (same_address a.address address) as (λ y. same_address a.address address ≡ y → (account_at address (a ∷ rest) ≡ None) × (without address (a ∷ rest) ≡ a ∷ rest)) [
+unplaced address (a ∷ rest) h = (elim (same_address a.address address) as (λ y. same_address a.address address ≡ y → (account_at address (a ∷ rest) ≡ None) × (other_accounts address (a ∷ rest) ≡ a ∷ rest)) [
   | true ↦ λ t. let h' = rw t at h in cc
   | false ↦ λ t. let h' : option_map (λ n. suc n) (place_of address rest) ≡ None = rw t at h in
-      (elim (place_of address rest) as (λ o. place_of address rest ≡ o → (account_at address (a ∷ rest) ≡ None) × (without address (a ∷ rest) ≡ a ∷ rest)) [
+      (elim (place_of address rest) as (λ o. place_of address rest ≡ o → (account_at address (a ∷ rest) ≡ None) × (other_accounts address (a ∷ rest) ≡ a ∷ rest)) [
         | None ↦ λ o. let p = unplaced address rest o in (rw t p.0, rw t (ap (λ (l : List Account). a ∷ l) p.1))
         | Some n ↦ λ o. let g = rw o at h' in cc
       ]) refl
@@ -68,9 +68,9 @@ pub appended : (x y : Account) (accounts : List Account) (n : ℕ) → length ac
 appended x y accounts n few = ap (λ (l : List Account). x ∷ l) (grind (arith, common_steps))
 
 -- an account in its place goes before the others
-pub with_rest : (x : Account) (accounts : List Account) (place n : ℕ) → IsPlaced x.address accounts place → length accounts ≤ n + 1 → x ∷ (take place accounts ++ drop (place + 1) accounts) ≡ x ∷ take n (without x.address accounts)
+pub with_rest : (x : Account) (accounts : List Account) (place n : ℕ) → IsPlaced x.address accounts place → length accounts ≤ n + 1 → x ∷ (take place accounts ++ drop (place + 1) accounts) ≡ x ∷ take n (other_accounts x.address accounts)
 with_rest x accounts place n p few =
-    let rest : without x.address accounts ≡ take place accounts ++ drop (place + 1) accounts = p.rest ∙ ap (λ (m : ℕ). take place accounts ++ drop m accounts) (sym (add-one place)) in
+    let rest : other_accounts x.address accounts ≡ take place accounts ++ drop (place + 1) accounts = p.rest ∙ ap (λ (m : ℕ). take place accounts ++ drop m accounts) (sym (add-one place)) in
     let len : length (take place accounts ++ drop (place + 1) accounts) ≤ n = omega (arith, few, p.within, length-append (take place accounts) (drop (place + 1) accounts), length-take-le place accounts (omega (arith, p.within)), length-drop (place + 1) accounts) in
     ap (λ (l : List Account). x ∷ l) (sym (take_all n (take place accounts ++ drop (place + 1) accounts) len) ∙ ap (take n) (sym rest))
 

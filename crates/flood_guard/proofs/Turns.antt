@@ -3,7 +3,7 @@ use Rattle.std.proofs.Common.{◌≡◌, ℕ, zero, suc, ◌-◌, true, false, i
 use Rattle.rtp_codec.specs.declared.address.Address.{Address}
 use Rattle.rtp_codec.specs.Address.{same_address}
 use Rattle.flood_guard.specs.declared.account.Account.{Account}
-use Rattle.flood_guard.specs.Accounts.{account_at, account_of, or_opened, without, used, most_addresses}
+use Rattle.flood_guard.specs.Accounts.{account_at, account_of, or_opened, other_accounts, used, most_addresses}
 use Rattle.flood_guard.proofs.PlaceLemmas.{same_address_is}
 
 pub address_at : (address : Address) (accounts : List Account) (a : Account) → account_at address accounts ≡ Some a → a.address ≡ address
@@ -36,11 +36,11 @@ kept-take address (suc n) (a ∷ rest) = (elim (same_address a.address address) 
   | false ↦ kept-take address n rest
 ])
 
-at-without : (other address : Address) (accounts : List Account) → same_address other address ≡ false → account_at address (without other accounts) ≡ account_at address accounts
+at-without : (other address : Address) (accounts : List Account) → same_address other address ≡ false → account_at address (other_accounts other accounts) ≡ account_at address accounts
 at-without other address [] f = refl
-at-without other address (a ∷ rest) f = (elim (same_address a.address other) as (λ y. same_address a.address other ≡ y → account_at address (without other (a ∷ rest)) ≡ account_at address (a ∷ rest)) [
+at-without other address (a ∷ rest) f = (elim (same_address a.address other) as (λ y. same_address a.address other ≡ y → account_at address (other_accounts other (a ∷ rest)) ≡ account_at address (a ∷ rest)) [
   | true ↦ λ t. let not_it : same_address a.address address ≡ false = ap (λ (b : Address). same_address b address) (same_address_is a.address other t) ∙ f in rw t (rw not_it refl)
-  | false ↦ λ t. rw t ((elim (same_address a.address address) as (λ y. (if y then Some a else account_at address (without other rest)) ≡ (if y then Some a else account_at address rest)) [
+  | false ↦ λ t. rw t ((elim (same_address a.address address) as (λ y. (if y then Some a else account_at address (other_accounts other rest)) ≡ (if y then Some a else account_at address rest)) [
     | true ↦ refl
     | false ↦ at-without other address rest f
   ]))
@@ -49,5 +49,5 @@ at-without other address (a ∷ rest) f = (elim (same_address a.address other) a
 -- the account of another address stays, or it is gone
 pub others : (x : Account) (address : Address) (accounts : List Account) → same_address x.address address ≡ false → IsKept (account_at address accounts) (account_at address (used x accounts))
 others x address accounts f =
-    let at : account_at address (without x.address accounts) ≡ account_at address accounts = at-without x.address address accounts f in
-    rw f (subst (λ (o : Option Account). IsKept o (account_at address (take (most_addresses - 1) (without x.address accounts)))) at (kept-take address (most_addresses - 1) (without x.address accounts)))
+    let at : account_at address (other_accounts x.address accounts) ≡ account_at address accounts = at-without x.address address accounts f in
+    rw f (subst (λ (o : Option Account). IsKept o (account_at address (take (most_addresses - 1) (other_accounts x.address accounts)))) at (kept-take address (most_addresses - 1) (other_accounts x.address accounts)))

@@ -46,13 +46,13 @@ abbrev pub account_of : Address → List Account → Account
 account_of address accounts = or_opened address (account_at address accounts)
 
 -- the accounts of the others, where each address stands there once
-abbrev pub without : Address → List Account → List Account
-without address [] = []
-without address (a ∷ rest) = if same_address a.address address then rest else a ∷ without address rest
+abbrev pub other_accounts : Address → List Account → List Account
+other_accounts address [] = []
+other_accounts address (a ∷ rest) = if same_address a.address address then rest else a ∷ other_accounts address rest
 
 -- with this account before the others; the one that was used the longest ago is forgotten, where there would be too many
 abbrev pub used : Account → List Account → List Account
-used a accounts = a ∷ take (most_addresses - 1) (without a.address accounts)
+used a accounts = a ∷ take (most_addresses - 1) (other_accounts a.address accounts)
 
 -- a datagram of so many octets came: 1.5 octets of credit for each, up to the most credit
 abbrev pub earned : ℕ → Account → Account
@@ -63,21 +63,21 @@ abbrev pub paid : ℕ → Account → Account
 paid octets a = record { address = a.address; credit = a.credit - octets; window = a.window; numbers = a.numbers; items = a.items }
 
 -- how much of a quota was granted in the account's last window
-abbrev pub asked_of : Quota → Account → ℕ
-asked_of Numbers a = a.numbers
-asked_of Items a = a.items
+abbrev pub counted_of : Quota → Account → ℕ
+counted_of Numbers a = a.numbers
+counted_of Items a = a.items
 
 -- how much of a quota was granted in a window
-abbrev pub asked_in : ℕ → Quota → Account → ℕ
-asked_in window quota a = if nat_eq a.window window then asked_of quota a else 0
+abbrev pub counted_in : ℕ → Quota → Account → ℕ
+counted_in window quota a = if nat_eq a.window window then counted_of quota a else 0
 
 -- how much of a quota may still be granted in a window
 abbrev pub left_in : ℕ → Quota → Account → ℕ
-left_in window quota a = most_of quota - asked_in window quota a
+left_in window quota a = most_of quota - counted_in window quota a
 
 -- so much of a quota was granted in a window
 abbrev pub counted : ℕ → Quota → ℕ → Account → Account
 counted window Numbers granted a =
-    record { address = a.address; credit = a.credit; window = window; numbers = asked_in window Numbers a + granted; items = asked_in window Items a }
+    record { address = a.address; credit = a.credit; window = window; numbers = counted_in window Numbers a + granted; items = counted_in window Items a }
 counted window Items granted a =
-    record { address = a.address; credit = a.credit; window = window; numbers = asked_in window Numbers a; items = asked_in window Items a + granted }
+    record { address = a.address; credit = a.credit; window = window; numbers = counted_in window Numbers a; items = counted_in window Items a + granted }

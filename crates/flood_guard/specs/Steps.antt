@@ -9,10 +9,10 @@ use Rattle.flood_guard.specs.declared.quota.Quota.TheVariants.{Numbers, Items}
 use Rattle.flood_guard.specs.Accounts.{account_at, account_of, used, earned, paid, counted, left_in, window_of}
 
 -- a datagram of so many octets came from an address; so many octets are to go up to it; it asks for so much of a quota
-pub data Step : Type 0 where
-  earn : (from : Address) → (octets : ℕ) → Step
-  spend : (to : Address) → (octets : ℕ) → Step
-  ask : (from : Address) → (moment : ℕ) → (quota : Quota) → (count : ℕ) → Step
+pub data GuardStep : Type 0 where
+  earn : (from : Address) → (octets : ℕ) → GuardStep
+  spend : (to : Address) → (octets : ℕ) → GuardStep
+  ask : (from : Address) → (moment : ℕ) → (quota : Quota) → (count : ℕ) → GuardStep
 
 -- whether an account pays for so many octets
 abbrev pub pays : ℕ → Option Account → Bool
@@ -28,63 +28,63 @@ abbrev pub may_ask : Address → ℕ → Quota → ℕ → List Account → ℕ
 may_ask from moment quota count accounts = min count (left_in (window_of moment) quota (account_of from accounts))
 
 -- the accounts after a step
-abbrev pub after : Step → List Account → List Account
-after (earn from octets) accounts = used (earned octets (account_of from accounts)) accounts
-after (spend to octets) accounts = if may_spend to octets accounts then used (paid octets (account_of to accounts)) accounts else accounts
-after (ask from moment quota count) accounts = used (counted (window_of moment) quota (may_ask from moment quota count accounts) (account_of from accounts)) accounts
+abbrev pub accounts_after : GuardStep → List Account → List Account
+accounts_after (earn from octets) accounts = used (earned octets (account_of from accounts)) accounts
+accounts_after (spend to octets) accounts = if may_spend to octets accounts then used (paid octets (account_of to accounts)) accounts else accounts
+accounts_after (ask from moment quota count) accounts = used (counted (window_of moment) quota (may_ask from moment quota count accounts) (account_of from accounts)) accounts
 
 -- the octets that came from an address in a step
-abbrev pub octets_from : Address → Step → ℕ
+abbrev pub octets_from : Address → GuardStep → ℕ
 octets_from address (earn from octets) = if same_address from address then octets else 0
 octets_from address (spend to octets) = 0
 octets_from address (ask from moment quota count) = 0
 
 -- the octets that a step grants to an address
-abbrev pub octets_to : Address → Step → List Account → ℕ
+abbrev pub octets_to : Address → GuardStep → List Account → ℕ
 octets_to address (earn from octets) accounts = 0
 octets_to address (spend to octets) accounts = if same_address to address && may_spend to octets accounts then octets else 0
 octets_to address (ask from moment quota count) accounts = 0
 
 -- as much of a quota as this is, if it is so much of another
-abbrev pub part_of : Quota → Quota → ℕ → ℕ
-part_of Numbers Numbers count = count
-part_of Numbers Items count = 0
-part_of Items Numbers count = 0
-part_of Items Items count = count
+abbrev pub counted_as : Quota → Quota → ℕ → ℕ
+counted_as Numbers Numbers count = count
+counted_as Numbers Items count = 0
+counted_as Items Numbers count = 0
+counted_as Items Items count = count
 
 -- how much of a quota a step grants to an address in a window
-abbrev pub asked_by : Address → Quota → ℕ → Step → List Account → ℕ
-asked_by address quota window (earn from octets) accounts = 0
-asked_by address quota window (spend to octets) accounts = 0
-asked_by address quota window (ask from moment asked count) accounts =
-    if same_address from address && nat_eq (window_of moment) window then part_of quota asked (may_ask from moment asked count accounts) else 0
+abbrev pub granted_at : Address → Quota → ℕ → GuardStep → List Account → ℕ
+granted_at address quota window (earn from octets) accounts = 0
+granted_at address quota window (spend to octets) accounts = 0
+granted_at address quota window (ask from moment asked count) accounts =
+    if same_address from address && nat_eq (window_of moment) window then counted_as quota asked (may_ask from moment asked count accounts) else 0
 
 -- 1 where a step enters an address anew, else 0
-abbrev pub enters : Address → Step → List Account → ℕ
-enters address step accounts = if is_some (account_at address (after step accounts)) && not (is_some (account_at address accounts)) then 1 else 0
+abbrev pub enters : Address → GuardStep → List Account → ℕ
+enters address step accounts = if is_some (account_at address (accounts_after step accounts)) && not (is_some (account_at address accounts)) then 1 else 0
 
 -- the octets that came from an address
-abbrev pub all_from : Address → List Step → ℕ
+abbrev pub all_from : Address → List GuardStep → ℕ
 all_from address [] = 0
 all_from address (s ∷ ss) = octets_from address s + all_from address ss
 
 -- the octets that were granted to an address
-abbrev pub all_to : Address → List Step → List Account → ℕ
+abbrev pub all_to : Address → List GuardStep → List Account → ℕ
 all_to address [] accounts = 0
-all_to address (s ∷ ss) accounts = octets_to address s accounts + all_to address ss (after s accounts)
+all_to address (s ∷ ss) accounts = octets_to address s accounts + all_to address ss (accounts_after s accounts)
 
 -- how much of a quota was granted to an address in a window
-abbrev pub all_asked : Address → Quota → ℕ → List Step → List Account → ℕ
+abbrev pub all_asked : Address → Quota → ℕ → List GuardStep → List Account → ℕ
 all_asked address quota window [] accounts = 0
-all_asked address quota window (s ∷ ss) accounts = asked_by address quota window s accounts + all_asked address quota window ss (after s accounts)
+all_asked address quota window (s ∷ ss) accounts = granted_at address quota window s accounts + all_asked address quota window ss (accounts_after s accounts)
 
 -- how many times an address was entered anew
-abbrev pub entries : Address → List Step → List Account → ℕ
+abbrev pub entries : Address → List GuardStep → List Account → ℕ
 entries address [] accounts = 0
-entries address (s ∷ ss) accounts = enters address s accounts + entries address ss (after s accounts)
+entries address (s ∷ ss) accounts = enters address s accounts + entries address ss (accounts_after s accounts)
 
 -- No moment is before this one, or before one that came earlier.
-abbrev pub AreInOrder : ℕ → List Step → Type 0
+abbrev pub AreInOrder : ℕ → List GuardStep → Type 0
 AreInOrder moment [] = Unit {0}
 AreInOrder moment (earn from octets ∷ ss) = AreInOrder moment ss
 AreInOrder moment (spend to octets ∷ ss) = AreInOrder moment ss

@@ -1,7 +1,7 @@
 //! The account of an address.
 
 ghost use Rattle.std.specs.Prelude.{◌≡◌, ◌≤◌};
-ghost use Rattle.flood_guard.specs.Accounts.{opened, earned, paid, counted, asked_in, left_in, window_of};
+ghost use Rattle.flood_guard.specs.Accounts.{opened, earned, paid, counted, counted_in, left_in, window_of};
 
 use crate::quota::Quota;
 use rtp_codec::Address;
@@ -71,8 +71,8 @@ impl Account {
     }
 
     /// How much of a quota was granted in a window.
-    fn asked_in(&self, window: u64, quota: Quota) -> u64
-        ensures { result ≡ asked_in window quota self.now }
+    fn counted_in(&self, window: u64, quota: Quota) -> u64
+        ensures { result ≡ counted_in window quota self.now }
     {
         if self.window != window {
             return 0;
@@ -87,7 +87,7 @@ impl Account {
     pub(crate) fn left_in(&self, window: u64, quota: Quota) -> u64
         ensures { result ≡ left_in window quota self.now }
     {
-        quota.most().saturating_sub(self.asked_in(window, quota))
+        quota.most().saturating_sub(self.counted_in(window, quota))
     }
 
     /// The account after so much of a quota was granted in a window.
@@ -95,8 +95,8 @@ impl Account {
         requires { granted ≤ left_in window quota self }
         ensures { result ≡ counted window quota granted self }
     {
-        let numbers = self.asked_in(window, Quota::Numbers);
-        let items = self.asked_in(window, Quota::Items);
+        let numbers = self.counted_in(window, Quota::Numbers);
+        let items = self.counted_in(window, Quota::Items);
         match quota {
             Quota::Numbers => Self {
                 window,

@@ -3,7 +3,7 @@
 ghost use Rattle.std.specs.Prelude.{◌≡◌, ◌∷◌, ◌++◌, ◌+◌, ◌-◌, ◌≤◌, ◌<◌, [], IfOk, IfSome, take, drop};
 ghost use Rattle.std.specs.Vec.{vec_len, vec_capacity};
 ghost use Rattle.flood_guard.specs.Accounts.{account_at, account_of, most_addresses, used};
-ghost use Rattle.flood_guard.specs.Steps.{after, earn, spend, ask, may_spend, may_ask};
+ghost use Rattle.flood_guard.specs.Steps.{accounts_after, earn, spend, ask, may_spend, may_ask};
 ghost use Rattle.flood_guard.specs.inner.Places.{place_of};
 
 use crate::account::{Account, window_of};
@@ -134,7 +134,7 @@ impl<A: Allocator + Copy> FloodGuard<A> {
     /// 65,536.
     /// A new address begins with 256.
     pub fn earn(&mut self, from: &Address, octets: u64)
-        ensures { self.new ≡ after (earn from.now octets) self.old }
+        ensures { self.new ≡ accounts_after (earn from.now octets) self.old }
     {
         let place = place_of(from, &self.accounts);
         let account = found(&self.accounts, place, from).earned(octets);
@@ -146,7 +146,7 @@ impl<A: Allocator + Copy> FloodGuard<A> {
     /// Nothing may go to an address that nothing came from, and a refusal changes nothing.
     pub fn spend(&mut self, to: &Address, octets: u64) -> bool
         ensures answer { result ≡ may_spend to.now octets self.old }
-        ensures after { self.new ≡ after (spend to.now octets) self.old }
+        ensures after { self.new ≡ accounts_after (spend to.now octets) self.old }
     {
         let place = place_of(to, &self.accounts);
         let Some(account) = known(&self.accounts, place, to) else {
@@ -165,7 +165,7 @@ impl<A: Allocator + Copy> FloodGuard<A> {
     /// The moment is in nanoseconds since 1970. A new address is entered.
     pub fn ask(&mut self, from: &Address, moment: u64, quota: Quota, count: u64) -> u64
         ensures answer { result ≡ may_ask from.now moment quota count self.old }
-        ensures after { self.new ≡ after (ask from.now moment quota count) self.old }
+        ensures after { self.new ≡ accounts_after (ask from.now moment quota count) self.old }
     {
         let place = place_of(from, &self.accounts);
         let account = found(&self.accounts, place, from);

@@ -14,7 +14,7 @@ use Rattle.frame_gate.specs.Answer.{Answer}
 use Rattle.frame_gate.specs.Runs.{divided, frames_in, row}
 use Rattle.frame_gate.specs.inner.Cells.{held, of_number, ArePlaced, MayForget, Forgets}
 use Rattle.frame_gate.specs.inner.Walks.{Stands}
-use Rattle.frame_gate.specs.Epochs.{Epoch, blank, packet_at, greatest, next_of, frames_of, placed, resynced, opened, place_of, taking, if_taken, after, epoch_of, top, missing_above}
+use Rattle.frame_gate.specs.Epochs.{Epoch, blank, packet_at, greatest, next_of, frames_of, placed, resynced, opened, place_of, taking, if_taken, epoch_after, epoch_of, top, missing_above}
 use Rattle.frame_gate.specs.inner.Ties.{Tied, begun_at}
 use Rattle.frame_gate.specs.inner.Kept.{Kept, PreparedOf}
 use Rattle.frame_gate.specs.Admits.{IsAt, Answers, Admits, Takes, CommitsAt, Commits}
@@ -103,7 +103,7 @@ pub something_new : (k new : Kept) (e : Epoch) (p : NumberedPacket) (r : Prepare
     → r.answer.nacks ≡ map ext_of (missing_above k.greatest r.walk.next p.number)
     → r.answer.pli ≡ nat_le (walk.next + 256) p.number
     → r.answer.place ≡ Taken → r.packet ≡ p → Commits k r new
-    → Answers e p r.answer × IsAt new (after e p)
+    → Answers e p r.answer × IsAt new (epoch_after e p)
 something_new k new e p r walk h begun above over long free tied nacks pli place packet commits =
     let n = p.number in
     let mid = resynced n (opened e p) n in
@@ -114,7 +114,7 @@ something_new k new e p r walk h begun above over long free tied nacks pli place
     ap (λ (ps : List NumberedPacket). is_some (packet_at ps n)) (sym (opened-taken e.taken e.cut e.earlier p)) ∙ ap is_some (sym (begun.agrees n above) ∙ free) in
     let next : walk.next ≡ next_of (opened e p) = begun.stands.next in
     let is : place_of e p ≡ Taken = place_by e p false (omega arith) none in
-    let goes : after e p ≡ more = ap (λ q. if_taken q more e) is in
+    let goes : epoch_after e p ≡ more = ap (λ q. if_taken q more e) is in
     let takes : Takes k r.packet r.walk new = subst (λ q. CommitsAt q k r new) place commits in
     let others : MayForget r.walk.next cells new.cells =
     subst (λ (q : NumberedPacket). MayForget r.walk.next (set k.cells (q.number % 256) (Some q)) new.cells) packet takes.others in
@@ -146,7 +146,7 @@ something_new k new e p r walk h begun above over long free tied nacks pli place
         nacks = nacks
             ∙ ap (λ o. map ext_of (missing_above o r.walk.next n)) h.greatest
             ∙ ap (λ m. map ext_of (missing_above (top e.taken) m n)) (tied.stands.next ∙ ap next_of (sym goes))
-            ∙ sym (ap (λ q. if_taken q (map ext_of (missing_above (top e.taken) (next_of (after e p)) n)) []) is);
+            ∙ sym (ap (λ q. if_taken q (map ext_of (missing_above (top e.taken) (next_of (epoch_after e p)) n)) []) is);
         pli = pli ∙ ap (λ m. nat_le (m + 256) n) next ∙ sym (ap (λ q. if_taken q (nat_le (next_of (opened e p) + 256) n) false) is);
       },
       subst (IsAt new) (sym goes) at,
@@ -159,11 +159,11 @@ something_new k new e p r walk h begun above over long free tied nacks pli place
       | inr far ↦ absurd (let x : Some q ≡ None = sym there ∙ tied.agrees q.number from ∙ tied.room q.number far in cc)
     ]
 
-pub epoch_of-push : (before : List NumberedPacket) (p : NumberedPacket) → epoch_of (before ++ p ∷ []) ≡ after (epoch_of before) p
-epoch_of-push before p = fold-append after blank before (p ∷ [])
+pub epoch_of-push : (before : List NumberedPacket) (p : NumberedPacket) → epoch_of (before ++ p ∷ []) ≡ epoch_after (epoch_of before) p
+epoch_of-push before p = fold-append epoch_after blank before (p ∷ [])
 
 -- what holds of the epoch holds of the packets
-pub admits : (k new : Kept) (p : NumberedPacket) (a : Answer) → ((e : Epoch) → IsAt k e → Answers e p a × IsAt new (after e p)) → Admits k new p a
+pub admits : (k new : Kept) (p : NumberedPacket) (a : Answer) → ((e : Epoch) → IsAt k e → Answers e p a × IsAt new (epoch_after e p)) → Admits k new p a
 admits k new p a f before h =
     let x = f (epoch_of before) h in
     (x.0, subst (IsAt new) (sym (epoch_of-push before p)) x.1)
@@ -208,13 +208,13 @@ other_commits Duplicate k r new other h = h
 -- the answer to a packet that changes nothing
 pub nothing_new : (k new : Kept) (e : Epoch) (p : NumberedPacket) (r : PreparedOf) (q : Place) → IsOther q → place_of e p ≡ q → IsAt k e
     → r.answer.place ≡ q → r.answer.frames ≡ [] → r.answer.nacks ≡ [] → r.answer.pli ≡ false → Commits k r new
-    → Answers e p r.answer × IsAt new (after e p)
+    → Answers e p r.answer × IsAt new (epoch_after e p)
 nothing_new k new e p r q other is h place frames nacks pli commits =
     let n = p.number in
     let on = taking (resynced n (opened e p) n) p in
-    let missing = map ext_of (missing_above (top e.taken) (next_of (after e p)) n) in
+    let missing = map ext_of (missing_above (top e.taken) (next_of (epoch_after e p)) n) in
     let far = nat_le (next_of (opened e p) + 256) n in
-    let stays : after e p ≡ e = ap (λ z. if_taken z on e) is ∙ not_taken q on e other in
+    let stays : epoch_after e p ≡ e = ap (λ z. if_taken z on e) is ∙ not_taken q on e other in
     let left : new ≡ k = other_commits q k r new other (subst (λ z. CommitsAt z k r new) place commits) in (
       record {
         place = place ∙ sym is;

@@ -6,7 +6,7 @@ use Rattle.frame_gate.specs.declared.walk.Walk.{Walk}
 use Rattle.frame_gate.specs.declared.packet.Place.{Place}
 use Rattle.frame_gate.specs.declared.packet.Place.TheVariants.{Taken, Late, Duplicate}
 use Rattle.frame_gate.specs.inner.Cells.{held, cell, ArePlaced, MayForget, Forgets}
-use Rattle.frame_gate.specs.Epochs.{Epoch, gate_room, epoch_of, after, frames_of, place_of, nacks_of, gives_up, top}
+use Rattle.frame_gate.specs.Epochs.{Epoch, gate_room, epoch_of, epoch_after, frames_of, place_of, nacks_of, gives_up, top}
 use Rattle.frame_gate.specs.inner.Ties.{Tied}
 use Rattle.frame_gate.specs.inner.Kept.{Kept, PreparedOf}
 
@@ -25,7 +25,7 @@ Represents k packets = IsAt k (epoch_of packets)
 -- This is the answer to one more packet of the epoch.
 pub record Answers (e : Epoch) (p : NumberedPacket) (a : Answer) : Type 0 where
   pub place : a.place ≡ place_of e p
-  pub frames : frames_of (after e p) ≡ frames_of e ++ a.frames
+  pub frames : frames_of (epoch_after e p) ≡ frames_of e ++ a.frames
   pub nacks : a.nacks ≡ nacks_of e p
   pub pli : a.pli ≡ gives_up e p
 

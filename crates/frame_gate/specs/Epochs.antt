@@ -82,12 +82,12 @@ if_taken Late x y = y
 if_taken Duplicate x y = y
 
 -- The epoch after one more packet. Each cut raises next, so as many cuts as the packet's number are enough.
-abbrev pub after : Epoch → NumberedPacket → Epoch
-after e p = if_taken (place_of e p) (taking (resynced p.number (opened e p) p.number) p) e
+abbrev pub epoch_after : Epoch → NumberedPacket → Epoch
+epoch_after e p = if_taken (place_of e p) (taking (resynced p.number (opened e p) p.number) p) e
 
 -- the epoch after these packets
 abbrev pub epoch_of : List NumberedPacket → Epoch
-epoch_of packets = fold after blank packets
+epoch_of packets = fold epoch_after blank packets
 
 -- The packet is taken, and a cut after the first is placed.
 abbrev pub gives_up : Epoch → NumberedPacket → Bool
@@ -105,7 +105,7 @@ missing_above (Some g) next n = filter (λ k. nat_le next k) (range_with_len (g 
 
 -- the numbers above the greatest taken before and below this one, not below next afterwards
 abbrev pub nacks_of : Epoch → NumberedPacket → List ℤ
-nacks_of e p = if_taken (place_of e p) (map ext_of (missing_above (top e.taken) (next_of (after e p)) p.number)) []
+nacks_of e p = if_taken (place_of e p) (map ext_of (missing_above (top e.taken) (next_of (epoch_after e p)) p.number)) []
 
 -- the most numbers that one packet newly leaves missing: it lies in the gate's room afterwards
 abbrev pub most_missing : ℕ

@@ -6,7 +6,7 @@ use Rattle.std.proofs.lemmas.Bool.{eqb-true, eq-eqb}
 use Rattle.std.proofs.lemmas.List.Sums.{fold-append}
 use Rattle.std.proofs.lemmas.Slice.Eq.{bytes_eq-Decides}
 use Rattle.rtp_codec.specs.declared.address.Address.{Address}
-use Rattle.source_valid.specs.Histories.{Step, Standing, Unheard, Waiting, Valid, Block, after, after_block, standing_of}
+use Rattle.source_valid.specs.Histories.{Step, Standing, Unheard, Waiting, Valid, Block, standing_after, after_block, standing_of}
 use Rattle.source_valid.specs.Reports.{fraction_of, fraction_in}
 use Rattle.source_valid.specs.Stretches.{Stretch, expected_of, received_of, told_in}
 use Rattle.desk_rows.specs.declared.row.Member.{Member}
@@ -151,7 +151,7 @@ no_loss s =
     ap (λ n. fraction_of n (received_of s.accepted - received_of s.accepted)) none
 
 with_block : (steps : List Step) (st : Standing) → standing_of steps ≡ st → standing_of (steps ++ Block ∷ []) ≡ after_block st
-with_block steps st is = fold-append after Unheard steps (Block ∷ []) ∙ ap after_block is
+with_block steps st is = fold-append standing_after Unheard steps (Block ∷ []) ∙ ap after_block is
 
 pub nothing_lost : (ssrc moment : ℕ) (story : Story) (st : Standing) → standing_of story.given ≡ st → IfSome (block_on ssrc moment (renewed story)) (λ b. b.fraction ≡ 0)
 nothing_lost ssrc moment story Unheard is = rw is (rw is tt)

@@ -25,6 +25,6 @@ TakesIn old new ingested octets datagram =
     (r : Reading) → IsReading octets r → Moves old new ingested (λ voice s. taken_in voice s (datagram r))
 
 -- Whatever sources the old intake knew, this is what is told of them to their senders, and the new one knows them with their new intervals.
-abbrev pub Tells : IntakeOf → IntakeOf → List (Address × List ℕ) → Desk → ℕ → Type 0
-Tells old new told desk moment =
+abbrev pub TellsSenders : IntakeOf → IntakeOf → List (Address × List ℕ) → Desk → ℕ → Type 0
+TellsSenders old new told desk moment =
     (s : Sources) → Knows old s → (told ≡ (reported old.asker desk moment s).0) × Knows new (reported old.asker desk moment s).1

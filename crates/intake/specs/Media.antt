@@ -11,7 +11,7 @@ use Rattle.frame_gate.specs.Packets.{GatePacket, NumberedPacket, numbered}
 use Rattle.frame_gate.specs.Frame.{WholeFrame}
 use Rattle.sample_codecs.specs.MuLaw.{decoded}
 use Rattle.sample_codecs.specs.L16.{samples_of}
-use Rattle.frame_gate.specs.Epochs.{Epoch, epoch_of, after, frames_of, place_of, nacks_of, gives_up}
+use Rattle.frame_gate.specs.Epochs.{Epoch, epoch_of, epoch_after, frames_of, place_of, nacks_of, gives_up}
 use Rattle.intake.specs.declared.outcome.Outcome.{Outcome}
 use Rattle.intake.specs.declared.outcome.Outcome.TheVariants as outcomes
 use Rattle.media_items.specs.Inputs.{Input}
@@ -73,7 +73,7 @@ gate_packet p = record { marker = p.header.marker; pt = p.header.pt; ts = p.head
 
 -- the frames that a packet newly closes
 abbrev pub newly : Epoch → NumberedPacket → List WholeFrame
-newly e p = drop (length (frames_of e)) (frames_of (after e p))
+newly e p = drop (length (frames_of e)) (frames_of (epoch_after e p))
 
 -- an accepted packet, where the gate told its place
 abbrev pub placed : ℤ → Place → Outcome

@@ -9,7 +9,7 @@ ghost use Rattle.desk_rows.specs.Desk.{good};
 ghost use Rattle.intake.specs.Names.{is_name};
 ghost use Rattle.intake.specs.Sources.{no_sources};
 ghost use Rattle.intake.specs.Ingested.{ingested_of, datagram_of};
-ghost use Rattle.intake.specs.Intakes.{Knows, TakesIn, Tells};
+ghost use Rattle.intake.specs.Intakes.{Knows, TakesIn, TellsSenders};
 
 use crate::ingest::Ingest;
 use crate::known::Known;
@@ -113,7 +113,7 @@ impl<A: Allocator + Copy> Intake<A> {
         rows: &Rows<A>,
         moment: u64,
     ) -> Result<Vec<(Address, Vec<u8, A>), A>, AllocError>
-        ensures tells { IfOk result (λ up. Tells self.old self.new (map datagram_of up.items) rows.now moment) }
+        ensures tells { IfOk result (λ up. TellsSenders self.old self.new (map datagram_of up.items) rows.now moment) }
         ensures err { OnErr result (self.new ≡ self.old) }
         ensures asker { self.new.asker ≡ self.old.asker }
         ensures good { good rows.now ≡ true }

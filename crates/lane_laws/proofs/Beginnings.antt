@@ -32,7 +32,7 @@ use Rattle.media_workers.specs.Bridges.{EndOf, EndsAs, AllEnded, AreNew}
 use Rattle.lane_laws.specs.Merges.{Versioned, InOrder, UpTo}
 use Rattle.lane_laws.specs.Visits.{desk_at, visits_by}
 use Rattle.lane_laws.specs.NamedVersions.{IsGiven, AreGiven}
-use Rattle.lane_laws.specs.Learnt.{Told, HasLearnt, AllLearnt, AllBegin, lanes_of, versioned, handled}
+use Rattle.lane_laws.specs.Learnt.{HasNotice, HasLearnt, AllLearnt, AllBegin, lanes_of, versioned, handled}
 use Rattle.lane_laws.proofs.Merging.{lower}
 
 -- ---- beginnings
@@ -85,7 +85,7 @@ learnt_begin lists answers port end ended has =
     let known = port.lane.reader.lists in
     ⊎_elim
     (λ (before : IsPrefix lists known). known_begin lists known ran.done ran.served before ran.in_order has.none_later)
-    (λ (told : Told lists ran.done). (told_begin lists known ran.done ran.served told.2.0 told.0 told.1 told.2.1 told.2.2 told.3 ran.in_order has.none_later).1)
+    (λ (told : HasNotice lists ran.done). (told_begin lists known ran.done ran.served told.2.0 told.0 told.1 told.2.1 told.2.2 told.3 ran.in_order has.none_later).1)
     has.learnt
 
 -- what was handled is a beginning of the parcels with items
@@ -100,7 +100,7 @@ handled_first known (End ∷ ps) last (s ∷ ss) served = absurd served.0
 
 -- a lane that handled all that it was given learnt what it was told
 pub all_told : {N P : Type 0} (answers : P → ℕ → Bool → Type 0) (port : PortOf P) (end : EndOf N) (ended : EndsAs answers port end) (lists : List (List EditOf))
-    → Told lists port.accepted → end.handled ≡ length port.accepted → Told lists ended.ran.done
+    → HasNotice lists port.accepted → end.handled ≡ length port.accepted → HasNotice lists ended.ran.done
 all_told answers port end ended lists told all =
     let ran = ended.ran in
     let first = handled_first port.lane.reader.lists ran.done ran.last ran.served ran.in_order in
@@ -109,7 +109,7 @@ all_told answers port end ended lists told all =
     (subst (λ (xs : List Parcel). IsPrefix xs port.accepted) (ap works ran.received ∙ first.0) ended.some) in
     let count : end.handled ≡ length ran.served = ran.count in
     let whole : ran.done ≡ port.accepted = prefix_whole ran.done port.accepted begins (omega (arith, all, count, first.1)) in
-    subst (Told lists) (sym whole) told
+    subst (HasNotice lists) (sym whole) told
 
 -- ---- versions
 

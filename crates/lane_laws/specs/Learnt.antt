@@ -19,15 +19,15 @@ use Rattle.media_workers.specs.Bridges.{EndOf, EndsAs, AreNew, AllEnded}
 use Rattle.lane_laws.specs.Merges.{Versioned, merge}
 
 -- one of these parcels has a notice of these lists
-abbrev pub Told : List (List EditOf) → List Parcel → Type 0
-Told lists parcels =
+abbrev pub HasNotice : List (List EditOf) → List Parcel → Type 0
+HasNotice lists parcels =
     (item : Item Global) × (notice : NoticeOf) × Contains parcels (Work item (Some notice)) × (notice.lists ≡ lists)
 
 -- The lane knew these lists when it began, or was told of them with one of the items that it handled; and it handled no
 -- item by a later version.
 pub record HasLearnt {N P : Type 0} (lists : List (List EditOf)) (answers : P → ℕ → Bool → Type 0) (port : PortOf P)
     (end : EndOf N) (ended : EndsAs answers port end) : Type 0 where
-  pub learnt : IsPrefix lists port.lane.reader.lists ⊎ Told lists ended.ran.done
+  pub learnt : IsPrefix lists port.lane.reader.lists ⊎ HasNotice lists ended.ran.done
   pub none_later : AllByRecursion (λ (s : Served). length s.lists ≤ length lists) ended.ran.served
 
 -- The same of each lane.

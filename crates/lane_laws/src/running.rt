@@ -15,7 +15,7 @@ ghost use Rattle.operator_desk.specs.LegalLogs.{calls_of, after_log};
 ghost use Rattle.media_workers.specs.Ports.{PortOf};
 ghost use Rattle.media_workers.specs.Bridges.{EndOf, EndsAs};
 ghost use Rattle.lane_laws.specs.Undone.{HaveCommands, with_undos};
-ghost use Rattle.lane_laws.specs.Learnt.{Told, EndedAfter, merged};
+ghost use Rattle.lane_laws.specs.Learnt.{HasNotice, EndedAfter, merged};
 ghost use Rattle.lane_laws.specs.OneList.{AreShares, IsOneList, SendByVersions, GaveByVersions};
 
 use crate::laws::{
@@ -28,7 +28,7 @@ use media_workers::{Pace, PublisherName};
 /// A lane that handled as many items as were accepted for it learnt each notice that came with them.
 pub fn lanes_learn_what_they_handled<N: PublisherName, P: Pace>()
     ensures { (port : PortOf P) (end : EndOf N) (ended : EndsAs P.answers port end) (lists : List (List EditOf)) →
-        Told lists port.accepted → end.handled ≡ length port.accepted → Told lists ended.ran.done }
+        HasNotice lists port.accepted → end.handled ≡ length port.accepted → HasNotice lists ended.ran.done }
 {}
 
 /// Where every lane learnt of the same publishes and handled no item by a later version, one list of the calls that

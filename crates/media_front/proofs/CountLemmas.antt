@@ -10,7 +10,7 @@ use Rattle.flood_guard.specs.declared.account.Account.{Account}
 use Rattle.flood_guard.specs.declared.quota.Quota.{Quota}
 use Rattle.flood_guard.specs.declared.quota.Quota.TheVariants.{Numbers, Items}
 use Rattle.flood_guard.specs.Accounts.{account_of, left_in, window_of}
-use Rattle.flood_guard.specs.Steps.{Step, earn, spend, ask, after, may_ask, part_of, asked_by, all_asked, AreInOrder}
+use Rattle.flood_guard.specs.Steps.{GuardStep, earn, spend, ask, accounts_after, may_ask, counted_as, granted_at, all_asked, AreInOrder}
 use Rattle.media_front.specs.Paid.{is_from_member}
 use Rattle.media_front.specs.Granted.{asked_count, granted_count, after_ask, with_first, as_granted, granted_of}
 use Rattle.media_front.specs.Fronts.{Arrival, once_paid, once_asked}
@@ -18,17 +18,17 @@ use Rattle.media_front.specs.Upward.{ask_step, steps_by, steps_over}
 use Rattle.media_front.specs.Counts.{count_from, count_for, count_given, CameInOrder}
 use Rattle.media_front.proofs.UpLemmas.{after_all, spends, asks, earns, first_steps, last_steps, after_ask_step, paid_then, one_after}
 
-asked_both : (address : Address) (q : Quota) (w : ℕ) (ss ts : List Step) (g : List Account)
+asked_both : (address : Address) (q : Quota) (w : ℕ) (ss ts : List GuardStep) (g : List Account)
     → all_asked address q w (ss ++ ts) g ≡ all_asked address q w ss g + all_asked address q w ts (after_all ss g)
 asked_both address q w [] ts g = sym (zero-add (all_asked address q w ts g))
 asked_both address q w (s ∷ ss) ts g =
-    ap (λ (n : ℕ). asked_by address q w s g + n) (asked_both address q w ss ts (after s g))
-    ∙ sym (add_assoc (asked_by address q w s g) (all_asked address q w ss (after s g)) (all_asked address q w ts (after_all ss (after s g))))
+    ap (λ (n : ℕ). granted_at address q w s g + n) (asked_both address q w ss ts (accounts_after s g))
+    ∙ sym (add_assoc (granted_at address q w s g) (all_asked address q w ss (accounts_after s g)) (all_asked address q w ts (after_all ss (accounts_after s g))))
 
 asked_spends : (address : Address) (q : Quota) (w : ℕ) (ds : List (Address × List ℕ)) (g : List Account) → all_asked address q w (spends ds) g ≡ 0
 asked_spends address q w [] g = refl
 asked_spends address q w (d ∷ ds) g =
-    zero-add (all_asked address q w (spends ds) (after (spend d.0 (length d.1)) g)) ∙ asked_spends address q w ds (after (spend d.0 (length d.1)) g)
+    zero-add (all_asked address q w (spends ds) (accounts_after (spend d.0 (length d.1)) g)) ∙ asked_spends address q w ds (accounts_after (spend d.0 (length d.1)) g)
 
 asked_earns : (address : Address) (q : Quota) (w : ℕ) (member : Bool) (from : Address) (n : ℕ) (g : List Account) → all_asked address q w (earns member from n) g ≡ 0
 asked_earns address q w true from n g = refl
@@ -37,7 +37,7 @@ asked_earns address q w false from n g = refl
 -- how much of what is asked for is granted, if it is of this quota of this address
 abbrev pub granted_by : Address → Quota → ℕ → Option (Address × Quota × ℕ) → List Account → ℕ
 granted_by address q moment None g = 0
-granted_by address q moment (Some asked) g = if same_address asked.0 address then part_of q asked.1 (may_ask asked.0 moment asked.1 asked.2 g) else 0
+granted_by address q moment (Some asked) g = if same_address asked.0 address then counted_as q asked.1 (may_ask asked.0 moment asked.1 asked.2 g) else 0
 
 in_window : (s b : Bool) (n : ℕ) → (if s && b then n else 0) + 0 ≡ (if b then (if s then n else 0) else 0)
 in_window true true n = add-zero n
@@ -53,44 +53,44 @@ step_asked : (address : Address) (q : Quota) (w moment : ℕ) (asked : Option (A
     → all_asked address q w (ask_step moment asked) g ≡ (if nat_eq (window_of moment) w then granted_by address q moment asked g else 0)
 step_asked address q w moment None g = none_in (nat_eq (window_of moment) w)
 step_asked address q w moment (Some asked) g =
-    in_window (same_address asked.0 address) (nat_eq (window_of moment) w) (part_of q asked.1 (may_ask asked.0 moment asked.1 asked.2 g))
+    in_window (same_address asked.0 address) (nat_eq (window_of moment) w) (counted_as q asked.1 (may_ask asked.0 moment asked.1 asked.2 g))
 
-part_none : (q k : Quota) → part_of q k 0 ≡ 0
+part_none : (q k : Quota) → counted_as q k 0 ≡ 0
 part_none Numbers Numbers = refl
 part_none Numbers Items = refl
 part_none Items Numbers = refl
 part_none Items Items = refl
 
 -- where none is granted
-none_part : (s : Bool) (q k : Quota) (n : ℕ) → nat_eq n 0 ≡ true → 0 ≡ (if s then part_of q k n else 0)
+none_part : (s : Bool) (q k : Quota) (n : ℕ) → nat_eq n 0 ≡ true → 0 ≡ (if s then counted_as q k n else 0)
 none_part s q k n is =
     none_in s
-    ∙ sym (ap (λ (m : ℕ). if s then m else 0) (ap (part_of q k) (eqb-true n 0 is) ∙ part_none q k))
+    ∙ sym (ap (λ (m : ℕ). if s then m else 0) (ap (counted_as q k) (eqb-true n 0 is) ∙ part_none q k))
 
 nack_count : (address : Address) (q : Quota) (r : Request) (n : ℕ) (b : Bool) → nat_eq n 0 ≡ b → n ≤ length r.numbers
-    → count_for address q (if b then [] else with_first n (Input.nack r) ∷ []) ≡ (if same_address r.from address then part_of q Numbers n else 0)
+    → count_for address q (if b then [] else with_first n (Input.nack r) ∷ []) ≡ (if same_address r.from address then counted_as q Numbers n else 0)
 nack_count address q r n true is less = none_part (same_address r.from address) q Numbers n is
 nack_count address q r n false is less =
-    add-zero (if same_address r.from address then part_of q Numbers (length (take n r.numbers)) else 0)
-    ∙ ap (λ (m : ℕ). if same_address r.from address then part_of q Numbers m else 0) (length-take-le n r.numbers less)
+    add-zero (if same_address r.from address then counted_as q Numbers (length (take n r.numbers)) else 0)
+    ∙ ap (λ (m : ℕ). if same_address r.from address then counted_as q Numbers m else 0) (length-take-le n r.numbers less)
 
 just_one : (n : ℕ) → nat_eq n 0 ≡ false → n ≤ 1 → 1 ≡ n
 just_one zero is less = cc
 just_one (suc n) is less = omega (arith, less)
 
 block_count : (address : Address) (q : Quota) (t : Told) (n : ℕ) (b : Bool) → nat_eq n 0 ≡ b → n ≤ 1
-    → count_for address q (if b then [] else with_first n (Input.block t) ∷ []) ≡ (if same_address t.from address then part_of q Items n else 0)
+    → count_for address q (if b then [] else with_first n (Input.block t) ∷ []) ≡ (if same_address t.from address then counted_as q Items n else 0)
 block_count address q t n true is less = none_part (same_address t.from address) q Items n is
 block_count address q t n false is less =
-    add-zero (if same_address t.from address then part_of q Items 1 else 0)
-    ∙ ap (λ (m : ℕ). if same_address t.from address then part_of q Items m else 0) (just_one n is less)
+    add-zero (if same_address t.from address then counted_as q Items 1 else 0)
+    ∙ ap (λ (m : ℕ). if same_address t.from address then counted_as q Items m else 0) (just_one n is less)
 
 pli_count : (address : Address) (q : Quota) (l : Loss) (n : ℕ) (b : Bool) → nat_eq n 0 ≡ b → n ≤ 1
-    → count_for address q (if b then [] else with_first n (Input.pli l) ∷ []) ≡ (if same_address l.from address then part_of q Items n else 0)
+    → count_for address q (if b then [] else with_first n (Input.pli l) ∷ []) ≡ (if same_address l.from address then counted_as q Items n else 0)
 pli_count address q l n true is less = none_part (same_address l.from address) q Items n is
 pli_count address q l n false is less =
-    add-zero (if same_address l.from address then part_of q Items 1 else 0)
-    ∙ ap (λ (m : ℕ). if same_address l.from address then part_of q Items m else 0) (just_one n is less)
+    add-zero (if same_address l.from address then counted_as q Items 1 else 0)
+    ∙ ap (λ (m : ℕ). if same_address l.from address then counted_as q Items m else 0) (just_one n is less)
 
 least : (n m : ℕ) → min n m ≤ n
 least n m = omega arith
@@ -162,36 +162,36 @@ run_asked address q w (t ∷ rest) g =
 
 -- ---- the order of moments
 
-earlier : (m k : ℕ) (ss : List Step) → m ≤ k → AreInOrder k ss → AreInOrder m ss
+earlier : (m k : ℕ) (ss : List GuardStep) → m ≤ k → AreInOrder k ss → AreInOrder m ss
 earlier m k [] less all = tt
 earlier m k (earn from octets ∷ ss) less all = earlier m k ss less all
 earlier m k (spend to octets ∷ ss) less all = earlier m k ss less all
 earlier m k (ask from next quota count ∷ ss) less all = let first : k ≤ next = all.0 in (omega (arith, first, less), all.1)
 
-order_ask_step : (m k : ℕ) (asked : Option (Address × Quota × ℕ)) (rest : List Step) → m ≤ k → AreInOrder k rest → AreInOrder m (ask_step k asked ++ rest)
+order_ask_step : (m k : ℕ) (asked : Option (Address × Quota × ℕ)) (rest : List GuardStep) → m ≤ k → AreInOrder k rest → AreInOrder m (ask_step k asked ++ rest)
 order_ask_step m k None rest less all = earlier m k rest less all
 order_ask_step m k (Some asked) rest less all = (less, all)
 
 same_moment : (k : ℕ) → k ≤ k
 same_moment k = omega arith
 
-order_asks : (m k : ℕ) (is : List Input) (rest : List Step) → m ≤ k → AreInOrder k rest → AreInOrder m (asks k is ++ rest)
+order_asks : (m k : ℕ) (is : List Input) (rest : List GuardStep) → m ≤ k → AreInOrder k rest → AreInOrder m (asks k is ++ rest)
 order_asks m k [] rest less all = earlier m k rest less all
 order_asks m k (i ∷ is) rest less all =
-    subst (λ (ss : List Step). AreInOrder m ss) (sym (append_assoc (ask_step k (asked_count i)) (asks k is) rest))
+    subst (λ (ss : List GuardStep). AreInOrder m ss) (sym (append_assoc (ask_step k (asked_count i)) (asks k is) rest))
     (order_ask_step m k (asked_count i) (asks k is ++ rest) less (order_asks k k is rest (same_moment k) all))
 
-order_spends : (m : ℕ) (ds : List (Address × List ℕ)) (rest : List Step) → AreInOrder m rest → AreInOrder m (spends ds ++ rest)
+order_spends : (m : ℕ) (ds : List (Address × List ℕ)) (rest : List GuardStep) → AreInOrder m rest → AreInOrder m (spends ds ++ rest)
 order_spends m [] rest all = all
 order_spends m (d ∷ ds) rest all = order_spends m ds rest all
 
-order_earns : (m : ℕ) (member : Bool) (from : Address) (n : ℕ) (rest : List Step) → AreInOrder m rest → AreInOrder m (earns member from n ++ rest)
+order_earns : (m : ℕ) (member : Bool) (from : Address) (n : ℕ) (rest : List GuardStep) → AreInOrder m rest → AreInOrder m (earns member from n ++ rest)
 order_earns m true from n rest all = all
 order_earns m false from n rest all = all
 
-order_by : (m : ℕ) (a : Arrival) (i : Ingested) (rest : List Step) → m ≤ a.moment → AreInOrder a.moment rest → AreInOrder m (steps_by a i ++ rest)
+order_by : (m : ℕ) (a : Arrival) (i : Ingested) (rest : List GuardStep) → m ≤ a.moment → AreInOrder a.moment rest → AreInOrder m (steps_by a i ++ rest)
 order_by m a i rest less all =
-    subst (λ (ss : List Step). AreInOrder m ss)
+    subst (λ (ss : List GuardStep). AreInOrder m ss)
     (sym (append_assoc (first_steps a i ++ spends i.up) (last_steps a i) rest ∙ append_assoc (first_steps a i) (spends i.up) (last_steps a i ++ rest)))
     (order_earns m (is_from_member i.outcome) a.from (length a.octets) (spends i.up ++ (last_steps a i ++ rest))
     (order_spends m i.up (last_steps a i ++ rest) (order_asks m a.moment i.items rest less all)))

@@ -12,7 +12,7 @@ use Rattle.media_workers.specs.declared.parcel.Parcel.{Parcel}
 use Rattle.media_workers.specs.declared.parcel.Parcel.TheVariants.{Work}
 use Rattle.media_workers.specs.Ports.{PortOf, accept, give}
 use Rattle.media_front.specs.declared.tally.Tally.{Tally}
-use Rattle.media_front.specs.FedLanes.{FedLane, accepting, dropping, IsGiven, IsPopped}
+use Rattle.media_front.specs.FedLanes.{FedLane, accepting, dropping, IsFed, IsPopped}
 use Rattle.media_front.specs.inner.Tallies.{counted, owing, is_rung, lane_by, lanes_by, AreOf}
 use Rattle.media_front.proofs.PlaceLemmas.{beside_at, beside_set, beside_get, set_same_at, read_at, All_read, found}
 
@@ -31,7 +31,7 @@ pub given_one : {P : Type 0} (old new : List (PortOf P)) (ts : List Tally) (lane
     → OnOk push ((port : PortOf P) → slice_get old lane ≡ Some port → (port.closed ≡ false) × (new ≡ slice_set old lane (accept (Work item notice) port)))
     → IfErr push (λ (back : Parcel). (back ≡ Work item notice) × (new ≡ old))
     → (x : FedLane P) → slice_get (lanes_by old ts) lane ≡ Some x
-    → (y : FedLane P) × IsGiven (input_of item) x y × (lanes_by new (set ts lane (counted accepted u)) ≡ slice_set (lanes_by old ts) lane y)
+    → (y : FedLane P) × IsFed (input_of item) x y × (lanes_by new (set ts lane (counted accepted u)) ≡ slice_set (lanes_by old ts) lane y)
 given_one {P} old new ts lane item notice t u accepted (Ok k) low is here owed was ok err x at =
     let parts = beside_at lane_by old ts lane x at in
     let p = parts.0 in

@@ -7,28 +7,28 @@ use Rattle.media_items.specs.Inputs.{Input}
 use Rattle.intake.specs.Ingested.{Ingested}
 use Rattle.flood_guard.specs.declared.account.Account.{Account}
 use Rattle.flood_guard.specs.declared.quota.Quota.{Quota}
-use Rattle.flood_guard.specs.Steps.{Step, earn, spend, after, may_spend, octets_from, octets_to, all_from, all_to}
+use Rattle.flood_guard.specs.Steps.{GuardStep, earn, spend, accounts_after, may_spend, octets_from, octets_to, all_from, all_to}
 use Rattle.media_front.specs.Paid.{is_from_member, paid_one, after_one, paid_of, after_paying}
 use Rattle.media_front.specs.Granted.{asked_count, after_ask, after_asking}
 use Rattle.media_front.specs.Fronts.{Arrival, once_earned, once_paid, once_asked}
 use Rattle.media_front.specs.Upward.{octets_in, octets_for, octets_up, ask_step, steps_by, steps_over}
 
 -- the accounts after steps
-abbrev pub after_all : List Step → List Account → List Account
+abbrev pub after_all : List GuardStep → List Account → List Account
 after_all [] g = g
-after_all (s ∷ ss) g = after_all ss (after s g)
+after_all (s ∷ ss) g = after_all ss (accounts_after s g)
 
-pub after_both : (ss ts : List Step) (g : List Account) → after_all (ss ++ ts) g ≡ after_all ts (after_all ss g)
+pub after_both : (ss ts : List GuardStep) (g : List Account) → after_all (ss ++ ts) g ≡ after_all ts (after_all ss g)
 after_both [] ts g = refl
-after_both (s ∷ ss) ts g = after_both ss ts (after s g)
+after_both (s ∷ ss) ts g = after_both ss ts (accounts_after s g)
 
-to_both : (address : Address) (ss ts : List Step) (g : List Account) → all_to address (ss ++ ts) g ≡ all_to address ss g + all_to address ts (after_all ss g)
+to_both : (address : Address) (ss ts : List GuardStep) (g : List Account) → all_to address (ss ++ ts) g ≡ all_to address ss g + all_to address ts (after_all ss g)
 to_both address [] ts g = sym (zero-add (all_to address ts g))
 to_both address (s ∷ ss) ts g =
-    ap (λ (n : ℕ). octets_to address s g + n) (to_both address ss ts (after s g))
-    ∙ sym (add_assoc (octets_to address s g) (all_to address ss (after s g)) (all_to address ts (after_all ss (after s g))))
+    ap (λ (n : ℕ). octets_to address s g + n) (to_both address ss ts (accounts_after s g))
+    ∙ sym (add_assoc (octets_to address s g) (all_to address ss (accounts_after s g)) (all_to address ts (after_all ss (accounts_after s g))))
 
-from_both : (address : Address) (ss ts : List Step) → all_from address (ss ++ ts) ≡ all_from address ss + all_from address ts
+from_both : (address : Address) (ss ts : List GuardStep) → all_from address (ss ++ ts) ≡ all_from address ss + all_from address ts
 from_both address [] ts = sym (zero-add (all_from address ts))
 from_both address (s ∷ ss) ts =
     ap (λ (n : ℕ). octets_from address s + n) (from_both address ss ts)
@@ -36,7 +36,7 @@ from_both address (s ∷ ss) ts =
 
 -- ---- what is paid
 
-abbrev pub spends : List (Address × List ℕ) → List Step
+abbrev pub spends : List (Address × List ℕ) → List GuardStep
 spends ds = map (λ d. spend d.0 (length d.1)) ds
 
 pub after_spends : (ds : List (Address × List ℕ)) (g : List Account) → after_all (spends ds) g ≡ after_paying ds g
@@ -76,7 +76,7 @@ from_spends address (d ∷ ds) = zero-add (all_from address (spends ds)) ∙ fro
 
 -- ---- what is asked for
 
-abbrev pub asks : ℕ → List Input → List Step
+abbrev pub asks : ℕ → List Input → List GuardStep
 asks moment is = flat_map (λ i. ask_step moment (asked_count i)) is
 
 pub after_ask_step : (moment : ℕ) (asked : Option (Address × Quota × ℕ)) (g : List Account) → after_all (ask_step moment asked) g ≡ after_ask moment asked g
@@ -116,10 +116,10 @@ from_asks address moment (i ∷ is) =
 
 -- ---- what is earned
 
-abbrev pub earns : Bool → Address → ℕ → List Step
+abbrev pub earns : Bool → Address → ℕ → List GuardStep
 earns member from n = if member then earn from n ∷ [] else []
 
-after_earns : (member : Bool) (from : Address) (n : ℕ) (g : List Account) → after_all (earns member from n) g ≡ (if member then after (earn from n) g else g)
+after_earns : (member : Bool) (from : Address) (n : ℕ) (g : List Account) → after_all (earns member from n) g ≡ (if member then accounts_after (earn from n) g else g)
 after_earns true from n g = refl
 after_earns false from n g = refl
 
@@ -139,10 +139,10 @@ from_earns address false from n = none_more (if same_address from address then n
 
 -- ---- a datagram
 
-abbrev pub first_steps : Arrival → Ingested → List Step
+abbrev pub first_steps : Arrival → Ingested → List GuardStep
 first_steps a i = earns (is_from_member i.outcome) a.from (length a.octets)
 
-abbrev pub last_steps : Arrival → Ingested → List Step
+abbrev pub last_steps : Arrival → Ingested → List GuardStep
 last_steps a i = asks a.moment i.items
 
 pub earned_first : (a : Arrival) (i : Ingested) (g : List Account) → after_all (first_steps a i) g ≡ once_earned a i g

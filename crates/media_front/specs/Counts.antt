@@ -7,14 +7,14 @@ use Rattle.intake.specs.Ingested.{Ingested}
 use Rattle.flood_guard.specs.declared.account.Account.{Account}
 use Rattle.flood_guard.specs.declared.quota.Quota.{Quota}
 use Rattle.flood_guard.specs.Accounts.{window_of}
-use Rattle.flood_guard.specs.Steps.{part_of}
+use Rattle.flood_guard.specs.Steps.{counted_as}
 use Rattle.media_front.specs.Granted.{asked_count, granted_of}
 use Rattle.media_front.specs.Fronts.{Arrival, once_paid, once_asked}
 
 -- how much is taken of a quota, if it is this address's
 abbrev pub count_from : Address → Quota → Option (Address × Quota × ℕ) → ℕ
 count_from address quota None = 0
-count_from address quota (Some asked) = if same_address asked.0 address then part_of quota asked.1 asked.2 else 0
+count_from address quota (Some asked) = if same_address asked.0 address then counted_as quota asked.1 asked.2 else 0
 
 -- how much these inputs take of an address's quota
 abbrev pub count_for : Address → Quota → List Input → ℕ

@@ -35,8 +35,8 @@ abbrev pub IsFresh : {P : Type 0} → FedLane P → Type 0
 IsFresh x = x ≡ record { port = port_of x.port.lane x.port.pace; owed = None; unrung = 0; dropped = 0 }
 
 -- the lane's next parcel carries this notice
-abbrev pub told : {P : Type 0} → NoticeOf → FedLane P → FedLane P
-told notice x = record x { owed = Some notice }
+abbrev pub owing_notice : {P : Type 0} → NoticeOf → FedLane P → FedLane P
+owing_notice notice x = record x { owed = Some notice }
 
 -- the lane's bell was rung
 abbrev pub rung : {P : Type 0} → FedLane P → FedLane P
@@ -52,12 +52,12 @@ abbrev pub dropping : {P : Type 0} → FedLane P → FedLane P
 dropping x = record x { dropped = one_more x.dropped }
 
 -- The lane accepted this input once, or one parcel was dropped for it.
-abbrev pub IsGiven : {P : Type 0} → Input → FedLane P → FedLane P → Type 0
-IsGiven input x y = ((item : Item Global) × (input_of item ≡ input) × (y ≡ accepting item x)) ⊎ (y ≡ dropping x)
+abbrev pub IsFed : {P : Type 0} → Input → FedLane P → FedLane P → Type 0
+IsFed input x y = ((item : Item Global) × (input_of item ≡ input) × (y ≡ accepting item x)) ⊎ (y ≡ dropping x)
 
 -- Every lane was given this input.
 abbrev pub AreGiven : {P : Type 0} → List (FedLane P) → Input → List (FedLane P) → Type 0
-AreGiven old input new = AllZip (IsGiven input) old new
+AreGiven old input new = AllZip (IsFed input) old new
 
 -- Every lane was given these inputs, one after another.
 abbrev pub AllAreGiven : {P : Type 0} → List Input → List (FedLane P) → List (FedLane P) → Type 0

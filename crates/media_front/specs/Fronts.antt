@@ -2,7 +2,7 @@
 use Rattle.std.specs.Prelude.{◌≡◌, ◌⊎◌, ℕ, zero, suc, List, [], ◌++◌, length, Option, option_to_list}
 use Rattle.rtp_codec.specs.declared.address.Address.{Address}
 use Rattle.desk_rows.specs.Desk.{Desk}
-use Rattle.intake.specs.Intakes.{TakesIn, Tells}
+use Rattle.intake.specs.Intakes.{TakesIn, TellsSenders}
 use Rattle.media_items.specs.Inputs.{Input}
 use Rattle.intake.specs.Ingested.{Ingested}
 use Rattle.intake.specs.inner.Holding.{IntakeOf}
@@ -33,8 +33,8 @@ pub record Arrival : Type 0 where
   pub octets : List ℕ
 
 -- The intake took the datagram in, and it came to this.
-abbrev pub Takes : Arrival → Ingested → IntakeOf → IntakeOf → Type 0
-Takes arrival ingested old new =
+abbrev pub HasIngested : Arrival → Ingested → IntakeOf → IntakeOf → Type 0
+HasIngested arrival ingested old new =
     TakesIn old new ingested arrival.octets
     (λ r. record { desk = arrival.desk; from = arrival.from; moment = arrival.moment; reading = r })
 
@@ -56,7 +56,7 @@ pub record HasTaken {P : Type 0} (arrival : Arrival) (outcome : Outcome) (old ne
     (before after : Option (List Attempt)) : Type 0 where
   pub ingested : Ingested
   pub became : ingested.outcome ≡ outcome
-  pub takes : Takes arrival ingested old.intake new.intake
+  pub takes : HasIngested arrival ingested old.intake new.intake
   pub up : WereTried (paid_of ingested.up (once_earned arrival ingested old.guard)) before after
   pub items : AllAreGiven (granted_of arrival.moment ingested.items (once_paid arrival ingested old.guard))
       old.feed new.feed
@@ -64,7 +64,7 @@ pub record HasTaken {P : Type 0} (arrival : Arrival) (outcome : Outcome) (old ne
 
 -- The intake is as it was, or has taken the datagram in.
 abbrev pub MayHaveTaken : Arrival → IntakeOf → IntakeOf → Type 0
-MayHaveTaken arrival old new = (new ≡ old) ⊎ ((ingested : Ingested) × Takes arrival ingested old new)
+MayHaveTaken arrival old new = (new ≡ old) ⊎ ((ingested : Ingested) × HasIngested arrival ingested old new)
 
 -- the moments of the ticks that are due, oldest first, so many at most
 abbrev pub ticks_due : ℕ → Ticks → (now : ℕ) → List ℕ
@@ -80,6 +80,6 @@ after_ticks (suc k) ticks now = after_ticks k (after_tick ticks now) now
 pub record HasReported {P : Type 0} (desk : Desk) (now : ℕ) (old new : FrontOf P)
     (before after : Option (List Attempt)) : Type 0 where
   pub told : List (Address × List ℕ)
-  pub tells : Tells old.intake new.intake told desk now
+  pub tells : TellsSenders old.intake new.intake told desk now
   pub up : WereTried told before after
   pub given : AreGiven old.feed (Input.report now) new.feed

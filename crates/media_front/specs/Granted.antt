@@ -5,7 +5,7 @@ use Rattle.media_items.specs.Inputs.{Input, frame, audio, tick, nack, block, pli
 use Rattle.flood_guard.specs.declared.account.Account.{Account}
 use Rattle.flood_guard.specs.declared.quota.Quota.{Quota}
 use Rattle.flood_guard.specs.declared.quota.Quota.TheVariants.{Numbers, Items}
-use Rattle.flood_guard.specs.Steps.{ask, after, may_ask}
+use Rattle.flood_guard.specs.Steps.{ask, accounts_after, may_ask}
 
 -- which address's quota an input takes of, and how much: the numbers of a request, and one for a report block or a loss
 abbrev pub asked_count : Input → Option (Address × Quota × ℕ)
@@ -25,7 +25,7 @@ granted_count moment (Some asked) accounts = Some (may_ask asked.0 moment asked.
 -- the accounts after it was asked for
 abbrev pub after_ask : ℕ → Option (Address × Quota × ℕ) → List Account → List Account
 after_ask moment None accounts = accounts
-after_ask moment (Some asked) accounts = after (ask asked.0 moment asked.1 asked.2) accounts
+after_ask moment (Some asked) accounts = accounts_after (ask asked.0 moment asked.1 asked.2) accounts
 
 -- a request with its first numbers, so many; another input as it is
 abbrev pub with_first : ℕ → Input → Input

@@ -4,7 +4,7 @@ use Rattle.rtp_codec.specs.declared.address.Address.{Address}
 use Rattle.intake.specs.declared.outcome.Outcome.{Outcome}
 use Rattle.intake.specs.declared.outcome.Outcome.TheVariants.{TooLong, Neither, BadRtp, BadRtcp, Unknown, BadPayload, Spent, Probation, Accepted, Late, Duplicate, Jump, Restarted, Rtcp}
 use Rattle.flood_guard.specs.declared.account.Account.{Account}
-use Rattle.flood_guard.specs.Steps.{earn, spend, after, may_spend}
+use Rattle.flood_guard.specs.Steps.{earn, spend, accounts_after, may_spend}
 
 -- The outcome tells that the datagram came from a member's address. The first four are told before its sender is looked
 -- up, and so of strangers too.
@@ -26,7 +26,7 @@ is_from_member (Rtcp packets) = true
 
 -- the accounts after a datagram of so many octets came from an address: a member's earns credit, a stranger's nothing
 abbrev pub credited : Outcome → Address → ℕ → List Account → List Account
-credited outcome from octets accounts = if is_from_member outcome then after (earn from octets) accounts else accounts
+credited outcome from octets accounts = if is_from_member outcome then accounts_after (earn from octets) accounts else accounts
 
 -- the datagram, if its address has credit for all its octets
 abbrev pub paid_one : Address × List ℕ → List Account → List (Address × List ℕ)
@@ -34,7 +34,7 @@ paid_one d accounts = if may_spend d.0 (length d.1) accounts then d ∷ [] else 
 
 -- the accounts after it: a datagram that is paid for costs its octets, and another one nothing
 abbrev pub after_one : Address × List ℕ → List Account → List Account
-after_one d accounts = after (spend d.0 (length d.1)) accounts
+after_one d accounts = accounts_after (spend d.0 (length d.1)) accounts
 
 -- those of these datagrams that are paid for, one after another
 abbrev pub paid_of : List (Address × List ℕ) → List Account → List (Address × List ℕ)

@@ -6,7 +6,7 @@ use Rattle.rtp_codec.specs.Address.{same_address}
 use Rattle.intake.specs.Ingested.{Ingested}
 use Rattle.flood_guard.specs.declared.account.Account.{Account}
 use Rattle.flood_guard.specs.declared.quota.Quota.{Quota}
-use Rattle.flood_guard.specs.Steps.{Step, earn, spend, ask}
+use Rattle.flood_guard.specs.Steps.{GuardStep, earn, spend, ask}
 use Rattle.media_front.specs.Paid.{is_from_member, paid_of}
 use Rattle.media_front.specs.Granted.{asked_count}
 use Rattle.media_front.specs.Fronts.{Arrival, once_earned, once_asked}
@@ -29,18 +29,18 @@ octets_up address (t ∷ rest) accounts =
     + octets_up address rest (once_asked t.0 t.1 accounts)
 
 -- what an input takes of a quota, as a step of the guard
-abbrev pub ask_step : ℕ → Option (Address × Quota × ℕ) → List Step
+abbrev pub ask_step : ℕ → Option (Address × Quota × ℕ) → List GuardStep
 ask_step moment None = []
 ask_step moment (Some asked) = ask asked.0 moment asked.1 asked.2 ∷ []
 
 -- what the guard is asked for a datagram: it earns, if it is a member's, then what goes up is paid for, and then the
 -- quotas are asked for
-abbrev pub steps_by : Arrival → Ingested → List Step
+abbrev pub steps_by : Arrival → Ingested → List GuardStep
 steps_by arrival ingested =
     (if is_from_member ingested.outcome then earn arrival.from (length arrival.octets) ∷ [] else [])
     ++ map (λ d. spend d.0 (length d.1)) ingested.up
     ++ flat_map (λ input. ask_step arrival.moment (asked_count input)) ingested.items
 
 -- the same of datagrams, one after another
-abbrev pub steps_over : List (Arrival × Ingested) → List Step
+abbrev pub steps_over : List (Arrival × Ingested) → List GuardStep
 steps_over run = flat_map (λ t. steps_by t.0 t.1) run

@@ -6,7 +6,7 @@ ghost use Rattle.std.specs.List.{list_any};
 ghost use Rattle.std.specs.Prelude.{is_some};
 ghost use Rattle.bridge_core.specs.Calls.{most_lanes};
 ghost use Rattle.media_workers.specs.Bridges.{AllEnded};
-ghost use Rattle.media_front.specs.FedLanes.{FedLane, ports_in, told, rung};
+ghost use Rattle.media_front.specs.FedLanes.{FedLane, ports_in, owing_notice, rung};
 
 use crate::tally::{Tally, owe_all, owe_any, ring_all};
 use bridge_core::Egress;
@@ -82,7 +82,7 @@ impl<N: PublisherName, P: Pace> LaneFeed<N, P> {
     /// Each lane's next parcel carries this notice, in place of one that the lane was owed.
     pub fn tell(&mut self, notice: Notice)
         requires publisher { notice.publisher ≡ N.publisher }
-        ensures { self.new ≡ map (told notice) self.old }
+        ensures { self.new ≡ map (owing_notice notice) self.old }
     {
         owe_all(&mut self.tallies, &notice);
     }

@@ -12,7 +12,7 @@ ghost use Rattle.media_workers.specs.Bridges.{AllEnded};
 ghost use Rattle.udp_front.specs.Attempts.{datagrams_of};
 ghost use Rattle.udp_front.specs.Pacing.{most_ticks, report_due, after_report};
 ghost use Rattle.udp_front.specs.declared.ending.FrontFault.TheVariants.{OutOfMemory as MemoryFault};
-ghost use Rattle.media_front.specs.FedLanes.{FedLane, ports_in, told, rung, AllAreGiven, ArePopped};
+ghost use Rattle.media_front.specs.FedLanes.{FedLane, ports_in, owing_notice, rung, AllAreGiven, ArePopped};
 ghost use Rattle.media_front.specs.Tries.{WereTried};
 ghost use Rattle.media_front.specs.Fronts.{HasTaken, MayHaveTaken, HasReported, ticks_due, after_ticks};
 
@@ -86,7 +86,7 @@ impl<N: PublisherName, P: Pace> MediaFront<N, P> {
     /// Each lane's next parcel carries this notice, in place of one that the lane was owed.
     pub fn tell(&mut self, notice: Notice)
         requires publisher { notice.publisher ≡ N.publisher }
-        ensures { self.new ≡ record self.old { feed = map (told notice) self.old.feed } }
+        ensures { self.new ≡ record self.old { feed = map (owing_notice notice) self.old.feed } }
     {
         self.feed.tell(notice);
     }

@@ -7,7 +7,7 @@ ghost use Rattle.std.specs.declared.alloc.Global.{Global as Heap};
 ghost use Rattle.std.specs.declared.vec.Vec.{Vec as Row};
 ghost use Rattle.media_items.specs.Inputs.{input_of, is_sized};
 ghost use Rattle.media_items.specs.declared.item.Item.{Item as AnItem};
-ghost use Rattle.media_front.specs.FedLanes.{FedLane, IsGiven, AreGiven, AllAreGiven};
+ghost use Rattle.media_front.specs.FedLanes.{FedLane, IsFed, AreGiven, AllAreGiven};
 ghost use Rattle.media_front.specs.Granted.{asked_count, granted_count, after_ask, cut_at, as_granted};
 ghost use Rattle.media_front.specs.Granted.{granted_of, after_asking};
 ghost use Rattle.media_front.specs.inner.Beats.{input_at};
@@ -55,7 +55,7 @@ impl<N: PublisherName, P: Pace> LaneFeed<N, P> {
         requires lane { lane < length self.old }
         requires sized { is_sized (input_of item) ≡ true }
         ensures { (x : FedLane P) → slice_get self.old lane ≡ Some x →
-            (y : FedLane P) × IsGiven (input_of item) x y × (self.new ≡ slice_set self.old lane y) }
+            (y : FedLane P) × IsFed (input_of item) x y × (self.new ≡ slice_set self.old lane y) }
     {
         let notice = self.tallies[lane].notice();
         let parcel = Parcel::Work { item, notice };

@@ -54,36 +54,9 @@ pub(crate) fn cut_at(item: Item, granted: Option<u64>) -> Item
 fn with_first(item: Item, count: u64) -> Item
     ensures { input_of result ≡ with_first count (input_of item) }
 {
-    match item {
-        Item::Nack {
-            from,
-            out_ssrc,
-            mut numbers,
-        } => {
-            numbers.truncate(count as usize);
-            Item::Nack {
-                from,
-                out_ssrc,
-                numbers,
-            }
-        }
-        Item::Frame(frame) => Item::Frame(frame),
-        Item::Audio {
-            ssrc,
-            address,
-            rate,
-            ts,
-            samples,
-        } => Item::Audio {
-            ssrc,
-            address,
-            rate,
-            ts,
-            samples,
-        },
-        Item::Tick { moment } => Item::Tick { moment },
-        Item::Block { from, block } => Item::Block { from, block },
-        Item::Pli { from, out_ssrc } => Item::Pli { from, out_ssrc },
-        Item::Report { moment } => Item::Report { moment },
+    let mut item = item;
+    if let Item::Nack { numbers, .. } = &mut item {
+        numbers.truncate(count as usize);
     }
+    item
 }

@@ -10,7 +10,7 @@ ghost use Rattle.intake.specs.Ingested.{Ingested};
 ghost use Rattle.flood_guard.specs.declared.quota.Quota.TheVariants.{Numbers, Items};
 ghost use Rattle.flood_guard.specs.Accounts.{new_credit, most_of};
 ghost use Rattle.flood_guard.specs.Steps.{entries};
-ghost use Rattle.media_front.specs.FedLanes.{FedLane, IsGiven, told};
+ghost use Rattle.media_front.specs.FedLanes.{FedLane, IsFed, owing_notice};
 ghost use Rattle.media_front.specs.Fronts.{Arrival};
 ghost use Rattle.media_front.specs.Upward.{octets_in, octets_up, steps_over};
 ghost use Rattle.media_front.specs.Counts.{count_given, CameInOrder};
@@ -22,9 +22,9 @@ use media_workers::Pace;
 /// A lane that was told of publishes is owed the notice of them until it accepts it with a parcel, and has it from then
 /// on: a parcel that is dropped loses no notice.
 pub fn owed_notices_are_carried<P: Pace>()
-    ensures begins { (notice : NoticeOf) (x : FedLane P) → IsTold notice.lists (told notice x) }
+    ensures begins { (notice : NoticeOf) (x : FedLane P) → IsTold notice.lists (owing_notice notice x) }
     ensures stays { (lists : List (List EditOf)) (input : Input) (x y : FedLane P) →
-        IsTold lists x → IsGiven input x y → IsTold lists y }
+        IsTold lists x → IsFed input x y → IsTold lists y }
     ensures ends { (lists : List (List EditOf)) (x : FedLane P) →
         IsTold lists x → x.owed ≡ None → HasCarried lists x }
 {}

@@ -70,38 +70,32 @@ impl<A: Allocator + Copy> Item<A> {
     {
         match self {
             Item::Frame(frame) => Ok(Item::Frame(frame.try_clone(alloc)?)),
-            Item::Audio {
+            &Item::Audio {
                 ssrc,
                 address,
                 rate,
                 ts,
-                samples,
+                ref samples,
             } => Ok(Item::Audio {
-                ssrc: *ssrc,
-                address: *address,
-                rate: *rate,
-                ts: *ts,
+                ssrc,
+                address,
+                rate,
+                ts,
                 samples: copied(alloc, samples)?,
             }),
-            Item::Tick { moment } => Ok(Item::Tick { moment: *moment }),
-            Item::Nack {
+            &Item::Tick { moment } => Ok(Item::Tick { moment }),
+            &Item::Nack {
                 from,
                 out_ssrc,
-                numbers,
+                ref numbers,
             } => Ok(Item::Nack {
-                from: *from,
-                out_ssrc: *out_ssrc,
+                from,
+                out_ssrc,
                 numbers: copied(alloc, numbers)?,
             }),
-            Item::Block { from, block } => Ok(Item::Block {
-                from: *from,
-                block: *block,
-            }),
-            Item::Pli { from, out_ssrc } => Ok(Item::Pli {
-                from: *from,
-                out_ssrc: *out_ssrc,
-            }),
-            Item::Report { moment } => Ok(Item::Report { moment: *moment }),
+            &Item::Block { from, block } => Ok(Item::Block { from, block }),
+            &Item::Pli { from, out_ssrc } => Ok(Item::Pli { from, out_ssrc }),
+            &Item::Report { moment } => Ok(Item::Report { moment }),
         }
     }
 }

@@ -14,7 +14,7 @@ use Rattle.desk_rows.specs.Desk.{Desk}
 use Rattle.media_items.specs.Formats.{tick_at}
 use Rattle.topology.specs.declared.hearing.AudioSource.{AudioSource}
 use Rattle.topology.specs.Mixes.{gain_of}
-use Rattle.mixer.specs.Hearing.{Voice, rate_of, heard_at, part_of, sum_of, contributes, contributors}
+use Rattle.mixer.specs.Hearing.{Voice, member_rate, heard_at, part_of, sum_of, contributes, contributors}
 use Rattle.mixer.specs.inner.Counted.{member_of, AreBefore}
 use Rattle.mixer.specs.inner.Rooms.{plain, plain_voice, of_room}
 use Rattle.mixer.proofs.Listed.{listed}
@@ -185,8 +185,8 @@ all_full d m inputs ws same full = record {
 
 -- a mix of a room is what its member hears
 pub heard_by_mix : (d : Desk) (m : MemberRow) (voices : List Voice) (room : ℕ) (inputs : List Input) (out : List ℤ) → room ≡ m.room → map plain inputs ≡ map plain_voice (of_room room voices)
-    → length out ≡ tick_at (rate_of d m) → IsMix inputs (gains_for d m (of_room room voices)) m.member out → out ≡ map (heard_at voices d m) (range_with_len 0 (tick_at (rate_of d m)))
-heard_by_mix d m voices room inputs out own same long mix = listed (heard_at voices d m) out (tick_at (rate_of d m)) long (λ i l.
+    → length out ≡ tick_at (member_rate d m) → IsMix inputs (gains_for d m (of_room room voices)) m.member out → out ≡ map (heard_at voices d m) (range_with_len 0 (tick_at (member_rate d m)))
+heard_by_mix d m voices room inputs out own same long mix = listed (heard_at voices d m) out (tick_at (member_rate d m)) long (λ i l.
     mix i (omega (arith, long)) ∙ ap clamped (heard_of d m i inputs (of_room room voices) same) ∙ ap (λ vs. clamped (sum_of (map (part_of d m i) vs))) (others_in m voices room own))
 
 -- the others of whom a sample is present contribute

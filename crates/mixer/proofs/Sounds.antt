@@ -10,7 +10,7 @@ use Rattle.mix_minus.specs.declared.contributors.Contributors.{Contributors}
 use Rattle.desk_rows.specs.declared.row.Member.{Member as MemberRow}
 use Rattle.desk_rows.specs.Desk.{Desk}
 use Rattle.forward_rewrite.specs.Mixes.{sound_of, format_of}
-use Rattle.mixer.specs.Hearing.{Voice, rate_of, sound_by, sound_for, contributors, heard_at}
+use Rattle.mixer.specs.Hearing.{Voice, member_rate, sound_by, sound_for, contributors, heard_at}
 use Rattle.std.proofs.lemmas.List.{nil_from_length}
 use Rattle.forward_rewrite.specs.declared.mix_packets.Named.{Named}
 use Rattle.mixer.specs.inner.Named.{IsHeardOf}
@@ -28,7 +28,7 @@ a_sound format (s ∷ ss) csrcs samples are some = ap (λ cs. Some (sound_of for
 -- nobody is named: nothing is heard
 pub nothing_heard : (d : Desk) (voices : List Voice) (m : MemberRow) (samples : List ℤ) (named : Contributors) → IsHeard d voices m samples named → named.count ≡ 0 → hears_any d voices m ≡ false
 nothing_heard d voices m samples named is none =
-    no_sound (format_of m.codec (rate_of d m)) (contributors voices d m) (map (heard_at voices d m) (range_with_len 0 (tick_at (rate_of d m)))) (sym is.named ∙ ap (λ n. take n named.ssrcs) none)
+    no_sound (format_of m.codec (member_rate d m)) (contributors voices d m) (map (heard_at voices d m) (range_with_len 0 (tick_at (member_rate d m)))) (sym is.named ∙ ap (λ n. take n named.ssrcs) none)
 
 -- a number that isn't 0
 pub many : {n : ℕ} → ¬ (n ≡ 0) → 0 < n
@@ -36,11 +36,11 @@ many ne = omega (arith, ne)
 
 -- somebody is named: that is the sound
 pub something_heard : (d : Desk) (voices : List Voice) (m : MemberRow) (samples : List ℤ) (named : Contributors) → IsHeard d voices m samples named → 0 < named.count
-    → sound_for voices d m ≡ Some (sound_of (format_of m.codec (rate_of d m)) (take named.count named.ssrcs) samples)
+    → sound_for voices d m ≡ Some (sound_of (format_of m.codec (member_rate d m)) (take named.count named.ssrcs) samples)
 something_heard d voices m samples named is some =
     let csrcs = take named.count named.ssrcs in
-    let format = format_of m.codec (rate_of d m) in
-    a_sound format (contributors voices d m) csrcs (map (heard_at voices d m) (range_with_len 0 (tick_at (rate_of d m)))) is.named (subst (λ n. 0 < n) (sym (length-take-le named.count named.ssrcs is.room)) some)
+    let format = format_of m.codec (member_rate d m) in
+    a_sound format (contributors voices d m) csrcs (map (heard_at voices d m) (range_with_len 0 (tick_at (member_rate d m)))) is.named (subst (λ n. 0 < n) (sym (length-take-le named.count named.ssrcs is.room)) some)
     ∙ ap (λ xs. Some (sound_of format csrcs xs)) (sym is.samples)
 
 -- ---- without gains
@@ -48,15 +48,15 @@ something_heard d voices m samples named is some =
 -- nobody is named: nothing is heard
 pub nothing_of : (d : Desk) (voices : List Voice) (m : MemberRow) (out : List ℤ) (named : Named) → IsHeardOf d voices m out named → named.count ≡ 0 → hears_any d voices m ≡ false
 nothing_of d voices m out named is none =
-    no_sound (format_of m.codec (rate_of d m)) (contributors voices d m) (map (heard_at voices d m) (range_with_len 0 (tick_at (rate_of d m)))) (nil_from_length _ (is.who.count ∙ none))
+    no_sound (format_of m.codec (member_rate d m)) (contributors voices d m) (map (heard_at voices d m) (range_with_len 0 (tick_at (member_rate d m)))) (nil_from_length _ (is.who.count ∙ none))
 
 -- somebody is named: that is the sound
 pub something_of : (d : Desk) (voices : List Voice) (m : MemberRow) (out : List ℤ) (named : Named) → IsHeardOf d voices m out named → 0 < named.count
-    → sound_for voices d m ≡ Some (sound_of (format_of m.codec (rate_of d m)) (take most_csrcs (contributors voices d m)) out)
+    → sound_for voices d m ≡ Some (sound_of (format_of m.codec (member_rate d m)) (take most_csrcs (contributors voices d m)) out)
 something_of d voices m out named is some =
     let csrcs = take most_csrcs (contributors voices d m) in
-    let format = format_of m.codec (rate_of d m) in
-    a_sound format (contributors voices d m) csrcs (map (heard_at voices d m) (range_with_len 0 (tick_at (rate_of d m)))) refl (subst (λ n. 0 < n) (sym is.who.count) some)
+    let format = format_of m.codec (member_rate d m) in
+    a_sound format (contributors voices d m) csrcs (map (heard_at voices d m) (range_with_len 0 (tick_at (member_rate d m)))) refl (subst (λ n. 0 < n) (sym is.who.count) some)
     ∙ ap (λ xs. Some (sound_of format csrcs xs)) (sym is.samples)
 
 -- ---- what holds of a packet, if there is one

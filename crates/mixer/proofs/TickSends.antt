@@ -11,7 +11,7 @@ use Rattle.topology.specs.Mixes.{mix_member}
 use Rattle.forward_rewrite.specs.Sending.{Numbered}
 use Rattle.forward_rewrite.specs.Mixes.{Sound, MixOf, GivesTick, sounding}
 use Rattle.media_items.specs.OwnStreams.{is_mine}
-use Rattle.mixer.specs.Hearing.{Given, Voice, tick, rate_of, voices_of, sound_for}
+use Rattle.mixer.specs.Hearing.{Given, Voice, tick, member_rate, voices_of, sound_for}
 use Rattle.mixer.specs.Mixes.{Hears, Turn, MixSent, hears, turn_of, turns, packets_of, stream_of, mixes_at, to_member, sent_by, lanes_own}
 use Rattle.mixer.specs.Mixers.{mix_at}
 use Rattle.mixer.specs.inner.Ready.{ReadyOf, IsReady, Passes, hears_any, of_lane, hearers, members_of, kept_after, kept_after_one, sent_of, current}
@@ -25,7 +25,7 @@ pub record Here (lane lanes : ℕ) (before : List Given) (d : Desk) (moment : �
   pub apart : (pre : List MemberRow) (m : MemberRow) (post : List MemberRow) → d.members ≡ pre ++ m ∷ post → mix_member d m.out_audio ≡ Some m
 
 abbrev turn_with : Desk → ℕ → Option Hears → ℕ → Turn
-turn_with d ssrc h moment = record { heard = h; rate = option_map (rate_of d) (mix_member d ssrc); moment = moment }
+turn_with d ssrc h moment = record { heard = h; rate = option_map (member_rate d) (mix_member d ssrc); moment = moment }
 
 abbrev hearing : MemberRow → Sound → Hears
 hearing m s = record { member = m; sound = s }
@@ -55,7 +55,7 @@ ready_sounds lane lanes before d moment voices streams passed here r is whose mi
     let ssrc = r.member.out_audio in
     let ts = turns ssrc before in
     subst (λ t. Sounds ssrc ts t r.prepared.next r.prepared.packet) (sym (heard_turn ssrc before d moment voices r.member is.sound here.voices_are whose is.hears))
-    (sounds ssrc ts r.member is.sound (option_map (rate_of d) (mix_member d ssrc)) moment r.prepared.next r.prepared.packet refl
+    (sounds ssrc ts r.member is.sound (option_map (member_rate d) (mix_member d ssrc)) moment r.prepared.next r.prepared.packet refl
     (subst (λ o. GivesTick (current o r.member) r.prepared.next (sounding is.sound moment) (r.prepared.packet ∷ [])) (here.stand ssrc mine) is.gives)
     (subst (λ o. r.prepared.next.ssrc ≡ (current o r.member).ssrc) (here.stand ssrc mine) is.ssrc))
 

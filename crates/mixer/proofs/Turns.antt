@@ -5,7 +5,7 @@ use Rattle.desk_rows.specs.declared.row.Member.{Member as MemberRow}
 use Rattle.desk_rows.specs.Desk.{Desk}
 use Rattle.forward_rewrite.specs.Sending.{Numbered}
 use Rattle.forward_rewrite.specs.Mixes.{Sound, MixTick, MixOf, mix_list, mix_state, sounding, silent, GivesTick}
-use Rattle.mixer.specs.Hearing.{Given, put, tick, rate_of}
+use Rattle.mixer.specs.Hearing.{Given, put, tick, member_rate}
 use Rattle.topology.specs.Mixes.{mix_member}
 use Rattle.mixer.specs.Mixes.{Hears, Turn, turn_of, turns_after, turns, tick_of, ticks_of, packets_of, stream_of}
 use Rattle.mixer.specs.inner.Ready.{Passes, current, last_rate}
@@ -146,7 +146,7 @@ pub record Quiet (ssrc : ℕ) (ts : List Turn) (t : Turn) (kept : Option MixOf) 
 
 -- a turn of this desk in which nothing is heard
 abbrev pub hushed : Desk → ℕ → ℕ → Turn
-hushed d ssrc moment = record { heard = None; rate = option_map (rate_of d) (mix_member d ssrc); moment = moment }
+hushed d ssrc moment = record { heard = None; rate = option_map (member_rate d) (mix_member d ssrc); moment = moment }
 
 quiet_first : (d : Desk) (ssrc moment : ℕ) (ts : List Turn) (kept : Option MixOf) → Passes d moment ssrc None kept → Unbegun ssrc ts (hushed d ssrc moment) → Quiet ssrc ts (hushed d ssrc moment) kept
 quiet_first d ssrc moment ts None passes u = record { stream = u.then_stream; packets = u.then_packets ∙ sym u.packets }
@@ -156,7 +156,7 @@ quiet_next : (d : Desk) (ssrc moment : ℕ) (ts : List Turn) (kept : Option MixO
     → Quiet ssrc ts (hushed d ssrc moment) kept
 quiet_next d ssrc moment ts None b passes = absurd passes
 quiet_next d ssrc moment ts (Some n) b passes =
-    let own = option_map (rate_of d) (mix_member d ssrc) in
+    let own = option_map (member_rate d) (mix_member d ssrc) in
     let step = passes.gives b.first_seq b.first_ts b.ticks refl in
     let same : silent (unwrap_or own b.rate) moment ≡ silent (unwrap_or own (last_rate (mix_state ssrc b.first_seq b.first_ts b.ticks))) moment = ap (λ r. silent (unwrap_or own r) moment) (sym b.stands) in
     let more = b.ticks ++ silent (unwrap_or own (last_rate (mix_state ssrc b.first_seq b.first_ts b.ticks))) moment ∷ [] in

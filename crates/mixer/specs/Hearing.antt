@@ -35,8 +35,8 @@ play_after given source address = play_on source address (map to_playouts given)
 -- ---- clock rates
 
 -- the clock rate of the member's room, in Hz
-abbrev pub rate_of : Desk → MemberRow → ℕ
-rate_of d m = room_rate d m.room
+abbrev pub member_rate : Desk → MemberRow → ℕ
+member_rate d m = room_rate d m.room
 
 -- ---- the next tick of a source
 
@@ -113,4 +113,4 @@ sound_by format (s ∷ ss) samples = Some (record { format = format; csrcs = tak
 -- what a member hears of these voices in a tick: nothing where nobody contributes
 abbrev pub sound_for : List Voice → Desk → MemberRow → Option Sound
 sound_for voices d m =
-    sound_by (format_of m.codec (rate_of d m)) (contributors voices d m) (map (heard_at voices d m) (range_with_len 0 (tick_at (rate_of d m))))
+    sound_by (format_of m.codec (member_rate d m)) (contributors voices d m) (map (heard_at voices d m) (range_with_len 0 (tick_at (member_rate d m))))

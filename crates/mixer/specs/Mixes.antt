@@ -11,7 +11,7 @@ use Rattle.forward_rewrite.specs.Sending.{Numbered}
 use Rattle.media_items.specs.Formats.{rate_of as format_rate}
 use Rattle.forward_rewrite.specs.Mixes.{Sound, MixTick, MixOf, mix_list, mix_state, mix_counts}
 use Rattle.media_items.specs.OwnStreams.{is_mine}
-use Rattle.mixer.specs.Hearing.{Given, put, tick, rate_of, voices_of, sound_for}
+use Rattle.mixer.specs.Hearing.{Given, put, tick, member_rate, voices_of, sound_for}
 
 -- ---- one stream
 
@@ -34,7 +34,7 @@ hears before d m = option_map (λ sound. record { member = m; sound = sound }) (
 abbrev pub turn_of : ℕ → List Given → Desk → ℕ → Turn
 turn_of ssrc before d moment = record {
   heard = option_and_then (hears before d) (mix_member d ssrc);
-  rate = option_map (rate_of d) (mix_member d ssrc);
+  rate = option_map (member_rate d) (mix_member d ssrc);
   moment = moment;
 }
 

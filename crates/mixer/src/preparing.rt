@@ -6,7 +6,7 @@ ghost use Rattle.desk_rows.specs.Desk.{Desk};
 ghost use Rattle.desk_rows.specs.declared.row.Member.{Member as MemberRow};
 ghost use Rattle.media_items.specs.Formats.{tick_at};
 ghost use Rattle.forward_rewrite.specs.Mixes.{format_of};
-ghost use Rattle.mixer.specs.Hearing.{Voice as VoiceOf, rate_of};
+ghost use Rattle.mixer.specs.Hearing.{Voice as VoiceOf, member_rate};
 ghost use Rattle.mixer.specs.inner.Named.{IsHeardOf};
 ghost use Rattle.mixer.specs.inner.Rooms.{IsRoom};
 ghost use Rattle.mixer.specs.inner.Ready.{IsPrepared, hears_any};
@@ -96,7 +96,7 @@ fn prepare_in_full<A: Allocator + Copy>(
         → is_some p ≡ hears_any d voices m) }
     ensures some { IfOk result (λ o. IfSome o (λ p. (d : Desk) (voices : List VoiceOf) (m : MemberRow)
         → IsHeardOf d voices m heard.entry.samples.now heard.entry.named
-        → heard.entry.format ≡ format_of m.codec (rate_of d m)
+        → heard.entry.format ≡ format_of m.codec (member_rate d m)
         → IsPrepared d voices moment m stream.now p)) }
     ensures last { OnOk result (IsEncoded last.new) }
     ensures empty { OnOk result (block.new.items ≡ []) }

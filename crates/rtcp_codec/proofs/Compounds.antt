@@ -7,7 +7,7 @@ use Rattle.std.proofs.lemmas.List.{append-nil}
 use Rattle.std.proofs.lemmas.List.Concat.{flat_map-cons}
 use Rattle.rtcp_codec.specs.declared.fault.RtcpFault.{RtcpFault}
 use Rattle.rtcp_codec.specs.Packet.{Packet}
-use Rattle.rtcp_codec.specs.Compound.{Part, IsPart, joined, packets_in, AreUnpadded, LastAloneIsPadded, BeginsWithReport, IsCompound, HasFault, IsFirstOf, in_order}
+use Rattle.rtcp_codec.specs.Compound.{Part, IsPart, joined, packets_in, AreUnpadded, LastAloneIsPadded, BeginsWithReport, IsCompound, HasFault, IsFirstOf, fault_order}
 use Rattle.rtcp_codec.specs.inner.Reading.{Takes, Reads, Ends}
 use Rattle.rtcp_codec.proofs.Lists.{front_of}
 use Rattle.rtcp_codec.proofs.Unique.{same_reading}
@@ -91,7 +91,7 @@ record Behind (ps : List Packet) (fault : RtcpFault) (octets : List ℕ) : Type 
   pub each : AllByRecursion IsPart before
   pub unpadded : AreUnpadded before
   pub some : 0 < length rest
-  pub its_fault : IsFirstOf in_order false fault rest
+  pub its_fault : IsFirstOf fault_order false fault rest
 
 begun : (octets : List ℕ) → (false ≡ true) ⊎ (0 < length octets) → 0 < length octets
 begun octets (inl e) = absurd cc
@@ -122,9 +122,9 @@ reads_fault (p ∷ ps) fault octets (rest, t, h) =
     let r = one_more p ps fault true octets rest t (behind ps fault rest h) in
     inr (record { before = r.before; rest = r.rest; whole = r.whole; each = r.each; report = subst BeginsWithReport (sym r.packets) (t.report refl); unpadded = r.unpadded; some = r.some; its_fault = r.its_fault })
 
-later_reads : (first : Bool) (before : List Part) (fault : RtcpFault) (octets rest : List ℕ) → octets ≡ joined before ++ rest → AllByRecursion IsPart before → AreUnpadded before → (first ≡ true → BeginsWithReport (packets_in before)) → 0 < length rest → IsFirstOf in_order false fault rest → Reads first (packets_in before) (Some fault) octets
+later_reads : (first : Bool) (before : List Part) (fault : RtcpFault) (octets rest : List ℕ) → octets ≡ joined before ++ rest → AllByRecursion IsPart before → AreUnpadded before → (first ≡ true → BeginsWithReport (packets_in before)) → 0 < length rest → IsFirstOf fault_order false fault rest → Reads first (packets_in before) (Some fault) octets
 later_reads true [] fault octets rest e each u report some h = absurd (report refl)
-later_reads false [] fault octets rest e each u report some h = (inr (omega (arith, ap length e, some)), subst (IsFirstOf in_order false fault) (sym e) h)
+later_reads false [] fault octets rest e each u report some h = (inr (omega (arith, ap length e, some)), subst (IsFirstOf fault_order false fault) (sym e) h)
 later_reads first (p ∷ ps) fault octets rest e each u report some h = (
   joined ps ++ rest,
   record { front = p.octets; padding = p.padding; parts = e ∙ front_of (λ (x : Part). x.octets) p ps rest; is_packet = each.0; report = report; last = λ pad. absurd (omega (arith, u.0, pad)) },
@@ -162,10 +162,10 @@ goes_on_first octets rest t outcome h = (t.0 ∷ h.0, (rest, t.1, h.1))
 pub goes_on : (rest after octets : List ℕ) → (p : Packet) × Takes false p rest after → GoesOn rest octets → GoesOn after octets
 goes_on rest after octets t on outcome h = on outcome (t.0 ∷ h.0, (after, t.1, h.1))
 
-pub first_fault : (fault : RtcpFault) (octets : List ℕ) → IsFirstOf in_order true fault octets → HasFault fault octets
+pub first_fault : (fault : RtcpFault) (octets : List ℕ) → IsFirstOf fault_order true fault octets → HasFault fault octets
 first_fault fault octets h = inl h
 
-pub later_fault : (fault : RtcpFault) (rest octets : List ℕ) → GoesOn rest octets → 0 < length rest → IsFirstOf in_order false fault rest → HasFault fault octets
+pub later_fault : (fault : RtcpFault) (rest octets : List ℕ) → GoesOn rest octets → 0 < length rest → IsFirstOf fault_order false fault rest → HasFault fault octets
 later_fault fault rest octets on some h =
     let e = on (Some fault) ([], (inr some, h)) in
     reads_fault e.0 fault octets e.1

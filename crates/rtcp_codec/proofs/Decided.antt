@@ -13,7 +13,7 @@ use Rattle.rtcp_codec.specs.declared.kind.Kind.TheVariants as kinds
 use Rattle.rtcp_codec.specs.Kind.{kind_of}
 use Rattle.rtcp_codec.specs.Description.{Item, Chunk, item_octets, chunk_octets, IsFill, FitsItem, FitsChunk, HasChunks}
 use Rattle.rtcp_codec.specs.Packet.{Packet}
-use Rattle.rtcp_codec.specs.Compound.{version, size, kind_at, is_padded, padding_of, packet_at, body_of, IsReport, IsWholeReason, IsWholeBody, IsBadPadding, IsFirstOf, in_order, IsCompound, HasFault}
+use Rattle.rtcp_codec.specs.Compound.{version, size, kind_at, is_padded, padding_of, packet_at, body_of, IsReport, IsWholeReason, IsWholeBody, IsBadPadding, IsFirstOf, fault_order, IsCompound, HasFault}
 use Rattle.rtcp_codec.specs.inner.Reading.{HasItems, HasChunk, IsHead, IsGoodPadding, Takes}
 use Rattle.rtcp_codec.proofs.Framing.{IsBytes, IsBytes-take, IsBytes-drop}
 use Rattle.rtcp_codec.proofs.Lists.{front_of}
@@ -150,7 +150,7 @@ report_or_not kinds.Other = inr (λ h. elim h [ inl e ↦ absurd cc | inr e ↦ 
 
 -- a first fault of these octets
 abbrev Faulty : Bool → List ℕ → Type 0
-Faulty first octets = (fault : RtcpFault) × IsFirstOf in_order first fault octets
+Faulty first octets = (fault : RtcpFault) × IsFirstOf fault_order first fault octets
 
 too_short : (first : Bool) (octets : List ℕ) → length octets < 4 → Faulty first octets
 too_short true octets short = (Short, inl ((refl, short), refl))

@@ -98,3 +98,6 @@ mapped_left g xs i x lt is = ap (map g) (left_at xs i x lt ∙ ap (λ y. y ∷ d
 
 pub nothing_left : {X Y : Type 0} (g : X → Y) (xs : List X) (i : ℕ) → length xs ≤ i → map g (drop i xs) ≡ []
 nothing_left g xs i le = ap (map g) (nil_from_length (drop i xs) (omega (arith, length-drop i xs)))
+
+-- the lengths of lists of blocks, words and numbers
+pub ruleset field_lengths = (blocks_length, words_length, numbers_length)

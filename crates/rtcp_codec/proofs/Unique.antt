@@ -19,7 +19,7 @@ use Rattle.rtcp_codec.specs.declared.kind.Kind.{Kind}
 use Rattle.rtcp_codec.specs.Description.{Chunk, chunk_octets, IsFill, Describe, FitsChunk, HasChunks}
 use Rattle.rtcp_codec.specs.Packet.{Packet, Sender, Receiver, Sdes, Bye, App, Nack, Pli, Other, kind, type_of, count_of, fields, IsBody, IsPacket, common_header}
 use Rattle.rtcp_codec.specs.Kind.{kind_of}
-use Rattle.rtcp_codec.specs.Compound.{IsFirstOf, in_order, Case, IsReport, IsBadPadding, IsWholeBody, IsWholeReason, version, size, count, kind_at, is_padded, padding_of, packet_at, body_of}
+use Rattle.rtcp_codec.specs.Compound.{IsFirstOf, fault_order, Case, IsReport, IsBadPadding, IsWholeBody, IsWholeReason, version, size, count, kind_at, is_padded, padding_of, packet_at, body_of}
 use Rattle.rtcp_codec.specs.inner.Reading.{IsSoundBlock, FitsFields, IsOf, Takes, Reads}
 use Rattle.rtcp_codec.proofs.Fitting.{fields_fit, few}
 use Rattle.rtcp_codec.proofs.Framing.{kind_is}
@@ -331,7 +331,7 @@ no_padding_fault n octets front rest e sz at padded pad last words behind first 
 whole_said : (p : Packet) (front body : List ℕ) → kind_at front ≡ kind p → count front ≡ count_of p → body_of front ≡ body → IsWholeBody (kind p) (count_of p) body → IsWholeBody (kind_at front) (count front) (body_of front)
 whole_said p front body k c b h = subst (λ (z : Kind). IsWholeBody z (count front) (body_of front)) (sym k) (subst (λ (z : ℕ). IsWholeBody (kind p) z (body_of front)) (sym c) (subst (IsWholeBody (kind p) (count_of p)) (sym b) h))
 
-none_of : (f : RtcpFault) (first : Bool) (octets : List ℕ) → (Case first Short octets → ⊥) → (Case first Version octets → ⊥) → (Case first First octets → ⊥) → (Case first Length octets → ⊥) → (Case first Padding octets → ⊥) → (Case first Body octets → ⊥) → IsFirstOf in_order first f octets → ⊥
+none_of : (f : RtcpFault) (first : Bool) (octets : List ℕ) → (Case first Short octets → ⊥) → (Case first Version octets → ⊥) → (Case first First octets → ⊥) → (Case first Length octets → ⊥) → (Case first Padding octets → ⊥) → (Case first Body octets → ⊥) → IsFirstOf fault_order first f octets → ⊥
 none_of f first octets a b c d e g (inl h) = a h.0
 none_of f first octets a b c d e g (inr (n, inl h)) = b h.0
 none_of f first octets a b c d e g (inr (n, inr (m, inl h))) = c h.0
@@ -340,7 +340,7 @@ none_of f first octets a b c d e g (inr (n, inr (m, inr (o, inr (p, inl h))))) =
 none_of f first octets a b c d e g (inr (n, inr (m, inr (o, inr (p, inr (q, inl h)))))) = g h.0
 none_of f first octets a b c d e g (inr (n, inr (m, inr (o, inr (p, inr (q, inr (r, h))))))) = h
 
-pub no_fault : (first : Bool) (p : Packet) (octets rest : List ℕ) (f : RtcpFault) → Takes first p octets rest → IsFirstOf in_order first f octets → ⊥
+pub no_fault : (first : Bool) (p : Packet) (octets rest : List ℕ) (f : RtcpFault) → Takes first p octets rest → IsFirstOf fault_order first f octets → ⊥
 no_fault first p octets rest f t h =
     let k = t.is_packet in
     let s = says p t.padding t.front k in
@@ -375,7 +375,7 @@ ended_or_not first octets f e (inr some) = omega (arith, some, ap length e)
 -- reading has one outcome
 pub same_reading : (first : Bool) (ps qs : List Packet) (a b : Option RtcpFault) (octets : List ℕ) → Reads first ps a octets → Reads first qs b octets → (ps ≡ qs) × (a ≡ b)
 same_reading first [] [] None None octets h k = (refl, refl)
-same_reading first [] [] (Some f) (Some g) octets h k = (refl, ap Some (same_fault in_order first f g octets h.1 k.1))
+same_reading first [] [] (Some f) (Some g) octets h k = (refl, ap Some (same_fault fault_order first f g octets h.1 k.1))
 same_reading first [] [] None (Some g) octets h k = absurd (ended_or_not first octets h.0 h.1 k.0)
 same_reading first [] [] (Some f) None octets h k = absurd (ended_or_not first octets k.0 k.1 h.0)
 same_reading first [] (q ∷ qs) None b octets h k = absurd (not_empty first q octets k.0 k.1 h.1)

@@ -14,7 +14,7 @@ use Rattle.rtcp_codec.specs.declared.kind.Kind.{Kind}
 use Rattle.rtcp_codec.specs.declared.kind.Kind.TheVariants as kinds
 use Rattle.rtcp_codec.specs.declared.nack.NackWord.{NackWord}
 use Rattle.rtcp_codec.specs.declared.report.ReportBlock.{ReportBlock}
-use Rattle.rtcp_codec.specs.Compound.{is_padded, count, kind_at, size, padding_of, packet_at, body_of, IsBadPadding, Case, IsFirstOf, in_order, IsWholeReason, IsWholeBody}
+use Rattle.rtcp_codec.specs.Compound.{is_padded, count, kind_at, size, padding_of, packet_at, body_of, IsBadPadding, Case, IsFirstOf, fault_order, IsWholeReason, IsWholeBody}
 use Rattle.rtcp_codec.specs.Kind.{kind_of}
 use Rattle.rtcp_codec.specs.Nack.{word_octets, FitsWord}
 use Rattle.rtcp_codec.specs.Packet.{Packet, Sender, Receiver, Sdes, Bye, App, Nack, Pli, Other}
@@ -345,7 +345,7 @@ judged_packet first at_end octets packet rest body bytes head at parts end good 
 front_size : (first : Bool) (octets packet rest : List ℕ) → IsHead first octets → packet ≡ packet_at octets → octets ≡ packet ++ rest → length octets ≡ size octets + length rest
 front_size first octets packet rest head at parts = omega (arith, ap length at, length-take (size octets) octets, head.whole, ap length parts, length-append packet rest)
 
-pub padding_first : (first at_end : Bool) (octets packet rest : List ℕ) → IsHead first octets → packet ≡ packet_at octets → octets ≡ packet ++ rest → (at_end ≡ false → 0 < length rest) → (is_padded packet ≡ true) × ((at_end ≡ false) ⊎ IsBadPadding (padding_of packet) packet) → IsFirstOf in_order first Padding octets
+pub padding_first : (first at_end : Bool) (octets packet rest : List ℕ) → IsHead first octets → packet ≡ packet_at octets → octets ≡ packet ++ rest → (at_end ≡ false → 0 < length rest) → (is_padded packet ≡ true) × ((at_end ≡ false) ⊎ IsBadPadding (padding_of packet) packet) → IsFirstOf fault_order first Padding octets
 padding_first first at_end octets packet rest head at parts more bad =
     let len = front_size first octets packet rest head at parts in
     let found : Case first Padding octets = elim bad.1 [
@@ -359,7 +359,7 @@ good_padding n packet some words size (inl h) = omega (arith, some, h)
 good_padding n packet some words size (inr (inl h)) = h words
 good_padding n packet some words size (inr (inr h)) = omega (arith, size, h)
 
-pub body_first : (first at_end : Bool) (octets packet rest body : List ℕ) → IsHead first octets → packet ≡ packet_at octets → octets ≡ packet ++ rest → (at_end ≡ true → rest ≡ []) → IsGoodPadding at_end (padding_of packet) packet → body ≡ body_of packet → (IsWholeBody (kind_of (get_or packet 1 0) (get_or packet 0 0 % 32)) (get_or packet 0 0 % 32) body → ⊥) → IsFirstOf in_order first Body octets
+pub body_first : (first at_end : Bool) (octets packet rest body : List ℕ) → IsHead first octets → packet ≡ packet_at octets → octets ≡ packet ++ rest → (at_end ≡ true → rest ≡ []) → IsGoodPadding at_end (padding_of packet) packet → body ≡ body_of packet → (IsWholeBody (kind_of (get_or packet 1 0) (get_or packet 0 0 % 32)) (get_or packet 0 0 % 32) body → ⊥) → IsFirstOf fault_order first Body octets
 body_first first at_end octets packet rest body head at parts end good body-is lacks =
     let len = front_size first octets packet rest head at parts in
     let n = padding_of packet in

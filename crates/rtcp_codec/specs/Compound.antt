@@ -86,8 +86,8 @@ IsFirstOf (f ∷ fs) first fault octets =
     (Case first f octets × (fault ≡ f)) ⊎ ((¬ Case first f octets) × IsFirstOf fs first fault octets)
 
 -- the faults in the order in which they are told
-abbrev pub in_order : List RtcpFault
-in_order = Short ∷ Version ∷ First ∷ Length ∷ Padding ∷ Body ∷ []
+abbrev pub fault_order : List RtcpFault
+fault_order = Short ∷ Version ∷ First ∷ Length ∷ Padding ∷ Body ∷ []
 
 -- a packet where it stands in a compound: its octets, and how many of these are padding
 pub record Part : Type 0 where
@@ -140,11 +140,11 @@ pub record HasLaterFault (fault : RtcpFault) (octets : List ℕ) : Type 0 where
   pub report : BeginsWithReport (packets_in before)
   pub unpadded : AreUnpadded before
   pub some : 0 < length rest
-  pub its_fault : IsFirstOf in_order false fault rest
+  pub its_fault : IsFirstOf fault_order false fault rest
 
 -- the first packet has this as its first fault, or it has none and a later one has
 abbrev pub HasFault : RtcpFault → List ℕ → Type 0
-HasFault fault octets = IsFirstOf in_order true fault octets ⊎ HasLaterFault fault octets
+HasFault fault octets = IsFirstOf fault_order true fault octets ⊎ HasLaterFault fault octets
 
 -- the written form of a compound: its packets in order
 abbrev pub written : List Packet → List ℕ

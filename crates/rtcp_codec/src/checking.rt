@@ -118,7 +118,7 @@ fn reason_size<A: Allocator>(reason: &Option<Vec<u8, A>>) -> Option<usize>
 
 /// The octets of a packet's fields. `None` if a text or reason is over 255 octets, a content or body isn't whole
 /// words, or there are too many.
-#[tactic(auto, using(crate::proofs::Lists::blocks_length, crate::proofs::Lists::words_length, crate::proofs::Lists::numbers_length))]
+#[tactic(auto, using(crate::proofs::Lists::field_lengths))]
 fn fields_size<A: Allocator>(packet: &Rtcp<A>) -> Option<usize>
     requires { CountFits (packet_of packet.now) }
     ensures size { IfSome result (λ n. n ≡ length (fields (packet_of packet.now))) }

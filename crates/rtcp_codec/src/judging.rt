@@ -5,7 +5,7 @@ ghost use Rattle.std.specs.Prelude.{IfErr};
 ghost use Rattle.rtcp_codec.specs.Kind.{kind_of};
 ghost use Rattle.rtcp_codec.specs.Packet.{Packet};
 ghost use Rattle.rtcp_codec.specs.Compound.{size, packet_at, padding_of, body_of, is_padded, IsReport, IsBadPadding};
-ghost use Rattle.rtcp_codec.specs.Compound.{IsFirstOf, in_order, IsWholeReason, IsWholeBody, IsCompound, HasFault};
+ghost use Rattle.rtcp_codec.specs.Compound.{IsFirstOf, fault_order, IsWholeReason, IsWholeBody, IsCompound, HasFault};
 ghost use Rattle.rtcp_codec.specs.inner.Reading.{IsHead, IsGoodPadding, Takes};
 
 use crate::fault::RtcpFault;
@@ -61,7 +61,7 @@ fn is_report(pt: u8, count: u8) -> bool
 /// +-+-+-+-+-+-+-+-+-+-+-+-+-+-+-+-+-+-+-+-+-+-+-+-+-+-+-+-+-+-+-+-+
 /// ```
 fn split_packet(first: bool, octets: &[u8]) -> Result<(&[u8], &[u8]), RtcpFault>
-    ensures err { IfErr result (λ f. IsFirstOf in_order first f octets.now) }
+    ensures err { IfErr result (λ f. IsFirstOf fault_order first f octets.now) }
     ensures head { IfOk result (λ r. IsHead first octets.now) }
     ensures packet { IfOk result (λ r. r.0.now ≡ packet_at octets.now) }
     ensures parts { IfOk result (λ r. octets.now ≡ r.0.now ++ r.1.now) }
@@ -133,7 +133,7 @@ fn has_body(pt: u8, count: u8, body: &[u8]) -> bool
 /// What follows the packet at the front, or the packet's first fault.
 fn judge_packet(first: bool, octets: &[u8]) -> Result<&[u8], RtcpFault>
     ensures ok { IfOk result (λ rest. (p : Packet) × Takes first p octets.now rest.now) }
-    ensures err { IfErr result (λ f. IsFirstOf in_order first f octets.now) }
+    ensures err { IfErr result (λ f. IsFirstOf fault_order first f octets.now) }
 {
     let (packet, rest) = split_packet(first, octets)?;
     if !has_good_padding(rest.is_empty(), packet) {

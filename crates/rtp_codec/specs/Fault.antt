@@ -59,9 +59,9 @@ first_of [] octets = None
 first_of (fault ∷ faults) octets = if is_case fault octets then Some fault else first_of faults octets
 
 -- the faults in the order in which they are told
-abbrev pub in_order : List RtpFault
-in_order = Short ∷ Version ∷ Csrc ∷ Extension ∷ Padding ∷ []
+abbrev pub fault_order : List RtpFault
+fault_order = Short ∷ Version ∷ Csrc ∷ Extension ∷ Padding ∷ []
 
 -- the first fault
 unfoldable pub first_fault : List ℕ → Option RtpFault
-first_fault octets = first_of in_order octets
+first_fault octets = first_of fault_order octets

@@ -109,11 +109,10 @@ fn parse(octets: &[u8]) -> Result<RtpView<'_>, RtpFault>
     if first / 64 != 2 {
         return Err(RtpFault::Version);
     }
-    let csrcs_size = 4 * usize::from(first % 16);
-    if rest.len() < csrcs_size {
+    if rest.len() < 4 * usize::from(first % 16) {
         return Err(RtpFault::Csrc);
     }
-    let (csrcs, rest) = rest.split_at(csrcs_size);
+    let (csrcs, rest) = rest.split_at(4 * usize::from(first % 16));
     let Some((extension, rest)) = split_extension(first / 16 % 2 == 1, rest) else {
         return Err(RtpFault::Extension);
     };

@@ -27,14 +27,14 @@ use Rattle.rtp_codec.specs.declared.address.Address.{Address}
 use Rattle.intake.specs.Ingested.{Ingested}
 use Rattle.intake.specs.Sources.{Sources, no_sources}
 use Rattle.intake.specs.Taking.{taken_in}
-use Rattle.intake.specs.Intakes.{Knows, TakesIn, Tells}
+use Rattle.intake.specs.Intakes.{Knows, TakesIn, TellsSenders}
 use Rattle.intake.specs.Reported.{reported}
 use Rattle.script_text.specs.Wire.{Wire, script_asker, voice_of}
 use Rattle.script_text.specs.Requests.{Desk as DeskRequest, Rx, Report, Show}
 use Rattle.script_text.specs.Datagrams.{outcome_text, up_text}
 use Rattle.script_text.specs.Text.{reply_text, sent_text}
 use Rattle.script_text.specs.RowLines.{show_text}
-use Rattle.script_text.specs.Bridge.{answer_call, Bridge, first_desk, answer_text, after, text_of, opening_bridge, item_sent, after_item, items_sent, items_text, after_items, knowing, taken_at, reported_at}
+use Rattle.script_text.specs.Bridge.{answer_call, Bridge, first_desk, answer_text, bridge_after, text_of, opening_bridge, item_sent, after_item, items_sent, items_text, after_items, knowing, taken_at, reported_at}
 use Rattle.script_text.specs.inner.Steps.{wants_memory, Stands, AnswersRequest, HandsItem, HandsItems}
 
 not_memory : (at : ℕ) (why : Refusal) → wants_memory (Refused at why) ≡ false → why ≡ OutOfMemory → ⊥
@@ -61,7 +61,7 @@ accepted old new bridge call s called lanes intake takes = record {
 }
 
 pub call_answered : (op : ℕ) (old new : CoreOf) (bridge : Bridge) (call : CallOf) (reply : Reply) → Stands old bridge → Answers old new call reply → IsAnswered bridge.calls new call reply → OnAccepted reply (Takes old new (Step.publish new.desk) []) → new.intake ≡ old.intake → wants_memory reply ≡ false
-    → Stands new (after bridge (DeskRequest op call)) × (reply_text reply ≡ answer_text bridge (DeskRequest op call))
+    → Stands new (bridge_after bridge (DeskRequest op call)) × (reply_text reply ≡ answer_text bridge (DeskRequest op call))
 call_answered op old new bridge call (Accepted number) s does by takes intake told =
     let next = history_after bridge.calls call in (
       subst (λ (o : Option Refusal). Stands new (answer_call bridge next o).1) (sym by.0) (accepted old new bridge call s by.2 (ap length does.2) intake takes),
@@ -164,7 +164,7 @@ datagram_answered old mid new moment from octets ingested before now takes other
 -- ---- reports
 
 pub report_answered : (old mid new : CoreOf) (moment : ℕ) (up : List (Address × List ℕ)) (before now : List ℕ)
-    → Tells old.intake mid.intake up old.desk moment → IsElse old mid → mid.intake.asker ≡ old.intake.asker
+    → TellsSenders old.intake mid.intake up old.desk moment → IsElse old mid → mid.intake.asker ≡ old.intake.asker
     → before ≡ flat_map up_text up → HandsItem mid (report moment) new before now → AnswersRequest old (Report moment) new now
 report_answered old mid new moment up before now tells others asker text hands bridge heard s =
     let here = reported_at bridge moment in

@@ -23,7 +23,7 @@ use Rattle.media_items.specs.Inputs.Input.{report}
 use Rattle.script_text.specs.Requests.{Request, Nothing, Desk, Item, Rx, Report, Show}
 use Rattle.script_text.specs.Wire.{Wire}
 use Rattle.script_text.specs.Lines.{lines_of}
-use Rattle.script_text.specs.Bridge.{Bridge, first_desk, opening_bridge, answer_call, after_item, after_items, knowing, taken_at, reported_at, after}
+use Rattle.script_text.specs.Bridge.{Bridge, first_desk, opening_bridge, answer_call, after_item, after_items, knowing, taken_at, reported_at, bridge_after}
 use Rattle.script_text.specs.Scripts.{requests_of, after_all, steps_of}
 
 -- a command that is not refused leaves a good desk
@@ -137,7 +137,7 @@ items_good : (b : Bridge) (items : List Input) → Fine b → Fine (after_items 
 items_good b [] fine = fine
 items_good b (item ∷ items) fine = items_good (after_item b item) items (item_good b item fine)
 
-after_good : Keeps → (b : Bridge) (request : Request) → Fine b → Fine (after b request)
+after_good : Keeps → (b : Bridge) (request : Request) → Fine b → Fine (bridge_after b request)
 after_good keeps b Nothing fine = fine
 after_good keeps b Show fine = fine
 after_good keeps b (Desk op call) fine = by (refusal_of b.calls call) refl
@@ -156,7 +156,7 @@ after_good keeps b (Report moment) fine = item_good (knowing (reported_at b mome
 
 all_good : Keeps → (b : Bridge) (requests : List Request) → Fine b → Fine (after_all b requests)
 all_good keeps b [] fine = fine
-all_good keeps b (request ∷ requests) fine = all_good keeps (after b request) requests (after_good keeps b request fine)
+all_good keeps b (request ∷ requests) fine = all_good keeps (bridge_after b request) requests (after_good keeps b request fine)
 
 pub first_good : good first_desk ≡ true
 unfolding good

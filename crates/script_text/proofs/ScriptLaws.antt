@@ -14,7 +14,7 @@ use Rattle.intake.specs.Sources.{Sources}
 use Rattle.script_text.specs.Requests.{Request, Nothing, Desk, Item, Rx, Report, Show, request_of}
 use Rattle.script_text.specs.Lines.{lines_of}
 use Rattle.script_text.specs.Wire.{Wire, script_asker}
-use Rattle.script_text.specs.Bridge.{Bridge, first_desk, opening_bridge, Answer, silence, replied, sent, heard, reports, shown, text_of, answer_call, item_sent, after_item, items_sent, after_items, knowing, answer_datagram, taken_at, answer, after}
+use Rattle.script_text.specs.Bridge.{Bridge, first_desk, opening_bridge, Answer, silence, replied, sent, heard, reports, shown, text_of, answer_call, item_sent, after_item, items_sent, after_items, knowing, answer_datagram, taken_at, answer, bridge_after}
 use Rattle.script_text.specs.Output.{Outcome, continues, outcome_of, output_of}
 use Rattle.script_text.specs.Scripts.{followed, requests_of, answers_to, after_all, sent_in, answers_of, steps_of}
 
@@ -22,7 +22,7 @@ use Rattle.script_text.specs.Scripts.{followed, requests_of, answers_to, after_a
 
 text_on : (bridge : Bridge) (number : ℕ) (read : Result Request (ℕ × Fault)) (others : Bridge → Outcome) (requests : List Request) → ((b : Bridge) → (others b).text ≡ flat_map text_of (answers_to b requests))
     → (continues number bridge read others).text ≡ flat_map text_of (answers_to bridge (followed read requests))
-text_on bridge number (Ok request) others requests h = ap (λ (t : List ℕ). text_of (answer bridge request).0 ++ t) (h (after bridge request))
+text_on bridge number (Ok request) others requests h = ap (λ (t : List ℕ). text_of (answer bridge request).0 ++ t) (h (bridge_after bridge request))
 text_on bridge number (Err e) others requests h = refl
 
 text_from : (bridge : Bridge) (number : ℕ) (lines : List (List ℕ)) → (outcome_of bridge number lines).text ≡ flat_map text_of (answers_to bridge (requests_of lines))
@@ -61,7 +61,7 @@ received bridge ingested sources =
     let known = knowing sources bridge in
     items_send known ingested.items ∙ ap (λ (t : List (List Sent)). sends script_asker 1 first_desk bridge.steps ++ t) (sym (append-nil (items_sent known ingested.items)))
 
-one_sends : (bridge : Bridge) (request : Request) → sends script_asker 1 first_desk (after bridge request).steps ≡ sends script_asker 1 first_desk bridge.steps ++ sent_in ((answer bridge request).0 ∷ [])
+one_sends : (bridge : Bridge) (request : Request) → sends script_asker 1 first_desk (bridge_after bridge request).steps ≡ sends script_asker 1 first_desk bridge.steps ++ sent_in ((answer bridge request).0 ∷ [])
 one_sends bridge Nothing = sym (append-nil (sends script_asker 1 first_desk bridge.steps))
 one_sends bridge Show = sym (append-nil (sends script_asker 1 first_desk bridge.steps))
 one_sends bridge (Desk op call) = call_sends bridge (history_after bridge.calls call) (refusal_of bridge.calls call)
@@ -80,11 +80,11 @@ sent_first (shown desk version) others = refl
 all_sends : (bridge : Bridge) (requests : List Request) → sends script_asker 1 first_desk (after_all bridge requests).steps ≡ sends script_asker 1 first_desk bridge.steps ++ sent_in (answers_to bridge requests)
 all_sends bridge [] = sym (append-nil (sends script_asker 1 first_desk bridge.steps))
 all_sends bridge (request ∷ requests) =
-    let others = sent_in (answers_to (after bridge request) requests) in
-    all_sends (after bridge request) requests
+    let others = sent_in (answers_to (bridge_after bridge request) requests) in
+    all_sends (bridge_after bridge request) requests
     ∙ (ap (λ (t : List (List Sent)). t ++ others) (one_sends bridge request)
     ∙ (append_assoc (sends script_asker 1 first_desk bridge.steps) (sent_in ((answer bridge request).0 ∷ [])) others
-    ∙ ap (λ (t : List (List Sent)). sends script_asker 1 first_desk bridge.steps ++ t) (sym (sent_first (answer bridge request).0 (answers_to (after bridge request) requests)))))
+    ∙ ap (λ (t : List (List Sent)). sends script_asker 1 first_desk bridge.steps ++ t) (sym (sent_first (answer bridge request).0 (answers_to (bridge_after bridge request) requests)))))
 
 pub sends_told : (wire : Wire) (input : List ℕ) → sent_in (answers_of wire input) ≡ sends script_asker 1 first_desk (steps_of wire input)
 sends_told wire input = sym (all_sends (opening_bridge wire) (requests_of (lines_of input)))

@@ -14,7 +14,7 @@ use Rattle.desk_edit.specs.declared.refusal.Refusal.{Refusal}
 use Rattle.desk_edit.specs.Calls.{CallHistory, refusal_of, after_call as history_after}
 use Rattle.media_items.specs.Inputs.{Input}
 use Rattle.script_text.specs.Wire.{Wire, Hears, HearsAll}
-use Rattle.script_text.specs.Bridge.{Bridge, answer_call, after_item, after_items, knowing, taken_at, answer_text, after}
+use Rattle.script_text.specs.Bridge.{Bridge, answer_call, after_item, after_items, knowing, taken_at, answer_text, bridge_after}
 use Rattle.bridge_core.specs.Steps.{CoreOf}
 use Rattle.script_text.specs.Requests.{Request, Nothing, Desk, Item, Rx, Report, Show, request_of}
 use Rattle.script_text.specs.Lines.{parts_of, lines_by, whole, ended}
@@ -76,7 +76,7 @@ call_wire : (bridge : Bridge) (next : CallHistory) (why : Option Refusal) → (a
 call_wire bridge next None = refl
 call_wire bridge next (Some why) = refl
 
-same_wire : (bridge : Bridge) (request : Request) → (after bridge request).wire ≡ bridge.wire
+same_wire : (bridge : Bridge) (request : Request) → (bridge_after bridge request).wire ≡ bridge.wire
 same_wire bridge Nothing = refl
 same_wire bridge Show = refl
 same_wire bridge (Desk op call) = call_wire bridge (history_after bridge.calls call) (refusal_of bridge.calls call)
@@ -102,11 +102,11 @@ kept_heard wire pending tail x h = subst (λ (t : List ℕ). HearsAll wire (line
 line_step : (held new : Held) (bridge : Bridge) (core : CoreOf) (tail sent : List ℕ) (r : Result (Unit {0}) RunFault) → NoLf held.pending → HearsComing bridge.wire held (10 ∷ tail) → LineEnds bridge held.line (strip_carriage_return held.pending) core sent r → MatchResult r (λ _. new ≡ next_line held core) (λ _. Unit {0}) → StepEnds (place_of held bridge) (10 ∷ []) tail new sent r
 line_step held new bridge core behind sent (Ok u) nolf heard h is =
     let others = subst (λ (wire : Wire). HearsAll wire (lines_by whole (parts_of behind))) (sym (same_wire bridge h.0)) (others_heard bridge.wire held.pending behind nolf heard) in
-    rw is (after bridge h.0, h.2, (λ last tail. lf_comes (place_of held bridge) last tail nolf ∙ (rw (h.1, h.3) refl)), others)
+    rw is (bridge_after bridge h.0, h.2, (λ last tail. lf_comes (place_of held bridge) last tail nolf ∙ (rw (h.1, h.3) refl)), others)
 line_step held new bridge core behind sent (Err (errors.Script n word fault)) nolf heard h is = λ tail.
     lf_comes (place_of held bridge) whole tail nolf ∙ rw (h.1, h.0, h.2) refl
 line_step held new bridge core behind sent (Err errors.Write) nolf heard h is = λ tail.
-    let others = outcome_of (after bridge h.0) (held.line + 1) (lines_by whole (parts_of tail)) in
+    let others = outcome_of (bridge_after bridge h.0) (held.line + 1) (lines_by whole (parts_of tail)) in
     let answered : to_come whole (place_of held bridge) (10 ∷ tail) ≡ told (answer_text bridge h.0) others = lf_comes (place_of held bridge) whole tail nolf ∙ rw h.1 refl in (
       h.2.0,
       h.2.1 ++ others.text,

@@ -140,5 +140,5 @@ abbrev pub answer_text : Bridge → Request → List ℕ
 answer_text bridge request = text_of (answer bridge request).0
 
 -- the bridge after a request
-abbrev pub after : Bridge → Request → Bridge
-after bridge request = (answer bridge request).1
+abbrev pub bridge_after : Bridge → Request → Bridge
+bridge_after bridge request = (answer bridge request).1

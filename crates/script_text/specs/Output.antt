@@ -7,7 +7,7 @@ use Rattle.script_text.specs.declared.fault.RunFault.TheVariants as errors
 use Rattle.script_text.specs.Requests.{Request, request_of}
 use Rattle.script_text.specs.Lines.{lines_of, ended_lines}
 use Rattle.script_text.specs.Wire.{Wire}
-use Rattle.script_text.specs.Bridge.{Bridge, opening_bridge, answer_text, after}
+use Rattle.script_text.specs.Bridge.{Bridge, opening_bridge, answer_text, bridge_after}
 
 -- the text that is written, and the fault that ends it, if any: its line, the place of its word, and what it is
 pub record Outcome : Type 0 where
@@ -29,7 +29,7 @@ stopped line word fault = record { text = []; fault = Some (line, word, fault) }
 -- a line that is read is answered, and the others go on; one with a fault ends the script
 abbrev pub continues : ℕ → Bridge → Result Request (ℕ × Fault) → (Bridge → Outcome) → Outcome
 continues number bridge (Err e) others = stopped number e.0 e.1
-continues number bridge (Ok request) others = told (answer_text bridge request) (others (after bridge request))
+continues number bridge (Ok request) others = told (answer_text bridge request) (others (bridge_after bridge request))
 
 -- what lines give, from this bridge on and with the first of them under this number
 unfoldable pub outcome_of : Bridge → ℕ → List (List ℕ) → Outcome

@@ -108,8 +108,8 @@ rx_of moment from words = do
   Ok (Rx moment from octets)
 
 -- a tick at a moment, where no word is left
-abbrev pub tick_of : ℕ → List (List ℕ) → Result Request (ℕ × Fault)
-tick_of moment words = do
+abbrev pub tick_item : ℕ → List (List ℕ) → Result Request (ℕ × Fault)
+tick_item moment words = do
   end ← none_left 3 words
   Ok (Item (tick moment))
 
@@ -130,7 +130,7 @@ abbrev pub request_with : Kind → List Value → List (List ℕ) → Result Req
 request_with kinds.Desk vs words = desk_of (number_at 0 vs) words
 request_with kinds.Frame vs words = frame_of (sighted vs) words
 request_with kinds.Rx vs words = rx_of (number_at 0 vs) (address_at 1 vs) words
-request_with kinds.Tick vs words = tick_of (number_at 0 vs) words
+request_with kinds.Tick vs words = tick_item (number_at 0 vs) words
 request_with kinds.Report vs words = report_of (number_at 0 vs) words
 request_with kinds.Show vs words = show_of words
 

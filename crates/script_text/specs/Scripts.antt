@@ -7,7 +7,7 @@ use Rattle.script_text.specs.Requests.{Request, request_of}
 use Rattle.script_text.specs.Lines.{lines_of}
 use Rattle.script_text.specs.Wire.{Wire}
 use Rattle.script_text.specs.Bridge.{Bridge, opening_bridge, Answer, silence, replied, sent}
-use Rattle.script_text.specs.Bridge.{heard, reports, shown, answer, after}
+use Rattle.script_text.specs.Bridge.{heard, reports, shown, answer, bridge_after}
 
 -- a request before others; a line with a fault ends them
 abbrev pub followed : Result Request (ℕ × Fault) → List Request → List Request
@@ -22,12 +22,12 @@ requests_of (line ∷ lines) = followed (request_of line) (requests_of lines)
 -- the answers to requests, one after another
 abbrev pub answers_to : Bridge → List Request → List Answer
 answers_to bridge [] = []
-answers_to bridge (request ∷ requests) = (answer bridge request).0 ∷ answers_to (after bridge request) requests
+answers_to bridge (request ∷ requests) = (answer bridge request).0 ∷ answers_to (bridge_after bridge request) requests
 
 -- the bridge after them
 abbrev pub after_all : Bridge → List Request → Bridge
 after_all bridge [] = bridge
-after_all bridge (request ∷ requests) = after_all (after bridge request) requests
+after_all bridge (request ∷ requests) = after_all (bridge_after bridge request) requests
 
 -- what goes out for items, and nothing for what else is answered
 abbrev pub sent_in : List Answer → List (List Sent)

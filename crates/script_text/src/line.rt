@@ -7,7 +7,7 @@ ghost use Rattle.script_text.specs.Words.{Gives};
 ghost use Rattle.script_text.specs.inner.Cursor.{words_in, size_of, view, sighting};
 ghost use Rattle.script_text.specs.Values.{field_of};
 ghost use Rattle.script_text.specs.Requests.{is_printable, some_packets, framed, frame_of, desk_of};
-ghost use Rattle.script_text.specs.Requests.{some_octets, rx_of, tick_of, report_of, show_of};
+ghost use Rattle.script_text.specs.Requests.{some_octets, rx_of, tick_item, report_of, show_of};
 ghost use Rattle.script_text.specs.Requests.{front_of, request_with, words_request, request_of};
 
 use crate::calling::call;
@@ -165,7 +165,7 @@ fn rx<A: Allocator + Copy>(
 
 /// A tick at a moment.
 fn tick<A: Allocator + Copy>(moment: u64, words: Option<&[u8]>) -> Result<Line<A>, ParseFault>
-    ensures { Gives view result (tick_of moment (words_in words.entry)) }
+    ensures { Gives view result (tick_item moment (words_in words.entry)) }
 {
     end_of_words(words, 3)?;
     Ok(Line::Tick { moment })

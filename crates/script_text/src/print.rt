@@ -1,9 +1,10 @@
 //! What is printed for replies and for what goes out.
 
-ghost use Rattle.std.specs.Prelude.{◌≡◌, ◌+◌, ◌<◌, [], ◌∷◌, ◌++◌, codes, length, map, OnOk, OnErr, vec_len, vec_capacity};
+ghost use Rattle.std.specs.Prelude.{◌≡◌, ◌+◌, ◌<◌, [], ◌∷◌, ◌++◌, codes, length, map, OnOk, OnErr};
+ghost use Rattle.std.specs.Prelude.{vec_len, vec_capacity};
 ghost use Rattle.script_text.specs.declared.value.Value.TheVariants.{U16, U32, U64};
-ghost use Rattle.script_text.specs.Text.{fixed, value, hex, line_text, told_words, reason_words, reply_text, refused_text};
-ghost use Rattle.script_text.specs.Text.{head_words, media_words, source_words, loss_words, sent_text};
+ghost use Rattle.script_text.specs.Text.{fixed, value, hex, line_text, told_words, reason_words, reply_text};
+ghost use Rattle.script_text.specs.Text.{refused_text, head_words, media_words, source_words, loss_words, sent_text};
 ghost use Rattle.script_text.specs.inner.Shown.{said};
 ghost use Rattle.desk_edit.specs.Told.{told_in};
 ghost use Rattle.bridge_core.specs.Sent.{sent_of};

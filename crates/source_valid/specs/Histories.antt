@@ -46,15 +46,15 @@ after_block (Waiting last) = Waiting last
 after_block (Valid s) = Valid (told_in s)
 
 -- how far it has come by one more step; arrivals and sender reports change nothing of it
-abbrev pub after : Standing → Step → Standing
-after st (Number n) = after_number st n
-after st (Arrival ts units) = st
-after st (Sender heard) = st
-after st Block = after_block st
+abbrev pub standing_after : Standing → Step → Standing
+standing_after st (Number n) = after_number st n
+standing_after st (Arrival ts units) = st
+standing_after st (Sender heard) = st
+standing_after st Block = after_block st
 
 -- how far it has come by all its steps
 abbrev pub standing_of : List Step → Standing
-standing_of steps = fold after Unheard steps
+standing_of steps = fold standing_after Unheard steps
 
 -- It is past probation.
 abbrev pub past_probation_in : Standing → Bool

@@ -6,17 +6,17 @@ use Rattle.udp_front.specs.declared.fault.SettingsFault.TheVariants.{UnknownKey,
 use Rattle.udp_front.specs.Settings.{Trouble, bad_toml, missing_key, bad_value, unknown_key, key_text}
 
 -- a fault tells the trouble that was read, unless memory ran out
-abbrev pub Tells : {A : Type 0} → SettingsFault → Result A Trouble → Type 0
-Tells BadToml read = read ≡ Err bad_toml
-Tells (MissingKey key) read = read ≡ Err (missing_key key)
-Tells (BadValue key) read = read ≡ Err (bad_value key)
-Tells (UnknownKey key) read = read ≡ Err (unknown_key (string_bytes key))
-Tells OutOfMemory read = Unit {0}
+abbrev pub TellsTrouble : {A : Type 0} → SettingsFault → Result A Trouble → Type 0
+TellsTrouble BadToml read = read ≡ Err bad_toml
+TellsTrouble (MissingKey key) read = read ≡ Err (missing_key key)
+TellsTrouble (BadValue key) read = read ≡ Err (bad_value key)
+TellsTrouble (UnknownKey key) read = read ≡ Err (unknown_key (string_bytes key))
+TellsTrouble OutOfMemory read = Unit {0}
 
 -- what a function returned, seen by view, is what was read, unless memory ran out
 abbrev pub Gives : {X A : Type 0} → (X → A) → Result X SettingsFault → Result A Trouble → Type 0
 Gives view (Ok x) read = read ≡ Ok (view x)
-Gives view (Err fault) read = Tells fault read
+Gives view (Err fault) read = TellsTrouble fault read
 
 -- how a fault is printed
 abbrev pub settings_text : SettingsFault → List ℕ

@@ -1,7 +1,7 @@
 //! Faults of a packet that stands behind a good report: they are told without memory.
 
 ghost use Rattle.std.specs.Prelude.{◌≡◌, ◌<◌, false, [], ◌∷◌, take, drop, length, Some};
-ghost use Rattle.rtcp_codec.specs.Compound.{IsFirstOf, in_order};
+ghost use Rattle.rtcp_codec.specs.Compound.{IsFirstOf, fault_order};
 
 use rtcp_codec::{RtcpFault, read_compound};
 use std::alloc::Global;
@@ -11,7 +11,7 @@ use std::alloc::Global;
 fn refused_as(alloc: Global, _fault: RtcpFault, octets: &[u8]) -> Option<RtcpFault>
     requires report { take 8 octets.now ≡ 128 ∷ 201 ∷ 0 ∷ 1 ∷ 0 ∷ 0 ∷ 0 ∷ 9 ∷ [] }
     requires more { 8 < length octets.now }
-    requires fault { IsFirstOf in_order false _fault (drop 8 octets.now) }
+    requires fault { IsFirstOf fault_order false _fault (drop 8 octets.now) }
     ensures { result ≡ Some _fault }
 {
     read_compound(alloc, octets).err()

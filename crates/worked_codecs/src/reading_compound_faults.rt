@@ -1,14 +1,14 @@
 //! Why datagrams are no RTCP compounds: the first fault of the first packet.
 
 ghost use Rattle.std.specs.Prelude.{◌≡◌, true, Some};
-ghost use Rattle.rtcp_codec.specs.Compound.{IsFirstOf, in_order};
+ghost use Rattle.rtcp_codec.specs.Compound.{IsFirstOf, fault_order};
 
 use rtcp_codec::{RtcpFault, read_compound};
 use std::alloc::Global;
 
 /// A datagram whose first packet has this fault is refused as that, without memory.
 fn refused_as(alloc: Global, _fault: RtcpFault, octets: &[u8]) -> Option<RtcpFault>
-    requires { IsFirstOf in_order true _fault octets.now }
+    requires { IsFirstOf fault_order true _fault octets.now }
     ensures { result ≡ Some _fault }
 {
     read_compound(alloc, octets).err()

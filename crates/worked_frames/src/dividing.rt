@@ -4,7 +4,7 @@ ghost use Rattle.std.specs.Prelude.{◌≡◌, ◌≤◌, ◌++◌, List, pos, I
 ghost use Rattle.frame_gate.specs.Packets.{NumberedPacket, numbered};
 ghost use Rattle.frame_gate.specs.Runs.{Divided, frames_in};
 ghost use Rattle.frame_gate.specs.Frame.{highest_pt};
-ghost use Rattle.frame_gate.specs.Epochs.{after, epoch_of, frames_of, run};
+ghost use Rattle.frame_gate.specs.Epochs.{epoch_after, epoch_of, frames_of, run};
 ghost use Rattle.frame_gate.specs.Admits.{Represents};
 ghost use Rattle.frame_gate.specs.laws.WholeDivision.{IsDivision};
 
@@ -21,7 +21,7 @@ pub fn lets_go_of_the_one_division(
     requires { packet.pt ≤ highest_pt }
     ensures { IfOk result (λ a. (before : List NumberedPacket) (d : Divided)
         → Represents gate.old before
-        → (let then = after (epoch_of before) (numbered (pos 7) packet) in
+        → (let then = epoch_after (epoch_of before) (numbered (pos 7) packet) in
         IsDivision (run then) d → frames_of (epoch_of before) ++ a.frames ≡ then.earlier ++ frames_in d)) }
 {
     whole_division();

@@ -11,7 +11,7 @@ use Rattle.media_workers.specs.declared.parcel.Parcel.TheVariants.{Work}
 use Rattle.media_workers.specs.LaneRuns.{LaneNow}
 use Rattle.media_workers.specs.Ports.{PortOf}
 use Rattle.media_workers.specs.Bridges.{EndOf, EndsAs, AllEnded}
-use Rattle.lane_laws.specs.Learnt.{Told, AllLearnt, lanes_of}
+use Rattle.lane_laws.specs.Learnt.{HasNotice, AllLearnt, lanes_of}
 use Rattle.worked_lanes.specs.Sentence.{given, AreUntold, AreTold, NoneLater}
 
 -- a lane that is given a tick stays the same lane
@@ -39,11 +39,11 @@ lanes_still (Ok x) old new lane notice moment low ok err =
     ap lanes_of (ok here.0 here.1).1 ∙ lanes_kept old lane here.0 notice moment here.1
 lanes_still (Err e) old new lane notice moment low ok err = ap lanes_of err.1
 
-told_one : {P : Type 0} (port : PortOf P) (notice : NoticeOf) (moment : ℕ) → port.accepted ≡ [] → Told notice.lists (given notice moment port).accepted × (length (given notice moment port).accepted ≡ 1)
+told_one : {P : Type 0} (port : PortOf P) (notice : NoticeOf) (moment : ℕ) → port.accepted ≡ [] → HasNotice notice.lists (given notice moment port).accepted × (length (given notice moment port).accepted ≡ 1)
 told_one port notice moment none =
     let now : (given notice moment port).accepted ≡ Work (Tick moment) (Some notice) ∷ [] = ap (λ (xs : List Parcel). xs ++ Work (Tick moment) (Some notice) ∷ []) none in
-    let first : Told notice.lists (Work (Tick moment) (Some notice) ∷ []) = (Tick moment, notice, (0, omega arith, refl), refl) in
-    (subst (Told notice.lists) (sym now) first, ap length now)
+    let first : HasNotice notice.lists (Work (Tick moment) (Some notice) ∷ []) = (Tick moment, notice, (0, omega arith, refl), refl) in
+    (subst (HasNotice notice.lists) (sym now) first, ap length now)
 
 -- both lanes, each of which is given a tick
 pub both_told : {P : Type 0} (old middle new : List (PortOf P)) (again notice : NoticeOf) (moment : ℕ) → again ≡ notice → length old ≡ 2 → AreUntold old
@@ -69,7 +69,7 @@ each P (x ∷ xs) all = (all 0 x (omega arith), each P xs (λ k d low. all (suc 
 
 -- lanes that handled all that they were given learnt what they were told
 pub all_learnt : {N P : Type 0} (lists : List (List EditOf)) (answers : P → ℕ → Bool → Type 0) (ports : List (PortOf P)) (ends : List (EndOf N)) (ended : AllEnded answers ports ends)
-    → ((port : PortOf P) (end : EndOf N) (e : EndsAs answers port end) (ls : List (List EditOf)) → Told ls port.accepted → end.handled ≡ length port.accepted → Told ls e.ran.done)
+    → ((port : PortOf P) (end : EndOf N) (e : EndsAs answers port end) (ls : List (List EditOf)) → HasNotice ls port.accepted → end.handled ≡ length port.accepted → HasNotice ls e.ran.done)
     → AreTold lists ports → AllByRecursion (λ (end : EndOf N). end.handled ≡ 1) ends → NoneLater lists answers ports ends ended → AllLearnt lists answers ports ends ended
 all_learnt lists answers [] [] ended law told handled none = tt
 all_learnt lists answers [] (e ∷ es) ended law told handled none = absurd none

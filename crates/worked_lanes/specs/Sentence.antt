@@ -12,7 +12,7 @@ use Rattle.media_workers.specs.declared.parcel.Parcel.TheVariants.{Work}
 use Rattle.media_workers.specs.LaneRuns.{Served}
 use Rattle.media_workers.specs.Ports.{PortOf, accept}
 use Rattle.media_workers.specs.Bridges.{EndOf, AllEnded}
-use Rattle.lane_laws.specs.Learnt.{Told}
+use Rattle.lane_laws.specs.Learnt.{HasNotice}
 use Rattle.lane_laws.specs.OneList.{SendByVersions}
 
 -- the lane is given a tick with this notice
@@ -25,7 +25,7 @@ AreUntold ports = AllByRecursion (λ p. p.accepted ≡ []) ports
 
 -- One parcel was accepted for each of these lanes, with a notice of these lists.
 abbrev pub AreTold : {P : Type 0} → List (List EditOf) → List (PortOf P) → Type 0
-AreTold lists ports = AllByRecursion (λ p. Told lists p.accepted × (length p.accepted ≡ 1)) ports
+AreTold lists ports = AllByRecursion (λ p. HasNotice lists p.accepted × (length p.accepted ≡ 1)) ports
 
 -- No lane handled an item by a later version than that of these lists.
 abbrev pub NoneLater : {N P : Type 0} (lists : List (List EditOf)) (answers : P → ℕ → Bool → Type 0)

@@ -7,7 +7,7 @@ use Rattle.desk_rows.specs.Desk.{Desk}
 use Rattle.topology.specs.Mixes.{mix_member}
 use Rattle.forward_rewrite.specs.Mixes.{Sound, MixOf, PreparedMixOf, mix_state, sounding, silent, GivesTick}
 use Rattle.media_items.specs.OwnStreams.{is_mine}
-use Rattle.mixer.specs.Hearing.{Voice, rate_of, sound_for}
+use Rattle.mixer.specs.Hearing.{Voice, member_rate, sound_for}
 use Rattle.mixer.specs.Mixes.{MixSent}
 use Rattle.mixer.specs.Mixers.{mix_at}
 use Rattle.mixer.specs.inner.Rooms.{RoomOf, IsRoom}
@@ -71,7 +71,7 @@ last_rate s = unwrap_or (option_map (λ last. last.rate) s.last) 0
 
 -- the clock rate at which a stream passes a tick: that of its member's room, and without a member that of its last tick
 abbrev pub pass_rate : Desk → ℕ → MixOf → ℕ
-pass_rate d ssrc s = unwrap_or (option_map (rate_of d) (mix_member d ssrc)) (last_rate s)
+pass_rate d ssrc s = unwrap_or (option_map (member_rate d) (mix_member d ssrc)) (last_rate s)
 
 -- A stream has passed a tick without a packet.
 pub record HasPassed (d : Desk) (moment key : ℕ) (old new : MixOf) : Type 0 where

@@ -14,7 +14,7 @@ use Rattle.topology.specs.Mixes.{in_room}
 use Rattle.topology.specs.Looking.{room_rate}
 use Rattle.mixer.specs.declared.rates.RoomRate.{RoomRate}
 use Rattle.mixer.specs.inner.Counted.{member_of, AreBefore}
-use Rattle.mixer.specs.Hearing.{Voice, rate_of, heard_at, contributors}
+use Rattle.mixer.specs.Hearing.{Voice, member_rate, heard_at, contributors}
 
 -- an input without where its samples lie
 pub record Plain : Type 0 where
@@ -73,7 +73,7 @@ pub record IsRoom (d : Desk) (voices : List Voice) (r : RoomOf) : Type 0 where
 
 -- This is what the member hears of these voices.
 pub record IsHeard (d : Desk) (voices : List Voice) (m : MemberRow) (out : List ℤ) (who : Contributors) : Type 0 where
-  pub samples : out ≡ map (heard_at voices d m) (range_with_len 0 (tick_at (rate_of d m)))
+  pub samples : out ≡ map (heard_at voices d m) (range_with_len 0 (tick_at (member_rate d m)))
   pub count : who.count ≤ most_csrcs
   pub room : who.count ≤ length who.ssrcs
   pub named : take who.count who.ssrcs ≡ take most_csrcs (contributors voices d m)

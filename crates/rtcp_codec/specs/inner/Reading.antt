@@ -9,7 +9,7 @@ use Rattle.rtcp_codec.specs.declared.report.ReportBlock.{ReportBlock}
 use Rattle.rtcp_codec.specs.Kind.{kind_of}
 use Rattle.rtcp_codec.specs.Nack.{FitsWord}
 use Rattle.rtcp_codec.specs.Report.{FitsBlock, FitsLost}
-use Rattle.rtcp_codec.specs.Compound.{version, size, is_padded, kind_at, IsReport, IsFirstOf, in_order}
+use Rattle.rtcp_codec.specs.Compound.{version, size, is_padded, kind_at, IsReport, IsFirstOf, fault_order}
 
 -- the octets begin with items and a null
 abbrev pub HasItems : List ℕ → Type 0
@@ -74,7 +74,7 @@ pub record Takes (first : Bool) (p : Packet) (octets rest : List ℕ) : Type 0 w
 -- the octets are these packets one behind another, and then comes the end, or a packet that has this as its first fault
 abbrev pub Reads : Bool → List Packet → Option RtcpFault → List ℕ → Type 0
 Reads first [] None octets = (first ≡ false) × (octets ≡ [])
-Reads first [] (Some fault) octets = ((first ≡ true) ⊎ (0 < length octets)) × IsFirstOf in_order first fault octets
+Reads first [] (Some fault) octets = ((first ≡ true) ⊎ (0 < length octets)) × IsFirstOf fault_order first fault octets
 Reads first (p ∷ ps) outcome octets = (rest : List ℕ) × Takes first p octets rest × Reads false ps outcome rest
 
 -- some packets are read, and then this comes

@@ -16,7 +16,7 @@ use Rattle.script_text.specs.Requests.{Request, request_of}
 use Rattle.script_text.specs.Wire.{Wire, Hears, HearsAll, script_asker}
 use Rattle.script_text.specs.Lines.{lines_by, whole, ended, parts_of}
 use Rattle.script_text.specs.Text.{sent_text}
-use Rattle.script_text.specs.Bridge.{Bridge, first_desk, opening_bridge, answer_text, after}
+use Rattle.script_text.specs.Bridge.{Bridge, first_desk, opening_bridge, answer_text, bridge_after}
 use Rattle.script_text.specs.Bridge.{item_sent, after_item, items_sent, items_text, after_items}
 use Rattle.script_text.specs.Output.{Outcome, told, stopped, outcome_of, IsFrontOf, IsCutOf}
 
@@ -111,7 +111,7 @@ Steps old octets new before now result =
 abbrev pub AnswersRequest : CoreOf → Request → CoreOf → List ℕ → Type 0
 AnswersRequest old request new text =
     (bridge : Bridge) → Hears bridge.wire (Ok request) → Stands old bridge
-    → Stands new (after bridge request) × (text ≡ answer_text bridge request)
+    → Stands new (bridge_after bridge request) × (text ≡ answer_text bridge request)
 
 -- the lane was handed an item, and this was written behind what stood before
 abbrev pub HandsItem : CoreOf → Input → CoreOf → List ℕ → List ℕ → Type 0
@@ -128,7 +128,7 @@ HandsItems old items new before now =
 -- how the answer to one line ended, of which no other is known
 abbrev pub LineEnds : Bridge → ℕ → List ℕ → CoreOf → List ℕ → Result (Unit {0}) RunFault → Type 0
 LineEnds old number line new sent (Ok u) =
-    (request : Request) × (request_of line ≡ Ok request) × Stands new (after old request)
+    (request : Request) × (request_of line ≡ Ok request) × Stands new (bridge_after old request)
     × (sent ≡ answer_text old request)
 LineEnds old number line new sent (Err (errors.Script n word fault)) =
     (n ≡ number) × (request_of line ≡ Err (word, fault)) × (sent ≡ [])

@@ -1,5 +1,5 @@
 use Rattle.std.proofs.Common.{◌+◌}
-use Rattle.bridge_core.specs.Steps.{version_of, desk_of, count_of, visits}
+use Rattle.bridge_core.specs.Steps.{version_of, desk_of, items_given, visits}
 use Rattle.bridge_core.proofs.MixesHeard.{goes_once}
 use Rattle.bridge_core.proofs.laws.all_who_hear_get_it.Goals as goal
 
@@ -10,4 +10,4 @@ returns c who lanes lane start before moment m sound h mine its hears_it =
       heard = c.ticks_add_what_is_heard.ensures.heard;
       samples = c.ticks_add_what_is_heard.ensures.samples;
       once = c.mixes_go_to_their_members.ensures;
-    }) (version_of before) (count_of lane before + 1) (desk_of start before) moment (visits lane start before) h who lane lanes m sound mine its hears_it
+    }) (version_of before) (items_given lane before + 1) (desk_of start before) moment (visits lane start before) h who lane lanes m sound mine its hears_it

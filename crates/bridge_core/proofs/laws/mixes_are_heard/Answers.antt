@@ -1,5 +1,5 @@
 use Rattle.std.proofs.Common.{◌+◌}
-use Rattle.bridge_core.specs.Steps.{version_of, desk_of, count_of, visits}
+use Rattle.bridge_core.specs.Steps.{version_of, desk_of, items_given, visits}
 use Rattle.bridge_core.proofs.MixesHeard.{all_mixes}
 use Rattle.bridge_core.proofs.laws.mixes_are_heard.Goals as goal
 
@@ -10,6 +10,6 @@ returns c who lanes lane start before moment h = (
     heard = c.ticks_add_what_is_heard.ensures.heard;
     samples = c.ticks_add_what_is_heard.ensures.samples;
     once = c.mixes_go_to_their_members.ensures;
-  }) (version_of before) (count_of lane before + 1) (desk_of start before) moment (visits lane start before) (λ front m back e. c.mixes_are_apart.ensures (desk_of start before) front m back h e) who lane lanes,
+  }) (version_of before) (items_given lane before + 1) (desk_of start before) moment (visits lane start before) (λ front m back e. c.mixes_are_apart.ensures (desk_of start before) front m back h e) who lane lanes,
   tt,
 )

@@ -6,7 +6,7 @@ use Rattle.topology.specs.declared.hearing.AudioSource.{AudioSource}
 use Rattle.topology.specs.Mixes.{gain_of}
 use Rattle.media_items.specs.Formats.{tick_at}
 use Rattle.topology.specs.Looking.{room_rate}
-use Rattle.mixer.specs.Hearing.{rate_of, heard_at, part_of, sum_of, contributes}
+use Rattle.mixer.specs.Hearing.{member_rate, heard_at, part_of, sum_of, contributes}
 use Rattle.mixer.specs.inner.Rooms.{RoomOf, of_room}
 use Rattle.mixer.proofs.Listed.{listed}
 use Rattle.mixer.proofs.HeardOf.{gains_for, heard_of, named_of, others_of, as_many, loud}
@@ -37,10 +37,10 @@ returns g c voices is =
     let sources : c.deref.result.now ≡ c.args.room.now.sources = c.deref.ensures.value ∙ ap (λ (r : RoomOf). r.sources) c.room.view_is in
     let gains : c.write_gains.new.gains ≡ gains_for d m ws = c.write_gains.ensures.gains ∙ ap (map (λ (s : AudioSource). gain_of d m.member s.ssrc)) (sources ∙ is.sources) in
     let out = c.mix_by_total.new.out in
-    let long : length out ≡ tick_at (rate_of d m) = c.mix_by_total.auto.out ∙ c.requires.long ∙ ap tick_at (is.rate ∙ ap (room_rate d) c.requires.own) in
+    let long : length out ≡ tick_at (member_rate d m) = c.mix_by_total.auto.out ∙ c.requires.long ∙ ap tick_at (is.rate ∙ ap (room_rate d) c.requires.own) in
     let others_are = others_of m voices c.args.room.now.room c.requires.own in
     record {
-      samples = listed (heard_at voices d m) out (tick_at (rate_of d m)) long (λ i l.
+      samples = listed (heard_at voices d m) out (tick_at (member_rate d m)) long (λ i l.
           c.mix_by_total.ensures.mix i (omega (arith, long))
           ∙ ap (λ (xs : List Input). clamped (heard_sum m.member i xs c.write_gains.new.gains)) inputs
           ∙ ap (λ (gs : List ℕ). clamped (heard_sum m.member i c.args.room.now.inputs gs)) gains

@@ -5,7 +5,7 @@ use Rattle.media_items.specs.Formats.{tick_at}
 use Rattle.mix_minus.specs.declared.input.Input.{Input}
 use Rattle.mix_minus.specs.Mix.{own_of, present_in, IsLeft}
 use Rattle.topology.specs.Looking.{room_rate}
-use Rattle.mixer.specs.Hearing.{rate_of}
+use Rattle.mixer.specs.Hearing.{member_rate}
 use Rattle.mixer.specs.inner.Counted.{member_of, AreBefore}
 use Rattle.mixer.specs.inner.Rooms.{RoomOf, of_room}
 use Rattle.mixer.specs.inner.Named.{IsNamed}
@@ -110,7 +110,7 @@ returns-clause-heard g c voices is =
     let total : c.deref-4.result.now ≡ r.total = c.deref-4.ensures.value ∙ ap (λ (r : RoomOf). r.total) c.room.view_is in
     let left : IsLeft r.total (own_of k inputs) out =
     subst (λ (xs : List Input). IsLeft r.total xs out) (sym apart.own_are) (subst (λ (ts : List ℤ). IsLeft ts own out) total c.mix_of_others.ensures) in
-    let long : length out ≡ tick_at (rate_of d m) = c.mix_of_others.auto.out ∙ c.requires.long ∙ ap tick_at (is.rate ∙ ap (room_rate d) c.requires.own) in
+    let long : length out ≡ tick_at (member_rate d m) = c.mix_of_others.auto.out ∙ c.requires.long ∙ ap tick_at (is.rate ∙ ap (room_rate d) c.requires.own) in
     let within : length out ≤ length r.total = omega (arith, c.mix_of_others.auto.out, c.requires.long, is.long) in
     record {
       samples = heard_by_mix d m voices r.room inputs out c.requires.own is.inputs long (c.is_the_mix.ensures inputs gains k r.total out is.total full within left);

@@ -4,7 +4,7 @@ use Rattle.desk_rows.specs.declared.row.Member.{Member as MemberRow}
 use Rattle.desk_rows.specs.Desk.{Desk}
 use Rattle.forward_rewrite.specs.Mixes.{PreparedMixOf, format_of}
 use Rattle.topology.specs.Looking.{room_rate}
-use Rattle.mixer.specs.Hearing.{Voice, rate_of}
+use Rattle.mixer.specs.Hearing.{Voice, member_rate}
 use Rattle.mixer.specs.inner.Rooms.{RoomOf, IsRoom}
 use Rattle.mixer.specs.inner.Named.{IsHeardOf}
 use Rattle.mixer.specs.inner.Ready.{IsPrepared, hears_any}
@@ -36,9 +36,9 @@ returns-in-Some-clause-some g c =
     let named = c.in-Some.named in
     let format = c.format_of-format.result in
     let same : shown ≡ out = c.deref.ensures.value ∙ with_items_is c.resize.new.self out (c.listen_in_full.auto.samples ∙ c.deref_mut.ensures.len) in
-    ok_then (λ (o : Option PreparedMixOf). IfSome o (λ p. (d : Desk) (voices : List Voice) (m : MemberRow) → IsHeardOf d voices m shown named → format ≡ format_of m.codec (rate_of d m) → IsPrepared d voices moment m stream p))
+    ok_then (λ (o : Option PreparedMixOf). IfSome o (λ p. (d : Desk) (voices : List Voice) (m : MemberRow) → IsHeardOf d voices m shown named → format ≡ format_of m.codec (member_rate d m) → IsPrepared d voices moment m stream p))
     (λ (o : Option PreparedMixOf). IfSome o (λ p. (voices : List Voice) → IsRoom desk voices room → IsPrepared desk voices moment member stream p)) c.prepare_in_full.result
-    (λ o some. some_then (λ (p : PreparedMixOf). (d : Desk) (voices : List Voice) (m : MemberRow) → IsHeardOf d voices m shown named → format ≡ format_of m.codec (rate_of d m) → IsPrepared d voices moment m stream p)
+    (λ o some. some_then (λ (p : PreparedMixOf). (d : Desk) (voices : List Voice) (m : MemberRow) → IsHeardOf d voices m shown named → format ≡ format_of m.codec (member_rate d m) → IsPrepared d voices moment m stream p)
     (λ (p : PreparedMixOf). (voices : List Voice) → IsRoom desk voices room → IsPrepared desk voices moment member stream p) o
     (λ p prepared voices is. prepared desk voices member (subst (λ (xs : List ℤ). IsHeardOf desk voices member xs named) (sym same) (c.in-Some.ensures.heard voices is))
     (c.format_of-format.ensures ∙ ap (format_of member.codec) (ap (λ (r : RoomOf). r.rate) c.room.view_is ∙ is.rate ∙ ap (room_rate desk) c.requires.own))) some) c.prepare_in_full.ensures.some

@@ -3,7 +3,7 @@ use Rattle.std.proofs.Common.{◌≡◌, ℕ, ◌<◌, List, [], ◌∷◌, ◌+
 use Rattle.std.proofs.lemmas.List.{take-append-drop}
 use Rattle.rtcp_codec.specs.declared.fault.RtcpFault.{RtcpFault}
 use Rattle.rtcp_codec.specs.Packet.{Receiver, IsPacket}
-use Rattle.rtcp_codec.specs.Compound.{HasLaterFault, IsFirstOf, in_order}
+use Rattle.rtcp_codec.specs.Compound.{HasLaterFault, IsFirstOf, fault_order}
 use Rattle.worked_codecs.proofs.later_faults.refused_as.Goals as goal
 
 abbrev report : List ℕ
@@ -27,7 +27,7 @@ is_report = record {
 }
 
 later_fault : (fault : RtcpFault) (octets : List ℕ) → take 8 octets ≡ report → 8 < length octets →
-    IsFirstOf in_order false fault (drop 8 octets) → HasLaterFault fault octets
+    IsFirstOf fault_order false fault (drop 8 octets) → HasLaterFault fault octets
 later_fault fault octets e more h = record {
   before = record { packet = Receiver 9 []; octets = report; padding = 0 } ∷ [];
   rest = drop 8 octets;

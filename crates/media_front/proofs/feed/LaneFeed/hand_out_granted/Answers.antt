@@ -1,7 +1,7 @@
 use Rattle.std.proofs.Common.{sym}
 use Rattle.std.proofs.lemmas.List.Elements.{length_all_zip}
 use Rattle.media_items.specs.Inputs.{input_of}
-use Rattle.media_front.specs.FedLanes.{IsGiven}
+use Rattle.media_front.specs.FedLanes.{IsFed}
 use Rattle.media_front.specs.Granted.{cut_at}
 use Rattle.media_front.proofs.GrantLemmas.{none_given, one_given}
 use Rattle.media_front.proofs.feed.LaneFeed.hand_out_granted.Goals as goal
@@ -16,4 +16,4 @@ returns-clause-given g c =
 
 pub returns-clause-lanes : goal.returns-clause-lanes
 returns-clause-lanes g c =
-    sym (length_all_zip (IsGiven (cut_at c.granted_count-granted.result (input_of c.args.item.now))) c.args.self.now c.hand_out.new.self c.hand_out.ensures)
+    sym (length_all_zip (IsFed (cut_at c.granted_count-granted.result (input_of c.args.item.now))) c.args.self.now c.hand_out.new.self c.hand_out.ensures)
