@@ -4,8 +4,9 @@ Documents are README.md, CONTRIBUTING.md and docs/. The status is 1 where one ha
 of over 38, or a link that leads nowhere. Code, tables, headings and lists of names are no sentences, and a piece of code within
 a sentence counts as one word.
 
-Of sources it prints how long functions, lines and files of crates/*/src are, and which names of the bridge's crates are doubled:
-types with two homes, and words of definitions with three or more.
+Of sources the status is 1 where a function of crates/*/src has over 30 lines, a line over 120 columns, or a file over 300 lines, and
+where a name of the bridge's crates is doubled: a type with two homes, a word of definitions with three. Functions with over five
+parameters beside `self`, `rt` and `alloc` are printed alone.
 """
 
 import collections
@@ -20,6 +21,7 @@ NEEDS = "nothing"
 MOST_MEDIAN = 16
 MOST_WORDS = 38
 MOST_LINES_OF_FUNCTION = 30
+MOST_PARAMETERS = 5
 MOST_COLUMNS = 120
 MOST_LINES_OF_FILE = 300
 
@@ -147,8 +149,24 @@ def body_of(lines, first, indent):
     return None
 
 
+def parameters(signature):
+    """How many parameters a function has beside `self`, `rt` and `alloc`, by the text from its name on."""
+    depth, begun, found = 0, False, [""]
+    for before, letter in zip(" " + signature, signature):
+        depth -= letter in ")]}" or letter == ">" and before != "-"
+        if begun and depth == 0:
+            break
+        if begun and depth == 1 and letter == ",":
+            found.append("")
+        elif begun:
+            found[-1] += letter
+        depth += letter in "([{<"
+        begun = begun or letter == "(" and depth == 1
+    return sum(bool(one.strip()) and not re.match(r"\s*(&?('\w+ )?(mut )?self\b|(rt|alloc):)", one) for one in found)
+
+
 def functions(lines):
-    """The name of each function with a body, and how many lines that has."""
+    """The name of each function with a body, how many lines that has, and how many parameters."""
     for first, line in enumerate(lines):
         begun = re.match(r"(\s*)(?:pub(?:\([^)]*\))? )?(?:const )?fn (\w+)", line)
         if not begun:
@@ -157,7 +175,7 @@ def functions(lines):
         opened = body_of(lines, first, indent)
         if opened is not None:
             closed = lines.index(indent + "}", opened)
-            yield name, closed - opened - 1
+            yield name, closed - opened - 1, parameters("\n".join(lines[first : opened + 1])[begun.end() :])
 
 
 def print_longest(found):
@@ -166,22 +184,26 @@ def print_longest(found):
         print(f"  {length:4} {where}")
 
 
-def report_sources():
-    """Prints how long functions, lines and files of src/ are."""
+def check_sources():
+    """Prints how long functions, lines and files of src/ are. Whether none is too long."""
     all_functions, long_files, long_lines = [], [], 0
     for path in sorted(CRATES.glob("*/src/**/*.rt")):
         lines, where = path.read_text().splitlines(), str(path.relative_to(ROOT))
         if len(lines) > MOST_LINES_OF_FILE:
             long_files.append((len(lines), where))
         long_lines += sum(len(line) > MOST_COLUMNS for line in lines)
-        all_functions += [(length, f"{where}: {name}") for name, length in functions(lines)]
-    long_functions = [found for found in all_functions if found[0] > MOST_LINES_OF_FUNCTION]
-    median = statistics.median(length for length, _ in all_functions)
+        all_functions += [(length, count, f"{where}: {name}") for name, length, count in functions(lines)]
+    long_functions = [(length, where) for length, _, where in all_functions if length > MOST_LINES_OF_FUNCTION]
+    wide_functions = [(count, where) for _, count, where in all_functions if count > MOST_PARAMETERS]
+    median = statistics.median(length for length, _, _ in all_functions)
     print(f"{len(all_functions)} functions, median {median:g} lines of body, {len(long_functions)} over {MOST_LINES_OF_FUNCTION}")
     print_longest(long_functions)
+    print(f"{len(wide_functions)} functions with over {MOST_PARAMETERS} parameters")
+    print_longest(wide_functions)
     print(f"{long_lines} lines over {MOST_COLUMNS} columns")
     print(f"{len(long_files)} files over {MOST_LINES_OF_FILE} lines")
     print_longest(long_files)
+    return not (long_functions or long_lines or long_files)
 
 
 def homes_of(pairs, least):
@@ -208,18 +230,19 @@ def definition_names():
             yield name, f"{crate}/{path.stem}"
 
 
-def report_names():
-    """Prints which names have more homes than one meaning needs."""
-    for what, found in {"types with two homes": homes_of(type_names(), 2), "words with three homes": homes_of(definition_names(), 3)}.items():
+def check_names():
+    """Prints which names have more homes than one meaning needs. Whether none has."""
+    doubled = {"types with two homes": homes_of(type_names(), 2), "words with three homes": homes_of(definition_names(), 3)}
+    for what, found in doubled.items():
         print(f"{len(found)} {what} or more")
         for name, homes in found.items():
             print(f"       {name}: {', '.join(homes)}")
+    return not any(doubled.values())
 
 
 def run(args):
-    good = args.sources or check_documents()
+    good = [args.sources or check_documents()]
     if not args.docs:
         print()
-        report_sources()
-        report_names()
-    return 0 if good else 1
+        good += [check_sources(), check_names()]
+    return 0 if all(good) else 1
