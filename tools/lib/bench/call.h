@@ -5,6 +5,9 @@ static pid_t server;
 static struct sockaddr_in udp, tcp;
 static int desk = -1;
 
+/* How many lanes a bridge has, and how many packets a frame of the fan. */
+static int lanes = 1, burst = 4;
+
 static void die(const char *text)
 {
     fprintf(stderr, "load: %s\n", text);
@@ -38,8 +41,8 @@ static void start_bridge(const char *binary)
     char path[] = "/tmp/load-XXXXXX", told[4096];
     int file = mkstemp(path), ends[2], u, t;
     size_t had = 0;
-    const char *text = "udp = \"127.0.0.1:0\"\ntcp = \"127.0.0.1:0\"\noperators = 4\n";
-    if (file < 0 || write(file, text, strlen(text)) < 0 || pipe(ends))
+    if (file < 0 || pipe(ends)
+        || dprintf(file, "udp = \"127.0.0.1:0\"\ntcp = \"127.0.0.1:0\"\noperators = 4\nlanes = %d\n", lanes) < 0)
         die("no settings");
     server = fork();
     if (server == 0) {
@@ -237,8 +240,8 @@ static void talk(const struct sockaddr_in *to, double seconds, int with_fan, int
         int is_late = seconds_now() - (next.tv_sec + next.tv_nsec * 1e-9) > 0.02;
         steps_left_out += is_late;
         if (with_fan && !is_late)
-            for (int i = 0; i < 4; i++, seq++, pictures_sent++) {
-                header(octets, 100 | (i == 3) << 7, seq, seq / 4 * 360, 101);
+            for (int i = 0; i < burst; i++, seq++, pictures_sent++) {
+                header(octets, 100 | (i == burst - 1) << 7, seq, step * 360, 101);
                 sendto(fan[0], octets, sizeof octets, 0, (void *)to, sizeof *to);
             }
         if (with_room && step % 5 == 0 && is_late)

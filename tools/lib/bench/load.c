@@ -3,12 +3,14 @@
  * load BINARY fan SECONDS [FLOOR]    1 video source to 16 receivers, 1,000 packets/s in frames of 4
  * load BINARY room SECONDS [FLOOR]   64 members with PCMU of 160 samples each 20 ms
  * load BINARY both SECONDS           both together, with the resident memory each minute
+ * load BINARY most SECONDS LANES     the largest fan without loss, on so many lanes
  * load BINARY storm DATAGRAMS LINES  random datagrams and operators' lines, and then a call
  *
  * FLOOR is the floor in Python, floor.py.
  */
 #define _GNU_SOURCE
 #include <arpa/inet.h>
+#include <dirent.h>
 #include <errno.h>
 #include <fcntl.h>
 #include <poll.h>
@@ -24,12 +26,14 @@
 
 #include "call.h"
 #include "floor.h"
+#include "most.h"
 #include "storm.h"
 
 int main(int count, char **words)
 {
     if (count < 4)
-        die("usage: load BINARY fan|room SECONDS [FLOOR] | load BINARY both SECONDS | load BINARY storm DATAGRAMS LINES");
+        die("usage: load BINARY fan|room SECONDS [FLOOR] | load BINARY both SECONDS"
+            " | load BINARY most SECONDS LANES | load BINARY storm DATAGRAMS LINES");
     const char *what = words[2];
     if (!strcmp(what, "fan") || !strcmp(what, "room"))
         beside_floor(words[1], atof(words[3]), what[0] == 'f', count > 4 ? words[4] : 0);
@@ -40,6 +44,10 @@ int main(int count, char **words)
         talk(&udp, atof(words[3]), 1, 1, server);
         printf("end: VmRSS %ld kB, processor %.2f s\n", resident(server), processor(server, 0));
         stop_bridge();
+    } else if (!strcmp(what, "most") && count == 5) {
+        lanes = atoi(words[4]);
+        members();
+        largest(words[1], atof(words[3]));
     } else if (!strcmp(what, "storm") && count == 5) {
         members();
         start_bridge(words[1]);

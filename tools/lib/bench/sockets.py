@@ -4,6 +4,7 @@ A floor is a program that makes the same socket calls and no more. LOAD is one o
   fan    a video source to 16 receivers, 1,000 packets a second in frames of 4
   room   64 members with PCMU of 160 samples each 20 ms
   both   both together, with the resident memory each minute
+  most   the largest fan without loss: 250 frames a second, which grow by a quarter until packets are lacking in three runs
   storm  random datagrams and operators' lines, and then a call
 
 `fan` and `room` run the bridge, then a floor in C, then one in Python, COUNT seconds each. Processor time is the user and
@@ -25,8 +26,9 @@ HERE = pathlib.Path(__file__).resolve().parent
 
 
 def options(parser):
-    parser.add_argument("load", choices=["fan", "room", "both", "storm"], metavar="LOAD")
+    parser.add_argument("load", choices=["fan", "room", "both", "most", "storm"], metavar="LOAD")
     parser.add_argument("count", metavar="COUNT", help="how many seconds; for `storm` how many datagrams")
+    parser.add_argument("--lanes", default="1", help="how many lanes the bridge of `most` has (%(default)s)")
     parser.add_argument("--lines", default="10000", help="how many operators' lines `storm` sends (%(default)s)")
     parser.add_argument("--no-python", action="store_true", help="leave the floor in Python out")
     add_program(parser)
@@ -39,6 +41,8 @@ def run(args):
     words = [program, args.load, args.count]
     if args.load == "storm":
         words.append(args.lines)
+    elif args.load == "most":
+        words.append(args.lanes)
     elif args.load != "both" and not args.no_python:
         words.append(HERE / "floor.py")
     with tempfile.TemporaryDirectory() as folder:
