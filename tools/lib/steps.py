@@ -4,16 +4,18 @@ import select
 import socket
 import time
 
-from lib.models.mix import compressed, expanded
+from lib.models.mix import expanded, octets_of
 from lib.packets import nack, number, payload_of, pli, rtp, seq_of
 from lib.refusing import PATIENCE, check, own_threads, until
 from lib.serving import Operator, port_of, started, udp_socket
 
-# Each member's mu-law octet; its slot, but for the first one, who sends the video.
+# Each member's tone, as a mu-law octet; its slot, but for the first one, who sends the video.
 TONES = {10: 0xCE, 11: 0x4E, 12: 0xBC, 13: 0x2A}
 SLOTS = {11: 501, 12: 502, 13: 503}
 VIDEO = 101
 FIRST_SEQ, FIRST_TS = 65535, 1000
+# What a packet of 20 ms has: a payload type, a codec, and so many samples.
+SPEECH, MUSIC = (0, "pcmu", 160), (11, "l16", 882)
 
 
 def word(value):
@@ -97,14 +99,20 @@ class Call:
 
         until(is_shown, "no video comes")
 
-    def talk(self, speakers):
-        """Some members send 0.8 s of audio, which they begin to hear of each other."""
-        self.ask(*(f"add-source {200 + it} {it} audio" for it in speakers))
+    def talk(self, heard, kinds):
+        """Members send 0.8 s of audio, of a kind for each, until each begins to hear the others that it hears."""
+        self.ask(*(f"add-source {200 + it} {it} audio" for it in heard))
         time.sleep(0.05)
         for at in range(40):
-            for it in speakers:
-                self.send(it, rtp(at, 160 * at, 200 + it, bytes([TONES[it]]) * 160, pt=0))
-        until(lambda: self.take() or all(self.got[it] and self.got[it][-1][0] == 0x82 for it in speakers), "no mix of two comes")
+            for it in heard:
+                pt, _, count = kinds[it]
+                self.send(it, rtp(at, count * at, 200 + it, tone(kinds[it], [it]), pt=pt))
+
+        def is_heard():
+            self.take()
+            return all(self.got[it] and self.got[it][-1][0] & 15 == len(others) for it, others in heard.items())
+
+        until(is_heard, "no mix of all others comes")
         self.take()
 
     def close(self):
@@ -132,19 +140,36 @@ def frame(call):
     return [(10, it) for it in packets], {it: forwarded(call, it, packets) for it in SLOTS}, 2
 
 
-def mixes(call, member, others):
-    """The next mixes of a member who goes on hearing two others."""
-    heard = bytes([compressed(sum(expanded(TONES[it]) for it in others))]) * 160
-    named = b"".join(word(200 + it) for it in others)
+def tone(kind, members):
+    """The payload of a packet with the sum of members' tones."""
+    _, codec, count = kind
+    return octets_of(codec, [sum(expanded(TONES[it]) for it in members)]) * count
+
+
+def mixes(call, member, others, kind):
+    """The next mixes of a member who goes on hearing others."""
+    pt, _, count = kind
+    behind = b"".join(word(200 + it) for it in others) + tone(kind, others)
     seq, ts = seq_of(call.got[member][-1]), number(call.got[member][-1][4:8])
-    return [b"\x82\x00" + rtp(seq + at, ts + 160 * at, 9000 + member, named + heard)[2:] for at in range(1, 40)]
+    return [bytes([0x80 + len(others), pt]) + rtp(seq + at, ts + count * at, 9000 + member, behind)[2:] for at in range(1, 40)]
+
+
+def next_mixes(call, heard, kinds):
+    """Nothing is sent; each member gets its next mixes."""
+    call.talk(heard, kinds)
+    return [], {it: mixes(call, it, others, kinds[it]) for it, others in heard.items()}, 1
 
 
 def tick(call):
-    speakers = (10, 11, 12)
     call.ask("add-room 2", "move-member 13 2")
-    call.talk(speakers)
-    return [], {it: mixes(call, it, [other for other in speakers if other != it]) for it in speakers}, 1
+    heard = {10: [11, 12], 11: [10, 12], 12: [10, 11]}
+    return next_mixes(call, heard, dict.fromkeys(heard, SPEECH))
+
+
+def tick_of_both(call):
+    call.ask("remove-member 12", "remove-member 13", "add-room 2 44100")
+    call.ask(*(f"add-member {it} 2 127.0.0.1:{port_of(call.members[it])} l16 {9000 + it} 0 0" for it in (12, 13)))
+    return next_mixes(call, {10: [11], 11: [10], 12: [13], 13: [12]}, {10: SPEECH, 11: SPEECH, 12: MUSIC, 13: MUSIC})
 
 
 def two_asked(call):
@@ -181,6 +206,7 @@ def report(call):
 STEPS = {
     "a frame of two packets for three slots, one of whose streams begins": frame,
     "a tick for three who hear each other": tick,
+    "a tick in rooms of 8000 and 44100 Hz": tick_of_both,
     "a NACK of two numbers": two_asked,
     "a compound with a report block, a NACK and a PLI": compound,
     "a packet behind a gap, for which a NACK goes to the sender": gap,

@@ -296,6 +296,10 @@ def do_step(call, heap, step, thread, nth, what):
 
     until(is_over, f"{what}: the packets don't come, and the bridge doesn't end")
     _, is_refused = heap.release()
+    # The front learns in its next round that a lane has ended, also where the packets came before.
+    late = time.monotonic() + 0.5
+    while is_refused and call.bridge.poll() is None and time.monotonic() < late:
+        time.sleep(0.005)
     # A growth by half asks for less where it is refused, and the packets come.
     is_done = bool(come) and call.bridge.poll() is None
     if is_refused and not is_done:
