@@ -14,6 +14,8 @@ TONES = {10: 0xCE, 11: 0x4E, 12: 0xBC, 13: 0x2A}
 SLOTS = {11: 501, 12: 502, 13: 503}
 VIDEO = 101
 FIRST_SEQ, FIRST_TS = 65535, 1000
+# How many seconds are between reports.
+BETWEEN_REPORTS = 5
 # What a packet of 20 ms has: a payload type, a codec, and so many samples.
 SPEECH, MUSIC = (0, "pcmu", 160), (11, "l16", 882)
 
@@ -194,12 +196,15 @@ def gap(call):
 
 
 def report(call):
+    """The second reports: the step begins shortly before them, so that few other requests come first."""
     call.show()
     may = {10: [bytes.fromhex("81c9000700000001") + word(VIDEO) + bytes(4) + word(call.seq - 1) + bytes(12) + cname(1)]}
     for it in (11, 12):
         sent = word(len(call.got[it])) + word(sum(len(payload_of(packet)) for packet in call.got[it]))
         may[it] = [bytes.fromhex("80c80006") + word(SLOTS[it]) + bytes(12) + sent + cname(SLOTS[it])]
     call.has_reports = True
+    until(lambda: call.take() or all(call.got[it][-1:] == reports for it, reports in may.items()), "no reports come")
+    time.sleep(BETWEEN_REPORTS - 0.1)
     return [], may, 1
 
 
@@ -210,5 +215,5 @@ STEPS = {
     "a NACK of two numbers": two_asked,
     "a compound with a report block, a NACK and a PLI": compound,
     "a packet behind a gap, for which a NACK goes to the sender": gap,
-    "the reports, after 5 s": report,
+    "the reports, each 5 s": report,
 }

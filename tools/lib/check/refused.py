@@ -296,6 +296,9 @@ def do_step(call, heap, step, thread, nth, what):
 
     until(is_over, f"{what}: the packets don't come, and the bridge doesn't end")
     _, is_refused = heap.release()
+    call.take(0.02)
+    for it, got in call.got.items():
+        check(got == may.get(it, [])[: len(got)], f"{what}: member {it} gets {[one.hex() for one in got]}")
     # The front learns in its next round that a lane has ended, also where the packets came before.
     late = time.monotonic() + 0.5
     while is_refused and call.bridge.poll() is None and time.monotonic() < late:
@@ -304,9 +307,6 @@ def do_step(call, heap, step, thread, nth, what):
     is_done = bool(come) and call.bridge.poll() is None
     if is_refused and not is_done:
         status_of(call.bridge, {2: OUT_OF_MEMORY}, what)
-    call.take(0.02)
-    for it, got in call.got.items():
-        check(got == may.get(it, [])[: len(got)], f"{what}: member {it} gets {[one.hex() for one in got]}")
     return ("done" if is_done else "ended") if is_refused else None
 
 
