@@ -5,6 +5,7 @@ as a ratio. A row has the median ratio, in brackets the least and the most, and 
   a call at a shared desk       the same call at the desk of a core on one thread
   16 seats on 16 threads        as many calls of one seat: how many times as many calls a second
   enter and leave               a lock and an unlock of a mutex that nobody else wants
+    while an operator calls     the same while nobody calls
   an egress of a lane           the same items on one thread, by the core, in processor time of all threads
   four lanes                    one lane with the same items: how many times as many egresses a second
 Four lanes want four cores: other programs that run meanwhile, and processor time that the host takes away, make the last figure worse.
@@ -26,6 +27,7 @@ LINE = re.compile(r"(?P<name>.*): (?P<ratio>[\d.]+) \((?P<time>[\d.]+) ns, floor
 GOALS = {
     "a call": "at most 3",
     "16 seats": "at least 0.5",
+    "enter and leave while": "at most 1",
     "an egress": "at most 1.5",
     "four lanes": "at least 2.5",
 }
