@@ -143,8 +143,8 @@ def texts(draw, count, program):
     def text():
         while True:
             found = mutant(draw, corpus, TOML).decode(errors="ignore")
-            # (what a float past all floats is, TOML doesn't say)
-            if " > " not in found and not re.search("[\x85\u2028\u2029\x0b\x0c\x1c-\x1e]|[eE][+]?[0-9_]{3}", found):
+            # (what a float past all floats is, TOML doesn't say; the escape `\\e` is of TOML 1.1, and tomllib reads 1.0)
+            if " > " not in found and not re.search(r"[\x85\u2028\u2029\x0b\x0c\x1c-\x1e]|[eE][+]?[0-9_]{3}|\\e", found):
                 return found
 
     for data in batches(count, text):
