@@ -74,9 +74,9 @@ zip_done [] bs ys all e none = sym (append-nil ys) ∙ e
 zip_done (a ∷ xs) [] ys all e none = sym (append-nil ys) ∙ e
 zip_done (a ∷ xs) (b ∷ bs) ys all e none = absurd (⊎_elim (λ (h : length (a ∷ xs) ≡ 0). absurd (omega arith)) (λ (h : length (b ∷ bs) ≡ 0). absurd (omega arith)) none)
 
-pub zip_room : {A B : Type 0} (a : A) (b : B) (xs xs' : List A) (bs bs' : List B) (ys : List (A × B)) (lanes : List A) (paces : List B)
+pub zip_few : {A B : Type 0} (a : A) (b : B) (xs xs' : List A) (bs bs' : List B) (ys : List (A × B)) (lanes : List A) (paces : List B)
     → xs ≡ a ∷ xs' → bs ≡ b ∷ bs' → ys ++ zip xs bs ≡ zip lanes paces → length ys < length lanes
-zip_room {A} {B} a b xs xs' bs bs' ys lanes paces ea eb e =
+zip_few {A} {B} a b xs xs' bs bs' ys lanes paces ea eb e =
     let two : ys ++ zip (a ∷ xs') (b ∷ bs') ≡ zip lanes paces =
     subst (λ (x : List A). ys ++ zip x (b ∷ bs') ≡ zip lanes paces) ea (subst (λ (w : List B). ys ++ zip xs w ≡ zip lanes paces) eb e) in
     let whole : length (ys ++ zip (a ∷ xs') (b ∷ bs')) ≡ min (length lanes) (length paces) = ap length two ∙ length-zip lanes paces in

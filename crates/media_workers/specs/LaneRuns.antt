@@ -1,5 +1,5 @@
 -- What the run of a lane received, handled and sent (own).
-use Rattle.std.specs.Prelude.{◌≡◌, ◌⊎◌, ◌<◌, ◌+◌, ◌-◌, ◌^◌, ℕ, min, Bool, true, false, List, [], ◌∷◌, ◌++◌, length, map, Option, Some, None, IfSome}
+use Rattle.std.specs.Prelude.{◌≡◌, ◌⊎◌, ◌<◌, ◌≤◌, ◌+◌, ◌-◌, ◌^◌, ℕ, min, Bool, true, false, List, [], ◌∷◌, ◌++◌, length, map, Option, Some, None, IfSome}
 use Rattle.std.specs.declared.alloc.Global.{Global}
 use mathlib.Core.List.{IsPrefix}
 use Rattle.desk_rows.specs.Desk.{Desk}
@@ -13,6 +13,7 @@ use Rattle.bridge_core.specs.declared.egress.Egress.{Egress}
 use Rattle.bridge_core.specs.Lanes.{Visit, sends_at}
 use Rattle.bridge_core.specs.LaneState.{LaneOf, HasHandled, visit_of}
 use Rattle.media_workers.specs.declared.fault.HandleFault.{HandleFault}
+use Rattle.media_workers.specs.declared.fault.HandleFault.TheVariants.{Spent}
 use Rattle.media_workers.specs.declared.lane_end.LaneEnd.{LaneEnd}
 use Rattle.media_workers.specs.declared.parcel.Parcel.{Parcel}
 use Rattle.media_workers.specs.declared.parcel.Parcel.TheVariants.{Work, End}
@@ -76,22 +77,26 @@ next_number handled = min (handled + 1) (2 ^ 64 - 1)
 abbrev pub Refused : Type 0
 Refused = Option (Item Global × HandleFault)
 
--- what the end of a run tells: the lane's number, how many items the run handled, and the one that it refused
+-- what the end of a run reports: the lane's number, how many items the run handled, and the one that it refused
 pub record RunEnd : Type 0 where
   pub lane : ℕ
   pub handled : ℕ
   pub refused : Refused
 
--- what this end tells
+-- what this end reports
 abbrev pub run_end : {N S : Type 0} → LaneEnd N S → RunEnd
 run_end end = record { lane = end.lane; handled = end.handled; refused = end.refused }
 
--- A run ends by an End, by an item that is refused, or where the pace may answer no. The last parcel is what was received and not handled.
+-- A run ends by an End, by an item that is refused, or by a pace that may answer no. The last parcel is what was received and not handled.
 abbrev pub EndsBy : (ℕ → Bool → Type 0) → List Parcel → RunEnd → Type 0
 EndsBy answers last told =
     ((last ≡ End ∷ []) × (told.refused ≡ None))
     ⊎ (((item : Item Global) × (notice : Option NoticeOf) × (fault : HandleFault) × (last ≡ Work item notice ∷ []) × (told.refused ≡ Some (item, fault)))
     ⊎ ((last ≡ []) × (told.refused ≡ None) × answers (next_number told.handled) false))
+
+-- An item is refused as one too many only where the lane has handled 2^64 - 1, in this run and before it.
+abbrev pub IsSpentRightly : LaneNow → RunEnd → Type 0
+IsSpentRightly lane told = IfSome told.refused (λ r. r.1 ≡ Spent → 2 ^ 64 - 1 ≤ lane.state.handled + told.handled)
 
 -- A lane's run: it received these parcels, handled their items but for a refused last one, and sent this.
 pub record Ran (lane : LaneNow) (answers : ℕ → Bool → Type 0) (parcels : List Parcel) (sent : List Sent) (told : RunEnd) : Type 0 where
@@ -105,6 +110,7 @@ pub record Ran (lane : LaneNow) (answers : ℕ → Bool → Type 0) (parcels : L
   pub count : told.handled ≡ length served
   pub passed : (k : ℕ) → k < told.handled → answers (next_number k) true
   pub ended : EndsBy answers last told
+  pub spent : IsSpentRightly lane told
 
 -- what came off a ring of parcels, and what a sink took
 pub record Traffic : Type 0 where

@@ -35,7 +35,7 @@ give e port = record port { popped = port.popped ++ e ∷ [] }
 abbrev pub quieten : {P : Type 0} → PortOf P → PortOf P
 quieten port = record port { quiet = true }
 
--- The run of the lane: what it received of items is a beginning of what was accepted, and all of it where an End was received; what was given of it is a beginning of what it sent.
+-- The run of the lane: it received the first parcels that were accepted for it, and all of them if it received an End; what it gave are the first egresses that it sent.
 pub record Ended {P : Type 0} (port : PortOf P) (answers : ℕ → Bool → Type 0) (traffic : Traffic) (told : RunEnd) : Type 0 where
   pub ran : Ran port.lane answers traffic.parcels (map sent_of traffic.egress) told
   pub some : IsPrefix (works traffic.parcels) port.accepted

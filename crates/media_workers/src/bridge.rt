@@ -24,8 +24,8 @@ use std::thread::Threads;
 
 /// Lanes that run, each on a thread of its own. It is not `Drop`: end it by [`Bridge::close`].
 ///
-/// Contracts see the lanes as they were handed in, each with its pace, with what was accepted for it and what was given
-/// of it.
+/// Contracts see the lanes as they were handed in, each with its pace, with what `push` accepted for it and what `pop`
+/// gave of it.
 pub struct Bridge<N: PublisherName, P: Pace> {
     ports: Vec<Port<N, P>>,
     // The lane that is asked for egress first.
@@ -47,10 +47,10 @@ impl<N: PublisherName, P: Pace> Model for Bridge<N, P> {
 }
 
 impl<N: PublisherName + Send + Sync + 'static, P: Pace + Send + Drop + 'static> Bridge<N, P> {
-    /// Starts the lanes, each on a thread of its own with its pace. They are all lanes of one bridge, each at the place
-    /// of its number, their readers are of this publisher, and none has handled an item.
+    /// Starts the lanes, each on a thread of its own with its pace. They are all lanes of one bridge, in the order of
+    /// their numbers. Their readers are of this publisher, and none has handled an item.
     ///
-    /// Where the fault is `Count`, the lanes come back. After the others all lanes have been ended and dropped.
+    /// On the fault `Count` the lanes come back. On any other fault all lanes have been ended and dropped.
     pub fn start<R: Threads + Wait + Copy + Send + 'static>(
         rt: &R,
         alloc: Global,
@@ -96,8 +96,8 @@ impl<N: PublisherName + Send + Sync + 'static, P: Pace + Send + Drop + 'static> 
 }
 
 impl<N: PublisherName, P: Pace> Bridge<N, P> {
-    /// Gives a lane a parcel, or hands it back where the lane's ring is full or the lane has had its `End`. A ring has
-    /// room for 1,024 parcels.
+    /// Gives a lane a parcel, or hands it back if the lane's ring is full or the lane has had its `End`. A ring holds
+    /// 1,024 parcels.
     pub fn push(&mut self, lane: u32, parcel: Parcel) -> Result<(), Parcel>
         requires lane { lane < length self.old }
         requires fit { IsFit N.publisher parcel }
@@ -139,8 +139,8 @@ impl<N: PublisherName, P: Pace> Bridge<N, P> {
 
     /// Gives an `End` to each lane that has had none, and waits for the lanes' threads. It drops egresses meanwhile.
     ///
-    /// What each lane received is a beginning of what was accepted for it, and all of it where it ended by its `End`.
-    /// What was given of a lane is a beginning of what it sent.
+    /// A lane received the first parcels that were accepted for it: all of them if it ended by its `End`. What `pop`
+    /// gave of a lane are the first egresses that it sent.
     pub fn close<R: Threads + Wait>(self, rt: &R) -> Vec<LaneEnd<N, Producer<Egress>>>
         ensures ended { AllEnded P.answers self result.items }
     {

@@ -104,7 +104,7 @@ fn all_ended<N: PublisherName, P: Pace>(ports: &[Port<N, P>]) -> bool {
     ports.iter().all(|port| port.has_ended())
 }
 
-/// Drops egresses until each lane has ended, so that no lane waits for room in its ring.
+/// Drops egresses until each lane has ended, so that no lane waits for its ring.
 fn wait_for_all<N: PublisherName, P: Pace, R: Wait>(rt: &R, ports: &mut [Port<N, P>])
     requires { All is_quiet ports.old }
     ensures { ports.new ≡ ports.old }
@@ -126,7 +126,7 @@ fn finish_all<N: PublisherName, P: Pace, R: Threads>(
     ends: Vec<LaneEnd<N, Producer<Egress>>>,
 ) -> Vec<LaneEnd<N, Producer<Egress>>>
     requires none { ends.items ≡ [] }
-    requires room { vec_len ports ≤ vec_capacity ends }
+    requires capacity { vec_len ports ≤ vec_capacity ends }
     ensures { AllEnded P.answers ports.items result.items }
 {
     let mut ends = ends;
@@ -152,7 +152,7 @@ pub fn close_all<N: PublisherName, P: Pace, R: Threads + Wait>(
     ends: Vec<LaneEnd<N, Producer<Egress>>>,
 ) -> Vec<LaneEnd<N, Producer<Egress>>>
     requires none { ends.items ≡ [] }
-    requires room { vec_len ports ≤ vec_capacity ends }
+    requires capacity { vec_len ports ≤ vec_capacity ends }
     ensures { AllEnded P.answers ports.items result.items }
 {
     let mut ports = ports;

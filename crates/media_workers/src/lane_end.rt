@@ -12,7 +12,7 @@ use std::alloc::Global;
 pub struct LaneEnd<N: PublisherName, S> {
     /// The lane's number among its lanes, from 0.
     pub lane: u32,
-    /// How many items the run handled.
+    /// How many items the run handled, at most 2^64 - 1.
     pub handled: u64,
     /// The item that was refused, if one was, and why. It ended the run.
     pub refused: Option<(Item, HandleFault)>,

@@ -144,7 +144,7 @@ impl<N: PublisherName + Send + Sync + 'static, P: Pace + Send + Drop + 'static> 
 }
 
 impl<N: PublisherName, P: Pace> Port<N, P> {
-    /// Gives the lane a parcel, or hands it back where the ring is full or the lane has had its `End`.
+    /// Gives the lane a parcel, or hands it back if the ring is full or the lane has had its `End`.
     pub fn push(&mut self, parcel: Parcel) -> Result<(), Parcel>
         requires { IsFit N.publisher parcel }
         ensures ok { OnOk result ((self.old.closed ≡ false) × (self.new ≡ accept parcel self.old)) }
@@ -183,7 +183,7 @@ impl<N: PublisherName, P: Pace> Port<N, P> {
         }
     }
 
-    /// Drops an egress, and says whether there was one.
+    /// Drops an egress, and returns whether there was one.
     fn drop_one(&mut self) -> bool
         requires { self.old.quiet ≡ true }
         ensures { self.new ≡ self.old }

@@ -17,13 +17,18 @@ use std::thread::Promise;
 /// What a lane's run began with.
 #[derive(Drop)]
 pub struct RunOf<N: PublisherName, P: Pace> {
+    /// The lane.
     pub lane: Snapshot<Lane>,
+    /// Where its parcels came from.
     pub consumer: Snapshot<Consumer<Parcel, Global, FitParcels<N>>>,
+    /// Where its egress went.
     pub sink: Snapshot<Producer<Egress>>,
+    /// Its pace.
     pub pace: Snapshot<P>,
 }
 
 impl<N: PublisherName, P: Pace> RunOf<N, P> {
+    /// The beginning of a run over these four.
     pub fn new(
         lane: &Lane,
         consumer: &Consumer<Parcel, Global, FitParcels<N>>,

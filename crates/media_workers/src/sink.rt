@@ -14,9 +14,10 @@ use std::thread;
 
 /// Takes what a lane sends. Contracts see it as the list of what it took.
 pub trait Sink {
+    /// All that it took, oldest first.
     ghost taken: { Self → List (Egress Global) };
 
-    /// What it takes comes out there.
+    /// This consumer gives out what the sink takes.
     ghost feeds: { Self → Consumer (Egress Global) Global AnyItems → Type 0 };
 
     /// Takes one more. It may wait.

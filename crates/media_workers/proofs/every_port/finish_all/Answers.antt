@@ -7,5 +7,5 @@ pub loop-port-preserved : goal.loop-port-preserved
 loop-port-preserved g c = record {
   ended = subst (AllEnded g.P.Pace.answers _) (sym c.push_reserved.ensures.items) (AllEnded-push g.P.Pace.answers c.loop-port.yielded c.loop-port.ends.items c.in-Some.port c.finish.result c.loop-port.invariant.ended c.finish.ensures);
   len = omega (arith, c.push_reserved.ensures.len, c.loop-port.invariant.len, length-append c.loop-port.yielded (c.in-Some.port ∷ []));
-  room = c.push_reserved.ensures.capacity ∙ c.loop-port.invariant.room;
+  capacity = c.push_reserved.ensures.capacity ∙ c.loop-port.invariant.capacity;
 }

@@ -6,5 +6,5 @@ abbrev pub invariant-loop-port : goal.invariant-loop-port
 invariant-loop-port g l = record {
   ended : AllEnded g.P.Pace.answers l.yielded l.ends.items;
   len : vec_len l.ends ≡ length l.yielded;
-  room : vec_capacity l.ends ≡ vec_capacity l.initial.ends;
+  capacity : vec_capacity l.ends ≡ vec_capacity l.initial.ends;
 }
