@@ -28,7 +28,7 @@ use std::test::*;
 use std::thread::Threads;
 use versions::{LaneReader, Opened};
 
-/// How many frames each lane is given. What they send has no room in a lane's ring of 4,096 egresses.
+/// How many frames each lane is given. What they send doesn't fit a lane's ring of 4,096 egresses.
 const FRAMES: u64 = 1_024;
 
 /// How many egresses are taken before the end.
@@ -146,8 +146,8 @@ fn is_started<H: Hall + Send + Sync + 'static, R: Threads + Wait + Copy + Send +
     Some(is_ended(rt, alloc, running, told))
 }
 
-/// Sets the desk up. False where a command is refused.
-fn sets_up<'a, H: Hall, R: Wait>(rt: &R, alloc: Global, desk: &mut OneDesk<'a, H>) -> bool {
+/// Sets the desk up, so that a frame of member 3 goes to four slots. False where a command is refused.
+pub fn sets_up<'a, H: Hall, R: Wait>(rt: &R, alloc: Global, desk: &mut OneDesk<'a, H>) -> bool {
     match set_up(alloc) {
         Ok(commands) => {
             desk.does_all(rt, alloc, &commands) && desk.does(rt, alloc, show_more()).is_some()

@@ -1,16 +1,17 @@
-//! A lane without a thread, which is told of calls.
+//! Lanes without a thread, which are told of calls.
 
-ghost use Rattle.std.specs.Prelude.{◌≡◌};
+ghost use Rattle.std.specs.Prelude.{◌≡◌, All};
 ghost use Rattle.desk_rows.specs.Desk.{blank as no_rows};
+ghost use Rattle.versions.specs.Published.{new_reader};
 
 use crate::items::FitItem;
 use crate::lanes::{OwnLane, own_lane};
 use crate::rows::{FIRST, SECOND, frame, mute, set_up, unmute};
 use crate::stage::OneDesk;
 use crate::streams::is_packet;
-use crate::told::OfHall;
+use crate::told::{OfHall, Told};
 use bridge_core::Egress;
-use desk_edit::Command;
+use media_workers::PublisherName;
 use operator_desk::{Hall, Log};
 use std::alloc::Global;
 use std::marker::Brand;
@@ -18,47 +19,66 @@ use std::sync::Wait;
 use std::sync::ledger::Blank;
 use std::test::*;
 use std::thread::Threads;
-use versions::Opened;
+use versions::{LaneReader, Opened};
 
-/// What the lane sends for a frame once it is told of a command.
-fn sent_after<'a, H: Hall, R: Wait>(
-    rt: &R,
+/// What a lane sends for an item once it is told.
+fn sent_after<N: PublisherName>(
     alloc: Global,
-    desk: &mut OneDesk<'a, H>,
-    lane: &mut OwnLane<OfHall<H>>,
+    lane: &mut OwnLane<N>,
     item: &FitItem,
-    command: Command,
+    told: Told<N>,
 ) -> Option<Vec<Egress>> {
-    let told = desk.does(rt, alloc, command)?;
     lane.learn(told);
     lane.handle(alloc, item).ok()
 }
 
-/// Whether they are the two packets of the frame, by version 8.
-fn are_packets(sent: &Vec<Egress>) -> bool {
+/// Whether they are the two packets of the frame, by version 8 and for this item.
+fn are_packets(sent: &Vec<Egress>, item: u64) -> bool {
     match sent.as_slice() {
         [first, second] => {
-            is_packet(first, 8, 65535, &FIRST) && is_packet(second, 8, 0, &SECOND)
+            is_packet(first, 8, item, 65535, &FIRST) && is_packet(second, 8, item, 0, &SECOND)
         }
         _ => false,
     }
 }
 
-/// Whether a frame is sent only once its source is not muted.
-fn is_told<'a, H: Hall, R: Wait>(
+/// Whether the first lane sends a frame only once its source is not muted, and the second lane sends the same when all
+/// that it is told is the last notice.
+fn are_told<'a, H: Hall, R: Wait>(
     rt: &R,
     alloc: Global,
     desk: &mut OneDesk<'a, H>,
-    lane: OwnLane<OfHall<H>>,
+    first: &mut OwnLane<OfHall<H>>,
+    second: &mut OwnLane<OfHall<H>>,
 ) -> Option<bool> {
-    let mut lane = lane;
+    let item = frame(alloc)?;
+    let of_mute = desk.does(rt, alloc, mute())?;
+    let muted = sent_after(alloc, first, &item, of_mute)?;
+    let of_unmute = desk.does(rt, alloc, unmute())?;
+    let heard = sent_after(alloc, first, &item, of_unmute)?;
+    let beside = sent_after(alloc, second, &item, desk.notice(rt))?;
+    Some(muted.is_empty() && are_packets(&heard, 2) && are_packets(&beside, 1))
+}
+
+/// The same, with lanes of these readers. The desk then has version 8, and the rows that it was set up with.
+fn is_played<'a, H: Hall, R: Wait>(
+    rt: &R,
+    alloc: Global,
+    desk: &mut OneDesk<'a, H>,
+    readers: &mut Vec<LaneReader>,
+) -> Option<bool>
+    requires { All (λ reader. reader ≡ new_reader H.publisher H.start) readers.old.items }
+{
     if !desk.does_all(rt, alloc, &set_up()) {
         return None;
     }
-    let item = frame(alloc)?;
-    let muted = sent_after(rt, alloc, desk, &mut lane, &item, mute())?;
-    let heard = sent_after(rt, alloc, desk, &mut lane, &item, unmute())?;
-    Some(muted.is_empty() && are_packets(&heard))
+    let mut first = own_lane::<H>(alloc, readers)?;
+    let second = own_lane::<H>(alloc, readers);
+    let are_told = match second {
+        Some(mut second) => are_told(rt, alloc, desk, &mut first, &mut second),
+        None => None,
+    };
+    Some(are_told? && desk.has_only(rt, alloc, 8, &set_up()))
 }
 
 /// The same, over a desk.
@@ -75,13 +95,11 @@ fn scene<H: Hall + Send + Sync + 'static, R: Threads + Wait + Copy + Drop + Send
     requires start { no_rows 1 ≡ H.start }
     requires seats { (1 ≡ H.seats) × (H.seats ≡ H.parts) }
 {
-    match OneDesk::<H>::open(rt, alloc, log, blank, opened, 1) {
+    match OneDesk::<H>::open(rt, alloc, log, blank, opened, 2) {
         Some((desk, readers)) => {
             let mut desk = desk;
-            let is_well = match own_lane::<H>(alloc, readers) {
-                Some(lane) => is_told(rt, alloc, &mut desk, lane),
-                None => None,
-            };
+            let mut readers = readers;
+            let is_well = is_played(rt, alloc, &mut desk, &mut readers);
             desk.end(rt);
             is_well == Some(true)
         }
@@ -90,6 +108,7 @@ fn scene<H: Hall + Send + Sync + 'static, R: Threads + Wait + Copy + Drop + Send
 }
 
 /// A lane that is told of the mute of a source sends none of its frame. Told of the mute's end, it sends both packets.
+/// So does another lane that is told of the end alone.
 #[test]
 fn a_lane_handles_by_what_it_is_told(rt: HostRuntime) -> Result<(), Fail> {
     let alloc = rt.alloc();

@@ -56,12 +56,12 @@ pub fn lanes<H: Hall>(alloc: Global, readers: Vec<LaneReader>) -> Result<Vec<Lan
     Ok(lanes)
 }
 
-/// The last reader.
-fn last_of<H: Hall>(readers: Vec<LaneReader>) -> Option<LaneReader>
-    requires { All (λ reader. reader ≡ new_reader H.publisher H.start) readers.items }
-    ensures { IfSome result (λ reader. reader ≡ new_reader H.publisher H.start) }
+/// The last reader. It leaves the list.
+fn last_of<H: Hall>(readers: &mut Vec<LaneReader>) -> Option<LaneReader>
+    requires { All (λ reader. reader ≡ new_reader H.publisher H.start) readers.old.items }
+    ensures taken { IfSome result (λ reader. reader ≡ new_reader H.publisher H.start) }
+    ensures left { All (λ reader. reader ≡ new_reader H.publisher H.start) readers.new.items }
 {
-    let mut readers = readers;
     readers.pop()
 }
 
@@ -74,8 +74,9 @@ pub struct OwnLane<N: PublisherName> {
 }
 
 /// The only lane of a bridge, with the last one of the readers.
-pub fn own_lane<H: Hall>(alloc: Global, readers: Vec<LaneReader>) -> Option<OwnLane<OfHall<H>>>
-    requires { All (λ reader. reader ≡ new_reader H.publisher H.start) readers.items }
+pub fn own_lane<H: Hall>(alloc: Global, readers: &mut Vec<LaneReader>) -> Option<OwnLane<OfHall<H>>>
+    requires { All (λ reader. reader ≡ new_reader H.publisher H.start) readers.old.items }
+    ensures { All (λ reader. reader ≡ new_reader H.publisher H.start) readers.new.items }
 {
     let reader = last_of::<H>(readers)?;
     let state = state(alloc, 0, 1).ok()?;

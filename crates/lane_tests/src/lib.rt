@@ -13,6 +13,8 @@ mod counts;
 #[cfg(test)]
 mod feed;
 #[cfg(test)]
+mod full_sink;
+#[cfg(test)]
 mod gathering;
 #[cfg(test)]
 mod handled;

@@ -8,7 +8,7 @@ use bytes::Bytes;
 use desk_edit::{Call, Command};
 use std::alloc::Global;
 
-/// How many items a round has, as many as a lane's ring has room for.
+/// How many items a round has, as many as a lane's ring holds.
 pub const PER_ROUND: u64 = 1_024;
 
 /// A core with one lane, and all that it has sent.

@@ -24,11 +24,11 @@ use std::thread::Threads;
 use versions::{LaneReader, Opened};
 
 /// How many parcels a lane's ring holds.
-const ROOM: u64 = 1_024;
+const RING_PARCELS: u64 = 1_024;
 
 /// Fills the ring. Says whether each parcel was accepted.
 fn fills<N: PublisherName, P: Pace>(running: &mut Running<N, P>) -> bool {
-    for moment in 0..ROOM {
+    for moment in 0..RING_PARCELS {
         if running.push(0, FitItem::tick(moment).alone::<N>()).is_err() {
             return false;
         }
@@ -75,7 +75,7 @@ fn is_full<N: PublisherName, P: Pace, R: Threads + Wait>(
     let is_back = is_handed_back(&mut running, told);
     gate.store(true, Ordering::SeqCst);
     let ends = running.close(rt);
-    is_filled && is_back && are_handled(&ends, ROOM)
+    is_filled && is_back && are_handled(&ends, RING_PARCELS)
 }
 
 /// A held pace.
@@ -134,7 +134,7 @@ fn scene<H: Hall + Send + Sync + 'static, R: Threads + Wait + Copy + Drop + Send
     }
 }
 
-/// A held lane accepts as many parcels as its ring has room for, and hands the next one back with its notice. Once it
+/// A held lane accepts as many parcels as its ring holds, and hands the next one back with its notice. Once it
 /// goes on, all that were accepted are handled.
 #[test]
 fn a_full_ring_hands_back(rt: HostRuntime) -> Result<(), Fail> {

@@ -70,6 +70,14 @@ impl<N: PublisherName, P: Pace> Running<N, P> {
         lane < self.lanes && self.bridge.ended(lane)
     }
 
+    /// Gives a lane its `End`, if there is such a lane.
+    pub fn push_end<R: Wait>(&mut self, rt: &R, lane: u32) {
+        if lane >= self.lanes {
+            return;
+        }
+        self.bridge.push_end(rt, lane);
+    }
+
     /// Ends the lanes.
     pub fn close<R: Threads + Wait>(self, rt: &R) -> Ends<N> {
         let Running { bridge, lanes: _ } = self;

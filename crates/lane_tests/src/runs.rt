@@ -70,7 +70,7 @@ fn run<N: PublisherName, P: Pace + Drop, R: Wait>(
 fn are_packets(sent: &Vec<Egress>) -> bool {
     match sent.as_slice() {
         [first, second] => {
-            is_packet(first, 6, 65535, &FIRST) && is_packet(second, 6, 0, &SECOND)
+            is_packet(first, 6, 2, 65535, &FIRST) && is_packet(second, 6, 2, 0, &SECOND)
         }
         _ => false,
     }
@@ -120,7 +120,8 @@ fn is_run<H: Hall, R: Wait>(
 ) -> Option<bool>
     requires { All (λ reader. reader ≡ new_reader H.publisher H.start) readers.items }
 {
-    let lane = own_lane::<H>(alloc, readers)?;
+    let mut readers = readers;
+    let lane = own_lane::<H>(alloc, &mut readers)?;
     let (_producer, consumer) = filled(alloc, told)?;
     match stops_at {
         Some(item_no) => Some(is_stopped(rt, alloc, lane, consumer, item_no)),

@@ -76,7 +76,7 @@ fn wake<N: PublisherName, P: Pace, R: Wait>(
 fn takes_packets<N: PublisherName, P: Pace, R: Wait>(rt: &R, running: &mut Running<N, P>) -> bool {
     let (_, first) = next(rt, running);
     let (_, second) = next(rt, running);
-    is_packet(&first, 6, 65535, &FIRST) && is_packet(&second, 6, 0, &SECOND)
+    is_packet(&first, 6, 1, 65535, &FIRST) && is_packet(&second, 6, 1, 0, &SECOND)
 }
 
 /// Whether the one lane handled one item and refused none.

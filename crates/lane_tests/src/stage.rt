@@ -5,12 +5,41 @@ ghost use Rattle.desk_rows.specs.Desk.{blank as no_rows};
 ghost use Rattle.versions.specs.Published.{new_reader};
 
 use crate::told::{OfHall, Told};
-use desk_edit::{Call, Command};
+use desk_edit::{Call, Command, Form};
+use desk_rows::{Kind, Rows};
 use operator_desk::{Answer, Hall, Log, Seat, SharedDesk};
 use std::alloc::Global;
 use std::sync::Wait;
 use std::sync::ledger::Blank;
 use versions::{LaneReader, Opened};
+
+/// All kinds of rows.
+const KINDS: [Kind; 9] = [
+    Kind::Room,
+    Kind::Member,
+    Kind::Source,
+    Kind::Slot,
+    Kind::Sub,
+    Kind::Mute,
+    Kind::Gain,
+    Kind::Pin,
+    Kind::Floor,
+];
+
+/// Whether the rows are those that the commands put.
+fn are_only(rows: &Rows, put: &[Command]) -> bool {
+    let mut count: usize = 0;
+    for kind in KINDS {
+        count = count.wrapping_add(rows.count(kind));
+    }
+    for command in put {
+        match command.form() {
+            Form::Put(row) if rows.holds(&row) => {}
+            _ => return false,
+        }
+    }
+    count == put.len()
+}
 
 /// A desk with one operator. It is not `Drop`: end it by [`OneDesk::end`].
 pub struct OneDesk<'a, H: Hall> {
@@ -76,6 +105,14 @@ impl<'a, H: Hall> OneDesk<'a, H> {
     /// The notice of what is published now.
     pub fn notice<R: Wait>(&self, rt: &R) -> Told<OfHall<H>> {
         Told::new(self.desk.notice(rt))
+    }
+
+    /// Whether it has this version, and the rows that these commands put and no other.
+    pub fn has_only<R: Wait>(&self, rt: &R, alloc: Global, version: u64, put: &[Command]) -> bool {
+        match self.desk.rows(rt, alloc) {
+            Ok((found, rows)) => found == version && are_only(&rows, put),
+            Err(_) => false,
+        }
     }
 
     /// Ends it. Readers find no rows from then on.

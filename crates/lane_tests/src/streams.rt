@@ -1,5 +1,6 @@
 //! What lanes send, compared.
 
+use crate::rows::address;
 use bridge_core::Egress;
 use rtp_codec::Address;
 
@@ -144,14 +145,16 @@ pub fn is_beginning(stream: u32, part: &Vec<Egress>, whole: &Vec<Egress>) -> boo
     true
 }
 
-/// Whether it is a first packet of stream 501 to the second member, by this version and as item 1, with this number and
-/// these octets.
-pub fn is_packet(egress: &Egress, version: u64, number: u16, octets: &[u8]) -> bool {
+/// Whether it is a packet of stream 501 that the second member gets for the first time, by this version and for this
+/// item, with this number and these octets.
+pub fn is_packet(egress: &Egress, version: u64, item: u64, number: u16, octets: &[u8]) -> bool {
     let (front, rest) = octets_of(egress);
     let head = head_of(egress);
     let split = front.len();
     head.kind == 0
         && head.version == version
+        && head.item == item
+        && head.address == address(2)
         && head.ssrc == 501
         && head.number == number
         && head.resent_by.is_none()

@@ -64,6 +64,18 @@ pub fn next<N: PublisherName, P: Pace, R: Wait>(
     unreachable!()
 }
 
+/// Ends the second lane alone, and waits for it. Says whether nothing is given from then on.
+fn ends_second<N: PublisherName, P: Pace, R: Wait>(rt: &R, running: &mut Running<N, P>) -> bool {
+    running.push_end(rt, 1);
+    for _ in rt.forever() {
+        if running.ended(1) {
+            return !running.ended(0) && running.pop().is_none();
+        }
+        thread::yield_now();
+    }
+    unreachable!()
+}
+
 /// Whether each of two lanes has its number, handled one item and refused none.
 fn are_both_handled<N: PublisherName>(ends: &Ends<N>) -> bool {
     match ends.as_slice() {
@@ -96,11 +108,13 @@ fn are_together<N: PublisherName, P: Pace, R: Threads + Wait>(
         return false;
     }
     let ((lane, first), (other, second)) = next_two(rt, &mut running);
+    let is_ended = ends_second(rt, &mut running);
     let ends = running.close(rt);
-    lane == 1
+    is_ended
+        && lane == 1
         && other == 1
-        && is_packet(&first, 6, 65535, &FIRST)
-        && is_packet(&second, 6, 0, &SECOND)
+        && is_packet(&first, 6, 1, 65535, &FIRST)
+        && is_packet(&second, 6, 1, 0, &SECOND)
         && are_both_handled(&ends)
 }
 
@@ -168,7 +182,7 @@ fn scene<H: Hall + Send + Sync + 'static, R: Threads + Wait + Copy + Drop + Send
 }
 
 /// Two lanes run at once: the pace of each waits until the other's was asked. Each handles the frame, and the lane of
-/// the stream's number sends its two packets.
+/// the stream's number sends its two packets. That lane can be ended before the other.
 #[test]
 fn lanes_run_together(rt: HostRuntime) -> Result<(), Fail> {
     let alloc = rt.alloc();
