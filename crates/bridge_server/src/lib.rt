@@ -1,16 +1,18 @@
 //! A bridge that runs: a thread for each operator's connection, a thread for each lane, and a front that reads the
 //! sockets and sends what the lanes give.
 //!
-//! Begin with [`Front::bind`], then [`Front::run`], which returns once an operator stops the bridge, with what was
-//! accepted of each operator and dropped for each lane. What is decided stands in operator_threads and media_front;
-//! here are the sockets, and the loop that joins the rest. Contracts say nothing of sockets.
+//! Begin with [`Front::bind`], then [`Front::run`]. It returns once an operator stops the bridge, with how many calls
+//! of each operator were accepted, and how many items were dropped for each lane. All decisions are in operator_threads
+//! and media_front: here are the sockets, and the loop that joins the rest. Contracts say nothing of sockets.
 //!
 //! ```rust
-//! let front = Front::bind(&rt, settings(alloc, text)?)?;
+//! let front = Front::bind(&rt, settings(alloc, text)?)?; // text: the settings' file
 //! println!(rt; "{}", front.listening()?)?;
 //! let stopped = front.run(&rt)?; // until an operator stops it
 //! println!(rt; "{} calls of operator 0", stopped.accepted[0])?;
 //! ```
+//!
+//! front_cases runs these calls on sockets.
 #![tactic(auto)]
 
 mod calls;

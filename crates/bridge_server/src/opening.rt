@@ -10,7 +10,7 @@ ghost use Rattle.operator_desk.specs.Opening.{most_operators};
 
 use crate::calls::calls_of;
 use crate::front::{Front, WAKER};
-use crate::rounds::{Media, Rounds};
+use crate::rounds::{Rounds, ServerMedia};
 use crate::serving::serve;
 use crate::sockets::Sockets;
 use crate::stopped::Stopped;
@@ -90,7 +90,7 @@ where
     }
 }
 
-/// Why a bridge does not start, by its desk.
+/// The bridge's fault, if its desk doesn't start.
 fn desk_fault(fault: DeskFault) -> FrontFault {
     match fault {
         DeskFault::OutOfMemory => FrontFault::OutOfMemory,
@@ -99,7 +99,7 @@ fn desk_fault(fault: DeskFault) -> FrontFault {
     }
 }
 
-/// Why a bridge does not start, by its lanes.
+/// The bridge's fault, if its lanes don't start.
 fn start_fault(fault: StartFault) -> FrontFault {
     match fault {
         StartFault::OutOfMemory => FrontFault::OutOfMemory,
@@ -125,7 +125,7 @@ fn sockets_of(
     Ok((sockets, waker, settings))
 }
 
-/// Starts the lanes, and gives the front and what wakes it.
+/// Starts the lanes, and returns the front and its waker.
 fn begin<H, R>(
     rt: &R,
     alloc: Global,
@@ -170,7 +170,7 @@ fn media_of<H, R>(
     settings: Settings,
     waker: &LaneWaker,
     start: u64,
-) -> Result<Media<H, R>, FrontFault>
+) -> Result<ServerMedia<H, R>, FrontFault>
 where
     H: Hall + Send + Sync + 'static,
     R: Threads + Wait + Copy + Send + Drop + 'static,
@@ -189,7 +189,7 @@ where
     }
 }
 
-/// Ends the lanes, and gives how many items were dropped for each.
+/// Ends the lanes, and returns how many items were dropped for each.
 fn close<H, R>(rt: &R, alloc: Global, rounds: Rounds<H, R>) -> Result<Vec<u64>, FrontFault>
 where
     H: Hall + Send + Sync + 'static,
@@ -214,7 +214,7 @@ where
 }
 
 /// How many items were dropped for each lane.
-fn dropped_of<H, R>(alloc: Global, media: &Media<H, R>) -> Result<Vec<u64>, AllocError>
+fn dropped_of<H, R>(alloc: Global, media: &ServerMedia<H, R>) -> Result<Vec<u64>, AllocError>
 where
     H: Hall,
     R: Wait + Drop,
@@ -226,7 +226,7 @@ where
     Ok(dropped)
 }
 
-/// Ends the desk, and gives how many calls of each operator were accepted.
+/// Ends the desk, and returns how many calls of each operator were accepted.
 fn gather<'a, H: Hall, R: Wait>(
     rt: &R,
     alloc: Global,

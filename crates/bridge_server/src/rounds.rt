@@ -28,7 +28,7 @@ const DATAGRAMS: u32 = 64;
 const SENT: u32 = 4_096;
 
 /// The media of a bridge in hall H, on a runtime R.
-pub(crate) type Media<H, R> = MediaFront<PublisherOf<H>, Rung<R, LaneWaker>>;
+pub(crate) type ServerMedia<H, R> = MediaFront<PublisherOf<H>, Rung<R, LaneWaker>>;
 
 /// The front: its sockets, its clock, its own reader of the published desk, and the lanes.
 pub(crate) struct Rounds<H: Hall, R: Wait + Drop> {
@@ -37,7 +37,7 @@ pub(crate) struct Rounds<H: Hall, R: Wait + Drop> {
     pub(crate) moments: Moments,
     /// It is taken out while the desk is entered.
     pub(crate) reader: Option<LaneReader>,
-    pub(crate) media: Media<H, R>,
+    pub(crate) media: ServerMedia<H, R>,
     /// The last round sent as much as a round may, so that more may wait.
     pub(crate) is_behind: bool,
     /// Lanes wake the front while it is set.
@@ -74,7 +74,7 @@ impl<H: Hall + Send + Sync + 'static, R: Wait + Clock + Copy + Send + Drop + 'st
                 self.reader = Some(entered.leave());
                 done
             }
-            // Without rows nobody's datagrams are known: they are dropped, and the reports wait.
+            // Without rows no sender is known: datagrams are dropped, and the reports wait.
             Err(reader) => {
                 self.reader = Some(reader);
                 self.drop_datagrams()?;

@@ -20,7 +20,7 @@ use udp_front::FrontFault;
 /// How many connections a round accepts at most.
 const CONNECTIONS: u32 = 64;
 
-/// A place, and what is read from its connection. A connection for which there is no place or no memory is closed.
+/// A place for a connection, and its caller. If there is no free place or no memory, the connection is closed.
 fn seated<'a, H: Hall, R: Net + Wait>(
     rt: &R,
     alloc: Global,

@@ -14,10 +14,10 @@ use udp_front::{FrontFault, UdpWire, address_of};
 
 /// How many of the system's events are taken at a time.
 const EVENTS: usize = 8;
-/// How many octets of a datagram are taken: more than a datagram may have, so that a longer one is known.
+/// How many octets of a datagram are read: more than one may have, so that a longer one is noticed.
 const CHUNK: usize = 9_000;
 
-/// The sockets, and what the system told of them last.
+/// The sockets, and what the system last reported of them.
 #[derive(Drop)]
 pub(crate) struct Sockets {
     poll: Poll,
@@ -30,7 +30,7 @@ pub(crate) struct Sockets {
     has_callers: bool,
     /// What was read last.
     chunk: Vec<u8>,
-    /// What is sent, put together.
+    /// Where a datagram's parts are joined before it is sent.
     whole: Vec<u8>,
 }
 
@@ -43,19 +43,19 @@ fn chunk(alloc: Global) -> Result<Vec<u8>, AllocError>
     Ok(chunk)
 }
 
-/// What came of a read of a datagram.
+/// The result of reading a datagram.
 #[derive(Clone, Copy)]
 pub(crate) enum Read {
-    /// So many octets, from there.
+    /// A datagram of this many octets, from this address.
     Datagram { from: Address, octets: usize },
-    /// Something that is no datagram of IPv4: the next one may wait.
+    /// Something other than an IPv4 datagram. More may wait.
     Other,
-    /// No more waits.
+    /// Nothing waits.
     Nothing,
 }
 
 impl Sockets {
-    /// Sockets of which nothing was read.
+    /// Sockets from which nothing was read yet.
     pub(crate) fn new(
         alloc: Global,
         poll: Poll,
@@ -74,8 +74,8 @@ impl Sockets {
         })
     }
 
-    /// Waits until something has come, at most so many milliseconds, and notes what. It does not wait where datagrams
-    /// may be there.
+    /// Waits until something has come, at most `longest` milliseconds, and notes what. It doesn't wait if datagrams may
+    /// be there already.
     pub(crate) fn wait(&mut self, longest: u64) -> Result<(), FrontFault> {
         let longest = if self.has_datagrams { 0 } else { longest };
         self.poll

@@ -5,18 +5,18 @@ ghost use Rattle.bridge_server.specs.Ends.{ran_out};
 
 use udp_front::FrontFault;
 
-/// What came of a bridge that an operator stopped.
+/// How a bridge ended that an operator stopped.
 #[derive(Drop)]
 pub struct Stopped {
     /// How many calls of each operator were accepted, from operator 0 on.
     pub accepted: Vec<usize>,
-    /// How many items were dropped for each lane, from lane 0 on: its ring was full.
+    /// How many items were dropped for each lane because its ring was full, from lane 0 on.
     pub dropped: Vec<u64>,
 }
 
 impl Stopped {
-    /// What came of a bridge, by its last round, what its lanes and its log say at the end. Where one of them has a
-    /// fault the bridge has one: out of memory, if that is one of them.
+    /// How a bridge ended, from its last round, its lanes and its log. If one of them has a fault, so has the bridge.
+    /// Out of memory comes first, then the round's fault, the log's and the lanes'.
     pub(crate) fn told(
         round: Result<(), FrontFault>,
         lanes: Result<Vec<u64>, FrontFault>,

@@ -2,11 +2,11 @@
 
 ghost use Rattle.std.specs.Prelude.{◌≡◌, ◌≤◌, ◌+◌, true};
 
-/// How long lanes are still woken in each round once the desk has no members, in nanoseconds: 2 s. By then no sound
-/// waits in a jitter buffer, so that ticks that wait give nothing, whichever members come.
+/// For how long lanes are still woken in each round once the desk has no members, in nanoseconds: 2 s. After that no
+/// samples wait in a jitter buffer, so that waiting ticks bring nothing, whichever members join.
 const AWAKE: u64 = 2_000_000_000;
 
-/// How long lanes may sleep from then on, in nanoseconds: 500 ms, for which they get some 25 ticks.
+/// For how long lanes may sleep from then on, in nanoseconds: 500 ms, which are 25 ticks.
 const ASLEEP: u64 = 500_000_000;
 
 /// Wakes lanes in each round while the desk has members, and twice a second while it has none.
@@ -27,7 +27,7 @@ impl Wakes {
         }
     }
 
-    /// Whether the lanes are woken in this round. They then were woken last at this moment.
+    /// Whether the lanes are woken in this round. If so, it notes the moment.
     pub(crate) fn is_due(&mut self, now: u64, has_members: bool) -> bool
         ensures members { has_members ≡ true → result ≡ true }
         ensures often { self.old.wake + 500000000 ≤ now → result ≡ true }

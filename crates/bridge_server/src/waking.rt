@@ -6,13 +6,13 @@ use std::alloc::{AllocError, Global};
 use std::sync::Arc;
 use std::sync::atomic::{AtomicBool, Ordering};
 
-/// Ends the front's wait, as an operator does whose call was accepted.
+/// Ends the front's wait. An operator's thread does so after an accepted call.
 #[derive(Drop)]
 pub(crate) struct FrontWaker(pub(crate) Arc<Waker, Global>);
 
 impl Rouse for FrontWaker {
     fn rouse(&self) {
-        // A wake that fails is made good by the next round, 5 ms later at most.
+        // If a wake fails, the next round comes at most 5 ms later.
         let _ = self.0.wake();
     }
 }
@@ -23,8 +23,8 @@ impl Clone for FrontWaker {
     }
 }
 
-/// Ends the front's wait, as a lane does that has handled all that it was given. While the desk has no members no lane
-/// gives anything, and the front is left alone.
+/// Ends the front's wait. A lane does so once it has handled all that it was given. While the desk has no members, no
+/// lane sends anything, and the front isn't woken.
 #[derive(Drop)]
 pub(crate) struct LaneWaker {
     pub(crate) front: FrontWaker,

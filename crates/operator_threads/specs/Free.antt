@@ -1,4 +1,4 @@
--- Seats at which nobody sits (own).
+-- Free seats (own).
 use Rattle.std.specs.Prelude.{◌≡◌, ℕ, nat_eq, List, Option, Some, position, slice_index_or, swap_remove}
 use Rattle.operator_desk.specs.Seats.{SeatOf}
 

@@ -1,4 +1,4 @@
--- What becomes of an operator's connection (own).
+-- The state of an operator's connection, step by step (own).
 use Rattle.std.specs.Prelude.{◌≡◌, ◌⊎◌, ◌++◌, ℕ, zero, suc, Bool, true, false, not, ◌&&◌, if◌then◌else◌, nat_eq, List}
 use Rattle.std.specs.Prelude.{[], ◌∷◌, length, take, drop, Result, Ok, Err}
 use Rattle.std.specs.IoError.{error_kind}
@@ -23,18 +23,18 @@ is_open Ending = false
 is_open Lost = false
 is_open Stopping = false
 
--- it is to be closed, where this waits to be written
+-- it is to be closed, while these octets wait to be written
 abbrev pub is_over : Standing → List ℕ → Bool
 is_over Open waiting = false
 is_over Ending waiting = nat_eq (length waiting) 0
 is_over Lost waiting = true
 is_over Stopping waiting = true
 
--- lost where more waits than an operator may leave unread
+-- lost if more waits than an operator may leave unread
 abbrev pub unless_too_much : List ℕ → Standing → Standing
 unless_too_much waiting standing = if is_too_much waiting then Lost else standing
 
--- how it stands after an answered line, where this waits to be written
+-- its state after an answered line, while these octets wait to be written
 abbrev pub after_line : Next → List ℕ → Standing
 after_line next.Stay waiting = unless_too_much waiting Open
 after_line next.Quit waiting = unless_too_much waiting Ending
@@ -51,7 +51,7 @@ AnswersLines {D = D} replies shows (line ∷ lines) old new before after from to
     × AnswersLine replies shows old mid line before between becomes
     × AnswersLines replies shows lines mid new between after (after_line becomes between) to
 
--- of these lines the first are answered: all, unless one of them ended the connection or the bridge was stopped
+-- the first of these lines are answered: all, unless one of them ended the connection or the bridge was stopped
 abbrev pub AnswersFirst :
     {D : Type 0} → Replying D → Showing D → List (List ℕ) → D → D → (before after : List ℕ) → Standing → Bool → Type 0
 AnswersFirst replies shows lines old new before after to stopped =
@@ -68,7 +68,7 @@ abbrev pub Refuses : Bool → (before after : List ℕ) → (from to : Standing)
 Refuses true before after from to = (after ≡ before ++ fault_line 0 LineTooLong) × (to ≡ Ending)
 Refuses false before after from to = (after ≡ before) × (to ≡ from)
 
--- octets come behind a stream: the lines that they end are answered, and then one that is too long is refused
+-- octets follow a stream: the lines that they end are answered, and then one that is too long is refused
 abbrev pub AnswersOctets :
     {D : Type 0} → Replying D → Showing D → (stream octets : List ℕ) → D → D → (before after : List ℕ) → Standing → Bool
     → Type 0
@@ -90,7 +90,7 @@ came_of (Ok zero) = came.End
 came_of (Ok (suc n)) = came.Octets (suc n)
 came_of (Err error) = came_by (error_kind error)
 
--- how an open connection stands after what a read gave
+-- the state of an open connection after a read
 abbrev pub after_read : Came → Standing → Standing
 after_read (came.Octets n) standing = standing
 after_read came.End standing = Ending
@@ -98,7 +98,7 @@ after_read came.Later standing = standing
 after_read came.Again standing = standing
 after_read came.Failed standing = Lost
 
--- how it stands after what a write gave: a socket that takes nothing is lost
+-- its state after a write: a socket that takes nothing is lost
 abbrev pub after_write : Came → Standing → Standing
 after_write (came.Octets n) standing = standing
 after_write came.End standing = Lost
@@ -106,7 +106,7 @@ after_write came.Later standing = standing
 after_write came.Again standing = standing
 after_write came.Failed standing = Lost
 
--- what still waits after what a write gave
+-- what still waits after a write
 abbrev pub left_after : Came → List ℕ → List ℕ
 left_after (came.Octets n) waiting = drop n waiting
 left_after came.End waiting = waiting

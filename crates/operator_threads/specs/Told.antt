@@ -1,4 +1,4 @@
--- What an operator at a shared desk is told (own).
+-- What an operator at a shared desk is answered (own).
 use Rattle.std.specs.Prelude.{◌≡◌, ℕ, List}
 use mathlib.Core.List.{IsPrefix}
 use Rattle.logbook.specs.Pages.{Book}
@@ -28,7 +28,7 @@ abbrev pub IsKnown : Answer → NoticeOf → Type 0
 IsKnown (Accepted number notice) known = IsPrefix notice.lists known.lists
 IsKnown (Refused version why) known = Unit {0}
 
--- the call of a seat is answered, its line is told, and the notice of an accepted call is known from then on
+-- the call of a seat is answered, its line is appended, and the notice of an accepted call is known from then on
 abbrev pub SeatReplies : Desk → Book → (old new : SeatOf) → (known : NoticeOf) → CallOf → List ℕ → Type 0
 SeatReplies start publisher old new known call text =
     (answer : Answer) × IsAnswered start publisher old new call answer × (text ≡ answer_text answer)

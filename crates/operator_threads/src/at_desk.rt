@@ -1,9 +1,10 @@
 //! An operator at a shared desk.
 
-ghost use Rattle.std.specs.Prelude.{◌≡◌};
+ghost use Rattle.std.specs.Prelude.{◌≡◌, OnOk, OnErr};
 ghost use Rattle.desk_edit.specs.Asked.{asked_by};
 ghost use Rattle.operator_desk.specs.Answers.{IsAnswered};
-ghost use Rattle.operator_threads.specs.Told.{IsKnown, IsTelling};
+ghost use Rattle.operator_threads.specs.Told.{IsKnown, IsTelling, SeatShows};
+ghost use Rattle.udp_front.specs.Operators.{AppendsShown};
 
 use crate::operators::Operators;
 use crate::printing::print_answer;
@@ -13,14 +14,14 @@ use lane_bell::Rouse;
 use operator_desk::{Answer, Hall};
 use script_text::print_rows;
 use std::alloc::{AllocError, Global};
-use std::sync::Wait;
+use std::sync::{MutexGuard, Wait};
 use udp_front::LineDesk;
 use versions::Notice;
 
 /// An operator at a shared desk. It is not `Drop`, so that the seat is given back: end it by [`AtDesk::leave`].
 ///
-/// As a [`LineDesk`] it answers each call as `SharedDesk::call` does, by its own seat, and rouses the front where the
-/// call was accepted.
+/// As a [`LineDesk`] it answers each call by `SharedDesk::call` with its own seat. It rouses the front after each
+/// accepted call.
 pub struct AtDesk<'b, 'a, H: Hall, R: Wait, F: Rouse> {
     pub(crate) operators: &'b Operators<'a, H>,
     pub(crate) rt: &'b R,
@@ -54,6 +55,16 @@ impl<'b, 'a, H: Hall, R: Wait, F: Rouse> AtDesk<'b, 'a, H, R, F> {
         answer
     }
 
+    /// Appends the rows of one version, a line for each, and the version. An `Err` appends nothing.
+    fn print(&self, alloc: Global, out: &mut Vec<u8>) -> Result<(), AllocError>
+        ensures ok { OnOk result
+            (AppendsShown (λ desk text. SeatShows H.start text) self.now out.old.items out.new.items) }
+        ensures err { OnErr result (out.new.items ≡ out.old.items) }
+    {
+        let (version, rows) = self.operators.desk.rows(self.rt, alloc)?;
+        print_rows(&rows, version, out)
+    }
+
     /// Learns the notice of an accepted call, and rouses the front.
     fn note(&mut self, answer: &Answer)
         requires tells { IsTelling H.start H.publisher answer.now }
@@ -81,7 +92,9 @@ impl<'b, 'a, H: Hall, R: Wait, F: Rouse> LineDesk for AtDesk<'b, 'a, H, R, F> {
     }
 
     fn show(&self, alloc: Global, out: &mut Vec<u8>) -> Result<(), AllocError> {
-        let (version, rows) = self.operators.desk.rows(self.rt, alloc)?;
-        print_rows(&rows, version, out)
+        let turn = self.operators.showing.lock(self.rt);
+        let answer = self.print(alloc, out);
+        MutexGuard::unlock(turn);
+        answer
     }
 }

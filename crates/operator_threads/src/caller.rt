@@ -33,12 +33,12 @@ pub struct Caller {
     writable: bool,
     /// What was read last.
     chunk: Vec<u8>,
-    /// What the last line is answered.
+    /// The answer to the last line.
     text: Vec<u8>,
 }
 
 impl Caller {
-    /// A connection of which nothing has come. An `Err` is the system's, or want of memory, and closes it.
+    /// A connection from which nothing has come. An `Err` is the system's or out of memory, and closes the connection.
     pub fn new(rt: &impl Net, alloc: Global, mut stream: TcpStream) -> io::Result<Self> {
         let poll = Poll::new(rt)?;
         let events = Events::with_capacity(alloc, EVENTS)?;
@@ -63,8 +63,8 @@ impl Caller {
         self.talk.standing == Standing::Stopping
     }
 
-    /// One round: waits 50 ms at most, reads a piece, answers its lines, and writes a piece. Tells whether another one
-    /// is to follow.
+    /// One round: waits 50 ms at most, reads a piece, answers its lines, and writes a piece. Returns whether another
+    /// round follows.
     pub(crate) fn round<D: LineDesk>(
         &mut self,
         alloc: Global,
@@ -77,14 +77,14 @@ impl Caller {
         !stops && !self.talk.is_over()
     }
 
-    /// Whether there is something to do before the system tells of more.
+    /// Whether there is something to do before the system reports more.
     fn is_ready(&self) -> bool {
         let reads = self.readable && self.talk.is_open();
         let writes = self.writable && !self.talk.outgoing.is_empty();
         reads || writes
     }
 
-    /// Waits until the system tells of more.
+    /// Waits until the system reports more.
     fn wait(&mut self) {
         let longest = if self.is_ready() { 0 } else { LONGEST_WAIT };
         let longest = Some(Duration::from_millis(longest));
@@ -96,7 +96,7 @@ impl Caller {
         }
     }
 
-    /// Reads a piece, and answers the lines that it ends. Tells whether the bridge was found to be stopped.
+    /// Reads a piece, and answers the lines that it ends. Returns whether the bridge was found to be stopped.
     #[tactic(auto, using(crate::proofs::TalkLemmas::open_is))]
     fn read<D: LineDesk>(&mut self, alloc: Global, desk: &mut D, stopped: &AtomicBool) -> bool {
         if !self.readable || !self.talk.is_open() {
@@ -112,7 +112,7 @@ impl Caller {
         }
     }
 
-    /// Answers the lines that so many octets end. Where memory runs out the connection is lost.
+    /// Answers the lines that the first `count` octets end. On out of memory the connection is lost.
     fn hear<D: LineDesk>(
         &mut self,
         alloc: Global,

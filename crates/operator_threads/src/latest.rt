@@ -27,6 +27,7 @@ impl<H: Hall> Model for Latest<H> {
 }
 
 impl<H: Hall> Latest<H> {
+    /// This notice is the latest one.
     pub fn new(notice: Notice) -> Self
         requires tells { IsNotice H.start H.publisher notice }
         ensures { result ≡ notice }
@@ -45,7 +46,7 @@ impl<H: Hall> Latest<H> {
         self.notice.again()
     }
 
-    /// Learns a notice, and gives the latest one. It is no earlier than this one, nor than what was known.
+    /// Learns a notice, and returns the later one of it and the one that was known.
     pub fn learn(&mut self, notice: &Notice) -> Notice
         requires tells { IsNotice H.start H.publisher notice.now }
         ensures this { IsPrefix self.old.lists self.new.lists }

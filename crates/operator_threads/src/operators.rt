@@ -24,11 +24,14 @@ pub struct Operators<'a, H: Hall> {
     places: Mutex<Places>,
     seats: Mutex<FreeSeats<'a, H>>,
     latest: Mutex<Latest<H>>,
+    /// Held while the rows are copied and printed, which takes milliseconds for a full desk. Operators who keep asking
+    /// take one processor together, and the others' calls have the rest.
+    pub(crate) showing: Mutex<()>,
     stopped: AtomicBool,
 }
 
 impl<'a, H: Hall> Operators<'a, H> {
-    /// A desk, and the seats of its operators, at which nobody sits. There are as many places as seats, 16 at most.
+    /// The operators of a desk with these seats, all of them free. There are as many places as seats, 16 at most.
     pub fn new<R: Wait>(rt: &R, desk: SharedDesk<'a, H>, seats: Vec<Seat<'a, H>>) -> Self {
         let latest = Latest::new(desk.notice(rt));
         let places = seats.len().min(MAX_OPERATORS as usize);
@@ -37,6 +40,7 @@ impl<'a, H: Hall> Operators<'a, H> {
             places: Mutex::new(Places::new(places)),
             seats: Mutex::new(FreeSeats { seats }),
             latest: Mutex::new(latest),
+            showing: Mutex::new(()),
             stopped: AtomicBool::new(false),
         }
     }
@@ -50,14 +54,14 @@ impl<'a, H: Hall> Operators<'a, H> {
         u32::try_from(place?).ok()
     }
 
-    /// Gives back a place that was reserved, and for which no thread could be started.
+    /// Gives back a reserved place for which no thread could be started.
     pub fn release<R: Wait>(&self, rt: &R, op: u32) {
         let mut places = self.places.lock(rt);
         places.release(op as usize);
         MutexGuard::unlock(places);
     }
 
-    /// Sits an operator down whose place was reserved, where the seat is free: end it by [`AtDesk::leave`].
+    /// Takes the seat of an operator whose place was reserved, if it is free. End it by [`AtDesk::leave`].
     ///
     /// `front` is roused after each accepted call.
     pub fn sit<'b, R: Wait, F: Rouse>(
@@ -79,7 +83,7 @@ impl<'a, H: Hall> Operators<'a, H> {
         })
     }
 
-    /// Takes the seat of an operator, where it is free.
+    /// Takes the seat of an operator, if it is free.
     fn take<R: Wait>(&self, rt: &R, op: u32) -> Option<TakenSeat<'a, H>>
         ensures { IfSome result (λ taken. taken.seat.op ≡ op) }
     {
@@ -98,7 +102,7 @@ impl<'a, H: Hall> Operators<'a, H> {
         self.release(rt, op);
     }
 
-    /// Learns the notice of an accepted call, and gives the latest one.
+    /// Learns the notice of an accepted call, and returns the latest one.
     pub(crate) fn learn<R: Wait>(&self, rt: &R, notice: &Notice) -> Notice
         requires tells { IsNotice H.start H.publisher notice.now }
         ensures that { IsPrefix notice.now.lists result.lists }
@@ -164,6 +168,7 @@ impl<'a, H: Hall> Operators<'a, H> {
             seats,
             places: _,
             latest: _,
+            showing: _,
             stopped: _,
         } = self;
         (desk, seats.into_inner().seats)

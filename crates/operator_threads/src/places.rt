@@ -25,7 +25,7 @@ impl Model for Places {
 }
 
 impl Places {
-    /// So many places, all free.
+    /// `count` places, all free.
     pub fn new(count: usize) -> Self
         requires few { count ≤ most_operators }
         ensures { result ≡ replicate count false }
@@ -53,14 +53,14 @@ impl Places {
         Some(place)
     }
 
-    /// Gives a place back. A number that is no place's changes nothing.
+    /// Gives a place back. A number without a place changes nothing.
     pub fn release(&mut self, place: usize)
         ensures { self.new ≡ set self.old place false }
     {
         self.set(place, false);
     }
 
-    /// Notes of a place whether it is taken. A number that is no place's changes nothing.
+    /// Notes whether a place is taken. A number without a place changes nothing.
     fn set(&mut self, place: usize, taken: bool)
         ensures { self.new ≡ set self.old place taken }
     {

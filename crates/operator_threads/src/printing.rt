@@ -8,7 +8,7 @@ use operator_desk::Answer;
 use script_text::{print_refused, print_reply};
 use std::alloc::{AllocError, Allocator};
 
-/// Appends the line of an answer. An `Err` changes nothing, and comes only where the line has no room.
+/// Appends the line of an answer. On out of memory, the only error, nothing changes.
 pub fn print_answer<A: Allocator>(answer: &Answer, out: &mut Vec<u8, A>) -> Result<(), AllocError>
     ensures ok { OnOk result (out.new.items ≡ out.old.items ++ answer_text answer.now) }
     ensures err { OnErr result (out.new.items ≡ out.old.items) }

@@ -1,4 +1,4 @@
-//! The seats at which nobody sits.
+//! The free seats.
 
 ghost use Rattle.std.specs.Prelude.{◌≡◌, ◌<◌, ◌++◌, ◌∷◌, [], None, IfSome, IfNone, vec_len, vec_capacity};
 ghost use Rattle.std.specs.Prelude.{slice_index_or, swap_remove};
@@ -6,7 +6,7 @@ ghost use Rattle.operator_threads.specs.Free.{seat_at, IsTakenFrom};
 
 use operator_desk::{Hall, Seat};
 
-/// Seats that are free to be taken.
+/// Seats that are free.
 #[derive(Drop)]
 pub(crate) struct FreeSeats<'a, H: Hall> {
     pub seats: Vec<Seat<'a, H>>,
@@ -30,7 +30,7 @@ impl<'a, H: Hall> FreeSeats<'a, H> {
         ensures op { IfSome result (λ taken. taken.seat.op ≡ op) }
         ensures taken { IfSome result (λ taken. IsTakenFrom op taken.seat self.old.seats.items self.new.seats.items) }
         ensures none { IfNone result (seat_at op self.old.seats.items ≡ None) }
-        ensures room { vec_capacity self.new.seats ≡ vec_capacity self.old.seats }
+        ensures capacity { vec_capacity self.new.seats ≡ vec_capacity self.old.seats }
     {
         match self.seat_at(op) {
             None => None,
@@ -43,17 +43,17 @@ impl<'a, H: Hall> FreeSeats<'a, H> {
         requires { at < vec_len self.old.seats }
         ensures seat { result.seat ≡ slice_index_or self.old.seats.items at result.seat }
         ensures left { self.new.seats.items ≡ swap_remove self.old.seats.items at result.seat }
-        ensures room { vec_capacity self.new.seats ≡ vec_capacity self.old.seats }
+        ensures capacity { vec_capacity self.new.seats ≡ vec_capacity self.old.seats }
     {
         let seat = self.seats.swap_remove(at);
         TakenSeat { seat }
     }
 
-    /// Gives a seat back. Where nothing was added since it was taken its room is still there.
+    /// Gives a seat back. It takes no memory if nothing was added meanwhile.
     pub fn give(&mut self, taken: TakenSeat<'a, H>)
         ensures back { vec_len self.old.seats < vec_capacity self.old.seats
             → self.new.seats.items ≡ self.old.seats.items ++ taken.entry.seat ∷ [] }
-        ensures room { vec_capacity self.new.seats ≡ vec_capacity self.old.seats }
+        ensures capacity { vec_capacity self.new.seats ≡ vec_capacity self.old.seats }
     {
         let TakenSeat { seat } = taken;
         if self.seats.len() < self.seats.capacity() {

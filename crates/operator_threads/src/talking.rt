@@ -1,4 +1,4 @@
-//! What becomes of an operator's connection after what it reads, answers and writes. No function here has a socket.
+//! An operator's connection: its state after each read, answer and write. No function here has a socket.
 
 ghost use Rattle.std.specs.Prelude.{◌≡◌, ◌++◌, ℕ, List, [], IfOk, OnOk, OnErr};
 ghost use Rattle.script_text.specs.declared.fault.Fault.TheVariants.{LineTooLong};
@@ -14,27 +14,27 @@ use std::io::ErrorKind;
 use std::sync::atomic::{AtomicBool, Ordering};
 use udp_front::{LineDesk, Lines, Next, Outgoing, answer, print_too_long};
 
-/// How a connection stands.
+/// The state of a connection.
 #[derive(Clone, Copy, Debug, PartialEq, Eq)]
 pub(crate) enum Standing {
     /// Its lines are read and answered.
     Open,
     /// Nothing more is read, and it is closed once all is written.
     Ending,
-    /// It is closed as it is.
+    /// It is closed at once.
     Lost,
-    /// It has stopped the bridge, and is closed as it is.
+    /// It has stopped the bridge, and is closed at once.
     Stopping,
 }
 
 /// What a read or a write gave.
 #[derive(Clone, Copy, Debug, PartialEq, Eq)]
 pub(crate) enum Came {
-    /// So many octets, at least one.
+    /// This many octets, at least one.
     Octets(usize),
     /// The end of the stream, or a socket that takes nothing more.
     End,
-    /// Nothing until the system tells of more.
+    /// Nothing until the system reports more.
     Later,
     /// Nothing this time.
     Again,
@@ -57,7 +57,7 @@ pub(crate) fn meaning(answer: &io::Result<usize>) -> Came
     }
 }
 
-/// What is said on a connection: what has come of its next line, what waits to be written, and how it stands.
+/// What is said on a connection: the part of its next line that has come, what waits to be written, and its state.
 #[derive(Drop)]
 pub(crate) struct Talk {
     pub lines: Lines,
@@ -66,7 +66,7 @@ pub(crate) struct Talk {
 }
 
 impl Talk {
-    /// A connection of which nothing has come.
+    /// A connection from which nothing has come.
     pub fn new(alloc: Global) -> Self
         ensures lines { StandsFor result.lines [] }
         ensures outgoing { result.outgoing ≡ [] }
@@ -121,7 +121,7 @@ impl Talk {
         Ok(next)
     }
 
-    /// How it stands after an answered line.
+    /// Its state after an answered line.
     fn after(&self, next: Next) -> Standing
         ensures { result ≡ after_line next self.now.outgoing }
     {
@@ -133,8 +133,8 @@ impl Talk {
         }
     }
 
-    /// Answers these lines, until one of them ends the connection, or the bridge is stopped. Tells whether it was found
-    /// to be stopped. After an `Err` the connection is of no use.
+    /// Answers these lines, until one of them ends the connection, or the bridge is stopped. Returns whether it was
+    /// found to be stopped. After an `Err` the connection is of no use.
     fn answer_lines<D: LineDesk>(
         &mut self,
         alloc: Global,
@@ -160,7 +160,7 @@ impl Talk {
         Ok(false)
     }
 
-    /// Tells that a line is too long, and ends. An `Err` changes nothing.
+    /// Answers that a line is too long, and ends. An `Err` changes nothing.
     fn refuse_line(&mut self, alloc: Global, text: &mut Vec<u8>) -> Result<(), AllocError>
         ensures told { OnOk result (self.new.outgoing ≡ self.old.outgoing ++ fault_line 0 LineTooLong) }
         ensures ends { OnOk result (self.new.standing ≡ Standing.Ending) }
@@ -181,7 +181,7 @@ impl Talk {
         is_too_long && !stops && self.is_open()
     }
 
-    /// Refuses a line that is too long, where there is one.
+    /// Refuses a line that is too long, if there is one.
     fn refuse_if(
         &mut self,
         alloc: Global,
@@ -199,8 +199,8 @@ impl Talk {
         }
     }
 
-    /// Takes the next octets of the stream, and answers the lines that they end. Tells whether the bridge was found to
-    /// be stopped. After an `Err` the connection is of no use, and a call may be carried out.
+    /// Takes the next octets of the stream, and answers the lines that they end. Returns whether the bridge was found
+    /// to be stopped. After an `Err` the connection is of no use, and a call may have been carried out.
     pub fn hear<D: LineDesk>(
         &mut self,
         alloc: Global,
