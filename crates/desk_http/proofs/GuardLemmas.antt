@@ -8,8 +8,8 @@ use Rattle.desk_http.specs.declared.asking.Wish.{Wish}
 use Rattle.desk_http.specs.declared.asking.Wish.TheVariants.{Page, Script, Style, Desk, Call, Refused}
 use Rattle.desk_http.specs.declared.asking.PageRefusal.{PageRefusal}
 use Rattle.desk_http.specs.declared.asking.PageRefusal.TheVariants.{ForeignHost, ForeignOrigin, NotAllowed, NoToken, NoLine, Reserved}
-use Rattle.desk_http.specs.declared.asking.Place.{Place}
-use Rattle.desk_http.specs.declared.asking.Place.TheVariants as places
+use Rattle.desk_http.specs.declared.asking.SitePlace.{SitePlace}
+use Rattle.desk_http.specs.declared.asking.SitePlace.TheVariants as places
 use Rattle.desk_http.specs.Asked.{wish_of, wish_at, call_wish, line_wish, place_at, has_own_host, has_own_origin, has_token, is_method}
 use Rattle.desk_http.specs.Lines.{is_line, is_reserved}
 use Rattle.desk_http.specs.Guarded.{Passes}
@@ -34,7 +34,7 @@ got_no true w h e = h e
 got_no false w h e = cc
 
 -- a call is at its path
-at_call : (site : Site) (request : Request (List ℕ)) (p : Option Place) → wish_at site request p ≡ Call → call_wish site request ≡ Call
+at_call : (site : Site) (request : Request (List ℕ)) (p : Option SitePlace) → wish_at site request p ≡ Call → call_wish site request ≡ Call
 at_call site request None e = absurd (cc)
 at_call site request (Some places.Page) e = absurd (got_no (is_method request (codes "GET")) Page (λ h. cc) e)
 at_call site request (Some places.Script) e = absurd (got_no (is_method request (codes "GET")) Script (λ h. cc) e)

@@ -10,8 +10,8 @@ use Rattle.desk_http.specs.declared.site.Site.{Site}
 use Rattle.desk_http.specs.declared.asking.Wish.{Wish}
 use Rattle.desk_http.specs.declared.asking.Wish.TheVariants as wishes
 use Rattle.desk_http.specs.declared.asking.PageRefusal.TheVariants.{ForeignHost, ForeignOrigin, NotFound, NotAllowed, NoToken, NoLine, Reserved}
-use Rattle.desk_http.specs.declared.asking.Place.{Place}
-use Rattle.desk_http.specs.declared.asking.Place.TheVariants as places
+use Rattle.desk_http.specs.declared.asking.SitePlace.{SitePlace}
+use Rattle.desk_http.specs.declared.asking.SitePlace.TheVariants as places
 use Rattle.desk_http.specs.Lines.{is_line, is_reserved}
 
 -- the page's own host, by its address or by name
@@ -48,7 +48,7 @@ abbrev pub is_method : Request (List ℕ) → List ℕ → Bool
 is_method request method = bytes_eq (head_of request).method method
 
 -- what stands at a path
-abbrev pub place_at : List ℕ → Option Place
+abbrev pub place_at : List ℕ → Option SitePlace
 place_at path =
     if bytes_eq path (codes "/") then Some places.Page
     else if bytes_eq path (codes "/page.js") then Some places.Script
@@ -76,7 +76,7 @@ abbrev pub got : Request (List ℕ) → Wish → Wish
 got request wish = if is_method request (codes "GET") then wish else wishes.Refused NotAllowed
 
 -- what a request of the page's own asks for
-abbrev pub wish_at : Site → Request (List ℕ) → Option Place → Wish
+abbrev pub wish_at : Site → Request (List ℕ) → Option SitePlace → Wish
 wish_at site request None = wishes.Refused NotFound
 wish_at site request (Some places.Page) = got request wishes.Page
 wish_at site request (Some places.Script) = got request wishes.Script

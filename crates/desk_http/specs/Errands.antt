@@ -1,5 +1,5 @@
 -- The way of a request's line to the bridge (own).
-use Rattle.std.specs.Prelude.{◌≡◌, ℕ, ◌≤◌, List, [], ◌∷◌, ◌++◌, length, Option, Some, None}
+use Rattle.std.specs.Prelude.{ℕ, ◌≤◌, List, [], ◌∷◌, ◌++◌, length, Option, Some, None}
 use Rattle.desk_http.specs.declared.errand.Errand.{Errand}
 use Rattle.desk_http.specs.declared.errand.Errand.TheVariants as errands
 
@@ -15,7 +15,7 @@ stage_of errands.Hearing = hearing
 stage_of (errands.Waiting line) = waiting line.items
 stage_of errands.Handed = handed
 
--- a line is wanted: it counts where there was none before
+-- a line is wanted: a second one is ignored
 abbrev pub after_want : List ℕ → Stage → Stage
 after_want line hearing = waiting line
 after_want line (waiting earlier) = waiting earlier
@@ -56,6 +56,6 @@ abbrev pub lines_given : List Event → Stage → List (List ℕ)
 lines_given [] stage = []
 lines_given (event ∷ events) stage = given_by event stage ++ lines_given events (after_event event stage)
 
--- whatever happens, one line at most goes to the bridge
+-- whatever happens, at most one line goes to the bridge
 abbrev pub GoesOnce : Type 0
 GoesOnce = (events : List Event) → length (lines_given events hearing) ≤ 1

@@ -1,4 +1,4 @@
--- What has come of the bridge's answer to a line (own).
+-- How far the bridge's answer to a line has come (own).
 use Rattle.std.specs.Prelude.{ℕ, ◌-◌, Bool, not, ◌&&◌, if◌then◌else◌, nat_eq, nat_lt, nat_le, List, length, take, drop, slice_index, codes, Option, Some, None}
 use Rattle.std.specs.List.{list_any, suffix_len}
 use Rattle.std.specs.Str.{bytes_eq}
@@ -39,7 +39,7 @@ abbrev pub call_progress : List ℕ → Option (List ℕ) → Progress
 call_progress got None = if has_end got then Broken else More
 call_progress got (Some text) = if has_end text then Broken else Whole
 
--- what has come of the answer to a line, 16 MiB at most
+-- how far the answer to a line has come, 16 MiB at most
 abbrev pub progress_of : List ℕ → List ℕ → Progress
 progress_of line got =
     if bytes_eq got (codes "busy\n") then Busy

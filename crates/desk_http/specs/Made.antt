@@ -1,4 +1,4 @@
--- The calls that were made through the page, and how they are told (own).
+-- The calls that were made through the page, and how they are printed (own).
 use Rattle.std.specs.Prelude.{ℕ, if◌then◌else◌, nat_lt, List, ◌++◌, length, drop, flat_map, codes}
 use Rattle.std.specs.declared.vec.Vec.{Vec}
 

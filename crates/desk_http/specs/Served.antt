@@ -39,5 +39,5 @@ is_asked line (Some wanted) = bytes_eq line wanted
 -- a request is answered by what the bridge said to its own line, and to no other
 pub record TellsAnswer (old : Telling) (request : Request (List ℕ)) (response : Response) (new : Telling) : Type 0 where
   pub kept : new ≡ old
-  pub reply : IsReply (if is_asked old.line.items (line_for (wish_of old.site.now request) (body_of request))
-      then told_reply old.told else other_reply) response
+  pub reply : IsReply (if is_asked old.line.now (line_for (wish_of old.site.now request) (body_of request))
+      then told_reply old.told.now else other_reply) response

@@ -153,7 +153,7 @@ fn refusal_text(refusal: PageRefusal) -> &'static [u8]
     }
 }
 
-/// Fills what a request is answered at once. A wish for which the bridge is asked gets a reply that says so.
+/// Fills the answer that a request gets at once. A request that asks the bridge gets a reply that says so.
 pub(crate) fn answer(
     response: &mut Response,
     site: &Site,

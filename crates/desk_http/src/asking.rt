@@ -19,11 +19,11 @@ use crate::Site;
 use bytes::Bytes;
 use http::{Request, header};
 
-/// How many octets a line has at most.
+/// The most octets of a line.
 pub const MAX_LINE: usize = 4_096;
 
 /// What a request asks for.
-#[derive(Clone, Copy, PartialEq, Eq)]
+#[derive(Clone, Copy)]
 pub enum Wish {
     /// The page.
     Page,
@@ -31,36 +31,36 @@ pub enum Wish {
     Script,
     /// The page's style sheet.
     Style,
-    /// The desk as it stands.
+    /// The desk as it is now.
     Desk,
     /// The answer to the line in its body.
     Call,
-    /// Nothing that it gets.
+    /// Nothing: it is refused.
     Refused(PageRefusal),
 }
 
-/// Why a request is refused. The first that holds is told.
-#[derive(Clone, Copy, PartialEq, Eq)]
+/// Why a request is refused. The first reason that holds is reported.
+#[derive(Clone, Copy)]
 pub enum PageRefusal {
     /// It names another host, or none.
     ForeignHost,
     /// A page of another origin sends it.
     ForeignOrigin,
-    /// Nothing is at its path.
+    /// There is nothing at its path.
     NotFound,
     /// Its method isn't the one of its path.
     NotAllowed,
     /// It doesn't have the page's token.
     NoToken,
-    /// Its body isn't 1 to 4,096 printed octets.
+    /// Its body isn't 1 to 4,096 octets from 32 to 126.
     NoLine,
     /// Its body begins with `show`, `quit` or `stop`.
     Reserved,
 }
 
 /// What stands at a path.
-#[derive(Clone, Copy, PartialEq, Eq)]
-pub(crate) enum Place {
+#[derive(Clone, Copy)]
+pub(crate) enum SitePlace {
     Page,
     Script,
     Style,
@@ -69,19 +69,19 @@ pub(crate) enum Place {
 }
 
 /// What stands at a path, if anything.
-fn stands_at(path: &str) -> Option<Place>
+fn stands_at(path: &str) -> Option<SitePlace>
     ensures { result ≡ place_at path.now }
 {
     if path == "/" {
-        Some(Place::Page)
+        Some(SitePlace::Page)
     } else if path == "/page.js" {
-        Some(Place::Script)
+        Some(SitePlace::Script)
     } else if path == "/page.css" {
-        Some(Place::Style)
+        Some(SitePlace::Style)
     } else if path == "/desk" {
-        Some(Place::Desk)
+        Some(SitePlace::Desk)
     } else if path == "/call" {
-        Some(Place::Call)
+        Some(SitePlace::Call)
     } else {
         None
     }
@@ -192,15 +192,15 @@ fn got(request: &Request<Bytes>, wish: Wish) -> Wish
 }
 
 /// What a request of the page's own asks for.
-fn at_place(site: &Site, request: &Request<Bytes>, place: Option<Place>) -> Wish
+fn at_place(site: &Site, request: &Request<Bytes>, place: Option<SitePlace>) -> Wish
     ensures { result ≡ wish_at site.now request.now place }
 {
     match place {
-        Some(Place::Page) => got(request, Wish::Page),
-        Some(Place::Script) => got(request, Wish::Script),
-        Some(Place::Style) => got(request, Wish::Style),
-        Some(Place::Desk) => got(request, Wish::Desk),
-        Some(Place::Call) => call(site, request),
+        Some(SitePlace::Page) => got(request, Wish::Page),
+        Some(SitePlace::Script) => got(request, Wish::Script),
+        Some(SitePlace::Style) => got(request, Wish::Style),
+        Some(SitePlace::Desk) => got(request, Wish::Desk),
+        Some(SitePlace::Call) => call(site, request),
         None => Wish::Refused(PageRefusal::NotFound),
     }
 }

@@ -11,11 +11,11 @@ const CALLS: usize = 256;
 /// The last 256 calls that were made through the page.
 #[derive(Drop)]
 pub struct Calls {
-    /// The line of each call, and the line of its answer with its LF. The oldest stands first.
+    /// The line of each call, and the line of its answer with its LF, oldest first.
     pub entries: Vec<(Vec<u8>, Vec<u8>)>,
 }
 
-/// Lets the oldest call go where no further one is kept beside it.
+/// Drops the oldest call if 256 are kept.
 fn let_go(entries: &mut Vec<(Vec<u8>, Vec<u8>)>)
     ensures { entries.new.items ≡ newest entries.old.items }
 {

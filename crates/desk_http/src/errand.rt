@@ -5,19 +5,21 @@ ghost use Rattle.desk_http.specs.Errands.{stage_of, after_want, after_take, line
 
 use std::mem;
 
-/// How far the line of a connection has come. A connection has one request, and so one line at most.
+/// How far the line of a connection has come. A connection has one request, and so at most one line.
+///
+/// Call [`want`](Self::want) once a request is whole, then [`take`](Self::take).
 #[derive(Drop)]
 pub enum Errand {
-    /// No request has come whole.
+    /// No request is whole yet.
     Hearing,
     /// This line waits for the bridge.
     Waiting(Vec<u8>),
-    /// The line was handed over, and is never handed over again.
+    /// The line was handed to the bridge. That happens once.
     Handed,
 }
 
 impl Errand {
-    /// The request asks the bridge this line. It counts for nothing where there was one before.
+    /// The request asks the bridge this line. A second line is ignored.
     pub fn want(&mut self, line: Vec<u8>)
         ensures { stage_of self.new ≡ after_want line.items (stage_of self.old) }
     {
@@ -26,7 +28,7 @@ impl Errand {
         }
     }
 
-    /// The line that waits, if one does: it goes to the bridge now.
+    /// The line that waits, if there is one, to be handed to the bridge now.
     pub fn take(&mut self) -> Option<Vec<u8>>
         ensures line { option_map (λ v. v.items) result ≡ line_at (stage_of self.old) }
         ensures stage { stage_of self.new ≡ after_take (stage_of self.old) }

@@ -1,4 +1,4 @@
-//! A line that was sent to the bridge, and what has come of its answer.
+//! A line that was sent to the bridge, and the answer so far.
 
 ghost use Rattle.std.specs.Prelude.{◌≡◌, ◌+◌, ◌++◌, ◌∷◌, [], ◌≤◌, length, IfOk, OnOk, OnErr, option_map};
 ghost use Rattle.std.specs.List.{suffix_len};
@@ -14,23 +14,23 @@ ghost use Rattle.desk_http.specs.Exchanges.{
 
 use std::alloc::{AllocError, Global};
 
-/// How many octets an answer has at most.
+/// The most octets of an answer.
 const MAX_ANSWER: usize = 16_777_216;
 
-/// What has come of an answer.
-#[derive(Clone, Copy, PartialEq, Eq)]
+/// How far an answer has come.
+#[derive(Clone, Copy)]
 pub enum Progress {
-    /// A part of it, or nothing.
+    /// Part of it, or nothing yet.
     More,
-    /// All of it, and nothing else.
+    /// All of it, and nothing more.
     Whole,
-    /// That the bridge has no seat. It hasn't taken the line.
+    /// The bridge has no free seat, and hasn't taken the line.
     Busy,
-    /// What is no answer.
+    /// Octets that are no answer.
     Broken,
 }
 
-/// A line that the bridge was sent, and what has come since then. No other line is sent meanwhile.
+/// A line that was sent to the bridge, and the octets of its answer so far. No other line is sent meanwhile.
 #[derive(Drop)]
 pub struct Exchange {
     /// The line, without its LF.
@@ -78,7 +78,7 @@ fn has_end(text: &[u8]) -> bool
     text.iter().any(|octet| *octet == b'\n')
 }
 
-/// What has come of the answer to `show`.
+/// How far the answer to `show` has come.
 fn show_progress(got: &[u8]) -> Progress
     ensures { result ≡ show_progress (before_last_lf got.now) }
 {
@@ -94,7 +94,7 @@ fn show_progress(got: &[u8]) -> Progress
     }
 }
 
-/// What has come of the answer to a call.
+/// How far the answer to a call has come.
 fn call_progress(got: &[u8]) -> Progress
     ensures { result ≡ call_progress got.now (before_last_lf got.now) }
 {
@@ -117,7 +117,7 @@ fn call_progress(got: &[u8]) -> Progress
 }
 
 impl Exchange {
-    /// A line that is sent now.
+    /// An exchange of this line. Nothing of its answer has come.
     pub fn new(alloc: Global, line: Vec<u8>) -> Self
         ensures line { result.line ≡ line }
         ensures got { result.got.items ≡ [] }
@@ -128,7 +128,7 @@ impl Exchange {
         }
     }
 
-    /// What has come of the answer.
+    /// How far the answer has come.
     pub fn progress(&self) -> Progress
         ensures { result ≡ progress_of self.now.line.items self.now.got.items }
     {
@@ -143,7 +143,8 @@ impl Exchange {
         }
     }
 
-    /// Takes octets that have come, and tells what has come of the answer. An `Err` changes nothing.
+    /// Takes in more octets, and returns how far the answer has come. On out of memory, the only error, nothing
+    /// changes.
     pub fn feed(&mut self, octets: &[u8]) -> Result<Progress, AllocError>
         ensures progress { IfOk result (λ p. p ≡ progress_of self.new.line.items self.new.got.items) }
         ensures got { OnOk result (self.new.got.items ≡ self.old.got.items ++ octets.now) }
@@ -154,7 +155,7 @@ impl Exchange {
         Ok(self.progress())
     }
 
-    /// The octets to be sent: the line and an LF.
+    /// The octets to send: the line and an LF.
     pub fn sent(&self, alloc: Global) -> Result<Vec<u8>, AllocError>
         ensures { IfOk result (λ sent. sent.items ≡ self.now.line.items ++ 10 ∷ []) }
     {

@@ -8,7 +8,7 @@ pub fn calls_are_guarded()
     ensures { IsGuarded }
 {}
 
-/// Of each request one line at most goes to the bridge, and that one once.
+/// At most one line of each request goes to the bridge, and it goes once.
 pub fn lines_go_once()
     ensures { GoesOnce }
 {}

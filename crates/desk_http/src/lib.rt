@@ -1,4 +1,18 @@
-//! The operator's page: what a browser's request is answered, from the request and from what the bridge said.
+//! The operators' page: what a browser's request asks for, how its line reaches the bridge once, and what the browser
+//! is answered.
+//!
+//! Begin with [`asked_for`]. A [`Hearing`] answers a request that needs no bridge, and names the line of any other. An
+//! [`Errand`] hands that line over once, an [`Exchange`] takes in the bridge's answer, and a [`Telling`] answers the
+//! request with it. A contract sees requests, lines and answers as octets. The crate has no socket and no clock.
+//!
+//! ```rust
+//! let mut exchange = Exchange::new(alloc, Vec::from_slice(alloc, b"mute 201")?);
+//! let octets = exchange.sent(alloc)?; // the line and an LF
+//! let first = exchange.feed(b"ok ")?; // Progress::More
+//! let last = exchange.feed(b"9\n")?; // Progress::Whole
+//! ```
+//!
+//! The cases of page_cases have this exchange, and each kind of request.
 #![tactic(auto)]
 
 mod answering;

@@ -14,26 +14,36 @@ use http_server::{Response, Service};
 use std::alloc::{AllocError, Global};
 
 /// The line that a wish asks the bridge, if it asks one.
-fn line_for(alloc: Global, wish: Wish, body: &[u8]) -> Result<Option<Vec<u8>>, AllocError>
-    ensures { IfOk result (λ line. option_map (λ v. v.items) line ≡ line_for wish body.now) }
+fn line_for(wish: Wish, body: &[u8]) -> Option<&[u8]>
+    ensures { option_map (λ x. x.now) result ≡ line_for wish body.now }
 {
     match wish {
-        Wish::Desk => Ok(Some(Vec::from_slice(alloc, b"show")?)),
-        Wish::Call => Ok(Some(Vec::from_slice(alloc, body)?)),
-        Wish::Page | Wish::Script | Wish::Style | Wish::Refused(_) => Ok(None),
+        Wish::Desk => Some(b"show"),
+        Wish::Call => Some(body),
+        Wish::Page | Wish::Script | Wish::Style | Wish::Refused(_) => None,
     }
 }
 
-/// Hears a request, and answers it where no bridge is needed.
+/// A copy of a line.
+fn copy_of(alloc: Global, line: Option<&[u8]>) -> Result<Option<Vec<u8>>, AllocError>
+    ensures { IfOk result (λ copy. option_map (λ v. v.items) copy ≡ option_map (λ x. x.now) line.entry) }
+{
+    match line {
+        Some(line) => Ok(Some(Vec::from_slice(alloc, line)?)),
+        None => Ok(None),
+    }
+}
+
+/// Hears a request, and answers it if that takes no bridge.
 #[derive(Drop)]
 pub struct Hearing {
-    /// Where the lines lie.
+    /// The allocator of the lines.
     pub alloc: Global,
-    /// What is the page's own.
+    /// How browsers name the page, and its token.
     pub site: Site,
     /// The page's files.
     pub files: Files,
-    /// The line that the request asks the bridge. What the connection would send is no answer then.
+    /// The line that the request asks the bridge. While there is one, whatever the connection would send is no answer.
     pub wanted: Option<Vec<u8>>,
 }
 
@@ -46,35 +56,33 @@ impl Service for Hearing {
         response: &mut Response,
     ) -> Result<(), AllocError> {
         let wish = asked_for(&self.site, request);
-        let line = line_for(self.alloc, wish, request.body().as_slice())?;
         answer(response, &self.site, self.files, wish)?;
-        self.wanted = line;
+        self.wanted = copy_of(self.alloc, line_for(wish, request.body().as_slice()))?;
         Ok(())
     }
 }
 
-/// Answers a request by what the bridge said to its line.
-#[derive(Drop)]
+/// Answers a request by what the bridge answered to its line.
+#[derive(Clone, Copy)]
 pub struct Telling<'a> {
-    /// What is the page's own.
+    /// How browsers name the page, and its token.
     pub site: &'a Site,
     /// The line that the bridge was asked.
-    pub line: Vec<u8>,
-    /// What it said.
-    pub told: Told,
+    pub line: &'a [u8],
+    /// What the bridge answered.
+    pub told: &'a Told,
 }
 
 impl<'a> Telling<'a> {
     /// Whether the request asks this line.
     fn is_for(&self, request: &Request<Bytes>) -> bool
         ensures { result
-            ≡ is_asked self.now.line.items
+            ≡ is_asked self.now.line.now
             (line_for (wish_of self.now.site.now request.now) (body_of request.now)) }
     {
-        match asked_for(self.site, request) {
-            Wish::Desk => self.line.as_slice() == b"show".as_slice(),
-            Wish::Call => self.line.as_slice() == request.body().as_slice(),
-            Wish::Page | Wish::Script | Wish::Style | Wish::Refused(_) => false,
+        match line_for(asked_for(self.site, request), request.body().as_slice()) {
+            Some(line) => self.line == line,
+            None => false,
         }
     }
 }
@@ -88,7 +96,7 @@ impl<'a> Service for Telling<'a> {
         response: &mut Response,
     ) -> Result<(), AllocError> {
         if self.is_for(request) {
-            tell(response, &self.told)
+            tell(response, self.told)
         } else {
             answer_other(response)
         }

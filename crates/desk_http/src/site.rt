@@ -3,14 +3,14 @@
 ghost use Rattle.std.specs.Prelude.{◌≡◌};
 ghost use Rattle.desk_http.specs.Asked.{is_host_of, is_origin_of};
 
-/// How a browser names the page, and what a call has to bring along.
+/// How browsers name the page, and the token that a call has to carry.
 #[derive(Drop)]
 pub struct Site {
     /// The address that the page listens at, such as `127.0.0.1:7080`.
     pub host: Vec<u8>,
     /// The same by name, such as `localhost:7080`.
     pub local: Vec<u8>,
-    /// A secret of this run, which the page carries.
+    /// A secret of this run, of any length. The page holds it, and each call sends it back.
     pub token: Vec<u8>,
 }
 

@@ -15,7 +15,7 @@ pub(crate) struct Options {
 }
 
 /// How the program ends.
-#[derive(Clone, Copy, PartialEq, Eq)]
+#[derive(Clone, Copy)]
 pub(crate) enum Ends {
     /// It did what was asked.
     Served,

@@ -45,7 +45,7 @@ pub(crate) struct Peer {
     line: Option<Vec<u8>>,
     stage: Stage,
     /// The connections are numbered in order.
-    serial: u64,
+    number: usize,
     /// When the stage is given up.
     until: u64,
     /// When octets last went over it, or its stage began.
@@ -67,7 +67,7 @@ fn feed(connection: &mut Connection, octets: &[u8]) -> io::Result<()> {
 
 impl Peer {
     /// A connection of which nothing has come.
-    pub(crate) fn new(terms: Terms, stream: TcpStream, serial: u64, now: u64) -> Self {
+    pub(crate) fn new(terms: Terms, stream: TcpStream, number: usize, now: u64) -> Self {
         Self {
             stream,
             connection: terms.connection(),
@@ -75,7 +75,7 @@ impl Peer {
             errand: Errand::Hearing,
             line: None,
             stage: Stage::Reading,
-            serial,
+            number,
             until: now.saturating_add(PATIENCE),
             moved: now,
             ready: true,
@@ -107,8 +107,8 @@ impl Peer {
     }
 
     /// Its number.
-    pub(crate) fn serial(&self) -> u64 {
-        self.serial
+    pub(crate) fn number(&self) -> usize {
+        self.number
     }
 
     /// Whether the question for the desk waits.
@@ -155,36 +155,29 @@ impl Peer {
         }
     }
 
-    /// Answers the request by what the bridge said to its line.
-    fn answer(&mut self, terms: Terms, site: &Site, told: Told) -> io::Result<()> {
-        let Some(line) = self.line.take() else {
-            return Ok(());
-        };
+    /// Hears the request once more, over a connection of which nothing has come.
+    fn hear_again(&mut self, terms: Terms) -> io::Result<()> {
         drop(mem::replace(&mut self.connection, terms.connection()));
-        feed(&mut self.connection, &self.request)?;
-        let mut telling = Telling { site, line, told };
-        self.connection.advance(&mut telling);
+        feed(&mut self.connection, &self.request)
+    }
+
+    /// Answers the request by what the bridge said to its line.
+    fn answer(&mut self, terms: Terms, site: &Site, told: &Told) -> io::Result<()> {
+        self.hear_again(terms)?;
+        if let Some(line) = &self.line {
+            self.connection.advance(&mut Telling { site, line, told });
+        }
         Ok(())
     }
 
     /// Answers the request by what the bridge said to its line, or closes the connection where memory runs out.
-    pub(crate) fn tell(
-        &mut self,
-        terms: Terms,
-        site: &Site,
-        told: Result<Told, AllocError>,
-        now: u64,
-    ) {
-        let answered = match told {
-            Ok(told) => self.answer(terms, site, told).is_ok(),
-            Err(_) => false,
-        };
-        if answered {
+    pub(crate) fn tell(&mut self, terms: Terms, site: &Site, told: &Told, now: u64) {
+        if self.answer(terms, site, told).is_ok() {
             self.enter(Stage::Writing, now, PATIENCE);
         } else {
-            self.line = None;
             self.stage = Stage::Done;
         }
+        drop(self.line.take());
     }
 
     /// Does what the socket allows now.
@@ -230,17 +223,23 @@ impl Peer {
         self.moved = now;
         self.request.extend_from_slice(octets)?;
         feed(&mut self.connection, octets)?;
-        hearing.wanted = None;
         self.connection.advance(hearing);
-        if let Some(line) = hearing.wanted.take() {
-            self.errand.want(line);
-            self.stage = Stage::Asking;
-        } else if !self.connection.wants_read() {
-            self.enter(Stage::Writing, now, PATIENCE);
-        } else {
-            self.write_some(now);
-        }
+        self.go_on(hearing.wanted.take(), now);
         Ok(())
+    }
+
+    /// Goes on behind a piece of the request: to the bridge with a line, or with the response where no more may come.
+    fn go_on(&mut self, line: Option<Vec<u8>>, now: u64) {
+        match line {
+            Some(line) => {
+                self.errand.want(line);
+                self.stage = Stage::Asking;
+            }
+            None if self.connection.wants_read() => {
+                self.write_some(now);
+            }
+            None => self.enter(Stage::Writing, now, PATIENCE),
+        }
     }
 
     /// Writes what the socket takes of what is pending. Tells whether the connection still takes octets.

@@ -1,4 +1,4 @@
-//! The browsers' connections, by place.
+//! The browsers' connections.
 
 use crate::peer::Peer;
 use crate::terms::Terms;
@@ -15,133 +15,110 @@ const STILLNESS: u64 = 1_000;
 /// The browsers' connections.
 #[derive(Drop)]
 pub(crate) struct Peers {
-    places: Vec<Option<Peer>>,
-    /// How many connections there have been.
-    count: u64,
-}
-
-/// What the bridge said, once more.
-fn again(alloc: Global, told: &Told) -> Result<Told, AllocError> {
-    match told {
-        Told::Said(text) => Ok(Told::Said(Vec::from_slice(alloc, text)?)),
-        Told::Busy => Ok(Told::Busy),
-        Told::Gone => Ok(Told::Gone),
-        Told::Lost => Ok(Told::Lost),
-    }
+    /// The oldest stands first.
+    connected: Vec<Peer>,
+    /// The number of the next connection.
+    next: usize,
 }
 
 impl Peers {
-    /// No connection.
-    pub(crate) fn new(alloc: Global) -> Result<Self, AllocError> {
-        let mut places = Vec::new(alloc);
-        for _ in 0..PEERS {
-            places.push(None)?;
-        }
-        Ok(Self { places, count: 0 })
-    }
-
-    /// The system has told of the socket at a place.
-    pub(crate) fn wake(&mut self, place: usize) {
-        if let Some(Some(peer)) = self.places.get_mut(place) {
-            peer.wake();
+    /// No connection yet. The first one gets this number.
+    pub(crate) fn new(alloc: Global, first: usize) -> Self {
+        Self {
+            connected: Vec::new(alloc),
+            next: first,
         }
     }
 
-    /// The place of the connection over which nothing has gone for longest, a second at least. One that waits for the
-    /// bridge keeps its place.
+    /// The number of the next connection.
+    pub(crate) fn next(&self) -> usize {
+        self.next
+    }
+
+    /// The system has told of the socket of the connection with this number.
+    pub(crate) fn wake(&mut self, number: usize) {
+        for peer in &mut self.connected {
+            if peer.number() == number {
+                peer.wake();
+            }
+        }
+    }
+
+    /// The connection over which nothing has gone for longest, a second at least. One that waits for the bridge isn't
+    /// looked at.
     fn stillest(&self, now: u64) -> Option<usize> {
         let mut stillest = None;
         let mut least = u64::MAX;
-        for (at, place) in self.places.iter().enumerate() {
-            if let Some(peer) = place {
-                if let Some(since) = peer.still_since() {
-                    if since < least && since.saturating_add(STILLNESS) <= now {
-                        least = since;
-                        stillest = Some(at);
-                    }
+        for (at, peer) in self.connected.iter().enumerate() {
+            if let Some(since) = peer.still_since() {
+                if since < least && since.saturating_add(STILLNESS) <= now {
+                    least = since;
+                    stillest = Some(at);
                 }
             }
         }
         stillest
     }
 
-    /// The place of a new connection: a free one, or else that of the oldest connection of which nothing has come, or
-    /// else that of the one over which nothing has gone for longest, a second at least.
-    pub(crate) fn place(&self, now: u64) -> Option<usize> {
-        let mut oldest = None;
-        let mut least = u64::MAX;
-        for (at, place) in self.places.iter().enumerate() {
-            match place {
-                None => return Some(at),
-                Some(peer) => {
-                    if peer.is_silent() && peer.serial() < least {
-                        least = peer.serial();
-                        oldest = Some(at);
-                    }
-                }
+    /// The connection whose place a new one takes where there are 32: the oldest of which nothing has come, or else the
+    /// one over which nothing has gone for longest, a second at least.
+    fn leaver(&self, now: u64) -> Option<usize> {
+        for (at, peer) in self.connected.iter().enumerate() {
+            if peer.is_silent() {
+                return Some(at);
             }
         }
-        match oldest {
-            Some(at) => Some(at),
-            None => self.stillest(now),
+        self.stillest(now)
+    }
+
+    /// Makes a place for a new connection. Tells whether there is one.
+    fn make_place(&mut self, now: u64) -> bool {
+        if self.connected.len() < PEERS {
+            return true;
+        }
+        match self.leaver(now) {
+            Some(at) if at < self.connected.len() => {
+                drop(self.connected.remove(at));
+                true
+            }
+            _ => false,
         }
     }
 
-    /// Puts a new connection to a place.
-    pub(crate) fn put(&mut self, at: usize, terms: Terms, stream: TcpStream, now: u64) {
-        self.count = self.count.saturating_add(1);
-        if let Some(place) = self.places.get_mut(at) {
-            drop(place.replace(Peer::new(terms, stream, self.count, now)));
+    /// Adds a connection. Where it has no place it is closed.
+    pub(crate) fn put(&mut self, terms: Terms, stream: TcpStream, now: u64) {
+        if self.make_place(now) {
+            let peer = Peer::new(terms, stream, self.next, now);
+            self.next = self.next.saturating_add(1);
+            drop(self.connected.push(peer));
         }
     }
 
     /// Lets each connection do what its socket allows.
     pub(crate) fn turn(&mut self, hearing: &mut Hearing, chunk: &mut [u8], now: u64) {
-        for place in &mut self.places {
-            if let Some(peer) = place {
-                peer.turn(hearing, chunk, now);
-            }
+        for peer in &mut self.connected {
+            peer.turn(hearing, chunk, now);
         }
-    }
-
-    /// The place of the call that waits longest.
-    fn oldest_call(&self) -> Option<usize> {
-        let mut oldest = None;
-        let mut least = u64::MAX;
-        for (at, place) in self.places.iter().enumerate() {
-            if let Some(peer) = place {
-                if peer.has_call() && peer.serial() < least {
-                    least = peer.serial();
-                    oldest = Some(at);
-                }
-            }
-        }
-        oldest
     }
 
     /// The line of the call that waits longest, which is handed over.
     pub(crate) fn next_call(&mut self, alloc: Global) -> Result<Option<Vec<u8>>, AllocError> {
-        let Some(at) = self.oldest_call() else {
-            return Ok(None);
-        };
-        match self.places.get_mut(at) {
-            Some(Some(peer)) => {
+        for peer in &mut self.connected {
+            if peer.has_call() {
                 peer.hand();
-                peer.copy_of_line(alloc)
+                return peer.copy_of_line(alloc);
             }
-            _ => Ok(None),
         }
+        Ok(None)
     }
 
     /// Hands over all questions for the desk. Tells whether there was one.
     pub(crate) fn hand_shows(&mut self) -> bool {
         let mut any = false;
-        for place in &mut self.places {
-            if let Some(peer) = place {
-                if peer.has_show() {
-                    peer.hand();
-                    any = true;
-                }
+        for peer in &mut self.connected {
+            if peer.has_show() {
+                peer.hand();
+                any = true;
             }
         }
         any
@@ -149,33 +126,22 @@ impl Peers {
 
     /// Hands over all lines that wait.
     pub(crate) fn hand_all(&mut self) {
-        for place in &mut self.places {
-            if let Some(peer) = place {
-                peer.hand();
-            }
+        for peer in &mut self.connected {
+            peer.hand();
         }
     }
 
     /// Tells what the bridge said to all whose lines were handed over.
     pub(crate) fn tell(&mut self, terms: Terms, site: &Site, told: &Told, now: u64) {
-        for place in &mut self.places {
-            if let Some(peer) = place {
-                if peer.is_asking() {
-                    let told = again(terms.alloc, told);
-                    peer.tell(terms, site, told, now);
-                }
+        for peer in &mut self.connected {
+            if peer.is_asking() {
+                peer.tell(terms, site, told, now);
             }
         }
     }
 
     /// Closes what has ended.
     pub(crate) fn close(&mut self, now: u64) {
-        for place in &mut self.places {
-            if let Some(peer) = place {
-                if peer.is_done(now) {
-                    drop(place.take());
-                }
-            }
-        }
+        self.connected.retain(|peer| !peer.is_done(now));
     }
 }

@@ -10,23 +10,33 @@ use mio::net::{TcpListener, TcpStream};
 use mio::{Events, Interest, Poll, Registry, Token};
 use std::alloc::{AllocError, AllocGlobal, Global};
 use std::io;
-use std::io::ErrorKind;
+use std::io::{Eprint, ErrorKind};
 use std::net::{Net, SocketAddr, SocketAddrV4};
 use std::random::RandomSource;
 use std::rt::Runtime;
 use std::sync::Wait;
 use std::time::{Clock, Duration, Instant};
 
-/// What the listener is known by. A browser's connection is known by its place.
-const LISTENER: Token = Token(PEERS);
+/// What the listener is known by.
+const LISTENER: Token = Token(0);
 /// What the link is known by.
-const LINK: Token = Token(PEERS + 1);
+const LINK: Token = Token(1);
+/// What the first browser's connection is known by.
+const FIRST: usize = 2;
 /// How many milliseconds lie between two questions for the desk at least. All browsers share an answer.
 const PACE: u64 = 100;
 /// How many milliseconds a round waits at most.
 const LONGEST_WAIT: u64 = 25;
 /// How many octets are read at a time.
 const CHUNK: usize = 16_384;
+
+/// The sockets for browsers that come, and what tells of all sockets.
+#[derive(Drop)]
+struct PageSockets {
+    poll: Poll,
+    events: Events,
+    listener: TcpListener,
+}
 
 /// Opens the socket for browsers.
 fn listener_at<R: Net>(
@@ -39,20 +49,40 @@ fn listener_at<R: Net>(
     Ok(listener)
 }
 
-/// Where octets are read to.
-fn chunk(alloc: Global) -> Result<Vec<u8>, AllocError> {
-    let mut chunk = Vec::new(alloc);
-    chunk.resize(CHUNK, 0)?;
-    Ok(chunk)
+impl PageSockets {
+    /// Opens the socket for browsers at this address.
+    fn open<R: Net>(rt: &R, alloc: Global, address: SocketAddrV4) -> io::Result<Self> {
+        let poll = Poll::new(rt)?;
+        let events = Events::with_capacity(alloc, PEERS)?;
+        let listener = listener_at(rt, poll.registry(), address)?;
+        Ok(Self {
+            poll,
+            events,
+            listener,
+        })
+    }
+
+    /// Waits until something has come, for a round at most.
+    fn wait(&mut self) -> io::Result<()> {
+        self.poll.poll(&mut self.events, Some(Duration::from_millis(LONGEST_WAIT)))
+    }
+}
+
+/// Tells where the page is.
+fn announce<R: Eprint>(rt: &R, address: SocketAddr) {
+    let _ = eprintln!(rt; "desk_page: http://{address}/");
+}
+
+/// How many milliseconds have gone by since a moment.
+fn millis_since<R: Clock>(rt: &R, begun: Instant) -> io::Result<u64> {
+    Ok(u64::try_from(begun.elapsed(rt)?.as_millis()).unwrap_or(u64::MAX))
 }
 
 /// The page, with its sockets.
 #[derive(Drop)]
 pub(crate) struct Server {
     terms: Terms,
-    poll: Poll,
-    events: Events,
-    listener: TcpListener,
+    sockets: PageSockets,
     bridge: SocketAddr,
     begun: Instant,
     hearing: Hearing,
@@ -61,6 +91,7 @@ pub(crate) struct Server {
     link: Link,
     /// When the bridge may be asked for the desk again.
     next_show: u64,
+    /// Where octets are read to.
     chunk: Vec<u8>,
 }
 
@@ -74,35 +105,30 @@ impl Server {
         let alloc = rt.alloc();
         let terms = terms(rt, alloc)?;
         let begun = Instant::now(rt)?;
-        let poll = Poll::new(rt)?;
-        let listener = listener_at(rt, poll.registry(), options.listen)?;
-        let hearing = hearing_at(rt, alloc, listener.local_addr()?)?;
-        let chunk = chunk(alloc)?;
-        let events = Events::with_capacity(alloc, PEERS)?;
-        let peers = Peers::new(alloc)?;
+        let sockets = PageSockets::open(rt, alloc, options.listen)?;
+        let address = sockets.listener.local_addr()?;
+        let hearing = hearing_at(rt, alloc, address)?;
         let mut server = Self {
             terms,
-            poll,
-            events,
-            listener,
+            sockets,
             bridge: options.bridge,
             begun,
             hearing,
             calls: Calls::new(alloc),
-            peers,
+            peers: Peers::new(alloc, FIRST),
             link: Link::new(alloc),
             next_show: 0,
-            chunk,
+            chunk: Vec::new(alloc),
         };
-        let served = server.run(rt);
+        let served = server.run(rt, address);
         drop(server);
         served
     }
 
     /// Tells where it listens, and serves.
-    fn run<R: Runtime + Net + Wait>(&mut self, rt: &R) -> io::Result<()> {
-        let address = self.listener.local_addr()?;
-        let _ = eprintln!(rt; "desk_page: http://{address}/");
+    fn run<R: Runtime + Net + Wait>(&mut self, rt: &R, address: SocketAddr) -> io::Result<()> {
+        self.chunk.resize(CHUNK, 0)?;
+        announce(rt, address);
         for _ in rt.forever() {
             self.round(rt)?;
         }
@@ -111,39 +137,42 @@ impl Server {
 
     /// One round: waits 25 ms at most, and does what the sockets allow.
     fn round<R: Net + Clock>(&mut self, rt: &R) -> io::Result<()> {
-        let comes = self.wait()?;
-        let now = u64::try_from(self.begun.elapsed(rt)?.as_millis()).unwrap_or(u64::MAX);
-        if comes {
+        self.sockets.wait()?;
+        let now = millis_since(rt, self.begun)?;
+        if self.wake() {
             self.accept(now);
         }
-        self.peers.turn(&mut self.hearing, &mut self.chunk, now);
+        self.turn(now);
         // The second time sends what the first time has put to the link.
-        for _ in 0..2 {
-            self.ask_bridge(rt, now)?;
-        }
-        self.peers.turn(&mut self.hearing, &mut self.chunk, now);
+        self.ask_bridge(rt, now)?;
+        self.ask_bridge(rt, now)?;
+        self.turn(now);
         self.peers.close(now);
         Ok(())
     }
 
-    /// Waits until something has come, and notes what. Tells whether connections wait.
-    fn wait(&mut self) -> io::Result<bool> {
-        self.poll.poll(&mut self.events, Some(Duration::from_millis(LONGEST_WAIT)))?;
+    /// Notes what has come. Tells whether connections wait.
+    fn wake(&mut self) -> bool {
         let mut comes = false;
-        for event in &self.events {
+        for event in &self.sockets.events {
             match event.token() {
                 LISTENER => comes = true,
                 LINK => self.link.wake(),
-                Token(place) => self.peers.wake(place),
+                Token(number) => self.peers.wake(number),
             }
         }
-        Ok(comes)
+        comes
+    }
+
+    /// Lets the browsers' connections do what their sockets allow.
+    fn turn(&mut self, now: u64) {
+        self.peers.turn(&mut self.hearing, &mut self.chunk, now);
     }
 
     /// Takes the connections that wait. Where no place is free they are closed.
     fn accept(&mut self, now: u64) {
         for _ in 0..1_024 {
-            match self.listener.accept() {
+            match self.sockets.listener.accept() {
                 Ok((stream, _)) => self.place(stream, now),
                 Err(error) => {
                     if error.kind() == ErrorKind::WouldBlock {
@@ -156,13 +185,11 @@ impl Server {
 
     /// Gives a connection a place, or closes it.
     fn place(&mut self, mut stream: TcpStream, now: u64) {
-        let Some(at) = self.peers.place(now) else {
-            return;
-        };
+        let token = Token(self.peers.next());
         let interest = Interest::READABLE | Interest::WRITABLE;
-        let registry = self.poll.registry();
-        if registry.register(&mut stream, Token(at), interest).is_ok() {
-            self.peers.put(at, self.terms, stream, now);
+        let registry = self.sockets.poll.registry();
+        if registry.register(&mut stream, token, interest).is_ok() {
+            self.peers.put(self.terms, stream, now);
         }
     }
 
@@ -177,23 +204,25 @@ impl Server {
         Ok(())
     }
 
-    /// Hands the next line to the bridge: the call that waits longest, or else the question for the desk.
-    fn ask<R: Net>(&mut self, rt: &R, now: u64) -> io::Result<()> {
+    /// The next line for the bridge: the call that waits longest, or else the question for the desk.
+    fn next_line(&mut self, now: u64) -> Result<Option<Vec<u8>>, AllocError> {
         if let Some(line) = self.peers.next_call(self.terms.alloc)? {
-            return self.send(rt, line, now);
+            return Ok(Some(line));
         }
         if now >= self.next_show && self.peers.hand_shows() {
             self.next_show = now.saturating_add(PACE);
-            let line = Vec::from_slice(self.terms.alloc, b"show")?;
-            return self.send(rt, line, now);
+            return Ok(Some(Vec::from_slice(self.terms.alloc, b"show")?));
         }
-        Ok(())
+        Ok(None)
     }
 
-    /// Sends a line over the link.
-    fn send<R: Net>(&mut self, rt: &R, line: Vec<u8>, now: u64) -> io::Result<()> {
-        let registry = self.poll.registry();
-        self.link.ask(rt, self.terms.alloc, registry, LINK, self.bridge, line, now)
+    /// Hands the next line to the bridge.
+    fn ask<R: Net>(&mut self, rt: &R, now: u64) -> io::Result<()> {
+        if let Some(line) = self.next_line(now)? {
+            let registry = self.sockets.poll.registry();
+            self.link.ask(rt, self.terms.alloc, registry, LINK, self.bridge, line, now)?;
+        }
+        Ok(())
     }
 
     /// Tells what the bridge said to all whose lines were handed over.

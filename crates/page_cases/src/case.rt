@@ -5,6 +5,7 @@ use desk_http::{Exchange, Files, Hearing, MAX_LINE, Progress, Site, Telling, Tol
 use http_server::{Config, Connection, Service};
 use std::alloc::{AllocError, Global};
 use std::hash::RandomState;
+use std::str::Split;
 
 /// A page, and what each connection to it begins with.
 #[derive(Drop)]
@@ -90,6 +91,21 @@ fn told_of(alloc: Global, text: &str) -> Option<Told> {
     }
 }
 
+/// Gives a piece of an answer to an exchange.
+fn feed(alloc: Global, exchange: &mut Exchange, piece: &str) -> Option<Progress> {
+    let octets = spoken(alloc, piece)?;
+    exchange.feed(&octets).ok()
+}
+
+/// Gives pieces of an answer to an exchange. What is said of the last.
+fn feed_all(alloc: Global, exchange: &mut Exchange, pieces: Split<'_, &str>) -> Option<Progress> {
+    let mut progress = exchange.progress();
+    for piece in pieces {
+        progress = feed(alloc, exchange, piece)?;
+    }
+    Some(progress)
+}
+
 impl Page {
     /// The page of all cases.
     pub fn new(alloc: Global, keys: RandomState) -> Result<Self, AllocError> {
@@ -124,11 +140,12 @@ impl Page {
         keys: RandomState,
         config: Config,
         service: &mut S,
-        request: &[u8],
+        request: &str,
     ) -> Option<Vec<u8>> {
+        let request = request_of(alloc, request)?;
         let mut written = Vec::new(alloc);
         let mut connection = Connection::new(alloc, keys, config);
-        let answered = respond(&mut connection, service, request, &mut written);
+        let answered = respond(&mut connection, service, &request, &mut written);
         drop(connection);
         answered?;
         Some(written)
@@ -136,45 +153,40 @@ impl Page {
 
     /// Whether a request asks the bridge this line, or is answered so.
     fn hears(&mut self, request: &str, wanted: &str) -> Option<bool> {
-        let request = request_of(self.alloc, request)?;
-        self.hearing.wanted = None;
-        let response = Self::exchanged(
-            self.alloc,
-            self.keys,
-            self.config,
-            &mut self.hearing,
-            &request,
-        )?;
+        let hearing = &mut self.hearing;
+        drop(hearing.wanted.take());
+        let response = Self::exchanged(self.alloc, self.keys, self.config, hearing, request)?;
         is_heard(&self.hearing, &response, wanted)
     }
 
+    /// Whether a request is answered so, once the bridge was asked a line and said this.
+    fn is_told(&self, line: &[u8], told: &Told, request: &str, wanted: &str) -> Option<bool> {
+        let site = &self.hearing.site;
+        let mut telling = Telling { site, line, told };
+        let response = Self::exchanged(self.alloc, self.keys, self.config, &mut telling, request)?;
+        is_answer(&response, wanted)
+    }
+
     /// Whether a request is answered so, once the bridge was asked.
-    fn tells(&mut self, text: &str, wanted: &str) -> Option<bool> {
+    fn tells(&self, text: &str, wanted: &str) -> Option<bool> {
         let (line, text) = text.split_once(" ; ")?;
         let (told, request) = text.split_once(" ; ")?;
-        let request = request_of(self.alloc, request)?;
-        let mut telling = Telling {
-            site: &self.hearing.site,
-            line: spoken(self.alloc, line)?,
-            told: told_of(self.alloc, told)?,
-        };
-        let response = Self::exchanged(self.alloc, self.keys, self.config, &mut telling, &request)?;
-        is_answer(&response, wanted)
+        let line = spoken(self.alloc, line)?;
+        let told = told_of(self.alloc, told)?;
+        self.is_told(&line, &told, request, wanted)
     }
 
     /// Whether pieces make this progress.
     fn pieces(&self, text: &str, wanted: &str) -> Option<bool> {
         let mut words = text.split(" ; ");
         let mut exchange = Exchange::new(self.alloc, spoken(self.alloc, words.next()?)?);
-        let mut progress = exchange.progress();
-        for word in words {
-            progress = exchange.feed(&spoken(self.alloc, word)?).ok()?;
-        }
-        Some(progress_name(progress) == wanted)
+        let progress = feed_all(self.alloc, &mut exchange, words);
+        drop(exchange);
+        Some(progress_name(progress?) == wanted)
     }
 
     /// Whether a case comes out as it says. `None` is a line that says nothing.
-    pub fn comes_out(&mut self, line: &str) -> Option<bool> {
+    fn outcome(&mut self, line: &str) -> Option<bool> {
         let (case, wanted) = line.split_once(" > ")?;
         let (verb, text) = case.split_once(" ")?;
         match verb {
@@ -183,5 +195,10 @@ impl Page {
             "comes" => self.pieces(text, wanted),
             _ => None,
         }
+    }
+
+    /// Whether a line is a case, and comes out as it says.
+    pub fn comes_out(&mut self, line: &str) -> bool {
+        self.outcome(line).unwrap_or(false)
     }
 }

@@ -18,22 +18,32 @@ mod request;
 use crate::case::Page;
 use std::hash::RandomState;
 use std::io;
+use std::io::Print;
+
+/// Whether a line is a case: the others are empty, or say what the lines behind them show.
+fn is_case(line: &str) -> bool {
+    !line.is_empty() && !line.starts_with("** ")
+}
+
+/// Prints each case that comes out otherwise, and then how many cases there are.
+fn run<R: Print>(rt: &R, page: &mut Page, text: &str) -> io::Result<()> {
+    let mut tried: u64 = 0;
+    let mut differ: u64 = 0;
+    for line in text.lines() {
+        if is_case(line) {
+            tried = tried.saturating_add(1);
+            if !page.comes_out(line) {
+                differ = differ.saturating_add(1);
+                println!(rt; "{line}")?;
+            }
+        }
+    }
+    println!(rt; "{tried} lines, {differ} differ")
+}
 
 fn main(rt: HostRuntime) -> io::Result<()> {
     let alloc = rt.alloc();
     let text = io::read_to_string(alloc, rt.reader())?;
     let mut page = Page::new(alloc, RandomState::new(&rt)?)?;
-    let mut tried: u64 = 0;
-    let mut differ: u64 = 0;
-    for line in text.lines() {
-        if line.is_empty() || line.starts_with("** ") {
-            continue;
-        }
-        tried = tried.saturating_add(1);
-        if page.comes_out(line) != Some(true) {
-            differ = differ.saturating_add(1);
-            println!(rt; "{line}")?;
-        }
-    }
-    println!(rt; "{tried} lines, {differ} differ")
+    run(&rt, &mut page, &text)
 }

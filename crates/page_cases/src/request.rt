@@ -48,15 +48,21 @@ fn push_texts(octets: &mut Vec<u8>, texts: &[&str]) -> Option<()> {
     Some(())
 }
 
+/// Appends a field, from `FIELD=VALUE`.
+fn push_field(octets: &mut Vec<u8>, word: &str) -> Option<()> {
+    let (name, value) = word.split_once("=")?;
+    push_texts(octets, &[name, ": ", value, "\r\n"])
+}
+
 /// Appends the first line of a request and its fields, from `METHOD PATH FIELD=VALUE ..`.
 fn push_head(octets: &mut Vec<u8>, head: &str) -> Option<()> {
     let mut words = head.split(' ');
-    let method = words.next()?;
-    let path = words.next()?;
-    push_texts(octets, &[method, " ", path, " HTTP/1.1\r\n"])?;
+    push_texts(
+        octets,
+        &[words.next()?, " ", words.next()?, " HTTP/1.1\r\n"],
+    )?;
     for word in words {
-        let (name, value) = word.split_once("=")?;
-        push_texts(octets, &[name, ": ", value, "\r\n"])?;
+        push_field(octets, word)?;
     }
     Some(())
 }
@@ -69,12 +75,16 @@ fn push_body(alloc: Global, octets: &mut Vec<u8>, body: &[u8]) -> Option<()> {
     octets.extend_from_slice(body).ok()
 }
 
+/// Appends a request: `METHOD PATH FIELD=VALUE ..`, and behind ` | ` its body.
+fn push_request(alloc: Global, octets: &mut Vec<u8>, text: &str) -> Option<()> {
+    let (head, body) = text.split_once(" | ").unwrap_or((text, ""));
+    push_head(octets, head)?;
+    push_body(alloc, octets, &body_of(alloc, body)?)
+}
+
 /// The octets of a request: `METHOD PATH FIELD=VALUE ..`, and behind ` | ` its body.
 pub fn request_of(alloc: Global, text: &str) -> Option<Vec<u8>> {
-    let (head, body) = text.split_once(" | ").unwrap_or((text, ""));
-    let body = body_of(alloc, body)?;
     let mut octets = Vec::new(alloc);
-    push_head(&mut octets, head)?;
-    push_body(alloc, &mut octets, &body)?;
+    push_request(alloc, &mut octets, text)?;
     Some(octets)
 }
