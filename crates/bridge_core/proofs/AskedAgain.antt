@@ -6,7 +6,7 @@ use Rattle.rtp_codec.specs.declared.address.Address.{Address}
 use Rattle.desk_rows.specs.Desk.{Desk}
 use Rattle.retransmit.specs.declared.owner.Owner.{Owner}
 use Rattle.retransmit.specs.SentPacket.{SentPacket}
-use Rattle.retransmit.specs.Window.{room, latest, resend_of}
+use Rattle.retransmit.specs.Window.{window_size, latest, resend_of}
 use Rattle.topology.specs.Looking.{member_from}
 use Rattle.forward_rewrite.specs.Streams.{StreamOf}
 use Rattle.feedback.specs.Asked.{firsts}
@@ -59,7 +59,7 @@ module _ {A : Type 0} (at : LaneVisit A) (streams : StreamList) (request : Reque
   stay : (before : List Visit) → AreLeft lane lanes streams before → AreLeft lane lanes streams (before ++ visit ∷ [])
   stay before left j mine = left j mine ∙ ap (stream_of j) (sym (not_routed j before visit refl))
 
-  window_left : (rs : List Routed) (o : Option StreamOf) → o ≡ stream_of k rs → window_of o ≡ latest room (packets_sent k rs)
+  window_left : (rs : List Routed) (o : Option StreamOf) → o ≡ stream_of k rs → window_of o ≡ latest window_size (packets_sent k rs)
   window_left [] o e = ap window_of e
   window_left (r ∷ rs) o e = ap window_of e
 
@@ -70,13 +70,13 @@ module _ {A : Type 0} (at : LaneVisit A) (streams : StreamList) (request : Reque
   -- the stream is another lane's
   pub others_answered : is_mine lane lanes k ≡ false → sent ≡ [] → Answers at streams streams (Input.nack request) sent
   others_answered not is before left =
-      let window = latest room (packets k before) in
+      let window = latest window_size (packets k before) in
       (is ∙ sym (ap (λ b. cond b (map (goes k (Some at.stamp.version)) (resends desk request.from request.numbers window)) []) not) ∙ sym (share window), stay before left)
 
   -- the stream is the lane's
   pub mine_answered : is_mine lane lanes k ≡ true → sent ≡ map (goes k (Some at.stamp.version)) (resends desk request.from request.numbers (window_of (stream_at k streams))) → Answers at streams streams (Input.nack request) sent
   mine_answered mine is before left =
-      let window = latest room (packets k before) in (
+      let window = latest window_size (packets k before) in (
         is ∙ ap (λ w. map (goes k (Some at.stamp.version)) (resends desk request.from request.numbers w)) (window_left (routed k before) (stream_at k streams) (left k mine))
             ∙ sym (ap (λ b. cond b (map (goes k (Some at.stamp.version)) (resends desk request.from request.numbers window)) []) mine) ∙ sym (share window),
         stay before left,

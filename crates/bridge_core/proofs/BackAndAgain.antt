@@ -22,23 +22,23 @@ use Rattle.bridge_core.specs.UndoRuns.{AnswersAll, HasCommands, AcceptsAll, Undo
 -- ---- one call
 
 free_undo : (version done undone : ℕ) (d : Desk) → 0 < done → version < call_limit → refusal_at version d done undone (Undo version) ≡ None
-free_undo version done undone d some room = grind arith
+free_undo version done undone d some free = grind arith
 
 free_redo : (version done undone : ℕ) (d : Desk) → 0 < undone → version < call_limit → refusal_at version d done undone (Redo version) ≡ None
-free_redo version done undone d some room = grind arith
+free_redo version done undone d some free = grind arith
 
 undo_accepted : (old new : CoreOf) (reply : Reply) → Answers old new (Undo old.version) reply → 0 < length old.done → old.version < call_limit
     → (reply ≡ Accepted (old.version + 1)) × (new.version ≡ old.version + 1) × UndoesEdit (core_desk old) (core_desk new)
-undo_accepted old new (Accepted number) by some room = (ap Accepted by.0, by.1 ∙ by.0, by.4)
-undo_accepted old new (Refused at why) by some room =
-    let no : None ≡ Some why = sym (free_undo old.version (length old.done) (length old.undone) old.desk some room) ∙ by.2 in
+undo_accepted old new (Accepted number) by some free = (ap Accepted by.0, by.1 ∙ by.0, by.4)
+undo_accepted old new (Refused at why) by some free =
+    let no : None ≡ Some why = sym (free_undo old.version (length old.done) (length old.undone) old.desk some free) ∙ by.2 in
     absurd cc
 
 redo_accepted : (old new : CoreOf) (reply : Reply) → Answers old new (Redo old.version) reply → 0 < length old.undone → old.version < call_limit
     → (reply ≡ Accepted (old.version + 1)) × (new.version ≡ old.version + 1) × RedoesEdit (core_desk old) (core_desk new)
-redo_accepted old new (Accepted number) by some room = (ap Accepted by.0, by.1 ∙ by.0, by.4)
-redo_accepted old new (Refused at why) by some room =
-    let no : None ≡ Some why = sym (free_redo old.version (length old.done) (length old.undone) old.desk some room) ∙ by.2 in
+redo_accepted old new (Accepted number) by some free = (ap Accepted by.0, by.1 ∙ by.0, by.4)
+redo_accepted old new (Refused at why) by some free =
+    let no : None ≡ Some why = sym (free_redo old.version (length old.done) (length old.undone) old.desk some free) ∙ by.2 in
     absurd cc
 
 -- ---- lists with the same end
@@ -149,7 +149,7 @@ commands_done first last (c ∷ cs) accepts =
 
 commands_undone : (n : ℕ) (first last : CoreOf) (replies : List Reply) → n ≤ length first.done → first.version + n ≤ call_limit → AnswersAll first (undos first.version n) replies last
     → (replies ≡ all_accepted first.version n) × (es : List (List EditOf)) × HasUndone first last n es
-commands_undone zero first last replies some room answers = (
+commands_undone zero first last replies some free answers = (
   answers.0,
   [],
   record {
@@ -160,7 +160,7 @@ commands_undone zero first last replies some room answers = (
     back = ap (λ (core : CoreOf). core.desk) answers.1;
   },
 )
-commands_undone (suc n) first last replies some room answers =
+commands_undone (suc n) first last replies some free answers =
     let next = answers.0 in
     let later = answers.2 in
     let here = undo_accepted first next answers.1 answers.4 (omega arith) (omega arith) in
@@ -174,7 +174,7 @@ commands_undone (suc n) first last replies some room answers =
 
 commands_redone : (n : ℕ) (first last : CoreOf) (replies : List Reply) → n ≤ length first.undone → first.version + n ≤ call_limit → AnswersAll first (redos first.version n) replies last
     → (replies ≡ all_accepted first.version n) × (es : List (List EditOf)) × HasRedone first last n es
-commands_redone zero first last replies some room answers = (
+commands_redone zero first last replies some free answers = (
   answers.0,
   [],
   record {
@@ -184,7 +184,7 @@ commands_redone zero first last replies some room answers = (
     again = ap (λ (core : CoreOf). core.desk) answers.1;
   },
 )
-commands_redone (suc n) first last replies some room answers =
+commands_redone (suc n) first last replies some free answers =
     let next = answers.0 in
     let later = answers.2 in
     let here = redo_accepted first next answers.1 answers.4 (omega arith) (omega arith) in

@@ -20,13 +20,13 @@ core_with d lanes intake = record { version = d.version; desk = d.desk; done = d
 
 -- ---- how much memory a desk has makes no difference
 
-does_same : (old new : DeskOf) (call : Call) → Does old new call → Does (record old { room = 0 }) (record new { room = 0 }) call
+does_same : (old new : DeskOf) (call : Call) → Does old new call → Does (record old { spare = 0 }) (record new { spare = 0 }) call
 does_same old new (Apply command) does = does
 does_same old new (Group commands) does = does
 does_same old new (Undo last) does = does
 does_same old new (Redo last) does = does
 
-reason_same : (d : DeskOf) (call : Call) (why : Refusal) → IsReason d call why → IsReason (record d { room = 0 }) call why
+reason_same : (d : DeskOf) (call : Call) (why : Refusal) → IsReason d call why → IsReason (record d { spare = 0 }) call why
 reason_same d (Apply command) why reason = reason
 reason_same d (Group commands) why reason = reason
 reason_same d (Undo last) why reason = reason
@@ -40,14 +40,14 @@ called_desk d lanes intake h called = record { version = called.version; desk = 
 
 -- ---- an accepted call
 
-pub accepted_answer : {A : Type 0} (was ready is : DeskOf) (lanes : List LaneOf) (intake : IntakeOf) (call : Call) (prepared : Prepared A) (number : ℕ) → ready ≡ record was { room = ready.room } → IsReady ready call prepared → Does ready is call
+pub accepted_answer : {A : Type 0} (was ready is : DeskOf) (lanes : List LaneOf) (intake : IntakeOf) (call : Call) (prepared : Prepared A) (number : ℕ) → ready ≡ record was { spare = ready.spare } → IsReady ready call prepared → Does ready is call
     → (number ≡ ready.version + 1) × (is.version ≡ number) → Answers (core_with was lanes intake) (core_with is lanes intake) call (Accepted number)
 accepted_answer was ready is lanes intake call prepared number same free does version = (
   version.0 ∙ ap (λ (d : DeskOf). d.version + 1) same,
   version.1,
   refl,
   subst (λ (d : DeskOf). call_refused d call ≡ None) same free.0,
-  subst (λ (d : DeskOf). Does (record d { room = 0 }) (record is { room = 0 }) call) same (does_same ready is call does),
+  subst (λ (d : DeskOf). Does (record d { spare = 0 }) (record is { spare = 0 }) call) same (does_same ready is call does),
 )
 
 pub accepted_history : (was ready is : DeskOf) (lanes : List LaneOf) (intake : IntakeOf) (call : Call) (number : ℕ) → ((h : CallHistory) → DeskHasCalled was h → refusal_of h call ≡ None) → ((h : CallHistory) → DeskHasCalled was h → DeskHasCalled ready h)
@@ -60,7 +60,7 @@ accepted_history was ready is lanes intake call number free prepares commits nex
 
 -- ---- a refused call
 
-pub refused_answer : (was ready : DeskOf) (lanes : List LaneOf) (intake : IntakeOf) (call : Call) (at : ℕ) (why : Refusal) → ready ≡ record was { room = ready.room } → at ≡ ready.version → IsReason was call why
+pub refused_answer : (was ready : DeskOf) (lanes : List LaneOf) (intake : IntakeOf) (call : Call) (at : ℕ) (why : Refusal) → ready ≡ record was { spare = ready.spare } → at ≡ ready.version → IsReason was call why
     → Answers (core_with was lanes intake) (core_with ready lanes intake) call (Refused at why)
 refused_answer was ready lanes intake call at why same now reason = (
   now ∙ ap (λ (d : DeskOf). d.version) same,

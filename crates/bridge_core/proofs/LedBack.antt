@@ -6,7 +6,7 @@ use Rattle.std.proofs.lemmas.List.Elements.{Contains-append_right}
 use Rattle.desk_rows.specs.Desk.{Desk}
 use Rattle.retransmit.specs.declared.owner.Owner.{Owner}
 use Rattle.retransmit.specs.SentPacket.{SentPacket}
-use Rattle.retransmit.specs.Window.{room, latest, resend_of}
+use Rattle.retransmit.specs.Window.{window_size, latest, resend_of}
 use Rattle.forward_rewrite.specs.Sending.{Sending}
 use Rattle.forward_rewrite.specs.RoutedList.{packets_of}
 use Rattle.forward_rewrite.specs.laws.Laws.{IsFound}
@@ -19,7 +19,7 @@ use Rattle.feedback.specs.Upstream.{Asker}
 use Rattle.bridge_core.specs.Sent.{Sent}
 use Rattle.bridge_core.specs.Lanes.{Visit, Routed, routed, sendings, packets_sent, packets, goes, is_lanes, sends_at}
 use Rattle.bridge_core.specs.Steps.{Step, visits, visit_after}
-use Rattle.bridge_core.specs.Named.{Kind, firsts}
+use Rattle.bridge_core.specs.Named.{StreamKind, firsts}
 use Rattle.bridge_core.specs.Headline.{LeadsBack}
 use Rattle.bridge_core.proofs.OnStreams.{all_or_none}
 
@@ -32,9 +32,9 @@ Contains-drop n xs x h = subst (λ ys. Contains ys x) (take-append-drop n xs) (C
 -- what is found in the window of a stream is one of its packets
 abbrev pub Finds : Type 0
 Finds = (ssrc first_seq first_ts : ℕ) (sendings : List Sending) (number : ℕ) (owner : Owner) (p : SentPacket)
-    → resend_of number owner (latest room (packets_of ssrc first_seq first_ts sendings)) ≡ Some p → IsFound number owner (latest room (packets_of ssrc first_seq first_ts sendings)) p
+    → resend_of number owner (latest window_size (packets_of ssrc first_seq first_ts sendings)) ≡ Some p → IsFound number owner (latest window_size (packets_of ssrc first_seq first_ts sendings)) p
 
-found_in : Finds → (k : ℕ) (rs : List Routed) (number : ℕ) (owner : Owner) (p : SentPacket) → resend_of number owner (latest room (packets_sent k rs)) ≡ Some p → IsFound number owner (latest room (packets_sent k rs)) p
+found_in : Finds → (k : ℕ) (rs : List Routed) (number : ℕ) (owner : Owner) (p : SentPacket) → resend_of number owner (latest window_size (packets_sent k rs)) ≡ Some p → IsFound number owner (latest window_size (packets_sent k rs)) p
 found_in finds k [] number owner p e = absurd (cc)
 found_in finds k (r ∷ rs) number owner p e = finds k r.slot.first_seq r.slot.first_ts (sendings (r ∷ rs)) number owner p e
 
@@ -46,12 +46,12 @@ module _ (finds : Finds) (who : Asker) (lanes lane : ℕ) (start : Desk) (before
   visit = visit_after start before lane (Input.nack request)
 
   abbrev window : List SentPacket
-  window = latest room (packets k (visits lane start before))
+  window = latest window_size (packets k (visits lane start before))
 
   abbrev Leads : Sent → Type 0
   Leads sent = LeadsBack who lanes start before lane visit request sent
 
-  module _ (list : firsts who lanes start (record { kind = Kind.video; ssrc = k }) before ≡ map (goes k None) (packets k (visits lane start before))) where
+  module _ (list : firsts who lanes start (record { kind = StreamKind.video; ssrc = k }) before ≡ map (goes k None) (packets k (visits lane start before))) where
     one : (member : ℕ) (from : member_from visit.desk request.from ≡ Some member) (number : ℕ) (p : SentPacket) → resend_of number (record { member = member; address = request.from }) window ≡ Some p → Leads (goes k (Some visit.version) p)
     one member from number p e =
         let is = found_in finds k (routed k (visits lane start before)) number (record { member = member; address = request.from }) p e in record {
@@ -80,7 +80,7 @@ module _ (finds : Finds) (who : Asker) (lanes lane : ℕ) (start : Desk) (before
     all_of None e = tt
     all_of (Some member) e = each member e (each_once request.numbers)
 
-  pub all_lead_back : firsts who lanes start (record { kind = Kind.video; ssrc = k }) before ≡ map (goes k None) (packets k (visits (k % lanes) start before)) → AllByRecursion Leads (sends_at who lane lanes (visits lane start before) visit)
+  pub all_lead_back : firsts who lanes start (record { kind = StreamKind.video; ssrc = k }) before ≡ map (goes k None) (packets k (visits (k % lanes) start before)) → AllByRecursion Leads (sends_at who lane lanes (visits lane start before) visit)
   all_lead_back list =
       let ps = resends visit.desk request.from request.numbers window in
       subst (AllByRecursion Leads) (sym (all_or_none (is_lanes lane lanes) (is_mine lane lanes k) k (Some visit.version) (λ p. refl) ps)) (by (is_mine lane lanes k) refl)

@@ -21,7 +21,7 @@ use Rattle.bridge_core.specs.Sent.Sent.{media, control, note}
 use Rattle.bridge_core.specs.Lanes.{Visit, given_of, mix_goes, sent_of_input, sends_at}
 use Rattle.bridge_core.specs.LaneState.{visit_of}
 use Rattle.bridge_core.specs.Steps.{Step, visits, visit_after, along, desk_of, version_of, items_given}
-use Rattle.bridge_core.specs.Named.{Name, Kind, firsts_at, firsts}
+use Rattle.bridge_core.specs.Named.{Name, StreamKind, firsts_at, firsts}
 use Rattle.bridge_core.specs.Headline.{number_of, numbers, numbered_of, FollowOn, HaveNoGap, IsGood}
 use Rattle.bridge_core.proofs.OnStreams.{on, on_share}
 use Rattle.bridge_core.proofs.PartsLaws.{not_given, is_given}
@@ -65,7 +65,7 @@ module _ (below : MixBelow) (version item : ℕ) (d : Desk) (moment : ℕ) (befo
       by (Some m) e = told_by m (mixes_at k (given_of before) d moment)
 
 abbrev pub mix : ℕ → Name
-mix ssrc = record { kind = Kind.mix; ssrc = ssrc }
+mix ssrc = record { kind = StreamKind.mix; ssrc = ssrc }
 
 module _ (below : MixBelow) (who : Asker) (count k : ℕ) (start : Desk) where
   -- what the stream's lane was given in these steps

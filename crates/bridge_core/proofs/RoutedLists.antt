@@ -16,7 +16,7 @@ use Rattle.feedback.specs.Upstream.{Asker}
 use Rattle.bridge_core.specs.Sent.{Sent}
 use Rattle.bridge_core.specs.Lanes.{Visit, Routed, routed, routed_at, sendings, packets_sent, packets, packets_at, goes}
 use Rattle.bridge_core.specs.Steps.{Step, visits, visit_after, along, desk_of, version_of, items_given}
-use Rattle.bridge_core.specs.Named.{Name, Kind, firsts_at, firsts}
+use Rattle.bridge_core.specs.Named.{Name, StreamKind, firsts_at, firsts}
 use Rattle.bridge_core.specs.Headline.{numbers, FollowOn, HaveNoGap, IsGood}
 use Rattle.bridge_core.proofs.Handled.{routed-more, not_routed}
 use Rattle.bridge_core.proofs.OnStreams.{AreFound, nothing_at, on_of_lane}
@@ -63,7 +63,7 @@ pub record Below : Type 0 where
   pub found : (d : Desk) (f : SourceFrame) → good d ≡ true → AreFound d f
 
 abbrev video : ℕ → Name
-video ssrc = record { kind = Kind.video; ssrc = ssrc }
+video ssrc = record { kind = StreamKind.video; ssrc = ssrc }
 
 module _ (below : Below) (who : Asker) (count k : ℕ) (start : Desk) where
   -- the stream's packets after these steps

@@ -11,7 +11,7 @@ use Rattle.desk_rows.specs.declared.row.Slot.{Slot as SlotRow}
 use Rattle.desk_rows.specs.Desk.{Desk}
 use Rattle.retransmit.specs.declared.owner.Owner.{Owner}
 use Rattle.retransmit.specs.SentPacket.{SentPacket}
-use Rattle.retransmit.specs.Window.{room, latest, resend_of}
+use Rattle.retransmit.specs.Window.{window_size, latest, resend_of}
 use Rattle.topology.specs.Looking.{member_at, member_from, is_this, sender_of, slot_at}
 use Rattle.topology.specs.Choice.{choice}
 use Rattle.topology.specs.Receivers.{slots_to}
@@ -30,7 +30,7 @@ use Rattle.media_items.specs.Inputs.{Input, Told, Loss}
 use Rattle.bridge_core.specs.Sent.{Sent}
 use Rattle.bridge_core.specs.Lanes.{Visit, Routed, given_of, routed, sendings, packets_sent, packets, stream_of, goes, notes, passed_up, video_counts, tells, sends_at}
 use Rattle.bridge_core.specs.Steps.{Step, visits, visit_after}
-use Rattle.bridge_core.specs.Named.{Kind, firsts}
+use Rattle.bridge_core.specs.Named.{StreamKind, firsts}
 use Rattle.bridge_core.specs.Headline.{numbered_of}
 use Rattle.bridge_core.specs.Telling.{IsOwnStream, IsSenderReportOf, IsReached, IsNoteOf, IsPassedUpOf}
 use Rattle.bridge_core.specs.inner.Control.{own_tells, lanes_reports}
@@ -98,10 +98,10 @@ module _ (who : Asker) (lanes lane : ℕ) (start : Desk) (before : List Step) wh
     Is sent = IsSenderReportOf who lanes start before at moment sent
 
     -- the counts are of all that was sent first on the lane's stream
-    abbrev CountsFirsts : Kind → ℕ → Option Counts → Type 0
+    abbrev CountsFirsts : StreamKind → ℕ → Option Counts → Type 0
     CountsFirsts kind k o = is_mine lane lanes k ≡ true → (counts : Counts) → o ≡ Some counts → Counted counts k (map numbered_of (firsts who lanes start (record { kind = kind; ssrc = k }) before))
 
-    one_stream : (m : MemberRow) → Contains at.desk.members m → (kind : Kind) (k : ℕ) → IsOwnStream at.desk m kind k → (o : Option Counts) → CountsFirsts kind k o → AllByRecursion Is (own_tells who lane lanes at moment m k o)
+    one_stream : (m : MemberRow) → Contains at.desk.members m → (kind : StreamKind) (k : ℕ) → IsOwnStream at.desk m kind k → (o : Option Counts) → CountsFirsts kind k o → AllByRecursion Is (own_tells who lane lanes at moment m k o)
     one_stream m there kind k own o counted = by (is_mine lane lanes k) refl
       where
         told : is_mine lane lanes k ≡ true → (p : Option Counts) → o ≡ p → AllByRecursion Is (tells who at moment m k p)
@@ -129,14 +129,14 @@ module _ (who : Asker) (lanes lane : ℕ) (start : Desk) (before : List Step) wh
         by false e = tt
         by true e = told e o refl
 
-    module _ (videos : (k : ℕ) → firsts who lanes start (record { kind = Kind.video; ssrc = k }) before ≡ map (goes k None) (packets k (visits (k % lanes) start before)))
-        (audios : (k : ℕ) → map numbered_of (firsts who lanes start (record { kind = Kind.mix; ssrc = k }) before) ≡ mixes k (given_of (visits (k % lanes) start before))) where
-      video_firsts : (k : ℕ) → CountsFirsts Kind.video k (video_counts k (routed k (visits lane start before)))
+    module _ (videos : (k : ℕ) → firsts who lanes start (record { kind = StreamKind.video; ssrc = k }) before ≡ map (goes k None) (packets k (visits (k % lanes) start before)))
+        (audios : (k : ℕ) → map numbered_of (firsts who lanes start (record { kind = StreamKind.mix; ssrc = k }) before) ≡ mixes k (given_of (visits (k % lanes) start before))) where
+      video_firsts : (k : ℕ) → CountsFirsts StreamKind.video k (video_counts k (routed k (visits lane start before)))
       video_firsts k mine counts e =
           let all = videos k ∙ ap (λ j. map (goes k None) (packets k (visits j start before))) (eqb-true (k % lanes) lane mine) in
           subst (λ (es : List Sent). Counted counts k (map numbered_of es)) (sym all) (video_counted k (routed k (visits lane start before)) counts e)
 
-      mix_firsts : (k : ℕ) → CountsFirsts Kind.mix k (mix_counts_of k (turns k (given_of (visits lane start before))))
+      mix_firsts : (k : ℕ) → CountsFirsts StreamKind.mix k (mix_counts_of k (turns k (given_of (visits lane start before))))
       mix_firsts k mine counts e =
           let past = given_of (visits lane start before) in
           let all = audios k ∙ ap (λ j. mixes k (given_of (visits j start before))) (eqb-true (k % lanes) lane mine) in
@@ -147,9 +147,9 @@ module _ (who : Asker) (lanes lane : ℕ) (start : Desk) (before : List Step) wh
           let past = visits lane start before in
           all-append Is (own_tells who lane lanes at moment m m.out_audio (mix_counts_of m.out_audio (turns m.out_audio (given_of past))))
           (flat_map (λ s. own_tells who lane lanes at moment m s.out_ssrc (video_counts s.out_ssrc (routed s.out_ssrc past))) (slots_to at.desk m.member))
-          (one_stream m there Kind.mix m.out_audio refl _ (mix_firsts m.out_audio))
+          (one_stream m there StreamKind.mix m.out_audio refl _ (mix_firsts m.out_audio))
           (all_flat Is (λ s. own_tells who lane lanes at moment m s.out_ssrc (video_counts s.out_ssrc (routed s.out_ssrc past))) (slots_to at.desk m.member)
-          (λ s its. one_stream m there Kind.video s.out_ssrc (s, its, refl) _ (video_firsts s.out_ssrc)))
+          (λ s its. one_stream m there StreamKind.video s.out_ssrc (s, its, refl) _ (video_firsts s.out_ssrc)))
 
       pub all_count_firsts : AllByRecursion Is (sends_at who lane lanes (visits lane start before) at)
       all_count_firsts =
@@ -177,7 +177,7 @@ module _ (who : Asker) (lanes lane : ℕ) (start : Desk) (before : List Step) wh
 
     module _ (found : (ssrc first_seq first_ts : ℕ) (ss : List Sending) → FindsOnlyWhatWasSent (packets_of ssrc first_seq first_ts ss))
         (each : (ssrc first_seq first_ts : ℕ) (ss : List Sending) → FindsEach (packets_of ssrc first_seq first_ts ss))
-        (list : firsts who lanes start (record { kind = Kind.video; ssrc = k }) before ≡ map (goes k None) (packets k (visits lane start before))) where
+        (list : firsts who lanes start (record { kind = StreamKind.video; ssrc = k }) before ≡ map (goes k None) (packets k (visits lane start before))) where
       abbrev Reaches : Owner → SentPacket → Type 0
       Reaches owner p = IsReached who lanes start before lane told.block owner p
 
@@ -185,7 +185,7 @@ module _ (who : Asker) (lanes lane : ℕ) (start : Desk) (before : List Step) wh
         number : ℕ
         number = told.block.highest % 2 ^ 16
 
-        reaches : (p : SentPacket) → IsFound (told.block.highest % 2 ^ 16) owner (latest room (packets_sent k past)) p → Reaches owner p
+        reaches : (p : SentPacket) → IsFound (told.block.highest % 2 ^ 16) owner (latest window_size (packets_sent k past)) p → Reaches owner p
         reaches p is = record {
           number = is.number_is;
           its_owner = is.owner_is;
@@ -193,21 +193,21 @@ module _ (who : Asker) (lanes lane : ℕ) (start : Desk) (before : List Step) wh
           recent = is.there;
         }
 
-        it_is : (rs : List Routed) → past ≡ rs → (o : Option SentPacket) → resend_of (told.block.highest % 2 ^ 16) owner (latest room (packets_sent k rs)) ≡ o
+        it_is : (rs : List Routed) → past ≡ rs → (o : Option SentPacket) → resend_of (told.block.highest % 2 ^ 16) owner (latest window_size (packets_sent k rs)) ≡ o
             → IfSome (option_map carried o) (λ s. (p : SentPacket) × (carried p ≡ s) × Reaches owner p)
         it_is rs same None e = tt
         it_is [] same (Some p) e = absurd (cc)
         it_is (r ∷ rs) same (Some p) e =
             let is = found k r.slot.first_seq r.slot.first_ts (sendings (r ∷ rs)) (told.block.highest % 2 ^ 16) owner p e in
-            (p, refl, reaches p (subst (λ (qs : List Routed). IsFound (told.block.highest % 2 ^ 16) owner (latest room (packets_sent k qs)) p) (sym same) is))
+            (p, refl, reaches p (subst (λ (qs : List Routed). IsFound (told.block.highest % 2 ^ 16) owner (latest window_size (packets_sent k qs)) p) (sym same) is))
 
-        found_again : (rs : List Routed) (p : SentPacket) → Contains (latest room (packets_sent k rs)) p → resend_of p.number p.owner (latest room (packets_sent k rs)) ≡ Some p
+        found_again : (rs : List Routed) (p : SentPacket) → Contains (latest window_size (packets_sent k rs)) p → resend_of p.number p.owner (latest window_size (packets_sent k rs)) ≡ Some p
         found_again [] p there = absurd (omega (arith, there.1))
         found_again (r ∷ rs) p there = each k r.slot.first_seq r.slot.first_ts (sendings (r ∷ rs)) p there
 
-        none_else : option_map carried (resend_of (told.block.highest % 2 ^ 16) owner (latest room (packets_sent k past))) ≡ None → (p : SentPacket) → Reaches owner p → ⊥
+        none_else : option_map carried (resend_of (told.block.highest % 2 ^ 16) owner (latest window_size (packets_sent k past))) ≡ None → (p : SentPacket) → Reaches owner p → ⊥
         none_else none p is =
-            let window = latest room (packets_sent k past) in
+            let window = latest window_size (packets_sent k past) in
             let again : resend_of (told.block.highest % 2 ^ 16) owner window ≡ Some p =
             ap (λ n. resend_of n owner window) (sym is.number) ∙ ap (λ (o : Owner). resend_of p.number o window) (sym is.its_owner) ∙ found_again past p is.recent in
             absurd (let there = sym none ∙ ap (option_map carried) again in cc)
@@ -216,7 +216,7 @@ module _ (who : Asker) (lanes lane : ℕ) (start : Desk) (before : List Step) wh
       told_of [] same member is_from = tt
       told_of (r ∷ rs) same member is_from =
           let owner : Owner = record { member = member; address = told.from } in
-          let window : List Routed → List SentPacket = λ qs. latest room (packets_sent k qs) in (
+          let window : List Routed → List SentPacket = λ qs. latest window_size (packets_sent k qs) in (
             record {
               version = refl;
               item = refl;
@@ -237,7 +237,7 @@ module _ (who : Asker) (lanes lane : ℕ) (start : Desk) (before : List Step) wh
       told_by (Some member) e = told_of past refl member e
 
     pub all_notes_lead : ((ssrc first_seq first_ts : ℕ) (ss : List Sending) → FindsOnlyWhatWasSent (packets_of ssrc first_seq first_ts ss)) → ((ssrc first_seq first_ts : ℕ) (ss : List Sending) → FindsEach (packets_of ssrc first_seq first_ts ss))
-        → firsts who lanes start (record { kind = Kind.video; ssrc = k }) before ≡ map (goes k None) (packets k (visits (k % lanes) start before)) → AllByRecursion Notes (sends_at who lane lanes (visits lane start before) noted)
+        → firsts who lanes start (record { kind = StreamKind.video; ssrc = k }) before ≡ map (goes k None) (packets k (visits (k % lanes) start before)) → AllByRecursion Notes (sends_at who lane lanes (visits lane start before) noted)
     all_notes_lead found each list =
         let from = member_from noted.desk told.from in
         subst (AllByRecursion Notes) (sym (share_of_note lane lanes noted told from (stream_of k past))) (by (is_mine lane lanes k) refl)

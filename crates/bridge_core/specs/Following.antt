@@ -1,4 +1,4 @@
--- How a core stands to the history of its calls (own).
+-- When a core's desk is the one that a history of calls leads to (own).
 use Rattle.std.specs.Prelude.{◌≡◌, ◌+◌, None}
 use Rattle.desk_edit.specs.Asked.{CallOf as Call}
 use Rattle.desk_edit.specs.Calls.{CallHistory, refusal_of, after_call}

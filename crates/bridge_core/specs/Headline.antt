@@ -5,7 +5,7 @@ use Rattle.std.specs.List.{AllByRecursion, Contains}
 use Rattle.desk_rows.specs.declared.row.Member.{Member as MemberRow}
 use Rattle.desk_rows.specs.Desk.{Desk, good}
 use Rattle.retransmit.specs.SentPacket.{SentPacket}
-use Rattle.retransmit.specs.Window.{room, latest}
+use Rattle.retransmit.specs.Window.{window_size, latest}
 use Rattle.topology.specs.Looking.{comes_from, member_from}
 use Rattle.topology.specs.Choice.{choice}
 use Rattle.topology.specs.Receivers.{receiver_on}
@@ -22,7 +22,7 @@ use Rattle.bridge_core.specs.Sent.Sent.{media, control, note}
 use Rattle.feedback.specs.Upstream.{Asker}
 use Rattle.bridge_core.specs.Lanes.{Visit, packets, goes, mix_goes}
 use Rattle.bridge_core.specs.Steps.{Step, visits}
-use Rattle.bridge_core.specs.Named.{Kind, firsts}
+use Rattle.bridge_core.specs.Named.{StreamKind, firsts}
 
 -- a packet's number; nothing else has one
 abbrev pub number_of : Sent → ℕ
@@ -120,8 +120,8 @@ pub record LeadsBack (who : Asker) (lanes : ℕ) (start : Desk) (before : List S
     (request : Request) (sent : Sent) : Type 0 where
   pub packet : SentPacket
   pub same : sent ≡ goes request.out_ssrc (Some visit.version) packet
-  pub sent_before : Contains (firsts who lanes start (record { kind = Kind.video; ssrc = request.out_ssrc }) before)
+  pub sent_before : Contains (firsts who lanes start (record { kind = StreamKind.video; ssrc = request.out_ssrc }) before)
       (goes request.out_ssrc None packet)
-  pub recent : Contains (latest room (packets request.out_ssrc (visits lane start before))) packet
+  pub recent : Contains (latest window_size (packets request.out_ssrc (visits lane start before))) packet
   pub address : packet.owner.address ≡ request.from
   pub member : member_from visit.desk request.from ≡ Some packet.owner.member

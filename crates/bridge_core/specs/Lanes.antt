@@ -7,7 +7,7 @@ use Rattle.desk_rows.specs.declared.row.Slot.{Slot as SlotRow}
 use Rattle.desk_rows.specs.Desk.{Desk}
 use Rattle.retransmit.specs.declared.owner.Owner.{Owner}
 use Rattle.retransmit.specs.SentPacket.{SentPacket}
-use Rattle.retransmit.specs.Window.{room, latest}
+use Rattle.retransmit.specs.Window.{window_size, latest}
 use Rattle.topology.specs.declared.receivers.Receiver.{Receiver}
 use Rattle.topology.specs.Receivers.{receivers, receiver_on}
 use Rattle.media_items.specs.Frame.{SourceFrame}
@@ -150,13 +150,13 @@ abbrev pub controls : Visit → (ssrc : ℕ) → Address → List ℕ → Sent
 controls visit ssrc to bytes =
     control record { version = visit.version; item = visit.item; to = to; ssrc = ssrc; bytes = bytes }
 
--- a lost picture is asked for again where it is to be passed up: a PLI to that address about that source
+-- a lost picture that is passed on: a PLI to that address about that source
 abbrev pub passed_up : Asker → Visit → Loss → Option (Address × ℕ) → List Sent
 passed_up who visit loss None = []
 passed_up who visit loss (Some up) =
     controls visit loss.out_ssrc up.0 (written (upstream_packets who up.1 [] true)) ∷ []
 
--- what a member tells of a stream, as the items before leave it, if it has begun
+-- what a member reports of a stream, as the items before leave it, if it has begun
 abbrev pub notes : Visit → Told → Option ℕ → Option StreamOf → List Sent
 notes visit told None stream = []
 notes visit told (Some member) None = []
@@ -168,7 +168,7 @@ notes visit told (Some member) (Some stream) =
       note = note_of told.block (record { member = member; address = told.from }) stream.window;
     } ∷ []
 
--- what a sender report tells of a video stream, if it has begun
+-- what a sender report says of a video stream, if it has begun
 abbrev pub video_counts : ℕ → List Routed → Option Counts
 video_counts ssrc [] = None
 video_counts ssrc (r ∷ rs) = counts_of ssrc r.slot.first_ts (sendings (r ∷ rs))
@@ -198,14 +198,14 @@ sent_of_input who before visit (frame f) =
 sent_of_input who before visit (audio sound) = []
 -- a tick: to each member what it hears, by place
 sent_of_input who before visit (tick moment) = map (mix_goes visit) (sent_by (given_of before) visit.desk moment)
--- numbers that are asked for again: to who asks, what it was sent of the stream's last 512 packets
+-- numbers that are asked for again: the member who asks gets those of the stream's last 512 packets that it was sent
 sent_of_input who before visit (nack request) =
     map (goes request.out_ssrc (Some visit.version))
-    (resends visit.desk request.from request.numbers (latest room (packets request.out_ssrc before)))
--- a report block: what its member tells of the stream, which goes to nobody
+    (resends visit.desk request.from request.numbers (latest window_size (packets request.out_ssrc before)))
+-- a report block: what its member reports of the stream, which is sent to nobody
 sent_of_input who before visit (block told) =
     notes visit told (member_from visit.desk told.from) (stream_of told.block.ssrc (routed told.block.ssrc before))
--- a lost picture: to the member of the source that the slot chose, that it is lost
+-- a lost picture: a PLI to the member of the source that the slot chose
 sent_of_input who before visit (pli loss) = passed_up who visit loss (pli_up visit.desk loss.from loss.out_ssrc)
 -- a report: to each member the sender reports of its streams, by place
 sent_of_input who before visit (report moment) = flat_map (reports_to who before visit moment) visit.desk.members

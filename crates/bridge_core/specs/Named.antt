@@ -11,13 +11,13 @@ use Rattle.bridge_core.specs.Lanes.{sends_at}
 use Rattle.bridge_core.specs.Steps.{Step, along, visits, visit_after}
 
 -- what a stream carries
-pub data Kind : Type 0 where
-  video : Kind
-  mix : Kind
+pub data StreamKind : Type 0 where
+  video : StreamKind
+  mix : StreamKind
 
 -- the name of a stream: what it carries, and its SSRC
 pub record Name : Type 0 where
-  pub kind : Kind
+  pub kind : StreamKind
   pub ssrc : ℕ
 
 -- it is about the stream of this SSRC
@@ -30,21 +30,21 @@ sent_on ssrc sent = filter (is_on ssrc) (flat_map (λ es. es) sent)
 
 -- an input of which packets go out on streams of this kind for the first time: a frame goes out on video streams and a
 -- tick on mixes, and no other input on any
-abbrev pub begins : Kind → Input → Bool
-begins Kind.video (frame f) = true
-begins Kind.video (audio sound) = false
-begins Kind.video (tick moment) = false
-begins Kind.video (nack request) = false
-begins Kind.video (block told) = false
-begins Kind.video (pli loss) = false
-begins Kind.video (report moment) = false
-begins Kind.mix (frame f) = false
-begins Kind.mix (audio sound) = false
-begins Kind.mix (tick moment) = true
-begins Kind.mix (nack request) = false
-begins Kind.mix (block told) = false
-begins Kind.mix (pli loss) = false
-begins Kind.mix (report moment) = false
+abbrev pub begins : StreamKind → Input → Bool
+begins StreamKind.video (frame f) = true
+begins StreamKind.video (audio sound) = false
+begins StreamKind.video (tick moment) = false
+begins StreamKind.video (nack request) = false
+begins StreamKind.video (block told) = false
+begins StreamKind.video (pli loss) = false
+begins StreamKind.video (report moment) = false
+begins StreamKind.mix (frame f) = false
+begins StreamKind.mix (audio sound) = false
+begins StreamKind.mix (tick moment) = true
+begins StreamKind.mix (nack request) = false
+begins StreamKind.mix (block told) = false
+begins StreamKind.mix (pli loss) = false
+begins StreamKind.mix (report moment) = false
 
 -- what is sent on a stream for the first time at a step
 abbrev pub firsts_at : Asker → ℕ → Desk → Name → List Step → Step → List Sent

@@ -76,7 +76,7 @@ pub record CoreOf : Type 0 where
 
 -- the desk of a core, with its calls; how much memory it has is not told
 abbrev pub core_desk : CoreOf → DeskOf
-core_desk core = record { version = core.version; desk = core.desk; done = core.done; undone = core.undone; room = 0 }
+core_desk core = record { version = core.version; desk = core.desk; done = core.done; undone = core.undone; spare = 0 }
 
 -- The core has taken these steps, from this desk on.
 pub record HasTaken (core : CoreOf) (start : Desk) (steps : List Step) : Type 0 where

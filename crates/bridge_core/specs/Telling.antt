@@ -1,5 +1,5 @@
--- What is told of outgoing streams: reports count what was sent first, notes lead back to it, and a lost picture is
--- asked for where it comes from (RFC 3550 section 6.4, RFC 4585 section 6.3.1; that notes name the packet is own).
+-- What is reported of outgoing streams: reports count what was sent for the first time, notes lead back to it, and a lost
+-- picture is asked for at its source (RFC 3550 section 6.4, RFC 4585 section 6.3.1; that notes name the packet is own).
 use Rattle.std.specs.Prelude.{◌≡◌, ℕ, ◌+◌, ◌-◌, ◌*◌, ◌%◌, ◌^◌, true, List}
 use Rattle.std.specs.Prelude.{[], ◌∷◌, length, map, sum_by, Some, None, IfSome, option_and_then}
 use Rattle.std.specs.List.{Contains}
@@ -10,7 +10,7 @@ use Rattle.desk_rows.specs.declared.row.Slot.{Slot as SlotRow}
 use Rattle.desk_rows.specs.Desk.{Desk}
 use Rattle.retransmit.specs.declared.owner.Owner.{Owner}
 use Rattle.retransmit.specs.SentPacket.{SentPacket}
-use Rattle.retransmit.specs.Window.{room, latest}
+use Rattle.retransmit.specs.Window.{window_size, latest}
 use Rattle.topology.specs.Looking.{member_at, member_from, sender_of, slot_at}
 use Rattle.topology.specs.Choice.{choice}
 use Rattle.topology.specs.Receivers.{slots_to}
@@ -22,13 +22,13 @@ use Rattle.bridge_core.specs.Sent.{Sent, ControlPacket, Notice}
 use Rattle.bridge_core.specs.Sent.Sent.{media, control, note}
 use Rattle.bridge_core.specs.Lanes.{Visit, packets, goes}
 use Rattle.bridge_core.specs.Steps.{Step, visits}
-use Rattle.bridge_core.specs.Named.{Kind, firsts}
+use Rattle.bridge_core.specs.Named.{StreamKind, firsts}
 use Rattle.bridge_core.specs.Headline.{numbered_of}
 
 -- This is an outgoing stream of the member: the video of one of its slots, or its mix.
-abbrev pub IsOwnStream : Desk → MemberRow → Kind → ℕ → Type 0
-IsOwnStream d m Kind.video ssrc = (slot : SlotRow) × Contains (slots_to d m.member) slot × (slot.out_ssrc ≡ ssrc)
-IsOwnStream d m Kind.mix ssrc = m.out_audio ≡ ssrc
+abbrev pub IsOwnStream : Desk → MemberRow → StreamKind → ℕ → Type 0
+IsOwnStream d m StreamKind.video ssrc = (slot : SlotRow) × Contains (slots_to d m.member) slot × (slot.out_ssrc ≡ ssrc)
+IsOwnStream d m StreamKind.mix ssrc = m.out_audio ≡ ssrc
 
 -- how many octets of payload a packet without padding and extension has: what is behind the twelve that each begins
 -- with and the contributing sources that its first octet counts (RFC 3550 section 5.1)
@@ -45,7 +45,7 @@ pub record IsSenderReport (who : Asker) (lanes : ℕ) (start : Desk) (before : L
   pub member : MemberRow
   pub of_desk : Contains visit.desk.members member
   pub to : c.to ≡ member.address
-  pub kind : Kind
+  pub kind : StreamKind
   pub own : IsOwnStream visit.desk member kind c.ssrc
   pub counts : Counts
   pub bytes : c.bytes ≡ written (sender_packets counts moment who.cname)
@@ -67,9 +67,9 @@ pub record IsReached (who : Asker) (lanes : ℕ) (start : Desk) (before : List S
     (owner : Owner) (p : SentPacket) : Type 0 where
   pub number : p.number ≡ block.highest % 2 ^ 16
   pub its_owner : p.owner ≡ owner
-  pub sent_before : Contains (firsts who lanes start (record { kind = Kind.video; ssrc = block.ssrc }) before)
+  pub sent_before : Contains (firsts who lanes start (record { kind = StreamKind.video; ssrc = block.ssrc }) before)
       (goes block.ssrc None p)
-  pub recent : Contains (latest room (packets block.ssrc (visits lane start before))) p
+  pub recent : Contains (latest window_size (packets block.ssrc (visits lane start before))) p
 
 -- At this visit a note says what the block of a member says: its losses, and the source packet that it reaches, where
 -- there is one.

@@ -29,27 +29,27 @@ AcceptsAll first (call ∷ calls) last =
     (next : CoreOf) × Answers first next call (Accepted (first.version + 1)) × HasCommands call
     × AcceptsAll next calls last
 
--- so many undos in a row, from this version on: each names the last accepted call
+-- this many undos in a row, from this version on: each names the last accepted call
 abbrev pub undos : ℕ → ℕ → List Call
 undos version zero = []
 undos version (suc n) = Undo version ∷ undos (version + 1) n
 
--- so many redos in a row, from this version on: each names the last accepted call
+-- this many redos in a row, from this version on: each names the last accepted call
 abbrev pub redos : ℕ → ℕ → List Call
 redos version zero = []
 redos version (suc n) = Redo version ∷ redos (version + 1) n
 
--- so many calls in a row, from this version on, are all accepted
+-- the answers to this many calls in a row, from this version on: all are accepted
 abbrev pub all_accepted : ℕ → ℕ → List Reply
 all_accepted version zero = []
 all_accepted version (suc n) = Accepted (version + 1) ∷ all_accepted (version + 1) n
 
--- this is how a core answers so many undos in a row, for which its log has room
+-- a core answers this many undos in a row so, which don't exceed its log
 abbrev pub UndoesInARow : CoreOf → ℕ → List Reply → CoreOf → Type 0
 UndoesInARow first n replies last =
     (first.version + n ≤ call_limit) × AnswersAll first (undos first.version n) replies last
 
--- this is how a core answers so many redos in a row, for which its log has room
+-- a core answers this many redos in a row so, which don't exceed its log
 abbrev pub RedoesInARow : CoreOf → ℕ → List Reply → CoreOf → Type 0
 RedoesInARow first n replies last =
     (first.version + n ≤ call_limit) × AnswersAll first (redos first.version n) replies last

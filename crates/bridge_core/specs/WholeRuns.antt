@@ -20,7 +20,7 @@ use Rattle.feedback.specs.PassedUp.{pli_up}
 use Rattle.bridge_core.specs.Lanes.{packets, goes, routed, routed_to, stream_of, given_of}
 use Rattle.bridge_core.specs.Lanes.{passed_up, notes, reports_to, is_lanes, sends_at}
 use Rattle.bridge_core.specs.Steps.{Step, visits, visit_after, sends}
-use Rattle.bridge_core.specs.Named.{Name, Kind, is_on, firsts}
+use Rattle.bridge_core.specs.Named.{Name, StreamKind, is_on, firsts}
 use Rattle.bridge_core.specs.Telling.{IsSenderReportOf, IsNoteOf, IsPassedUpOf}
 use Rattle.bridge_core.specs.Headline.{HaveNoGap, numbers, numbered_of, IsChosenOf}
 use Rattle.bridge_core.specs.Headline.{GoesWhole, IsMixOf, GoesOnce, LeadsBack}
@@ -84,9 +84,9 @@ pub record IsReported (who : Asker) (lanes : ℕ) (start : Desk) (before : List 
       (IsSenderReportOf who lanes start before (visit_after start before lane (report moment)) moment)
       (sent_after who lanes start before lane (report moment))
 
--- An input is answered by what was promised of its kind: a frame goes to all who chose it, sound sends nothing, at a
--- tick all hear their mixes, and what is sent again leads back; so do notes, lost pictures go to the chosen, and
--- reports count what was sent first.
+-- An input is answered by what was promised of its kind: a frame goes to all who chose it, sound sends nothing, and at
+-- a tick all hear their mixes. What is sent again leads back, and so do notes. Lost pictures go to the chosen sources,
+-- and reports count what was sent for the first time.
 abbrev pub IsKept : Asker → ℕ → Desk → List Step → ℕ → Input → Type 0
 IsKept who lanes start before lane (frame f) = IsShared who lanes start before lane f
 IsKept who lanes start before lane (audio sound) = sent_after who lanes start before lane (audio sound) ≡ []
@@ -98,16 +98,16 @@ IsKept who lanes start before lane (block told) = IsNoted who lanes start before
 IsKept who lanes start before lane (pli loss) = IsAskedFor who lanes start before lane loss
 IsKept who lanes start before lane (report moment) = IsReported who lanes start before lane moment
 
--- What holds of all that is sent over these steps, on so many lanes from this desk on: it is what the definition gives;
--- each stream's first sendings are its routed list or its mix list, and number without a gap; and each item is answered
+-- What holds of all that is sent over these steps, on this many lanes and from this desk on. It is what the definition
+-- gives. Each stream's first sendings are its routed list or its mix list, numbered without a gap. Each item is answered
 -- as was promised.
 pub record Holds (who : Asker) (lanes : ℕ) (start : Desk) (steps : List Step) (sent : List (List Sent)) : Type 0 where
   pub given : sent ≡ sends who lanes start steps
   pub lists : (ssrc : ℕ)
-      → firsts who lanes start (record { kind = Kind.video; ssrc = ssrc }) steps
+      → firsts who lanes start (record { kind = StreamKind.video; ssrc = ssrc }) steps
       ≡ map (goes ssrc None) (packets ssrc (visits (ssrc % lanes) start steps))
   pub mix_lists : (ssrc : ℕ)
-      → map numbered_of (firsts who lanes start (record { kind = Kind.mix; ssrc = ssrc }) steps)
+      → map numbered_of (firsts who lanes start (record { kind = StreamKind.mix; ssrc = ssrc }) steps)
       ≡ mixes ssrc (given_of (visits (ssrc % lanes) start steps))
   pub no_gap : (name : Name) → HaveNoGap (numbers (firsts who lanes start name steps))
   pub kept : (before after : List Step) (lane : ℕ) (input : Input) → steps ≡ before ++ Step.item lane input ∷ after

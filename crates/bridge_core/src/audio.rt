@@ -55,7 +55,7 @@ fn mixed<A: Allocator + Copy>(stamp: Stamp, mix: MixPacket<A>) -> Egress<A>
     }
 }
 
-/// Appends the packets of mixes as they go to their members. There is room for them.
+/// Appends the packets of mixes as they go to their members. The list has the capacity.
 fn emit_mixes<A: Allocator + Copy>(
     out: &mut Vec<Egress<A>, A>,
     stamp: Stamp,

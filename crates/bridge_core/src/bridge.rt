@@ -29,9 +29,14 @@ use rtp_codec::Address;
 use std::alloc::{AllocError, Allocator, Global};
 use std::marker::Model;
 
-/// The desk with its history, the lanes that send by it, and the intake of what comes off the wire.
+/// The desk with its history, the intake, and the lanes that send by the desk.
 ///
-/// Version n of the desk is the one after n accepted calls.
+/// There are three kinds of calls, and they may come in any order.
+///
+/// - [`desk`](Self::desk) changes the desk: version n is the desk after n accepted calls.
+/// - [`datagram`](Self::datagram) and [`reports`](Self::reports) ask the intake. They change neither desk nor lanes.
+///   Give each item of a datagram to every lane, in order.
+/// - [`item`](Self::item) lets a lane handle an item, and returns what it sends.
 #[derive(Drop)]
 pub struct Core<A: Allocator + Copy = Global> {
     desk: Desk<A>,
@@ -116,8 +121,8 @@ impl<A: Allocator + Copy> Core<A> {
         self.lanes.len()
     }
 
-    /// A call of an operator. Who calls has no effect on the desk. `Desk::prepare` of desk_calls says
-    /// what it is refused by first.
+    /// Answers an operator's call. The operator's number has no effect. `Desk::prepare` of desk_calls gives the order
+    /// of the checks.
     pub fn desk(&mut self, alloc: A, _op: u8, call: Call<A>) -> Reply
         ensures answer { Answers self.old self.new (asked_by call) result }
         ensures takes { OnAccepted result (Takes self.old self.new (Step.publish self.new.desk) []) }
@@ -136,8 +141,9 @@ impl<A: Allocator + Copy> Core<A> {
         }
     }
 
-    /// A lane handles an item under the desk of this version. Sound has 1 to 200 ms of samples at 8000 or 44100 Hz,
-    /// as what the intake gives has.
+    /// Lets a lane handle an item by the present version of the desk. On an `Err` nothing changes.
+    ///
+    /// Audio has 1 sample to 200 ms, at 8000 or 44100 Hz, as the intake's items have.
     pub fn item(
         &mut self,
         alloc: A,
@@ -161,8 +167,8 @@ impl<A: Allocator + Copy> Core<A> {
 
     /// Takes in a datagram that came from an address at a moment, in nanoseconds since 1970.
     ///
-    /// Back come its outcome, the datagrams that are to go up to its sender, and the items that each
-    /// lane is to be given, in this order.
+    /// Returns its outcome, the datagrams to send back, and the items to give to every lane, in order. On out of
+    /// memory, the only error, nothing changes.
     pub fn datagram(
         &mut self,
         alloc: A,
@@ -183,9 +189,10 @@ impl<A: Allocator + Copy> Core<A> {
         self.intake.datagram(alloc, rows, from, moment, octets)
     }
 
-    /// The receiver reports of the bridge at a moment, in nanoseconds since 1970: one datagram for each member of whose
-    /// sources one at least is known and past probation, with a block for each such source (RFC 3550 section 6.4.2).
-    /// These sources begin a new interval. An error says that memory was refused, and then nothing has changed.
+    /// The bridge's receiver reports (RFC 3550 section 6.4.2) at a moment, in nanoseconds since 1970.
+    ///
+    /// Each member with a known source past probation gets one datagram, with a block for each such source. These
+    /// sources begin a new interval. On out of memory, the only error, nothing changes.
     pub fn reports(
         &mut self,
         alloc: A,

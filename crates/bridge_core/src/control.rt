@@ -1,4 +1,4 @@
-//! What receivers tell and ask by RTCP, for the streams of a lane.
+//! What receivers report and ask for by RTCP, on the streams of a lane.
 
 ghost use Rattle.std.specs.Prelude.{◌≡◌, true, if◌then◌else◌, [], ◌∷◌, map, IfOk};
 ghost use Rattle.intake.specs.Names.{is_name};
@@ -22,7 +22,7 @@ use rtp_codec::Address;
 use std::alloc::{AllocError, Allocator};
 use topology::member_from;
 
-/// This alone.
+/// A list of this egress alone.
 fn only<A: Allocator + Copy>(alloc: A, egress: Egress<A>) -> Result<Vec<Egress<A>, A>, AllocError>
     ensures { IfOk result (λ sent. map sent_of sent.items ≡ sent_of egress ∷ []) }
 {
@@ -31,7 +31,7 @@ fn only<A: Allocator + Copy>(alloc: A, egress: Egress<A>) -> Result<Vec<Egress<A
     Ok(out)
 }
 
-/// What a receiver tells of a stream of the lane that has begun, if it is a member.
+/// A receiver's report on a stream of the lane that has begun, if the receiver is a member.
 pub fn note_block<A: Allocator + Copy>(
     alloc: A,
     video: &VideoStreams<A>,

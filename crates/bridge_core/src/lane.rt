@@ -20,7 +20,10 @@ use std::marker::Model;
 /// The most lanes that there may be.
 pub const LANES: u32 = 16;
 
-/// A lane (a media worker) of several, with its streams that have begun and its playouts.
+/// A lane (media worker): its outgoing streams, and a jitter buffer for each audio source.
+///
+/// Its streams are those whose SSRC modulo the number of lanes is its own number. Give it every item, in order, by
+/// [`step`](Self::step), with the desk's rows and their version.
 #[derive(Drop)]
 pub struct LaneState<A: Allocator + Copy = Global> {
     place: LanePlace,
@@ -75,8 +78,9 @@ impl<A: Allocator + Copy> LaneState<A> {
         self.place.lane
     }
 
-    /// Handles one more item under a version of the desk. Sound has 1 to 200 ms of samples, at 8000 or 44100 Hz. A
-    /// refusal changes nothing.
+    /// Handles one more item by a version of the desk, and returns what is to be sent. A refusal changes nothing.
+    ///
+    /// Audio has 1 sample to 200 ms, at 8000 or 44100 Hz.
     pub fn step(
         &mut self,
         alloc: A,

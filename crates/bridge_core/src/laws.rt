@@ -30,7 +30,7 @@ ghost use Rattle.bridge_core.specs.Runs.{Runs};
 ghost use Rattle.bridge_core.specs.EveryLane.{to_every};
 ghost use Rattle.bridge_core.specs.Events.{Event, Plays, steps_of, calls_among};
 ghost use Rattle.bridge_core.specs.WholeRuns.{Holds};
-ghost use Rattle.bridge_core.specs.Named.{Name, Kind, is_on, sent_on, firsts};
+ghost use Rattle.bridge_core.specs.Named.{Name, StreamKind, is_on, sent_on, firsts};
 ghost use Rattle.bridge_core.specs.Headline.{AreGood, HaveNoGap, numbers, numbered_of, IsChosenOf};
 ghost use Rattle.bridge_core.specs.Headline.{GoesWhole, IsMixOf, GoesOnce, LeadsBack};
 ghost use Rattle.bridge_core.specs.Telling.{IsSenderReportOf, IsNoteOf, IsPassedUpOf};
@@ -52,7 +52,7 @@ pub fn all_that_is_sent()
 pub fn streams_are_routed_lists()
     ensures { (who : Asker) (lanes : ℕ) (start : Desk) (steps : List Step) (ssrc : ℕ) → good start ≡ true
         → AreGood steps
-        → firsts who lanes start (record { kind = Kind.video; ssrc = ssrc }) steps
+        → firsts who lanes start (record { kind = StreamKind.video; ssrc = ssrc }) steps
         ≡ map (goes ssrc None) (packets ssrc (visits (ssrc % lanes) start steps)) }
 {
     each_frame_goes_whole();
@@ -65,7 +65,7 @@ pub fn streams_are_routed_lists()
 pub fn mixes_are_mix_lists()
     ensures { (who : Asker) (lanes : ℕ) (start : Desk) (steps : List Step) (ssrc : ℕ) → good start ≡ true
         → AreGood steps
-        → map numbered_of (firsts who lanes start (record { kind = Kind.mix; ssrc = ssrc }) steps)
+        → map numbered_of (firsts who lanes start (record { kind = StreamKind.mix; ssrc = ssrc }) steps)
         ≡ mixes ssrc (given_of (visits (ssrc % lanes) start steps)) }
 {
     ticks_add_what_is_heard();
@@ -157,8 +157,8 @@ pub fn all_who_hear_get_it()
 }
 
 /// Each packet that is sent again is, octet for octet and under its number, one of the last 512 that
-/// were sent on its stream; and who asks for it is the member to whom it went, at the address to which
-/// it went. It names the version and the item by which it was sent first.
+/// were sent on its stream. The member who asks is the one that it went to, at the address that it went
+/// to. It names the version and the item by which it was sent first.
 pub fn resends_lead_back()
     ensures { (who : Asker) (lanes lane : ℕ) (start : Desk) (before : List Step) (request : Request) → good start ≡ true
         → AreGood before
@@ -170,9 +170,9 @@ pub fn resends_lead_back()
     found_is_what_was_sent();
 }
 
-/// What is sent at a report is sender reports, to members of its version's desk at their addresses, of their own
+/// At a report, sender reports alone are sent: to members of its version's desk, at their addresses, on their own
 /// streams. Each counts all packets that were sent on its stream for the first time and their octets of payload, modulo
-/// 2^32, and none that was sent again.
+/// 2^32. Packets that were sent again don't count.
 pub fn reports_count_first_sendings()
     ensures { (who : Asker) (lanes lane : ℕ) (start : Desk) (before : List Step) (moment : ℕ) → good start ≡ true
         → AreGood before
@@ -185,9 +185,9 @@ pub fn reports_count_first_sendings()
     mixes_are_mix_lists();
 }
 
-/// What a note tells of a receiver's report block is its losses, and which source packet its highest number reaches:
+/// A note of a receiver's report block says its losses, and which source packet its highest number leads back to:
 /// the one that went to this member at this address under that number, of the last 512 that were sent on the stream for
-/// the first time. Where no packet is told, there is none.
+/// the first time. If it names no packet, there is none.
 pub fn notes_lead_back()
     ensures { (who : Asker) (lanes lane : ℕ) (start : Desk) (before : List Step) (told : Told) → good start ≡ true
         → AreGood before
@@ -200,8 +200,8 @@ pub fn notes_lead_back()
     found_is_what_was_sent();
 }
 
-/// A receiver's picture loss is passed up by a PLI about the source that its slot chose, to the address of the source's
-/// member, and by nothing else; and only where the slot's member is who tells of it.
+/// All that is sent for a receiver's picture loss is a PLI about the source that its slot chose, to the address of the
+/// source's member. It is sent only if the slot's member reports the loss.
 pub fn picture_losses_go_to_the_chosen()
     ensures { (who : Asker) (lanes lane : ℕ) (start : Desk) (before : List Step) (loss : Loss)
         → AllByRecursion (AllByRecursion (IsPassedUpOf who (visit_after start before lane (Input.pli loss)) loss))
@@ -226,8 +226,8 @@ pub fn calls_are_legal()
         → AreAccepted h (calls_among events) × HasCalled last (after_calls h (calls_among events)) }
 {}
 
-/// Undos in a row, each of which names the last accepted call, are all accepted while so many
-/// commands are done and the log has room. Redos are while so many are undone.
+/// Undos in a row, each of which names the last accepted call, are accepted as long as there are commands to
+/// undo and the log isn't full. So are redos, as long as there are commands to redo.
 pub fn undos_and_redos_are_accepted()
     ensures undos { (first last : CoreOf) (n : ℕ) (replies : List Reply) → n ≤ length first.done
         → UndoesInARow first n replies last → replies ≡ all_accepted first.version n }
@@ -235,9 +235,9 @@ pub fn undos_and_redos_are_accepted()
         → RedoesInARow first n replies last → replies ≡ all_accepted first.version n }
 {}
 
-/// Commands are accepted one after another, whatever was called before, and undone by as many undos:
-/// these are accepted while the log has room, and the desk is the one before the commands, members
-/// at their places. By as many redos it is the one after them again.
+/// Commands are accepted one after another, whatever was called before, and as many undos follow. The undos are
+/// accepted while the log isn't full, and give back the desk before the commands, members at their places. As many
+/// redos give back the desk after the commands.
 pub fn commands_come_back()
     ensures back { (first middle last : CoreOf) (commands : List CallOf) (replies : List Reply)
         → AcceptsAll first commands middle → UndoesInARow middle (length commands) replies last
@@ -249,8 +249,8 @@ pub fn commands_come_back()
         → (later ≡ all_accepted back.version (length commands)) × IsAsWas last middle }
 {}
 
-/// Undos of so many commands as are done, whatever was called before, and as many redos: these are
-/// accepted while the log has room, and all is as it was before the undos.
+/// As many redos as undos give back what was there before the undos, whatever was called before. All are accepted
+/// while the log isn't full.
 pub fn undos_are_redone()
     ensures { (first back last : CoreOf) (n : ℕ) (replies later : List Reply) → n ≤ length first.done
         → UndoesInARow first n replies back → RedoesInARow back n later last

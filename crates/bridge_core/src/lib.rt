@@ -2,8 +2,8 @@
 //!
 //! Begin with [`Core::new`]. [`Core::desk`] takes calls, [`Core::datagram`] takes datagrams, and [`Core::item`] takes
 //! an item for a lane. A contract sees a core as its desk, its version, its lists of edits, its intake and its lanes.
-//! The core has no socket, clock or thread: moments and octets come in, and lists go out. A bridge whose lanes run
-//! apart takes [`LaneState`] alone.
+//! The core has no socket, clock or thread: moments and octets come in, and lists go out. A bridge whose lanes run on
+//! threads uses [`LaneState`] alone.
 //!
 //! ```rust
 //! let settings = Settings { bridge_ssrc: 1, cname: Bytes::from_static(b"bridge") };
@@ -13,6 +13,9 @@
 //! let sent = core.item(alloc, 0, &item)?; // what lane 0 sends for one of the items
 //! let reports = core.reports(alloc, moment)?; // receiver reports, with the addresses that they go to
 //! ```
+//!
+//! `sends_what_was_promised` of worked_bridge calls `new`, `desk` and `item` so, with the headline of what is sent
+//! proved. `a_core_drops_an_empty_datagram` of worked_bridge calls `datagram`.
 #![tactic(auto)]
 
 mod audio;

@@ -18,15 +18,17 @@ use media_items::Item;
 use mixer::{Mixer, TimedSamples};
 use std::alloc::{AllocError, Allocator, Global};
 
-/// The parts of a lane: its video streams that have begun, and its mixer.
+/// The parts of a lane.
 #[derive(Drop)]
 pub struct LaneParts<A: Allocator + Copy = Global> {
+    /// Its video streams that have begun.
     pub video: VideoStreams<A>,
+    /// Its jitter buffers and its mix streams.
     pub audio: Mixer<A>,
 }
 
 impl<A: Allocator + Copy> LaneParts<A> {
-    /// Parts to which nothing has come.
+    /// Parts that were given nothing. The only error is out of memory.
     pub fn new(alloc: A) -> Result<Self, AllocError>
         ensures video { IfOk result (λ parts. parts.video ≡ []) }
         ensures audio { IfOk result (λ parts. (lane lanes : ℕ) → WasGiven lane lanes parts.audio []) }
@@ -36,7 +38,7 @@ impl<A: Allocator + Copy> LaneParts<A> {
         Ok(Self { video, audio })
     }
 
-    /// What the parts answer to an item: one arm for each kind.
+    /// What the parts send for an item. On out of memory, the only error, nothing changes.
     pub fn answer(
         &mut self,
         alloc: A,

@@ -23,9 +23,9 @@ use std::marker::Model;
 use topology::Receiver;
 
 /// The streams by SSRC.
-pub type Table<A> = IndexMap<u32, Stream<A>, BuildHasherDefault<FoldHasher>, A>;
+pub type StreamTable<A> = IndexMap<u32, Stream<A>, BuildHasherDefault<FoldHasher>, A>;
 
-/// A frame that is ready for a receiver, with its stream where that is a new one.
+/// A frame that is ready for a receiver, with its stream if that is new.
 #[derive(Drop)]
 pub struct ReadyFrame<A: Allocator + Copy = Global> {
     receiver: Receiver,
@@ -44,7 +44,7 @@ impl<A: Allocator + Copy> Model for ReadyFrame<A> {
 /// Prepares a frame for one receiver.
 fn prepare_one<A: Allocator + Copy>(
     alloc: A,
-    table: &Table<A>,
+    table: &StreamTable<A>,
     receiver: &Receiver,
     frame: &MediaFrame<A>,
     stamp: Stamp,
@@ -83,7 +83,7 @@ fn prepare_one<A: Allocator + Copy>(
 /// Prepares a frame for several receivers.
 pub fn prepare_all<A: Allocator + Copy>(
     alloc: A,
-    table: &Table<A>,
+    table: &StreamTable<A>,
     receivers: &[Receiver],
     frame: &MediaFrame<A>,
     stamp: Stamp,
@@ -101,13 +101,13 @@ pub fn prepare_all<A: Allocator + Copy>(
     Ok(ready)
 }
 
-/// Sends what is ready for a receiver. There is room for its stream.
+/// Sends what is ready for a receiver. The table has the capacity.
 fn commit_one<A: Allocator + Copy>(
-    table: &mut Table<A>,
+    table: &mut StreamTable<A>,
     ready: ReadyFrame<A>,
 ) -> Vec<OutPacket<A>, A>
     requires fits { Fits (stream_at (ssrc_of ready) table.old.entries) ready }
-    requires room { 0 < spare table.old }
+    requires capacity { 0 < spare table.old }
     ensures streams { (ssrc : ℕ)
         → stream_at ssrc table.new.entries ≡ kept_after_one ssrc ready (stream_at ssrc table.old.entries) }
     ensures packets { result.items ≡ map out_of ready.prepared.packets }
@@ -134,7 +134,7 @@ fn commit_one<A: Allocator + Copy>(
     }
 }
 
-/// Appends the packets as they go to their receiver. There is room for them.
+/// Appends the packets as they go to their receiver. The list has the capacity.
 fn emit<A: Allocator + Copy>(
     out: &mut Vec<Egress<A>, A>,
     stamp: Stamp,
@@ -167,9 +167,9 @@ fn first<A: Allocator + Copy>(stamp: Stamp, receiver: &Receiver, packet: OutPack
     }
 }
 
-/// Sends what is ready for several receivers. There is room for all of it.
+/// Sends what is ready for several receivers. The table and the list have the capacity.
 pub fn commit_all<A: Allocator + Copy>(
-    table: &mut Table<A>,
+    table: &mut StreamTable<A>,
     ready: Vec<ReadyFrame<A>, A>,
     stamp: Stamp,
     frame: &MediaFrame<A>,
@@ -178,8 +178,8 @@ pub fn commit_all<A: Allocator + Copy>(
     requires apart { AreDistinct (ready_receivers ready.items) }
     requires fit { AllFit table.old.entries ready.items }
     requires next { AreNext table.old.entries stamp frame.now ready.items }
-    requires room { vec_len ready ≤ spare table.old }
-    requires out_room { vec_len out.old + packet_count ready.items ≤ vec_capacity out.old }
+    requires capacity { vec_len ready ≤ spare table.old }
+    requires out_capacity { vec_len out.old + packet_count ready.items ≤ vec_capacity out.old }
     ensures streams { (ssrc : ℕ)
         → stream_at ssrc table.new.entries ≡ kept_after ssrc ready.items (stream_at ssrc table.old.entries) }
     ensures out { map sent_of out.new.items ≡ map sent_of out.old.items ++ sent_for ready.items }

@@ -20,11 +20,14 @@ use reports::sender_report;
 use std::alloc::{AllocError, Allocator, Global};
 use topology::slots_to;
 
-/// Sender reports that are due: of which parts, at which visit, and at which moment in nanoseconds since 1970.
+/// Sender reports that are due.
 #[derive(Clone, Copy)]
 pub struct Reporting<'a, A: Allocator + Copy = Global> {
+    /// The parts whose streams are reported.
     pub parts: &'a LaneParts<A>,
+    /// The item's visit to the desk.
     pub visit: LaneVisit<'a, A>,
+    /// The moment, in nanoseconds since 1970.
     pub moment: u64,
 }
 

@@ -10,7 +10,7 @@ ghost use Rattle.bridge_core.specs.LaneState.{stream_at};
 ghost use Rattle.bridge_core.specs.inner.VideoStreams.{Answers};
 
 use crate::egress::Egress;
-use crate::preparing::{Table, commit_all, prepare_all};
+use crate::preparing::{StreamTable, commit_all, prepare_all};
 use crate::visit::LaneVisit;
 use feedback::resend;
 use forward_rewrite::Stream;
@@ -22,13 +22,13 @@ use std::alloc::{AllocError, Allocator, Global};
 use std::marker::Model;
 use topology::{Receiver, all_who_chose_receive, receivers_are_distinct, receivers_of};
 
-/// The room for streams that a lane has from the start.
+/// How many streams a lane has memory for from the start.
 const FIRST_STREAMS: usize = 16;
 
 /// The video streams of a lane that have begun.
 #[derive(Drop)]
 pub struct VideoStreams<A: Allocator + Copy = Global> {
-    table: Table<A>,
+    table: StreamTable<A>,
 }
 
 impl<A: Allocator + Copy> Model for VideoStreams<A> {
@@ -39,7 +39,7 @@ impl<A: Allocator + Copy> Model for VideoStreams<A> {
     ghost view = { λ v. v.table.entries };
 }
 
-/// Leaves of the receivers those whose streams are the lane's.
+/// Keeps the receivers whose streams are the lane's.
 fn keep_mine<A: Allocator>(place: &LanePlace, receivers: &mut Vec<Receiver, A>)
     ensures { receivers.new.items
         ≡ filter (λ r. is_mine place.now.lane place.now.lanes r.slot.out_ssrc) receivers.old.items }
@@ -112,7 +112,7 @@ impl<A: Allocator + Copy> VideoStreams<A> {
         keep_mine(&visit.place, &mut receivers);
         let ready = prepare_all(alloc, &self.table, &receivers, frame, visit.stamp)?;
         let whole = &frame.frame;
-        // Where there are more packets than can be counted, this much can't be had either.
+        // More packets than can be counted exceed any memory too.
         let packets = ready.len().saturating_mul(whole.len().into());
         let mut out = Vec::with_capacity(alloc, packets)?;
         self.table.reserve(ready.len())?;
@@ -120,8 +120,8 @@ impl<A: Allocator + Copy> VideoStreams<A> {
         Ok(out)
     }
 
-    /// Sends packets of a stream of the lane again to who asks, each number at its first place: those
-    /// of the stream's last 512 that went to a member that is there, at the address it has.
+    /// Sends packets of a stream again to the member who asks, if they are among the stream's last 512 and went to that
+    /// member at this address. A number that is named twice is answered once.
     pub fn nack(
         &self,
         alloc: A,

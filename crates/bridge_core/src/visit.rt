@@ -1,4 +1,4 @@
-//! What a lane handles an item by.
+//! What a lane reads when it handles an item.
 
 use desk_rows::Rows;
 use intake::Settings;
@@ -14,6 +14,6 @@ pub struct LaneVisit<'a, A: Allocator + Copy = Global> {
     pub place: LanePlace,
     /// The rows of that version.
     pub rows: &'a Rows<A>,
-    /// Who the bridge is.
+    /// The bridge's SSRC and canonical name.
     pub settings: &'a Settings<A>,
 }

@@ -5,12 +5,12 @@ use std::alloc::Global;
 use std::io::{self, ErrorKind, Write};
 use std::test::Fail;
 
-/// Takes one octet at a call, is interrupted before each, and fails or takes nothing once its room
+/// Takes one octet at a call, is interrupted before each, and fails or takes nothing once its limit
 /// is used up.
 #[derive(Drop)]
 struct Narrow {
     taken: Vec<u8>,
-    room: usize,
+    limit: usize,
     interrupted: bool,
     fails: Option<ErrorKind>,
 }
@@ -21,7 +21,7 @@ impl Write for Narrow {
         if self.interrupted {
             return Err(io::Error::from(ErrorKind::Interrupted));
         }
-        if self.taken.len() >= self.room {
+        if self.taken.len() >= self.limit {
             return match self.fails {
                 Some(kind) => Err(io::Error::from(kind)),
                 None => Ok(0),
@@ -41,34 +41,34 @@ impl Write for Narrow {
 
 const TEXT: &str = "ok 1\nok 2\n";
 
-/// Whether two replies end so where the writer has room for so many octets, all of which are used.
-fn ends(alloc: Global, room: usize, fails: Option<ErrorKind>, want: Result<(), RunFault>) -> bool {
+/// Whether two replies end so where the writer takes so many octets, all of which are used.
+fn ends(alloc: Global, limit: usize, fails: Option<ErrorKind>, want: Result<(), RunFault>) -> bool {
     let mut reader = b"desk 0 add-room 1\ndesk 0 add-room 2\n".as_slice();
     let mut writer = Writer(Narrow {
         taken: Vec::new(alloc),
-        room,
+        limit,
         interrupted: false,
         fails,
     });
     let answer = run(alloc, &mut reader, &mut writer);
-    answer == want && TEXT.as_bytes().get(..room) == Some(writer.0.taken.as_slice())
+    answer == want && TEXT.as_bytes().get(..limit) == Some(writer.0.taken.as_slice())
 }
 
 /// A writer that tells want of memory between two lines ends the run so; within a line it has failed.
 #[test]
 fn a_writer_may_take_a_part(rt: HostRuntime) -> Result<(), Fail> {
     let failed = Err(RunFault::Write);
-    for room in 0..10 {
-        let starved = if room % 5 == 0 {
+    for limit in 0..10 {
+        let starved = if limit % 5 == 0 {
             Err(RunFault::OutOfMemory)
         } else {
             failed
         };
         assert!(rt;
-            ends(rt.alloc(), room, None, failed)
-                && ends(rt.alloc(), room, Some(ErrorKind::ConnectionReset), failed)
-                && ends(rt.alloc(), room, Some(ErrorKind::OutOfMemory), starved),
-            "{room}"
+            ends(rt.alloc(), limit, None, failed)
+                && ends(rt.alloc(), limit, Some(ErrorKind::ConnectionReset), failed)
+                && ends(rt.alloc(), limit, Some(ErrorKind::OutOfMemory), starved),
+            "{limit}"
         );
     }
     assert!(rt; ends(rt.alloc(), 10, None, Ok(())));

@@ -15,30 +15,30 @@ pub enum Codec {
 
 /// What a codec says of octets.
 #[derive(Clone, Copy, PartialEq, Eq)]
-enum Outcome {
+enum PrefixOutcome {
     Read,
     Rtp(RtpFault),
     Rtcp(RtcpFault),
 }
 
-fn outcome_of(alloc: Global, codec: Codec, octets: &[u8]) -> Outcome {
+fn outcome_of(alloc: Global, codec: Codec, octets: &[u8]) -> PrefixOutcome {
     match codec {
         Codec::Rtp => match read(octets) {
-            Ok(_) => Outcome::Read,
-            Err(fault) => Outcome::Rtp(fault),
+            Ok(_) => PrefixOutcome::Read,
+            Err(fault) => PrefixOutcome::Rtp(fault),
         },
         Codec::Rtcp => match read_compound(alloc, octets) {
-            Ok(_) => Outcome::Read,
-            Err(fault) => Outcome::Rtcp(fault),
+            Ok(_) => PrefixOutcome::Read,
+            Err(fault) => PrefixOutcome::Rtcp(fault),
         },
     }
 }
 
-fn outcome_name(outcome: Outcome) -> &'static str {
+fn outcome_name(outcome: PrefixOutcome) -> &'static str {
     match outcome {
-        Outcome::Read => "read",
-        Outcome::Rtp(fault) => fault_name(fault),
-        Outcome::Rtcp(fault) => compound_fault_name(fault),
+        PrefixOutcome::Read => "read",
+        PrefixOutcome::Rtp(fault) => fault_name(fault),
+        PrefixOutcome::Rtcp(fault) => compound_fault_name(fault),
     }
 }
 

@@ -173,8 +173,8 @@ told_by d h (Group commands) why called reason =
 told_by d h (Undo last) why called reason = sym (same_reason d h (Undo last) called) ∙ reason
 told_by d h (Redo last) why called reason = sym (same_reason d h (Redo last) called) ∙ reason
 
--- more or less room makes no difference
-pub same_called : (old new : DeskOf) (h : CallHistory) → new ≡ record old { room = new.room } → HasCalled old h → HasCalled new h
+-- more or less spare capacity makes no difference
+pub same_called : (old new : DeskOf) (h : CallHistory) → new ≡ record old { spare = new.spare } → HasCalled old h → HasCalled new h
 same_called old new h same called =
     subst (λ (d : DeskOf). HasCalled d h) (sym same) (record { version = called.version; desk = called.desk; follows = called.follows; ahead = called.ahead })
 

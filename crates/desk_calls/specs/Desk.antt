@@ -20,8 +20,8 @@ pub record DeskOf : Type 0 where
   pub done : List (List EditOf)
   -- the last one is the next to be done again
   pub undone : List (List EditOf)
-  -- so many calls, at least, take no memory
-  pub room : ℕ
+  -- at least this many calls take no memory
+  pub spare : ℕ
 
 -- the desk is edited, and what was undone is forgotten
 abbrev pub DoesEdit : DeskOf → DeskOf → Type 0
@@ -64,7 +64,7 @@ IsReason d (Redo last) why = call_refused d (Redo last) ≡ Some why
 
 -- the edits fit the desk, and one more call takes no memory
 abbrev pub CanTake : DeskOf → List EditOf → Type 0
-CanTake d es = (fits d.desk es ≡ true) × (0 < d.room)
+CanTake d es = (fits d.desk es ≡ true) × (0 < d.spare)
 
 -- what was prepared does what the call is to do: edits that make of the desk what its equation says, or an undo or a redo of what there is
 abbrev pub Serves : {A : Type 0} → DeskOf → Call → Prepared A → Type 0
@@ -81,6 +81,6 @@ Serves d (Redo last) (prepared.Apply es) = ⊥
 Serves d (Redo last) prepared.Undo = ⊥
 Serves d (Redo last) prepared.Redo = 0 < length d.undone
 
--- nothing stands against the call, the log has room for it, and what was prepared serves it
+-- no reason holds against the call, the log isn't full, and what was prepared serves it
 abbrev pub IsReady : {A : Type 0} → DeskOf → Call → Prepared A → Type 0
 IsReady d call p = (call_refused d call ≡ None) × (d.version < call_limit) × Serves d call p

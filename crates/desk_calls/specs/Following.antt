@@ -1,4 +1,4 @@
--- How a desk stands to the history of its calls (own).
+-- When a desk is the one that a history of calls leads to (own).
 use Rattle.std.specs.Prelude.{◌≡◌, ◌≢◌, true, List, [], ◌∷◌, reverse, None, Some}
 use Rattle.desk_rows.specs.Desk.{Desk}
 use Rattle.desk_rows.specs.Edit.{EditOf}
@@ -19,7 +19,7 @@ Follows d (group ∷ groups) (e ∷ es) = (fits d e ≡ true) × (after d e ≡ 
 Follows d [] (e ∷ es) = ⊥
 Follows d (group ∷ groups) [] = ⊥
 
--- the desk is where this history of calls leads: its version and its rows, with one list of edits for each group that is done, and one for each that is undone, which from the last one on lead ahead from the desk
+-- the desk is where this history of calls leads: its version, its rows, one list of edits for each group that is done, and one for each that is undone; the undone ones lead on from the desk, the last one first
 pub record HasCalled (d : DeskOf) (h : CallHistory) : Type 0 where
   pub version : d.version ≡ h.accepted
   pub desk : d.desk ≡ desk_now h

@@ -18,9 +18,9 @@ use undo_log::{Edits, History, Listed, Reversible};
 
 /// The rows of a desk with the history of its calls. Version n is the desk after n accepted calls.
 ///
-/// A call has two halves. `prepare` judges it and takes all memory that it needs, and changes no row;
-/// `commit` then carries it out without memory. Between the two a caller can publish what `edit_of`
-/// gives, or give the call up.
+/// A call has two halves. [`prepare`](Self::prepare) judges it, takes all memory that it needs, and changes no row.
+/// [`commit`](Self::commit) then carries it out without memory. Between the two a caller can publish what
+/// [`edit_of`](Self::edit_of) returns, or give the call up.
 #[derive(Drop)]
 pub struct Desk<A: Allocator + Copy = Global> {
     version: u64,
@@ -38,7 +38,7 @@ impl<A: Allocator + Copy> Model for Desk<A> {
       desk = d.history.state;
       done = d.history.done;
       undone = d.history.undone;
-      room = d.history.room;
+      spare = d.history.spare;
     } };
 
     ghost invariant = { λ d. IsSound d.version d.history.state d.history.done };
@@ -58,6 +58,7 @@ impl<A: Allocator + Copy> Desk<A> {
         }
     }
 
+    /// The rows of the desk.
     pub fn rows(&self) -> &Rows<A>
         ensures rows { result.now ≡ self.now.desk }
         ensures good { good self.now.desk ≡ true }
@@ -65,7 +66,7 @@ impl<A: Allocator + Copy> Desk<A> {
         self.history.state().inner()
     }
 
-    /// How many calls were accepted.
+    /// How many calls were accepted, 0 to 1,048,576.
     pub fn version(&self) -> u64
         ensures version { result ≡ self.now.version }
         ensures limit { result ≤ call_limit }
@@ -73,13 +74,15 @@ impl<A: Allocator + Copy> Desk<A> {
         self.version
     }
 
-    /// Judges a call and takes all memory that it needs, or answers the first reason against it. The
-    /// rows and what is done and undone stay as they are.
+    /// Judges a call and takes all memory that it needs, or returns the first reason against it. The rows and what is
+    /// done and undone don't change.
     ///
-    /// A command is refused by the first reason that `plan` finds, then because of the log, then on
-    /// out of memory; a group because of its size, then because of the log, then by what
-    /// `plan_group` finds; an undo because a newer call was accepted, then because nothing is
-    /// left to undo, then because of the log; a redo alike, where nothing is undone.
+    /// The reasons are checked in this order:
+    ///
+    /// - a command: what [`plan`](desk_edit::plan) finds, a full log, out of memory;
+    /// - a group: its size, a full log, then what [`plan_group`](desk_edit::plan_group) finds, which may be out of
+    ///   memory;
+    /// - an undo or a redo: a newer call, nothing to undo or redo, a full log. It is never out of memory.
     pub fn prepare(&mut self, alloc: A, call: &Call<A>) -> Result<Prepared<A>, Refusal>
         ensures ready { IfOk result (λ prepared. IsReady self.new (asked_by call.now) prepared) }
         ensures free { OnOk result ((h : CallHistory) → HasCalled self.old h →
@@ -87,7 +90,7 @@ impl<A: Allocator + Copy> Desk<A> {
         ensures why { IfErr result (λ why. IsReason self.old (asked_by call.now) why) }
         ensures told { IfErr result (λ why. (h : CallHistory) → HasCalled self.old h →
             IsTold h (asked_by call.now) why) }
-        ensures same { self.new ≡ record self.old { room = self.new.room } }
+        ensures same { self.new ≡ record self.old { spare = self.new.spare } }
         ensures good { good self.new.desk ≡ true }
         ensures history { (h : CallHistory) → HasCalled self.old h → HasCalled self.new h }
     {
@@ -100,7 +103,7 @@ impl<A: Allocator + Copy> Desk<A> {
     fn judge(&mut self, alloc: A, call: &Call<A>) -> Result<Prepared<A>, Refusal>
         ensures ready { IfOk result (λ prepared. IsReady self.new (asked_by call.now) prepared) }
         ensures why { IfErr result (λ why. IsReason self.old (asked_by call.now) why) }
-        ensures same { self.new ≡ record self.old { room = self.new.room } }
+        ensures same { self.new ≡ record self.old { spare = self.new.spare } }
     {
         match call {
             Call::Apply(command) => self.judge_command(alloc, command),
@@ -113,7 +116,7 @@ impl<A: Allocator + Copy> Desk<A> {
     fn judge_command(&mut self, alloc: A, command: &Command) -> Result<Prepared<A>, Refusal>
         ensures ready { IfOk result (λ prepared. IsReady self.new (CallOf.Apply command.now) prepared) }
         ensures why { IfErr result (λ why. IsReason self.old (CallOf.Apply command.now) why) }
-        ensures same { self.new ≡ record self.old { room = self.new.room } }
+        ensures same { self.new ≡ record self.old { spare = self.new.spare } }
     {
         let edits = self.planned(alloc, command)?;
         self.reserve()?;
@@ -123,7 +126,7 @@ impl<A: Allocator + Copy> Desk<A> {
     fn judge_group(&mut self, alloc: A, commands: &[Command]) -> Result<Prepared<A>, Refusal>
         ensures ready { IfOk result (λ prepared. IsReady self.new (CallOf.Group commands.now) prepared) }
         ensures why { IfErr result (λ why. IsReason self.old (CallOf.Group commands.now) why) }
-        ensures same { self.new ≡ record self.old { room = self.new.room } }
+        ensures same { self.new ≡ record self.old { spare = self.new.spare } }
     {
         let edits = self.planned_group(alloc, commands)?;
         self.reserve()?;
@@ -132,9 +135,9 @@ impl<A: Allocator + Copy> Desk<A> {
 
     /// Takes the memory of one more entry of the history.
     fn reserve(&mut self) -> Result<(), Refusal>
-        ensures room { OnOk result (0 < self.new.room) }
+        ensures capacity { OnOk result (0 < self.new.spare) }
         ensures memory { OnErr result (result ≡ Err Refusal.OutOfMemory) }
-        ensures same { self.new ≡ record self.old { room = self.new.room } }
+        ensures same { self.new ≡ record self.old { spare = self.new.spare } }
     {
         // No more calls are done than were accepted, so a log that was judged has capacity.
         match self.history.reserve() {
@@ -177,7 +180,7 @@ impl<A: Allocator + Copy> Desk<A> {
         Ok(Prepared::Redo)
     }
 
-    /// A copy of the edits that `commit` will absorb, for whoever publishes them.
+    /// A copy of the edits that `commit` will absorb, to be published. The only error is out of memory.
     pub fn edit_of(
         &self,
         alloc: A,
@@ -204,7 +207,7 @@ impl<A: Allocator + Copy> Desk<A> {
         }
     }
 
-    /// Carries out a call that was prepared, without memory, and answers its number.
+    /// Carries out a call that was prepared, without memory. Returns its number, 1 to 1,048,576.
     pub fn commit(&mut self, call: &Call<A>, prepared: Prepared<A>) -> u64
         requires { IsReady self.old (asked_by call.now) prepared }
         ensures does { Does self.old self.new (asked_by call.now) }
@@ -231,13 +234,13 @@ impl<A: Allocator + Copy> Desk<A> {
 
     fn apply(&mut self, edits: Edits<Edit<A>, A>)
         requires fits { fits self.old.desk edits ≡ true }
-        requires room { (0 < self.old.room) × (self.old.version < call_limit) }
+        requires capacity { (0 < self.old.spare) × (self.old.version < call_limit) }
         ensures does { (self.new.desk ≡ after self.old.desk edits)
             × (self.new.done ≡ self.old.done ++ edits ∷ [])
             × (self.new.undone ≡ []) }
         ensures version { self.new.version ≡ self.old.version + 1 }
     {
-        // The history has room for the edits, and no more calls are done than were accepted.
+        // The history has the capacity for the edits, and no more calls are done than were accepted.
         if self.history.push(edits).is_err() {
             unreachable!();
         }

@@ -11,7 +11,7 @@ use Rattle.desk_edit.specs.Groups.{desk_after_all, size_refused, part_refused}
 use Rattle.desk_edit.specs.Reasons.{refusal_of_group}
 use Rattle.desk_edit.specs.Refusals.{refused}
 
--- what the accepted calls have come to: two lists of groups of commands, of which one alone is a group too, over the desk of the start, and how many calls were accepted
+-- what the accepted calls have led to: the desk of the start, the groups of commands that are done and those that are undone (a single command is a group too), and how many calls were accepted
 pub record CallHistory : Type 0 where
   pub start : Desk
   pub done : List (List Command)
@@ -27,16 +27,19 @@ no_calls start = record { start = start; done = []; undone = []; accepted = 0 }
 abbrev pub desk_now : CallHistory → Desk
 desk_now h = fold desk_after_all h.start h.done
 
--- so many calls can be accepted: 2 ^ 20 (own)
+-- the most calls that can be accepted: 2 ^ 20 (own)
 abbrev pub call_limit : ℕ
 call_limit = 1048576
 
--- what stands against a command first, or else that the log is full
+-- the first reason against a command, or else that the log is full
 abbrev pub or_log_full : Option Refusal → ℕ → Option Refusal
 or_log_full (Some why) version = Some why
 or_log_full None version = if nat_eq version call_limit then Some LogFull else None
 
--- the first reason against a call, want of memory apart, where so many calls were accepted, so many commands are done and so many undone: of a command its own; of a group that it has too few or too many commands, then that the log is full, then what stands against its first command that is refused; an undo or a redo has to name the last accepted call, and there has to be something to undo or to do again
+-- the first reason against a call, out of memory apart, by the number of accepted calls, the desk, and how many commands
+-- are done and undone. A command: its own reason, then a full log. A group: too few or too many commands, a full log, then
+-- the reason against its first refused command. An undo or a redo: another call than the last accepted one, nothing to
+-- undo or redo, a full log.
 abbrev pub refusal_at : ℕ → Desk → ℕ → ℕ → CallOf → Option Refusal
 refusal_at version d done undone (Apply command) = or_log_full (refused d command) version
 refusal_at version d done undone (Group commands) =
@@ -55,7 +58,7 @@ refusal_at version d done undone (Redo last) =
 abbrev pub refusal_of : CallHistory → CallOf → Option Refusal
 refusal_of h call = refusal_at h.accepted (desk_now h) (length h.done) (length h.undone) call
 
--- what stands against a call as far as it is judged when memory may first be wanted: a group by its size, the log and its first command, any other call as a whole
+-- the first reason against a call as far as it is judged before it takes memory: a group by its size, the log and its first command, any other call as a whole
 abbrev pub early_refusal_at : ℕ → Desk → ℕ → ℕ → CallOf → Option Refusal
 early_refusal_at version d done undone (Group commands) =
     option_or (option_map refusal_of_group (size_refused (length commands)))
@@ -71,7 +74,7 @@ front [] = []
 front (x ∷ []) = []
 front (x ∷ y ∷ ys) = x ∷ front (y ∷ ys)
 
--- the last element of a list alone, and nothing of an empty list
+-- the last element as a list, empty for an empty list
 abbrev pub final : {X : Type 0} → List X → List X
 final [] = []
 final (x ∷ []) = x ∷ []

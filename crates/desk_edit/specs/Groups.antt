@@ -14,12 +14,12 @@ use Rattle.desk_edit.specs.Refusals.{reason_against}
 abbrev pub desk_after_all : Desk → List Command → Desk
 desk_after_all d commands = fold desk_after d commands
 
--- what stands against this command, or else against a later one
+-- the reason against this command, or else against a later one
 abbrev pub part_or_later : ℕ → Option Reason → Option GroupRefusal → Option GroupRefusal
 part_or_later part (Some why) later = Some (Part part why)
 part_or_later part None later = later
 
--- what stands against the first command that is refused at the desk after those before it, where the first of all has this number
+-- the reason against the first command that is refused on the desk after those before it; the first of all has this number
 abbrev pub part_refused : ℕ → Desk → List Command → Option GroupRefusal
 part_refused part d [] = None
 part_refused part d (command ∷ commands) = part_or_later part (reason_against d command) (part_refused (part + 1) (desk_after d command) commands)
@@ -28,6 +28,6 @@ part_refused part d (command ∷ commands) = part_or_later part (reason_against 
 abbrev pub size_refused : ℕ → Option GroupRefusal
 size_refused count = if nat_eq count 0 then Some Empty else (if nat_lt group_limit count then Some TooLong else None)
 
--- what stands against a group, want of memory apart
+-- the first reason against a group, out of memory apart
 abbrev pub group_refused : Desk → List Command → Option GroupRefusal
 group_refused d commands = option_or (size_refused (length commands)) (part_refused 0 d commands)

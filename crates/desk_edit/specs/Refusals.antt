@@ -41,7 +41,7 @@ abbrev pub first_case : {X : Type 0} → List (Bool × X) → Option X
 first_case [] = None
 first_case (c ∷ cs) = if c.0 then Some c.1 else first_case cs
 
--- what is told where a row of this kind has to be there and isn't
+-- the refusal if a row of this kind is missing
 abbrev pub missing : Kind → Reason
 missing kinds.Room = reasons.NoRoom
 missing kinds.Member = reasons.NoMember
@@ -146,7 +146,7 @@ is_mismatch d r = is_of kinds.Member r && not (all_suit d r)
 abbrev pub rate_cases : Desk → Row → List (Bool × Reason)
 rate_cases d r = (is_mismatch d r, reasons.RateMismatch) ∷ []
 
--- against a row, by number: it is there; what it names is missing; it breaks a rule; there is no room for it; its rate is another
+-- the reasons against a row, by number: it exists; what it names is missing; it breaks a rule; its table is full; its rate is another
 abbrev pub put_cases : Desk → Row → List (Bool × Reason)
 put_cases d r = (is_there d r, reasons.Exists) ∷ (lacking d (names r) ++ (rule_cases d r ++ (full_cases d r ++ (audio_cases d r ++ rate_cases d r))))
 
@@ -199,6 +199,6 @@ cases_of d (Move member room) = move_cases d member room
 unfoldable pub reason_against : Desk → Command → Option Reason
 reason_against d command = first_case (cases_of d (form_of command))
 
--- the refusal of least number that holds, want of memory apart
+-- the refusal of least number that holds, out of memory apart
 unfoldable pub refused : Desk → Command → Option Refusal
 refused d command = option_map refusal_for (first_case (cases_of d (form_of command)))

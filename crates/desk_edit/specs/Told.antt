@@ -1,4 +1,4 @@
--- How refusals are told (own): one table of numbers, names, and what each carries.
+-- How refusals are reported (own): one table of numbers, names, and what each carries.
 use Rattle.std.specs.Prelude.{ℕ, List, codes}
 use Rattle.desk_edit.specs.declared.refusal.Table.{Table}
 use Rattle.desk_edit.specs.declared.refusal.Table.TheVariants.{Rooms, Members, Sources, Slots, Gains, RoomAudio}

@@ -65,7 +65,7 @@ fn plan_parts<A: Allocator + Copy>(
     edits: &mut Vec<Edit<A>, A>,
 ) -> Result<(), GroupRefusal>
     requires few { vec_len edits.old + length commands.now ≤ MAX_GROUP }
-    requires room { MAX_GROUP ≤ vec_capacity edits.old }
+    requires capacity { MAX_GROUP ≤ vec_capacity edits.old }
     ensures carries_out { OnOk result (Carries rows.old commands.now edits.old.items edits.new.items) }
     ensures accepted { OnOk result (part_refused (vec_len edits.old) rows.old commands.now ≡ None) }
     ensures first { IfErr result (λ why. why ≢ GroupRefusal.OutOfMemory

@@ -40,7 +40,7 @@ pub enum Reason {
     SsrcTaken,
     /// A value is out of range.
     BadValue,
-    /// The row is already as it would be.
+    /// The row is already as wanted.
     Already,
     /// There is no such row to remove.
     NotThere,
@@ -51,7 +51,7 @@ pub enum Reason {
         /// Its limit.
         limit: u32,
     },
-    /// The room is at another clock rate than the member's codec, or than the room that the member leaves.
+    /// The room's clock rate doesn't carry the member's codec, or isn't that of the room that the member leaves.
     RateMismatch,
 }
 

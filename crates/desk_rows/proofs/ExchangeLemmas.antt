@@ -152,7 +152,7 @@ all_members : (ms : List Member) → count_by (λ m. is_of kinds.Member (rows.Me
 all_members [] = refl
 all_members (m ∷ ms) = let rest = all_members ms in omega (arith, rest, count_next (λ m. is_of kinds.Member (rows.Member m)) m ms)
 
--- the tables of a good desk have room for its rows
+-- the tables of a good desk have the capacity for its rows
 pub few_rows : (d : Desk) → good d ≡ true → (length d.members ≤ member_limit) × (length d.others ≤ other_limit)
 unfolding owner_rank
 few_rows d g =

@@ -19,9 +19,13 @@ found_one p rs r once one e =
     let f = found_once p (same_row r) (λ x s. ap p (sym (same_row_is r x s)) ∙ e) rs (some_count (same_row r) rs one) once in
     f.1 ∙ ap Some (sym (same_row_is r f.0 f.2))
 
+-- what is found passes the test, and any other that it passes is passed by one
+found_among : (one p : Row → Bool) (r : Row) → one r ≡ true → (rs : List Row) → find p rs ≡ Some r → (list_any one rs ≡ true) × (p r ≡ true)
+found_among one p r its [] h = cc
+found_among one p r its (x ∷ rs) h = grind (arith, h, its, found_among one p r its rs)
+
 pub found_there : (p : Row → Bool) (rs : List Row) (r : Row) → find p rs ≡ Some r → (is_in rs r ≡ true) × (p r ≡ true)
-found_there p [] r h = cc
-found_there p (x ∷ rs) r h = grind (arith, h, row_itself r, found_there p rs r)
+found_there p rs r h = found_among (same_row r) p r (row_itself r) rs h
 
 -- ---- how often a key is there
 

@@ -76,7 +76,7 @@ is_bridges d (claims.Place member index) = false
 abbrev pub is_made_once : Desk → Claim → Bool
 is_made_once d claim = nat_eq (count_by (makes claim) (rows_of d)) 1 && not (is_bridges d claim)
 
--- what a row has to itself it has alone
+-- no other row makes a claim of this row, nor does the bridge
 abbrev pub is_alone : Desk → Row → Bool
 is_alone d r = list_all (is_made_once d) (claims_of r)
 
@@ -121,7 +121,7 @@ abbrev pub are_together : Desk → List Key → Bool
 are_together d (a ∷ b ∷ []) = same_room (room_at d a) (room_at d b)
 are_together d _ = true
 
--- what a row names is what it wants
+-- each row that a row names is of the kind that it wants
 abbrev pub all_suit : Desk → Row → Bool
 all_suit d r = list_all (λ key. suits (wants r) (row_at d key)) (names r)
 
@@ -142,7 +142,7 @@ has_few_audio d (rows.Gain g) = true
 has_few_audio d (rows.Pin p) = true
 has_few_audio d (rows.Floor f) = true
 
--- the rule of rows: values are in their ranges, a room has few audio sources, and what a row names is what it wants, and in one room
+-- the rule of rows: values are in their ranges, a room has few audio sources, and what a row names is of the kind that it wants and in one room
 abbrev pub obeys : Desk → Row → Bool
 obeys d r = (is_in_range r && has_few_audio d r) && (all_suit d r && are_together d (names r))
 

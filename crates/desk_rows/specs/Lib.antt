@@ -1,6 +1,7 @@
 pub mod Numbers
 pub mod Few
 pub mod Limits
+pub mod Values
 pub mod Row
 pub mod Kinds
 pub mod Order

@@ -1,23 +1,23 @@
 -- The limits of a desk (own).
 use Rattle.std.specs.Prelude.{ℕ, ◌+◌, ◌*◌}
 
--- so many rooms there may be
+-- the most rooms
 abbrev pub room_limit : ℕ
 room_limit = 64
 
--- so many members in all rooms
+-- the most members in all rooms
 abbrev pub member_limit : ℕ
 member_limit = 1024
 
--- so many sources
+-- the most sources
 abbrev pub source_limit : ℕ
 source_limit = 2048
 
--- so many slots
+-- the most slots
 abbrev pub slot_limit : ℕ
 slot_limit = 4096
 
--- so many audio sources in one room
+-- the most audio sources in one room
 abbrev pub room_audio_limit : ℕ
 room_audio_limit = 64
 
@@ -25,7 +25,7 @@ room_audio_limit = 64
 abbrev pub index_limit : ℕ
 index_limit = 15
 
--- so many gains
+-- the most gains
 abbrev pub gain_limit : ℕ
 gain_limit = 65536
 
@@ -33,6 +33,6 @@ gain_limit = 65536
 abbrev pub q8_limit : ℕ
 q8_limit = 1024
 
--- so many rows beside the members: gains, rooms with a pin and a floor each, sources with a mute each, and slots with a sub each
+-- the most rows beside the members: gains, rooms with a pin and a floor each, sources with a mute each, and slots with a sub each
 abbrev pub other_limit : ℕ
 other_limit = gain_limit + 3 * room_limit + 2 * source_limit + 2 * slot_limit

@@ -1,4 +1,4 @@
--- Lists of numbers, by which keys and rows are told apart and stand in order.
+-- Lists of numbers, which tell keys and rows apart and put them in order.
 use Rattle.std.specs.Prelude.{ℕ, Bool, true, false, ◌&&◌, ◌||◌, List, [], ◌∷◌, nat_eq, nat_lt}
 
 -- whether two lists are one: number by number

@@ -1,5 +1,5 @@
--- Rows: each kind is told here once, by its numbers, its key, what it names and what it claims.
-use Rattle.std.specs.Prelude.{ℕ, Bool, true, not, ◌||◌, List, [], ◌∷◌, ◌++◌, nat_eq, nat_le, Option, None, Some}
+-- Rows: each kind is described here once, by its key, what it names and what it claims.
+use Rattle.std.specs.Prelude.{ℕ, Bool, true, not, ◌&&◌, ◌||◌, List, [], ◌∷◌, ◌++◌, nat_eq, nat_le, Option, Some}
 use Rattle.std.specs.List.{list_any}
 use Rattle.desk_rows.specs.declared.row.Codec.{Codec}
 use Rattle.desk_rows.specs.declared.row.Codec.TheVariants as codecs
@@ -14,11 +14,12 @@ use Rattle.desk_rows.specs.declared.key.Key.TheVariants as keys
 use Rattle.desk_rows.specs.declared.claim.Claim.{Claim}
 use Rattle.desk_rows.specs.declared.claim.Claim.TheVariants as claims
 use Rattle.desk_rows.specs.Numbers.{same_numbers}
+use Rattle.desk_rows.specs.Values.{row_values, media_number, same_values}
 use Rattle.desk_rows.specs.Limits.{index_limit, q8_limit}
 
 -- ---- keys
 
--- the place of a kind among the kinds: gains, which may be many, stand first, so that only a gain that comes or goes moves them
+-- the place of a kind among the kinds: gains, which may be many, come first, so that only a change of a gain moves them
 abbrev pub rank : Kind → ℕ
 rank kinds.Gain = 0
 rank kinds.Room = 1
@@ -80,35 +81,13 @@ has_key key r = same_key (key_of r) key
 
 -- ---- rows
 
--- a codec as a number
-abbrev pub codec_number : Codec → ℕ
-codec_number codecs.Pcmu = 0
-codec_number codecs.L16 = 1
-
--- a kind of media as a number
-abbrev pub media_number : Media → ℕ
-media_number medias.Audio = 0
-media_number medias.Video = 1
-
 -- two kinds of media are one
 abbrev pub same_media : Media → Media → Bool
 same_media a b = nat_eq (media_number a) (media_number b)
 
--- the numbers that tell a row from all others: its kind's, and those of its fields before as many 0 as make twelve
-abbrev pub row_numbers : Row → List ℕ
-row_numbers (Room r) = 1 ∷ r.room ∷ r.rate ∷ 0 ∷ 0 ∷ 0 ∷ 0 ∷ 0 ∷ 0 ∷ 0 ∷ 0 ∷ 0 ∷ []
-row_numbers (Member m) = 2 ∷ m.member ∷ m.room ∷ codec_number m.codec ∷ m.out_audio ∷ m.first_seq ∷ m.first_ts ∷ m.address.port ∷ m.address.ip
-row_numbers (Source s) = 3 ∷ s.ssrc ∷ s.member ∷ media_number s.media ∷ 0 ∷ 0 ∷ 0 ∷ 0 ∷ 0 ∷ 0 ∷ 0 ∷ 0 ∷ []
-row_numbers (Slot s) = 4 ∷ s.out_ssrc ∷ s.member ∷ s.index ∷ s.first_seq ∷ s.first_ts ∷ 0 ∷ 0 ∷ 0 ∷ 0 ∷ 0 ∷ 0 ∷ []
-row_numbers (Sub s) = 5 ∷ s.out_ssrc ∷ s.source ∷ 0 ∷ 0 ∷ 0 ∷ 0 ∷ 0 ∷ 0 ∷ 0 ∷ 0 ∷ 0 ∷ []
-row_numbers (Mute m) = 6 ∷ m.source ∷ 0 ∷ 0 ∷ 0 ∷ 0 ∷ 0 ∷ 0 ∷ 0 ∷ 0 ∷ 0 ∷ 0 ∷ []
-row_numbers (Gain g) = 0 ∷ g.member ∷ g.source ∷ g.q8 ∷ 0 ∷ 0 ∷ 0 ∷ 0 ∷ 0 ∷ 0 ∷ 0 ∷ 0 ∷ []
-row_numbers (Pin p) = 7 ∷ p.room ∷ p.source ∷ 0 ∷ 0 ∷ 0 ∷ 0 ∷ 0 ∷ 0 ∷ 0 ∷ 0 ∷ 0 ∷ []
-row_numbers (Floor f) = 8 ∷ f.room ∷ f.member ∷ 0 ∷ 0 ∷ 0 ∷ 0 ∷ 0 ∷ 0 ∷ 0 ∷ 0 ∷ 0 ∷ []
-
--- whether two rows are one
+-- whether two rows are one: of one kind, and with the same values
 abbrev pub same_row : Row → Row → Bool
-same_row a b = same_numbers (row_numbers a) (row_numbers b)
+same_row a b = nat_eq (rank (kind_of (key_of a))) (rank (kind_of (key_of b))) && same_values (row_values a) (row_values b)
 
 -- ---- what a row needs of others
 
@@ -162,7 +141,7 @@ abbrev pub carries : ℕ → Codec → Bool
 carries rate codecs.Pcmu = nat_eq rate 8000
 carries rate codecs.L16 = true
 
--- whether what was found under a name is what is wanted
+-- whether the row that was found under a name is of the kind that is wanted
 abbrev pub suits : Want → Option Row → Bool
 suits (Sends media) (Some (Source s)) = same_media s.media media
 suits (Carries codec) (Some (Room r)) = carries r.rate codec

@@ -25,14 +25,14 @@ use std::alloc::Allocator;
 /// A desk and an edit of it. The rows that go are there, those that come have places, and each replaced row keeps its
 /// key.
 #[derive(Drop)]
-pub(crate) struct Exchange<'a, A: Allocator + Copy> {
+pub(crate) struct RowExchange<'a, A: Allocator + Copy> {
     pub(crate) rows: &'a Rows<A>,
     pub(crate) edit: &'a Edit<A>,
     ghost good: { good rows.now ≡ true },
     ghost apt: { is_apt rows.now edit.now ≡ true },
 }
 
-impl<A: Allocator + Copy> Exchange<'_, A> {
+impl<A: Allocator + Copy> RowExchange<'_, A> {
     /// Whether the edit takes a row with this key.
     pub(crate) fn takes(&self, key: Key) -> bool
         ensures { result ≡ takes self.now.edit.now key }
@@ -205,6 +205,6 @@ pub(crate) fn fits<A: Allocator + Copy>(rows: &Rows<A>, edit: &Edit<A>) -> bool
     if !is_apt(rows, edit) {
         return false;
     }
-    let exchange = Exchange { rows, edit };
+    let exchange = RowExchange { rows, edit };
     exchange.is_good()
 }

@@ -117,10 +117,10 @@ fn take_entry<T: Grouped, A: Allocator>(table: &mut Vec<T, A>, one: &T)
     table.remove(place);
 }
 
-/// Puts the entry in. There is room for it.
+/// Puts the entry in. The tables have the capacity.
 fn put_entry<T: Grouped, A: Allocator>(table: &mut Vec<T, A>, one: &T)
     requires order { stand_by (in_turn T.group T.turn) table.old.items ≡ true }
-    requires room { vec_len table.old + 1 ≤ vec_capacity table.old }
+    requires capacity { vec_len table.old + 1 ≤ vec_capacity table.old }
     ensures order { stand_by (in_turn T.group T.turn) table.new.items ≡ true }
     ensures put { (p : T → Bool) → count_by p table.new.items ≡ count_by p table.old.items + cond (p one.now) 1 0 }
     ensures len { vec_len table.new ≡ vec_len table.old + 1 }
@@ -150,10 +150,11 @@ fn take_each<T: Grouped, A: Allocator>(table: &mut Vec<T, A>, rows: &[Row])
     }
 }
 
-/// Puts in the entries of these rows. There is room for them.
+/// Puts in the entries of these rows. The tables have the capacity.
 fn put_each<T: Grouped, A: Allocator>(table: &mut Vec<T, A>, rows: &[Row])
     requires order { stand_by (in_turn T.group T.turn) table.old.items ≡ true }
-    requires room { vec_len table.old + count_by (passes_in T.in_row (λ x. true)) rows.now ≤ vec_capacity table.old }
+    requires capacity { vec_len table.old + count_by (passes_in T.in_row (λ x. true)) rows.now
+        ≤ vec_capacity table.old }
     ensures order { stand_by (in_turn T.group T.turn) table.new.items ≡ true }
     ensures put { (p : T → Bool)
         → count_by p table.new.items ≡ count_by p table.old.items + count_by (passes_in T.in_row p) rows.now }
@@ -169,7 +170,7 @@ fn put_each<T: Grouped, A: Allocator>(table: &mut Vec<T, A>, rows: &[Row])
 }
 
 /// Exchanges the entries of the rows that go for those of the rows that come, one by one. The table has the former, and
-/// room for the latter.
+/// the capacity for the latter.
 fn exchange_each<T: Grouped, A: Allocator>(
     table: &mut Vec<T, A>,
     taken: &[Row],
@@ -181,7 +182,7 @@ fn exchange_each<T: Grouped, A: Allocator>(
     requires there { (p : T → Bool)
         → count_by (passes_in T.in_row p) taken.now + count_by (passes_in T.in_row p) old.now
         ≤ count_by p table.old.items }
-    requires room { count_by (λ x. true) table.old.items
+    requires capacity { count_by (λ x. true) table.old.items
         + (count_by (passes_in T.in_row (λ x. true)) put.now + count_by (passes_in T.in_row (λ x. true)) new.now)
         ≤ vec_capacity table.old
         + (count_by (passes_in T.in_row (λ x. true)) taken.now + count_by (passes_in T.in_row (λ x. true)) old.now) }
@@ -231,7 +232,7 @@ pub(crate) fn follow<T: Grouped, A: Allocator + Copy>(
         ≡ count_by (passes_in T.in_row p) others.now
         + (count_by (passes_in T.in_row p) edit.now.taken.others
         + count_by (passes_in T.in_row p) edit.now.replaced.old) }
-    requires room { length (filter (is_of T.kind) others.now) ≤ vec_capacity table.old }
+    requires capacity { length (filter (is_of T.kind) others.now) ≤ vec_capacity table.old }
     ensures table { IsTableOf T.in_row T.group T.turn others.now table.new.items }
     ensures capacity { vec_capacity table.old ≤ vec_capacity table.new }
 {

@@ -16,13 +16,13 @@ use std::alloc::Allocator;
 
 /// A member's number, and its place in the list of members.
 #[derive(Clone, Copy)]
-pub(crate) struct Entry {
+pub(crate) struct IndexEntry {
     pub(crate) member: u32,
     pub(crate) place: usize,
 }
 
 /// The entry of this number, by binary search.
-pub(crate) fn entry_of(index: &[Entry], member: u32) -> Option<Entry>
+pub(crate) fn entry_of(index: &[IndexEntry], member: u32) -> Option<IndexEntry>
     requires { IsNonDecreasingBy (λ e. e.member) index.now }
     ensures { result ≡ entry_in index.now member }
 {
@@ -42,7 +42,7 @@ pub(crate) fn entry_of(index: &[Entry], member: u32) -> Option<Entry>
 /// and by room are made anew.
 pub(crate) fn move_members<A: Allocator>(
     members: &mut Vec<Member, A>,
-    index: &mut Vec<Entry, A>,
+    index: &mut Vec<IndexEntry, A>,
     by_address: &mut Vec<Member, A>,
     by_room: &mut Vec<Member, A>,
     taken: &[Placed],
@@ -55,7 +55,7 @@ pub(crate) fn move_members<A: Allocator>(
     requires put { can_put put.now (take_at taken.now members.old.items) ≡ true }
     requires numbers { (n : ℕ)
         → count_by (λ m. nat_eq m.member n) (put_at put.now (take_at taken.now members.old.items)) ≤ 1 }
-    requires room { (length (take_at taken.now members.old.items) + length put.now ≤ vec_capacity members.old)
+    requires capacity { (length (take_at taken.now members.old.items) + length put.now ≤ vec_capacity members.old)
         × (length (take_at taken.now members.old.items) + length put.now ≤ vec_capacity index.old)
         × (length (take_at taken.now members.old.items) + length put.now ≤ vec_capacity by_address.old)
         × (length (take_at taken.now members.old.items) + length put.now ≤ vec_capacity by_room.old) }
@@ -79,9 +79,9 @@ pub(crate) fn move_members<A: Allocator>(
 }
 
 /// Makes the index of these members, within its capacity.
-fn index_members<A: Allocator>(index: &mut Vec<Entry, A>, members: &[Member])
+fn index_members<A: Allocator>(index: &mut Vec<IndexEntry, A>, members: &[Member])
     requires numbers { (n : ℕ) → count_by (λ m. nat_eq m.member n) members.now ≤ 1 }
-    requires room { length members.now ≤ vec_capacity index.old }
+    requires capacity { length members.now ≤ vec_capacity index.old }
     ensures index { IsIndex members.now index.new.items }
     ensures capacity { vec_capacity index.old ≤ vec_capacity index.new }
 {
@@ -90,7 +90,7 @@ fn index_members<A: Allocator>(index: &mut Vec<Entry, A>, members: &[Member])
 }
 
 /// Lists the members' numbers with their places.
-fn list_places<A: Allocator>(index: &mut Vec<Entry, A>, members: &[Member])
+fn list_places<A: Allocator>(index: &mut Vec<IndexEntry, A>, members: &[Member])
     requires { length members.now ≤ vec_capacity index.old }
     ensures items { index.new.items ≡ entries_from 0 members.now }
     ensures capacity { vec_capacity index.old ≤ vec_capacity index.new }
@@ -99,7 +99,7 @@ fn list_places<A: Allocator>(index: &mut Vec<Entry, A>, members: &[Member])
     let mut rest = members;
     while let Some((member, later)) = rest.split_first() {
         let place = index.len();
-        index.push_reserved(Entry {
+        index.push_reserved(IndexEntry {
             member: member.member,
             place,
         });

@@ -7,18 +7,27 @@ ghost use Rattle.desk_rows.specs.Row.{kind_of, rank, key_numbers, same_key, owne
 /// The key of a row: its kind and one number, or two for a gain. No two rows of a desk have one key.
 #[derive(Clone, Copy)]
 pub enum Key {
+    /// A room, by its number.
     Room(u32),
+    /// A member, by its number.
     Member(u32),
+    /// A source, by its SSRC.
     Source(u32),
+    /// A slot, by the SSRC of its stream.
     Slot(u32),
+    /// A subscription, by the SSRC of its slot's stream.
     Sub(u32),
+    /// A mute, by the SSRC of its source.
     Mute(u32),
+    /// A gain, by the number of the member that hears and the SSRC of the source.
     Gain { member: u32, source: u32 },
+    /// A pin, by the number of its room.
     Pin(u32),
+    /// A floor, by the number of its room.
     Floor(u32),
 }
 
-/// The kinds of row.
+/// The kind of a row.
 #[derive(Clone, Copy)]
 pub enum Kind {
     Room,

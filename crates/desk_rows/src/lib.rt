@@ -43,6 +43,7 @@ mod searching;
 mod sliding;
 mod staying;
 mod sweeping;
+mod values;
 
 pub use self::claim::Claim;
 pub use self::edit::{Edit, Part, Placed, Replaced};
@@ -60,3 +61,4 @@ pub use self::row::{
     Source, Sub,
 };
 pub use self::rows::Rows;
+pub use self::values::{MOST_VALUES, RowValue, RowValues};

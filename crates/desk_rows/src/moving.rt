@@ -12,7 +12,7 @@ ghost use Rattle.desk_rows.specs.inner.Roomed.{IsByRoom};
 ghost use Rattle.desk_rows.specs.inner.Judged.{HasOrders, OnlyReplaces};
 
 use crate::borrowed::EditLists;
-use crate::index::{Entry, move_members};
+use crate::index::{IndexEntry, move_members};
 use crate::row::{Member, Row};
 use crate::sliding::replace_one;
 use crate::sweeping::{put_rows, take_rows};
@@ -21,7 +21,7 @@ use std::alloc::Allocator;
 /// Takes the members that go from their places, and puts those that come at theirs.
 pub(crate) fn exchange_members<A: Allocator + Copy>(
     members: &mut Vec<Member, A>,
-    index: &mut Vec<Entry, A>,
+    index: &mut Vec<IndexEntry, A>,
     by_address: &mut Vec<Member, A>,
     by_room: &mut Vec<Member, A>,
     edit: &EditLists<'_>,
@@ -36,13 +36,13 @@ pub(crate) fn exchange_members<A: Allocator + Copy>(
         (λ m. nat_eq m.member n) (put_at edit.now.put.members (take_at edit.now.taken.members members.old.items)) ≤ 1 }
     requires few { length (take_at edit.now.taken.members members.old.items) + length edit.now.put.members
         ≤ MAX_MEMBERS }
-    requires room { (MAX_MEMBERS ≤ vec_capacity members.old) × (MAX_MEMBERS ≤ vec_capacity index.old)
+    requires capacity { (MAX_MEMBERS ≤ vec_capacity members.old) × (MAX_MEMBERS ≤ vec_capacity index.old)
         × (MAX_MEMBERS ≤ vec_capacity by_address.old) × (MAX_MEMBERS ≤ vec_capacity by_room.old) }
     ensures items { members.new.items ≡ put_at edit.now.put.members (take_at edit.now.taken.members members.old.items) }
     ensures index { IsIndex members.new.items index.new.items }
     ensures addresses { IsByAddress members.new.items by_address.new.items }
     ensures rooms { IsByRoom members.new.items by_room.new.items }
-    ensures room { (MAX_MEMBERS ≤ vec_capacity members.new) × (MAX_MEMBERS ≤ vec_capacity index.new)
+    ensures capacity { (MAX_MEMBERS ≤ vec_capacity members.new) × (MAX_MEMBERS ≤ vec_capacity index.new)
         × (MAX_MEMBERS ≤ vec_capacity by_address.new) × (MAX_MEMBERS ≤ vec_capacity by_room.new) }
 {
     let (taken, put) = (edit.taken_members(), edit.put_members());
@@ -61,7 +61,7 @@ fn only_replaced(edit: &EditLists<'_>) -> Option<(Row, Row)>
     None
 }
 
-/// Takes the other rows that go, and puts those that come where they keep the order. There is room for them.
+/// Takes the other rows that go, and puts those that come where they keep the order. The tables have the capacity.
 #[tactic(auto, using(crate::proofs::Together::in_turn))]
 fn move_rows<A: Allocator + Copy>(
     others: &mut Vec<Row, A>,
@@ -74,16 +74,17 @@ fn move_rows<A: Allocator + Copy>(
     requires apart { are_apart edit.now.put.others edit.now.replaced.new ≡ true }
     requires later { in_order (with_rows (ins edit.now) (without_rows (outs edit.now) others.old.items)) ≡ true }
     requires few { length (with_rows (ins edit.now) (without_rows (outs edit.now) others.old.items)) ≤ MAX_OTHERS }
-    requires room { (MAX_OTHERS ≤ vec_capacity others.old) × (MAX_OTHERS ≤ vec_capacity spare.old) }
+    requires capacity { (MAX_OTHERS ≤ vec_capacity others.old) × (MAX_OTHERS ≤ vec_capacity spare.old) }
     ensures items { others.new.items ≡ with_rows (ins edit.now) (without_rows (outs edit.now) others.old.items) }
-    ensures room { (MAX_OTHERS ≤ vec_capacity others.new) × (MAX_OTHERS ≤ vec_capacity spare.new) }
+    ensures capacity { (MAX_OTHERS ≤ vec_capacity others.new) × (MAX_OTHERS ≤ vec_capacity spare.new) }
 {
     take_rows(others, spare, edit.taken_others(), edit.old());
     put_rows(others, spare, edit.put_others());
     put_rows(others, spare, edit.new());
 }
 
-/// Takes the other rows that go, and puts those that come. A single replaced row is overwritten. There is room for all.
+/// Takes the other rows that go, and puts those that come. A single replaced row is overwritten. The tables have the
+/// capacity.
 pub(crate) fn exchange_rows<A: Allocator + Copy>(
     others: &mut Vec<Row, A>,
     spare: &mut Vec<Row, A>,
@@ -97,9 +98,9 @@ pub(crate) fn exchange_rows<A: Allocator + Copy>(
     requires apart { are_apart edit.now.put.others edit.now.replaced.new ≡ true }
     requires later { in_order (with_rows (ins edit.now) (without_rows (outs edit.now) others.old.items)) ≡ true }
     requires few { length (with_rows (ins edit.now) (without_rows (outs edit.now) others.old.items)) ≤ MAX_OTHERS }
-    requires room { (MAX_OTHERS ≤ vec_capacity others.old) × (MAX_OTHERS ≤ vec_capacity spare.old) }
+    requires capacity { (MAX_OTHERS ≤ vec_capacity others.old) × (MAX_OTHERS ≤ vec_capacity spare.old) }
     ensures items { others.new.items ≡ with_rows (ins edit.now) (without_rows (outs edit.now) others.old.items) }
-    ensures room { (MAX_OTHERS ≤ vec_capacity others.new) × (MAX_OTHERS ≤ vec_capacity spare.new) }
+    ensures capacity { (MAX_OTHERS ≤ vec_capacity others.new) × (MAX_OTHERS ≤ vec_capacity spare.new) }
 {
     match only_replaced(edit) {
         Some((old, new)) => replace_one(others, &old, &new),

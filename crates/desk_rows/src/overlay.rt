@@ -17,7 +17,7 @@ ghost use Rattle.desk_rows.specs.inner.Judged.{is_sound_beside, all_come};
 
 use crate::claim::Claim;
 use crate::counting::{Test, count_members, count_rows};
-use crate::exchange::Exchange;
+use crate::exchange::RowExchange;
 use crate::few::Few;
 use crate::key::{Key, Kind};
 use crate::limits::{MAX_GAINS, MAX_MEMBERS, MAX_ROOM_AUDIO, MAX_ROOMS, MAX_SLOTS, MAX_SOURCES};
@@ -28,7 +28,7 @@ use std::alloc::Allocator;
 /// A desk and an edit of it. No row comes under the key of another.
 #[derive(Drop)]
 pub(crate) struct Overlay<'a, A: Allocator + Copy> {
-    pub(crate) of: Exchange<'a, A>,
+    pub(crate) of: RowExchange<'a, A>,
     ghost keyed: { IsKeyed (exchanged of.rows.now of.edit.now) },
 }
 

@@ -83,10 +83,10 @@ pub(crate) fn take_members<A: Allocator>(members: &mut Vec<Member, A>, placed: &
     }
 }
 
-/// Puts these rows at their places, the first one first. There is room for them.
+/// Puts these rows at their places, the first one first. The tables have the capacity.
 pub(crate) fn put_members<A: Allocator>(members: &mut Vec<Member, A>, placed: &[Placed])
     requires can { can_put placed.now members.old.items ≡ true }
-    requires room { vec_len members.old + length placed.now ≤ vec_capacity members.old }
+    requires capacity { vec_len members.old + length placed.now ≤ vec_capacity members.old }
     ensures items { members.new.items ≡ put_at placed.now members.old.items }
     ensures capacity { vec_capacity members.old ≤ vec_capacity members.new }
 {

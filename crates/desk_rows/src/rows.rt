@@ -14,7 +14,7 @@ use crate::addressing::find_at;
 use crate::borrowed::EditLists;
 use crate::following::follow;
 use crate::grouping::group_of;
-use crate::index::{Entry, entry_of};
+use crate::index::{IndexEntry, entry_of};
 use crate::key::{Key, Kind};
 use crate::limits::{MAX_MEMBERS, MAX_OTHERS, MAX_SLOTS};
 use crate::looking::Look;
@@ -35,7 +35,7 @@ pub struct Rows<A: Allocator + Copy = Global> {
     bridge_ssrc: u32,
     members: Vec<Member, A>,
     /// The members' places, by their numbers.
-    index: Vec<Entry, A>,
+    index: Vec<IndexEntry, A>,
     others: Vec<Row, A>,
     /// A buffer in which an edit merges other rows.
     spare: Vec<Row, A>,
@@ -268,12 +268,12 @@ impl<A: Allocator + Copy> Rows<A> {
 fn copied<T: Copy, A: Allocator>(
     alloc: A,
     items: &[T],
-    room: usize,
+    capacity: usize,
 ) -> Result<Vec<T, A>, AllocError>
     ensures items { IfOk result (λ v. v.items ≡ items.now) }
-    ensures room { IfOk result (λ v. room ≤ vec_capacity v) }
+    ensures capacity { IfOk result (λ v. capacity ≤ vec_capacity v) }
 {
-    let mut all = Vec::with_capacity(alloc, room)?;
+    let mut all = Vec::with_capacity(alloc, capacity)?;
     all.extend_from_slice(items)?;
     Ok(all)
 }

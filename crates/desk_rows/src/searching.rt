@@ -7,7 +7,7 @@ ghost use Rattle.desk_rows.specs.Row.{has_key};
 ghost use Rattle.desk_rows.specs.Order.{in_order, is_in};
 ghost use Rattle.desk_rows.specs.inner.Index.{IsIndex};
 
-use crate::index::{Entry, entry_of};
+use crate::index::{IndexEntry, entry_of};
 use crate::key::Key;
 use crate::ordering::{contains, find_row};
 use crate::row::{Member, Row};
@@ -44,7 +44,7 @@ pub(crate) fn numbers_in<A: Allocator>(
         .collect(alloc)
 }
 
-fn member_with(members: &[Member], index: &[Entry], number: u32) -> Option<Row>
+fn member_with(members: &[Member], index: &[IndexEntry], number: u32) -> Option<Row>
     requires { IsIndex members.now index.now }
     ensures { result ≡ find (has_key (Key.Member number)) (map MemberRow members.now) }
 {
@@ -55,7 +55,12 @@ fn member_with(members: &[Member], index: &[Entry], number: u32) -> Option<Row>
 }
 
 /// The row of this key.
-pub(crate) fn row_with(members: &[Member], index: &[Entry], others: &[Row], key: Key) -> Option<Row>
+pub(crate) fn row_with(
+    members: &[Member],
+    index: &[IndexEntry],
+    others: &[Row],
+    key: Key,
+) -> Option<Row>
     requires index { IsIndex members.now index.now }
     requires order { in_order others.now ≡ true }
     ensures { result ≡ find (has_key key) (map MemberRow members.now ++ others.now) }

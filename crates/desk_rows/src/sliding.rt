@@ -48,10 +48,10 @@ pub(crate) fn take_one<A: Allocator>(rows: &mut Vec<Row, A>, row: &Row)
     }
 }
 
-/// Puts the row in. There is room for it.
+/// Puts the row in. The tables have the capacity.
 pub(crate) fn put_one<A: Allocator>(rows: &mut Vec<Row, A>, row: &Row)
     requires order { in_order rows.old.items ≡ true }
-    requires room { vec_len rows.old + 1 ≤ vec_capacity rows.old }
+    requires capacity { vec_len rows.old + 1 ≤ vec_capacity rows.old }
     ensures items { rows.new.items ≡ with_row row.now rows.old.items }
     ensures capacity { vec_capacity rows.old ≤ vec_capacity rows.new }
 {

@@ -95,7 +95,7 @@ fn without_first<'a>(rows: &'a [Row], row: &Row) -> &'a [Row]
 fn leave_out<A: Allocator>(out: &mut Vec<Row, A>, rows: &[Row], taken: &[Row])
     requires rows { in_order rows.now ≡ true }
     requires taken { in_order taken.now ≡ true }
-    requires room { vec_len out.old + length rows.now ≤ vec_capacity out.old }
+    requires capacity { vec_len out.old + length rows.now ≤ vec_capacity out.old }
     ensures items { out.new.items ≡ out.old.items ++ without_rows taken.now rows.now }
     ensures capacity { vec_capacity out.old ≤ vec_capacity out.new }
 {
@@ -114,7 +114,7 @@ fn leave_out<A: Allocator>(out: &mut Vec<Row, A>, rows: &[Row], taken: &[Row])
 fn sweep_out<A: Allocator>(rows: &mut Vec<Row, A>, spare: &mut Vec<Row, A>, taken: &[Row])
     requires rows { in_order rows.old.items ≡ true }
     requires taken { in_order taken.now ≡ true }
-    requires room { vec_len rows.old ≤ vec_capacity spare.old }
+    requires capacity { vec_len rows.old ≤ vec_capacity spare.old }
     ensures items { rows.new.items ≡ without_rows taken.now rows.old.items }
     ensures capacity { (vec_capacity rows.old ≤ vec_capacity rows.new)
         × (vec_capacity spare.old ≤ vec_capacity spare.new) }
@@ -139,7 +139,7 @@ fn take_many<A: Allocator>(
     requires rows { in_order rows.old.items ≡ true }
     requires taken { in_order taken.now ≡ true }
     requires old { in_order old.now ≡ true }
-    requires room { vec_len rows.old ≤ vec_capacity spare.old }
+    requires capacity { vec_len rows.old ≤ vec_capacity spare.old }
     ensures items { rows.new.items ≡ without_rows (with_rows old.now taken.now) rows.old.items }
     ensures capacity { (vec_capacity rows.old ≤ vec_capacity rows.new)
         × (vec_capacity spare.old ≤ vec_capacity spare.new) }
@@ -161,7 +161,7 @@ pub(crate) fn take_rows<A: Allocator>(
     requires rows { in_order rows.old.items ≡ true }
     requires taken { in_order taken.now ≡ true }
     requires old { in_order old.now ≡ true }
-    requires room { vec_len rows.old ≤ vec_capacity spare.old }
+    requires capacity { vec_len rows.old ≤ vec_capacity spare.old }
     ensures items { rows.new.items ≡ without_rows (with_rows old.now taken.now) rows.old.items }
     ensures capacity { (vec_capacity rows.old ≤ vec_capacity rows.new)
         × (vec_capacity spare.old ≤ vec_capacity spare.new) }
@@ -192,7 +192,7 @@ fn parted_before<'a>(rows: &'a [Row], row: &Row) -> (&'a [Row], &'a [Row])
 fn merge<A: Allocator>(out: &mut Vec<Row, A>, rows: &[Row], put: &[Row])
     requires rows { in_order rows.now ≡ true }
     requires order { in_order put.now ≡ true }
-    requires room { vec_len out.old + (length rows.now + length put.now) ≤ vec_capacity out.old }
+    requires capacity { vec_len out.old + (length rows.now + length put.now) ≤ vec_capacity out.old }
     ensures items { out.new.items ≡ out.old.items ++ with_rows put.now rows.now }
     ensures capacity { vec_capacity out.old ≤ vec_capacity out.new }
 {
@@ -213,7 +213,7 @@ fn merge<A: Allocator>(out: &mut Vec<Row, A>, rows: &[Row], put: &[Row])
 fn sweep_in<A: Allocator>(rows: &mut Vec<Row, A>, spare: &mut Vec<Row, A>, put: &[Row])
     requires rows { in_order rows.old.items ≡ true }
     requires order { in_order put.now ≡ true }
-    requires room { (vec_len rows.old + length put.now ≤ vec_capacity rows.old)
+    requires capacity { (vec_len rows.old + length put.now ≤ vec_capacity rows.old)
         × (vec_len rows.old + length put.now ≤ vec_capacity spare.old) }
     ensures items { rows.new.items ≡ with_rows put.now rows.old.items }
     ensures capacity { (vec_capacity rows.old ≤ vec_capacity rows.new)
@@ -233,7 +233,7 @@ fn sweep_in<A: Allocator>(rows: &mut Vec<Row, A>, spare: &mut Vec<Row, A>, put: 
 pub(crate) fn put_rows<A: Allocator>(rows: &mut Vec<Row, A>, spare: &mut Vec<Row, A>, put: &[Row])
     requires rows { in_order rows.old.items ≡ true }
     requires order { in_order put.now ≡ true }
-    requires room { (vec_len rows.old + length put.now ≤ vec_capacity rows.old)
+    requires capacity { (vec_len rows.old + length put.now ≤ vec_capacity rows.old)
         × (vec_len rows.old + length put.now ≤ vec_capacity spare.old) }
     ensures items { rows.new.items ≡ with_rows put.now rows.old.items }
     ensures capacity { (vec_capacity rows.old ≤ vec_capacity rows.new)

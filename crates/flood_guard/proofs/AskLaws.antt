@@ -15,12 +15,12 @@ use Rattle.flood_guard.proofs.PlaceLemmas.{same_address_is, same_itself}
 use Rattle.flood_guard.proofs.Turns.{address_of, own, IsKept, others}
 
 -- how much of a quota may still be granted in a window, now or later
-abbrev pub room_of : Quota → ℕ → Account → ℕ
-room_of q window a = if nat_lt a.window window then most_of q else (if nat_eq a.window window then most_of q - counted_of q a else 0)
+abbrev pub rest_of : Quota → ℕ → Account → ℕ
+rest_of q window a = if nat_lt a.window window then most_of q else (if nat_eq a.window window then most_of q - counted_of q a else 0)
 
-abbrev pub room_in : Quota → ℕ → Option Account → ℕ
-room_in q window None = 0
-room_in q window (Some a) = room_of q window a
+abbrev pub rest_in : Quota → ℕ → Option Account → ℕ
+rest_in q window None = 0
+rest_in q window (Some a) = rest_of q window a
 
 -- the quota of an address that is entered
 abbrev pub entered : Quota → Option Account → Option Account → ℕ
@@ -28,15 +28,15 @@ entered q old new = if is_some new && not (is_some old) then most_of q else 0
 
 -- a step that grants so much of a quota
 abbrev pub IsBounded : Quota → ℕ → ℕ → Option Account → Option Account → Type 0
-IsBounded q window granted old new = granted + room_in q window new ≤ entered q old new + room_in q window old
+IsBounded q window granted old new = granted + rest_in q window new ≤ entered q old new + rest_in q window old
 
 -- The account last asked in this window or before it.
 abbrev pub IsBefore : ℕ → Option Account → Type 0
 IsBefore now None = Unit {0}
 IsBefore now (Some a) = a.window ≤ now
 
-most_room : (q : Quota) (window : ℕ) (a : Account) → room_of q window a ≤ most_of q
-most_room q window a = (elim (nat_lt a.window window) as (λ y. (if y then most_of q else (if nat_eq a.window window then most_of q - counted_of q a else 0)) ≤ most_of q) [
+most_rest : (q : Quota) (window : ℕ) (a : Account) → rest_of q window a ≤ most_of q
+most_rest q window a = (elim (nat_lt a.window window) as (λ y. (if y then most_of q else (if nat_eq a.window window then most_of q - counted_of q a else 0)) ≤ most_of q) [
   | true ↦ omega arith
   | false ↦ (elim (nat_eq a.window window) as (λ z. (if z then most_of q - counted_of q a else 0) ≤ most_of q) [
     | true ↦ omega arith
@@ -56,7 +56,7 @@ same q window (Some a) = omega arith
 -- an account with the same window and count
 stays : (q : Quota) (window : ℕ) (a b : Account) → b.window ≡ a.window → counted_of q b ≡ counted_of q a → IsBounded q window 0 (Some a) (Some b)
 stays q window a b w n =
-    let e : room_of q window b ≡ room_of q window a = ap (λ (v : ℕ). if nat_lt v window then most_of q else (if nat_eq v window then most_of q - counted_of q b else 0)) w ∙ ap (λ (m : ℕ). if nat_lt a.window window then most_of q else (if nat_eq a.window window then most_of q - m else 0)) n in
+    let e : rest_of q window b ≡ rest_of q window a = ap (λ (v : ℕ). if nat_lt v window then most_of q else (if nat_eq v window then most_of q - counted_of q b else 0)) w ∙ ap (λ (m : ℕ). if nat_lt a.window window then most_of q else (if nat_eq a.window window then most_of q - m else 0)) n in
     omega (arith, e)
 
 asked_earned : (q : Quota) (octets : ℕ) (a : Account) → counted_of q (earned octets a) ≡ counted_of q a
@@ -68,24 +68,24 @@ asked_paid Numbers octets a = refl
 asked_paid Items octets a = refl
 
 earns : (q : Quota) (window : ℕ) (address : Address) (octets : ℕ) (old : Option Account) → IsBounded q window 0 old (Some (earned octets (or_opened address old)))
-earns q window address octets None = omega (arith, most_room q window (earned octets (opened address)))
+earns q window address octets None = omega (arith, most_rest q window (earned octets (opened address)))
 earns q window address octets (Some a) = stays q window a (earned octets a) refl (asked_earned q octets a)
 
 pays_for : (q : Quota) (window : ℕ) (address : Address) (octets : ℕ) (old : Option Account) → IsBounded q window 0 old (Some (paid octets (or_opened address old)))
-pays_for q window address octets None = omega (arith, most_room q window (paid octets (opened address)))
+pays_for q window address octets None = omega (arith, most_rest q window (paid octets (opened address)))
 pays_for q window address octets (Some a) = stays q window a (paid octets a) refl (asked_paid q octets a)
 
 abbrev pub granted_in : ℕ → ℕ → ℕ → ℕ
 granted_in window now granted = if nat_eq now window then granted else 0
 
-room_later : (q : Quota) (window : ℕ) (a : Account) → a.window < window → room_of q window a ≡ most_of q
-room_later q window a h = rw (lt-ltb a.window window h) refl
+rest_later : (q : Quota) (window : ℕ) (a : Account) → a.window < window → rest_of q window a ≡ most_of q
+rest_later q window a h = rw (lt-ltb a.window window h) refl
 
-room_now : (q : Quota) (window : ℕ) (a : Account) → a.window ≡ window → room_of q window a ≡ most_of q - counted_of q a
-room_now q window a h = rw (le-ltb a.window window (omega (arith, h))) (rw (eq-eqb a.window window h) refl)
+rest_now : (q : Quota) (window : ℕ) (a : Account) → a.window ≡ window → rest_of q window a ≡ most_of q - counted_of q a
+rest_now q window a h = rw (le-ltb a.window window (omega (arith, h))) (rw (eq-eqb a.window window h) refl)
 
-room_gone : (q : Quota) (window : ℕ) (a : Account) → window < a.window → room_of q window a ≡ 0
-room_gone q window a h = rw (le-ltb a.window window (omega (arith, h))) (rw (ne_eqb a.window window (λ e. omega (arith, h, e))) refl)
+rest_gone : (q : Quota) (window : ℕ) (a : Account) → window < a.window → rest_of q window a ≡ 0
+rest_gone q window a h = rw (le-ltb a.window window (omega (arith, h))) (rw (ne_eqb a.window window (λ e. omega (arith, h, e))) refl)
 
 asked_now : (q : Quota) (now : ℕ) (a : Account) → a.window ≡ now → counted_in now q a ≡ counted_of q a
 asked_now q now a h = rw (eq-eqb a.window now h) refl
@@ -95,21 +95,21 @@ asked_none q now a h = rw (ne_eqb a.window now (λ e. omega (arith, h, e))) refl
 
 -- so much is granted in the window of now
 grants : (q : Quota) (window now part : ℕ) (a b : Account) → a.window ≤ now → part ≤ left_in now q a → b.window ≡ now → counted_of q b ≡ counted_in now q a + part
-    → granted_in window now part + room_of q window b ≤ room_of q window a
+    → granted_in window now part + rest_of q window b ≤ rest_of q window a
 grants q window now part a b before few at more = elim (cases_order now window) [
   | inl e ↦
       let all : granted_in window now part ≡ part = rw (eq-eqb now window e) refl in
-      let left : room_of q window b ≡ most_of q - counted_of q b = room_now q window b (at ∙ e) in
+      let left : rest_of q window b ≡ most_of q - counted_of q b = rest_now q window b (at ∙ e) in
       elim (cases_lt a.window now) [
-        | inl lt ↦ omega (arith, all, left, more, few, asked_none q now a lt, room_later q window a (omega (arith, lt, e)))
-        | inr ge ↦ let is : a.window ≡ now = omega (arith, before, ge) in omega (arith, all, left, more, few, asked_now q now a is, room_now q window a (is ∙ e))
+        | inl lt ↦ omega (arith, all, left, more, few, asked_none q now a lt, rest_later q window a (omega (arith, lt, e)))
+        | inr ge ↦ let is : a.window ≡ now = omega (arith, before, ge) in omega (arith, all, left, more, few, asked_now q now a is, rest_now q window a (is ∙ e))
       ]
   | inr (inl lt) ↦
       let none : granted_in window now part ≡ 0 = rw (ne_eqb now window (λ e. omega (arith, lt, e))) refl in
-      omega (arith, none, room_later q window b (omega (arith, lt, at)), room_later q window a (omega (arith, before, lt)))
+      omega (arith, none, rest_later q window b (omega (arith, lt, at)), rest_later q window a (omega (arith, before, lt)))
   | inr (inr gt) ↦
       let none : granted_in window now part ≡ 0 = rw (ne_eqb now window (λ e. omega (arith, gt, e))) refl in
-      omega (arith, none, room_gone q window b (omega (arith, gt, at)))
+      omega (arith, none, rest_gone q window b (omega (arith, gt, at)))
 ]
 
 -- of the same quota or of the other one
@@ -137,13 +137,13 @@ asked_counted Items Numbers now granted a = no_more (counted_in now Items a)
 asked_counted Items Items now granted a = refl
 
 grants_of : (q k : Quota) (window now granted : ℕ) (a : Account) → a.window ≤ now → granted ≤ left_in now k a
-    → granted_in window now (counted_as q k granted) + room_of q window (counted now k granted a) ≤ room_of q window a
+    → granted_in window now (counted_as q k granted) + rest_of q window (counted now k granted a) ≤ rest_of q window a
 grants_of q k window now granted a before few =
     grants q window now (counted_as q k granted) a (counted now k granted a) before (part_few q k now granted a few) (window_counted k now granted a) (asked_counted q k now granted a)
 
 asks : (q k : Quota) (window now granted : ℕ) (address : Address) (old : Option Account) → IsBefore now old → granted ≤ left_in now k (or_opened address old)
     → IsBounded q window (granted_in window now (counted_as q k granted)) old (Some (counted now k granted (or_opened address old)))
-asks q k window now granted address None before few = omega (arith, grants_of q k window now granted (opened address) (omega arith) few, most_room q window (opened address))
+asks q k window now granted address None before few = omega (arith, grants_of q k window now granted (opened address) (omega arith) few, most_rest q window (opened address))
 asks q k window now granted address (Some a) before few = omega (arith, grants_of q k window now granted a before few)
 
 own_at : (address : Address) (x : Account) (accounts : List Account) → x.address ≡ address → account_at address (used x accounts) ≡ Some x
@@ -254,15 +254,15 @@ times Items false = refl
 -- one step, and the others
 with_rest : (q : Quota) (address : Address) (window : ℕ) (s : GuardStep) (ss : List GuardStep) (accounts : List Account)
     → IsBounded q window (granted_at address q window s accounts) (account_at address accounts) (account_at address (accounts_after s accounts))
-    → all_asked address q window ss (accounts_after s accounts) ≤ entries address ss (accounts_after s accounts) * most_of q + room_in q window (account_at address (accounts_after s accounts))
-    → all_asked address q window (s ∷ ss) accounts ≤ entries address (s ∷ ss) accounts * most_of q + room_in q window (account_at address accounts)
+    → all_asked address q window ss (accounts_after s accounts) ≤ entries address ss (accounts_after s accounts) * most_of q + rest_in q window (account_at address (accounts_after s accounts))
+    → all_asked address q window (s ∷ ss) accounts ≤ entries address (s ∷ ss) accounts * most_of q + rest_in q window (account_at address accounts)
 with_rest q address window s ss accounts one rest =
     let here : entered q (account_at address accounts) (account_at address (accounts_after s accounts)) ≡ enters address s accounts * most_of q =
     times q (is_some (account_at address (accounts_after s accounts)) && not (is_some (account_at address accounts))) in
     omega (arith, one, rest, here, add-mul (enters address s accounts) (entries address ss (accounts_after s accounts)) (most_of q))
 
 pub run : (q : Quota) (address : Address) (window moment : ℕ) (ss : List GuardStep) (accounts : List Account) → AreInOrder moment ss → IsBefore (window_of moment) (account_at address accounts)
-    → all_asked address q window ss accounts ≤ entries address ss accounts * most_of q + room_in q window (account_at address accounts)
+    → all_asked address q window ss accounts ≤ entries address ss accounts * most_of q + rest_in q window (account_at address accounts)
 run q address window moment [] accounts order h = omega arith
 run q address window moment (earn from octets ∷ ss) accounts order h =
     let g = earn_goes q address window (window_of moment) from octets accounts h in

@@ -8,18 +8,18 @@ use Rattle.flood_guard.specs.declared.quota.Quota.{Quota}
 use Rattle.flood_guard.specs.declared.quota.Quota.TheVariants.{Numbers, Items}
 use Rattle.flood_guard.specs.Accounts.{account_at, account_of, used, earned, paid, counted, left_in, window_of}
 
--- a datagram of so many octets came from an address; so many octets are to go up to it; it asks for so much of a quota
+-- a datagram of this many octets came from an address; this many octets are to be sent to it; it asks for this much of a quota
 pub data GuardStep : Type 0 where
   earn : (from : Address) → (octets : ℕ) → GuardStep
   spend : (to : Address) → (octets : ℕ) → GuardStep
   ask : (from : Address) → (moment : ℕ) → (quota : Quota) → (count : ℕ) → GuardStep
 
--- whether an account pays for so many octets
+-- whether an account pays for this many octets
 abbrev pub pays : ℕ → Option Account → Bool
 pays octets None = false
 pays octets (Some a) = nat_le octets a.credit
 
--- whether so many octets may go up to an address: it has an account with credit for them
+-- whether this many octets may be sent to an address: it has an account with credit for them
 abbrev pub may_spend : Address → ℕ → List Account → Bool
 may_spend to octets accounts = pays octets (account_at to accounts)
 
@@ -59,7 +59,7 @@ granted_at address quota window (spend to octets) accounts = 0
 granted_at address quota window (ask from moment asked count) accounts =
     if same_address from address && nat_eq (window_of moment) window then counted_as quota asked (may_ask from moment asked count accounts) else 0
 
--- 1 where a step enters an address anew, else 0
+-- 1 if a step enters an address anew, else 0
 abbrev pub enters : Address → GuardStep → List Account → ℕ
 enters address step accounts = if is_some (account_at address (accounts_after step accounts)) && not (is_some (account_at address accounts)) then 1 else 0
 

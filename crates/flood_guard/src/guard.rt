@@ -39,7 +39,7 @@ fn put_first<A: Allocator>(accounts: &mut Vec<Account, A>, place: usize, account
     accounts[0] = account;
 }
 
-/// Puts the account of a new address before the others. The last one goes, where there is no more room.
+/// Puts the account of a new address before the others. The last one goes once 1,024 are kept.
 fn enter<A: Allocator>(accounts: &mut Vec<Account, A>, account: Account)
     requires len { vec_len accounts.old ≤ most_addresses }
     requires capacity { most_addresses ≤ vec_capacity accounts.old }
@@ -58,7 +58,7 @@ fn enter<A: Allocator>(accounts: &mut Vec<Account, A>, account: Account)
     put_first(accounts, len, account);
 }
 
-/// Puts an account before the others, where an account of its address stands at a place, or nowhere.
+/// Puts an account before the others. `place` is that of its address's old account, if there is one.
 fn keep<A: Allocator>(accounts: &mut Vec<Account, A>, place: Option<usize>, account: Account)
     requires place { place ≡ place_of account.address accounts.old.items }
     requires len { vec_len accounts.old ≤ most_addresses }
@@ -99,9 +99,8 @@ fn found(accounts: &[Account], place: Option<usize>, address: &Address) -> Accou
 
 /// The accounts of at most 1,024 addresses. Only [`new`](Self::new) takes memory.
 ///
-/// An address is entered when a datagram comes from it. Where there is no more room, the address whose last use is the
-/// longest ago is forgotten, with its credit and with what it asked for. What comes from an address is a use, and so is
-/// what is granted to it.
+/// An address is entered when a datagram comes from it. Once 1,024 are kept, the least recently used address is
+/// forgotten, with its credit and with what it asked for. A datagram from an address is a use, and so is a grant to it.
 #[derive(Drop)]
 pub struct FloodGuard<A: Allocator + Copy = Global> {
     accounts: Vec<Account, A>,
@@ -122,7 +121,7 @@ impl<A: Allocator + Copy> Model for FloodGuard<A> {
 }
 
 impl<A: Allocator + Copy> FloodGuard<A> {
-    /// No account. It allocates for the most addresses. The only error is out of memory.
+    /// A guard without accounts, with capacity for 1,024. The only error is out of memory.
     pub fn new(alloc: A) -> Result<Self, AllocError>
         ensures { IfOk result (λ guard. guard ≡ []) }
     {
@@ -130,9 +129,8 @@ impl<A: Allocator + Copy> FloodGuard<A> {
         Ok(Self { accounts })
     }
 
-    /// Notes that a datagram of so many octets came from an address. Each octet earns 1.5 octets of credit, up to
-    /// 65,536.
-    /// A new address begins with 256.
+    /// Notes that a datagram of this many octets came from an address. Each octet earns 1.5 octets of credit, up to
+    /// 65,536 in all. A new address begins with 256.
     pub fn earn(&mut self, from: &Address, octets: u64)
         ensures { self.new ≡ accounts_after (earn from.now octets) self.old }
     {
@@ -141,9 +139,9 @@ impl<A: Allocator + Copy> FloodGuard<A> {
         keep(&mut self.accounts, place, account);
     }
 
-    /// Whether a control datagram of so many octets may go up to an address. If so it costs its octets of credit.
+    /// Whether a control datagram of this many octets may be sent to an address. If so, it costs its octets of credit.
     ///
-    /// Nothing may go to an address that nothing came from, and a refusal changes nothing.
+    /// Nothing may be sent to an address without an account. A refusal changes nothing.
     pub fn spend(&mut self, to: &Address, octets: u64) -> bool
         ensures answer { result ≡ may_spend to.now octets self.old }
         ensures after { self.new ≡ accounts_after (spend to.now octets) self.old }
@@ -159,8 +157,8 @@ impl<A: Allocator + Copy> FloodGuard<A> {
         true
     }
 
-    /// How much of what an address asks for is granted: so much, as long as its quota lasts. A quota is 512 numbers, or
-    /// 64 report blocks and PLIs, in a window of 20 ms.
+    /// Grants as much of a request as the address's quota still has in this window of 20 ms, and returns how much. A
+    /// quota is 512 numbers, or 64 report blocks and PLIs together.
     ///
     /// The moment is in nanoseconds since 1970. A new address is entered.
     pub fn ask(&mut self, from: &Address, moment: u64, quota: Quota, count: u64) -> u64

@@ -6,12 +6,12 @@ ghost use Rattle.flood_guard.specs.declared.quota.Quota.{Quota};
 ghost use Rattle.flood_guard.specs.Accounts.{most_of, new_credit};
 ghost use Rattle.flood_guard.specs.Steps.{GuardStep, all_from, all_to, all_asked, entries, AreInOrder};
 
-/// A law over all steps of a new guard. The octets that may go up to an address are at most 1.5 times those that came
+/// A law over all steps of a new guard. The octets that may be sent to an address are at most 1.5 times those that came
 /// from it, and 256 for each time that it was entered.
 ///
 /// An address that is forgotten and comes again is entered again, with 256 octets. It is forgotten only once 1,024
-/// other addresses were used since its own last use. So whoever can send from more than 1,024 addresses, in turn, gets
-/// 256 octets for each datagram.
+/// other addresses were used since its own last use. So a sender with more than 1,024 addresses, used in turn, gets 256
+/// octets for each datagram.
 pub fn amplification_is_bounded()
     ensures { (address : Address) (steps : List GuardStep) → all_to address steps [] * 2
         ≤ all_from address steps * 3 + entries address steps [] * new_credit * 2 }
@@ -21,7 +21,7 @@ pub fn amplification_is_bounded()
 /// is at most that quota for each time that it was entered: 512 numbers, and 64 report blocks and PLIs.
 ///
 /// An address that is forgotten loses the counts of its window. If it is entered again in the same window, it may ask
-/// for each quota once more. Where moments go back a window can begin again, and its counts with it.
+/// for each quota once more. If moments go back, a window can begin again, and its counts with it.
 pub fn asks_are_bounded()
     ensures { (address : Address) (quota : Quota) (window : ℕ) (steps : List GuardStep) → AreInOrder 0 steps
         → all_asked address quota window steps [] ≤ entries address steps [] * most_of quota }

@@ -1,8 +1,8 @@
-//! A guard against two floods: it bounds what the bridge sends up to an address, and what an address asks for and
-//! reports.
+//! A guard against two floods: it bounds the control that the bridge sends to an address, and what an address asks for
+//! and reports.
 //!
-//! Begin with [`FloodGuard::new`]. Each datagram that comes earns credit, and control that goes up spends it.
-//! A contract sees a [`FloodGuard`] as its accounts, the most recently used first.
+//! Begin with [`FloodGuard::new`]. Each datagram that comes earns credit for its address, and control that is sent
+//! there spends it. A contract sees a [`FloodGuard`] as its accounts, the most recently used first.
 //!
 //! ```rust
 //! let member = Address { ip: [127, 0, 0, 1], port: 7 };
@@ -13,6 +13,9 @@
 //! let numbers = guard.ask(&member, 40_000_000, Quota::Numbers, 600); // 512, the most in a window of 20 ms
 //! let items = guard.ask(&member, 40_000_000, Quota::Items, 70); // 64, the most in a window of 20 ms
 //! ```
+//!
+//! `a_new_address_has_256_octets` and `a_window_has_512_numbers` of worked_front are these calls, with their answers
+//! proved.
 #![tactic(auto)]
 
 mod account;

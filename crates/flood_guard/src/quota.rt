@@ -3,7 +3,7 @@
 ghost use Rattle.std.specs.Prelude.{◌≡◌};
 ghost use Rattle.flood_guard.specs.Accounts.{most_of};
 
-/// What an address may have only so much of in a window of 20 ms.
+/// What an address has a quota of, in each window of 20 ms.
 #[derive(Clone, Copy, Debug, PartialEq, Eq)]
 pub enum Quota {
     /// The numbers of its NACKs (RFC 4585 section 6.2.1): 512.

@@ -8,7 +8,7 @@ use Rattle.frame_gate.specs.Frame.{SourcePacket}
 use Rattle.std.proofs.lemmas.List.Concat.{flat_map-append}
 use Rattle.forward_rewrite.specs.Sending.{Sending, IsOf}
 use Rattle.retransmit.specs.SentPacket.{SentPacket}
-use Rattle.retransmit.specs.Window.{room, latest}
+use Rattle.retransmit.specs.Window.{window_size, latest}
 use Rattle.forward_rewrite.specs.declared.last_sent.LastSent.{LastSent}
 use Rattle.forward_rewrite.specs.Timestamps.{Stamped, same_run, stamp_in_run, pause, difference, stamped, last_or, last_of}
 use Rattle.forward_rewrite.specs.RoutedList.{part_of, parts, numbered, packets_of}
@@ -97,7 +97,7 @@ advanced s next = record {
   packets = (s.packets + length next.frame.frame.packets) % 2 ^ 32;
   octets = (s.octets + payload_octets (next_parts s next) % 2 ^ 32) % 2 ^ 32;
   last = Some (sent next.frame (ts_after s.first_ts s.last next.frame));
-  window = latest room (s.window ++ numbered s.ssrc s.next (next_parts s next));
+  window = latest window_size (s.window ++ numbered s.ssrc s.next (next_parts s next));
 }
 
 -- a stream by its fields
@@ -123,8 +123,8 @@ state_more ssrc first_seq first_ts before s =
     ap payload_octets (parts-append ssrc first_seq first_ts before s) ∙ sum_by-append (λ part. length part.packet.payload) ps (next_parts state s) in
     let last : Some (keep x) ≡ option_map keep (last_of (stamped first_ts (before ++ s ∷ []))) =
     sym (ap (λ xs. option_map keep (last_of xs)) (stamped-append first_ts before s) ∙ ap (option_map keep) (last_of-append (stamped first_ts before) x)) in
-    let window : latest room (state.window ++ new) ≡ latest room (packets_of ssrc first_seq first_ts (before ++ s ∷ [])) =
-    latest-append (packets_of ssrc first_seq first_ts before) new ∙ sym (ap (latest room) (packets_more ssrc first_seq first_ts before s)) in
+    let window : latest window_size (state.window ++ new) ≡ latest window_size (packets_of ssrc first_seq first_ts (before ++ s ∷ [])) =
+    latest-append (packets_of ssrc first_seq first_ts before) new ∙ sym (ap (latest window_size) (packets_more ssrc first_seq first_ts before s)) in
     same_fields ssrc first_ts _ _ _ _ _ _ _ _ _ _ (omega (arith, longer)) (omega (arith, longer)) (omega (arith, octets)) last window
 
 -- as many packets as the frame has
@@ -141,7 +141,7 @@ prepared_stream old s p prepared =
     (ap (λ n. (old.packets + n) % 2 ^ 32) (count_next old s p prepared))
     (ap (λ n. (old.octets + n) % 2 ^ 32) prepared.octets)
     (ap Some prepared.last)
-    (ap (λ xs. latest room (old.window ++ xs)) prepared.packets)
+    (ap (λ xs. latest window_size (old.window ++ xs)) prepared.packets)
 
 -- what was prepared and then committed is the next frame
 pub sends_next : (old : StreamOf) (s : Sending) (p : PreparedOf) → IsPrepared old s p → SendsNext old (committed old p) s p.packets

@@ -1,7 +1,7 @@
 -- A stream so far: what it keeps is a function of all that it has sent.
 use Rattle.std.specs.Prelude.{◌≡◌, ℕ, ◌+◌, ◌%◌, ◌^◌, List, [], ◌∷◌, ◌++◌, length, map, sum_by, Option, Some, option_map}
 use Rattle.retransmit.specs.SentPacket.{SentPacket}
-use Rattle.retransmit.specs.Window.{room, latest}
+use Rattle.retransmit.specs.Window.{window_size, latest}
 use Rattle.forward_rewrite.specs.declared.counts.Counts.{Counts}
 use Rattle.forward_rewrite.specs.declared.last_sent.LastSent.{LastSent}
 use Rattle.media_items.specs.Frame.{SourceFrame}
@@ -53,7 +53,7 @@ state_of ssrc first_seq first_ts sendings = record {
   packets = length (parts (stamped first_ts sendings)) % 2 ^ 32;
   octets = payload_octets (parts (stamped first_ts sendings)) % 2 ^ 32;
   last = option_map (λ s. sent s.sending.frame s.ts) (last_of (stamped first_ts sendings));
-  window = latest room (packets_of ssrc first_seq first_ts sendings);
+  window = latest window_size (packets_of ssrc first_seq first_ts sendings);
 }
 
 -- The stream has sent these frames, the first number and timestamp being these.
@@ -83,7 +83,7 @@ committed s p = record {
   packets = (s.packets + length p.packets) % 2 ^ 32;
   octets = (s.octets + p.octets) % 2 ^ 32;
   last = Some p.last;
-  window = latest room (s.window ++ p.packets);
+  window = latest window_size (s.window ++ p.packets);
 }
 
 -- what a sender report tells of a stream after these frames, once it has begun: how many packets and octets of payload, each counted once, and of

@@ -9,7 +9,7 @@ pub struct Counts {
     pub packets: u32,
     /// The octets of payload that were sent, modulo 2^32.
     pub octets: u32,
-    /// The RTP timestamp of its last frame; of a mix, its last tick.
+    /// The RTP timestamp of its last frame, or of a mix's last tick, in units of `rate`.
     pub ts: u32,
     /// The moment of that frame or tick, in nanoseconds since 1970.
     pub moment: u64,

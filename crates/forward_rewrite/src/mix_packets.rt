@@ -43,24 +43,24 @@ pub fn packet_of<A: Allocator + Copy>(
 
 /// The octets of a packet with this payload. They are written to an empty buffer and cut off it, with no second copy.
 pub fn packet_in<A: Allocator + Copy>(
-    room: &mut BytesMut<A>,
+    block: &mut BytesMut<A>,
     header: &Header,
     named: Named<'_>,
     payload: &[u8],
 ) -> Result<PacketBytes<A>, AllocError>
     requires pt { header.now.pt ≤ most_pt }
     requires csrcs { named.count ≤ most_csrcs }
-    requires empty { room.old.items ≡ [] }
+    requires empty { block.old.items ≡ [] }
     ensures octets { IfOk result
         (λ bytes. (csrcs : List ℕ) → length csrcs ≡ named.entry.count
         → named.entry.front.now ++ named.entry.back.now ≡ number_octets csrcs
         → bytes ≡ written header.now csrcs payload.now) }
-    ensures empty { OnOk result (room.new.items ≡ []) }
+    ensures empty { OnOk result (block.new.items ≡ []) }
 {
-    room.extend_from_slice(&fixed_header(header, named.count))?;
-    room.extend_from_slice(named.front)?;
-    room.extend_from_slice(named.back)?;
-    room.extend_from_slice(payload)?;
-    let count = room.len();
-    Ok(PacketBytes::whole(room.freeze_to(count)?))
+    block.extend_from_slice(&fixed_header(header, named.count))?;
+    block.extend_from_slice(named.front)?;
+    block.extend_from_slice(named.back)?;
+    block.extend_from_slice(payload)?;
+    let count = block.len();
+    Ok(PacketBytes::whole(block.freeze_to(count)?))
 }

@@ -143,48 +143,48 @@ impl MixStream {
 
     /// Makes the packet of a tick that sounds, as [`prepare`](Self::prepare) does, from a payload of the format.
     ///
-    /// The packet is cut off `room`, which is empty before the call and after it. The octets are copied once. If `room`
-    /// has the capacity, only its first packet takes memory. The only error is out of memory; it leaves octets in
-    /// `room`.
+    /// The packet is cut off `block`, which is empty before the call and after it. The octets are copied once. If
+    /// `block` has the capacity, only its first packet takes memory. The only error is out of memory; it leaves octets
+    /// in `block`.
     pub fn prepare_in<A: Allocator + Copy>(
         &self,
-        room: &mut BytesMut<A>,
+        block: &mut BytesMut<A>,
         format: Format,
         named: Named<'_>,
         payload: &[u8],
         moment: u64,
     ) -> Result<PreparedMix<A>, AllocError>
         requires few { named.count ≤ most_csrcs }
-        requires empty { room.old.items ≡ [] }
+        requires empty { block.old.items ≡ [] }
         ensures gives { IfOk result (λ p. (csrcs : List ℕ) (samples : List ℤ)
             → length csrcs ≡ named.entry.count → named.entry.front.now ++ named.entry.back.now ≡ number_octets csrcs
             → payload.now ≡ encoded format samples
             → GivesTick self.now p.next (sounding (sound_of format csrcs samples) moment) (p.packet ∷ [])) }
         ensures ssrc { IfOk result (λ p. p.next.ssrc ≡ self.now.ssrc) }
-        ensures empty { OnOk result (room.new.items ≡ []) }
+        ensures empty { OnOk result (block.new.items ≡ []) }
     {
-        self.cut_from(room, format, named, payload, moment)
+        self.cut_from(block, format, named, payload, moment)
     }
 
     /// The packet of a tick that sounds, from its payload, by the stream's fields.
     fn cut_from<A: Allocator + Copy>(
         &self,
-        room: &mut BytesMut<A>,
+        block: &mut BytesMut<A>,
         format: Format,
         named: Named<'_>,
         payload: &[u8],
         moment: u64,
     ) -> Result<PreparedMix<A>, AllocError>
         requires few { named.count ≤ most_csrcs }
-        requires empty { room.old.items ≡ [] }
+        requires empty { block.old.items ≡ [] }
         ensures packet { IfOk result (λ p. (csrcs : List ℕ) (samples : List ℤ)
             → length csrcs ≡ named.entry.count → named.entry.front.now ++ named.entry.back.now ≡ number_octets csrcs
             → payload.now ≡ encoded format samples
             → IsPreparedMix self.now (sound_of format csrcs samples) moment p) }
         ensures ssrc { IfOk result (λ p. p.next.ssrc ≡ self.now.ssrc) }
-        ensures empty { OnOk result (room.new.items ≡ []) }
+        ensures empty { OnOk result (block.new.items ≡ []) }
     {
-        let bytes = packet_in(room, &self.header(format), named, payload)?;
+        let bytes = packet_in(block, &self.header(format), named, payload)?;
         let number = self.next;
         Ok(PreparedMix {
             next: self.after(format, payload.len(), moment),

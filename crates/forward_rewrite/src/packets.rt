@@ -28,20 +28,20 @@ pub struct Shared {
     pub owner: Owner,
 }
 
-/// The header of a packet with one contributing source. `room` is a buffer to write it in.
+/// The header of a packet with one contributing source. `block` is a buffer to write it in.
 fn header_octets<A: Allocator>(
     header: &Header,
     source: u32,
-    room: &mut Vec<u8, A>,
+    block: &mut Vec<u8, A>,
 ) -> Result<[u8; 16], AllocError>
     requires { header.now.pt ≤ highest_pt }
     ensures { IfOk result (λ octets. (payload : List ℕ)
         → octets ++ payload ≡ written header.now (source ∷ []) payload) }
 {
-    room.clear();
-    write(header, &[source], &[], room)?;
+    block.clear();
+    write(header, &[source], &[], block)?;
     let mut octets = [0; 16];
-    octets.copy_from_slice(room);
+    octets.copy_from_slice(block);
     Ok(octets)
 }
 
@@ -51,7 +51,7 @@ fn entry_of<A: Allocator + Copy>(
     number: u16,
     frame: &MediaFrame<A>,
     packet: &FramePacket<A>,
-    room: &mut Vec<u8, A>,
+    block: &mut Vec<u8, A>,
 ) -> Result<Entry<A>, AllocError>
     requires { packet.now.pt ≤ highest_pt }
     ensures { IfOk result
@@ -64,7 +64,7 @@ fn entry_of<A: Allocator + Copy>(
         ts: shared.ts,
         ssrc: shared.ssrc,
     };
-    let octets = header_octets(&header, frame.source, room)?;
+    let octets = header_octets(&header, frame.source, block)?;
     let stamp = shared.stamp;
     Ok(Entry {
         number,
@@ -92,10 +92,10 @@ pub fn entries_of<A: Allocator + Copy>(
         (λ v. v.items ≡ numbered shared.now.ssrc first (map (part_of (stamped_by shared.now frame.now)) packets.now)) }
 {
     let mut entries = Vec::with_capacity(alloc, packets.len())?;
-    let mut room = Vec::with_capacity(alloc, 16)?;
+    let mut block = Vec::with_capacity(alloc, 16)?;
     let mut number = first;
     for packet in packets {
-        let one = entry_of(shared, number, frame, packet, &mut room)?;
+        let one = entry_of(shared, number, frame, packet, &mut block)?;
         entries.push(one)?;
         number = seq_next(number);
     }

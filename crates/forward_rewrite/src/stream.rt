@@ -2,7 +2,7 @@
 
 ghost use Rattle.std.specs.Prelude.{◌≡◌, ◌≤◌, ℕ, List, [], ◌++◌, length, map, IfOk, OnErr, option_copied};
 ghost use Rattle.std.specs.List.{AllByRecursion};
-ghost use Rattle.retransmit.specs.Window.{room, latest, resend_of};
+ghost use Rattle.retransmit.specs.Window.{window_size, latest, resend_of};
 ghost use Rattle.forward_rewrite.specs.Sending.{Sending, sending_of, out_of, IsOf};
 ghost use Rattle.forward_rewrite.specs.Streams.{state_of, counts_of, committed, HasSent, SendsNext, GivesNext};
 ghost use Rattle.forward_rewrite.specs.inner.Counters.{ts_after, IsPrepared};
@@ -61,9 +61,9 @@ impl<A: Allocator + Copy> Model for Stream<A> {
 
 /// Keeps packets that were sent. The window keeps the last 512.
 fn keep<A: Allocator + Copy>(window: &mut Window<A>, entries: Vec<Entry<A>, A>)
-    requires few { length window.old ≤ room }
+    requires few { length window.old ≤ window_size }
     requires goes_on { MayGoOn window.old entries.items }
-    ensures { window.new ≡ latest room (window.old ++ entries.items) }
+    ensures { window.new ≡ latest window_size (window.old ++ entries.items) }
 {
     for entry in entries {
         window.push(entry);

@@ -62,7 +62,7 @@ opened_first cells cut earlier p empty =
           (sym (run-nil p.number (greatest [] + 1 - p.number)))
           (begun_stands (held cells None) (frames_of (of [] cut earlier)) earlier [] p.number frames);
       agrees = λ n a. empty n;
-      room = λ n a. refl;
+      behind = λ n a. refl;
     }
 
 -- the walk of a gate that was given nothing begins at the first packet; another gate's is its own
@@ -93,7 +93,7 @@ rebased at given e w out h = record {
     frames = append-nil (frames_of e);
   };
   agrees = h.agrees;
-  room = h.room;
+  behind = h.behind;
 }
 
 -- the answer to a packet that is taken
@@ -137,7 +137,7 @@ something_new k new e p r walk h begun above over long free tied nacks pli place
       placed = placed;
       holds = λ i q there.
           let from : r.walk.next ≤ q.number = low i q there in
-          let to = below_room (held new.cells None) (frames_of more) more r.walk q walked from (held-placed new.cells i q placed there) in
+          let to = below_size (held new.cells None) (frames_of more) more r.walk q walked from (held-placed new.cells i q placed there) in
           (omega arith, omega arith);
     } in (
       record {
@@ -152,11 +152,11 @@ something_new k new e p r walk h begun above over long free tied nacks pli place
       subst (IsAt new) (sym goes) at,
     )
   where
-    below_room : (at : ℕ → Option NumberedPacket) (given : List WholeFrame) (e : Epoch) (w : Walk) (q : NumberedPacket)
+    below_size : (at : ℕ → Option NumberedPacket) (given : List WholeFrame) (e : Epoch) (w : Walk) (q : NumberedPacket)
         → Tied at given e w [] → w.next ≤ q.number → at q.number ≡ Some q → q.number < w.next + 256
-    below_room at given e w q tied from there = elim (cases_lt q.number (w.next + 256)) [
+    below_size at given e w q tied from there = elim (cases_lt q.number (w.next + 256)) [
       | inl lt ↦ lt
-      | inr far ↦ absurd (let x : Some q ≡ None = sym there ∙ tied.agrees q.number from ∙ tied.room q.number far in cc)
+      | inr far ↦ absurd (let x : Some q ≡ None = sym there ∙ tied.agrees q.number from ∙ tied.behind q.number far in cc)
     ]
 
 pub epoch_of-push : (before : List NumberedPacket) (p : NumberedPacket) → epoch_of (before ++ p ∷ []) ≡ epoch_after (epoch_of before) p

@@ -41,7 +41,7 @@ pub placed_tied : (at : ℕ → Option NumberedPacket) (given : List WholeFrame)
     → Tied at given (placed e n) v more
 placed_tied at given e w v out more n c h far is above below onward drained =
     let to = w.next + 256 in
-    let g : greatest e.taken < to = greatest_below e.taken to (omega arith) h.room in
+    let g : greatest e.taken < to = greatest_below e.taken to (omega arith) h.behind in
     let same : row at c (to - c) ≡ row (packet_at e.taken) c (greatest e.taken + 1 - c) =
     row-alike at (packet_at e.taken) c (to - c) (λ k le. h.agrees k (omega arith))
     ∙ run-enough e.taken c (to - c) (omega arith) in
@@ -51,7 +51,7 @@ placed_tied at given e w v out more n c h far is above below onward drained =
     record {
       stands = subst (λ (k : ℕ). Stands at k given (frames_of e) (divided (row (packet_at e.taken) k (greatest e.taken + 1 - k))) v more) is there;
       agrees = λ k le. h.agrees k (omega arith);
-      room = λ k le. h.room k (omega arith);
+      behind = λ k le. h.behind k (omega arith);
     }
 
 some_of : (o : Option NumberedPacket) → IsSome o → (q : NumberedPacket) × (o ≡ Some q)
@@ -68,7 +68,7 @@ cut_is at given e w out n c h above below none some =
     sym (least_is e.taken (next_of e) n c (omega arith) below
     (λ k a b. elim (cases_lt k (w.next + 256)) [
       | inl near ↦ (let le : w.next ≤ k = omega arith in sym (h.agrees k le) ∙ none k le b near)
-      | inr far ↦ h.room k far
+      | inr far ↦ h.behind k far
     ])
     (elim (cases_lt c n) [
       | inl less ↦ (let found = some_of (at c) (some less) in inr (found.0, sym (h.agrees c above) ∙ found.1))

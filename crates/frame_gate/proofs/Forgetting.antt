@@ -60,7 +60,7 @@ pub tied-alike : (f g : ℕ → Option NumberedPacket) (given : List WholeFrame)
 tied-alike f g given e w out alike h = record {
   stands = stands-alike f g e.cut given e.earlier _ w out (λ k q le found. sym (alike k le) ∙ found) h.stands;
   agrees = λ n le. sym (alike n le) ∙ h.agrees n le;
-  room = h.room;
+  behind = h.behind;
 }
 
 -- what is left was there

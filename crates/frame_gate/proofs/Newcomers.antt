@@ -49,7 +49,7 @@ pub kept : (cells : List (Option NumberedPacket)) (ps : List NumberedPacket) (p 
     → next ≤ p.number → p.number < next + 256 → next ≤ k
     → packet_at ps p.number ≡ None → held cells None k ≡ packet_at ps k → ((n : ℕ) → next + 256 ≤ n → packet_at ps n ≡ None)
     → held (set cells (p.number % 256) (Some p)) None k ≡ packet_at (ps ++ p ∷ []) k
-kept cells ps p next k long above below from none agrees room = elim (eq_cases (k % 256) (p.number % 256)) [
+kept cells ps p next k long above below from none agrees behind = elim (eq_cases (k % 256) (p.number % 256)) [
   | inl cell ↦
       let lt : p.number % 256 < length cells = omega arith in
       let there : get_or (set cells (p.number % 256) (Some p)) (k % 256) None ≡ Some p =
@@ -59,7 +59,7 @@ kept cells ps p next k long above below from none agrees room = elim (eq_cases (
         | inl same ↦ ap (λ b. cond b (Some p) None) (eq_yes p.number k same) ∙ sym (this-push ps p k same (ap (packet_at ps) (sym same) ∙ none))
         | inr other ↦
             let far : next + 256 ≤ k = apart p.number k next above below from other (sym cell) in
-            ap (λ b. cond b (Some p) None) (eq_no p.number k other) ∙ sym (room k far) ∙ other-push ps p k other
+            ap (λ b. cond b (Some p) None) (eq_no p.number k other) ∙ sym (behind k far) ∙ other-push ps p k other
       ])
   | inr cell ↦
       ap (λ o. of_number o k) (get_or-set_other cells (p.number % 256) (k % 256) (Some p) None cell)

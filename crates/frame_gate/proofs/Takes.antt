@@ -116,7 +116,7 @@ taken_tied at new last given e w v out more p to h above near onward end alike k
       stands = stands-alike new last e.cut given e.earlier (pieces (taking e p)) v more
           (λ k q a found. (let b : w.next ≤ k = omega arith in kept k b ∙ sym (alike k b) ∙ found)) there;
       agrees = λ k a. kept k (omega arith);
-      room = λ k a. none-push e.taken p k (h.room k (omega arith)) ∙ (let other : nat_eq p.number k ≡ false = nat_neq p.number k (omega arith) in ap (λ b. cond b (Some p) None) other);
+      behind = λ k a. none-push e.taken p k (h.behind k (omega arith)) ∙ (let other : nat_eq p.number k ≡ false = nat_neq p.number k (omega arith) in ap (λ b. cond b (Some p) None) other);
     }
   where
     nat_neq : (m n : ℕ) → m < n → nat_eq m n ≡ false

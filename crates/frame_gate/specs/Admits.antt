@@ -6,7 +6,7 @@ use Rattle.frame_gate.specs.declared.walk.Walk.{Walk}
 use Rattle.frame_gate.specs.declared.packet.Place.{Place}
 use Rattle.frame_gate.specs.declared.packet.Place.TheVariants.{Taken, Late, Duplicate}
 use Rattle.frame_gate.specs.inner.Cells.{held, cell, ArePlaced, MayForget, Forgets}
-use Rattle.frame_gate.specs.Epochs.{Epoch, gate_room, epoch_of, epoch_after, frames_of, place_of, nacks_of, gives_up, top}
+use Rattle.frame_gate.specs.Epochs.{Epoch, gate_size, epoch_of, epoch_after, frames_of, place_of, nacks_of, gives_up, top}
 use Rattle.frame_gate.specs.inner.Ties.{Tied}
 use Rattle.frame_gate.specs.inner.Kept.{Kept, PreparedOf}
 
@@ -16,7 +16,7 @@ pub record IsAt (k : Kept) (e : Epoch) : Type 0 where
   pub greatest : k.greatest ≡ top e.taken
   pub empty : k.greatest ≡ None → (k.walk.next ≡ 0) × ((i : ℕ) → cell k.cells i ≡ None)
   pub placed : ArePlaced k.cells
-  pub holds : (i : ℕ) (p : NumberedPacket) → cell k.cells i ≡ Some p → (k.walk.next ≤ p.number) × (p.number < k.walk.next + gate_room)
+  pub holds : (i : ℕ) (p : NumberedPacket) → cell k.cells i ≡ Some p → (k.walk.next ≤ p.number) × (p.number < k.walk.next + gate_size)
 
 -- The gate has been given these packets.
 abbrev pub Represents : Kept → List NumberedPacket → Type 0
@@ -38,8 +38,8 @@ Admits old new p a =
 pub record Takes (old : Kept) (packet : NumberedPacket) (walk : Walk) (new : Kept) : Type 0 where
   pub walk_is : new.walk ≡ walk
   pub greatest : new.greatest ≡ Some (max (unwrap_or old.greatest 0) packet.number)
-  pub others : MayForget walk.next (slice_set old.cells (packet.number % gate_room) (Some packet)) new.cells
-  pub gone : Forgets old.walk.next walk.next (slice_set old.cells (packet.number % gate_room) (Some packet)) new.cells
+  pub others : MayForget walk.next (slice_set old.cells (packet.number % gate_size) (Some packet)) new.cells
+  pub gone : Forgets old.walk.next walk.next (slice_set old.cells (packet.number % gate_size) (Some packet)) new.cells
 
 -- By the packet's place: it is taken, or the gate stays as it was.
 abbrev pub CommitsAt : Place → Kept → PreparedOf → Kept → Type 0

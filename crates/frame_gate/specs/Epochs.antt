@@ -51,14 +51,14 @@ least (p ∷ ps) from n = if nat_le from p.number then min p.number (least ps fr
 abbrev pub placed : Epoch → ℕ → Epoch
 placed e n = record { taken = e.taken; cut = least e.taken (next_of e) n; earlier = frames_of e }
 
--- a gate has room for so many numbers in a row, from next on (own)
-abbrev pub gate_room : ℕ
-gate_room = 256
+-- a gate keeps so many numbers in a row, from next on (own)
+abbrev pub gate_size : ℕ
+gate_size = 256
 
--- with cuts, at most so many, until n lies in the gate's room
+-- with cuts, at most so many, until n lies in the gate
 abbrev pub resynced : ℕ → Epoch → ℕ → Epoch
 resynced zero e n = e
-resynced (suc most) e n = if nat_le (next_of e + gate_room) n then resynced most (placed e n) n else e
+resynced (suc most) e n = if nat_le (next_of e + gate_size) n then resynced most (placed e n) n else e
 
 -- The first packet places the first cut.
 abbrev pub opened : Epoch → NumberedPacket → Epoch
@@ -91,7 +91,7 @@ epoch_of packets = fold epoch_after blank packets
 
 -- The packet is taken, and a cut after the first is placed.
 abbrev pub gives_up : Epoch → NumberedPacket → Bool
-gives_up e p = if_taken (place_of e p) (nat_le (next_of (opened e p) + gate_room) p.number) false
+gives_up e p = if_taken (place_of e p) (nat_le (next_of (opened e p) + gate_size) p.number) false
 
 -- the greatest taken number, if there is one
 abbrev pub top : List NumberedPacket → Option ℕ
@@ -107,6 +107,6 @@ missing_above (Some g) next n = filter (λ k. nat_le next k) (range_with_len (g 
 abbrev pub nacks_of : Epoch → NumberedPacket → List ℤ
 nacks_of e p = if_taken (place_of e p) (map ext_of (missing_above (top e.taken) (next_of (epoch_after e p)) p.number)) []
 
--- the most numbers that one packet newly leaves missing: it lies in the gate's room afterwards
+-- the most numbers that one packet newly leaves missing: it lies in the gate afterwards
 abbrev pub most_missing : ℕ
-most_missing = gate_room - 1
+most_missing = gate_size - 1

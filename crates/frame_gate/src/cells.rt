@@ -13,7 +13,7 @@ use crate::held::HeldPacket;
 use std::alloc::{AllocError, Allocator};
 
 /// The cells of a gate: it can hold this many numbers from the first undecided one on.
-pub const ROOM: u64 = 256;
+pub const CELLS: u64 = 256;
 
 /// Empty cells.
 pub fn empty_cells<A: Allocator + Copy>(
@@ -22,8 +22,8 @@ pub fn empty_cells<A: Allocator + Copy>(
     ensures len { IfOk result (λ cells. vec_len cells ≡ 256) }
     ensures empty { IfOk result (λ cells. (i : ℕ) → cell cells.items i ≡ None) }
 {
-    let mut cells = Vec::with_capacity(alloc, ROOM as usize)?;
-    for _ in 0..ROOM {
+    let mut cells = Vec::with_capacity(alloc, CELLS as usize)?;
+    for _ in 0..CELLS {
         cells.push(None)?;
     }
     Ok(cells)
@@ -43,7 +43,7 @@ pub fn find_held<'a, A: Allocator + Copy>(
             return newcomer;
         }
     }
-    if let Some(packet) = &cells[(number % ROOM) as usize] {
+    if let Some(packet) = &cells[(number % CELLS) as usize] {
         if packet.number == number {
             return Some(packet);
         }
@@ -102,7 +102,7 @@ pub fn least_held<A: Allocator + Copy>(
     ensures near { result < number → result < from + 256 }
     ensures some { result < number → IsSome (held cells.now None result) }
 {
-    for n in from..from + ROOM {
+    for n in from..from + CELLS {
         if find_held(cells, None, n).is_some() {
             return n;
         }
@@ -117,7 +117,7 @@ fn forget<A: Allocator + Copy>(cells: &mut [Option<HeldPacket<A>>], number: u64,
     ensures here { cell cells.new (number % 256) ≡ from_on to (cell cells.old (number % 256)) }
     ensures others { (i : ℕ) → ¬ (i ≡ number % 256) → cell cells.new i ≡ cell cells.old i }
 {
-    let i = (number % ROOM) as usize;
+    let i = (number % CELLS) as usize;
     if let Some(packet) = &cells[i] {
         if packet.number < to {
             cells[i] = None;
@@ -132,7 +132,7 @@ pub fn forget_between<A: Allocator + Copy>(cells: &mut [Option<HeldPacket<A>>], 
     ensures others { MayForget to cells.old cells.new }
     ensures gone { Forgets from to cells.old cells.new }
 {
-    for k in 0..to.saturating_sub(from).min(ROOM) {
+    for k in 0..to.saturating_sub(from).min(CELLS) {
         forget(cells, from + k, to);
     }
 }

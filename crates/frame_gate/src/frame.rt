@@ -19,7 +19,7 @@ const HIGHEST_PT: u8 = 127;
 /// A packet of a frame.
 #[derive(Drop)]
 pub struct FramePacket<A: Allocator + Copy = Global> {
-    /// The source's extended sequence number.
+    /// The source's extended sequence number, at least -65536 if it comes from a gate.
     pub ext: i64,
     /// The marker bit. Only the last packet of a frame may have it.
     pub marker: bool,

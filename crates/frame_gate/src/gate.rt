@@ -9,7 +9,7 @@ ghost use Rattle.frame_gate.specs.Admits.{Admits, Represents, IsAt, Takes, Commi
 ghost use Rattle.frame_gate.specs.Packets.{NumberedPacket, numbered, ext_of, IsExt};
 ghost use Rattle.frame_gate.specs.Frame.{WholeFrame, highest_pt};
 
-use crate::cells::{ROOM, empty_cells, find_held, forget_between};
+use crate::cells::{CELLS, empty_cells, find_held, forget_between};
 use crate::held::HeldPacket;
 use crate::missing::missing;
 use crate::packet::{Packet, Place};
@@ -70,10 +70,10 @@ fn take<A: Allocator + Copy>(
     let near = resync(alloc, cells, walk, packet.number, &mut frames)?;
     // No number above the greatest taken one is held, so none is looked for.
     let behind = greatest.unwrap_or(0).max(packet.number) + 1;
-    let to = behind.min(near.next + ROOM);
+    let to = behind.min(near.next + CELLS);
     let far = drain(alloc, cells, Some(&packet), near, to, &mut frames)?;
     let nacks = missing(alloc, greatest, far.next, packet.number)?;
-    let pli = packet.number - walk.next >= ROOM;
+    let pli = packet.number - walk.next >= CELLS;
     Ok(PreparedAnswer {
         packet,
         walk: far,
@@ -191,7 +191,7 @@ impl<A: Allocator + Copy> Gate<A> {
         ensures { Takes self.old packet walk self.new }
     {
         let number = packet.number;
-        self.cells[(number % ROOM) as usize] = Some(packet);
+        self.cells[(number % CELLS) as usize] = Some(packet);
         forget_between(&mut self.cells, self.walk.next, walk.next);
         self.walk = walk;
         self.greatest = Some(self.greatest.unwrap_or(0).max(number));

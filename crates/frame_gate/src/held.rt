@@ -17,10 +17,15 @@ const BELOW: i64 = 65536;
 /// A packet and its number: its extended sequence number plus 65536, so that it is not negative.
 #[derive(Drop)]
 pub struct HeldPacket<A: Allocator + Copy = Global> {
+    /// The number, below 2^63.
     pub number: u64,
+    /// The marker bit.
     pub marker: bool,
+    /// The payload type, at most 127.
     pub pt: u8,
+    /// The RTP timestamp, at 90000 Hz.
     pub ts: u32,
+    /// The payload, which may be empty.
     pub payload: Bytes<A>,
 }
 

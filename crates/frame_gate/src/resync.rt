@@ -6,7 +6,7 @@ ghost use Rattle.frame_gate.specs.Epochs.{Epoch, placed, resynced};
 ghost use Rattle.frame_gate.specs.inner.Ties.{Tied};
 ghost use Rattle.frame_gate.specs.Frame.{WholeFrame};
 
-use crate::cells::{ROOM, least_held};
+use crate::cells::{CELLS, least_held};
 use crate::frame::Frame;
 use crate::held::HeldPacket;
 use crate::walk::{Walk, drain};
@@ -35,7 +35,7 @@ fn cut<A: Allocator + Copy>(
         first: true,
         stamp: None,
     };
-    drain(alloc, cells, None, begun, walk.next + ROOM, frames)
+    drain(alloc, cells, None, begun, walk.next + CELLS, frames)
 }
 
 /// Places cuts until the number fits the cells.
@@ -53,10 +53,10 @@ pub fn resync<A: Allocator + Copy>(
         → Tied (held cells.now None) given e from frames.old.items → number < from.next + 256 + most
         → Tied (held cells.now None) given (resynced most e number) w frames.new.items) }
     ensures next { IfOk result (λ w. (from.next ≤ w.next) × (w.next ≤ w.after) × (w.next ≤ number)) }
-    ensures room { IfOk result (λ w. number < w.next + 256) }
+    ensures capacity { IfOk result (λ w. number < w.next + 256) }
 {
     let mut walk = from;
-    while number - walk.next >= ROOM {
+    while number - walk.next >= CELLS {
         walk = cut(alloc, cells, walk, number, frames)?;
     }
     Ok(walk)

@@ -9,7 +9,7 @@ use Rattle.rtcp_codec.specs.declared.report.ReportBlock.{ReportBlock}
 use Rattle.rtcp_codec.specs.Report.{FitsLost}
 use Rattle.desk_rows.specs.declared.row.Member.{Member}
 use Rattle.desk_rows.specs.declared.row.Source.{Source}
-use Rattle.intake.specs.declared.known.Key.{Key}
+use Rattle.intake.specs.declared.known.OriginKey.{OriginKey}
 use Rattle.intake.specs.Stories.{Story}
 use Rattle.intake.specs.Sources.{Origin, Known, story_at}
 use Rattle.intake.specs.Reported.{block_on, block_from, blocks_of}
@@ -33,12 +33,12 @@ no_block ssrc moment (Some story) h = absurd h
 own : (moment : ℕ) (known : List Known) (m : Member) (s : Source) → s.member ≡ m.member → block_from moment known m s ≡ option_and_then (block_on s.ssrc moment) (story_at (origin m s) known)
 own moment known m s is = ap (λ b. if b then option_and_then (block_on s.ssrc moment) (story_at (origin m s) known) else None) (eq-eqb s.member m.member is)
 
-pub from_kept : (moment : ℕ) (es : List (Key × KeptOf)) (known : List Known) (m : Member) (s : Source) (k : KeptOf) (r : Option ReportBlock) → s.member ≡ m.member → Holds es known → kept_at (key_of (origin m s)) es ≡ Some k
+pub from_kept : (moment : ℕ) (es : List (OriginKey × KeptOf)) (known : List Known) (m : Member) (s : Source) (k : KeptOf) (r : Option ReportBlock) → s.member ≡ m.member → Holds es known → kept_at (key_of (origin m s)) es ≡ Some k
     → ((story : Story) → Keeps k story → r ≡ block_on s.ssrc moment story) → r ≡ block_from moment known m s
 from_kept moment es known m s k r is h at told =
     known_block s.ssrc moment k (story_at (origin m s) known) r (subst (λ (o : Option KeptOf). KeepsAny o (story_at (origin m s) known)) at (kept_story (origin m s) es known h)) told ∙ sym (own moment known m s is)
 
-pub from_none : (moment : ℕ) (es : List (Key × KeptOf)) (known : List Known) (m : Member) (s : Source) → s.member ≡ m.member → Holds es known → kept_at (key_of (origin m s)) es ≡ None → None ≡ block_from moment known m s
+pub from_none : (moment : ℕ) (es : List (OriginKey × KeptOf)) (known : List Known) (m : Member) (s : Source) → s.member ≡ m.member → Holds es known → kept_at (key_of (origin m s)) es ≡ None → None ≡ block_from moment known m s
 from_none moment es known m s is h at =
     no_block s.ssrc moment (story_at (origin m s) known) (subst (λ (o : Option KeptOf). KeepsAny o (story_at (origin m s) known)) at (kept_story (origin m s) es known h)) ∙ sym (own moment known m s is)
 

@@ -8,7 +8,7 @@ use Rattle.frame_gate.specs.Epochs.{epoch_of}
 use Rattle.frame_gate.specs.Admits.{Answers}
 use Rattle.intake.specs.Stories.{Story, Mark, untold, story_by, judged, begins, judged_on, initialises, arrival}
 use Rattle.intake.specs.inner.Kept.{KeptOf, JudgedOf, AdmissionOf, HasGiven, HasGated, Keeps, Judges, Becomes, Admits, gate_in, gate_for, kept_by}
-use Rattle.intake.specs.inner.Moves.{source_in, epoch_in, next_of}
+use Rattle.intake.specs.inner.Moves.{state_in, epoch_in, next_of}
 
 -- what is kept, if anything, of a source with this story, if it has one
 abbrev pub KeepsAny : Option KeptOf → Option Story → Type 0
@@ -18,7 +18,7 @@ KeepsAny (Some k) None = ⊥
 KeepsAny (Some k) (Some story) = Keeps k story
 
 pub record StandsAt (kept : Option KeptOf) (story : Story) : Type 0 where
-  pub given : HasGiven (source_in kept) story.given
+  pub given : HasGiven (state_in kept) story.given
   pub epoch : epoch_in kept ≡ story.epoch
   pub gated : HasGated (gate_in kept) story.gated
 
@@ -40,7 +40,7 @@ gated_by None packets false h = h
 gated_by (Some k) packets true h = refl
 gated_by (Some k) packets false h = h
 
-module _ (kept : Option KeptOf) (story : Story) (epochs : ℕ) (m : Mark) (j : JudgedOf) (at : StandsAt kept story) (judges : Judges (source_in kept) m j) where
+module _ (kept : Option KeptOf) (story : Story) (epochs : ℕ) (m : Mark) (j : JudgedOf) (at : StandsAt kept story) (judges : Judges (state_in kept) m j) where
   pub verdict_is : j.verdict ≡ judged story m.seq
   verdict_is = judges.verdict story.given at.given
 

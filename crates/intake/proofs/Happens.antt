@@ -9,7 +9,7 @@ use Rattle.frame_gate.specs.Epochs.{epoch_of, frames_of, place_of, nacks_of, giv
 use Rattle.frame_gate.specs.Admits.{Answers}
 use Rattle.intake.specs.declared.outcome.Outcome.TheVariants.{Spent}
 use Rattle.intake.specs.declared.outcome.Outcome.TheVariants as outcomes
-use Rattle.intake.specs.declared.known.Key.{Key}
+use Rattle.intake.specs.declared.known.OriginKey.{OriginKey}
 use Rattle.intake.specs.Stories.{Story, Mark, story_by, judged, begins, judged_on}
 use Rattle.intake.specs.Sources.{Sources, story_at}
 use Rattle.media_items.specs.Inputs.{Input}
@@ -20,7 +20,7 @@ use Rattle.intake.specs.Taking.{Voice, IsVoice, asked_of, most_epochs, answer_of
 use Rattle.intake.specs.Intakes.{Knows}
 use Rattle.intake.specs.inner.Kept.{KeptOf, JudgedOf, AdmissionOf, Keeps, Judges, Becomes, Admits, gate_for, kept_by}
 use Rattle.intake.specs.inner.Holding.{IntakeOf, key_of, kept_at, kept_for, put_first}
-use Rattle.intake.specs.inner.Moves.{source_in, next_of, Advances, Gates, outcome_at, given}
+use Rattle.intake.specs.inner.Moves.{state_in, next_of, Advances, Gates, outcome_at, given}
 use Rattle.intake.proofs.KnownSources.{kept_story, holds_used}
 use Rattle.intake.proofs.Courses.{StandsAt, stands_at, verdict_is, begins_is, epoch_is, keeps_plain, answers_is, keeps_packet}
 
@@ -41,17 +41,17 @@ drop-front [] ys = refl
 drop-front (x ∷ xs) ys = drop-front xs ys
 
 -- judged under another name of the key and the mark
-pub named_so : (old : IntakeOf) (j : JudgedOf) (key same_key : Key) (m same_mark : Mark) → key ≡ same_key → m ≡ same_mark → Judges (source_in (kept_for key m.rate old.entries)) m j → Judges (source_in (kept_for same_key same_mark.rate old.entries)) same_mark j
-named_so old j key same_key m same_mark k e h = subst (λ (x : Key). Judges (source_in (kept_for x same_mark.rate old.entries)) same_mark j) k (subst (λ (x : Mark). Judges (source_in (kept_for key x.rate old.entries)) x j) e h)
+pub named_so : (old : IntakeOf) (j : JudgedOf) (key same_key : OriginKey) (m same_mark : Mark) → key ≡ same_key → m ≡ same_mark → Judges (state_in (kept_for key m.rate old.entries)) m j → Judges (state_in (kept_for same_key same_mark.rate old.entries)) same_mark j
+named_so old j key same_key m same_mark k e h = subst (λ (x : OriginKey). Judges (state_in (kept_for x same_mark.rate old.entries)) same_mark j) k (subst (λ (x : Mark). Judges (state_in (kept_for key x.rate old.entries)) x j) e h)
 
 -- put to the gate under another name of the key and the number
-pub gates_so : (old new : IntakeOf) (j : JudgedOf) (c : Coming) (p : GatePacket) (i : Ingested) (key same_key : Key) (ext same_ext : ℤ) → key ≡ same_key → ext ≡ same_ext
+pub gates_so : (old new : IntakeOf) (j : JudgedOf) (c : Coming) (p : GatePacket) (i : Ingested) (key same_key : OriginKey) (ext same_ext : ℤ) → key ≡ same_key → ext ≡ same_ext
     → Gates old new key j c (numbered ext p) i → Gates old new same_key j c (numbered same_ext p) i
 gates_so old new j c p i key same_key ext same_ext k e h =
-    subst (λ (x : Key). Gates old new x j c (numbered same_ext p) i) k (subst (λ (x : ℤ). Gates old new key j c (numbered x p) i) e h)
+    subst (λ (x : OriginKey). Gates old new x j c (numbered same_ext p) i) k (subst (λ (x : ℤ). Gates old new key j c (numbered x p) i) e h)
 
 -- put to the gate of an intake that is the same, with a packet and a number that are the same
-pub gates_from : (old now new : IntakeOf) (key : Key) (j : JudgedOf) (c : Coming) (p q : GatePacket) (i : Ingested) (ext same_ext : ℤ) → old ≡ now → p ≡ q → ext ≡ same_ext
+pub gates_from : (old now new : IntakeOf) (key : OriginKey) (j : JudgedOf) (c : Coming) (p q : GatePacket) (i : Ingested) (ext same_ext : ℤ) → old ≡ now → p ≡ q → ext ≡ same_ext
     → Gates old new key j c (numbered ext p) i → Gates now new key j c (numbered same_ext q) i
 gates_from old now new key j c p q i ext same_ext o e x h =
     subst (λ (y : IntakeOf). Gates y new key j c (numbered same_ext q) i) o (subst (λ (y : GatePacket). Gates old new key j c (numbered same_ext y) i) e (subst (λ (y : ℤ). Gates old new key j c (numbered y p) i) x h))
@@ -77,7 +77,7 @@ range_of (Accepted e) ext range is = let same : e ≡ ext = cc in subst IsExt sa
 range_of Jump ext range is = cc
 range_of (Restarted e) ext range is = let same : e ≡ ext = cc in subst IsExt same range
 
-module _ (rate : ℕ) (course_of : Verdict → Story → Course) (c : Coming) (old : IntakeOf) (j : JudgedOf) (judges : Judges (source_in (kept_for (key_of (origin_of c)) rate old.entries)) (mark_of rate c) j) where
+module _ (rate : ℕ) (course_of : Verdict → Story → Course) (c : Coming) (old : IntakeOf) (j : JudgedOf) (judges : Judges (state_in (kept_for (key_of (origin_of c)) rate old.entries)) (mark_of rate c) j) where
   module _ (s : Sources) (knows : Knows old s) where
     abbrev kept : Option KeptOf
     kept = kept_for (key_of (origin_of c)) rate old.entries

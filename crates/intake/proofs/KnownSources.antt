@@ -5,14 +5,14 @@ use Rattle.std.proofs.lemmas.Bool.{eqb-true}
 use Rattle.std.specs.Str.{bytes_eq}
 use Rattle.std.specs.Map.{lookup_entry, remove_entry, set_value}
 use Rattle.std.specs.Option.{option_map_or}
-use Rattle.intake.specs.declared.known.Key.{Key}
+use Rattle.intake.specs.declared.known.OriginKey.{OriginKey}
 use Rattle.intake.specs.Stories.{Story}
 use Rattle.intake.specs.Sources.{Origin, Known, most_known, same_origin, story_at, without, used, retold}
 use Rattle.intake.specs.inner.Kept.{KeptOf, Keeps}
 use Rattle.intake.specs.inner.Holding.{Holds, same_key, key_of, kept_at, put_first}
 use Rattle.intake.proofs.Courses.{KeepsAny}
 
-pub kept_story : (o : Origin) (es : List (Key × KeptOf)) (ks : List Known) → Holds es ks → KeepsAny (kept_at (key_of o) es) (story_at o ks)
+pub kept_story : (o : Origin) (es : List (OriginKey × KeptOf)) (ks : List Known) → Holds es ks → KeepsAny (kept_at (key_of o) es) (story_at o ks)
 kept_story o [] [] h = tt
 kept_story o [] (k ∷ ks) h = absurd h
 kept_story o (e ∷ es) [] h = absurd h
@@ -32,7 +32,7 @@ equal_octets xs ys h = (bytes_eq-Decides xs ys).0 h
 equal_numbers : (m n : ℕ) → nat_eq m n ≡ true → m ≡ n
 equal_numbers m n h = eqb-true m n h
 
-key_with : List ℕ → ℕ → ℕ → Key
+key_with : List ℕ → ℕ → ℕ → OriginKey
 key_with ip port ssrc = record { ip = ip; port = port; ssrc = ssrc }
 
 pub equal_keys : (o p : Origin) → same_origin o p ≡ true → key_of p ≡ key_of o
@@ -42,7 +42,7 @@ equal_keys o p h =
     let two = both (nat_eq o.address.port p.address.port) (nat_eq o.ssrc p.ssrc) one.1 in
     sym (ap (λ x. key_with x o.address.port o.ssrc) (equal_octets _ _ one.0) ∙ ap (λ x. key_with p.address.ip x o.ssrc) (equal_numbers _ _ two.0) ∙ ap (λ x. key_with p.address.ip p.address.port x) (equal_numbers _ _ two.1))
 
-holds_front : (n : ℕ) (es : List (Key × KeptOf)) (ks : List Known) → Holds es ks → Holds (take n es) (take n ks)
+holds_front : (n : ℕ) (es : List (OriginKey × KeptOf)) (ks : List Known) → Holds es ks → Holds (take n es) (take n ks)
 holds_front zero es ks h = tt
 holds_front (suc n) [] [] h = tt
 holds_front (suc n) [] (k ∷ ks) h = absurd h
@@ -50,19 +50,19 @@ holds_front (suc n) (e ∷ es) [] h = absurd h
 holds_front (suc n) (e ∷ es) (k ∷ ks) h = (h.0, holds_front n es ks h.1)
 
 -- the entry of an origin is found where its source is known, and without both the others are held
-pub record Parted (o : Origin) (es : List (Key × KeptOf)) (ks : List Known) : Type 0 where
+pub record Parted (o : Origin) (es : List (OriginKey × KeptOf)) (ks : List Known) : Type 0 where
   pub found : is_some (story_at o ks) ≡ is_some (lookup_entry (same_key (key_of o)) es)
-  pub key : (e : Key × KeptOf) → lookup_entry (same_key (key_of o)) es ≡ Some e → e.0 ≡ key_of o
+  pub key : (e : OriginKey × KeptOf) → lookup_entry (same_key (key_of o)) es ≡ Some e → e.0 ≡ key_of o
   pub rest : is_some (story_at o ks) ≡ true → Holds (remove_entry (same_key (key_of o)) es) (without o ks)
 
-parted : (o : Origin) (es : List (Key × KeptOf)) (ks : List Known) → Holds es ks → Parted o es ks
+parted : (o : Origin) (es : List (OriginKey × KeptOf)) (ks : List Known) → Holds es ks → Parted o es ks
 parted o [] [] h = record { found = refl; key = λ e is. cc; rest = λ is. cc }
 parted o [] (k ∷ ks) h = absurd h
 parted o (e ∷ es) [] h = absurd h
 parted o (e ∷ es) (k ∷ ks) h = (elim (same_origin o k.origin) as (λ y. same_origin o k.origin ≡ y → Parted o (e ∷ es) (k ∷ ks)) [
   | true ↦ λ t. let passes : same_key (key_of o) e.0 ≡ true = ap (same_key (key_of o)) h.0.0 ∙ t in record {
     found = rw passes (rw t refl);
-    key = λ f is. let same : e ≡ f = (let is' = rw passes at is in cc) in subst (λ (x : Key × KeptOf). x.0 ≡ key_of o) same (h.0.0 ∙ equal_keys o k.origin t);
+    key = λ f is. let same : e ≡ f = (let is' = rw passes at is in cc) in subst (λ (x : OriginKey × KeptOf). x.0 ≡ key_of o) same (h.0.0 ∙ equal_keys o k.origin t);
     rest = λ is. rw passes (rw t h.1);
   }
   | false ↦ λ f. let fails : same_key (key_of o) e.0 ≡ false = ap (same_key (key_of o)) h.0.0 ∙ f in let on = parted o es ks h.1 in record {
@@ -72,8 +72,8 @@ parted o (e ∷ es) (k ∷ ks) h = (elim (same_origin o k.origin) as (λ y. same
   }
 ]) refl
 
-placed : (o : Origin) (k : KeptOf) (story : Story) (es : List (Key × KeptOf)) (ks : List Known) (b : Bool) (x : Option (Key × KeptOf)) → Keeps k story → Holds es ks → b ≡ is_some x
-    → ((e : Key × KeptOf) → x ≡ Some e → e.0 ≡ key_of o) → (b ≡ true → Holds (remove_entry (same_key (key_of o)) es) (without o ks))
+placed : (o : Origin) (k : KeptOf) (story : Story) (es : List (OriginKey × KeptOf)) (ks : List Known) (b : Bool) (x : Option (OriginKey × KeptOf)) → Keeps k story → Holds es ks → b ≡ is_some x
+    → ((e : OriginKey × KeptOf) → x ≡ Some e → e.0 ≡ key_of o) → (b ≡ true → Holds (remove_entry (same_key (key_of o)) es) (without o ks))
     → Holds (option_map_or (λ e. (e.0, k) ∷ remove_entry (same_key (key_of o)) es) x ((key_of o, k) ∷ take (most_known - 1) es))
     (if b then record { origin = o; story = story } ∷ without o ks else record { origin = o; story = story } ∷ take (most_known - 1) ks)
 placed o k story es ks true (Some e) keeps h same key rest = ((key e refl, keeps), rest refl)
@@ -81,12 +81,12 @@ placed o k story es ks false None keeps h same key rest = ((refl, keeps), holds_
 placed o k story es ks true None keeps h same key rest = cc
 placed o k story es ks false (Some e) keeps h same key rest = cc
 
-pub holds_used : (o : Origin) (k : KeptOf) (story : Story) (es : List (Key × KeptOf)) (ks : List Known) → Keeps k story → Holds es ks → Holds (put_first (key_of o) k es) (used (record { origin = o; story = story }) ks)
+pub holds_used : (o : Origin) (k : KeptOf) (story : Story) (es : List (OriginKey × KeptOf)) (ks : List Known) → Keeps k story → Holds es ks → Holds (put_first (key_of o) k es) (used (record { origin = o; story = story }) ks)
 holds_used o k story es ks keeps h = let parts = parted o es ks h in
     placed o k story es ks (is_some (story_at o ks)) (lookup_entry (same_key (key_of o)) es) keeps h parts.found parts.key parts.rest
 
 -- with another value for the source at an origin
-pub holds_retold : (o : Origin) (f : Story → Story) (k w : KeptOf) (es : List (Key × KeptOf)) (ks : List Known) → Holds es ks → kept_at (key_of o) es ≡ Some k → ((story : Story) → Keeps k story → Keeps w (f story))
+pub holds_retold : (o : Origin) (f : Story → Story) (k w : KeptOf) (es : List (OriginKey × KeptOf)) (ks : List Known) → Holds es ks → kept_at (key_of o) es ≡ Some k → ((story : Story) → Keeps k story → Keeps w (f story))
     → Holds (set_value (same_key (key_of o)) es w) (retold o f ks)
 holds_retold o f k w [] ks h is keeps = cc
 holds_retold o f k w (e ∷ es) [] h is keeps = absurd h
@@ -98,7 +98,7 @@ holds_retold o f k w (e ∷ es) (x ∷ ks) h is keeps = (elim (same_origin o x.o
       rw fails (rw t (h.0, holds_retold o f k w es ks h.1 (rw fails at is) keeps))
 ]) refl
 
-pub holds_same : (o : Origin) (f : Story → Story) (es : List (Key × KeptOf)) (ks : List Known) → Holds es ks → kept_at (key_of o) es ≡ None → Holds es (retold o f ks)
+pub holds_same : (o : Origin) (f : Story → Story) (es : List (OriginKey × KeptOf)) (ks : List Known) → Holds es ks → kept_at (key_of o) es ≡ None → Holds es (retold o f ks)
 holds_same o f [] [] h is = tt
 holds_same o f [] (k ∷ ks) h is = absurd h
 holds_same o f (e ∷ es) [] h is = absurd h

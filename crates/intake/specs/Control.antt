@@ -1,4 +1,4 @@
--- What an RTCP compound comes to (RFC 3550 section 6.4.1, RFC 4585 sections 6.2.1 and 6.3.1; what has no effect is own).
+-- What an RTCP compound does (RFC 3550 section 6.4.1, RFC 4585 sections 6.2.1 and 6.3.1; what has no effect is own).
 use Rattle.std.specs.Prelude.{ℕ, if◌then◌else◌, List, [], ◌∷◌, ◌++◌, map, fold}
 use Rattle.rtp_codec.specs.declared.address.Address.{Address}
 use Rattle.rtcp_codec.specs.declared.report.ReportBlock.{ReportBlock}

@@ -1,4 +1,4 @@
--- What a datagram comes to (own).
+-- The answer to a datagram (own).
 use Rattle.std.specs.Prelude.{ℕ, List, [], map}
 use Rattle.rtp_codec.specs.declared.address.Address.{Address}
 use Rattle.intake.specs.declared.outcome.Outcome.{Outcome}
@@ -6,7 +6,7 @@ use Rattle.media_items.specs.Inputs.{Input, input_of}
 use Rattle.intake.specs.declared.ingest.Ingest.{Ingest}
 use Rattle.std.specs.declared.vec.Vec.{Vec}
 
--- its outcome, the datagrams that go up to its sender, and the items for the lanes
+-- its outcome, the datagrams that are sent back, and the items for the lanes
 pub record Ingested : Type 0 where
   pub outcome : Outcome
   pub up : List (Address × List ℕ)

@@ -1,4 +1,4 @@
--- What a media packet comes to for its source (audio: RFC 3551 sections 4.5.11 and 4.5.14; its limits are own).
+-- What a media packet does for its source (audio: RFC 3551 sections 4.5.11 and 4.5.14; its limits are own).
 use Rattle.std.specs.Prelude.{ℕ, ℤ, Bool, true, false, ◌||◌, nat_eq, if◌then◌else◌, List, [], ◌∷◌, ◌++◌, length, drop, map, Option, None, Some, is_some}
 use Rattle.rtp_codec.specs.declared.address.Address.{Address}
 use Rattle.rtp_codec.specs.Packet.{Packet}
@@ -44,7 +44,7 @@ holding octets (Some format) = if holds_whole format octets then Some format els
 abbrev pub audio_format : (rate pt octets : ℕ) → Option Format
 audio_format rate pt octets = holding octets (format_of_packet pt rate)
 
--- what a packet comes to for its source: the outcome and the source's story, the items that it makes, the numbers that are newly missing, and whether a picture is lost
+-- what a packet does for its source: the outcome and the source's story, the items that it makes, the numbers that are newly missing, and whether a picture is lost
 pub record Course : Type 0 where
   pub outcome : Outcome
   pub story : Story
@@ -106,7 +106,7 @@ restarts (Accepted ext) = false
 restarts Jump = false
 restarts (Restarted ext) = true
 
--- what a video packet comes to by its verdict: nothing but the verdict on probation and at a jump, else what its gate gives
+-- what a video packet does, by its verdict: nothing but the verdict on probation and at a jump, else what its gate gives
 abbrev pub video_course : Coming → Verdict → Story → Course
 video_course c Probation story = plain Probation story
 video_course c (Accepted ext) story = gated_with c (numbered ext (gate_packet c.packet)) (placed ext) false story

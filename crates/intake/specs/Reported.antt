@@ -1,4 +1,4 @@
--- What is told of sources to the members that send them (RFC 3550 section 6.4.2; which of them are told of is own).
+-- What is reported of sources to the members that send them (RFC 3550 section 6.4.2; which of them are reported is own).
 use Rattle.std.specs.Prelude.{ℕ, if◌then◌else◌, nat_eq, List, [], ◌∷◌, ◌++◌, fold, Option, None, Some}
 use Rattle.std.specs.Option.{option_and_then}
 use Rattle.std.specs.List.{filter_map, flat_map}
@@ -31,12 +31,12 @@ block_in (Valid s) timing heard ssrc moment = Some (block_of s timing heard ssrc
 abbrev pub block_on : (ssrc moment : ℕ) → Story → Option ReportBlock
 block_on ssrc moment story = block_in (standing_of story.given) (timing_of story.given) (heard_of story.given) ssrc moment
 
--- the block of a source, where it is this member's and known at the member's address
+-- the block of a source, if it is this member's and known at the member's address
 abbrev pub block_from : (moment : ℕ) → List Known → Member → Source → Option ReportBlock
 block_from moment known m s =
     if nat_eq s.member m.member then option_and_then (block_on s.ssrc moment) (story_at (record { address = m.address; ssrc = s.ssrc }) known) else None
 
--- the story with a block, with which a new interval begins; nothing is told of a source on probation
+-- the story with a block, with which a new interval begins; a source on probation gets none
 abbrev pub renewed : Story → Story
 renewed story =
     if past_probation_in (standing_of story.given) then record { rate = story.rate; given = story.given ++ Block ∷ []; epoch = story.epoch; gated = story.gated } else story
@@ -52,14 +52,14 @@ renewed_at ssrc (Some m) known = retold (record { address = m.address; ssrc = ss
 abbrev pub blocks_of : List Source → (moment : ℕ) → List Known → Member → List ReportBlock
 blocks_of sources moment known m = filter_map (block_from moment known m) sources
 
--- the datagram that tells blocks to an address; without a block there is none
+-- the datagram of blocks to an address; without a block there is none
 abbrev pub report_to : Asker → Address → List ReportBlock → List (Address × List ℕ)
 report_to asker address [] = []
 report_to asker address (b ∷ blocks) = (address, written (receiver_packets asker.ssrc (b ∷ blocks) asker.cname)) ∷ []
 
 -- ---- all
 
--- what is told to members of those of the sources that are theirs, member by member
+-- the datagrams to members on those of the sources that are theirs, member by member
 abbrev pub told_to_members : Asker → List Source → (moment : ℕ) → List Known → List Member → List (Address × List ℕ)
 told_to_members asker sources moment known members = flat_map (λ m. report_to asker m.address (blocks_of sources moment known m)) members
 
@@ -71,7 +71,7 @@ renewed_on d known s = renewed_at s.ssrc (member_at d s.member) known
 abbrev pub all_renewed : Desk → List Known → List Source → List Known
 all_renewed d known sources = fold (renewed_on d) known sources
 
--- what the members of a desk are told at a moment, by place, each of its sources by SSRC, muted ones too; and the sources after it, those that were told of with new intervals
+-- the datagrams to the members of a desk at a moment, by place, each on the member's sources by SSRC, muted ones too; and the sources after it, the reported ones with new intervals
 abbrev pub reported : Asker → Desk → (moment : ℕ) → Sources → List (Address × List ℕ) × Sources
 reported asker d moment s =
     (told_to_members asker (sources_of d) moment s.known d.members, record { known = all_renewed d s.known (sources_of d); epochs = s.epochs })

@@ -28,7 +28,7 @@ pub record Sources : Type 0 where
 abbrev pub no_sources : Sources
 no_sources = record { known = []; epochs = 0 }
 
--- so many sources are known at most (own)
+-- the most sources that are known (own)
 abbrev pub most_known : ℕ
 most_known = 4096
 
@@ -42,7 +42,7 @@ abbrev pub without : Origin → List Known → List Known
 without origin [] = []
 without origin (k ∷ ks) = if same_origin origin k.origin then ks else k ∷ without origin ks
 
--- before the others, where it is one of them; a new one takes the place of the one whose last use is the longest ago, where there are as many as may be
+-- before the others, if it is one of them; a new one takes the place of the least recently used one, if there are as many as may be
 abbrev pub used : Known → List Known → List Known
 used k ks = if is_some (story_at k.origin ks) then k ∷ without k.origin ks else k ∷ take (most_known - 1) ks
 

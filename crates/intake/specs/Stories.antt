@@ -43,7 +43,7 @@ arrival (Accepted ext) m = Arrival m.ts m.units ∷ []
 arrival Jump m = []
 arrival (Restarted ext) m = Arrival m.ts m.units ∷ []
 
--- A source is initialised where its probation ends, and where it restarts.
+-- A source is initialised when its probation ends, and when it restarts.
 abbrev pub initialises : Standing → Verdict → Bool
 initialises standing Probation = false
 initialises standing (Accepted ext) = not (past_probation_in standing)
@@ -54,7 +54,7 @@ initialises standing (Restarted ext) = true
 abbrev pub begins : Story → ℕ → Bool
 begins story seq = initialises (standing_of story.given) (judged story seq)
 
--- the story with a packet, where so many epochs have begun: an initialisation begins the next one, with no packet in its gate
+-- the story with a packet, after this many epochs: an initialisation begins the next one, with no packet in its gate
 abbrev pub judged_on : Story → ℕ → Mark → Story
 judged_on story epochs m = record {
   rate = m.rate;

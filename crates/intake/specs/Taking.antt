@@ -1,4 +1,4 @@
--- What a datagram comes to, and what is known of sources after it: the first outcome that holds (own).
+-- The answer to a datagram, and what is known of sources after it: the first outcome that holds (own).
 use Rattle.std.specs.Prelude.{ℕ, ℤ, ◌+◌, ◌-◌, ◌<◌, ◌^◌, Bool, not, ◌&&◌, nat_eq, if◌then◌else◌, List, [], ◌∷◌, length, map, Option, None, Some, unwrap_or}
 use Rattle.std.specs.List.{flat_map, AllByRecursion}
 use Rattle.rtp_codec.specs.declared.address.Address.{Address}
@@ -40,7 +40,7 @@ pub record Datagram : Type 0 where
   pub moment : ℕ
   pub reading : Reading
 
--- so many epochs there are at most (own)
+-- the most epochs (own)
 abbrev pub most_epochs : ℕ
 most_epochs = 2 ^ 64 - 1
 
@@ -50,11 +50,11 @@ most_epochs = 2 ^ 64 - 1
 unfoldable pub asking : Voice → ℕ → List ℤ → Bool → List ℕ
 asking voice source nacks pli = written (upstream_packets voice.asker source (voice.words (map seq_of nacks)) pli)
 
--- what goes up to a source of which packets are missing, or a picture is lost
+-- what is sent to a source whose packets are missing, or whose picture is lost
 abbrev pub asked_of : Voice → Origin → List ℤ → Bool → List (Address × List ℕ)
 asked_of voice o nacks pli = if nat_eq (length nacks) 0 && not pli then [] else (o.address, asking voice o.ssrc nacks pli) ∷ []
 
--- what is answered where a packet comes to this for its source
+-- the answer to a packet that does this for its source
 abbrev pub answer_of : Voice → Coming → Course → Ingested
 answer_of voice c course = record {
   outcome = course.outcome;
@@ -69,7 +69,7 @@ sources_after c initialised course s = record {
   epochs = if initialised then s.epochs + 1 else s.epochs;
 }
 
--- what the packet comes to for a source with this story, unless it would begin an epoch and none is left
+-- what the packet does for a source with this story, unless it would begin an epoch and none is left
 abbrev pub taken_by : Voice → ℕ → (Verdict → Story → Course) → Coming → Sources → Story → Ingested × Sources
 taken_by voice rate course_of c s story =
     if begins story (mark_of rate c).seq && nat_eq s.epochs most_epochs then (only Spent, s)
@@ -121,6 +121,6 @@ read_as voice d (packet p) s =
 read_as voice d (no_compound fault) s = (only (BadRtcp fault), s)
 read_as voice d (compound packets) s = of_member (member_from d.desk d.from) d.from d.moment packets s
 
--- what a datagram comes to, and the sources after it
+-- the answer to a datagram, and the sources after it
 abbrev pub taken_in : Voice → Sources → Datagram → Ingested × Sources
 taken_in voice s d = read_as voice d d.reading s

@@ -9,14 +9,14 @@ ghost use Rattle.intake.specs.Media.{told};
 ghost use Rattle.intake.specs.Taking.{most_epochs};
 ghost use Rattle.intake.specs.inner.Kept.{Judges, base_of, gate_for};
 ghost use Rattle.intake.specs.inner.Holding.{kept_for};
-ghost use Rattle.intake.specs.inner.Moves.{source_in, epoch_in, IsKept, Advances};
+ghost use Rattle.intake.specs.inner.Moves.{state_in, epoch_in, IsKept, Advances};
 
 use crate::admitting::Admission;
 use crate::ingest::Ingest;
 use crate::intake::Intake;
 use crate::judging::{Judged, Mark, judge};
-use crate::kept::{Kept, Next};
-use crate::known::Key;
+use crate::kept::{Kept, NextState};
+use crate::known::OriginKey;
 use crate::outcome::Outcome;
 use frame_gate::Admitted;
 use media_items::Item;
@@ -24,8 +24,8 @@ use source_valid::{SourceState, Verdict};
 use std::alloc::{AllocError, Allocator};
 
 /// The state of a known source.
-fn source_in<A: Allocator + Copy>(kept: Option<&Kept<A>>) -> Option<SourceState>
-    ensures { result ≡ source_in (option_copied kept.entry) }
+fn state_in<A: Allocator + Copy>(kept: Option<&Kept<A>>) -> Option<SourceState>
+    ensures { result ≡ state_in (option_copied kept.entry) }
 {
     match kept {
         None => None,
@@ -68,7 +68,7 @@ fn next_with<A: Allocator + Copy>(
     judged: &Judged,
     epoch: u64,
     admission: Option<Admission<A>>,
-) -> Next<A>
+) -> NextState<A>
     ensures { result
         ≡ record {
           rate = judged.now.rate;
@@ -78,7 +78,7 @@ fn next_with<A: Allocator + Copy>(
           admission = admission;
         } }
 {
-    Next {
+    NextState {
         rate: judged.rate,
         source: judged.source,
         epoch,
@@ -90,12 +90,12 @@ fn next_with<A: Allocator + Copy>(
 impl<A: Allocator + Copy> Intake<A> {
     /// Judges a packet by its source.
     #[inline(always)]
-    pub(crate) fn judged(&self, key: &Key, mark: Mark) -> Judged
-        ensures judges { Judges (source_in (kept_for key.now mark.rate self.now.entries)) mark result }
+    pub(crate) fn judged(&self, key: &OriginKey, mark: Mark) -> Judged
+        ensures judges { Judges (state_in (kept_for key.now mark.rate self.now.entries)) mark result }
         ensures epoch { result.epoch ≡ epoch_in (kept_for key.now result.rate self.now.entries) }
     {
         let kept = self.known.at_rate(key, mark.rate);
-        judge(source_in(kept), epoch_in(kept), mark)
+        judge(state_in(kept), epoch_in(kept), mark)
     }
 
     /// Whether the packet would begin an epoch, but no number is left for it.
@@ -118,8 +118,12 @@ impl<A: Allocator + Copy> Intake<A> {
 
     /// Keeps the next state of a source.
     #[inline(always)]
-    fn keep(&mut self, key: Key, next: Next<A>) -> Result<Option<Admitted<A>>, AllocError>
-        requires room { (next.begins && nat_eq self.old.epochs most_epochs) ≡ false }
+    fn keep(
+        &mut self,
+        key: OriginKey,
+        next: NextState<A>,
+    ) -> Result<Option<Admitted<A>>, AllocError>
+        requires below { (next.begins && nat_eq self.old.epochs most_epochs) ≡ false }
         requires ready { IfSome next.admission
             (λ a. is_some (base_of (gate_for (kept_for key next.rate self.old.entries) next.begins) a) ≡ true) }
         ensures kept { OnOk result (IsKept self.old self.new key next) }
@@ -137,11 +141,11 @@ impl<A: Allocator + Copy> Intake<A> {
     #[inline(always)]
     pub(crate) fn advance(
         &mut self,
-        key: Key,
+        key: OriginKey,
         judged: &Judged,
         admission: Option<Admission<A>>,
     ) -> Result<Option<Admitted<A>>, AllocError>
-        requires room { (judged.now.begins && nat_eq self.old.epochs most_epochs) ≡ false }
+        requires below { (judged.now.begins && nat_eq self.old.epochs most_epochs) ≡ false }
         requires epoch { judged.now.epoch ≡ epoch_in (kept_for key judged.now.rate self.old.entries) }
         requires ready { IfSome admission
             (λ a. is_some
@@ -159,11 +163,11 @@ impl<A: Allocator + Copy> Intake<A> {
     pub(crate) fn telling(
         &mut self,
         alloc: A,
-        key: Key,
+        key: OriginKey,
         judged: &Judged,
         items: Vec<Item<A>, A>,
     ) -> Result<Ingest<A>, AllocError>
-        requires room { (judged.now.begins && nat_eq self.old.epochs most_epochs) ≡ false }
+        requires below { (judged.now.begins && nat_eq self.old.epochs most_epochs) ≡ false }
         requires epoch { judged.now.epoch ≡ epoch_in (kept_for key judged.now.rate self.old.entries) }
         requires sized { list_all is_sized (map input_of items.items) ≡ true }
         ensures advances { OnOk result (Advances self.old self.new key judged.now None) }
@@ -184,10 +188,10 @@ impl<A: Allocator + Copy> Intake<A> {
     pub(crate) fn plain(
         &mut self,
         alloc: A,
-        key: Key,
+        key: OriginKey,
         judged: &Judged,
     ) -> Result<Ingest<A>, AllocError>
-        requires room { (judged.now.begins && nat_eq self.old.epochs most_epochs) ≡ false }
+        requires below { (judged.now.begins && nat_eq self.old.epochs most_epochs) ≡ false }
         requires epoch { judged.now.epoch ≡ epoch_in (kept_for key judged.now.rate self.old.entries) }
         ensures advances { OnOk result (Advances self.old self.new key judged.now None) }
         ensures ingest { IfOk result (λ ingest. ingested_of ingest ≡ only (told judged.now.verdict)) }

@@ -22,7 +22,7 @@ use crate::ingest::Ingest;
 use crate::intake::Intake;
 use crate::judging::Judged;
 use crate::kept::Kept;
-use crate::known::Key;
+use crate::known::OriginKey;
 use crate::outcome::Outcome;
 use bytes::Bytes;
 use frame_gate::{Frame, Gate, Packet, Place};
@@ -102,7 +102,7 @@ fn framed<A: Allocator + Copy>(coming: Coming<'_>, epoch: u64, frame: Frame<A>) 
     })
 }
 
-/// Appends the frames as items. There is room for them.
+/// Appends the frames as items. The list has the capacity.
 fn put_frames<A: Allocator + Copy>(
     items: &mut Vec<Item<A>, A>,
     coming: Coming<'_>,
@@ -135,7 +135,7 @@ impl<A: Allocator + Copy> Intake<A> {
     fn admission(
         &self,
         alloc: A,
-        key: &Key,
+        key: &OriginKey,
         judged: &Judged,
         ext: i64,
         packet: Packet<A>,
@@ -155,12 +155,12 @@ impl<A: Allocator + Copy> Intake<A> {
     fn at_gate(
         &mut self,
         alloc: A,
-        key: Key,
+        key: OriginKey,
         judged: &Judged,
         coming: Coming<'_>,
         admission: Admission<A>,
     ) -> Result<Ingest<A>, AllocError>
-        requires room { (judged.now.begins && nat_eq self.old.epochs most_epochs) ≡ false }
+        requires below { (judged.now.begins && nat_eq self.old.epochs most_epochs) ≡ false }
         requires epoch { judged.now.epoch ≡ epoch_in (kept_for key judged.now.rate self.old.entries) }
         requires few { length admission.prepared.answer.nacks ≤ most_missing }
         requires ready { is_some
@@ -189,12 +189,12 @@ impl<A: Allocator + Copy> Intake<A> {
     pub(crate) fn gated(
         &mut self,
         alloc: A,
-        key: Key,
+        key: OriginKey,
         judged: &Judged,
         ext: i64,
         coming: Coming<'_>,
     ) -> Result<Ingest<A>, AllocError>
-        requires room { (judged.now.begins && nat_eq self.old.epochs most_epochs) ≡ false }
+        requires below { (judged.now.begins && nat_eq self.old.epochs most_epochs) ≡ false }
         requires epoch { judged.now.epoch ≡ epoch_in (kept_for key judged.now.rate self.old.entries) }
         requires ext { IsExt ext }
         requires pt { coming.view.now.pt ≤ highest_pt }

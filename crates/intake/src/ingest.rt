@@ -12,13 +12,13 @@ use std::alloc::{Allocator, Global};
 /// The answer to a datagram.
 #[derive(Drop)]
 pub struct Ingest<A: Allocator + Copy = Global> {
-    /// What became of it.
+    /// Its outcome.
     pub outcome: Outcome,
     /// Datagrams to send, with the addresses that they go to.
     pub up: Vec<(Address, Vec<u8, A>), A>,
     /// The items for each lane, in this order.
     pub items: Vec<Item<A>, A>,
-    /// Audio items have 1 to 200 ms of samples.
+    /// Audio items have 1 sample to 200 ms.
     pub ghost sized: { list_all is_sized (map input_of items.items) ≡ true },
 }
 

@@ -14,7 +14,7 @@ ghost use Rattle.intake.specs.Intakes.{Knows, TakesIn, TellsSenders};
 use crate::ingest::Ingest;
 use crate::known::Known;
 use crate::outcome::Outcome;
-use crate::payloads::PayloadRoom;
+use crate::payloads::PayloadBlock;
 use crate::reporting::sources_of;
 use crate::settings::Settings;
 use desk_rows::Rows;
@@ -33,7 +33,7 @@ pub struct Intake<A: Allocator + Copy = Global> {
     pub(crate) settings: Settings<A>,
     pub(crate) known: Known<A>,
     /// Buffers for the payloads of video.
-    pub(crate) payloads: PayloadRoom<A>,
+    pub(crate) payloads: PayloadBlock<A>,
     /// The number of epochs that have begun.
     pub(crate) epochs: u64,
 }
@@ -66,7 +66,7 @@ impl<A: Allocator + Copy> Intake<A> {
         Ok(Self {
             settings,
             known,
-            payloads: PayloadRoom::new(alloc),
+            payloads: PayloadBlock::new(alloc),
             epochs: 0,
         })
     }

@@ -34,7 +34,7 @@ impl<A: Allocator + Copy> Model for Kept<A> {
 
 /// The next state of a source.
 #[derive(Drop)]
-pub(crate) struct Next<A: Allocator + Copy = Global> {
+pub(crate) struct NextState<A: Allocator + Copy = Global> {
     /// The clock rate, in Hz.
     pub(crate) rate: u32,
     pub(crate) source: SourceState,
@@ -45,7 +45,7 @@ pub(crate) struct Next<A: Allocator + Copy = Global> {
     pub(crate) admission: Option<Admission<A>>,
 }
 
-impl<A: Allocator + Copy> Model for Next<A> {
+impl<A: Allocator + Copy> Model for NextState<A> {
     ghost use Rattle.intake.specs.inner.Kept.{NextOf};
 
     ghost Value = { NextOf };
@@ -79,13 +79,13 @@ impl<A: Allocator + Copy> Kept<A> {
     /// Moves to the next state, and gives the gate's answer. At another clock rate the gate is dropped. This takes no
     /// memory.
     #[inline(always)]
-    pub(crate) fn become_next(&mut self, next: Next<A>) -> Option<Admitted<A>>
+    pub(crate) fn become_next(&mut self, next: NextState<A>) -> Option<Admitted<A>>
         requires ready { IfSome next.admission
             (λ a. is_some (base_of (gate_for (kept_by next.rate (Some self.old)) next.begins) a) ≡ true) }
         ensures becomes { Becomes (kept_by next.rate (Some self.old)) next self.new }
         ensures answer { result ≡ option_map (λ a. a.prepared.answer) next.admission }
     {
-        let Next {
+        let NextState {
             rate,
             source,
             epoch,

@@ -9,7 +9,7 @@ ghost use Rattle.intake.specs.Reported.{renewed};
 ghost use Rattle.intake.specs.inner.Kept.{KeptOf, base_of, gate_for, Becomes};
 ghost use Rattle.intake.specs.inner.Holding.{Holds, kept_at, kept_for, key_of, put_first};
 
-use crate::kept::{Kept, Next, settle_all};
+use crate::kept::{Kept, NextState, settle_all};
 use frame_gate::Admitted;
 use lru::LruCache;
 use rtcp_codec::Rtcp;
@@ -24,24 +24,24 @@ const MOST_KNOWN: usize = 4_096;
 
 /// The key of a source: the parts of an address, and an SSRC.
 #[derive(Clone, Copy, PartialEq, Eq, Hash)]
-pub(crate) struct Key {
+pub(crate) struct OriginKey {
     ip: [u8; 4],
     port: u16,
     ssrc: u32,
 }
 
 /// The key of a source.
-pub(crate) fn key_of(address: &Address, ssrc: u32) -> Key
+pub(crate) fn key_of(address: &Address, ssrc: u32) -> OriginKey
     ensures { result ≡ key_of (record { address = address.now; ssrc = ssrc }) }
 {
-    Key {
+    OriginKey {
         ip: address.ip,
         port: address.port,
         ssrc,
     }
 }
 
-type Cache<A> = LruCache<Key, Kept<A>, BuildHasherDefault<FoldHasher>, A>;
+type Cache<A> = LruCache<OriginKey, Kept<A>, BuildHasherDefault<FoldHasher>, A>;
 
 /// The state of the sources that were used last. A source that exceeds the limit drops the least recently used one.
 #[derive(Drop)]
@@ -52,10 +52,10 @@ pub(crate) struct Known<A: Allocator + Copy = Global> {
 impl<A: Allocator + Copy> Model for Known<A> {
     ghost use Rattle.std.specs.Prelude.{◌≡◌, List};
     ghost use Rattle.intake.specs.Sources.{most_known};
-    ghost use Rattle.intake.specs.declared.known.Key.{Key as KeyOf};
+    ghost use Rattle.intake.specs.declared.known.OriginKey.{OriginKey as OriginKeyOf};
     ghost use Rattle.intake.specs.inner.Kept.{KeptOf};
 
-    ghost Value = { List (KeyOf × KeptOf) };
+    ghost Value = { List (OriginKeyOf × KeptOf) };
 
     ghost view = { λ k. k.cache.entries };
 
@@ -75,14 +75,14 @@ impl<A: Allocator + Copy> Known<A> {
     }
 
     /// The state of a source.
-    pub(crate) fn at(&self, key: &Key) -> Option<&Kept<A>>
+    pub(crate) fn at(&self, key: &OriginKey) -> Option<&Kept<A>>
         ensures { option_copied result ≡ kept_at key.now self.now }
     {
         self.cache.peek(key)
     }
 
     /// The state of a source, if it is kept at this clock rate, in Hz.
-    pub(crate) fn at_rate(&self, key: &Key, rate: u32) -> Option<&Kept<A>>
+    pub(crate) fn at_rate(&self, key: &OriginKey, rate: u32) -> Option<&Kept<A>>
         ensures { option_copied result ≡ kept_for key.now rate self.now }
     {
         match self.at(key) {
@@ -92,14 +92,18 @@ impl<A: Allocator + Copy> Known<A> {
     }
 
     /// Keeps a source that was unknown.
-    fn begin(&mut self, key: Key, next: Next<A>) -> Result<Option<Admitted<A>>, AllocError>
+    fn begin(
+        &mut self,
+        key: OriginKey,
+        next: NextState<A>,
+    ) -> Result<Option<Admitted<A>>, AllocError>
         requires new { kept_at key self.old ≡ None }
         requires ready { IfSome next.admission (λ a. is_some (base_of (gate_for None next.begins) a) ≡ true) }
         ensures becomes { OnOk result ((k : KeptOf) × Becomes None next k × (self.new ≡ put_first key k self.old)) }
         ensures answer { IfOk result (λ answer. answer ≡ option_map (λ a. a.prepared.answer) next.admission) }
         ensures err { OnErr result (self.new ≡ self.old) }
     {
-        let Next {
+        let NextState {
             rate,
             source,
             epoch,
@@ -122,8 +126,8 @@ impl<A: Allocator + Copy> Known<A> {
     #[inline(always)]
     pub(crate) fn keep(
         &mut self,
-        key: Key,
-        next: Next<A>,
+        key: OriginKey,
+        next: NextState<A>,
     ) -> Result<Option<Admitted<A>>, AllocError>
         requires ready { IfSome next.admission
             (λ a. is_some (base_of (gate_for (kept_for key next.rate self.old) next.begins) a) ≡ true) }

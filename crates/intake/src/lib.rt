@@ -1,5 +1,5 @@
-//! The receive side. It takes datagrams from the wire, and gives each one outcome, the items that the lanes take, and
-//! the datagrams that ask its sender for something.
+//! The receive side. It takes in each datagram from the wire, and returns its outcome, the items for the lanes, and the
+//! datagrams that ask its sender for something.
 //!
 //! Begin with [`Intake::new`], then [`Intake::datagram`] and [`Intake::reports`]. A contract sees the sources that the
 //! intake knows, as a function of the datagrams and reports so far.
@@ -11,7 +11,8 @@
 //! let reports = intake.reports(alloc, &rows, moment)?; // receiver reports, with the addresses that they go to
 //! ```
 //!
-//! `reports_leave_others_alone` of worked_bridge makes the last call, and has a law of it proved.
+//! `an_empty_datagram_is_dropped` of worked_bridge makes the first two calls, with the answer proved.
+//! `reports_leave_others_alone` of worked_bridge makes the last one, with a law of it proved.
 #![tactic(auto)]
 
 mod admitting;

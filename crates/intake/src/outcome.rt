@@ -3,7 +3,7 @@
 use rtcp_codec::RtcpFault;
 use rtp_codec::RtpFault;
 
-/// What became of a datagram. The variants stand in the order of the checks. Only accepted, late, duplicate and
+/// The outcome of a datagram. The checks are made in the order of the variants. Only accepted, late, duplicate and
 /// restarted packets count for their source.
 #[derive(Clone, Copy, PartialEq, Eq)]
 pub enum Outcome {
@@ -17,7 +17,8 @@ pub enum Outcome {
     BadRtcp(RtcpFault),
     /// Dropped: no source of this SSRC, or no member, has the address that it came from.
     Unknown,
-    /// Dropped: audio that is neither PCMU (type 0) nor L16 (type 97), or over 200 ms.
+    /// Dropped: audio in no format of its room, with half a sample, or over 200 ms. The formats are PCMU (type 0) and
+    /// L16 (type 97) at 8000 Hz, and L16 (type 11) at 44100 Hz.
     BadPayload,
     /// Dropped: it would begin an epoch, and 2^64 - 1 have begun.
     Spent,
@@ -25,29 +26,29 @@ pub enum Outcome {
     Probation,
     /// Accepted.
     Accepted {
-        /// Its extended sequence number.
+        /// Its extended sequence number, at least -65536.
         ext: i64,
     },
-    /// Accepted, but too late for its frame, which was decided.
+    /// Accepted, but too late: its frame was decided already.
     Late {
-        /// Its extended sequence number.
+        /// Its extended sequence number, at least -65536.
         ext: i64,
     },
     /// Accepted, but the gate has a packet of this number.
     Duplicate {
-        /// Its extended sequence number.
+        /// Its extended sequence number, at least -65536.
         ext: i64,
     },
     /// Dropped: its number is too far off.
     Jump,
     /// Accepted, and its source begins anew.
     Restarted {
-        /// Its extended sequence number.
+        /// Its extended sequence number, 0 to 65535.
         ext: i64,
     },
     /// An RTCP compound from a member.
     Rtcp {
-        /// The number of its packets.
+        /// The number of its packets, at least 1.
         packets: usize,
     },
 }

@@ -6,19 +6,19 @@ use bytes::{Bytes, BytesMut};
 use std::alloc::{AllocError, Allocator, Global};
 
 /// The octets of a block of payloads. A longer payload has a block of its own.
-const ROOM: usize = 4_096;
+const BLOCK_OCTETS: usize = 4_096;
 
 /// A block for payloads, which lie in it one behind the other. So one allocation serves several payloads.
 #[derive(Drop)]
-pub(crate) struct PayloadRoom<A: Allocator + Copy = Global> {
-    room: BytesMut<A>,
+pub(crate) struct PayloadBlock<A: Allocator + Copy = Global> {
+    block: BytesMut<A>,
 }
 
-impl<A: Allocator + Copy> PayloadRoom<A> {
+impl<A: Allocator + Copy> PayloadBlock<A> {
     /// No block yet.
     pub(crate) fn new(alloc: A) -> Self {
         Self {
-            room: BytesMut::new(alloc),
+            block: BytesMut::new(alloc),
         }
     }
 
@@ -26,11 +26,11 @@ impl<A: Allocator + Copy> PayloadRoom<A> {
     pub(crate) fn copied(&mut self, alloc: A, octets: &[u8]) -> Result<Bytes<A>, AllocError>
         ensures { IfOk result (λ bytes. bytes ≡ octets.now) }
     {
-        self.room.clear();
-        if self.room.capacity() < octets.len() {
-            self.room = BytesMut::with_capacity(alloc, octets.len().max(ROOM))?;
+        self.block.clear();
+        if self.block.capacity() < octets.len() {
+            self.block = BytesMut::with_capacity(alloc, octets.len().max(BLOCK_OCTETS))?;
         }
-        self.room.extend_from_slice(octets)?;
-        self.room.freeze_to(octets.len())
+        self.block.extend_from_slice(octets)?;
+        self.block.freeze_to(octets.len())
     }
 }

@@ -9,14 +9,14 @@ use std::sync::{Arc, Condvar, Mutex, MutexGuard, Wait};
 struct Rings {
     /// How many parcels it was rung for.
     parcels: u64,
-    /// The lane doesn't wait for it.
+    /// While it is open, the lane doesn't wait for it.
     is_open: bool,
 }
 
-/// Wakes a lane. Whoever gives the lane parcels rings it, so that the lane can sleep until then.
+/// Wakes a lane. Ring it for each parcel that the lane is given, so that the lane can sleep until then.
 ///
-/// It is open at first. The lane then waits at its ring and takes processor time, until it has a parcel. So a lane ends
-/// by its `End` also where the bridge does not start, since memory ends or a thread is refused to a later lane.
+/// It is open at first: the lane then waits at its ring, and takes processor time until it has a parcel. So a lane gets
+/// its `End` even if the bridge doesn't start, because a later lane got no memory or no thread.
 #[derive(Drop)]
 pub struct Bell {
     rings: Mutex<Rings>,
@@ -35,7 +35,7 @@ impl Bell {
         }
     }
 
-    /// Rings for so many parcels that the lane was given.
+    /// Rings for this many parcels that the lane was given.
     pub fn ring<R: Wait>(&self, rt: &R, parcels: u64) {
         let mut rings = self.rings.lock(rt);
         rings.parcels = rings.parcels.saturating_add(parcels);
@@ -43,14 +43,14 @@ impl Bell {
         self.rung.notify_one();
     }
 
-    /// Lets the lane sleep from its next parcel on, as once all lanes of the bridge have started.
+    /// Lets the lane sleep from its next parcel on. Call it once all lanes have started.
     pub fn close<R: Wait>(&self, rt: &R) {
         let mut rings = self.rings.lock(rt);
         rings.is_open = false;
         MutexGuard::unlock(rings);
     }
 
-    /// Lets the lane sleep no more, as before it is given its `End`.
+    /// Lets the lane sleep no more. Call it before the lane's `End`.
     pub fn open<R: Wait>(&self, rt: &R) {
         let mut rings = self.rings.lock(rt);
         rings.is_open = true;
@@ -58,7 +58,7 @@ impl Bell {
         self.rung.notify_one();
     }
 
-    /// Whether it was rung for so many parcels, or is open.
+    /// Whether it was rung for this many parcels, or is open.
     fn has_rung<R: Wait>(&self, rt: &R, parcels: u64) -> bool {
         let rings = self.rings.lock(rt);
         let has_rung = rings.parcels >= parcels || rings.is_open;
@@ -66,7 +66,7 @@ impl Bell {
         has_rung
     }
 
-    /// Sleeps until it was rung for so many parcels, or is open.
+    /// Sleeps until it was rung for this many parcels, or is open.
     fn wait<R: Wait>(&self, rt: &R, parcels: u64) {
         let rings = self.rung.wait_while(rt, self.rings.lock(rt), |rings| {
             rings.parcels < parcels && !rings.is_open
@@ -75,18 +75,19 @@ impl Bell {
     }
 }
 
-/// Is told by a lane that it has handled all that it was rung for and goes to sleep.
+/// A lane calls this before it goes to sleep.
 pub trait Rouse {
+    /// The lane has handled all that it was rung for, and goes to sleep now. Until the call returns it handles nothing.
     fn rouse(&self);
 }
 
-/// Nobody is told.
+/// Does nothing.
 impl Rouse for () {
     fn rouse(&self) {}
 }
 
-/// Lets each item pass once its parcel was rung for, or while the bell is open. Until then the lane sleeps, and says so
-/// before it does.
+/// Lets each item pass once its parcel was rung for, or while the bell is open. Until then the lane sleeps. Before it
+/// sleeps, it rouses the front.
 #[derive(Drop)]
 pub struct Rung<R: Wait + Drop, F: Rouse + Drop> {
     rt: R,

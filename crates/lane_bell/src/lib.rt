@@ -1,21 +1,29 @@
 //! A pace for lanes that sleep while there is nothing to do.
 //!
 //! Begin with a [`Bell`] for each lane. [`Rung`] is its pace. A bell is open at first: close it once the bridge has
-//! started. After each accepted `Bridge::push` ring the bell, and open it before the lane gets its `End`. A lane whose
-//! bell is closed and silent takes no processor time. Before a lane sleeps it tells whoever takes what the lanes give:
-//! by [`Rouse`].
+//! started. Ring it after each accepted `Bridge::push`, and open it before the lane gets its `End`. A lane whose bell
+//! is closed and silent takes no processor time. Before a lane sleeps, it calls [`Rouse::rouse`], so that the caller
+//! takes what it sent.
 //!
-//! ```
+//! Contracts say nothing of bells: a lane promises the same at any pace.
+//!
+//! ```rust
+//! // lanes: one `Lane` of media_workers; parcel: what it is to handle
 //! let bell = Arc::new(alloc, Bell::new())?;
+//! let mut paces = Vec::new(alloc);
 //! paces.push(Rung::by(rt, Arc::try_clone(&bell)?, ()))?;
-//! let mut bridge = Bridge::<N, _>::start(&rt, alloc, lanes, paces)?;
+//! let Ok(mut bridge) = Bridge::<N, _>::start(&rt, alloc, lanes, paces) else {
+//!     return println!(rt; "no bridge");
+//! };
 //! bell.close(&rt);
 //! if bridge.push(0, parcel).is_ok() {
 //!     bell.ring(&rt, 1);
 //! }
 //! bell.open(&rt);
-//! bridge.close(&rt);
+//! let ends = bridge.close(&rt);
 //! ```
+//!
+//! `sleeps_well` of lane_tests runs a lane so.
 #![tactic(auto)]
 
 mod bell;

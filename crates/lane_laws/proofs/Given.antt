@@ -14,7 +14,7 @@ use Rattle.bridge_core.specs.Sent.{Sent}
 use Rattle.bridge_core.specs.Lanes.{goes, given_of}
 use Rattle.bridge_core.specs.Steps.{Step, version_of, desk_of, along, sent_at, visits, visit_after, sends}
 use Rattle.bridge_core.specs.Events.{Event, steps_of, calls_among}
-use Rattle.bridge_core.specs.Named.{Kind, is_on, firsts_at}
+use Rattle.bridge_core.specs.Named.{StreamKind, is_on, firsts_at}
 use Rattle.bridge_core.specs.Headline.{IsChosenOf, IsMixOf, LeadsBack}
 use Rattle.bridge_core.specs.Telling.{IsSenderReportOf, IsNoteOf, IsPassedUpOf}
 use Rattle.bridge_core.specs.WholeRuns.{sent_after, IsKept}
@@ -114,14 +114,14 @@ module _ (who : Asker) (lanes : ℕ) (start : Desk) (events : List Event) where
 
   -- what goes out on a video stream for the first time
   firsts_given : AllKept → (ssrc : ℕ) (before here after : List Step) → steps ≡ before ++ (here ++ after)
-      → AreGiven start calls (along (firsts_at who lanes start (record { kind = Kind.video; ssrc = ssrc })) before here)
+      → AreGiven start calls (along (firsts_at who lanes start (record { kind = StreamKind.video; ssrc = ssrc })) before here)
   firsts_given kept ssrc before [] after is = tt
   firsts_given kept ssrc before (Step.publish next ∷ here) after is =
       firsts_given kept ssrc (before ++ Step.publish next ∷ []) here after (is ∙ sym (append_assoc before (Step.publish next ∷ []) (here ++ after)))
   firsts_given kept ssrc before (Step.item lane input ∷ here) after is =
       let rest = firsts_given kept ssrc (before ++ Step.item lane input ∷ []) here after (is ∙ sym (append_assoc before (Step.item lane input ∷ []) (here ++ after))) in
-      all_append (IsGiven start calls) (firsts_at who lanes start (record { kind = Kind.video; ssrc = ssrc }) before (Step.item lane input)) _
-      (elim input as (λ (i : Input). IsAfter before lane i → AreGiven start calls (firsts_at who lanes start (record { kind = Kind.video; ssrc = ssrc }) before (Step.item lane i))) [
+      all_append (IsGiven start calls) (firsts_at who lanes start (record { kind = StreamKind.video; ssrc = ssrc }) before (Step.item lane input)) _
+      (elim input as (λ (i : Input). IsAfter before lane i → AreGiven start calls (firsts_at who lanes start (record { kind = StreamKind.video; ssrc = ssrc }) before (Step.item lane i))) [
         | Input.frame f ↦ λ at. all_filter (IsGiven start calls) (is_on ssrc) _ (frames_given kept before lane f at)
         | Input.audio sound ↦ λ at. tt
         | Input.tick moment ↦ λ at. tt

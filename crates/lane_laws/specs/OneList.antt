@@ -19,8 +19,8 @@ abbrev pub AreShares : {N : Type 0} → List Step → List (List Sent) → List 
 AreShares {N} steps all ends =
     (lane : ℕ) (end : EndOf N) → slice_get ends lane ≡ Some end → map sent_of (sent end.sink) ≡ of_lane lane steps all
 
--- The lanes of this bridge, so many, sent what this list of calls and items sends from this desk on: its calls are
--- these, each lane sent its share, and of all that is sent what is promised of whole runs holds.
+-- The lanes of this bridge, this many, sent what this list of calls and items sends from this desk on: its calls are
+-- these, each lane sent its share, and what is promised of whole runs holds of all that is sent.
 pub record IsOneList {N : Type 0} (who : Asker) (many : ℕ) (start : Desk) (calls : List Call) (ends : List (EndOf N))
     (events : List Event) : Type 0 where
   pub calls_are : calls_among events ≡ calls

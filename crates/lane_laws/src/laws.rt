@@ -39,20 +39,20 @@ pub fn lanes_visit_by_one_list()
         visits lane start (steps_of (no_calls start) (merge calls lanes)) ≡ visits_by (desk_at start calls) 0 items }
 {}
 
-/// Of all that is sent over a list of steps, what a lane sends follows from its own items and their desks.
+/// What a lane sends over a list of steps follows from its own items and their desks.
 pub fn lanes_send_for_their_visits()
     ensures { (who : Asker) (lanes lane : ℕ) (start : Desk) (steps : List Step) →
         of_lane lane steps (sends who lanes start steps) ≡ all_sent who lane lanes [] (visits lane start steps) }
 {}
 
-/// All that is sent about a stream is sent by its lane.
+/// A stream's own lane sends all that is sent on it and about it.
 pub fn streams_are_sent_by_their_lanes()
     ensures { (who : Asker) (lanes ssrc : ℕ) (start : Desk) (steps : List Step) →
         (let sent = sends who lanes start steps in
         sent_on ssrc sent ≡ filter (is_on ssrc) (of_lane (ssrc % lanes) steps sent)) }
 {}
 
-/// By a merged list each lane sends what it sends for its items by themselves.
+/// Over a merged list each lane sends what it sends for its items by themselves.
 pub fn lanes_send_by_one_list()
     ensures { (who : Asker) (many : ℕ) (start : Desk) (calls : List CallOf) (lanes : List (List Versioned)) →
         (lane : ℕ) (items : List Versioned) →
@@ -73,8 +73,8 @@ pub fn legal_calls_lead_to_good_desks()
     good_desks_stay_good();
 }
 
-/// What is promised of whole runs of a core is so of each list of items and calls that are accepted one after another,
-/// whoever gives the items to the lanes.
+/// What is promised of whole runs of a core holds of each list of items and calls that are accepted one after another.
+/// It doesn't matter who gives the items to the lanes.
 pub fn legal_lists_hold()
     ensures { (who : Asker) (lanes : ℕ) (start : Desk) (events : List Event) → good start ≡ true →
         AreAccepted (no_calls start) (calls_among events) →
@@ -105,8 +105,8 @@ pub fn packets_go_by_their_versions()
     legal_lists_hold();
 }
 
-/// Accepted commands, undone from their end, give back the desk before them: as many undos, each of which names the
-/// last call before it, are accepted while the log has room, and lead there.
+/// As many undos as there were accepted commands give back the desk before the commands. Each undo names the last call
+/// before it, and all are accepted while the log isn't full.
 pub fn undos_give_the_desk_back()
     ensures accepted { (h : CallHistory) (calls : List CallOf) → HaveCommands calls → AreAccepted h calls →
         h.accepted + length calls + length calls ≤ call_limit → AreAccepted h (with_undos h calls) }

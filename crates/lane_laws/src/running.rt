@@ -31,8 +31,8 @@ pub fn lanes_learn_what_they_handled<N: PublisherName, P: Pace>()
         HasNotice lists port.accepted → end.handled ≡ length port.accepted → HasNotice lists ended.ran.done }
 {}
 
-/// Where every lane learnt of the same publishes and handled no item by a later version, one list of the calls that
-/// were published and of the items that the lanes handled gives all that each lane sent.
+/// If every lane learnt of the same publishes and handled no item by a later version, one list of the calls that were
+/// published and of the items that the lanes handled gives all that each lane sent.
 pub fn lanes_send_their_shares<N: PublisherName, P: Pace>()
     ensures { (start : Desk) (log : List EntryOf) (ports : List (PortOf P)) (ends : List (EndOf N)) →
         (h : EndedAfter P.answers start log ports ends) →
@@ -42,14 +42,14 @@ pub fn lanes_send_their_shares<N: PublisherName, P: Pace>()
     lanes_send_by_one_list();
 }
 
-/// The headline of a running bridge. Where every lane learnt of the same publishes and handled no item by a later
-/// version, the calls of the log and the items that the lanes handled are one list:
+/// The headline of a running bridge. If every lane learnt of the same publishes and handled no item by a later version,
+/// the calls of the log and the items that the lanes handled are one list:
 ///
-/// - where the log ends with commands and as many undos of them, the rows that are published last are those before the
+/// - if the log ends with commands and as many undos of them, the rows that are published last are those before the
 ///   commands, members at their places;
-/// - each lane sent its share of what is sent by this list, and nothing else;
-/// - of all that is sent by it the headline's clauses on packets hold: each is what the desk of its version says, each
-///   stream numbers without a gap, and what is asked for again leads back;
+/// - each lane sent its share of what is sent over this list, and nothing else;
+/// - the headline's clauses on packets hold of all that is sent over it: each packet is what the desk of its version
+///   says, each stream numbers without a gap, and what is asked for again leads back;
 /// - each packet that a lane sent, and so each that `pop` gave of it, goes where the desk of its version has it go;
 /// - had any other number of lanes been given all of it, each stream would send the same as on one lane.
 pub fn the_running_headline<N: PublisherName, P: Pace>()

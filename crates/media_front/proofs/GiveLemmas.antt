@@ -67,9 +67,9 @@ pushed_length old new lane parcel (Ok k) low ok err =
 pushed_length old new lane parcel (Err back) low ok err = ap length err.1
 
 -- what is owed is of the publisher, as before
-pub counted_of : (book : Book) (ts : List Tally) (lane : ℕ) (u : Tally) (accepted : Bool) → lane < length ts → u ≡ get_or ts lane u → AreOf book ts → AreOf book (set ts lane (counted accepted u))
-counted_of book ts lane u true low is all = All-set (λ (t : Tally). IfSome t.owed (λ (n : NoticeOf). n.publisher ≡ book)) ts lane (counted true u) (tt {0}) all
-counted_of book ts lane u false low is all =
+pub counted_in_book : (book : Book) (ts : List Tally) (lane : ℕ) (u : Tally) (accepted : Bool) → lane < length ts → u ≡ get_or ts lane u → AreOf book ts → AreOf book (set ts lane (counted accepted u))
+counted_in_book book ts lane u true low is all = All-set (λ (t : Tally). IfSome t.owed (λ (n : NoticeOf). n.publisher ≡ book)) ts lane (counted true u) (tt {0}) all
+counted_in_book book ts lane u false low is all =
     All-set (λ (t : Tally). IfSome t.owed (λ (n : NoticeOf). n.publisher ≡ book)) ts lane (counted false u) (All_read (λ (t : Tally). IfSome t.owed (λ (n : NoticeOf). n.publisher ≡ book)) ts lane u low is all) all
 
 -- an egress that was popped

@@ -1,4 +1,4 @@
--- What lanes are given of an address, by quotas, over datagrams that were taken in (own).
+-- How much of an address's quotas lanes were given, over datagrams that were taken in (own).
 use Rattle.std.specs.Prelude.{ℕ, ◌+◌, ◌≤◌, nat_eq, if◌then◌else◌, List, [], ◌∷◌, Option, None, Some}
 use Rattle.rtp_codec.specs.declared.address.Address.{Address}
 use Rattle.rtp_codec.specs.Address.{same_address}
@@ -11,12 +11,12 @@ use Rattle.flood_guard.specs.Steps.{counted_as}
 use Rattle.media_front.specs.Granted.{asked_count, granted_of}
 use Rattle.media_front.specs.Fronts.{Arrival, once_paid, once_asked}
 
--- how much is taken of a quota, if it is this address's
+-- how much of a quota is used, if it is this address's
 abbrev pub count_from : Address → Quota → Option (Address × Quota × ℕ) → ℕ
 count_from address quota None = 0
 count_from address quota (Some asked) = if same_address asked.0 address then counted_as quota asked.1 asked.2 else 0
 
--- how much these inputs take of an address's quota
+-- how much of an address's quota these inputs use
 abbrev pub count_for : Address → Quota → List Input → ℕ
 count_for address quota [] = 0
 count_for address quota (input ∷ rest) = count_from address quota (asked_count input) + count_for address quota rest

@@ -32,7 +32,7 @@ pub record Arrival : Type 0 where
   pub moment : ℕ
   pub octets : List ℕ
 
--- The intake took the datagram in, and it came to this.
+-- The intake took the datagram in, with this result.
 abbrev pub HasIngested : Arrival → Ingested → IntakeOf → IntakeOf → Type 0
 HasIngested arrival ingested old new =
     TakesIn old new ingested arrival.octets
@@ -42,7 +42,7 @@ HasIngested arrival ingested old new =
 abbrev pub once_earned : Arrival → Ingested → List Account → List Account
 once_earned arrival ingested accounts = credited ingested.outcome arrival.from (length arrival.octets) accounts
 
--- the accounts once what goes up is paid for, too
+-- the accounts once the control that is sent is paid for, too
 abbrev pub once_paid : Arrival → Ingested → List Account → List Account
 once_paid arrival ingested accounts = after_paying ingested.up (once_earned arrival ingested accounts)
 
@@ -50,8 +50,8 @@ once_paid arrival ingested accounts = after_paying ingested.up (once_earned arri
 abbrev pub once_asked : Arrival → Ingested → List Account → List Account
 once_asked arrival ingested accounts = after_asking arrival.moment ingested.items (once_paid arrival ingested accounts)
 
--- The intake took the datagram in, and it earned its credit. What goes up and is paid for was tried on the wire. Then
--- every lane was given each item that its address's quota lasts for, requests cut at the numbers that are granted.
+-- The intake took the datagram in, and it earned its credit. The control that is paid for was tried on the wire. Then
+-- every lane was given each item that its address's quota lasts for, requests cut to the numbers that are granted.
 pub record HasTaken {P : Type 0} (arrival : Arrival) (outcome : Outcome) (old new : FrontOf P)
     (before after : Option (List Attempt)) : Type 0 where
   pub ingested : Ingested
@@ -66,12 +66,12 @@ pub record HasTaken {P : Type 0} (arrival : Arrival) (outcome : Outcome) (old ne
 abbrev pub MayHaveTaken : Arrival → IntakeOf → IntakeOf → Type 0
 MayHaveTaken arrival old new = (new ≡ old) ⊎ ((ingested : Ingested) × HasIngested arrival ingested old new)
 
--- the moments of the ticks that are due, oldest first, so many at most
+-- the moments of the ticks that are due, oldest first, at most this many
 abbrev pub ticks_due : ℕ → Ticks → (now : ℕ) → List ℕ
 ticks_due zero ticks now = []
 ticks_due (suc k) ticks now = option_to_list (tick_due ticks now) ++ ticks_due k (after_tick ticks now) now
 
--- the ticks after so many that were due
+-- the ticks after this many that were due
 abbrev pub after_ticks : ℕ → Ticks → (now : ℕ) → Ticks
 after_ticks zero ticks now = ticks
 after_ticks (suc k) ticks now = after_ticks k (after_tick ticks now) now

@@ -1,4 +1,4 @@
--- What lanes are given of what an address asks for and reports, by the accounts of a flood guard (own).
+-- How much of what an address asks for and reports is given to the lanes, by the accounts of a flood guard (own).
 use Rattle.std.specs.Prelude.{ℕ, Bool, false, nat_eq, if◌then◌else◌, List, [], ◌∷◌, ◌++◌, length, take, Option, None, Some}
 use Rattle.rtp_codec.specs.declared.address.Address.{Address}
 use Rattle.media_items.specs.Inputs.{Input, frame, audio, tick, nack, block, pli, report}
@@ -7,7 +7,7 @@ use Rattle.flood_guard.specs.declared.quota.Quota.{Quota}
 use Rattle.flood_guard.specs.declared.quota.Quota.TheVariants.{Numbers, Items}
 use Rattle.flood_guard.specs.Steps.{ask, accounts_after, may_ask}
 
--- which address's quota an input takes of, and how much: the numbers of a request, and one for a report block or a loss
+-- the address whose quota an input uses, and how much of it: the numbers of a request, or 1 for a report block or a loss
 abbrev pub asked_count : Input → Option (Address × Quota × ℕ)
 asked_count (nack request) = Some (request.from, Numbers, length request.numbers)
 asked_count (block told) = Some (told.from, Items, 1)
@@ -27,7 +27,7 @@ abbrev pub after_ask : ℕ → Option (Address × Quota × ℕ) → List Account
 after_ask moment None accounts = accounts
 after_ask moment (Some asked) accounts = accounts_after (ask asked.0 moment asked.1 asked.2) accounts
 
--- a request with its first numbers, so many; another input as it is
+-- a request with this many of its first numbers; another input as it is
 abbrev pub with_first : ℕ → Input → Input
 with_first count (nack request) =
     Input.nack (record { from = request.from; out_ssrc = request.out_ssrc; numbers = take count request.numbers })
@@ -38,12 +38,12 @@ with_first count (block told) = Input.block told
 with_first count (pli loss) = Input.pli loss
 with_first count (report moment) = Input.report moment
 
--- an input, cut at what is granted of it
+-- an input, cut to what is granted of it
 abbrev pub cut_at : Option ℕ → Input → Input
 cut_at None input = input
 cut_at (Some count) input = with_first count input
 
--- the input takes of a quota, and is granted nothing
+-- the input uses a quota and is granted nothing
 abbrev pub is_left_out : Option ℕ → Bool
 is_left_out None = false
 is_left_out (Some count) = nat_eq count 0

@@ -1,4 +1,4 @@
-//! Why a bridge ends by its lanes.
+//! The fault of a bridge, from how its lanes ended.
 
 ghost use Rattle.std.specs.Prelude.{◌≡◌, map};
 ghost use Rattle.std.specs.List.{list_any};
@@ -7,7 +7,7 @@ ghost use Rattle.media_front.specs.LaneFaults.{fault_among, is_fault, is_memory}
 use media_workers::{HandleFault, LaneEnd, PublisherName};
 use udp_front::FrontFault;
 
-/// Whether a lane refused an item since memory ran out.
+/// Whether a lane refused an item because memory ran out.
 fn any_ran_out<N: PublisherName, S>(ends: &[LaneEnd<N, S>]) -> bool
     ensures { result ≡ list_any (λ end. is_memory end.refused) ends.now }
 {
@@ -24,9 +24,9 @@ fn any_failed<N: PublisherName, S>(ends: &[LaneEnd<N, S>]) -> bool
     ))
 }
 
-/// Why the bridge ends, by how its lanes ended behind its desk: `OutOfMemory` where memory ran out for one of them,
-/// `Io` where one had handled 2^64 - 1 items, and otherwise `None`. That a lane refused an item since the desk had
-/// ended is no fault.
+/// The fault of a bridge whose desk has ended, from how its lanes ended: `OutOfMemory` if one ran out of memory, `Io`
+/// if one had handled 2^64 - 1 items, and otherwise `None`. It is no fault if a lane refused an item because the desk
+/// had ended.
 pub fn fault_of<N: PublisherName, S>(ends: &[LaneEnd<N, S>]) -> Option<FrontFault>
     ensures { result ≡ fault_among (map (λ end. end.refused) ends.now) }
 {

@@ -34,7 +34,7 @@ use std::thread::Threads;
 use udp_front::{FrontFault, ReportTimer, Ticks, Wire};
 use versions::Notice;
 
-/// How many ticks are made up for at most.
+/// The most ticks that are made up for.
 const MOST_TICKS: u32 = 50;
 
 /// The front of a bridge whose lanes run on threads: the receive side, the lanes, the flood guard, and when ticks and
@@ -96,10 +96,10 @@ impl<N: PublisherName, P: Pace> MediaFront<N, P> {
     /// - A datagram of a member earns the credit of its octets.
     /// - The front tries to send what the intake asks the sender for, in order. Each of these datagrams costs its
     ///   octets. One that its address has too little credit for is dropped.
-    /// - Every lane is given each item. A NACK is cut at the numbers that the guard grants it, the first ones. A NACK,
-    ///   a report block or a PLI is left out where the guard grants it nothing.
+    /// - Every lane is given each item. A NACK keeps as many of its first numbers as the guard grants. A NACK, a report
+    ///   block or a PLI is left out if the guard grants it nothing.
     ///
-    /// On out of memory, the only error, nothing is sent, and no lane is given an item; the intake may have taken the
+    /// On out of memory, the only error, nothing is sent, and no lane is given an item. The intake may have taken the
     /// datagram in.
     pub fn datagram<W: Wire>(
         &mut self,
@@ -142,7 +142,7 @@ impl<N: PublisherName, P: Pace> MediaFront<N, P> {
         self.tick_most(MOST_TICKS, now);
     }
 
-    /// Gives every lane the ticks that are due, so many at most.
+    /// Gives every lane the ticks that are due, at most `most` of them.
     fn tick_most(&mut self, most: u32, now: u64)
         ensures given { AllAreGiven (map Input.tick (ticks_due most self.old.ticks now)) self.old.feed self.new.feed }
         ensures ticks { self.new.ticks ≡ after_ticks most self.old.ticks now }
@@ -156,8 +156,8 @@ impl<N: PublisherName, P: Pace> MediaFront<N, P> {
         }
     }
 
-    /// Where 5 s have passed since the last report or the start: tries to send the receiver reports, in order, and then
-    /// gives every lane a report. Tells whether it did.
+    /// Once 5 s have passed since the last report or the start, tries to send the receiver reports, in order, and then
+    /// gives every lane a report. Returns whether a report was due.
     ///
     /// Reports cost no credit. They answer no datagram, and time bounds them.
     ///

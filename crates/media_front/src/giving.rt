@@ -21,7 +21,7 @@ use flood_guard::FloodGuard;
 use media_workers::{Pace, Parcel, PublisherName};
 use std::alloc::{AllocError, Global};
 
-/// So many copies of an item.
+/// `count` copies of an item.
 fn copies_of(alloc: Global, item: &Item, count: u32) -> Result<Vec<Item>, AllocError>
     ensures { IfOk result (λ copies. AreCopies count (input_of item.now) copies.items) }
 {
@@ -32,7 +32,7 @@ fn copies_of(alloc: Global, item: &Item, count: u32) -> Result<Vec<Item>, AllocE
     Ok(copies)
 }
 
-/// So many copies of each item.
+/// `count` copies of each item.
 pub(crate) fn copies_of_all(
     alloc: Global,
     items: &[Item],
@@ -49,8 +49,8 @@ pub(crate) fn copies_of_all(
 }
 
 impl<N: PublisherName, P: Pace> LaneFeed<N, P> {
-    /// Gives a lane an item, in a parcel with the notice that it is owed. Where the lane hands the parcel back, it is
-    /// dropped and counted.
+    /// Gives a lane an item, in a parcel with the notice that it is owed. A parcel that the lane hands back is dropped
+    /// and counted.
     fn give_one(&mut self, lane: usize, item: Item)
         requires lane { lane < length self.old }
         requires sized { is_sized (input_of item) ≡ true }
@@ -63,7 +63,7 @@ impl<N: PublisherName, P: Pace> LaneFeed<N, P> {
         self.tallies[lane].count(accepted);
     }
 
-    /// Gives every lane one of these copies of an item, cut at what is granted of it.
+    /// Gives every lane one of these copies of an item, cut to what is granted of it.
     fn hand_out(&mut self, item: &Item, granted: Option<u64>, copies: Vec<Item>)
         requires copies { AreCopies (length self.old) (input_of item.now) copies.items }
         requires sized { is_sized (input_of item.now) ≡ true }
@@ -76,8 +76,8 @@ impl<N: PublisherName, P: Pace> LaneFeed<N, P> {
         }
     }
 
-    /// Gives every lane one of these copies of an item, cut at what the guard grants. An item that takes of a quota and
-    /// is granted nothing is left out.
+    /// Gives every lane one of these copies of an item, cut to what the guard grants. An item that uses a quota and is
+    /// granted nothing is left out.
     fn hand_out_granted(
         &mut self,
         guard: &mut FloodGuard,

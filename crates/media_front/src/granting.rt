@@ -1,4 +1,4 @@
-//! What lanes are given of what an address asks for and reports.
+//! How much of what an address asks for and reports is given to the lanes.
 
 ghost use Rattle.std.specs.Prelude.{◌≡◌};
 ghost use Rattle.media_items.specs.Inputs.{input_of};
@@ -8,7 +8,7 @@ use bridge_core::Item;
 use flood_guard::{FloodGuard, Quota};
 use rtp_codec::Address;
 
-/// Which address's quota an item takes of, and how much: the numbers of a NACK, and one for a report block or a PLI.
+/// The address whose quota an item uses, and how much of it: the numbers of a NACK, or 1 for a report block or a PLI.
 fn asked_count(item: &Item) -> Option<(Address, Quota, u64)>
     ensures { result ≡ asked_count (input_of item.now) }
 {
@@ -19,7 +19,7 @@ fn asked_count(item: &Item) -> Option<(Address, Quota, u64)>
     }
 }
 
-/// How much is granted to an item that takes of a quota.
+/// How much is granted to an item that uses a quota.
 pub(crate) fn granted_count(guard: &mut FloodGuard, moment: u64, item: &Item) -> Option<u64>
     ensures count { result ≡ granted_count moment (asked_count (input_of item.now)) guard.old }
     ensures guard { guard.new ≡ after_ask moment (asked_count (input_of item.now)) guard.old }
@@ -30,7 +30,7 @@ pub(crate) fn granted_count(guard: &mut FloodGuard, moment: u64, item: &Item) ->
     }
 }
 
-/// Whether an item takes of a quota, and is granted nothing.
+/// Whether an item uses a quota and is granted nothing.
 pub(crate) fn is_left_out(granted: Option<u64>) -> bool
     ensures { result ≡ is_left_out granted }
 {
@@ -40,7 +40,7 @@ pub(crate) fn is_left_out(granted: Option<u64>) -> bool
     }
 }
 
-/// An item, cut at what is granted of it: a NACK to its first numbers.
+/// An item, cut to what is granted of it: a NACK keeps its first numbers.
 pub(crate) fn cut_at(item: Item, granted: Option<u64>) -> Item
     ensures { input_of result ≡ cut_at granted (input_of item) }
 {
@@ -50,7 +50,7 @@ pub(crate) fn cut_at(item: Item, granted: Option<u64>) -> Item
     }
 }
 
-/// An item with its first numbers, so many, if it asks for packets again.
+/// An item. A NACK keeps its first `count` numbers alone.
 fn with_first(item: Item, count: u64) -> Item
     ensures { input_of result ≡ with_first count (input_of item) }
 {

@@ -1,5 +1,5 @@
-//! Laws: what a lane was told of, or will be; what goes up to an address; what lanes are given of what it asks for and
-//! reports. The functions do nothing when they run.
+//! Laws of notices, of the control that is sent to an address, and of the requests and reports that lanes are given.
+//! The functions do nothing when they run.
 
 ghost use Rattle.std.specs.Prelude.{◌≡◌, ◌≤◌, ◌+◌, ◌*◌, ℕ, List, [], Some, None};
 ghost use Rattle.rtp_codec.specs.declared.address.Address.{Address as AnAddress};
@@ -19,8 +19,8 @@ ghost use Rattle.media_front.specs.Carried.{HasCarried, IsTold};
 use flood_guard::{amplification_is_bounded, asks_are_bounded};
 use media_workers::Pace;
 
-/// A lane that was told of publishes is owed the notice of them until it accepts it with a parcel, and has it from then
-/// on: a parcel that is dropped loses no notice.
+/// A lane is owed the notice of the publishes that it was told of, until it accepts the notice with a parcel. So a
+/// dropped parcel loses no notice.
 pub fn owed_notices_are_carried<P: Pace>()
     ensures begins { (notice : NoticeOf) (x : FedLane P) → IsTold notice.lists (owing_notice notice x) }
     ensures stays { (lists : List (List EditOf)) (input : Input) (x y : FedLane P) →
@@ -29,8 +29,9 @@ pub fn owed_notices_are_carried<P: Pace>()
         IsTold lists x → x.owed ≡ None → HasCarried lists x }
 {}
 
-/// A law over all datagrams that a front took in, from a new guard on. What went up to an address has at most 1.5
-/// octets for each octet that came from it, and 256 for each time that it was entered. Reports are not counted here.
+/// A law over all datagrams that a front took in, from a new guard on. The control that was sent to an address has at
+/// most 1.5 octets for each octet that came from it, and 256 for each time that it was entered. Reports are not
+/// counted.
 ///
 /// An address is entered when a member's datagram comes from it, and again when it was forgotten: `FloodGuard` says
 /// when.

@@ -3,23 +3,30 @@
 //!
 //! Begin with [`LaneFeed::start`], which starts a lane for each reader of the published desk, and with
 //! [`MediaFront::new`]. In each round, [`MediaFront::tell`] takes the latest notice, [`MediaFront::datagram`] a
-//! datagram, [`MediaFront::tick`] and [`MediaFront::report`] the moment; [`MediaFront::ring`] wakes the lanes, and
+//! datagram, [`MediaFront::tick`] and [`MediaFront::report`] the moment. Then [`MediaFront::ring`] wakes the lanes, and
 //! [`MediaFront::send`] sends what they gave. The crate has no socket and no clock.
 //!
-//! Contracts see a feed as its lanes: for each the port of `media_workers`, the notice that it is owed, and how many
-//! parcels were dropped. They say nothing of when a ring is full.
+//! Contracts see a feed as its lanes: for each one its port of `media_workers`, the notice that it is owed, and how
+//! many parcels were dropped. They say nothing of when a ring is full.
 //!
-//! ```
-//! let feed = LaneFeed::start(rt, alloc, readers, &settings, &waker)?;
-//! let mut media = MediaFront::new(Intake::new(alloc, settings)?, feed, FloodGuard::new(alloc)?, start);
-//! media.tell(desk.notice(rt));
-//! media.datagram(alloc, entered.rows(), &from, moment, octets, &mut wire)?;
+//! ```rust
+//! // readers, notice and rows: of a shared desk of the hall H; waker: a `Rouse`; wire: a `Wire`
+//! let intake = Intake::new(alloc, settings.try_clone()?)?;
+//! let guard = FloodGuard::new(alloc)?;
+//! let Ok(feed) = LaneFeed::<PublisherOf<H>, _>::start(rt, alloc, readers, &settings, &waker) else {
+//!     return println!(rt; "no lanes");
+//! };
+//! let mut media = MediaFront::new(intake, feed, guard, start);
+//! media.tell(notice);
+//! let outcome = media.datagram(alloc, rows, &from, moment, octets, &mut wire); // from, at this moment
 //! media.tick(moment);
 //! media.ring(rt);
-//! media.send(&mut wire);
-//! desk.end(rt);
-//! let fault = fault_of(&media.close(rt));
+//! let popped = media.send(&mut wire);
+//! let fault = fault_of(&media.close(rt)); // None, unless a lane had a fault
 //! ```
+//!
+//! `three_lanes_have_ended` of worked_front calls `fault_of` so, with its answers proved. front_cases runs the other
+//! calls on sockets.
 #![tactic(auto)]
 
 mod beat;

@@ -1,4 +1,4 @@
-//! What goes up to members, as far as their credit goes.
+//! Control that is sent to members, as far as their credit goes.
 
 ghost use Rattle.std.specs.Prelude.{◌≡◌, map};
 ghost use Rattle.intake.specs.Ingested.{datagram_of};
@@ -10,8 +10,8 @@ use flood_guard::FloodGuard;
 use rtp_codec::Address;
 use udp_front::Wire;
 
-/// Whether an outcome tells that the datagram came from a member's address. The first four are told before its sender
-/// is looked up, and so of strangers too.
+/// Whether an outcome shows that the datagram came from a member's address. The first four come before its sender is
+/// looked up, so strangers get them too.
 fn is_from_member(outcome: Outcome) -> bool
     ensures { result ≡ is_from_member outcome }
 {
@@ -33,7 +33,7 @@ fn is_from_member(outcome: Outcome) -> bool
     }
 }
 
-/// Earns the credit of a datagram of so many octets, if a member sent it.
+/// Earns the credit of a datagram of this many octets, if a member sent it.
 pub(crate) fn credit(guard: &mut FloodGuard, outcome: Outcome, from: &Address, octets: u64)
     ensures { guard.new ≡ credited outcome from.now octets guard.old }
 {

@@ -1,4 +1,4 @@
-//! How what the lanes give is sent.
+//! Sends what the lanes give.
 
 ghost use Rattle.std.specs.Prelude.{◌≡◌, ◌<◌, ◌≤◌, ℕ, List, length, map, IfSome, IfNone};
 ghost use Rattle.std.specs.List.{flat_map};

@@ -20,7 +20,7 @@ use std::sync::{Arc, Wait};
 use std::thread::Threads;
 use versions::LaneReader;
 
-/// So many lanes that were given nothing.
+/// The tallies of `count` lanes that were given nothing.
 fn tallies_for(alloc: Global, count: usize) -> Result<Vec<Tally>, AllocError>
     ensures len { IfOk result (λ tallies. vec_len tallies ≡ count) }
     ensures fresh { IfOk result (λ tallies. All (λ tally. tally ≡ fresh_tally) tallies.items) }
@@ -32,7 +32,7 @@ fn tallies_for(alloc: Global, count: usize) -> Result<Vec<Tally>, AllocError>
     Ok(tallies)
 }
 
-/// So many bells.
+/// `count` bells.
 fn bells_for(alloc: Global, count: usize) -> Result<Vec<Arc<Bell, Global>>, AllocError>
     ensures { IfOk result (λ bells. vec_len bells ≡ count) }
 {
@@ -94,10 +94,10 @@ where
     R: Threads + Wait + Copy + Send + Drop + 'static,
     F: Rouse + Clone + Send + Drop + 'static,
 {
-    /// Starts a lane for each of 1 to 16 readers, on a thread of its own. From its first parcel on a lane sleeps while
-    /// it has none, and tells `front` before it does. Until then it takes processor time.
+    /// Starts a lane for each of 1 to 16 readers, on a thread of its own. From its first parcel on, a lane sleeps while
+    /// it has none, and rouses `front` before it does. Until then it takes processor time.
     ///
-    /// The fault is `Count` where there is no reader. All lanes have been ended and dropped after any fault.
+    /// The fault is `Count` if there is no reader. All lanes have been ended and dropped after any fault.
     pub fn start(
         rt: &R,
         alloc: Global,

@@ -42,6 +42,6 @@ formats = Pcmu ∷ L16At8000 ∷ L16At44100 ∷ []
 abbrev pub format_of_packet : (pt rate : ℕ) → Option Format
 format_of_packet pt rate = find (λ f. nat_eq (rate_of f) rate && nat_eq (pt_of f) pt) formats
 
--- a payload of so many octets has whole samples, and no more than a packet may have
+-- a payload of this many octets has whole samples, and no more than a packet may have
 abbrev pub holds_whole : Format → ℕ → Bool
 holds_whole format octets = nat_eq (octets % octets_of format) 0 && nat_le octets (octets_of format * most_of format)

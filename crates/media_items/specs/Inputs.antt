@@ -14,18 +14,18 @@ pub record Sound : Type 0 where
   pub ts : ℕ
   pub samples : List ℤ
 
--- who asks, by its address, for packets of an outgoing stream again, and for which numbers
+-- the address that asks for packets of an outgoing stream again, and the numbers that it asks for
 pub record Request : Type 0 where
   pub from : Address
   pub out_ssrc : ℕ
   pub numbers : List ℕ
 
--- what a receiver, by its address, tells of an outgoing stream
+-- what the receiver at an address reports of an outgoing stream
 pub record Told : Type 0 where
   pub from : Address
   pub block : ReportBlock
 
--- who has lost the picture of an outgoing stream, by its address
+-- the address that has lost the picture of an outgoing stream
 pub record Loss : Type 0 where
   pub from : Address
   pub out_ssrc : ℕ

@@ -14,7 +14,7 @@ pub struct MediaFrame<A: Allocator + Copy = Global> {
     pub source: u32,
     /// The address that it came from.
     pub address: Address,
-    /// The epoch of the source. Each initialisation of a source begins an epoch.
+    /// The epoch of the source, from 1 on. Each initialisation of a source begins an epoch.
     pub epoch: u64,
     /// The moment when it became whole, in nanoseconds since 1970.
     pub moment: u64,

@@ -23,7 +23,7 @@ pub enum Item<A: Allocator + Copy = Global> {
         rate: u32,
         /// The RTP timestamp of the first sample, at that rate.
         ts: u32,
-        /// The samples, 1 to 200 ms of them: at most 1,600 or 8,820.
+        /// The samples, 1 sample to 200 ms: at most 1,600 or 8,820.
         samples: Vec<i16, A>,
     },
     /// A tick: mixes are sent every 20 ms. The intake makes none.

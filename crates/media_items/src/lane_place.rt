@@ -6,9 +6,9 @@ ghost use Rattle.media_items.specs.OwnStreams.{is_mine};
 /// A lane (media worker) among several. Its streams are those whose SSRC modulo the number of lanes is its own number.
 #[derive(Clone, Copy)]
 pub struct LanePlace {
-    /// The lane's number, from 0 on.
+    /// The lane's number, 0 to 15.
     pub lane: u32,
-    /// The number of lanes, above `lane`.
+    /// The number of lanes, 1 to 16, above `lane`.
     pub lanes: u32,
     ghost one_of: { lane < lanes },
 }

@@ -11,9 +11,8 @@ pub fn is_the_mix()
         → IsMix inputs gains receiver out }
 {}
 
-/// A law: where a receiver's gains are all 256, all others of which a sample was present contribute. So the
-/// contributors of a room can be listed once. Of two parts of a room, those of the first stand before those of the
-/// second.
+/// A law: if a receiver's gains are all 256, every other source with a sample present contributes. So the contributors
+/// of a room can be listed once. The contributors of a room's first part stand before those of its second.
 pub fn others_contribute()
     ensures others { (inputs : List Input) (gains : List ℕ) (receiver : ℕ) → AreFull inputs gains
         → contributing receiver inputs gains ≡ present_in (others_of receiver inputs) }

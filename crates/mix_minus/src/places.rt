@@ -58,8 +58,8 @@ pub fn mix_places(
         → at out.new (start + i) ≡ clamped (heard_sum receiver (start + i) inputs.now gains.now) }
     ensures before { (i : ℕ) → i < start → at out.new i ≡ at out.old i }
 {
-    let mut room = [0; PLACES];
-    let sums = &mut room[..count];
+    let mut block = [0; PLACES];
+    let sums = &mut block[..count];
     clear(sums);
     add_all_heard(sums, inputs, gains, receiver, start);
     write(sums, start, out);
@@ -86,8 +86,8 @@ pub fn turn_places(
         → at out.new (start + i) ≡ clamped (heard_sum receiver (start + i) inputs.now gains.now) }
     ensures before { (i : ℕ) → i < start → at out.new i ≡ at out.old i }
 {
-    let mut room = [0; PLACES];
-    let sums = &mut room[..count];
+    let mut block = [0; PLACES];
+    let sums = &mut block[..count];
     load(sums, total, start);
     turn_all(sums, inputs, gains, receiver, start);
     write(sums, start, out);
@@ -105,8 +105,8 @@ pub fn leave_places(total: &[i32], own: &[Input], start: usize, count: usize, ou
         → at out.new (start + i) ≡ clamped (at total.now (start + i) -ℤ sample_sum (start + i) own.now) }
     ensures before { (i : ℕ) → i < start → at out.new i ≡ at out.old i }
 {
-    let mut room = [0; PLACES];
-    let sums = &mut room[..count];
+    let mut block = [0; PLACES];
+    let sums = &mut block[..count];
     load(sums, total, start);
     take_all_off(sums, own, start);
     write(sums, start, out);

@@ -40,7 +40,7 @@ pub something_heard : (d : Desk) (voices : List Voice) (m : MemberRow) (samples 
 something_heard d voices m samples named is some =
     let csrcs = take named.count named.ssrcs in
     let format = format_of m.codec (member_rate d m) in
-    a_sound format (contributors voices d m) csrcs (map (heard_at voices d m) (range_with_len 0 (tick_at (member_rate d m)))) is.named (subst (λ n. 0 < n) (sym (length-take-le named.count named.ssrcs is.room)) some)
+    a_sound format (contributors voices d m) csrcs (map (heard_at voices d m) (range_with_len 0 (tick_at (member_rate d m)))) is.named (subst (λ n. 0 < n) (sym (length-take-le named.count named.ssrcs is.few)) some)
     ∙ ap (λ xs. Some (sound_of format csrcs xs)) (sym is.samples)
 
 -- ---- without gains

@@ -105,7 +105,7 @@ contributes d m v = nat_lt 0 (gain_of d m.member v.source.ssrc) && nat_lt 0 v.fi
 abbrev pub contributors : List Voice → Desk → MemberRow → List ℕ
 contributors voices d m = map (λ v. v.source.ssrc) (filter (contributes d m) (others m voices))
 
--- the sound of these samples by these contributors, if there is one; the first 15 are named, as a header has room for
+-- the sound of these samples by these contributors, if there is one; the first 15 are named, as a header has fields for
 abbrev pub sound_by : Format → List ℕ → List ℤ → Option Sound
 sound_by format [] samples = None
 sound_by format (s ∷ ss) samples = Some (record { format = format; csrcs = take most_csrcs (s ∷ ss); samples = samples })

@@ -7,7 +7,7 @@ ghost use Rattle.mixer.specs.Mixes.{turns, counts_of};
 ghost use Rattle.mixer.specs.Mixers.{WasGiven, IsGiven, Ticks};
 
 use crate::preparing::Tick;
-use crate::streams::{MixPacket, Table, commit_all, pass_all, ready_all};
+use crate::streams::{MixPacket, MixTable, commit_all, pass_all, ready_all};
 use crate::voices::voices_of;
 use desk_rows::Rows;
 use forward_rewrite::Counts;
@@ -26,7 +26,7 @@ const FIRST_STREAMS: usize = 16;
 #[derive(Drop)]
 pub struct Mixer<A: Allocator + Copy = Global> {
     playouts: Playouts<A>,
-    streams: Table<A>,
+    streams: MixTable<A>,
 }
 
 impl<A: Allocator + Copy> Model for Mixer<A> {

@@ -16,7 +16,7 @@ use crate::apart::SSRC_OCTETS;
 use crate::encoding::Encoded;
 use crate::hearing::{listen, listen_in_full};
 use crate::rooms::RoomSound;
-use crate::streams::Table;
+use crate::streams::MixTable;
 use crate::voices::{Voice, tick_at};
 use bytes::BytesMut;
 use desk_rows::{Member, Rows};
@@ -30,7 +30,7 @@ pub struct Tick<'a, A: Allocator + Copy> {
     /// Where packets are allocated.
     pub alloc: A,
     /// The mix streams as they are before the tick.
-    pub streams: &'a Table<A>,
+    pub streams: &'a MixTable<A>,
     /// The rows of the desk.
     pub rows: &'a Rows<A>,
     /// The samples of all sources.
@@ -69,7 +69,7 @@ impl<A: Allocator + Copy> Scratch<A> {
 
 /// What a member without gains hears in a tick.
 #[derive(Clone, Copy)]
-struct Heard<'a> {
+struct MixHeard<'a> {
     /// The format of its mix.
     format: Format,
     /// The contributing sources.
@@ -83,7 +83,7 @@ struct Heard<'a> {
 /// The packet of what a member without gains hears, if it hears anything. It is cut off the block.
 fn prepare_in_full<A: Allocator + Copy>(
     stream: &MixStream,
-    heard: Heard<'_>,
+    heard: MixHeard<'_>,
     last: &mut Encoded<A>,
     block: &mut BytesMut<A>,
     moment: u64,
@@ -170,7 +170,7 @@ pub fn prepare_for<A: Allocator + Copy>(
     match listen_in_full(tick.rows, member, room, near, samples) {
         Some(named) => {
             let format = format_of(member.codec, room.rate);
-            let heard = Heard {
+            let heard = MixHeard {
                 format,
                 named,
                 samples,

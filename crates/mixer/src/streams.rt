@@ -28,7 +28,7 @@ use std::marker::Model;
 use topology::mixes_are_apart;
 
 /// The mix streams by SSRC.
-pub type Table<A> = IndexMap<u32, MixStream, BuildHasherDefault<FoldHasher>, A>;
+pub type MixTable<A> = IndexMap<u32, MixStream, BuildHasherDefault<FoldHasher>, A>;
 
 /// A packet of a member's mix.
 #[derive(Drop)]
@@ -91,7 +91,7 @@ fn block_len<A: Allocator + Copy>(place: &LanePlace, rows: &Rows<A>) -> usize
 }
 
 /// The stream of a member's mix, or a new one.
-fn stream_for<A: Allocator + Copy>(streams: &Table<A>, member: &Member) -> MixStream
+fn stream_for<A: Allocator + Copy>(streams: &MixTable<A>, member: &Member) -> MixStream
     ensures { result ≡ current (mix_at member.now.out_audio streams.now.entries) member.now }
 {
     match streams.get(&member.out_audio) {
@@ -221,7 +221,7 @@ fn pass_rate<A: Allocator + Copy>(
 fn pass_rate_at<A: Allocator + Copy>(
     rows: &Rows<A>,
     last: &mut RoomRate,
-    streams: &Table<A>,
+    streams: &MixTable<A>,
     i: usize,
 ) -> u32
     requires within { i < length streams.now.entries }
@@ -237,7 +237,7 @@ fn pass_rate_at<A: Allocator + Copy>(
 }
 
 /// Passes a silent tick on all streams. This takes no memory.
-pub fn pass_all<A: Allocator + Copy>(streams: &mut Table<A>, rows: &Rows<A>, moment: u64)
+pub fn pass_all<A: Allocator + Copy>(streams: &mut MixTable<A>, rows: &Rows<A>, moment: u64)
     ensures streams { (ssrc : ℕ)
         → Passes rows.now moment ssrc (mix_at ssrc streams.old.entries) (mix_at ssrc streams.new.entries) }
     ensures spare { spare streams.new ≡ spare streams.old }
@@ -252,9 +252,9 @@ pub fn pass_all<A: Allocator + Copy>(streams: &mut Table<A>, rows: &Rows<A>, mom
     }
 }
 
-/// Sends a member's packet. There is room for its stream.
-fn commit_one<A: Allocator + Copy>(streams: &mut Table<A>, ready: Ready<A>) -> MixPacket<A>
-    requires room { 0 < spare streams.old }
+/// Sends a member's packet. The table has the capacity.
+fn commit_one<A: Allocator + Copy>(streams: &mut MixTable<A>, ready: Ready<A>) -> MixPacket<A>
+    requires capacity { 0 < spare streams.old }
     ensures streams { (ssrc : ℕ)
         → mix_at ssrc streams.new.entries ≡ kept_after_one ssrc ready (mix_at ssrc streams.old.entries) }
     ensures packet { result ≡ sent_of ready }
@@ -272,14 +272,14 @@ fn commit_one<A: Allocator + Copy>(streams: &mut Table<A>, ready: Ready<A>) -> M
     }
 }
 
-/// Sends all packets. There is room for them and their streams.
+/// Sends all packets. The table and the list have the capacity.
 pub fn commit_all<A: Allocator + Copy>(
-    streams: &mut Table<A>,
+    streams: &mut MixTable<A>,
     ready: Vec<Ready<A>, A>,
     out: &mut Vec<MixPacket<A>, A>,
 )
-    requires room { vec_len ready ≤ spare streams.old }
-    requires out_room { vec_len out.old + vec_len ready ≤ vec_capacity out.old }
+    requires capacity { vec_len ready ≤ spare streams.old }
+    requires out_capacity { vec_len out.old + vec_len ready ≤ vec_capacity out.old }
     ensures streams { (ssrc : ℕ)
         → mix_at ssrc streams.new.entries ≡ kept_after ssrc ready.items (mix_at ssrc streams.old.entries) }
     ensures out { out.new.items ≡ out.old.items ++ map sent_of ready.items }

@@ -78,7 +78,7 @@ none_shown (Some t) none = absurd (cc none)
 pub tokens-push : (cells : List ℕ) (xs ys : List Token) (t : Token) (capacity capacity' : ℕ) (before after : Option Token) → AreTokens cells xs capacity before → slice_get cells (length xs) ≡ Some t.of → ys ≡ xs ++ t ∷ [] → capacity' ≡ capacity → after ≡ None → AreTokens cells ys capacity' after
 tokens-push cells xs ys t capacity capacity' before after tokens next is same none = record {
   first = subst (AreFirst cells) (sym is) (first-push cells xs t tokens.first next);
-  room = subst (λ n. length cells ≤ n) (sym same) tokens.room;
+  few = subst (λ n. length cells ≤ n) (sym same) tokens.few;
   next = subst (λ o. IfSome o (IsNext cells ys)) (sym none) tt;
 }
 

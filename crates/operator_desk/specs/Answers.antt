@@ -20,7 +20,7 @@ use Rattle.operator_desk.specs.OwnCalls.{numbers}
 use Rattle.operator_desk.specs.Published.{AreDesks}
 use Rattle.operator_desk.specs.Seats.{SeatOf}
 
--- how a refusal is told: as that of a desk with one operator, or by a number and name of its own
+-- how a refusal is reported: as that of a desk with one operator, or by a number and name of its own
 abbrev pub why_told : Why → Told
 why_told (reasons.Told refusal) = told_of refusal
 why_told reasons.LogTaken = record { number = 22; name = codes "LogTaken"; carries = Nothing }
@@ -33,11 +33,11 @@ Tells start publisher log notice = (notice.publisher ≡ publisher) × AreDesks 
 abbrev pub IsNotice : Desk → Book → NoticeOf → Type 0
 IsNotice start publisher notice = (log : List EntryOf) × IsLegal start log × Tells start publisher log notice
 
--- the rows are those after a legal log of so many calls
+-- the rows are those after a legal log of this many calls
 abbrev pub IsCopy : Desk → ℕ → Desk → Type 0
 IsCopy start version rows = (log : List EntryOf) × IsLegal start log × (length log ≡ version) × (rows ≡ desk_now (after_log start log))
 
--- the call is the last one of a legal log that goes on from what the seat had seen, and has no other calls of its operator than those that the seat had made and this one. The notice is that of this log
+-- the call is the last one of a legal log that goes on from what the seat had seen; of its operator the log has the calls that the seat had made and this one, and no others. The notice is that of this log
 pub record IsAccepted (start : Desk) (publisher : Book) (old new : SeatOf) (call : CallOf) (number : ℕ) (notice : NoticeOf) : Type 0 where
   pub op : new.op ≡ old.op
   pub at : length new.seen ≡ number
@@ -47,7 +47,7 @@ pub record IsAccepted (start : Desk) (publisher : Book) (old new : SeatOf) (call
   pub count : length (numbers old.op new.seen) ≡ new.count
   pub tells : Tells start publisher new.seen notice
 
--- why a call is refused after a log: its history tells it, or memory ran out where nothing stands against it, or an entry was found behind the log
+-- why a call is refused after a log: for a reason of the log's history, because memory ran out and no other reason holds, or because an entry was found behind the log
 abbrev pub IsWhy : Desk → List EntryOf → Option EntryOf → CallOf → Why → Type 0
 IsWhy start log beyond call (reasons.Told why) =
     IsTold (after_log start log) call why ⊎ ((why ≡ OutOfMemory) × (refusal_of (after_log start log) call ≡ None))

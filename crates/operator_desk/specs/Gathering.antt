@@ -9,11 +9,11 @@ use Rattle.operator_desk.specs.Seats.{SeatOf}
 abbrev pub is_handed_in : ℕ → List SeatOf → Bool
 is_handed_in op seats = list_any (λ (s : SeatOf). nat_eq s.op op) seats
 
--- the seats of the first operators, so many, are among these
+-- the seats of the first operators, this many, are among these
 abbrev pub AreAllIn : ℕ → List SeatOf → Type 0
 AreAllIn count seats = (op : ℕ) → op < count → is_handed_in op seats ≡ true
 
--- a seat is missing only where it wasn't handed in, and the least one is named; the other faults come only where none is missing
+-- a seat is missing only if it wasn't handed in, and the least one is named; the other faults come only if none is missing
 abbrev pub IsFault : ℕ → List SeatOf → GatherFault → Type 0
 IsFault count seats (SeatMissing op) = (op < count) × (is_handed_in op seats ≡ false) × AreAllIn op seats
 IsFault count seats LogTaken = AreAllIn count seats

@@ -1,4 +1,4 @@
--- Which logs are legal, and what their calls come to (own).
+-- Which logs are legal, and which desk their calls lead to (own).
 use Rattle.std.specs.Prelude.{List, map}
 use Rattle.desk_rows.specs.Desk.{Desk}
 use Rattle.desk_edit.specs.Asked.{CallOf}

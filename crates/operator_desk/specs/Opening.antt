@@ -8,7 +8,7 @@ use Rattle.operator_desk.specs.declared.fault.DeskFault.TheVariants.{Count, Plac
 abbrev pub most_operators : ℕ
 most_operators = 16
 
--- the first fault of so many operators and readers
+-- the first fault of these numbers of operators and readers
 abbrev pub desk_fault : ℕ → ℕ → Option DeskFault
 desk_fault operators readers =
     if nat_eq operators 0 || nat_lt most_operators operators then Some Count

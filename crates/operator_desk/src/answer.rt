@@ -10,18 +10,18 @@ use versions::Notice;
 /// The answer to a call.
 #[derive(Drop)]
 pub enum Answer {
-    /// The call is the accepted one with this number, from 1. The notice is of its version.
+    /// The call is accepted, as call number `no`, 1 to 1,048,576. The notice is of the version that it led to.
     Accepted { no: u64, notice: Notice },
-    /// The call is refused at this version, and changes nothing.
+    /// The call is refused at version `at`, 0 to 1,048,576, and changes nothing.
     Refused { at: u64, why: Why },
 }
 
 /// Why a call is refused.
 #[derive(Clone, Copy, Debug, PartialEq, Eq)]
 pub enum Why {
-    /// As a desk with one operator refuses it.
+    /// A desk with one operator refuses it too, for this reason.
     Told(Refusal),
-    /// The log has an entry behind those of this desk, as by another desk over the same log.
+    /// The log has an entry that this desk didn't write: another desk uses the same log.
     LogTaken,
 }
 

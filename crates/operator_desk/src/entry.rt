@@ -39,12 +39,14 @@ impl LogEntry {
         self.op
     }
 
+    /// The call.
     pub fn call(&self) -> &Call
         ensures { asked_by result.now ≡ self.now.call }
     {
         &self.call
     }
 
+    /// The call itself. It uses the entry up.
     pub fn into_call(self) -> Call
         ensures { asked_by result ≡ self.call }
     {

@@ -16,10 +16,10 @@ pub enum DeskFault {
 /// Why a log is not handed out. The first that holds is reported.
 #[derive(Clone, Copy, Debug, PartialEq, Eq, Error)]
 pub enum GatherFault {
-    /// The seat of this operator was not handed in, and of no operator with a lesser number.
+    /// The seat of this operator was not handed in. It is the least such operator.
     #[error("the seat of operator {op} is missing")]
     SeatMissing { op: u32 },
-    /// The log has an entry behind those of this desk, as by another desk over the same log.
+    /// The log has an entry that this desk didn't write: another desk uses the same log.
     #[error("the log has entries of another desk")]
     LogTaken,
     #[error("out of memory")]

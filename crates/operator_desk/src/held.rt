@@ -34,13 +34,17 @@ use versions::{Notice, Publisher};
 
 /// The desk, what publishes it, its log and the count of its calls. It is not `Drop`: end it by `settle` or `end`.
 pub struct Held<'a, H: Hall> {
+    /// The log of accepted calls.
     pub log: &'a Log,
-    /// A token of each entry, with room for those of the whole log.
+    /// A token of each entry, with capacity for those of the whole log.
     pub entries: Vec<OnceToken<'a, LogEntry>>,
-    /// The cell after those, where it was found written.
+    /// The cell after those, if it was found written.
     pub next: Option<OnceToken<'a, LogEntry>>,
+    /// The desk after the calls of the log.
     pub desk: Desk,
+    /// Publishes each version of its rows.
     pub publisher: Publisher,
+    /// Counts the accepted calls.
     pub calls: Book<H>,
     /// No part and no call: the seats have them all.
     pub rest: Share<H>,
@@ -102,7 +106,7 @@ impl<'a, H: Hall> Held<'a, H> {
         copied(alloc, self.log, &self.entries)
     }
 
-    /// Takes all seats back: each has seen where the log begins, and together they made its calls.
+    /// Takes all seats back: each has seen a beginning of the log, and together they made its calls.
     pub fn settle<R: Wait>(self, rt: &R, seats: Vec<Seat<'a, H>>)
         requires parts { H.seats ≡ H.parts }
         requires all { AreAllIn H.seats seats.items }
@@ -155,8 +159,8 @@ impl<'a, H: Hall> Held<'a, H> {
         }
     }
 
-    /// Lets a seat see the whole log. False where the seat isn't this desk's: it has seen more, or the log has calls of
-    /// its operator that it didn't make.
+    /// Lets a seat see the whole log. Returns false for a seat of another desk: it has seen more, or the log has calls
+    /// of its operator that it didn't make.
     fn show(&self, seat: &mut Seat<'a, H>) -> bool
         ensures op { seat.new.op ≡ seat.old.op }
         ensures count { seat.new.count ≡ seat.old.count }

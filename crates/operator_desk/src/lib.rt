@@ -1,11 +1,25 @@
 //! One desk for up to sixteen operators, each on a thread of its own.
 //!
-//! Begin with [`Log::new`], then [`SharedDesk::new`], which gives a [`Seat`] for each operator and the readers of
+//! Begin with [`Log::new`], then [`SharedDesk::new`], which returns a [`Seat`] for each operator and the readers of
 //! the published rows. An operator calls by [`SharedDesk::call`]. In the end [`SharedDesk::gather`] takes all seats
-//! back and gives the whole log, or [`SharedDesk::end`] gives it up.
+//! back and returns the whole log, or [`SharedDesk::end`] gives it up.
 //!
 //! Contracts see a seat as what its operator knows: the log that it has seen, and how many of its own calls were
 //! accepted. All seats see beginnings of one log. Contracts say nothing of time: a call may wait for calls of others.
+//!
+//! ```rust
+//! // H: a hall, whose ledger is `blank` and whose publisher is `opened`.
+//! let log = Log::new(alloc)?;
+//! let (desk, mut seats, readers) = SharedDesk::<H>::new(&rt, alloc, &log, blank, opened, 1, 2, 1)?; // two seats
+//! let call = Call::Apply(Command::AddRoom(Room { room: 1, rate: 8_000 }));
+//! let answer = desk.call(&rt, alloc, &mut seats[0], call); // its number and notice, or why it is refused
+//! match desk.gather(&rt, alloc, seats) {
+//!     Ok(all) => println!(rt; "{} calls", all.len())?, // the whole log, since all seats are back
+//!     Err((desk, _, _)) => desk.end(&rt),
+//! }
+//! ```
+//!
+//! `two_in_turn` of worked_operators makes these calls, and prints the answers.
 #![tactic(auto)]
 
 mod answer;

@@ -49,7 +49,7 @@ impl Log {
         self.cells.len()
     }
 
-    /// Writes a cell. Where it is written already, the token shows it.
+    /// Writes a cell. On an `Err` it was written already, as the token shows.
     pub(crate) fn write<R: Wait>(
         &self,
         rt: &R,
@@ -74,7 +74,7 @@ impl Log {
         self.cells[at].witness()
     }
 
-    /// What stands in a cell that is shown to be written.
+    /// The entry of a cell that is shown to be written.
     pub(crate) fn read<'a>(&'a self, at: usize, token: &OnceToken<'a, LogEntry>) -> &'a LogEntry
         requires { slice_get self.now at ≡ Some token.now.of }
         ensures { result.now ≡ token.now.value }

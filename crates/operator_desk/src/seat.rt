@@ -18,7 +18,7 @@ use std::sync::{OnceToken, Wait};
 /// An operator's handle of the desk.
 ///
 /// Contracts see its operator, the log that it has seen, how many of its calls were accepted, and an entry behind
-/// that log, where it met one.
+/// that log if it met one.
 #[derive(Drop)]
 pub struct Seat<'a, H: Hall> {
     pub(crate) op: u32,
@@ -53,7 +53,7 @@ impl<'a, H: Hall> Model for Seat<'a, H> {
 }
 
 impl<'a, H: Hall> Seat<'a, H> {
-    /// A seat that has seen nothing, with room for tokens of the whole log.
+    /// A seat that has seen nothing, with capacity for tokens of the whole log.
     pub(crate) fn new(
         alloc: Global,
         log: &'a Log,
@@ -79,8 +79,8 @@ impl<'a, H: Hall> Seat<'a, H> {
         self.op
     }
 
-    /// Gives its share back, where it has seen the beginning of the log. Otherwise it isn't of this desk, and waits for
-    /// ever.
+    /// Gives its share back, if what it has seen is a beginning of the log. Otherwise it is no seat of this desk, and
+    /// waits for ever.
     pub(crate) fn give_back<R: Wait>(
         self,
         rt: &R,

@@ -141,8 +141,8 @@ impl<'a, H: Hall> SharedDesk<'a, H> {
 
     /// Answers a call of one of this desk's seats.
     ///
-    /// A seat that isn't this desk's waits for ever: where it has seen more than the desk's log, or where that log has
-    /// calls of its operator that it didn't make.
+    /// A seat of another desk waits for ever: it has seen more than this desk's log, or the log has calls of its
+    /// operator that it didn't make.
     pub fn call<R: Wait>(&self, rt: &R, alloc: Global, seat: &mut Seat<'a, H>, call: Call) -> Answer
         ensures { IsAnswered H.start H.publisher seat.old seat.new (asked_by call) result }
     {
@@ -178,7 +178,7 @@ impl<'a, H: Hall> SharedDesk<'a, H> {
 
     /// The whole log, once all seats are back. Readers find no rows from then on.
     ///
-    /// It waits for ever where a seat isn't this desk's.
+    /// It waits for ever if a seat is of another desk.
     pub fn gather<R: Wait>(
         self,
         rt: &R,

@@ -48,7 +48,7 @@ pub fn none_of<'a>(
 /// Adds tokens of the later entries.
 pub fn catch_up<'a>(seen: &mut Vec<OnceToken<'a, LogEntry>>, entries: &Vec<OnceToken<'a, LogEntry>>)
     requires few { vec_len seen.old ≤ vec_len entries.now }
-    requires room { vec_len entries.now ≤ vec_capacity seen.old }
+    requires capacity { vec_len entries.now ≤ vec_capacity seen.old }
     requires marks { marks seen.old.items ≡ take (vec_len seen.old) (marks entries.now.items) }
     requires shown { shown seen.old.items ≡ take (vec_len seen.old) (shown entries.now.items) }
     ensures marks { marks seen.new.items ≡ marks entries.now.items }

@@ -40,7 +40,7 @@ beyond (x ∷ xs) (suc j) le = beyond xs j (omega (arith, le))
 
 -- so many places further on
 pub moved_on : (cells new : List (Option ℤ)) (pairs : List Pair) (p n : ℕ) → new ≡ drop n (cells ++ replicate n None) → Agrees cells pairs p → Agrees new pairs (p + n)
-moved_on cells new pairs p n is a = record { here = here; room = room }
+moved_on cells new pairs p n is a = record { here = here; behind = behind }
   where
     long : length new ≡ length cells
     long =
@@ -55,8 +55,8 @@ moved_on cells new pairs p n is a = record { here = here; room = room }
     here : (j : ℕ) → j < length new → get_or new j None ≡ sample_at pairs (p + n + j)
     here j lt = elim (below_or_not (n + j) (length cells)) [
       | inl less ↦ let e : p + (n + j) ≡ p + n + j = omega arith in cell j ∙ a.here (n + j) less ∙ ap (sample_at pairs) e
-      | inr le ↦ cell j ∙ beyond cells (n + j) le ∙ sym (a.room (p + n + j) (omega (arith, le)))
+      | inr le ↦ cell j ∙ beyond cells (n + j) le ∙ sym (a.behind (p + n + j) (omega (arith, le)))
     ]
 
-    room : (k : ℕ) → p + n + length new ≤ k → sample_at pairs k ≡ None
-    room k above = a.room k (omega (arith, above, long))
+    behind : (k : ℕ) → p + n + length new ≤ k → sample_at pairs k ≡ None
+    behind k above = a.behind k (omega (arith, above, long))

@@ -46,7 +46,7 @@ offer_old p i pairs s v some = rw (not_below p i, some) refl
 
 new_agrees : (cells : List (Option ℤ)) (pairs : List Pair) (p i : ℕ) (s : ℤ) → i < length cells → Agrees cells pairs p → get_or cells i None ≡ None
     → Agrees (set cells i (Some s)) (pairs ++ new_pair (p + i) s ∷ []) p
-new_agrees cells pairs p i s lt a none = record { here = here; room = room }
+new_agrees cells pairs p i s lt a none = record { here = here; behind = behind }
   where
     long : length (set cells i (Some s)) ≡ length cells
     long = length-set cells i (Some s)
@@ -64,11 +64,11 @@ new_agrees cells pairs p i s lt a none = record { here = here; room = room }
           get_or-set_other cells i j (Some s) None back ∙ a.here j lt2 ∙ sym (push_other pairs (p + i) (p + j) s apart)
     ]
 
-    room : (n : ℕ) → p + length (set cells i (Some s)) ≤ n → sample_at (pairs ++ new_pair (p + i) s ∷ []) n ≡ None
-    room n above =
+    behind : (n : ℕ) → p + length (set cells i (Some s)) ≤ n → sample_at (pairs ++ new_pair (p + i) s ∷ []) n ≡ None
+    behind n above =
         let apart : p + i ≢ n = λ e. absurd (omega (arith, e, above, long, lt)) in
         let le : p + length cells ≤ n = omega (arith, above, long) in
-        push_other pairs (p + i) n s apart ∙ a.room n le
+        push_other pairs (p + i) n s apart ∙ a.behind n le
 
 -- one more sample, in its cell
 pub one_offered : (cells : List (Option ℤ)) (pairs : List Pair) (p i : ℕ) (s : ℤ) → i < length cells → Agrees cells pairs p

@@ -10,7 +10,7 @@ use Rattle.playout.specs.inner.Cells.{heard}
 
 -- where there is no sample, the position makes no difference
 pub blank_at : (cells : List (Option ℤ)) (p : ℕ) → Agrees cells [] p → IsBlank cells
-blank_at cells p a q = record { here = λ i lt. a.here i lt; room = λ n above. refl }
+blank_at cells p a q = record { here = λ i lt. a.here i lt; behind = λ n above. refl }
 
 present-nothing : (p n : ℕ) → present [] p n ≡ 0
 present-nothing p zero = refl

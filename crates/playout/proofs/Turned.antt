@@ -140,7 +140,7 @@ all_none (suc n) (suc i) cell is = all_none n i cell is
 
 -- empty places
 pub blank : (n start : ℕ) → start ≤ n → (cells : List (Option ℤ)) → cells ≡ turned start (replicate n None) → IsBlank cells
-blank n start le cells is p = record { here = λ i lt. ap (λ (xs : List (Option ℤ)). get_or xs i None) same ∙ all_none n i None refl; room = λ m above. refl }
+blank n start le cells is p = record { here = λ i lt. ap (λ (xs : List (Option ℤ)). get_or xs i None) same ∙ all_none n i None refl; behind = λ m above. refl }
   where
     none : Option ℤ
     none = None

@@ -1,4 +1,4 @@
--- What becomes of a playout by a put and by a take, and what it answers (own).
+-- What a put and a take do to a playout, and what they answer (own).
 use Rattle.std.specs.Prelude.{◌≡◌, ℕ, ℤ, ◌+◌, ◌/◌, if◌then◌else◌, nat_eq, List, [], length, Option, None, Some}
 use Rattle.playout.specs.declared.placed.PlacedSamples.{PlacedSamples}
 use Rattle.playout.specs.declared.placed.PlacedSamples.TheVariants.{Kept}
@@ -10,12 +10,12 @@ put_after play ts samples =
     if is_reset play.rate play.position (place_of play.position ts) (length samples) then begun_by play.rate ts samples
     else record { rate = play.rate; position = play.position; pairs = pairs_after play.rate play.position play.pairs ts samples }
 
--- what a put at this rate makes of a playout: it begins one where there is none, or one of another rate
+-- the playout after a put at this rate: it begins anew if there was none, or one of another rate
 abbrev pub play_put : ℕ → Option Play → ℕ → List ℤ → Play
 play_put rate None ts samples = begun_by rate ts samples
 play_put rate (Some play) ts samples = if nat_eq play.rate rate then put_after play ts samples else begun_by rate ts samples
 
--- what a take of so many samples makes of a playout. Before the first put it leaves nothing there.
+-- the playout after a take of this many samples. Before the first put there is none.
 abbrev pub play_taken : ℕ → Option Play → Option Play
 play_taken count None = None
 play_taken count (Some play) = Some (record { rate = play.rate; position = play.position + count; pairs = play.pairs })
@@ -29,12 +29,12 @@ abbrev pub play_ticked : Option Play → Option Play
 play_ticked None = None
 play_ticked (Some play) = play_taken (tick_samples play.rate) (Some play)
 
--- what becomes of a put at the playout's rate: the first one is kept whole
+-- the answer to a put at the playout's rate: the first one is kept whole
 abbrev pub answer_of : Option Play → ℕ → List ℤ → PlacedSamples
 answer_of None ts samples = Kept (length samples)
 answer_of (Some play) ts samples = placed_of play.rate play.position play.pairs ts samples
 
--- These are the next samples of a playout, and so many of them are there. Before the first put they are zeros, and none is there.
+-- These are the next samples of a playout, and this many of them are present. Before the first put they are zeros, and none is present.
 abbrev pub PlaysOut : Option Play → List ℤ → ℕ → Type 0
 PlaysOut None out count = AreTaken [] 0 out × (count ≡ 0)
 PlaysOut (Some play) out count = AreTaken play.pairs play.position out × (count ≡ present play.pairs play.position (length out))

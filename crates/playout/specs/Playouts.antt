@@ -46,7 +46,7 @@ HoldsAt None (Some play) = ⊥
 HoldsAt (Some playout) None = ⊥
 HoldsAt (Some playout) (Some play) = Holds playout (Some play)
 
--- They have had these: the playout of each source stands as they leave it, and there is none of a source of which nothing was put.
+-- The playouts were given these: each source's playout is as they leave it, and a source without a put has none.
 abbrev pub Has : PlayoutsOf → List AudioEvent → Type 0
 Has playouts events = (source : ℕ) (address : Address) → HoldsAt (playout_at source address playouts) (play_on source address events)
 
@@ -54,7 +54,7 @@ Has playouts events = (source : ℕ) (address : Address) → HoldsAt (playout_at
 abbrev pub HasAlso : PlayoutsOf → PlayoutsOf → AudioEvent → Type 0
 HasAlso old new event = (events : List AudioEvent) → Has old events → Has new (events ++ event ∷ [])
 
--- Whatever they have had, these are the next samples of the source, if its playout has this rate, and so many of them are there. Else they are zeros, and none is there.
+-- Whatever they were given, these are the next samples of the source, if its playout has this rate, and this many of them are present. Else they are zeros, and none is present.
 abbrev pub ShowsOf : PlayoutsOf → ℕ → Address → ℕ → List ℤ → ℕ → Type 0
 ShowsOf playouts source address rate out count =
     (events : List AudioEvent) → Has playouts events → PlaysOut (at_rate rate (play_on source address events)) out count

@@ -86,14 +86,14 @@ fn peek_at<A: Allocator>(playout: &Playout<A>, rate: u32, out: &mut [i16]) -> u3
     }
 }
 
-type Table<A> = IndexMap<SourceKey, Playout<A>, BuildHasherDefault<FoldHasher>, A>;
+type PlayoutTable<A> = IndexMap<SourceKey, Playout<A>, BuildHasherDefault<FoldHasher>, A>;
 
 /// The jitter buffers of a lane (media worker), one for each source by SSRC and address.
 ///
 /// A source's buffer begins with its first samples, and is never dropped. It begins anew where the clock rate changes.
 #[derive(Drop)]
 pub struct Playouts<A: Allocator + Copy = Global> {
-    table: Table<A>,
+    table: PlayoutTable<A>,
 }
 
 impl<A: Allocator + Copy> Model for Playouts<A> {

@@ -95,7 +95,7 @@ pub fn fill_from<A: Allocator>(
     fill_each(present, samples, at, new)
 }
 
-/// Empties so many places.
+/// Empties `count` places.
 fn clear(present: &mut [bool], samples: &[i16], at: usize, count: usize)
     requires alike { length samples.now ≡ length present.old }
     requires within { at + count ≤ length present.old }
@@ -105,7 +105,7 @@ fn clear(present: &mut [bool], samples: &[i16], at: usize, count: usize)
     present[at..at + count].fill(false);
 }
 
-/// Empties so many places from a place on.
+/// Empties `count` places from a place on.
 pub fn clear_from<A: Allocator>(
     present: &mut Vec<bool, A>,
     samples: &Vec<i16, A>,

@@ -1,5 +1,16 @@
-//! Memory that is refused once: an allocator for tests, which answers `AllocError` to the request that it is told to
-//! refuse, and hands all others to the one below.
+//! An allocator for tests that refuses memory once: the request that it is told to refuse gets `AllocError`, and all
+//! others go to the allocator below.
+//!
+//! Begin with [`Refusing::new`]. A collection holds a `&Refusing`. Contracts say nothing of which request is refused.
+//!
+//! ```rust
+//! let heap = Refusing::new(alloc);
+//! heap.refuse(2); // the second request from now on
+//! let rows = Rows::new(&heap, 1); // Err(AllocError)
+//! let was_refused = heap.end(2); // true
+//! ```
+//!
+//! `push_refused` of desk_tests makes these calls over a history.
 #![tactic(auto)]
 
 use std::alloc::{AllocError, Allocator, Global};

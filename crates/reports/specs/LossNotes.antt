@@ -7,7 +7,7 @@ use Rattle.retransmit.specs.SentPacket.{SentPacket}
 use Rattle.retransmit.specs.Window.{resend_of}
 use Rattle.reports.specs.declared.noting.LossNote.{LossNote}
 
--- what a block from this owner says: its losses, and which packet of which source went to the owner under the highest number that the block has, where that is among the stream's last
+-- what a block from this owner says: its losses, and which packet of which source went to the owner under the block's highest number, if that is among the stream's last
 abbrev pub note_of : ReportBlock → Owner → List SentPacket → LossNote
 note_of block owner window = record {
   out_ssrc = block.ssrc;

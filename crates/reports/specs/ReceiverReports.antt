@@ -1,4 +1,4 @@
--- What is told of sources to their sender (RFC 3550 sections 6.1 and 6.4.2; where the name stands is own).
+-- What is reported of sources to their sender (RFC 3550 sections 6.1 and 6.4.2; where the name stands is own).
 use Rattle.std.specs.Prelude.{ℕ, ◌+◌, ◌-◌, ◌*◌, ◌/◌, List, [], ◌∷◌, ◌++◌, length, take, drop, map}
 use Rattle.std.specs.List.{range_with_len}
 use Rattle.rtcp_codec.specs.declared.report.ReportBlock.{ReportBlock}
@@ -9,7 +9,7 @@ use Rattle.rtcp_codec.specs.CanonicalName.{named}
 abbrev pub blocks_at : List ReportBlock → ℕ → List ReportBlock
 blocks_at blocks place = take most_count (drop (most_count * place) blocks)
 
--- how many reports blocks take: as many as hold them all, and one where there is no block
+-- how many reports blocks take: as many as hold them all, and one if there is no block
 abbrev pub count_of_reports : ℕ → ℕ
 count_of_reports blocks = (blocks - 1) / most_count + 1
 

@@ -1,4 +1,4 @@
--- What is told of a stream to its receiver (RFC 3550 section 6.4.1; that it has no blocks is own).
+-- What is reported of a stream to its receiver (RFC 3550 section 6.4.1; that it has no blocks is own).
 use Rattle.std.specs.Prelude.{ℕ, List, [], ◌∷◌}
 use Rattle.rtcp_codec.specs.Packet.{Packet, Sender}
 use Rattle.rtcp_codec.specs.CanonicalName.{named}

@@ -16,8 +16,8 @@ pub struct LossNote {
     pub fraction: u8,
     /// The packets lost in all: -8,388,608 to 8,388,607. Duplicates make it negative.
     pub lost: i32,
-    /// The source's packet that the receiver got last by number: its SSRC and extended sequence number. `None` if the
-    /// stream no longer has it.
+    /// The source's packet with the highest number that the receiver got: its SSRC and its extended sequence number,
+    /// at least -65536. `None` if the stream doesn't have it.
     pub source: Option<(u32, i64)>,
 }
 

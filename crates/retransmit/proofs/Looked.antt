@@ -7,7 +7,7 @@ use Rattle.std.proofs.lemmas.Option.{none-some, same_Some}
 use Rattle.rtp_codec.specs.Sequence.{distance}
 use Rattle.retransmit.specs.declared.owner.Owner.{Owner}
 use Rattle.retransmit.specs.SentPacket.{SentPacket}
-use Rattle.retransmit.specs.Window.{room, same_owner, resend_of, GoOn, AreInARow}
+use Rattle.retransmit.specs.Window.{window_size, same_owner, resend_of, GoOn, AreInARow}
 use Rattle.retransmit.specs.inner.ToOwner.{to_owner}
 use Rattle.retransmit.specs.laws.SoFar.{of_number}
 
@@ -40,12 +40,12 @@ found n owner (suc d) p (q ∷ qs) fits g few e lt =
 
 -- what the place at the distance from the oldest packet has
 pub looked_up : (window now : List SentPacket) (n : ℕ) (owner : Owner) (oldest : SentPacket) (a d i : ℕ) (there : Option SentPacket)
-    → window ≡ now → AreInARow window → length window ≤ room → Some oldest ≡ slice_get window 0 → a ≡ oldest.number → a < 2 ^ 16 → n < 2 ^ 16 → d ≡ distance a n → i ≡ d → there ≡ slice_get window i
+    → window ≡ now → AreInARow window → length window ≤ window_size → Some oldest ≡ slice_get window 0 → a ≡ oldest.number → a < 2 ^ 16 → n < 2 ^ 16 → d ≡ distance a n → i ≡ d → there ≡ slice_get window i
     → resend_of n owner now ≡ to_owner owner there
 looked_up window now n owner oldest a d i there view g few is number fits small e place at =
     ap (resend_of n owner) (sym view) ∙ go window g few is ∙ ap (to_owner owner) (ap (slice_get window) (sym place) ∙ sym at)
   where
-    go : (ps : List SentPacket) → AreInARow ps → length ps ≤ room → Some oldest ≡ slice_get ps 0 → resend_of n owner ps ≡ to_owner owner (slice_get ps d)
+    go : (ps : List SentPacket) → AreInARow ps → length ps ≤ window_size → Some oldest ≡ slice_get ps 0 → resend_of n owner ps ≡ to_owner owner (slice_get ps d)
     go [] g few is = refl
     go (p ∷ ps) g few is =
         let first : oldest.number ≡ p.number = ap (λ (q : SentPacket). q.number) (same_Some oldest p is) in
@@ -81,6 +81,6 @@ only_one n owner p (q ∷ qs) x g few is = elim (cases_eq p.number n) [
 ]
 
 -- in a window no other packet has the number of the one that is found
-pub found_alone : (n : ℕ) (owner : Owner) (window : List SentPacket) (x : SentPacket) → AreInARow window → length window ≤ room → resend_of n owner window ≡ Some x → of_number n window ≡ x ∷ []
+pub found_alone : (n : ℕ) (owner : Owner) (window : List SentPacket) (x : SentPacket) → AreInARow window → length window ≤ window_size → resend_of n owner window ≡ Some x → of_number n window ≡ x ∷ []
 found_alone n owner [] x g few is = absurd (none-some x is)
 found_alone n owner (p ∷ ps) x g few is = only_one n owner p ps x g (omega (arith, few)) is

@@ -7,8 +7,8 @@ use Rattle.retransmit.specs.declared.owner.Owner.{Owner}
 use Rattle.retransmit.specs.SentPacket.{SentPacket}
 
 -- how many packets can be sent again (own)
-abbrev pub room : ℕ
-room = 512
+abbrev pub window_size : ℕ
+window_size = 512
 
 -- the last packets of those that were sent, so many of them
 abbrev pub latest : ℕ → List SentPacket → List SentPacket

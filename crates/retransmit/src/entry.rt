@@ -15,7 +15,7 @@ pub struct Entry<A: Allocator + Copy = Global> {
     pub number: u16,
     /// The receiver that it went to.
     pub owner: Owner,
-    /// The version of the desk that it followed.
+    /// The version of the desk that it followed, 0 to 1,048,576.
     pub version: u64,
     /// The number of the lane's item that it was sent for, from 1 on.
     pub item: u64,
@@ -23,9 +23,9 @@ pub struct Entry<A: Allocator + Copy = Global> {
     pub source: u32,
     /// The address that the source's packet came from.
     pub address: Address,
-    /// The epoch of the source's packet. Each initialisation of a source begins an epoch.
+    /// The epoch of the source's packet, from 1 on. Each initialisation of a source begins an epoch.
     pub epoch: u64,
-    /// The extended sequence number of the source's packet.
+    /// The extended sequence number of the source's packet, at least -65536.
     pub ext: i64,
     /// The octets that were sent, shared with what went out.
     pub bytes: PacketBytes<A>,

@@ -2,7 +2,7 @@
 
 ghost use Rattle.std.specs.Prelude.{◌≡◌, [], ◌∷◌, ◌++◌, IfOk, option_copied};
 ghost use Rattle.retransmit.specs.declared.owner.Owner.{Owner};
-ghost use Rattle.retransmit.specs.Window.{room, latest, resend_of, MayFollow};
+ghost use Rattle.retransmit.specs.Window.{window_size, latest, resend_of, MayFollow};
 ghost use Rattle.retransmit.specs.inner.ToOwner.{to_owner};
 
 use crate::entry::Entry;
@@ -13,7 +13,7 @@ use std::alloc::{AllocError, Allocator, Global};
 use std::marker::Model;
 
 /// The number of packets that can be sent again.
-const ROOM: usize = 512;
+const CAPACITY: usize = 512;
 
 /// The last 512 packets of an outgoing stream. Only [`new`](Self::new) takes memory.
 #[derive(Drop)]
@@ -38,7 +38,7 @@ impl<A: Allocator + Copy> Window<A> {
     pub fn new(alloc: A) -> Result<Self, AllocError>
         ensures { IfOk result (λ window. window ≡ []) }
     {
-        let ring = HeapCircularBuffer::with_capacity(alloc, ROOM)?;
+        let ring = HeapCircularBuffer::with_capacity(alloc, CAPACITY)?;
         Ok(Self { ring })
     }
 
@@ -47,7 +47,7 @@ impl<A: Allocator + Copy> Window<A> {
     /// Its number must follow the last one's: 0 follows 65535.
     pub fn push(&mut self, entry: Entry<A>)
         requires { MayFollow self.old entry }
-        ensures { self.new ≡ latest room (self.old ++ entry ∷ []) }
+        ensures { self.new ≡ latest window_size (self.old ++ entry ∷ []) }
     {
         self.ring.push_back(entry);
     }

@@ -8,8 +8,8 @@ use Rattle.std.proofs.lemmas.List.{length-drop, length-take, take-append-drop}
 use Rattle.rtp_codec.specs.Octets.{AreOctets}
 use Rattle.rtcp_codec.specs.declared.fault.RtcpFault.{RtcpFault}
 use Rattle.rtcp_codec.specs.declared.fault.RtcpFault.TheVariants.{Short, Version, First, Length, Padding, Body}
-use Rattle.rtcp_codec.specs.declared.kind.Kind.{Kind}
-use Rattle.rtcp_codec.specs.declared.kind.Kind.TheVariants as kinds
+use Rattle.rtcp_codec.specs.declared.kind.PacketKind.{PacketKind}
+use Rattle.rtcp_codec.specs.declared.kind.PacketKind.TheVariants as kinds
 use Rattle.rtcp_codec.specs.Kind.{kind_of}
 use Rattle.rtcp_codec.specs.Description.{Item, Chunk, item_octets, chunk_octets, IsFill, FitsItem, FitsChunk, HasChunks}
 use Rattle.rtcp_codec.specs.Packet.{Packet}
@@ -122,7 +122,7 @@ reason_or_not : (octets : List ℕ) → Decided (IsWholeReason octets)
 reason_or_not [] = inl tt
 reason_or_not (n ∷ octets) = at_most n (length octets)
 
-body_or_not : (k : Kind) (n : ℕ) (body : List ℕ) → IsBytes body → length body % 4 ≡ 0 → Decided (IsWholeBody k n body)
+body_or_not : (k : PacketKind) (n : ℕ) (body : List ℕ) → IsBytes body → length body % 4 ≡ 0 → Decided (IsWholeBody k n body)
 body_or_not kinds.Sender n body bytes words = at_most (24 + 24 * n) (length body)
 body_or_not kinds.Receiver n body bytes words = at_most (4 + 24 * n) (length body)
 body_or_not kinds.Sdes n body bytes words = chunks_or_not n body bytes words
@@ -138,7 +138,7 @@ body_or_not kinds.Other n body bytes words = inl tt
 
 -- ---- the common header
 
-report_or_not : (k : Kind) → Decided (IsReport k)
+report_or_not : (k : PacketKind) → Decided (IsReport k)
 report_or_not kinds.Sender = inl (inl refl)
 report_or_not kinds.Receiver = inl (inr refl)
 report_or_not kinds.Sdes = inr (λ h. elim h [ inl e ↦ absurd cc | inr e ↦ absurd cc ])

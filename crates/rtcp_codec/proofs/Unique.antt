@@ -15,7 +15,7 @@ use Rattle.rtcp_codec.specs.declared.nack.NackWord.{NackWord}
 use Rattle.rtcp_codec.specs.declared.report.ReportBlock.{ReportBlock}
 use Rattle.rtcp_codec.specs.Report.{twos_complement, octets_24, block_octets, FitsLost}
 use Rattle.rtcp_codec.specs.Nack.{word_octets, FitsWord}
-use Rattle.rtcp_codec.specs.declared.kind.Kind.{Kind}
+use Rattle.rtcp_codec.specs.declared.kind.PacketKind.{PacketKind}
 use Rattle.rtcp_codec.specs.Description.{Chunk, chunk_octets, IsFill, Describe, FitsChunk, HasChunks}
 use Rattle.rtcp_codec.specs.Packet.{Packet, Sender, Receiver, Sdes, Bye, App, Nack, Pli, Other, kind, type_of, count_of, fields, IsBody, IsPacket, common_header}
 use Rattle.rtcp_codec.specs.Kind.{kind_of}
@@ -329,7 +329,7 @@ no_padding_fault n octets front rest e sz at padded pad last words behind first 
     ]
 
 whole_said : (p : Packet) (front body : List ℕ) → kind_at front ≡ kind p → count front ≡ count_of p → body_of front ≡ body → IsWholeBody (kind p) (count_of p) body → IsWholeBody (kind_at front) (count front) (body_of front)
-whole_said p front body k c b h = subst (λ (z : Kind). IsWholeBody z (count front) (body_of front)) (sym k) (subst (λ (z : ℕ). IsWholeBody (kind p) z (body_of front)) (sym c) (subst (IsWholeBody (kind p) (count_of p)) (sym b) h))
+whole_said p front body k c b h = subst (λ (z : PacketKind). IsWholeBody z (count front) (body_of front)) (sym k) (subst (λ (z : ℕ). IsWholeBody (kind p) z (body_of front)) (sym c) (subst (IsWholeBody (kind p) (count_of p)) (sym b) h))
 
 none_of : (f : RtcpFault) (first : Bool) (octets : List ℕ) → (Case first Short octets → ⊥) → (Case first Version octets → ⊥) → (Case first First octets → ⊥) → (Case first Length octets → ⊥) → (Case first Padding octets → ⊥) → (Case first Body octets → ⊥) → IsFirstOf fault_order first f octets → ⊥
 none_of f first octets a b c d e g (inl h) = a h.0

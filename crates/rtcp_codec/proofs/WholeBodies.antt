@@ -10,8 +10,8 @@ use Rattle.std.proofs.lemmas.Nat.{be_bytes_2, be_bytes_4, be_bytes_8}
 use Rattle.rtp_codec.specs.Packet.{number_octets}
 use Rattle.std.specs.Prelude.{◌⊎◌}
 use Rattle.rtcp_codec.specs.declared.fault.RtcpFault.TheVariants.{Padding, Body}
-use Rattle.rtcp_codec.specs.declared.kind.Kind.{Kind}
-use Rattle.rtcp_codec.specs.declared.kind.Kind.TheVariants as kinds
+use Rattle.rtcp_codec.specs.declared.kind.PacketKind.{PacketKind}
+use Rattle.rtcp_codec.specs.declared.kind.PacketKind.TheVariants as kinds
 use Rattle.rtcp_codec.specs.declared.nack.NackWord.{NackWord}
 use Rattle.rtcp_codec.specs.declared.report.ReportBlock.{ReportBlock}
 use Rattle.rtcp_codec.specs.Compound.{is_padded, count, kind_at, size, padding_of, packet_at, body_of, IsBadPadding, Case, IsFirstOf, fault_order, IsWholeReason, IsWholeBody}
@@ -311,7 +311,7 @@ as_type pt type n body e h = (h.0, subst (λ (t : ℕ). IsOf t n body h.0) (sym 
 as_feedback : (pt type n : ℕ) (body : List ℕ) → (pt ≡ type) × (n ≡ 1) → (p : Packet) × IsOf type 1 body p → (p : Packet) × IsOf pt n body p
 as_feedback pt type n body e h = (h.0, subst (λ (t : ℕ). IsOf t n body h.0) (sym e.0) (subst (λ (m : ℕ). IsOf type m body h.0) (sym e.1) h.1))
 
-by_kind : (k : Kind) (pt n : ℕ) (body : List ℕ) → kind_of pt n ≡ k → pt < 256 → IsBytes body → length body % 4 ≡ 0 → IsWholeBody k n body → (p : Packet) × IsOf pt n body p
+by_kind : (k : PacketKind) (pt n : ℕ) (body : List ℕ) → kind_of pt n ≡ k → pt < 256 → IsBytes body → length body % 4 ≡ 0 → IsWholeBody k n body → (p : Packet) × IsOf pt n body p
 by_kind kinds.Sender pt n body e small bytes words whole = as_type pt 200 n body ((type_of_kind pt n).0 e) (some_sender n body bytes whole)
 by_kind kinds.Receiver pt n body e small bytes words whole = as_type pt 201 n body ((type_of_kind pt n).1 e) (some_receiver n body bytes whole)
 by_kind kinds.Sdes pt n body e small bytes words whole = as_type pt 202 n body ((type_of_kind pt n).2 e) (Sdes whole.0, record { its_type = refl; its_count = whole.1; fits = whole.2; is_body = whole.3 })

@@ -2,8 +2,8 @@
 use Rattle.std.specs.Prelude.{◌≡◌, ◌≢◌, ℕ, ◌+◌, ◌-◌, ◌*◌, ◌/◌, ◌%◌, ◌<◌, ◌≤◌, ◌==◌, Bool, true, false, if◌then◌else◌, List, [], ◌∷◌, ◌++◌, length, take, drop, map, slice_index, ◌⊎◌, ⊤}
 use Rattle.std.specs.List.{flat_map, AllByRecursion}
 use Rattle.std.specs.Int.{w16, from_be_bytes}
-use Rattle.rtcp_codec.specs.declared.kind.Kind.{Kind}
-use Rattle.rtcp_codec.specs.declared.kind.Kind.TheVariants as kinds
+use Rattle.rtcp_codec.specs.declared.kind.PacketKind.{PacketKind}
+use Rattle.rtcp_codec.specs.declared.kind.PacketKind.TheVariants as kinds
 use Rattle.rtcp_codec.specs.declared.fault.RtcpFault.{RtcpFault}
 use Rattle.rtcp_codec.specs.declared.fault.RtcpFault.TheVariants.{Short, Version, First, Length, Padding, Body, OutOfMemory}
 use Rattle.rtcp_codec.specs.Description.{HasChunks}
@@ -27,7 +27,7 @@ abbrev pub size : List ℕ → ℕ
 size octets = 4 * (from_be_bytes w16 (take 2 (drop 2 octets)) + 1)
 
 -- the kind of the packet that begins here
-abbrev pub kind_at : List ℕ → Kind
+abbrev pub kind_at : List ℕ → PacketKind
 kind_at octets = kind_of (slice_index octets 1) (count octets)
 
 -- how many octets of padding a packet has, by its last octet where P is set
@@ -39,7 +39,7 @@ abbrev pub body_of : List ℕ → List ℕ
 body_of packet = take (length packet - padding_of packet - 4) (drop 4 packet)
 
 -- a report, with which each compound begins
-abbrev pub IsReport : Kind → Type 0
+abbrev pub IsReport : PacketKind → Type 0
 IsReport k = (k ≡ kinds.Sender) ⊎ (k ≡ kinds.Receiver)
 
 -- a reason for leaving is whole: there is none, or its length isn't more than what follows
@@ -48,7 +48,7 @@ IsWholeReason [] = ⊤
 IsWholeReason (n ∷ octets) = n ≤ length octets
 
 -- a body of a packet of this kind and count has all of its named parts
-abbrev pub IsWholeBody : Kind → ℕ → List ℕ → Type 0
+abbrev pub IsWholeBody : PacketKind → ℕ → List ℕ → Type 0
 IsWholeBody kinds.Sender n body = 24 + 24 * n ≤ length body
 IsWholeBody kinds.Receiver n body = 4 + 24 * n ≤ length body
 IsWholeBody kinds.Sdes n body = HasChunks n body
@@ -85,7 +85,7 @@ IsFirstOf [] first fault octets = ⊥
 IsFirstOf (f ∷ fs) first fault octets =
     (Case first f octets × (fault ≡ f)) ⊎ ((¬ Case first f octets) × IsFirstOf fs first fault octets)
 
--- the faults in the order in which they are told
+-- the faults in the order in which they are checked
 abbrev pub fault_order : List RtcpFault
 fault_order = Short ∷ Version ∷ First ∷ Length ∷ Padding ∷ Body ∷ []
 

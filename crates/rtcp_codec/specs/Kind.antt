@@ -1,7 +1,7 @@
 -- Which packet a type and a count stand for (RFC 3550 section 12.1, RFC 4585 section 6.1).
 use Rattle.std.specs.Prelude.{ℕ, ◌==◌, ◌&&◌, if◌then◌else◌}
-use Rattle.rtcp_codec.specs.declared.kind.Kind.{Kind}
-use Rattle.rtcp_codec.specs.declared.kind.Kind.TheVariants as kinds
+use Rattle.rtcp_codec.specs.declared.kind.PacketKind.{PacketKind}
+use Rattle.rtcp_codec.specs.declared.kind.PacketKind.TheVariants as kinds
 
 -- packet types: SR, RR, SDES, BYE and APP (RFC 3550 section 12.1), and feedback on transport and payload (RFC 4585
 -- section 6.1)
@@ -41,7 +41,7 @@ abbrev pub pli_format : ℕ
 pli_format = 1
 
 -- the kind of a packet with this type and this count, which is the format of a feedback packet
-abbrev pub kind_of : ℕ → ℕ → Kind
+abbrev pub kind_of : ℕ → ℕ → PacketKind
 kind_of pt count =
     if pt == sr then kinds.Sender else
     if pt == rr then kinds.Receiver else

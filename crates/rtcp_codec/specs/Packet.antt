@@ -3,8 +3,8 @@ use Rattle.std.specs.Prelude.{◌≡◌, ℕ, ◌+◌, ◌*◌, ◌/◌, ◌%◌
 use Rattle.std.specs.List.{flat_map, AllByRecursion}
 use Rattle.std.specs.Int.{w16, w32, w64, to_be_bytes}
 use Rattle.rtp_codec.specs.Packet.{number_octets, IsPadding}
-use Rattle.rtcp_codec.specs.declared.kind.Kind.{Kind}
-use Rattle.rtcp_codec.specs.declared.kind.Kind.TheVariants as kinds
+use Rattle.rtcp_codec.specs.declared.kind.PacketKind.{PacketKind}
+use Rattle.rtcp_codec.specs.declared.kind.PacketKind.TheVariants as kinds
 use Rattle.rtcp_codec.specs.declared.nack.NackWord.{NackWord}
 use Rattle.rtcp_codec.specs.declared.report.ReportBlock.{ReportBlock}
 use Rattle.rtcp_codec.specs.Description.{Chunk, chunk_octets, filled, Describe, most_text, TextsFit, ItemsTold}
@@ -24,7 +24,7 @@ pub data Packet : Type 0 where
   Other : (pt count : ℕ) (body : List ℕ) → Packet
 
 -- the kind of a packet
-abbrev pub kind : Packet → Kind
+abbrev pub kind : Packet → PacketKind
 kind (Sender ssrc ntp ts packets octets blocks) = kinds.Sender
 kind (Receiver ssrc blocks) = kinds.Receiver
 kind (Sdes chunks) = kinds.Sdes

@@ -5,18 +5,18 @@ ghost use Rattle.std.specs.Prelude.{vec_capacity};
 
 use std::alloc::Allocator;
 
-/// Appends octets. There is room for them.
+/// Appends octets. The buffer has the capacity.
 pub(crate) fn append<A: Allocator>(octets: &[u8], out: &mut Vec<u8, A>)
     requires { vec_len out.old + length octets.now ≤ vec_capacity out.old }
     ensures items { out.new.items ≡ out.old.items ++ octets.now }
     ensures len { vec_len out.new ≡ vec_len out.old + length octets.now }
     ensures capacity { vec_capacity out.old ≤ vec_capacity out.new }
 {
-    // There is room, so this wants no memory and can't fail.
+    // The buffer has the capacity, so this takes no memory and can't fail.
     let _ = out.extend_from_slice(octets);
 }
 
-/// Appends nulls up to the next 32-bit boundary behind `size` octets. There is room for them.
+/// Appends nulls up to the next 32-bit boundary behind `size` octets. The buffer has the capacity.
 pub(crate) fn append_fill<A: Allocator>(size: usize, out: &mut Vec<u8, A>)
     requires { vec_len out.old + (4 - size % 4) % 4 ≤ vec_capacity out.old }
     ensures items { out.new.items ≡ out.old.items ++ replicate ((4 - size % 4) % 4) 0 }

@@ -2,7 +2,7 @@
 
 ghost use Rattle.std.specs.Prelude.{◌≡◌, ◌+◌, ◌*◌, ◌%◌, ◌^◌, ◌<◌, ◌≤◌, ◌++◌, [], ◌∷◌, length, IfOk, IfSome, IfNone};
 ghost use Rattle.std.specs.List.{flat_map, AllByRecursion};
-ghost use Rattle.rtcp_codec.specs.declared.kind.Kind.TheVariants as kinds;
+ghost use Rattle.rtcp_codec.specs.declared.kind.PacketKind.TheVariants as kinds;
 ghost use Rattle.rtcp_codec.specs.Kind.{kind_of, sdes, bye, app, rtpfb, psfb, nack_format, pli_format};
 ghost use Rattle.rtcp_codec.specs.Packet.{Begin, Pli as PliPacket};
 ghost use Rattle.rtcp_codec.specs.inner.Reading.{IsOf};
@@ -12,7 +12,7 @@ ghost use Rattle.rtcp_codec.specs.View.{packet_of};
 ghost use Rattle.rtp_codec.specs.Packet.{number_octets};
 
 use crate::fields::{u16_from, u32_from};
-use crate::kind::{Kind, kind_of};
+use crate::kind::{PacketKind, kind_of};
 use crate::nack::{Nack, NackWord};
 use crate::packet::{App, Bye, Other, Pli, Rtcp};
 use crate::reading_descriptions::chunks_from;
@@ -157,14 +157,14 @@ pub(crate) fn packet_from<A: Allocator + Copy>(
     ensures { IfOk result (λ p. IsOf pt count body.now (packet_of p)) }
 {
     match kind_of(pt, count) {
-        Kind::Sender => sender_from(alloc, count, body),
-        Kind::Receiver => receiver_from(alloc, count, body),
-        Kind::Sdes => sdes_from(alloc, count, body),
-        Kind::Bye => bye_from(alloc, count, body),
-        Kind::App => app_from(alloc, count, body),
-        Kind::Nack => nack_from(alloc, body),
-        Kind::Pli => Ok(Rtcp::Pli(pli_from(body))),
-        Kind::Other => {
+        PacketKind::Sender => sender_from(alloc, count, body),
+        PacketKind::Receiver => receiver_from(alloc, count, body),
+        PacketKind::Sdes => sdes_from(alloc, count, body),
+        PacketKind::Bye => bye_from(alloc, count, body),
+        PacketKind::App => app_from(alloc, count, body),
+        PacketKind::Nack => nack_from(alloc, body),
+        PacketKind::Pli => Ok(Rtcp::Pli(pli_from(body))),
+        PacketKind::Other => {
             let body = Vec::from_slice(alloc, body)?;
             Ok(Rtcp::Other(Other { pt, count, body }))
         }

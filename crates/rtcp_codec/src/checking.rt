@@ -15,7 +15,7 @@ ghost use Rattle.rtcp_codec.specs.WriteFault.{HasWriteFault};
 
 use crate::description::{SdesChunk, SdesItem};
 use crate::fault::WriteFault;
-use crate::kind::{Kind, kind_of};
+use crate::kind::{PacketKind, kind_of};
 use crate::packet::{App, Rtcp};
 use crate::report::ReportBlock;
 use std::alloc::Allocator;
@@ -243,7 +243,7 @@ fn has_meaning<A: Allocator>(packet: &Rtcp<A>) -> bool
         Rtcp::Receiver(report) => has_losses(&report.blocks),
         Rtcp::Sdes(chunks) => has_chunks(chunks),
         Rtcp::Bye(_) | Rtcp::App(_) | Rtcp::Nack(_) | Rtcp::Pli(_) => true,
-        Rtcp::Other(other) => kind_of(other.pt, other.count) == Kind::Other,
+        Rtcp::Other(other) => kind_of(other.pt, other.count) == PacketKind::Other,
     }
 }
 

@@ -10,7 +10,7 @@ ghost use Rattle.rtcp_codec.specs.inner.Reading.{IsHead, IsGoodPadding, Takes};
 
 use crate::fault::RtcpFault;
 use crate::judging_descriptions::has_chunks;
-use crate::kind::{Kind, kind_of};
+use crate::kind::{PacketKind, kind_of};
 
 /// The octets of the packet at the front, by its length field.
 pub(crate) fn size_at(octets: &[u8]) -> usize
@@ -46,7 +46,7 @@ fn is_report(pt: u8, count: u8) -> bool
     ensures { IsTrue result ↔ IsReport (kind_of pt count) }
 {
     match kind_of(pt, count) {
-        Kind::Sender | Kind::Receiver => true,
+        PacketKind::Sender | PacketKind::Receiver => true,
         _ => false,
     }
 }
@@ -120,13 +120,13 @@ fn has_body(pt: u8, count: u8, body: &[u8]) -> bool
     let len = body.len();
     let parts = usize::from(count);
     match kind_of(pt, count) {
-        Kind::Sender => len >= 24 + 24 * parts,
-        Kind::Receiver => len >= 4 + 24 * parts,
-        Kind::Sdes => has_chunks(count, body),
-        Kind::Bye => len >= 4 * parts && has_reason(&body[4 * parts..]),
-        Kind::App | Kind::Pli => len >= 8,
-        Kind::Nack => len >= 12,
-        Kind::Other => true,
+        PacketKind::Sender => len >= 24 + 24 * parts,
+        PacketKind::Receiver => len >= 4 + 24 * parts,
+        PacketKind::Sdes => has_chunks(count, body),
+        PacketKind::Bye => len >= 4 * parts && has_reason(&body[4 * parts..]),
+        PacketKind::App | PacketKind::Pli => len >= 8,
+        PacketKind::Nack => len >= 12,
+        PacketKind::Other => true,
     }
 }
 

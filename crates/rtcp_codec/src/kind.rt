@@ -25,7 +25,7 @@ pub(crate) const PLI_FORMAT: u8 = 1;
 
 /// The kinds of RTCP packets with a variant of their own, and all others.
 #[derive(Clone, Copy, PartialEq, Eq)]
-pub(crate) enum Kind {
+pub(crate) enum PacketKind {
     Sender,
     Receiver,
     Sdes,
@@ -37,17 +37,17 @@ pub(crate) enum Kind {
 }
 
 /// The kind of a packet with this type and count. The count of a feedback packet is its format.
-pub(crate) fn kind_of(pt: u8, count: u8) -> Kind
+pub(crate) fn kind_of(pt: u8, count: u8) -> PacketKind
     ensures { result ≡ kind_of pt count }
 {
     match (pt, count) {
-        (SR, _) => Kind::Sender,
-        (RR, _) => Kind::Receiver,
-        (SDES, _) => Kind::Sdes,
-        (BYE, _) => Kind::Bye,
-        (APP, _) => Kind::App,
-        (RTPFB, NACK_FORMAT) => Kind::Nack,
-        (PSFB, PLI_FORMAT) => Kind::Pli,
-        _ => Kind::Other,
+        (SR, _) => PacketKind::Sender,
+        (RR, _) => PacketKind::Receiver,
+        (SDES, _) => PacketKind::Sdes,
+        (BYE, _) => PacketKind::Bye,
+        (APP, _) => PacketKind::App,
+        (RTPFB, NACK_FORMAT) => PacketKind::Nack,
+        (PSFB, PLI_FORMAT) => PacketKind::Pli,
+        _ => PacketKind::Other,
     }
 }

@@ -2,7 +2,7 @@
 
 ghost use Rattle.std.specs.Prelude.{◌≡◌, ◌+◌, ◌*◌, ◌≤◌, ◌++◌, length, IfOk};
 ghost use Rattle.std.specs.List.{flat_map, AllByRecursion};
-ghost use Rattle.rtcp_codec.specs.declared.kind.Kind.TheVariants as kinds;
+ghost use Rattle.rtcp_codec.specs.declared.kind.PacketKind.TheVariants as kinds;
 ghost use Rattle.rtcp_codec.specs.Kind.{sr, rr};
 ghost use Rattle.rtcp_codec.specs.Packet.{Begin};
 ghost use Rattle.rtcp_codec.specs.inner.Reading.{IsOf, IsSoundBlock};

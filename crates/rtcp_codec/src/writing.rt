@@ -25,7 +25,7 @@ use crate::writing_descriptions::append_chunks;
 use crate::writing_reports::{append_blocks, sender_array};
 use std::alloc::{AllocError, Allocator};
 
-/// Appends the words of a NACK. There is room for them.
+/// Appends the words of a NACK. The buffer has the capacity.
 fn append_words<A: Allocator>(words: &[NackWord], out: &mut Vec<u8, A>)
     requires { vec_len out.old + length (flat_map word_octets words.now) ≤ vec_capacity out.old }
     ensures items { out.new.items ≡ out.old.items ++ flat_map word_octets words.now }
@@ -39,7 +39,7 @@ fn append_words<A: Allocator>(words: &[NackWord], out: &mut Vec<u8, A>)
     }
 }
 
-/// Appends sources. There is room for them.
+/// Appends sources. The buffer has the capacity.
 fn append_ssrcs<A: Allocator>(ssrcs: &[u32], out: &mut Vec<u8, A>)
     requires { vec_len out.old + length (number_octets ssrcs.now) ≤ vec_capacity out.old }
     ensures items { out.new.items ≡ out.old.items ++ number_octets ssrcs.now }
@@ -52,10 +52,10 @@ fn append_ssrcs<A: Allocator>(ssrcs: &[u32], out: &mut Vec<u8, A>)
     }
 }
 
-/// Appends a reason, if there is one. There is room for it.
+/// Appends a reason, if there is one. The buffer has the capacity.
 fn append_reason<A: Allocator, B: Allocator>(reason: &Option<Vec<u8, A>>, out: &mut Vec<u8, B>)
     requires text { IfSome reason.now (λ v. length v.items ≤ most_text) }
-    requires room { vec_len out.old + length (reason_octets (option_map (λ v. v.items) reason.now))
+    requires capacity { vec_len out.old + length (reason_octets (option_map (λ v. v.items) reason.now))
         ≤ vec_capacity out.old }
     ensures items { out.new.items ≡ out.old.items ++ reason_octets (option_map (λ v. v.items) reason.now) }
     ensures len { vec_len out.new ≡ vec_len out.old + length (reason_octets (option_map (λ v. v.items) reason.now)) }
@@ -67,10 +67,10 @@ fn append_reason<A: Allocator, B: Allocator>(reason: &Option<Vec<u8, A>>, out: &
     }
 }
 
-/// Appends the fields of a packet. There is room for them.
+/// Appends the fields of a packet. The buffer has the capacity.
 fn append_fields<A: Allocator, B: Allocator>(packet: &Rtcp<A>, out: &mut Vec<u8, B>)
     requires writable { IsWritable (packet_of packet.now) }
-    requires room { vec_len out.old + length (fields (packet_of packet.now)) ≤ vec_capacity out.old }
+    requires capacity { vec_len out.old + length (fields (packet_of packet.now)) ≤ vec_capacity out.old }
     ensures items { out.new.items ≡ out.old.items ++ fields (packet_of packet.now) }
     ensures len { vec_len out.new ≡ vec_len out.old + length (fields (packet_of packet.now)) }
     ensures capacity { vec_capacity out.old ≤ vec_capacity out.new }
@@ -108,10 +108,10 @@ fn append_fields<A: Allocator, B: Allocator>(packet: &Rtcp<A>, out: &mut Vec<u8,
     }
 }
 
-/// Appends the fields of a packet and their fill. There is room for them.
+/// Appends the fields of a packet and their fill. The buffer has the capacity.
 fn append_body<A: Allocator, B: Allocator>(packet: &Rtcp<A>, out: &mut Vec<u8, B>)
     requires writable { IsWritable (packet_of packet.now) }
-    requires room { vec_len out.old + length (filled (fields (packet_of packet.now))) ≤ vec_capacity out.old }
+    requires capacity { vec_len out.old + length (filled (fields (packet_of packet.now))) ≤ vec_capacity out.old }
     ensures items { out.new.items ≡ out.old.items ++ filled (fields (packet_of packet.now)) }
     ensures len { vec_len out.new ≡ vec_len out.old + length (filled (fields (packet_of packet.now))) }
     ensures capacity { vec_capacity out.old ≤ vec_capacity out.new }
@@ -156,7 +156,7 @@ fn count_of<A: Allocator>(packet: &Rtcp<A>) -> u8
     }
 }
 
-/// Appends a packet without padding. There is room for it.
+/// Appends a packet without padding. The buffer has the capacity.
 ///
 /// ```text
 ///  0                   1                   2                   3
@@ -168,7 +168,7 @@ fn count_of<A: Allocator>(packet: &Rtcp<A>) -> u8
 /// ```
 fn append_packet<A: Allocator, B: Allocator>(packet: &Rtcp<A>, out: &mut Vec<u8, B>)
     requires writable { IsWritable (packet_of packet.now) }
-    requires room { vec_len out.old + length (written_packet (packet_of packet.now)) ≤ vec_capacity out.old }
+    requires capacity { vec_len out.old + length (written_packet (packet_of packet.now)) ≤ vec_capacity out.old }
     ensures items { out.new.items ≡ out.old.items ++ written_packet (packet_of packet.now) }
     ensures len { vec_len out.new ≡ vec_len out.old + length (written_packet (packet_of packet.now)) }
     ensures capacity { vec_capacity out.old ≤ vec_capacity out.new }
@@ -183,10 +183,10 @@ fn append_packet<A: Allocator, B: Allocator>(packet: &Rtcp<A>, out: &mut Vec<u8,
     put(start + 3, low, out);
 }
 
-/// Appends packets. There is room for them.
+/// Appends packets. The buffer has the capacity.
 fn append_packets<A: Allocator, B: Allocator>(packets: &[Rtcp<A>], out: &mut Vec<u8, B>)
     requires writable { AllByRecursion IsWritable (packets_of packets.now) }
-    requires room { vec_len out.old + length (written (packets_of packets.now)) ≤ vec_capacity out.old }
+    requires capacity { vec_len out.old + length (written (packets_of packets.now)) ≤ vec_capacity out.old }
     ensures items { out.new.items ≡ out.old.items ++ written (packets_of packets.now) }
     ensures types { AllByRecursion FitsTypes (packets_of packets.now) }
 {

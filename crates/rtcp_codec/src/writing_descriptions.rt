@@ -10,10 +10,10 @@ use crate::appending::{append, append_fill};
 use crate::description::{SdesChunk, SdesItem};
 use std::alloc::Allocator;
 
-/// Appends an item. There is room for it.
+/// Appends an item. The buffer has the capacity.
 fn append_item<A: Allocator, B: Allocator>(item: &SdesItem<A>, out: &mut Vec<u8, B>)
     requires text { length item.now.text.items ≤ most_text }
-    requires room { vec_len out.old + length (item_octets (item_of item.now)) ≤ vec_capacity out.old }
+    requires capacity { vec_len out.old + length (item_octets (item_of item.now)) ≤ vec_capacity out.old }
     ensures items { out.new.items ≡ out.old.items ++ item_octets (item_of item.now) }
     ensures len { vec_len out.new ≡ vec_len out.old + length (item_octets (item_of item.now)) }
     ensures capacity { vec_capacity out.old ≤ vec_capacity out.new }
@@ -23,10 +23,10 @@ fn append_item<A: Allocator, B: Allocator>(item: &SdesItem<A>, out: &mut Vec<u8,
     append(&item.text, out);
 }
 
-/// Appends items. There is room for them.
+/// Appends items. The buffer has the capacity.
 fn append_items<A: Allocator, B: Allocator>(items: &[SdesItem<A>], out: &mut Vec<u8, B>)
     requires texts { TextsFit (map item_of items.now) }
-    requires room { vec_len out.old + length (flat_map item_octets (map item_of items.now)) ≤ vec_capacity out.old }
+    requires capacity { vec_len out.old + length (flat_map item_octets (map item_of items.now)) ≤ vec_capacity out.old }
     ensures items { out.new.items ≡ out.old.items ++ flat_map item_octets (map item_of items.now) }
     ensures len { vec_len out.new ≡ vec_len out.old + length (flat_map item_octets (map item_of items.now)) }
     ensures capacity { vec_capacity out.old ≤ vec_capacity out.new }
@@ -37,10 +37,10 @@ fn append_items<A: Allocator, B: Allocator>(items: &[SdesItem<A>], out: &mut Vec
     }
 }
 
-/// Appends a chunk and its fill. There is room for them.
+/// Appends a chunk and its fill. The buffer has the capacity.
 fn append_chunk<A: Allocator, B: Allocator>(chunk: &SdesChunk<A>, out: &mut Vec<u8, B>)
     requires texts { TextsFit (chunk_of chunk.now).items }
-    requires room { vec_len out.old + length (filled (chunk_octets (chunk_of chunk.now))) ≤ vec_capacity out.old }
+    requires capacity { vec_len out.old + length (filled (chunk_octets (chunk_of chunk.now))) ≤ vec_capacity out.old }
     ensures items { out.new.items ≡ out.old.items ++ filled (chunk_octets (chunk_of chunk.now)) }
     ensures len { vec_len out.new ≡ vec_len out.old + length (filled (chunk_octets (chunk_of chunk.now))) }
     ensures capacity { vec_capacity out.old ≤ vec_capacity out.new }
@@ -53,13 +53,13 @@ fn append_chunk<A: Allocator, B: Allocator>(chunk: &SdesChunk<A>, out: &mut Vec<
     append_fill(out.len() - before, out);
 }
 
-/// Appends chunks. There is room for them.
+/// Appends chunks. The buffer has the capacity.
 pub(crate) fn append_chunks<A: Allocator, B: Allocator>(
     chunks: &[SdesChunk<A>],
     out: &mut Vec<u8, B>,
 )
     requires texts { AllByRecursion (λ c. TextsFit c.items) (map chunk_of chunks.now) }
-    requires room { vec_len out.old + length (flat_map (λ c. filled (chunk_octets c)) (map chunk_of chunks.now))
+    requires capacity { vec_len out.old + length (flat_map (λ c. filled (chunk_octets c)) (map chunk_of chunks.now))
         ≤ vec_capacity out.old }
     ensures items { out.new.items ≡ out.old.items ++ flat_map (λ c. filled (chunk_octets c)) (map chunk_of chunks.now) }
     ensures len { vec_len out.new

@@ -44,10 +44,10 @@ fn block_array(block: &ReportBlock) -> [u8; 24]
     ]
 }
 
-/// Appends a report block. There is room for it.
+/// Appends a report block. The buffer has the capacity.
 fn append_block<A: Allocator>(block: &ReportBlock, out: &mut Vec<u8, A>)
     requires lost { FitsLost block.now.lost }
-    requires room { vec_len out.old + 24 ≤ vec_capacity out.old }
+    requires capacity { vec_len out.old + 24 ≤ vec_capacity out.old }
     ensures items { out.new.items ≡ out.old.items ++ block_octets block.now }
     ensures len { vec_len out.new ≡ vec_len out.old + 24 }
     ensures capacity { vec_capacity out.old ≤ vec_capacity out.new }
@@ -56,10 +56,10 @@ fn append_block<A: Allocator>(block: &ReportBlock, out: &mut Vec<u8, A>)
     append(&block_array(block), out);
 }
 
-/// Appends report blocks. There is room for them.
+/// Appends report blocks. The buffer has the capacity.
 pub(crate) fn append_blocks<A: Allocator>(blocks: &[ReportBlock], out: &mut Vec<u8, A>)
     requires lost { AllByRecursion (λ b. FitsLost b.lost) blocks.now }
-    requires room { vec_len out.old + length (flat_map block_octets blocks.now) ≤ vec_capacity out.old }
+    requires capacity { vec_len out.old + length (flat_map block_octets blocks.now) ≤ vec_capacity out.old }
     ensures items { out.new.items ≡ out.old.items ++ flat_map block_octets blocks.now }
     ensures len { vec_len out.new ≡ vec_len out.old + length (flat_map block_octets blocks.now) }
     ensures capacity { vec_capacity out.old ≤ vec_capacity out.new }

@@ -1,4 +1,4 @@
--- Why a datagram is no RTP packet: the cases, and which is told (RFC 3550 section 5.1).
+-- Why a datagram is no RTP packet: the cases, and which is reported (RFC 3550 section 5.1).
 use Rattle.std.specs.Prelude.{ℕ, ◌+◌, ◌-◌, ◌*◌, ◌/◌, ◌%◌, ◌==◌, nat_lt, Bool, not, ◌&&◌, ◌||◌, if◌then◌else◌, List, [], ◌∷◌, length, take, drop, slice_index, Option, Some, None}
 use Rattle.std.specs.Int.{w16, from_be_bytes}
 use Rattle.rtp_codec.specs.declared.fault.RtpFault.{RtpFault}
@@ -58,7 +58,7 @@ abbrev pub first_of : List RtpFault → List ℕ → Option RtpFault
 first_of [] octets = None
 first_of (fault ∷ faults) octets = if is_case fault octets then Some fault else first_of faults octets
 
--- the faults in the order in which they are told
+-- the faults in the order in which they are checked
 abbrev pub fault_order : List RtpFault
 fault_order = Short ∷ Version ∷ Csrc ∷ Extension ∷ Padding ∷ []
 

@@ -6,7 +6,9 @@ ghost use Rattle.rtp_codec.specs.Class.{class_of};
 /// What a datagram is, judged by its first two octets.
 #[derive(Clone, Copy, PartialEq, Eq)]
 pub enum Class {
+    /// An RTP packet, or what has to be read as one.
     Rtp,
+    /// RTCP: the second octet is 192 to 223.
     Rtcp,
     /// Under two octets, or another version than 2.
     Neither,

@@ -66,18 +66,18 @@ pub fn fixed_header(header: &Header, csrc_count: u8) -> [u8; 12]
     ]
 }
 
-/// Appends octets. There is room for them.
+/// Appends octets. The buffer has the capacity.
 fn append<A: Allocator>(octets: &[u8], out: &mut Vec<u8, A>)
     requires { vec_len out.old + length octets.now ≤ vec_capacity out.old }
     ensures items { out.new.items ≡ out.old.items ++ octets.now }
     ensures len { vec_len out.new ≡ vec_len out.old + length octets.now }
     ensures capacity { vec_capacity out.old ≤ vec_capacity out.new }
 {
-    // There is room, so this wants no memory and can't fail.
+    // The buffer has the capacity, so this takes no memory and can't fail.
     let _ = out.extend_from_slice(octets);
 }
 
-/// Appends 32-bit numbers in network order. There is room for them.
+/// Appends 32-bit numbers in network order. The buffer has the capacity.
 fn append_numbers<A: Allocator>(numbers: &[u32], out: &mut Vec<u8, A>)
     requires { vec_len out.old + 4 * length numbers.now ≤ vec_capacity out.old }
     ensures items { out.new.items ≡ out.old.items ++ number_octets numbers.now }

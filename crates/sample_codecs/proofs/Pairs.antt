@@ -15,12 +15,12 @@ samples_append (x ∷ y ∷ xs) ys n e = ap (λ zs. sample_of x y ∷ zs) (sampl
 pub decoded_more : (octets : List ℕ) (samples : List ℤ) (i : ℕ) (z : ℤ) → 2 * i + 1 < length octets → i < length samples
     → z ≡ sample_of (get_or octets (2 * i) 0) (get_or octets (2 * i + 1) 0)
     → take i samples ≡ samples_of (take (2 * i) octets) → take (i + 1) (set samples i z) ≡ samples_of (take (2 * (i + 1)) octets)
-decoded_more octets samples i z lt room is so_far =
+decoded_more octets samples i z lt within is so_far =
     let a = get_or octets (2 * i) 0 in
     let b = get_or octets (2 * i + 1) 0 in
     let pair : take (2 * i + 1 + 1) octets ≡ take (2 * i) octets ++ a ∷ b ∷ [] =
     take_more octets (2 * i + 1) 0 lt ∙ ap (λ xs. xs ++ b ∷ []) (take_more octets (2 * i) 0 (omega (arith, lt))) ∙ append_assoc (take (2 * i) octets) (a ∷ []) (b ∷ []) in
-    take_more_set samples i z room ∙ ap (λ xs. xs ++ z ∷ []) so_far ∙ ap (λ x. samples_of (take (2 * i) octets) ++ x ∷ []) is
+    take_more_set samples i z within ∙ ap (λ xs. xs ++ z ∷ []) so_far ∙ ap (λ x. samples_of (take (2 * i) octets) ++ x ∷ []) is
     ∙ sym (samples_append (take (2 * i) octets) (a ∷ b ∷ []) i (length-take-le (2 * i) octets (omega (arith, lt))))
     ∙ ap samples_of (sym pair) ∙ ap (λ k. samples_of (take k octets)) (omega arith)
 
@@ -29,7 +29,7 @@ pub encoded_more : (samples : List ℤ) (octets pair : List ℕ) (i : ℕ) (z : 
     → z ≡ get_or samples i (pos 0) → get_or pair 0 0 ∷ get_or pair 1 0 ∷ [] ≡ octets_in z
     → take (2 * i) octets ≡ octets_of (take i samples)
     → take (2 * (i + 1)) (set (set octets (2 * i) (get_or pair 0 0)) (2 * i + 1) (get_or pair 1 0)) ≡ octets_of (take (i + 1) samples)
-encoded_more samples octets pair i z room lt read is so_far =
+encoded_more samples octets pair i z within lt read is so_far =
     let a = get_or pair 0 0 in
     let b = get_or pair 1 0 in
     ap (λ k. take k (set (set octets (2 * i) a) (2 * i + 1) b)) (omega arith)
@@ -37,7 +37,7 @@ encoded_more samples octets pair i z room lt read is so_far =
     ∙ ap (λ xs. xs ++ b ∷ []) (take_more_set octets (2 * i) a (omega (arith, lt))) ∙ append_assoc (take (2 * i) octets) (a ∷ []) (b ∷ [])
     ∙ ap (λ xs. take (2 * i) octets ++ xs) is ∙ ap (λ xs. xs ++ octets_in z) so_far
     ∙ flat_map_more octets_in [] (take i samples) z
-    ∙ ap (λ x. octets_of (take i samples ++ x ∷ [])) read ∙ ap octets_of (sym (take_more samples i (pos 0) room))
+    ∙ ap (λ x. octets_of (take i samples ++ x ∷ [])) read ∙ ap octets_of (sym (take_more samples i (pos 0) within))
 
 -- what is written of a sample is its two octets
 pub written : (z : ℤ) (pair : List ℕ) → FitsSigned w16 z → cast_unsigned w16 z < 65536
@@ -63,9 +63,9 @@ octets_more (z ∷ zs) octets = ap (λ xs. sample_of (cast_unsigned w16 z / 256)
 -- one more sample is what its octets decode to
 pub back_more : (samples : List ℤ) (i : ℕ) → i < length samples → FitsSigned w16 (get_or samples i (pos 0))
     → samples_of (octets_of (take i samples)) ≡ take i samples → samples_of (octets_of (take (i + 1) samples)) ≡ take (i + 1) samples
-back_more samples i room fits so_far =
+back_more samples i within fits so_far =
     let z = get_or samples i (pos 0) in
-    let more = take_more samples i (pos 0) room in
+    let more = take_more samples i (pos 0) within in
     ap (λ xs. samples_of (octets_of xs)) more ∙ ap samples_of (sym (flat_map_more octets_in [] (take i samples) z))
     ∙ octets_more (take i samples) (octets_in z) ∙ ap (λ xs. xs ++ sample_of (cast_unsigned w16 z / 256) (cast_unsigned w16 z % 256) ∷ []) so_far
     ∙ ap (λ x. take i samples ++ x ∷ []) (sample_back z fits) ∙ sym more

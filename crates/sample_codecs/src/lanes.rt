@@ -73,7 +73,7 @@ fn codes_of(samples: &[i16], start: usize) -> [u8; LANES]
 
 /// Encodes the samples from a place on into the places of their own.
 pub fn encode_block(samples: &[i16], start: usize, out: &mut [u8])
-    requires room { start + 16 ≤ length samples.now }
+    requires within { start + 16 ≤ length samples.now }
     requires alike { length out.old ≡ length samples.now }
     ensures alike { length out.new ≡ length samples.now }
     ensures held { AllZip IsCode (take start samples.now) (take start out.old)

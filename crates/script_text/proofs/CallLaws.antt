@@ -11,8 +11,8 @@ use Rattle.script_text.specs.declared.value.Value.{Value}
 use Rattle.script_text.specs.declared.value.Value.TheVariants as values
 use Rattle.script_text.specs.declared.name.Head.{Head}
 use Rattle.script_text.specs.declared.name.Head.TheVariants as heads
-use Rattle.script_text.specs.declared.name.Kind.{Kind}
-use Rattle.script_text.specs.declared.name.Kind.TheVariants as kinds
+use Rattle.script_text.specs.declared.name.LineKind.{LineKind}
+use Rattle.script_text.specs.declared.name.LineKind.TheVariants as kinds
 use Rattle.script_text.specs.Words.{words_of, word_at, none_left, value_or}
 use Rattle.script_text.specs.Values.{field_of, value_text, Fits, AllFit, values_of, value_at, number_at, address_at, number_in}
 use Rattle.script_text.specs.Calls.{name_text, fields_of, command_of, SpellCommand, is_slash, commands_of, group_words, SpellCommands, AreCommands, head_text, all_heads, head_of, last_of, headed, single, call_by, call_of, call_words, SpellCall, call_line, IsCall}
@@ -173,7 +173,7 @@ rx_is_none moment from words op c e =
     let n = bind_ok (none_left 5 w.0.1) _ (Desk op c) o.2 in
     absurd cc
 
-desk_by : (kind : Kind) (vs : List Value) (words : List (List ℕ)) (op : ℕ) (c : CallOf) → request_with kind vs words ≡ Ok (Desk op c) → (kind ≡ kinds.Desk) × (number_in (value_at 0 vs) ≡ op) × (call_of 2 words ≡ Ok c)
+desk_by : (kind : LineKind) (vs : List Value) (words : List (List ℕ)) (op : ℕ) (c : CallOf) → request_with kind vs words ≡ Ok (Desk op c) → (kind ≡ kinds.Desk) × (number_in (value_at 0 vs) ≡ op) × (call_of 2 words ≡ Ok c)
 desk_by kinds.Desk vs words op c e =
     let r = bind_ok (call_of 2 words) _ (Desk op c) e in
     let is : Desk (number_in (value_at 0 vs)) r.0 ≡ Desk op c = cc (r.2) in

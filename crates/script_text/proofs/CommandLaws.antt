@@ -12,9 +12,10 @@ use Rattle.script_text.specs.declared.value.Value.{Value}
 use Rattle.script_text.specs.declared.value.Value.TheVariants as values
 use Rattle.script_text.specs.declared.name.Name.{Name}
 use Rattle.script_text.specs.declared.name.Head.{Head}
-use Rattle.script_text.specs.declared.name.Kind.{Kind}
+use Rattle.script_text.specs.declared.name.LineKind.{LineKind}
 use Rattle.script_text.specs.Words.{word_at, none_left, value_or}
-use Rattle.script_text.specs.Values.{field_of, value_text, AllFit, values_of, value_at, number_in, address_in, codec_in, media_in}
+use Rattle.desk_rows.specs.Values.{as_codec, as_media}
+use Rattle.script_text.specs.Values.{field_of, in_row, value_text, AllFit, values_of, value_at, number_in, address_in}
 use Rattle.script_text.specs.Calls.{name_text, all_names, name_of, shape_of, Spelt, fields_of, command_with, with_rate, command_of, command_words, SpellCommand, IsCommand, is_slash, head_text, head_of}
 use Rattle.script_text.specs.Requests.{kind_text}
 use Rattle.script_text.proofs.Joined.{AllFree, free_test}
@@ -51,19 +52,19 @@ with_field fields.U32 v = values.U32 (number_in v)
 with_field fields.U64 v = values.U64 (number_in v)
 with_field fields.Operator v = values.Operator (number_in v)
 with_field fields.Address v = values.Address (address_in v)
-with_field fields.Codec v = values.Codec (codec_in v)
-with_field fields.Media v = values.Media (media_in v)
+with_field fields.Codec v = values.Codec (as_codec (in_row v))
+with_field fields.Media v = values.Media (as_media (in_row v))
 
 -- values of fields, read from values from a place on
 unfoldable pub read_from : ℕ → List Field → List Value → List Value
 read_from k [] vs = []
 read_from k (f ∷ shape) vs = with_field f (value_at k vs) ∷ read_from (k + 1) shape vs
 
-says : (n : Name) (vs : List Value) → fields_of (command_with n vs) ≡ record { name = n; values = read_from 0 (shape_of n) vs }
+says : (n : Name) (vs : List Value) → let read = read_from 0 (shape_of n) vs in fields_of (command_with n read) ≡ record { name = n; values = read }
 unfolding read_from with_field
 says n vs = grind arith
 
-pub kind_free : (k : Kind) → list_all (λ b. not (eqb b 32)) (kind_text k) ≡ true
+pub kind_free : (k : LineKind) → list_all (λ b. not (eqb b 32)) (kind_text k) ≡ true
 kind_free k = grind arith
 
 -- ---- values of fields
@@ -104,7 +105,7 @@ read_all shape vs h = read_drop 0 shape vs h
 
 -- values of a name's fields are what the call says
 pub says_back : (n : Name) (vs : List Value) → map field_of vs ≡ shape_of n → fields_of (command_with n vs) ≡ record { name = n; values = vs }
-says_back n vs h = says n vs ∙ ap (λ (t : List Value). record { name = n; values = t }) (read_all (shape_of n) vs h)
+says_back n vs h = subst (λ (t : List Value). fields_of (command_with n t) ≡ record { name = n; values = t }) (read_all (shape_of n) vs h) (says n vs)
 
 -- words spell a name with values
 abbrev Spells : List (List ℕ) → Spelt → Type 0

@@ -12,8 +12,8 @@ use Rattle.media_items.specs.Inputs.Input.{frame}
 use Rattle.script_text.specs.declared.fault.Fault.{Fault}
 use Rattle.script_text.specs.declared.fault.Fault.TheVariants.{UnknownWord}
 use Rattle.script_text.specs.declared.value.Value.{Value}
-use Rattle.script_text.specs.declared.name.Kind.{Kind}
-use Rattle.script_text.specs.declared.name.Kind.TheVariants as kinds
+use Rattle.script_text.specs.declared.name.LineKind.{LineKind}
+use Rattle.script_text.specs.declared.name.LineKind.TheVariants as kinds
 use Rattle.script_text.specs.Words.{words_of, word_at, none_left, value_or}
 use Rattle.script_text.specs.Numbers.{FitsExt}
 use Rattle.script_text.specs.Values.{field_of, value_text, AllFit, values_of}
@@ -114,7 +114,7 @@ framed_back : (sighting f : SourceFrame) (fault : Option FrameFault) → framed 
 framed_back sighting f None e = (refl, same_frame sighting f (same_item (frame sighting) (frame f) _ refl e))
 framed_back sighting f (Some fault) e = absurd cc
 
-frame_by : (kind : Kind) (vs : List Value) (words : List (List ℕ)) (f : SourceFrame) → request_with kind vs words ≡ Ok (Item (frame f)) → (kind ≡ kinds.Frame) × (ps : List SourcePacket) × (source_packets_of 7 words ≡ Ok ps) × (fault_of ps ≡ None) × (sighted vs ps ≡ f)
+frame_by : (kind : LineKind) (vs : List Value) (words : List (List ℕ)) (f : SourceFrame) → request_with kind vs words ≡ Ok (Item (frame f)) → (kind ≡ kinds.Frame) × (ps : List SourcePacket) × (source_packets_of 7 words ≡ Ok ps) × (fault_of ps ≡ None) × (sighted vs ps ≡ f)
 unfolding frame_of rx_of
 frame_by kinds.Desk vs words f e = let c = bind_ok (call_of 2 words) _ (Item (frame f)) e in absurd cc
 frame_by kinds.Rx vs words f e =

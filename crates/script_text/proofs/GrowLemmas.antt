@@ -9,26 +9,26 @@ use Rattle.rtp_codec.specs.declared.address.Address.{Address}
 use Rattle.script_text.specs.Addresses.{address_text}
 use Rattle.script_text.specs.Text.{Word, word_text}
 use Rattle.std.specs.declared.alloc.AllocError.{AllocError}
-use Rattle.script_text.specs.inner.Growing.{Room, Grows}
+use Rattle.script_text.specs.inner.Growing.{TextBuffer, Grows}
 
 -- nothing
-pub grows_none : (a : Room) → Grows a a [] (Ok tt)
+pub grows_none : (a : TextBuffer) → Grows a a [] (Ok tt)
 grows_none a = (sym (append-nil a.items), omega arith, omega arith)
 
 -- one text and then another
-pub grows_then : (a b c : Room) (s t : List ℕ) (r : Result (Unit {0}) AllocError) → Grows a b s (Ok tt) → Grows b c t r → Grows a c (s ++ t) r
+pub grows_then : (a b c : TextBuffer) (s t : List ℕ) (r : Result (Unit {0}) AllocError) → Grows a b s (Ok tt) → Grows b c t r → Grows a c (s ++ t) r
 grows_then a b c s t (Ok u) h k = (k.0 ∙ (ap (λ (x : List ℕ). x ++ t) h.0 ∙ append_assoc a.items s t), omega (arith, h.1, k.1, length-append s t), omega (arith, h.2, k.2))
 grows_then a b c s t (Err e) h k = (s ++ k.0, k.1 ∙ (ap (λ (x : List ℕ). x ++ k.0) h.0 ∙ append_assoc a.items s k.0), omega (arith, h.1, h.2, k.2, length-append s t))
 
 -- a text that is not all out is followed by none
-pub grows_stop : (a b : Room) (s t : List ℕ) (e : AllocError) → Grows a b s (Err e) → Grows a b (s ++ t) (Err e)
+pub grows_stop : (a b : TextBuffer) (s t : List ℕ) (e : AllocError) → Grows a b s (Err e) → Grows a b (s ++ t) (Err e)
 grows_stop a b s t e h = (h.0, h.1, omega (arith, h.2, length-append s t))
 
-pub grows_same : (a b : Room) (s t : List ℕ) (r : Result (Unit {0}) AllocError) → s ≡ t → Grows a b s r → Grows a b t r
+pub grows_same : (a b : TextBuffer) (s t : List ℕ) (r : Result (Unit {0}) AllocError) → s ≡ t → Grows a b s r → Grows a b t r
 grows_same a b s t r e h = subst (λ (x : List ℕ). Grows a b x r) e h
 
 -- a refusal that was passed on
-pub grows_err : (a b : Room) (text : List ℕ) (r : Result (Unit {0}) AllocError) (e : AllocError) → IsErr r → Grows a b text (Err e) → Grows a b text r
+pub grows_err : (a b : TextBuffer) (text : List ℕ) (r : Result (Unit {0}) AllocError) (e : AllocError) → IsErr r → Grows a b text (Err e) → Grows a b text r
 grows_err a b text (Ok u) e is h = absurd cc
 grows_err a b text (Err x) e is h = h
 

@@ -8,8 +8,8 @@ use Rattle.media_items.specs.Frame.{SourceFrame}
 use Rattle.script_text.specs.declared.fault.Fault.TheVariants.{UnknownWord}
 use Rattle.script_text.specs.declared.value.Value.{Value}
 use Rattle.script_text.specs.declared.value.Value.TheVariants as values
-use Rattle.script_text.specs.declared.name.Kind.{Kind}
-use Rattle.script_text.specs.declared.name.Kind.TheVariants as kinds
+use Rattle.script_text.specs.declared.name.LineKind.{LineKind}
+use Rattle.script_text.specs.declared.name.LineKind.TheVariants as kinds
 use Rattle.script_text.specs.Words.{words_of, word_at, none_left, value_or}
 use Rattle.script_text.specs.Values.{field_of, value_text, AllFit, values_of, number_at}
 use Rattle.script_text.specs.Calls.{call_of}
@@ -30,7 +30,7 @@ report_again moment small =
 
 -- ---- what is read as reports
 
-report_by : (kind : Kind) (vs : List Value) (words : List (List ℕ)) (moment : ℕ) → request_with kind vs words ≡ Ok (Report moment) → (kind ≡ kinds.Report) × (words ≡ []) × (number_at 0 vs ≡ moment)
+report_by : (kind : LineKind) (vs : List Value) (words : List (List ℕ)) (moment : ℕ) → request_with kind vs words ≡ Ok (Report moment) → (kind ≡ kinds.Report) × (words ≡ []) × (number_at 0 vs ≡ moment)
 unfolding frame_of rx_of
 report_by kinds.Desk vs words moment e = let c = bind_ok (call_of 2 words) _ (Report moment) e in absurd cc
 report_by kinds.Tick vs words moment e = let none = bind_ok (none_left 3 words) _ (Report moment) e in absurd cc

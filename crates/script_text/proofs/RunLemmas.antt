@@ -7,7 +7,7 @@ use Rattle.script_text.specs.declared.fault.RunFault.{RunFault}
 use Rattle.script_text.specs.declared.fault.RunFault.TheVariants as errors
 use Rattle.script_text.specs.Wire.{Wire, HearsAll}
 use Rattle.script_text.specs.Lines.{lines_of, whole, ended}
-use Rattle.script_text.specs.Output.{Outcome, nothing, told, stopped, outcome_of, output_of, ended_output_of, RunEnds}
+use Rattle.script_text.specs.Output.{RunOutput, nothing, told, stopped, outcome_of, output_of, ended_output_of, RunEnds}
 use Rattle.script_text.specs.Bridge.{Bridge, opening_bridge}
 use Rattle.script_text.specs.inner.Steps.{Stands}
 use Rattle.script_text.specs.inner.Steps.{Held, Place, place_of, opening, IsOpening, IsMidLine, HearsComing, to_come, Goes, StepFails, Steps, FinishEnds, Finishes}
@@ -91,17 +91,17 @@ waits wire input left left2 before now held h c = (
 fails_with : (wire : Wire) (input octets rest sent : List ℕ) (left before now : Option (List ℕ)) (e : RunFault) → Consumes (Some input) left octets → input ≡ octets ++ rest → Appends before now sent → StepFails (opening wire) octets sent e → RunEnds wire input left before now (Err e)
 fails_with wire input octets rest sent left before now (errors.Script n word fault) seen is a h =
     let out : output_of wire input ≡ told sent (stopped n word fault) = ap (output_of wire) is ∙ h rest in
-    (ap (λ (o : Outcome). o.fault) out, Appends-same before now sent (output_of wire input).text (sym (ap (λ (o : Outcome). o.text) out ∙ append-nil sent)) a)
+    (ap (λ (o : RunOutput). o.fault) out, Appends-same before now sent (output_of wire input).text (sym (ap (λ (o : RunOutput). o.text) out ∙ append-nil sent)) a)
 fails_with wire input octets rest sent left before now errors.Write seen is a h =
-    (sent, ((h rest).0, (h rest).1, ap (λ (o : Outcome). o.text) (ap (output_of wire) is) ∙ (h rest).2), a)
+    (sent, ((h rest).0, (h rest).1, ap (λ (o : RunOutput). o.text) (ap (output_of wire) is) ∙ (h rest).2), a)
 fails_with wire input octets rest sent left before now errors.Read seen is a h = absurd h
 fails_with wire input octets rest sent left before now errors.OutOfMemory seen is a h = (
   octets,
   seen,
   h.0,
   h.1,
-  ap (λ (o : Outcome). o.fault) h.2,
-  Appends-same before now sent (ended_output_of wire h.0).text (sym (ap (λ (o : Outcome). o.text) h.2)) a,
+  ap (λ (o : RunOutput). o.fault) h.2,
+  Appends-same before now sent (ended_output_of wire h.0).text (sym (ap (λ (o : RunOutput). o.text) h.2)) a,
 )
 
 pub run_fails : (wire : Wire) (input : List ℕ) (left left2 before mid now : Option (List ℕ)) (held new : Held) (octets : List ℕ) (e : RunFault) → SoFar wire input left before mid held → Consumes left left2 octets → Steps held octets new mid now (Err e) → RunEnds wire input left2 before now (Err e)
@@ -119,29 +119,29 @@ nothing_more wire input left before now held h none = ap (to_come ended (opening
 pub run_read : (wire : Wire) (input : List ℕ) (left before now : Option (List ℕ)) (held : Held) → SoFar wire input left before now held → IsMidLine held → RunEnds wire input left before now (Err errors.Read)
 run_read wire input left before now held h none =
     let out = nothing_more wire input left before now held h none in
-    (h.0, h.4, ap (λ (o : Outcome). o.fault) out, Appends-same before now h.1 (ended_output_of wire h.0).text (sym (ap (λ (o : Outcome). o.text) out ∙ append-nil h.1)) h.5)
+    (h.0, h.4, ap (λ (o : RunOutput). o.fault) out, Appends-same before now h.1 (ended_output_of wire h.0).text (sym (ap (λ (o : RunOutput). o.text) out ∙ append-nil h.1)) h.5)
 
 -- memory ran out before the next octets came
 pub run_starved : (wire : Wire) (input : List ℕ) (left before now : Option (List ℕ)) (held : Held) → SoFar wire input left before now held → IsMidLine held → RunEnds wire input left before now (Err errors.OutOfMemory)
 run_starved wire input left before now held h none =
     let out = nothing_more wire input left before now held h none in
-    (h.0, h.4, h.0, ([], sym (append-nil h.0)), ap (λ (o : Outcome). o.fault) out, Appends-same before now h.1 (ended_output_of wire h.0).text (sym (ap (λ (o : Outcome). o.text) out ∙ append-nil h.1)) h.5)
+    (h.0, h.4, h.0, ([], sym (append-nil h.0)), ap (λ (o : RunOutput). o.fault) out, Appends-same before now h.1 (ended_output_of wire h.0).text (sym (ap (λ (o : RunOutput). o.text) out ∙ append-nil h.1)) h.5)
 
 -- the reader is at its end
 ends_with : (wire : Wire) (input sent : List ℕ) (left before now : Option (List ℕ)) (place : Place) (t : List ℕ) (r : Result (Unit {0}) RunFault) → Consumes (Some input) left input → IsAtEnd left → Goes (opening wire) input place sent → Appends before now (sent ++ t) → FinishEnds place t r → RunEnds wire input left before now r
 ends_with wire input sent left before now place t (Ok u) seen at_end h a k =
     let out : output_of wire input ≡ told sent (record { text = t; fault = None }) = ap (output_of wire) (sym (append-nil input)) ∙ (h whole [] ∙ ap (told sent) k) in
-    (at_end, ap (λ (o : Outcome). o.fault) out, Appends-same before now (sent ++ t) (output_of wire input).text (sym (ap (λ (o : Outcome). o.text) out)) a)
+    (at_end, ap (λ (o : RunOutput). o.fault) out, Appends-same before now (sent ++ t) (output_of wire input).text (sym (ap (λ (o : RunOutput). o.text) out)) a)
 ends_with wire input sent left before now place t (Err (errors.Script n word fault)) seen at_end h a k =
     let out : output_of wire input ≡ told sent (told t (stopped n word fault)) = ap (output_of wire) (sym (append-nil input)) ∙ (h whole [] ∙ ap (told sent) k) in
-    (ap (λ (o : Outcome). o.fault) out, Appends-same before now (sent ++ t) (output_of wire input).text (sym (ap (λ (o : Outcome). o.text) out ∙ ap (λ (x : List ℕ). sent ++ x) (append-nil t))) a)
+    (ap (λ (o : RunOutput). o.fault) out, Appends-same before now (sent ++ t) (output_of wire input).text (sym (ap (λ (o : RunOutput). o.text) out ∙ ap (λ (x : List ℕ). sent ++ x) (append-nil t))) a)
 ends_with wire input sent left before now place t (Err errors.Write) seen at_end h a k =
     let out : output_of wire input ≡ told sent (to_come whole place []) = ap (output_of wire) (sym (append-nil input)) ∙ h whole [] in
-    (sent ++ t, (k.0, k.1, ap (λ (o : Outcome). o.text) out ∙ (ap (λ (x : List ℕ). sent ++ x) k.2 ∙ sym (append_assoc sent t (k.0 ∷ k.1)))), a)
+    (sent ++ t, (k.0, k.1, ap (λ (o : RunOutput). o.text) out ∙ (ap (λ (x : List ℕ). sent ++ x) k.2 ∙ sym (append_assoc sent t (k.0 ∷ k.1)))), a)
 ends_with wire input sent left before now place t (Err errors.Read) seen at_end h a k = absurd k
 ends_with wire input sent left before now place t (Err errors.OutOfMemory) seen at_end h a k =
     let out : ended_output_of wire input ≡ told sent (record { text = t; fault = None }) = ap (ended_output_of wire) (sym (append-nil input)) ∙ (h ended [] ∙ ap (told sent) k) in
-    (input, seen, input, ([], sym (append-nil input)), ap (λ (o : Outcome). o.fault) out, Appends-same before now (sent ++ t) (ended_output_of wire input).text (sym (ap (λ (o : Outcome). o.text) out)) a)
+    (input, seen, input, ([], sym (append-nil input)), ap (λ (o : RunOutput). o.fault) out, Appends-same before now (sent ++ t) (ended_output_of wire input).text (sym (ap (λ (o : RunOutput). o.text) out)) a)
 
 seen_all : (input seen : List ℕ) (left : Option (List ℕ)) → Consumes (Some input) left seen → IsAtEnd left → seen ≡ input
 seen_all input seen None h k = absurd h
@@ -155,14 +155,14 @@ run_ends wire input left left2 before mid now held r h c at_end k =
     let same = seen_all input (h.0 ++ []) left2 read at_end in
     ends_with wire input h.1 left2 before now (place_of held h.2) s.0 r (subst (λ (xs : List ℕ). Consumes (Some input) left2 xs) same read) at_end (subst (λ (xs : List ℕ). Goes (opening wire) xs (place_of held h.2) h.1) (sym (append-nil h.0) ∙ same) h.6) (Appends-then before mid now h.1 s.0 h.5 s.1) s.2
 
-pub no_room : (wire : Wire) (input : List ℕ) (before : Option (List ℕ)) → RunEnds wire input (Some input) before before (Err errors.OutOfMemory)
+pub no_memory : (wire : Wire) (input : List ℕ) (before : Option (List ℕ)) → RunEnds wire input (Some input) before before (Err errors.OutOfMemory)
 unfolding outcome_of
-no_room wire input before = ([], refl, [], ([], refl), refl, Appends-none before)
+no_memory wire input before = ([], refl, [], ([], refl), refl, Appends-none before)
 
 -- ---- the same, as a run says it
 
-pub no_room_exit : (left before : Option (List ℕ)) → IfSome left (λ input. (wire : Wire) → HearsAll wire (lines_of input) → RunEnds wire input left before before (Err errors.OutOfMemory))
-no_room_exit left before = if_some left (λ input. (wire : Wire) → HearsAll wire (lines_of input) → RunEnds wire input left before before (Err errors.OutOfMemory)) (λ input e wire heard. subst (λ (l : Option (List ℕ)). RunEnds wire input l before before (Err errors.OutOfMemory)) (sym e) (no_room wire input before))
+pub no_memory_exit : (left before : Option (List ℕ)) → IfSome left (λ input. (wire : Wire) → HearsAll wire (lines_of input) → RunEnds wire input left before before (Err errors.OutOfMemory))
+no_memory_exit left before = if_some left (λ input. (wire : Wire) → HearsAll wire (lines_of input) → RunEnds wire input left before before (Err errors.OutOfMemory)) (λ input e wire heard. subst (λ (l : Option (List ℕ)). RunEnds wire input l before before (Err errors.OutOfMemory)) (sym e) (no_memory wire input before))
 
 pub fails_exit : (first left left2 before mid now : Option (List ℕ)) (held new : Held) (octets : List ℕ) (e : RunFault) → ((wire : Wire) (input : List ℕ) → HearsAll wire (lines_of input) → first ≡ Some input → SoFar wire input left before mid held) → Consumes left left2 octets → Steps held octets new mid now (Err e) → IfSome first (λ input. (wire : Wire) → HearsAll wire (lines_of input) → RunEnds wire input left2 before now (Err e))
 fails_exit first left left2 before mid now held new octets e h c k =

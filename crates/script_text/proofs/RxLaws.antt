@@ -12,8 +12,8 @@ use Rattle.media_items.specs.Frame.{SourceFrame}
 use Rattle.script_text.specs.declared.fault.Fault.TheVariants.{UnknownWord}
 use Rattle.script_text.specs.declared.value.Value.{Value}
 use Rattle.script_text.specs.declared.value.Value.TheVariants as values
-use Rattle.script_text.specs.declared.name.Kind.{Kind}
-use Rattle.script_text.specs.declared.name.Kind.TheVariants as kinds
+use Rattle.script_text.specs.declared.name.LineKind.{LineKind}
+use Rattle.script_text.specs.declared.name.LineKind.TheVariants as kinds
 use Rattle.script_text.specs.Words.{words_of, word_at, none_left, value_or}
 use Rattle.script_text.specs.Values.{field_of, value_text, AllFit, values_of, number_at, address_at}
 use Rattle.script_text.specs.Packets.{octets_or, SpellsHex}
@@ -62,7 +62,7 @@ none_back : (words : List (List ℕ)) (u : Unit {0}) → none_left 5 words ≡ O
 none_back [] u e = refl
 none_back (w ∷ ws) u e = absurd cc
 
-rx_by : (kind : Kind) (vs : List Value) (words : List (List ℕ)) (moment : ℕ) (from : Address) (octets : List ℕ) → request_with kind vs words ≡ Ok (Rx moment from octets)
+rx_by : (kind : LineKind) (vs : List Value) (words : List (List ℕ)) (moment : ℕ) (from : Address) (octets : List ℕ) → request_with kind vs words ≡ Ok (Rx moment from octets)
     → (kind ≡ kinds.Rx) × (word : List ℕ) × (words ≡ word ∷ []) × (some_octets 4 word ≡ Ok octets) × (number_at 0 vs ≡ moment) × (address_at 1 vs ≡ from)
 unfolding frame_of rx_of
 rx_by kinds.Desk vs words moment from octets e = let c = bind_ok (call_of 2 words) _ (Rx moment from octets) e in absurd cc

@@ -15,12 +15,12 @@ use Rattle.script_text.specs.Requests.{Request, Nothing, Desk, Item, Rx, Report,
 use Rattle.script_text.specs.Lines.{lines_of}
 use Rattle.script_text.specs.Wire.{Wire, script_asker}
 use Rattle.script_text.specs.Bridge.{Bridge, first_desk, opening_bridge, Answer, silence, replied, sent, heard, reports, shown, text_of, answer_call, item_sent, after_item, items_sent, after_items, knowing, answer_datagram, taken_at, answer, bridge_after}
-use Rattle.script_text.specs.Output.{Outcome, continues, outcome_of, output_of}
+use Rattle.script_text.specs.Output.{RunOutput, continues, outcome_of, output_of}
 use Rattle.script_text.specs.Scripts.{followed, requests_of, answers_to, after_all, sent_in, answers_of, steps_of}
 
 -- ---- the text
 
-text_on : (bridge : Bridge) (number : ℕ) (read : Result Request (ℕ × Fault)) (others : Bridge → Outcome) (requests : List Request) → ((b : Bridge) → (others b).text ≡ flat_map text_of (answers_to b requests))
+text_on : (bridge : Bridge) (number : ℕ) (read : Result Request (ℕ × Fault)) (others : Bridge → RunOutput) (requests : List Request) → ((b : Bridge) → (others b).text ≡ flat_map text_of (answers_to b requests))
     → (continues number bridge read others).text ≡ flat_map text_of (answers_to bridge (followed read requests))
 text_on bridge number (Ok request) others requests h = ap (λ (t : List ℕ). text_of (answer bridge request).0 ++ t) (h (bridge_after bridge request))
 text_on bridge number (Err e) others requests h = refl

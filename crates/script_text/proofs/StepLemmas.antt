@@ -18,7 +18,7 @@ use Rattle.script_text.specs.Bridge.{Bridge, answer_call, after_item, after_item
 use Rattle.bridge_core.specs.Steps.{CoreOf}
 use Rattle.script_text.specs.Requests.{Request, Nothing, Desk, Item, Rx, Report, Show, request_of}
 use Rattle.script_text.specs.Lines.{parts_of, lines_by, whole, ended}
-use Rattle.script_text.specs.Output.{Outcome, nothing, told, stopped, continues, outcome_of}
+use Rattle.script_text.specs.Output.{RunOutput, nothing, told, stopped, continues, outcome_of}
 use Rattle.script_text.specs.inner.Steps.{Held, place_of, Place, to_come, Goes, StepFails, HearsComing, StepEnds, LineEnds, FinishEnds}
 
 abbrev pub NoLf : List ℕ → Type 0
@@ -47,7 +47,7 @@ lines_none last pending nolf = rw (append-nil pending, slice_split_none (λ b. e
 
 -- ---- one octet
 
-pub told_told : (s t : List ℕ) (o : Outcome) → told s (told t o) ≡ told (s ++ t) o
+pub told_told : (s t : List ℕ) (o : RunOutput) → told s (told t o) ≡ told (s ++ t) o
 told_told s t o = ap (λ (u : List ℕ). record { text = u; fault = o.fault }) (sym (append_assoc s t o.text))
 
 pub kept_goes : (place : Place) (x : ℕ) → Goes place (x ∷ []) (record place { pending = place.pending ++ x ∷ [] }) []
@@ -110,7 +110,7 @@ line_step held new bridge core behind sent (Err errors.Write) nolf heard h is = 
     let answered : to_come whole (place_of held bridge) (10 ∷ tail) ≡ told (answer_text bridge h.0) others = lf_comes (place_of held bridge) whole tail nolf ∙ rw h.1 refl in (
       h.2.0,
       h.2.1 ++ others.text,
-      ap (λ (o : Outcome). o.text) answered ∙ (ap (λ (t : List ℕ). t ++ others.text) h.2.2 ∙ append_assoc sent (h.2.0 ∷ h.2.1) others.text),
+      ap (λ (o : RunOutput). o.text) answered ∙ (ap (λ (t : List ℕ). t ++ others.text) h.2.2 ∙ append_assoc sent (h.2.0 ∷ h.2.1) others.text),
     )
 line_step held new bridge core behind sent (Err errors.Read) nolf heard h is = h
 line_step held new bridge core behind sent (Err errors.OutOfMemory) nolf heard h is = ([], (10 ∷ [], refl), none_ended (place_of held bridge) nolf ∙ rw h refl)
@@ -136,7 +136,7 @@ finish_step place core sent (Err (errors.Script n word fault)) nolf h = last_com
 finish_step place core sent (Err errors.Write) nolf h = (
   h.2.0,
   h.2.1,
-  ap (λ (o : Outcome). o.text) (last_comes place nolf) ∙ (rw h.1 (append-nil (answer_text place.bridge h.0) ∙ h.2.2)),
+  ap (λ (o : RunOutput). o.text) (last_comes place nolf) ∙ (rw h.1 (append-nil (answer_text place.bridge h.0) ∙ h.2.2)),
 )
 finish_step place core sent (Err errors.Read) nolf h = h
 finish_step place core sent (Err errors.OutOfMemory) nolf h = none_ended place nolf ∙ rw h refl
@@ -188,7 +188,7 @@ fails_then a b xs ys s t (errors.Script n word fault) h k = λ tail.
 fails_then a b xs ys s t errors.Write h k = λ tail. (
   (k tail).0,
   (k tail).1,
-  ap (λ (o : Outcome). o.text) (ap (to_come whole a) (append_assoc xs ys tail) ∙ h whole (ys ++ tail))
+  ap (λ (o : RunOutput). o.text) (ap (to_come whole a) (append_assoc xs ys tail) ∙ h whole (ys ++ tail))
       ∙ (ap (λ (u : List ℕ). s ++ u) (k tail).2 ∙ sym (append_assoc s t ((k tail).0 ∷ (k tail).1))),
 )
 fails_then a b xs ys s t errors.Read h k = k
@@ -201,7 +201,7 @@ fails_then a b xs ys s t errors.OutOfMemory h k = (
 -- what stands behind octets that ended a run
 pub step_more : (a : Place) (xs ys s : List ℕ) (e : RunFault) → StepFails a xs s e → StepFails a (xs ++ ys) s e
 step_more a xs ys s (errors.Script n word fault) h = λ tail. ap (to_come whole a) (append_assoc xs ys tail) ∙ h (ys ++ tail)
-step_more a xs ys s errors.Write h = λ tail. ((h (ys ++ tail)).0, (h (ys ++ tail)).1, ap (λ (o : Outcome). o.text) (ap (to_come whole a) (append_assoc xs ys tail)) ∙ (h (ys ++ tail)).2)
+step_more a xs ys s errors.Write h = λ tail. ((h (ys ++ tail)).0, (h (ys ++ tail)).1, ap (λ (o : RunOutput). o.text) (ap (to_come whole a) (append_assoc xs ys tail)) ∙ (h (ys ++ tail)).2)
 step_more a xs ys s errors.Read h = h
 step_more a xs ys s errors.OutOfMemory h = (h.0, (h.1.0 ++ ys, ap (λ (u : List ℕ). u ++ ys) h.1.1 ∙ append_assoc h.0 h.1.0 ys), h.2)
 

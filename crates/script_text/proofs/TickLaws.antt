@@ -10,8 +10,8 @@ use Rattle.script_text.specs.declared.fault.Fault.TheVariants.{UnknownWord}
 use Rattle.script_text.specs.declared.value.Value.{Value}
 use Rattle.script_text.specs.declared.value.Value.TheVariants as values
 use Rattle.script_text.specs.declared.value.Field.TheVariants as fields
-use Rattle.script_text.specs.declared.name.Kind.{Kind}
-use Rattle.script_text.specs.declared.name.Kind.TheVariants as kinds
+use Rattle.script_text.specs.declared.name.LineKind.{LineKind}
+use Rattle.script_text.specs.declared.name.LineKind.TheVariants as kinds
 use Rattle.script_text.specs.Words.{words_of, word_at, none_left, value_or}
 use Rattle.script_text.specs.Values.{field_of, value_text, AllFit, values_of, number_at}
 use Rattle.script_text.specs.Calls.{call_of}
@@ -39,7 +39,7 @@ pub none_back : (words : List (List ℕ)) → none_left 3 words ≡ Ok tt → wo
 none_back [] e = refl
 none_back (w ∷ ws) e = absurd cc
 
-tick_by : (kind : Kind) (vs : List Value) (words : List (List ℕ)) (moment : ℕ) → request_with kind vs words ≡ Ok (Item (tick moment)) → (kind ≡ kinds.Tick) × (words ≡ []) × (number_at 0 vs ≡ moment)
+tick_by : (kind : LineKind) (vs : List Value) (words : List (List ℕ)) (moment : ℕ) → request_with kind vs words ≡ Ok (Item (tick moment)) → (kind ≡ kinds.Tick) × (words ≡ []) × (number_at 0 vs ≡ moment)
 unfolding frame_of rx_of
 tick_by kinds.Desk vs words moment e = let c = bind_ok (call_of 2 words) _ (Item (tick moment)) e in absurd cc
 tick_by kinds.Report vs words moment e = let none = bind_ok (none_left 3 words) _ (Item (tick moment)) e in absurd cc

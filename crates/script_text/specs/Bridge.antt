@@ -25,7 +25,7 @@ use Rattle.script_text.specs.Datagrams.{outcome_text, up_text}
 use Rattle.script_text.specs.Wire.{Wire, script_asker, voice_of}
 use Rattle.script_text.specs.RowLines.{show_text}
 
--- the bridge between two lines: how it reads the wire, what its calls have come to, the accepted calls and the items so
+-- the bridge between two lines: how it reads the wire, what its calls have led to, the accepted calls and the items so
 -- far, and the sources that it knows
 pub record Bridge : Type 0 where
   pub wire : Wire
@@ -41,8 +41,8 @@ first_desk = blank BRIDGE_SSRC
 abbrev pub opening_bridge : Wire → Bridge
 opening_bridge wire = record { wire = wire; calls = no_calls first_desk; steps = []; sources = no_sources }
 
--- what is answered to a request: nothing, a reply, what goes out, a datagram's outcome with what goes up and what goes
--- out for each item, receiver reports that go up with the sender reports that go out, or a desk with its version
+-- the answer to a request: nothing, a reply, what is sent, a datagram's outcome with what is sent back and what is sent
+-- for each item, receiver reports with the sender reports of the lane, or a desk with its version
 pub data Answer : Type 0 where
   silence : Answer
   replied : Reply → Answer
@@ -95,29 +95,29 @@ after_items bridge items = fold after_item bridge items
 abbrev pub knowing : Sources → Bridge → Bridge
 knowing sources bridge = record bridge { sources = sources }
 
--- what a datagram is answered that came to this, where the bridge knows these sources from then on
+-- the answer to a datagram with this result, if the bridge knows these sources from then on
 abbrev pub answer_datagram : Bridge → Ingested → Sources → Answer × Bridge
 answer_datagram bridge ingested sources = (
   heard ingested.outcome ingested.up (items_sent (knowing sources bridge) ingested.items),
   after_items (knowing sources bridge) ingested.items,
 )
 
--- a datagram that comes at a moment from an address, under the desk as it is
+-- a datagram that comes at a moment from an address, by the present desk
 abbrev pub datagram_at : Bridge → (moment : ℕ) → Address → List ℕ → Datagram
 datagram_at bridge moment from octets =
     record { desk = desk_now bridge.calls; from = from; moment = moment; reading = bridge.wire.reading octets }
 
--- what it comes to, and the sources after it
+-- its result, and the sources after it
 abbrev pub taken_at : Bridge → (moment : ℕ) → Address → List ℕ → Ingested × Sources
 taken_at bridge moment from octets =
     taken_in (voice_of bridge.wire) bridge.sources (datagram_at bridge moment from octets)
 
--- what the senders are told of their sources at a moment, and the sources after it
+-- the reports to senders on their sources at a moment, and the sources after it
 abbrev pub reported_at : Bridge → (moment : ℕ) → List (Address × List ℕ) × Sources
 reported_at bridge moment = reported script_asker (desk_now bridge.calls) moment bridge.sources
 
--- what is answered where the senders are told so, and the bridge knows these sources from then on: the lane is given
--- the report as an item
+-- the answer with these reports to senders, if the bridge knows these sources from then on: the lane is given the
+-- report as an item
 abbrev pub answer_report : Bridge → (moment : ℕ) → List (Address × List ℕ) → Sources → Answer × Bridge
 answer_report bridge moment up sources = (
   reports up (item_sent (knowing sources bridge) (report moment)),

@@ -1,9 +1,13 @@
--- The lines of calls (own): the tables of their first words, of the fields behind each, and of what these are in a
--- call.
+-- The lines of calls (own): the tables of their first words, and of what the values behind each are in a call.
 use Rattle.std.specs.Prelude.{◌≡◌, ℕ, ◌+◌, ◌==◌, Bool, List, [], ◌∷◌, ◌++◌, map, length}
 use Rattle.std.specs.Prelude.{nat_lt, codes, Option, Some, None, Result, Ok, Err, if◌then◌else◌}
 use Rattle.std.specs.List.{find, join_with_byte, slice_split}
 use Rattle.std.specs.Str.{bytes_eq}
+use Rattle.desk_rows.specs.declared.row.Row.{Row}
+use Rattle.desk_rows.specs.declared.row.Row.TheVariants as rows
+use Rattle.desk_rows.specs.declared.key.Kind.{Kind}
+use Rattle.desk_rows.specs.declared.key.Kind.TheVariants as kinds
+use Rattle.desk_rows.specs.Values.{row_values, row_with}
 use Rattle.desk_edit.specs.Asked.{CallOf}
 use Rattle.desk_edit.specs.Asked.CallOf.{Apply, Group, Undo, Redo}
 use Rattle.desk_edit.specs.declared.command.Command.{Command}
@@ -17,14 +21,14 @@ use Rattle.script_text.specs.declared.fault.Fault.TheVariants.{LineTooLong, Unkn
 use Rattle.script_text.specs.declared.value.Field.{Field}
 use Rattle.script_text.specs.declared.value.Field.TheVariants as fields
 use Rattle.script_text.specs.declared.value.Value.{Value}
-use Rattle.script_text.specs.declared.value.Value.TheVariants.{U16, U32, U64, Address, Codec, Media}
+use Rattle.script_text.specs.declared.value.Value.TheVariants.{U32, U64}
 use Rattle.script_text.specs.declared.name.Name.{Name}
 use Rattle.script_text.specs.declared.name.Name.TheVariants as names
 use Rattle.script_text.specs.declared.name.Head.{Head}
 use Rattle.script_text.specs.declared.name.Head.TheVariants as heads
 use Rattle.script_text.specs.declared.line.TheConstants.{LINE_LIMIT}
 use Rattle.script_text.specs.Words.{◌>>=◌, words_of, word_at, none_left, value_or}
-use Rattle.script_text.specs.Values.{value_text, values_of, Fits, AllFit, number_at, address_at, codec_at, media_at}
+use Rattle.script_text.specs.Values.{field_of, of_row, in_row, value_text, values_of, Fits, AllFit, number_at}
 
 -- ---- commands
 
@@ -77,99 +81,76 @@ all_names =
     ∷ names.RemoveSlot
     ∷ setting_names
 
--- the fields behind a name
-abbrev pub shape_of : Name → List Field
-shape_of names.AddRoom = fields.U32 ∷ fields.U32 ∷ []
-shape_of names.RemoveRoom = fields.U32 ∷ []
-shape_of names.AddMember =
-    fields.U32 ∷ fields.U32 ∷ fields.Address ∷ fields.Codec ∷ fields.U32 ∷ fields.U16 ∷ fields.U32 ∷ []
-shape_of names.RemoveMember = fields.U32 ∷ []
-shape_of names.MoveMember = fields.U32 ∷ fields.U32 ∷ []
-shape_of names.AddSource = fields.U32 ∷ fields.U32 ∷ fields.Media ∷ []
-shape_of names.RemoveSource = fields.U32 ∷ []
-shape_of names.AddSlot = fields.U32 ∷ fields.U32 ∷ fields.U32 ∷ fields.U16 ∷ fields.U32 ∷ []
-shape_of names.RemoveSlot = fields.U32 ∷ []
-shape_of names.Subscribe = fields.U32 ∷ fields.U32 ∷ []
-shape_of names.Unsubscribe = fields.U32 ∷ []
-shape_of names.SetGain = fields.U32 ∷ fields.U32 ∷ fields.U32 ∷ []
-shape_of names.Mute = fields.U32 ∷ []
-shape_of names.Unmute = fields.U32 ∷ []
-shape_of names.Pin = fields.U32 ∷ fields.U32 ∷ []
-shape_of names.Unpin = fields.U32 ∷ []
-shape_of names.GiveFloor = fields.U32 ∷ fields.U32 ∷ []
-shape_of names.TakeFloor = fields.U32 ∷ []
-
 -- a name with values behind it
 pub record Spelt : Type 0 where
   pub name : Name
   pub values : List Value
 
+-- the values of a row, as the words of the command that puts it say them
+abbrev pub row_fields : Row → List Value
+row_fields r = map of_row (row_values r)
+
 -- what the words of a command say
 abbrev pub fields_of : Command → Spelt
-fields_of (AddRoom r) = record { name = names.AddRoom; values = U32 r.room ∷ U32 r.rate ∷ [] }
+fields_of (AddRoom r) = record { name = names.AddRoom; values = row_fields (rows.Room r) }
 fields_of (RemoveRoom room) = record { name = names.RemoveRoom; values = U32 room ∷ [] }
-fields_of (AddMember m) = record {
-  name = names.AddMember;
-  values = U32 m.member ∷ U32 m.room ∷ Address m.address ∷ Codec m.codec ∷ U32 m.out_audio ∷ U16 m.first_seq
-      ∷ U32 m.first_ts ∷ [];
-}
+fields_of (AddMember m) = record { name = names.AddMember; values = row_fields (rows.Member m) }
 fields_of (RemoveMember member) = record { name = names.RemoveMember; values = U32 member ∷ [] }
 fields_of (MoveMember member room) = record { name = names.MoveMember; values = U32 member ∷ U32 room ∷ [] }
-fields_of (AddSource s) = record { name = names.AddSource; values = U32 s.ssrc ∷ U32 s.member ∷ Media s.media ∷ [] }
+fields_of (AddSource s) = record { name = names.AddSource; values = row_fields (rows.Source s) }
 fields_of (RemoveSource ssrc) = record { name = names.RemoveSource; values = U32 ssrc ∷ [] }
-fields_of (AddSlot s) = record {
-  name = names.AddSlot;
-  values = U32 s.out_ssrc ∷ U32 s.member ∷ U32 s.index ∷ U16 s.first_seq ∷ U32 s.first_ts ∷ [];
-}
+fields_of (AddSlot s) = record { name = names.AddSlot; values = row_fields (rows.Slot s) }
 fields_of (RemoveSlot out_ssrc) = record { name = names.RemoveSlot; values = U32 out_ssrc ∷ [] }
-fields_of (Subscribe s) = record { name = names.Subscribe; values = U32 s.out_ssrc ∷ U32 s.source ∷ [] }
+fields_of (Subscribe s) = record { name = names.Subscribe; values = row_fields (rows.Sub s) }
 fields_of (Unsubscribe out_ssrc) = record { name = names.Unsubscribe; values = U32 out_ssrc ∷ [] }
-fields_of (SetGain g) = record { name = names.SetGain; values = U32 g.member ∷ U32 g.source ∷ U32 g.q8 ∷ [] }
-fields_of (Mute m) = record { name = names.Mute; values = U32 m.source ∷ [] }
+fields_of (SetGain g) = record { name = names.SetGain; values = row_fields (rows.Gain g) }
+fields_of (Mute m) = record { name = names.Mute; values = row_fields (rows.Mute m) }
 fields_of (Unmute source) = record { name = names.Unmute; values = U32 source ∷ [] }
-fields_of (Pin p) = record { name = names.Pin; values = U32 p.room ∷ U32 p.source ∷ [] }
+fields_of (Pin p) = record { name = names.Pin; values = row_fields (rows.Pin p) }
 fields_of (Unpin room) = record { name = names.Unpin; values = U32 room ∷ [] }
-fields_of (GiveFloor f) = record { name = names.GiveFloor; values = U32 f.room ∷ U32 f.member ∷ [] }
+fields_of (GiveFloor f) = record { name = names.GiveFloor; values = row_fields (rows.Floor f) }
 fields_of (TakeFloor room) = record { name = names.TakeFloor; values = U32 room ∷ [] }
+
+-- the command that puts a row
+abbrev pub putting : Row → Command
+putting (rows.Room r) = AddRoom r
+putting (rows.Member m) = AddMember m
+putting (rows.Source s) = AddSource s
+putting (rows.Slot s) = AddSlot s
+putting (rows.Sub s) = Subscribe s
+putting (rows.Mute m) = Mute m
+putting (rows.Gain g) = SetGain g
+putting (rows.Pin p) = Pin p
+putting (rows.Floor f) = GiveFloor f
+
+-- the command that puts a row of a kind with these values
+abbrev pub put_with : Kind → List Value → Command
+put_with kind vs = putting (row_with kind (map in_row vs))
 
 -- the command of a name with values of its fields
 abbrev pub command_with : Name → List Value → Command
-command_with names.AddRoom vs = AddRoom (record { room = number_at 0 vs; rate = number_at 1 vs })
+command_with names.AddRoom vs = put_with kinds.Room vs
 command_with names.RemoveRoom vs = RemoveRoom (number_at 0 vs)
-command_with names.AddMember vs =
-    AddMember (record {
-      member = number_at 0 vs;
-      room = number_at 1 vs;
-      address = address_at 2 vs;
-      codec = codec_at 3 vs;
-      out_audio = number_at 4 vs;
-      first_seq = number_at 5 vs;
-      first_ts = number_at 6 vs;
-    })
+command_with names.AddMember vs = put_with kinds.Member vs
 command_with names.RemoveMember vs = RemoveMember (number_at 0 vs)
 command_with names.MoveMember vs = MoveMember (number_at 0 vs) (number_at 1 vs)
-command_with names.AddSource vs =
-    AddSource (record { ssrc = number_at 0 vs; member = number_at 1 vs; media = media_at 2 vs })
+command_with names.AddSource vs = put_with kinds.Source vs
 command_with names.RemoveSource vs = RemoveSource (number_at 0 vs)
-command_with names.AddSlot vs =
-    AddSlot (record {
-      out_ssrc = number_at 0 vs;
-      member = number_at 1 vs;
-      index = number_at 2 vs;
-      first_seq = number_at 3 vs;
-      first_ts = number_at 4 vs;
-    })
+command_with names.AddSlot vs = put_with kinds.Slot vs
 command_with names.RemoveSlot vs = RemoveSlot (number_at 0 vs)
-command_with names.Subscribe vs = Subscribe (record { out_ssrc = number_at 0 vs; source = number_at 1 vs })
+command_with names.Subscribe vs = put_with kinds.Sub vs
 command_with names.Unsubscribe vs = Unsubscribe (number_at 0 vs)
-command_with names.SetGain vs =
-    SetGain (record { member = number_at 0 vs; source = number_at 1 vs; q8 = number_at 2 vs })
-command_with names.Mute vs = Mute (record { source = number_at 0 vs })
+command_with names.SetGain vs = put_with kinds.Gain vs
+command_with names.Mute vs = put_with kinds.Mute vs
 command_with names.Unmute vs = Unmute (number_at 0 vs)
-command_with names.Pin vs = Pin (record { room = number_at 0 vs; source = number_at 1 vs })
+command_with names.Pin vs = put_with kinds.Pin vs
 command_with names.Unpin vs = Unpin (number_at 0 vs)
-command_with names.GiveFloor vs = GiveFloor (record { room = number_at 0 vs; member = number_at 1 vs })
+command_with names.GiveFloor vs = put_with kinds.Floor vs
 command_with names.TakeFloor vs = TakeFloor (number_at 0 vs)
+
+-- the fields behind a name: those of the values of its command, whatever they are
+abbrev pub shape_of : Name → List Field
+shape_of name = map field_of (fields_of (command_with name [])).values
 
 -- the name that a word is
 abbrev pub name_of : List ℕ → Option Name

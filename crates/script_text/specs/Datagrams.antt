@@ -1,4 +1,4 @@
--- What is printed for a datagram that was taken in (own): its outcome, and what goes up.
+-- What is printed for a datagram that was taken in (own): its outcome, and what is sent back.
 use Rattle.std.specs.Prelude.{ℕ, List, [], ◌∷◌, codes}
 use Rattle.rtp_codec.specs.declared.address.Address.{Address as Endpoint}
 use Rattle.rtp_codec.specs.declared.fault.RtpFault.{RtpFault}
@@ -51,6 +51,6 @@ outcome_words (Rtcp packets) = fixed (codes "rtcp") ∷ value (U64 packets) ∷ 
 abbrev pub outcome_text : Outcome → List ℕ
 outcome_text outcome = line_text (fixed (codes "rx") ∷ outcome_words outcome)
 
--- the line of a datagram that goes up to an address
+-- the line of a datagram that is sent back to an address
 abbrev pub up_text : Endpoint × List ℕ → List ℕ
 up_text d = line_text (fixed (codes "up") ∷ value (Address d.0) ∷ hex d.1 ∷ [])

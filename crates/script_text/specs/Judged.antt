@@ -1,4 +1,4 @@
--- In which order the reasons against a call are asked, out of memory apart (own).
+-- The order in which the reasons against a call are checked, out of memory apart (own).
 use Rattle.std.specs.Prelude.{ℕ, ◌+◌, ◌≤◌, ◌==◌, Bool, not, nat_eq, nat_lt, List, [], ◌∷◌, ◌++◌, length, map}
 use Rattle.std.specs.Prelude.{position, unwrap_or}
 use Rattle.undo_log.specs.declared.history.TheConstants.{LIMIT}
@@ -21,7 +21,7 @@ use Rattle.desk_edit.specs.Told.{told_of}
 abbrev pub log_case : ℕ → Bool × Refusal
 log_case version = (nat_eq version LIMIT, LogFull)
 
--- what stands against a command, each reason as a refusal
+-- the reasons against a command, each as a refusal
 abbrev pub told_as : (Reason → Refusal) → List (Bool × Reason) → List (Bool × Refusal)
 told_as refusal cases = map (λ c. (c.0, refusal c.1)) cases
 
@@ -29,14 +29,14 @@ told_as refusal cases = map (λ c. (c.0, refusal c.1)) cases
 abbrev pub size_cases : ℕ → List (Bool × Refusal)
 size_cases count = (nat_eq count 0, EmptyGroup) ∷ (nat_lt MAX_GROUP count, GroupTooLong MAX_GROUP) ∷ []
 
--- what stands against commands, where the first of them has this number in its group: all against one, and then against
--- the next at the desk that it leaves
+-- the reasons against commands, the first of which has this number in its group: all against one, and then those against
+-- the next on the desk that it leaves
 abbrev pub part_cases : ℕ → Desk → List Command → List (Bool × Refusal)
 part_cases part d [] = []
 part_cases part d (command ∷ commands) =
     told_as (PartRefused part) (cases_of d (form_of command)) ++ part_cases (part + 1) (desk_after d command) commands
 
--- what stands against a call where so many calls were accepted, so many commands are done and so many undone: the log
+-- the reasons against a call, by the number of accepted calls and how many commands are done and undone: a full log
 -- comes last, but before the commands of a group
 abbrev pub call_cases : ℕ → Desk → ℕ → ℕ → CallOf → List (Bool × Refusal)
 call_cases version d done undone (Apply command) =
@@ -55,11 +55,11 @@ IsSingle (Group commands) = ⊥
 IsSingle (Undo last) = Unit {0}
 IsSingle (Redo last) = Unit {0}
 
--- the numbers of the refusals of a single call, as they are asked: RateMismatch (21) behind Full (12)
+-- the numbers of the refusals of a single call, as they are checked: RateMismatch (21) behind Full (12)
 abbrev pub asking_order : List ℕ
 asking_order = 1 ∷ 2 ∷ 3 ∷ 4 ∷ 5 ∷ 6 ∷ 7 ∷ 8 ∷ 9 ∷ 10 ∷ 11 ∷ 12 ∷ 21 ∷ 14 ∷ 15 ∷ 16 ∷ 17 ∷ []
 
--- where a number stands among them, or behind all
+-- the place of a number among them, or behind all
 abbrev pub turn_of : ℕ → ℕ
 turn_of number = unwrap_or (position (λ n. n == number) asking_order) (length asking_order)
 

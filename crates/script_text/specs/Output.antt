@@ -10,39 +10,39 @@ use Rattle.script_text.specs.Wire.{Wire}
 use Rattle.script_text.specs.Bridge.{Bridge, opening_bridge, answer_text, bridge_after}
 
 -- the text that is written, and the fault that ends it, if any: its line, the place of its word, and what it is
-pub record Outcome : Type 0 where
+pub record RunOutput : Type 0 where
   pub text : List ℕ
   pub fault : Option (ℕ × ℕ × Fault)
 
 -- nothing is written, and all went well
-abbrev pub nothing : Outcome
+abbrev pub nothing : RunOutput
 nothing = record { text = []; fault = None }
 
 -- this text first
-abbrev pub told : List ℕ → Outcome → Outcome
+abbrev pub told : List ℕ → RunOutput → RunOutput
 told text outcome = record { text = text ++ outcome.text; fault = outcome.fault }
 
 -- a fault
-abbrev pub stopped : ℕ → ℕ → Fault → Outcome
+abbrev pub stopped : ℕ → ℕ → Fault → RunOutput
 stopped line word fault = record { text = []; fault = Some (line, word, fault) }
 
 -- a line that is read is answered, and the others go on; one with a fault ends the script
-abbrev pub continues : ℕ → Bridge → Result Request (ℕ × Fault) → (Bridge → Outcome) → Outcome
+abbrev pub continues : ℕ → Bridge → Result Request (ℕ × Fault) → (Bridge → RunOutput) → RunOutput
 continues number bridge (Err e) others = stopped number e.0 e.1
 continues number bridge (Ok request) others = told (answer_text bridge request) (others (bridge_after bridge request))
 
 -- what lines give, from this bridge on and with the first of them under this number
-unfoldable pub outcome_of : Bridge → ℕ → List (List ℕ) → Outcome
+unfoldable pub outcome_of : Bridge → ℕ → List (List ℕ) → RunOutput
 outcome_of bridge number [] = nothing
 outcome_of bridge number (line ∷ lines) =
     continues number bridge (request_of line) (λ b. outcome_of b (number + 1) lines)
 
 -- what a script gives
-abbrev pub output_of : Wire → List ℕ → Outcome
+abbrev pub output_of : Wire → List ℕ → RunOutput
 output_of wire input = outcome_of (opening_bridge wire) 1 (lines_of input)
 
 -- what the lines of a text give that have ended
-abbrev pub ended_output_of : Wire → List ℕ → Outcome
+abbrev pub ended_output_of : Wire → List ℕ → RunOutput
 ended_output_of wire input = outcome_of (opening_bridge wire) 1 (ended_lines input)
 
 -- the text begins so

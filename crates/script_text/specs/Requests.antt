@@ -19,8 +19,8 @@ use Rattle.script_text.specs.declared.value.Field.{Field}
 use Rattle.script_text.specs.declared.value.Field.TheVariants as fields
 use Rattle.script_text.specs.declared.value.Value.{Value}
 use Rattle.script_text.specs.declared.value.Value.TheVariants.{U32, U64, Operator, Address}
-use Rattle.script_text.specs.declared.name.Kind.{Kind}
-use Rattle.script_text.specs.declared.name.Kind.TheVariants as kinds
+use Rattle.script_text.specs.declared.name.LineKind.{LineKind}
+use Rattle.script_text.specs.declared.name.LineKind.TheVariants as kinds
 use Rattle.script_text.specs.declared.line.TheConstants.{LINE_LIMIT}
 use Rattle.script_text.specs.Words.{◌>>=◌, words_of, word_at, none_left, value_or}
 use Rattle.script_text.specs.Values.{value_text, values_of, number_at, address_at, AllFit}
@@ -38,7 +38,7 @@ pub data Request : Type 0 where
   Show : Request
 
 -- how the first word of a line is written
-abbrev pub kind_text : Kind → List ℕ
+abbrev pub kind_text : LineKind → List ℕ
 kind_text kinds.Desk = codes "desk"
 kind_text kinds.Frame = codes "frame"
 kind_text kinds.Rx = codes "rx"
@@ -47,15 +47,15 @@ kind_text kinds.Report = codes "report"
 kind_text kinds.Show = codes "show"
 
 -- the kinds of lines
-abbrev pub line_kinds : List Kind
+abbrev pub line_kinds : List LineKind
 line_kinds = kinds.Desk ∷ kinds.Frame ∷ kinds.Rx ∷ kinds.Tick ∷ kinds.Report ∷ kinds.Show ∷ []
 
 -- the kind of line that a word begins
-abbrev pub line_kind_of : List ℕ → Option Kind
+abbrev pub line_kind_of : List ℕ → Option LineKind
 line_kind_of word = find (λ kind. bytes_eq word (kind_text kind)) line_kinds
 
 -- the fields that stand first behind it: OP; MOMENT ADDRESS SSRC EPOCH TS; MOMENT ADDRESS; MOMENT; MOMENT
-abbrev pub front_of : Kind → List Field
+abbrev pub front_of : LineKind → List Field
 front_of kinds.Desk = fields.Operator ∷ []
 front_of kinds.Frame = fields.U64 ∷ fields.Address ∷ fields.U32 ∷ fields.U64 ∷ fields.U32 ∷ []
 front_of kinds.Rx = fields.U64 ∷ fields.Address ∷ []
@@ -126,7 +126,7 @@ show_of words = do
   Ok Show
 
 -- what a line of a kind asks for, with these values first and words behind them
-abbrev pub request_with : Kind → List Value → List (List ℕ) → Result Request (ℕ × Fault)
+abbrev pub request_with : LineKind → List Value → List (List ℕ) → Result Request (ℕ × Fault)
 request_with kinds.Desk vs words = desk_of (number_at 0 vs) words
 request_with kinds.Frame vs words = frame_of (sighted vs) words
 request_with kinds.Rx vs words = rx_of (number_at 0 vs) (address_at 1 vs) words

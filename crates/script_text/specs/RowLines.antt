@@ -1,42 +1,48 @@
 -- What is shown of a desk (own): a line for each row, by kind and within a kind by key, members by place.
-use Rattle.std.specs.Prelude.{ℕ, ◌+◌, nat_eq, List, [], ◌∷◌, ◌++◌, codes, if◌then◌else◌}
+use Rattle.std.specs.Prelude.{ℕ, ◌+◌, nat_eq, List, [], ◌∷◌, ◌++◌, map, take, codes, if◌then◌else◌}
 use Rattle.std.specs.List.{flat_map}
 use Rattle.desk_rows.specs.declared.row.Row.{Row}
-use Rattle.desk_rows.specs.declared.row.Row.TheVariants.{Room, Member, Source, Slot, Sub, Mute, Gain, Pin, Floor}
+use Rattle.desk_rows.specs.declared.row.Row.TheVariants.{Room, Member}
 use Rattle.desk_rows.specs.declared.key.Kind.{Kind}
 use Rattle.desk_rows.specs.declared.key.Kind.TheVariants as kinds
+use Rattle.desk_rows.specs.declared.values.RowValue.{RowValue}
+use Rattle.desk_rows.specs.Row.{kind_of, key_of}
+use Rattle.desk_rows.specs.Values.{row_values}
 use Rattle.desk_rows.specs.Desk.{Desk, rows_of_kind}
-use Rattle.script_text.specs.declared.value.Value.TheVariants.{U16, U32, U64, Address, Codec, Media}
+use Rattle.script_text.specs.declared.value.Value.TheVariants.{U64}
+use Rattle.script_text.specs.Values.{of_row}
 use Rattle.script_text.specs.Text.{Word, fixed, value, line_text}
 
--- the word of a room's rate, which is left out where it is 8000 Hz
-abbrev pub rate_words : ℕ → List Word
-rate_words rate = if nat_eq rate 8000 then [] else value (U32 rate) ∷ []
+-- the first word of the line of a row of a kind
+abbrev pub kind_word : Kind → List ℕ
+kind_word kinds.Room = codes "room"
+kind_word kinds.Member = codes "member"
+kind_word kinds.Source = codes "source"
+kind_word kinds.Slot = codes "slot"
+kind_word kinds.Sub = codes "sub"
+kind_word kinds.Mute = codes "mute"
+kind_word kinds.Gain = codes "gain"
+kind_word kinds.Pin = codes "pin"
+kind_word kinds.Floor = codes "floor"
 
--- the words of a row that stands at this place among those of its kind: the place is told of members alone
+-- the word of a row's place among those of its kind, which is told of members alone
+abbrev pub place_words : ℕ → Row → List Word
+place_words place (Member m) = value (U64 place) ∷ []
+place_words place r = []
+
+-- the values that are shown of a row: a room's rate, its second value, is left out where it is 8000 Hz
+abbrev pub shown_values : Row → List RowValue
+shown_values (Room r) = if nat_eq r.rate 8000 then take 1 (row_values (Room r)) else row_values (Room r)
+shown_values r = row_values r
+
+-- the word of a row's value
+abbrev pub row_word : RowValue → Word
+row_word v = value (of_row v)
+
+-- the words of a row that stands at this place among those of its kind
 abbrev pub row_words : ℕ → Row → List Word
-row_words place (Room r) = fixed (codes "room") ∷ value (U32 r.room) ∷ rate_words r.rate
-row_words place (Member m) =
-    fixed (codes "member")
-    ∷ value (U64 place)
-    ∷ value (U32 m.member)
-    ∷ value (U32 m.room)
-    ∷ value (Address m.address)
-    ∷ value (Codec m.codec)
-    ∷ value (U32 m.out_audio)
-    ∷ value (U16 m.first_seq)
-    ∷ value (U32 m.first_ts)
-    ∷ []
-row_words place (Source s) =
-    fixed (codes "source") ∷ value (U32 s.ssrc) ∷ value (U32 s.member) ∷ value (Media s.media) ∷ []
-row_words place (Slot s) =
-    fixed (codes "slot") ∷ value (U32 s.out_ssrc) ∷ value (U32 s.member) ∷ value (U32 s.index) ∷ value (U16 s.first_seq)
-    ∷ value (U32 s.first_ts) ∷ []
-row_words place (Sub s) = fixed (codes "sub") ∷ value (U32 s.out_ssrc) ∷ value (U32 s.source) ∷ []
-row_words place (Mute m) = fixed (codes "mute") ∷ value (U32 m.source) ∷ []
-row_words place (Gain g) = fixed (codes "gain") ∷ value (U32 g.member) ∷ value (U32 g.source) ∷ value (U32 g.q8) ∷ []
-row_words place (Pin p) = fixed (codes "pin") ∷ value (U32 p.room) ∷ value (U32 p.source) ∷ []
-row_words place (Floor f) = fixed (codes "floor") ∷ value (U32 f.room) ∷ value (U32 f.member) ∷ []
+row_words place r =
+    fixed (kind_word (kind_of (key_of r))) ∷ place_words place r ++ map row_word (shown_values r)
 
 -- the lines of rows of one kind, from this place on
 abbrev pub rows_text : ℕ → List Row → List ℕ

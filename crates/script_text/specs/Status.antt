@@ -12,7 +12,7 @@ use Rattle.script_text.specs.declared.exits.Exit.{Exit}
 use Rattle.script_text.specs.declared.exits.Exit.TheVariants as outcomes
 use Rattle.script_text.specs.Text.{fault_text}
 
--- 0, 1 for a fault of the script, 2 for want of memory, 3 for a reader or writer that failed
+-- 0, 1 for a fault of the script, 2 for out of memory, 3 for a reader or writer that failed
 abbrev pub status_of : Result (Unit {0}) RunFault → ℕ
 status_of (Ok u) = 0
 status_of (Err (errors.Script line word fault)) = 1
@@ -30,7 +30,7 @@ abbrev pub unread_by : ErrorKind → Ask
 unread_by kinds.OutOfMemory = asks.OutOfMemory
 unread_by _ = asks.Unknown
 
--- the exit status: that of the run, 2 where memory ran out before it, 4 for arguments that are not known
+-- the exit status: that of the run, 2 if memory ran out before it, 4 for unknown arguments
 abbrev pub exit_of : Exit → ℕ
 exit_of outcomes.Usage = 4
 exit_of outcomes.OutOfMemory = 2
@@ -44,7 +44,7 @@ run_text errors.Read = codes "input or output failed"
 run_text errors.Write = codes "input or output failed"
 run_text errors.OutOfMemory = codes "out of memory"
 
--- what is told of it on standard error; nothing of a run to its end
+-- what standard error gets of it; nothing of a run to its end
 abbrev pub outcome_text : Exit → List ℕ
 outcome_text outcomes.Usage = codes "usage: confbridge replay | confbridge serve FILE"
 outcome_text outcomes.OutOfMemory = codes "confbridge: out of memory"

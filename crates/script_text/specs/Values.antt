@@ -2,10 +2,8 @@
 use Rattle.std.specs.Prelude.{ℕ, ◌+◌, ◌≤◌, List, [], ◌∷◌, slice_index_or, Option, Result, Ok, option_map}
 use Rattle.std.specs.Fmt.{decimal}
 use Rattle.rtp_codec.specs.declared.address.Address.{Address}
-use Rattle.desk_rows.specs.declared.row.Codec.{Codec}
-use Rattle.desk_rows.specs.declared.row.Codec.TheVariants.{Pcmu}
-use Rattle.desk_rows.specs.declared.row.Media.{Media}
-use Rattle.desk_rows.specs.declared.row.Media.TheVariants.{Audio}
+use Rattle.desk_rows.specs.declared.values.RowValue.{RowValue}
+use Rattle.desk_rows.specs.declared.values.RowValue.TheVariants as held
 use Rattle.script_text.specs.declared.fault.Fault.{Fault}
 use Rattle.script_text.specs.declared.fault.Fault.TheVariants.{UnknownWord, BadNumber, BadAddress}
 use Rattle.script_text.specs.declared.value.Field.{Field}
@@ -40,6 +38,24 @@ value_text (values.Media media) = media_text media
 -- operators have the numbers from 0 to 15 (own)
 abbrev pub last_operator : ℕ
 last_operator = 15
+
+-- the value of a row's field
+abbrev pub of_row : RowValue → Value
+of_row (held.U16 n) = values.U16 n
+of_row (held.U32 n) = values.U32 n
+of_row (held.Address address) = values.Address address
+of_row (held.Codec codec) = values.Codec codec
+of_row (held.Media media) = values.Media media
+
+-- the value of a row's field that a value is, or a number 0
+abbrev pub in_row : Value → RowValue
+in_row (values.U16 n) = held.U16 n
+in_row (values.U32 n) = held.U32 n
+in_row (values.U64 n) = held.U32 0
+in_row (values.Operator n) = held.U32 0
+in_row (values.Address address) = held.Address address
+in_row (values.Codec codec) = held.Codec codec
+in_row (values.Media media) = held.Media media
 
 -- the numbers of a value are in range
 abbrev pub Fits : Value → Type 0
@@ -104,28 +120,10 @@ abbrev pub address_in : Value → Address
 address_in (values.Address address) = address
 address_in value = record { ip = []; port = 0 }
 
--- the codec that a value is, or the first
-abbrev pub codec_in : Value → Codec
-codec_in (values.Codec codec) = codec
-codec_in value = Pcmu
-
--- the kind of source that a value is, or the first
-abbrev pub media_in : Value → Media
-media_in (values.Media media) = media
-media_in value = Audio
-
--- the same at a place of values
+-- the number at this place, else 0
 abbrev pub number_at : ℕ → List Value → ℕ
 number_at place vs = number_in (value_at place vs)
 
 -- the address at this place, else that of no value
 abbrev pub address_at : ℕ → List Value → Address
 address_at place vs = address_in (value_at place vs)
-
--- the codec at this place
-abbrev pub codec_at : ℕ → List Value → Codec
-codec_at place vs = codec_in (value_at place vs)
-
--- the kind of media at this place
-abbrev pub media_at : ℕ → List Value → Media
-media_at place vs = media_in (value_at place vs)

@@ -26,7 +26,7 @@ use std::alloc::{AllocError, Allocator};
 /// The lane that a script's items go to: there is this one alone.
 const LANE: u32 = 0;
 
-/// Whether the reply tells of want of memory.
+/// Whether the reply is a refusal by out of memory.
 fn wants_memory(reply: &Reply) -> bool
     ensures { result ≡ wants_memory reply.now }
 {
@@ -58,7 +58,7 @@ fn answer_call<A: Allocator + Copy>(
     print_reply(&reply, out)
 }
 
-/// Appends the lines of all that goes out.
+/// Appends the lines of all that is sent.
 fn print_all<A: Allocator + Copy>(
     egresses: &[Egress<A>],
     out: &mut Vec<u8, A>,
@@ -71,7 +71,7 @@ fn print_all<A: Allocator + Copy>(
     Ok(())
 }
 
-/// Hands an item to the lane and appends the lines of what goes out.
+/// Hands an item to the lane and appends the lines of what is sent.
 fn answer_item<A: Allocator + Copy>(
     alloc: A,
     core: &mut Core<A>,
@@ -108,8 +108,8 @@ fn answer_items<A: Allocator + Copy>(
     Ok(())
 }
 
-/// Takes a datagram in, and appends the lines of its outcome, of what goes up, and of what goes out
-/// for its items.
+/// Takes a datagram in, and appends the lines of its outcome, of the datagrams sent back, and of what is sent for its
+/// items.
 fn answer_datagram<A: Allocator + Copy>(
     alloc: A,
     core: &mut Core<A>,
@@ -154,7 +154,7 @@ fn answer_show<A: Allocator + Copy>(core: &Core<A>, out: &mut Vec<u8, A>) -> Res
     print_rows(core.rows(), core.version(), out)
 }
 
-/// Does what a line asks for, and appends what is written for it.
+/// Carries out a line, and appends its output.
 fn answer_request<A: Allocator + Copy>(
     alloc: A,
     core: &mut Core<A>,
@@ -181,8 +181,7 @@ fn answer_request<A: Allocator + Copy>(
     }
 }
 
-/// Answers the line of this number. All that it gives is sent at its end, so want of memory sends
-/// nothing of it.
+/// Answers the line of this number. All that it gives is sent at its end, so on out of memory nothing of it is sent.
 pub(crate) fn answer<T: TextSink, A: Allocator + Copy>(
     alloc: A,
     core: &mut Core<A>,

@@ -9,7 +9,7 @@ ghost use Rattle.script_text.specs.Kinds.{codec_text, media_text};
 ghost use Rattle.script_text.specs.Values.{value_text};
 ghost use Rattle.script_text.specs.Text.{word_text, line_text, fixed};
 ghost use Rattle.script_text.specs.inner.Shown.{said};
-ghost use Rattle.script_text.specs.inner.Growing.{room_of, Grows};
+ghost use Rattle.script_text.specs.inner.Growing.{buffer_of, Grows};
 
 use crate::value::Value;
 use desk_rows::{Codec, Media};
@@ -31,16 +31,22 @@ pub(crate) enum Word<'a> {
     Parts(&'a [u8], &'a [u8]),
 }
 
+impl Default for Word<'_> {
+    fn default() -> Self {
+        Word::Fixed(b"")
+    }
+}
+
 /// Appends a text.
 fn append<A: Allocator>(text: &[u8], out: &mut Vec<u8, A>) -> Result<(), AllocError>
-    ensures { Grows (room_of out.old) (room_of out.new) text.now result }
+    ensures { Grows (buffer_of out.old) (buffer_of out.new) text.now result }
 {
     out.extend_from_slice(text)
 }
 
 /// Appends a number.
 fn append_number<A: Allocator>(number: u64, out: &mut Vec<u8, A>) -> Result<(), AllocError>
-    ensures { Grows (room_of out.old) (room_of out.new) (decimal number) result }
+    ensures { Grows (buffer_of out.old) (buffer_of out.new) (decimal number) result }
 {
     let mut buffer = Buffer::new();
     append(buffer.format(number).as_bytes(), out)
@@ -48,7 +54,7 @@ fn append_number<A: Allocator>(number: u64, out: &mut Vec<u8, A>) -> Result<(), 
 
 /// Appends a number with a `-` in front where it is below 0.
 fn append_signed<A: Allocator>(number: i64, out: &mut Vec<u8, A>) -> Result<(), AllocError>
-    ensures { Grows (room_of out.old) (room_of out.new) (signed_decimal number) result }
+    ensures { Grows (buffer_of out.old) (buffer_of out.new) (signed_decimal number) result }
 {
     let mut buffer = Buffer::new();
     append(buffer.format(number).as_bytes(), out)
@@ -56,7 +62,7 @@ fn append_signed<A: Allocator>(number: i64, out: &mut Vec<u8, A>) -> Result<(), 
 
 /// Appends a number and a mark behind it.
 fn append_part<A: Allocator>(number: u8, mark: u8, out: &mut Vec<u8, A>) -> Result<(), AllocError>
-    ensures { Grows (room_of out.old) (room_of out.new) (decimal number ++ mark ∷ []) result }
+    ensures { Grows (buffer_of out.old) (buffer_of out.new) (decimal number ++ mark ∷ []) result }
 {
     append_number(u64::from(number), out)?;
     append(&[mark], out)
@@ -69,7 +75,7 @@ fn append_half<A: Allocator>(
     mark: u8,
     out: &mut Vec<u8, A>,
 ) -> Result<(), AllocError>
-    ensures { Grows (room_of out.old) (room_of out.new) (decimal first ++ 46 ∷ [] ++ (decimal second
+    ensures { Grows (buffer_of out.old) (buffer_of out.new) (decimal first ++ 46 ∷ [] ++ (decimal second
         ++ mark ∷ [])) result }
 {
     append_part(first, b'.', out)?;
@@ -78,7 +84,7 @@ fn append_half<A: Allocator>(
 
 /// Appends an address.
 fn append_address<A: Allocator>(address: Address, out: &mut Vec<u8, A>) -> Result<(), AllocError>
-    ensures { Grows (room_of out.old) (room_of out.new) (address_text address) result }
+    ensures { Grows (buffer_of out.old) (buffer_of out.new) (address_text address) result }
 {
     let [a, b, c, d] = address.ip;
     append_half(a, b, b'.', out)?;
@@ -108,7 +114,7 @@ fn media_text(media: Media) -> &'static [u8]
 
 /// Appends a value.
 fn append_value<A: Allocator>(value: Value, out: &mut Vec<u8, A>) -> Result<(), AllocError>
-    ensures { Grows (room_of out.old) (room_of out.new) (value_text value) result }
+    ensures { Grows (buffer_of out.old) (buffer_of out.new) (value_text value) result }
 {
     match value {
         Value::U16(n) => append_number(u64::from(n), out),
@@ -126,7 +132,7 @@ const DIGITS: [u8; 16] = *b"0123456789abcdef";
 
 /// Appends octets in hexadecimal.
 fn append_hex<A: Allocator>(octets: &[u8], out: &mut Vec<u8, A>) -> Result<(), AllocError>
-    ensures { Grows (room_of out.old) (room_of out.new) (encode_lower octets.now) result }
+    ensures { Grows (buffer_of out.old) (buffer_of out.new) (encode_lower octets.now) result }
 {
     for octet in octets {
         let high = DIGITS[(*octet / 16) as usize];
@@ -142,7 +148,7 @@ fn append_parts<A: Allocator>(
     rest: &[u8],
     out: &mut Vec<u8, A>,
 ) -> Result<(), AllocError>
-    ensures { Grows (room_of out.old) (room_of out.new) (encode_lower (first.now ++ rest.now)) result }
+    ensures { Grows (buffer_of out.old) (buffer_of out.new) (encode_lower (first.now ++ rest.now)) result }
 {
     append_hex(first, out)?;
     append_hex(rest, out)
@@ -150,7 +156,7 @@ fn append_parts<A: Allocator>(
 
 /// Appends a word.
 fn append_word<A: Allocator>(word: Word<'_>, out: &mut Vec<u8, A>) -> Result<(), AllocError>
-    ensures { Grows (room_of out.old) (room_of out.new) (word_text (said word.entry)) result }
+    ensures { Grows (buffer_of out.old) (buffer_of out.new) (word_text (said word.entry)) result }
 {
     match word {
         Word::Value(value) => append_value(value, out),
@@ -163,7 +169,7 @@ fn append_word<A: Allocator>(word: Word<'_>, out: &mut Vec<u8, A>) -> Result<(),
 
 /// Appends a space and a word.
 fn append_next<A: Allocator>(word: Word<'_>, out: &mut Vec<u8, A>) -> Result<(), AllocError>
-    ensures { Grows (room_of out.old) (room_of out.new) (32 ∷ word_text (said word.entry)) result }
+    ensures { Grows (buffer_of out.old) (buffer_of out.new) (32 ∷ word_text (said word.entry)) result }
 {
     append(b" ", out)?;
     append_word(word, out)
@@ -175,7 +181,7 @@ fn append_line<A: Allocator>(
     words: &[Word<'_>],
     out: &mut Vec<u8, A>,
 ) -> Result<(), AllocError>
-    ensures { Grows (room_of out.old) (room_of out.new) (line_text (fixed first.now ∷ map said words.now)) result }
+    ensures { Grows (buffer_of out.old) (buffer_of out.new) (line_text (fixed first.now ∷ map said words.now)) result }
 {
     append(first, out)?;
     for word in words {

@@ -1,115 +1,44 @@
 //! The commands that words spell.
 
-ghost use Rattle.std.specs.Prelude.{◌≡◌, ◌≢◌, ◌≤◌, ◌^◌, map};
+ghost use Rattle.std.specs.Prelude.{◌≡◌, ◌≢◌, ◌≤◌, ◌^◌, length, map};
+ghost use Rattle.desk_rows.specs.Values.{row_with};
 ghost use Rattle.script_text.specs.Words.{Gives};
 ghost use Rattle.script_text.specs.inner.Cursor.{words_in};
-ghost use Rattle.script_text.specs.Values.{field_of};
-ghost use Rattle.script_text.specs.Calls.{shape_of, command_with, command_of};
+ghost use Rattle.script_text.specs.Values.{field_of, in_row};
+ghost use Rattle.script_text.specs.Calls.{shape_of, putting, command_with, command_of};
 
 use crate::fault::{Fault, ParseFault};
-use crate::name::{Name, parse_name, shape};
+use crate::name::{Name, parse_name};
 use crate::reading::read_fields;
-use crate::value::{Value, address_at, codec_at, media_at, u16_at, u32_at};
+use crate::shaping::shape;
+use crate::value::{Value, in_rows, u32_at};
 use crate::words::{end_of_words, next_word};
 use desk_edit::Command;
-use desk_rows::{Floor, Gain, Member, Mute, Pin, Room, Slot, Source, Sub};
+use desk_rows::{Kind, MOST_VALUES, Row};
 
-/// The row of an `add-room`.
-fn room(values: &[Value]) -> Room
-    requires { map field_of values.now ≡ shape_of Name.AddRoom }
-    ensures { Command.AddRoom result ≡ command_with Name.AddRoom values.now }
+/// The command that puts this row.
+fn putting(row: Row) -> Command
+    ensures { result ≡ putting row }
 {
-    Room {
-        room: u32_at(values, 0),
-        rate: u32_at(values, 1),
+    match row {
+        Row::Room(room) => Command::AddRoom(room),
+        Row::Member(member) => Command::AddMember(member),
+        Row::Source(source) => Command::AddSource(source),
+        Row::Slot(slot) => Command::AddSlot(slot),
+        Row::Sub(sub) => Command::Subscribe(sub),
+        Row::Mute(mute) => Command::Mute(mute),
+        Row::Gain(gain) => Command::SetGain(gain),
+        Row::Pin(pin) => Command::Pin(pin),
+        Row::Floor(floor) => Command::GiveFloor(floor),
     }
 }
 
-/// The row of an `add-member`.
-fn member(values: &[Value]) -> Member
-    requires { map field_of values.now ≡ shape_of Name.AddMember }
-    ensures { Command.AddMember result ≡ command_with Name.AddMember values.now }
+/// The command that puts a row of this kind with these values.
+fn put(kind: Kind, values: &[Value]) -> Command
+    requires { length values.now ≤ MOST_VALUES }
+    ensures { result ≡ putting (row_with kind (map in_row values.now)) }
 {
-    Member {
-        member: u32_at(values, 0),
-        room: u32_at(values, 1),
-        address: address_at(values, 2),
-        codec: codec_at(values, 3),
-        out_audio: u32_at(values, 4),
-        first_seq: u16_at(values, 5),
-        first_ts: u32_at(values, 6),
-    }
-}
-
-/// The row of an `add-source`.
-fn source(values: &[Value]) -> Source
-    requires { map field_of values.now ≡ shape_of Name.AddSource }
-    ensures { Command.AddSource result ≡ command_with Name.AddSource values.now }
-{
-    Source {
-        ssrc: u32_at(values, 0),
-        member: u32_at(values, 1),
-        media: media_at(values, 2),
-    }
-}
-
-/// The row of an `add-slot`.
-fn slot(values: &[Value]) -> Slot
-    requires { map field_of values.now ≡ shape_of Name.AddSlot }
-    ensures { Command.AddSlot result ≡ command_with Name.AddSlot values.now }
-{
-    Slot {
-        out_ssrc: u32_at(values, 0),
-        member: u32_at(values, 1),
-        index: u32_at(values, 2),
-        first_seq: u16_at(values, 3),
-        first_ts: u32_at(values, 4),
-    }
-}
-
-/// The row of a `subscribe`.
-fn sub(values: &[Value]) -> Sub
-    requires { map field_of values.now ≡ shape_of Name.Subscribe }
-    ensures { Command.Subscribe result ≡ command_with Name.Subscribe values.now }
-{
-    Sub {
-        out_ssrc: u32_at(values, 0),
-        source: u32_at(values, 1),
-    }
-}
-
-/// The row of a `set-gain`.
-fn gain(values: &[Value]) -> Gain
-    requires { map field_of values.now ≡ shape_of Name.SetGain }
-    ensures { Command.SetGain result ≡ command_with Name.SetGain values.now }
-{
-    Gain {
-        member: u32_at(values, 0),
-        source: u32_at(values, 1),
-        q8: u32_at(values, 2),
-    }
-}
-
-/// The row of a `pin`.
-fn pin(values: &[Value]) -> Pin
-    requires { map field_of values.now ≡ shape_of Name.Pin }
-    ensures { Command.Pin result ≡ command_with Name.Pin values.now }
-{
-    Pin {
-        room: u32_at(values, 0),
-        source: u32_at(values, 1),
-    }
-}
-
-/// The row of a `give-floor`.
-fn floor(values: &[Value]) -> Floor
-    requires { map field_of values.now ≡ shape_of Name.GiveFloor }
-    ensures { Command.GiveFloor result ≡ command_with Name.GiveFloor values.now }
-{
-    Floor {
-        room: u32_at(values, 0),
-        member: u32_at(values, 1),
-    }
+    putting(Row::with_values(kind, in_rows(values).as_slice()))
 }
 
 /// The command of a `move-member`.
@@ -125,28 +54,29 @@ fn move_member(values: &[Value]) -> Command
 
 /// The command of this name with these values, of which the first is always a number of 32 bits.
 fn build(name: Name, values: &[Value]) -> Command
-    requires { map field_of values.now ≡ shape_of name }
+    requires few { length values.now ≤ MOST_VALUES }
+    requires shape { map field_of values.now ≡ shape_of name }
     ensures { result ≡ command_with name values.now }
 {
     let first = u32_at(values, 0);
     match name {
-        Name::AddRoom => Command::AddRoom(room(values)),
+        Name::AddRoom => put(Kind::Room, values),
         Name::RemoveRoom => Command::RemoveRoom { room: first },
-        Name::AddMember => Command::AddMember(member(values)),
+        Name::AddMember => put(Kind::Member, values),
         Name::RemoveMember => Command::RemoveMember { member: first },
         Name::MoveMember => move_member(values),
-        Name::AddSource => Command::AddSource(source(values)),
+        Name::AddSource => put(Kind::Source, values),
         Name::RemoveSource => Command::RemoveSource { ssrc: first },
-        Name::AddSlot => Command::AddSlot(slot(values)),
+        Name::AddSlot => put(Kind::Slot, values),
         Name::RemoveSlot => Command::RemoveSlot { out_ssrc: first },
-        Name::Subscribe => Command::Subscribe(sub(values)),
+        Name::Subscribe => put(Kind::Sub, values),
         Name::Unsubscribe => Command::Unsubscribe { out_ssrc: first },
-        Name::SetGain => Command::SetGain(gain(values)),
-        Name::Mute => Command::Mute(Mute { source: first }),
+        Name::SetGain => put(Kind::Gain, values),
+        Name::Mute => put(Kind::Mute, values),
         Name::Unmute => Command::Unmute { source: first },
-        Name::Pin => Command::Pin(pin(values)),
+        Name::Pin => put(Kind::Pin, values),
         Name::Unpin => Command::Unpin { room: first },
-        Name::GiveFloor => Command::GiveFloor(floor(values)),
+        Name::GiveFloor => put(Kind::Floor, values),
         Name::TakeFloor => Command::TakeFloor { room: first },
     }
 }

@@ -13,6 +13,7 @@ use std::io::ErrorKind;
 pub enum Ask {
     /// A run over the script on standard input.
     Replay,
+    /// Something that the program doesn't know: it prints its usage.
     Unknown,
     /// Memory ran out before they were read.
     OutOfMemory,
@@ -25,6 +26,7 @@ pub enum Exit {
     Usage,
     /// Memory ran out before a run.
     OutOfMemory,
+    /// A run, and how it ended.
     Ran(Result<(), RunFault>),
 }
 
@@ -38,7 +40,7 @@ pub fn asked(first: Option<&str>, second: Option<&str>) -> Ask
     }
 }
 
-/// What arguments ask for that could not be read.
+/// What is asked for if the arguments could not be read.
 pub fn unread(why: ErrorKind) -> Ask
     ensures { result ≡ unread_by why }
 {
@@ -48,8 +50,8 @@ pub fn unread(why: ErrorKind) -> Ask
     }
 }
 
-/// The exit status after a run: 0, 1 for a fault of the script, 2 for want of memory, 3 where the
-/// reader or the writer failed.
+/// The exit status after a run: 0 if it succeeded, 1 for a fault of the script, 2 for out of memory, 3 if the reader or
+/// the writer failed.
 pub fn status(answer: &Result<(), RunFault>) -> u8
     ensures { result ≡ status_of answer.now }
 {
@@ -61,8 +63,7 @@ pub fn status(answer: &Result<(), RunFault>) -> u8
     }
 }
 
-/// The exit status of the program: that of its run, 2 for want of memory before it, 4 for arguments
-/// that it does not know.
+/// The exit status of the program: that of its run, 2 for out of memory before it, 4 for unknown arguments.
 pub fn exit_status(outcome: &Exit) -> u8
     ensures { result ≡ exit_of outcome.now }
 {

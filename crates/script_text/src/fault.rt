@@ -36,6 +36,7 @@ pub enum Fault {
 pub enum ParseFault {
     /// The fault, and the place of its word from 1; place 0 is the whole line.
     Line { word: u32, fault: Fault },
+    /// Memory ran out.
     OutOfMemory,
 }
 
@@ -59,11 +60,12 @@ pub enum RunFault {
     /// The first line that could not be read, from 1, and the place of its word from 1; place 0 is
     /// the whole line.
     Script { line: u64, word: u32, fault: Fault },
-    /// The reader failed, or had not ended after 2^32 calls.
+    /// The reader failed, or 2^32 calls brought no end.
     Read,
-    /// The writer failed or took nothing, or memory ran out behind a part of a line's text, or
-    /// 2^32 calls had not taken it.
+    /// The writer failed or took nothing, or memory ran out behind a part of a line's text, or 2^32 calls didn't take
+    /// it.
     Write,
+    /// Memory ran out.
     OutOfMemory,
 }
 

@@ -147,9 +147,9 @@ pub fn script_bridge()
     ensures desk { first_desk ≡ blank BRIDGE_SSRC }
 {}
 
-/// The reason for which a call is refused is the first that holds. They are asked in the order of the refusals'
-/// numbers, but RateMismatch (21) behind Full (12). Of a group first its size is asked (18, 19), then the log (17), and
-/// then each command (20). Of a command in a group the reason is printed as of the command alone.
+/// A call is refused for the first reason that holds. Reasons are checked in the order of the refusals' numbers, but
+/// RateMismatch (21) behind Full (12). A group's size is checked first (18, 19), then the log (17), then each command
+/// (20). A command in a group is refused in the words of the command alone.
 pub fn refusal_words()
     ensures first { (version done undone : ℕ) (d : Rows) (call : CallOf)
         → refusal_at version d done undone call ≡ first_case (call_cases version d done undone call) }

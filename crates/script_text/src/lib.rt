@@ -11,6 +11,9 @@
 //! print_reply(&core.desk(alloc, 1, call), &mut out)?; // the line of the reply
 //! run(alloc, &mut reader, &mut writer)?; // a whole script, over a new bridge with one lane
 //! ```
+//!
+//! `spells_an_undo`, `prints_an_answer` and `a_script_adds_a_room` of worked_bridge are such calls, with their texts
+//! proved.
 #![tactic(auto)]
 
 mod answer;
@@ -31,6 +34,7 @@ mod reading;
 mod running;
 mod script;
 mod sending;
+mod shaping;
 mod showing;
 mod sink;
 mod source;

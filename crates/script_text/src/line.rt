@@ -12,7 +12,7 @@ ghost use Rattle.script_text.specs.Requests.{front_of, request_with, words_reque
 
 use crate::calling::call;
 use crate::fault::{Fault, ParseFault};
-use crate::name::{Kind, front, parse_kind};
+use crate::name::{LineKind, front, parse_kind};
 use crate::packet::{octets, packets};
 use crate::reading::read_values;
 use crate::value::{Value, address_at, operator_at, u32_at, u64_at};
@@ -182,7 +182,7 @@ fn report<A: Allocator + Copy>(moment: u64, words: Option<&[u8]>) -> Result<Line
 /// What a line of this kind asks for, with these values first.
 fn line_with<A: Allocator + Copy>(
     alloc: A,
-    kind: Kind,
+    kind: LineKind,
     values: &[Value],
     words: Option<&[u8]>,
 ) -> Result<Line<A>, ParseFault>
@@ -191,8 +191,8 @@ fn line_with<A: Allocator + Copy>(
     ensures { Gives view result (request_with kind values.now (words_in words.entry)) }
 {
     match kind {
-        Kind::Desk => desk(alloc, operator_at(values, 0), words),
-        Kind::Frame => {
+        LineKind::Desk => desk(alloc, operator_at(values, 0), words),
+        LineKind::Frame => {
             let head = FrameHead {
                 moment: u64_at(values, 0),
                 address: address_at(values, 1),
@@ -202,10 +202,10 @@ fn line_with<A: Allocator + Copy>(
             };
             frame(alloc, head, words)
         }
-        Kind::Rx => rx(alloc, u64_at(values, 0), address_at(values, 1), words),
-        Kind::Tick => tick(u64_at(values, 0), words),
-        Kind::Report => report(u64_at(values, 0), words),
-        Kind::Show => show(words),
+        LineKind::Rx => rx(alloc, u64_at(values, 0), address_at(values, 1), words),
+        LineKind::Tick => tick(u64_at(values, 0), words),
+        LineKind::Report => report(u64_at(values, 0), words),
+        LineKind::Show => show(words),
     }
 }
 

@@ -1,14 +1,15 @@
-//! The tables of lines: names, and the fields behind each.
+//! The tables of lines: their first words, the fields in front, and the names of commands.
 
 ghost use Rattle.std.specs.Prelude.{◌≡◌, ◌≤◌, length};
-ghost use Rattle.script_text.specs.Calls.{name_of, setting_of, shape_of, head_of};
+ghost use Rattle.script_text.specs.Calls.{name_of, setting_of, head_of};
 ghost use Rattle.script_text.specs.Requests.{line_kind_of, front_of};
 
 use crate::value::Field;
+use desk_rows::MOST_VALUES;
 
 /// The first word of a line.
 #[derive(Clone, Copy)]
-pub(crate) enum Kind {
+pub(crate) enum LineKind {
     Desk,
     Frame,
     Rx,
@@ -18,43 +19,43 @@ pub(crate) enum Kind {
 }
 
 /// The kind of line that a word begins.
-pub(crate) fn parse_kind(word: &[u8]) -> Option<Kind>
+pub(crate) fn parse_kind(word: &[u8]) -> Option<LineKind>
     ensures { result ≡ line_kind_of word.now }
 {
     if word == b"desk".as_slice() {
-        Some(Kind::Desk)
+        Some(LineKind::Desk)
     } else if word == b"frame".as_slice() {
-        Some(Kind::Frame)
+        Some(LineKind::Frame)
     } else if word == b"rx".as_slice() {
-        Some(Kind::Rx)
+        Some(LineKind::Rx)
     } else if word == b"tick".as_slice() {
-        Some(Kind::Tick)
+        Some(LineKind::Tick)
     } else if word == b"report".as_slice() {
-        Some(Kind::Report)
+        Some(LineKind::Report)
     } else if word == b"show".as_slice() {
-        Some(Kind::Show)
+        Some(LineKind::Show)
     } else {
         None
     }
 }
 
 /// The fields that stand first behind it.
-pub(crate) fn front(kind: Kind) -> &'static [Field]
+pub(crate) fn front(kind: LineKind) -> &'static [Field]
     ensures table { result.now ≡ front_of kind }
-    ensures few { length result.now ≤ 8 }
+    ensures few { length result.now ≤ MOST_VALUES }
 {
     match kind {
-        Kind::Desk => &[Field::Operator],
-        Kind::Frame => &[
+        LineKind::Desk => &[Field::Operator],
+        LineKind::Frame => &[
             Field::U64,
             Field::Address,
             Field::U32,
             Field::U64,
             Field::U32,
         ],
-        Kind::Rx => &[Field::U64, Field::Address],
-        Kind::Tick | Kind::Report => &[Field::U64],
-        Kind::Show => &[],
+        LineKind::Rx => &[Field::U64, Field::Address],
+        LineKind::Tick | LineKind::Report => &[Field::U64],
+        LineKind::Show => &[],
     }
 }
 
@@ -132,41 +133,6 @@ fn parse_setting(word: &[u8]) -> Option<Name>
         Some(Name::TakeFloor)
     } else {
         None
-    }
-}
-
-/// The fields behind a name.
-pub(crate) fn shape(name: Name) -> &'static [Field]
-    ensures table { result.now ≡ shape_of name }
-    ensures few { length result.now ≤ 8 }
-{
-    match name {
-        Name::AddRoom => &[Field::U32, Field::U32],
-        Name::RemoveRoom => &[Field::U32],
-        Name::AddMember => &[
-            Field::U32,
-            Field::U32,
-            Field::Address,
-            Field::Codec,
-            Field::U32,
-            Field::U16,
-            Field::U32,
-        ],
-        Name::RemoveMember => &[Field::U32],
-        Name::MoveMember => &[Field::U32, Field::U32],
-        Name::AddSource => &[Field::U32, Field::U32, Field::Media],
-        Name::RemoveSource => &[Field::U32],
-        Name::AddSlot => &[Field::U32, Field::U32, Field::U32, Field::U16, Field::U32],
-        Name::RemoveSlot => &[Field::U32],
-        Name::Subscribe => &[Field::U32, Field::U32],
-        Name::Unsubscribe => &[Field::U32],
-        Name::SetGain => &[Field::U32, Field::U32, Field::U32],
-        Name::Mute => &[Field::U32],
-        Name::Unmute => &[Field::U32],
-        Name::Pin => &[Field::U32, Field::U32],
-        Name::Unpin => &[Field::U32],
-        Name::GiveFloor => &[Field::U32, Field::U32],
-        Name::TakeFloor => &[Field::U32],
     }
 }
 

@@ -48,7 +48,7 @@ pub(crate) fn number(word: &[u8], max: u64) -> Option<u64>
     }
 }
 
-/// The number below 0, or 0, that lies as far from 0.
+/// The negative of a number, which is at most 2^63.
 fn negated(number: u64) -> i64
     requires { number ≤ 2 ^ 63 }
     ensures { result ≡ negative number }
@@ -60,7 +60,7 @@ fn negated(number: u64) -> i64
     }
 }
 
-/// The extended sequence number that a word spells, with a `-` in front where it is below 0.
+/// The extended sequence number that a word spells, with a `-` in front if it is below 0.
 #[tactic(auto, unfolding(crate::specs::Numbers::ext_of))]
 pub(crate) fn parse_ext(word: &[u8]) -> Option<i64>
     ensures { result ≡ ext_of word.now }

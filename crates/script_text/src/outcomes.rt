@@ -103,7 +103,7 @@ pub(crate) fn print_outcome<A: Allocator>(
     }
 }
 
-/// Appends the line of a datagram that goes up to an address.
+/// Appends the line of a datagram that is sent back to an address.
 fn print_up<A: Allocator>(
     to: Address,
     octets: &[u8],
@@ -115,7 +115,7 @@ fn print_up<A: Allocator>(
     print_line(b"up", &[to, Word::Hex(octets)], out)
 }
 
-/// Appends the lines of all datagrams that go up.
+/// Appends the lines of all datagrams that are sent back.
 pub(crate) fn print_all_up<A: Allocator + Copy>(
     up: &[(Address, Vec<u8, A>)],
     out: &mut Vec<u8, A>,

@@ -12,7 +12,7 @@ use crate::words::first_word;
 
 /// One part of a group.
 #[derive(Clone, Copy)]
-pub(crate) struct Part<'a> {
+pub(crate) struct GroupPart<'a> {
     /// The text of its words, if it has any.
     pub words: Option<&'a [u8]>,
     /// How many words it has.
@@ -21,7 +21,7 @@ pub(crate) struct Part<'a> {
     pub later: Option<Option<&'a [u8]>>,
 }
 
-/// The first words of a text: so many, behind which the next one begins at this octet.
+/// The first words of a text: how many they are, and the octet at which the next one begins.
 fn front(text: &[u8], count: u32, at: usize) -> Option<&[u8]>
     requires next { drop count (words_of text.now) ≡ words_of (drop at text.now) }
     requires count { count ≤ at }
@@ -36,7 +36,7 @@ fn front(text: &[u8], count: u32, at: usize) -> Option<&[u8]>
 }
 
 /// The first part of a text's words.
-fn text_part(text: &[u8]) -> Part<'_>
+fn text_part(text: &[u8]) -> GroupPart<'_>
     requires { length text.now ≤ LINE_LIMIT }
     ensures parts { slice_split is_slash (words_of text.now) ≡ words_in result.words ∷ parts_in result.later }
     ensures count { result.count ≡ length (words_in result.words) }
@@ -47,7 +47,7 @@ fn text_part(text: &[u8]) -> Part<'_>
     loop {
         let (word, rest) = first_word(&text[at..]);
         if word == b"/".as_slice() {
-            return Part {
+            return GroupPart {
                 words: front(text, count, at),
                 count,
                 later: Some(rest),
@@ -56,7 +56,7 @@ fn text_part(text: &[u8]) -> Part<'_>
         count += 1;
         match rest {
             None => {
-                return Part {
+                return GroupPart {
                     words: Some(text),
                     count,
                     later: None,
@@ -68,14 +68,14 @@ fn text_part(text: &[u8]) -> Part<'_>
 }
 
 /// The first part of a group's words.
-pub(crate) fn first_part(words: Option<&[u8]>) -> Part<'_>
+pub(crate) fn first_part(words: Option<&[u8]>) -> GroupPart<'_>
     requires { size_of words ≤ LINE_LIMIT + 1 }
     ensures parts { slice_split is_slash (words_in words.entry) ≡ words_in result.words ∷ parts_in result.later }
     ensures count { result.count ≡ length (words_in result.words) }
     ensures shorter { result.count + size_of_parts result.later ≤ size_of words.entry }
 {
     match words {
-        None => Part {
+        None => GroupPart {
             words: None,
             count: 0,
             later: None,

@@ -16,7 +16,7 @@ use desk_edit::{Carried, Reason, RefusalRow};
 use rtp_codec::Address;
 use std::alloc::{AllocError, Allocator};
 
-/// Appends the line of a reply. An `Err` changes nothing, and comes only where the line has no room.
+/// Appends the line of a reply. On out of memory, the only error, nothing changes.
 pub fn print_reply<A: Allocator>(reply: &Reply, out: &mut Vec<u8, A>) -> Result<(), AllocError>
     ensures ok { OnOk result (out.new.items ≡ out.old.items ++ reply_text reply.now) }
     ensures err { OnErr result (out.new.items ≡ out.old.items) }
@@ -28,8 +28,8 @@ pub fn print_reply<A: Allocator>(reply: &Reply, out: &mut Vec<u8, A>) -> Result<
     }
 }
 
-/// Appends the line of a call that is refused at this version: the refusal's number, its name, and what it carries. An
-/// `Err` changes nothing, and comes only where the line has no room.
+/// Appends the line of a call that is refused at this version: the refusal's number, its name, and what it carries. On
+/// out of memory, the only error, nothing changes.
 pub fn print_refused<A: Allocator>(
     at: u64,
     row: RefusalRow,
@@ -193,7 +193,7 @@ fn print_note<A: Allocator>(
     print_line(b"note", &words, out)
 }
 
-/// Appends the line of what goes out. An `Err` changes nothing, and comes only where the line has no room.
+/// Appends the line of an egress. On out of memory, the only error, nothing changes.
 pub fn print_egress<A: Allocator + Copy>(
     egress: &Egress<A>,
     out: &mut Vec<u8, A>,

@@ -7,24 +7,22 @@ ghost use Rattle.script_text.specs.Values.{field_of, values_of};
 ghost use Rattle.script_text.specs.Calls.{shape_of, with_rate};
 
 use crate::fault::ParseFault;
-use crate::name::{Name, shape};
+use crate::name::Name;
+use crate::shaping::shape;
 use crate::value::{Field, Value, parse_value, word_fault};
 use crate::words::{is_one_word, next_word};
 use arrayvec::ArrayVec;
-use desk_rows::DEFAULT_RATE;
-
-/// How many values stand one after another at most.
-const MOST_VALUES: usize = 8;
+use desk_rows::{DEFAULT_RATE, MOST_VALUES};
 
 /// The values that stand first, and the text behind them.
-pub(crate) type Front<'a> = (ArrayVec<Value, MOST_VALUES>, Option<&'a [u8]>);
+pub(crate) type ReadFront<'a> = (ArrayVec<Value, MOST_VALUES>, Option<&'a [u8]>);
 
 /// The values of these fields, of which the first stands at this place.
 pub(crate) fn read_values<'a>(
     place: u32,
     shape: &[Field],
     words: Option<&'a [u8]>,
-) -> Result<Front<'a>, ParseFault>
+) -> Result<ReadFront<'a>, ParseFault>
     requires few { length shape.now ≤ MOST_VALUES }
     requires near { place ≤ 2 ^ 18 }
     ensures values { Gives (λ x. (x.0.items, words_in x.1)) result (values_of place shape.now (words_in words.entry)) }
@@ -67,7 +65,7 @@ pub(crate) fn read_fields<'a>(
     place: u32,
     name: Name,
     words: Option<&'a [u8]>,
-) -> Result<Front<'a>, ParseFault>
+) -> Result<ReadFront<'a>, ParseFault>
     requires { place ≤ 2 ^ 18 }
     ensures values { Gives (λ x. (x.0.items, words_in x.1)) result
         (values_of place (shape_of name) (with_rate name (words_in words.entry))) }
@@ -82,6 +80,6 @@ pub(crate) fn read_fields<'a>(
         values.push(Value::U32(DEFAULT_RATE));
         Ok((values, rest))
     } else {
-        read_values(place, shape(name), words)
+        read_values(place, shape(name).as_slice(), words)
     }
 }

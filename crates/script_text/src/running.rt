@@ -76,11 +76,12 @@ fn run_script<A: Allocator + Copy, S: ScriptSource, T: TextSink>(
 /// Reads a script to its end or its first fault, over a new bridge with one lane, and writes what
 /// its lines give and nothing else.
 ///
-/// Lines before a fault are answered, the faulty line and what follows are not. Where memory runs
-/// out, what was written is that of the lines before. A reader fails where a call of it does, or
-/// where 2^32 calls have not told the end; a writer where a call fails or takes nothing, where
-/// 2^32 calls have not taken a line's text, or where memory runs out behind a part of it. Only
-/// want of memory may be told at any time.
+/// Lines before a fault are answered; the faulty line and those behind it are not. If memory runs out, only the output
+/// of the lines before is written.
+///
+/// The run ends by `Read` if a call of the reader failed, or 2^32 calls brought no end. It ends by `Write` if a call of
+/// the writer failed or took nothing, if 2^32 calls didn't take a line's text, or if memory ran out behind a part of
+/// it. Out of memory may be reported at any time.
 pub fn run<A: Allocator + Copy, S: ScriptSource, T: TextSink>(
     alloc: A,
     reader: &mut S,
@@ -120,8 +121,7 @@ fn script_output<A: Allocator + Copy>(alloc: A, script: &[u8]) -> Result<Vec<u8,
     Ok(out)
 }
 
-/// The output of a script that is in memory, or why the run over it ended: a fault of the script, or
-/// want of memory.
+/// The output of a script that is in memory, or why the run over it ended: a fault of the script, or out of memory.
 pub fn output<A: Allocator + Copy>(alloc: A, script: &[u8]) -> Result<Vec<u8, A>, RunFault>
     ensures ok { OnWires (lines_of script.now) (λ wire. IfOk result (λ out.
         ((output_of wire script.now).fault ≡ None) × (out.items ≡ (output_of wire script.now).text))) }

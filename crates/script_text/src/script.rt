@@ -18,7 +18,7 @@ pub(crate) const BRIDGE_SSRC: u32 = 1;
 /// The canonical name of the bridge of a script.
 pub(crate) const CNAME: &[u8] = b"bridge";
 
-/// The bridge, the number of the line that is being read, and what has come of it.
+/// The bridge, the number of the line that is being read, and the part of it that has come.
 #[derive(Drop)]
 pub(crate) struct Script<A: Allocator + Copy = Global> {
     core: Core<A>,
@@ -51,7 +51,7 @@ fn without_cr(line: &[u8]) -> &[u8]
 impl<A: Allocator + Copy> Script<A> {
     ghost use Rattle.script_text.specs.inner.Steps.{IsOpening, IsMidLine, Keeps, Steps, Finishes};
 
-    /// A script of which nothing has come.
+    /// A script from which nothing has come.
     pub(crate) fn new(alloc: A) -> Result<Script<A>, AllocError>
         ensures opening { IfOk result (λ s. IsOpening s) }
         ensures midline { IfOk result (λ s. IsMidLine s) }
@@ -80,7 +80,7 @@ impl<A: Allocator + Copy> Script<A> {
         ensures read { result ≢ Err RunFault.Read }
         ensures write { result ≢ Err RunFault.Write }
     {
-        // A CR at the line's end does not count, and may be the octet that is in doubt.
+        // A CR at the line's end doesn't count, and this octet may be one.
         if self.pending.len() > LINE_LIMIT + 1 {
             return Err(RunFault::Script {
                 line: self.line,

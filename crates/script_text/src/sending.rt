@@ -6,11 +6,11 @@ ghost use Rattle.script_text.specs.inner.Steps.{Sends};
 use crate::fault::RunFault;
 use crate::sink::{Portion, TextSink};
 
-/// How often a source or a sink is called for one thing at most.
+/// The most calls of a source or a sink for one thing.
 pub(crate) const MOST_CALLS: u64 = 1 << 32;
 
-/// Writes the octets. At an error a front of them went out and not all, and none for want of
-/// memory: where some went out before it, the writer has failed.
+/// Writes the octets. On an error only the first ones may be written. On out of memory none are: if some were written
+/// before it, the fault is `Write`.
 pub(crate) fn send<T: TextSink>(writer: &mut T, octets: &[u8]) -> Result<(), RunFault>
     ensures sends { Sends octets.now (T.held writer.old) (T.held writer.new) result }
     ensures read { result ≢ Err RunFault.Read }

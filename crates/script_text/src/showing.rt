@@ -1,72 +1,71 @@
 //! What is printed for the rows of a desk.
 
-ghost use Rattle.std.specs.Prelude.{◌≡◌, ◌++◌, OnOk, OnErr};
+ghost use Rattle.std.specs.Prelude.{◌≡◌, ◌≤◌, ◌+◌, ◌++◌, length, map, OnOk, OnErr};
 ghost use Rattle.std.specs.List.{flat_map};
-ghost use Rattle.script_text.specs.Text.{value, line_text};
+ghost use Rattle.script_text.specs.Text.{line_text};
 ghost use Rattle.script_text.specs.inner.Shown.{said};
 ghost use Rattle.script_text.specs.Output.{IsFrontOf};
-ghost use Rattle.script_text.specs.RowLines.{row_words, kind_lines, all_kinds, show_text};
-ghost use Rattle.script_text.specs.declared.value.Value.TheVariants.{U32};
+ghost use Rattle.script_text.specs.RowLines.{kind_word, shown_values, place_words, row_word, row_words};
+ghost use Rattle.script_text.specs.RowLines.{kind_lines, all_kinds, show_text};
 
 use crate::appending::{Word, print_line};
 use crate::value::Value;
-use desk_rows::{DEFAULT_RATE, Kind, Member, Room, Row, Rows, Slot};
+use arrayvec::ArrayVec;
+use desk_rows::{DEFAULT_RATE, Kind, MOST_VALUES, Row, RowValue, RowValues, Rows};
 use std::alloc::{AllocError, Allocator};
 
-/// A number as a word.
-fn number<'a>(n: u32) -> Word<'a>
-    ensures { said result ≡ value (U32 n) }
-{
-    Word::Value(Value::U32(n))
-}
+/// How many words stand behind the kind of a row at most: the place of a member, and its values.
+const MOST_WORDS: usize = MOST_VALUES + 1;
 
-/// Appends the line of a room. A rate of 8000 Hz is left out.
-fn print_room<A: Allocator>(room: &Room, out: &mut Vec<u8, A>) -> Result<(), AllocError>
-    ensures ok { OnOk result (out.new.items ≡ out.old.items ++ line_text (row_words 0 (Row.Room room.now))) }
-    ensures err { OnErr result (out.new.items ≡ out.old.items) }
+/// The word of a kind of row.
+fn kind_word(kind: Kind) -> &'static [u8]
+    ensures { result.now ≡ kind_word kind }
 {
-    if room.rate == DEFAULT_RATE {
-        print_line(b"room", &[number(room.room)], out)
-    } else {
-        print_line(b"room", &[number(room.room), number(room.rate)], out)
+    match kind {
+        Kind::Room => b"room",
+        Kind::Member => b"member",
+        Kind::Source => b"source",
+        Kind::Slot => b"slot",
+        Kind::Sub => b"sub",
+        Kind::Mute => b"mute",
+        Kind::Gain => b"gain",
+        Kind::Pin => b"pin",
+        Kind::Floor => b"floor",
     }
 }
 
-/// Appends the line of a member that stands at this place among all members.
-fn print_member<A: Allocator>(
-    place: usize,
-    member: &Member,
-    out: &mut Vec<u8, A>,
-) -> Result<(), AllocError>
-    ensures ok { OnOk result (out.new.items ≡ out.old.items ++ line_text (row_words place (Row.Member member.now))) }
-    ensures err { OnErr result (out.new.items ≡ out.old.items) }
+/// The values that are shown of a row. A room's rate of 8000 Hz is left out.
+fn shown(row: &Row) -> RowValues
+    ensures { result.items ≡ shown_values row.now }
 {
-    let words = [
-        Word::Value(Value::U64(place as u64)),
-        number(member.member),
-        number(member.room),
-        Word::Value(Value::Address(member.address)),
-        Word::Value(Value::Codec(member.codec)),
-        number(member.out_audio),
-        Word::Value(Value::U16(member.first_seq)),
-        number(member.first_ts),
-    ];
-    print_line(b"member", &words, out)
+    let mut values = row.values();
+    match row {
+        Row::Room(room) if room.rate == DEFAULT_RATE => values.truncate(1),
+        _ => (),
+    }
+    values
 }
 
-/// Appends the line of a slot.
-fn print_slot<A: Allocator>(slot: &Slot, out: &mut Vec<u8, A>) -> Result<(), AllocError>
-    ensures ok { OnOk result (out.new.items ≡ out.old.items ++ line_text (row_words 0 (Row.Slot slot.now))) }
-    ensures err { OnErr result (out.new.items ≡ out.old.items) }
+/// The place of a member, in a list of words. Other rows have none.
+fn front<'a>(place: usize, row: &Row) -> ArrayVec<Word<'a>, MOST_WORDS>
+    ensures words { map said result.items ≡ place_words place row.now }
+    ensures few { length result.items ≤ 1 }
 {
-    let words = [
-        number(slot.out_ssrc),
-        number(slot.member),
-        number(slot.index),
-        Word::Value(Value::U16(slot.first_seq)),
-        number(slot.first_ts),
-    ];
-    print_line(b"slot", &words, out)
+    let mut words = ArrayVec::new();
+    if let Row::Member(_) = row {
+        words.push(Word::Value(Value::U64(place as u64)));
+    }
+    words
+}
+
+/// Appends the words of a row's values.
+fn push_values(values: &[RowValue], words: &mut ArrayVec<Word<'_>, MOST_WORDS>)
+    requires { length words.old.items + length values.now ≤ MOST_WORDS }
+    ensures { map said words.new.items ≡ map said words.old.items ++ map row_word values.now }
+{
+    for value in values {
+        words.push(Word::Value(Value::of_row(*value)));
+    }
 }
 
 /// Appends the line of a row that stands at this place among those of its kind.
@@ -74,27 +73,9 @@ fn print_row<A: Allocator>(place: usize, row: &Row, out: &mut Vec<u8, A>) -> Res
     ensures ok { OnOk result (out.new.items ≡ out.old.items ++ line_text (row_words place row.now)) }
     ensures err { OnErr result (out.new.items ≡ out.old.items) }
 {
-    match row {
-        Row::Room(room) => print_room(room, out),
-        Row::Member(member) => print_member(place, member, out),
-        Row::Source(source) => {
-            let media = Word::Value(Value::Media(source.media));
-            print_line(
-                b"source",
-                &[number(source.ssrc), number(source.member), media],
-                out,
-            )
-        }
-        Row::Slot(slot) => print_slot(slot, out),
-        Row::Sub(sub) => print_line(b"sub", &[number(sub.out_ssrc), number(sub.source)], out),
-        Row::Mute(mute) => print_line(b"mute", &[number(mute.source)], out),
-        Row::Gain(gain) => {
-            let words = [number(gain.member), number(gain.source), number(gain.q8)];
-            print_line(b"gain", &words, out)
-        }
-        Row::Pin(pin) => print_line(b"pin", &[number(pin.room), number(pin.source)], out),
-        Row::Floor(floor) => print_line(b"floor", &[number(floor.room), number(floor.member)], out),
-    }
+    let mut words = front(place, row);
+    push_values(shown(row).as_slice(), &mut words);
+    print_line(kind_word(row.key().kind()), words.as_slice(), out)
 }
 
 /// Appends the lines of the rows of a kind.

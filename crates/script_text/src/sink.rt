@@ -15,14 +15,14 @@ pub enum Portion {
     Octets(usize),
     /// It took nothing, and may be called again.
     Interrupted,
-    /// It wanted memory and took nothing.
+    /// It ran out of memory and took nothing.
     OutOfMemory,
     /// It failed or took nothing.
     Failed,
 }
 
-/// Where octets go. A contract over any sink learns that a call may fail, want memory or take a part
-/// only from a call that did.
+/// Where octets go. A contract over any sink learns that a call may fail, run out of memory or take a part only from a
+/// call that did.
 pub trait TextSink {
     /// The octets that the sink holds, where they are known.
     ghost held: { Self → Option (List ℕ) };
@@ -30,15 +30,16 @@ pub trait TextSink {
     /// A call may fail or take nothing.
     ghost may_fail: { Type 0 };
 
-    /// A call may want memory.
+    /// A call may run out of memory.
     ghost may_starve: { Type 0 };
 
     /// A call may take some octets and not all.
     ghost may_split: { Type 0 };
 
-    /// So many calls led from one state to the other, and each of them left something to be taken.
+    /// This many calls led from one state to the other, and each of them left something to be taken.
     ghost goes_on: { ℕ → Self → Self → Type 0 };
 
+    /// Writes some of the octets, from the front.
     fn write_some(&mut self, octets: &[u8]) -> Portion
         requires { 0 < length octets.now }
         ensures portion { IsPortion octets.now (held self.old) (held self.new) result }
@@ -48,7 +49,7 @@ pub trait TextSink {
         ensures counted { (n : ℕ) (first : Self) → goes_on n first self.old → IsLeft octets.now result
             → goes_on (n + 1) first self.new };
 
-    /// No call leads nowhere.
+    /// No calls lead from a state to itself.
     ghost at_first: { (s : Self) → goes_on 0 s s };
 }
 
@@ -67,7 +68,7 @@ fn portion_of(answer: io::Result<usize>) -> Portion
     }
 }
 
-/// A vector takes all or wants memory.
+/// A vector takes all, or runs out of memory and takes nothing.
 impl<A: Allocator> TextSink for Vec<u8, A> {
     ghost held = { λ v. Some v.items };
 

@@ -16,14 +16,14 @@ pub enum Piece {
     End,
     /// It gave nothing, and may be called again.
     Interrupted,
-    /// It wanted memory and gave nothing.
+    /// It ran out of memory and gave nothing.
     OutOfMemory,
     /// It failed.
     Failed,
 }
 
-/// Where octets come from. A contract over any source learns that a call may fail or want memory
-/// only from a call that did.
+/// Where octets come from. A contract over any source learns that a call may fail or run out of memory only from a call
+/// that did.
 pub trait ScriptSource {
     /// The octets that calls will give from here on, where they are known.
     ghost rest: { Self → Option (List ℕ) };
@@ -31,12 +31,13 @@ pub trait ScriptSource {
     /// A call may fail.
     ghost may_fail: { Type 0 };
 
-    /// A call may want memory.
+    /// A call may run out of memory.
     ghost may_starve: { Type 0 };
 
-    /// So many calls led from one state to the other, and none of them told the end.
+    /// This many calls led from one state to the other, and none of them reported the end.
     ghost goes_on: { ℕ → Self → Self → Type 0 };
 
+    /// Reads some octets into the chunk's front.
     fn read_some(&mut self, chunk: &mut [u8]) -> Piece
         requires { 0 < length chunk.old }
         ensures piece { IsPiece (rest self.old) (rest self.new) chunk.new result }
@@ -45,7 +46,7 @@ pub trait ScriptSource {
         ensures counted { (n : ℕ) (first : Self) → goes_on n first self.old → result ≢ pieces.End
             → goes_on (n + 1) first self.new };
 
-    /// No call leads nowhere.
+    /// No calls lead from a state to itself.
     ghost at_first: { (s : Self) → goes_on 0 s s };
 }
 

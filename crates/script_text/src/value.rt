@@ -1,12 +1,13 @@
 //! The fields of lines, and the values that words spell there.
 
-ghost use Rattle.std.specs.Prelude.{◌≡◌, Some, map, slice_get, IfSome};
-ghost use Rattle.script_text.specs.Values.{value_of, fault_of, field_of, number_at, address_at, codec_at, media_at};
+ghost use Rattle.std.specs.Prelude.{◌≡◌, ◌≤◌, Some, length, map, slice_get, IfSome};
+ghost use Rattle.script_text.specs.Values.{value_of, fault_of, field_of, of_row, in_row, number_at, address_at};
 
 use crate::fault::Fault;
 use crate::number::number;
 use crate::spelling::{parse_address, parse_codec, parse_media};
-use desk_rows::{Codec, Media};
+use arrayvec::ArrayVec;
+use desk_rows::{Codec, MOST_VALUES, Media, RowValue, RowValues};
 use rtp_codec::Address;
 
 /// The greatest number of an operator.
@@ -37,10 +38,72 @@ pub(crate) enum Value {
     Media(Media),
 }
 
+impl Default for Field {
+    fn default() -> Field {
+        Field::U16
+    }
+}
+
 impl Default for Value {
     fn default() -> Value {
         Value::U16(0)
     }
+}
+
+impl Value {
+    /// The value of a row's field.
+    pub(crate) fn of_row(value: RowValue) -> Value
+        ensures { result ≡ of_row value }
+    {
+        match value {
+            RowValue::U16(n) => Value::U16(n),
+            RowValue::U32(n) => Value::U32(n),
+            RowValue::Address(address) => Value::Address(address),
+            RowValue::Codec(codec) => Value::Codec(codec),
+            RowValue::Media(media) => Value::Media(media),
+        }
+    }
+
+    /// The value of a row's field that this one is, or 0.
+    fn in_row(self) -> RowValue
+        ensures { result ≡ in_row self }
+    {
+        match self {
+            Value::U16(n) => RowValue::U16(n),
+            Value::U32(n) => RowValue::U32(n),
+            Value::U64(_) | Value::Operator(_) => RowValue::U32(0),
+            Value::Address(address) => RowValue::Address(address),
+            Value::Codec(codec) => RowValue::Codec(codec),
+            Value::Media(media) => RowValue::Media(media),
+        }
+    }
+
+    /// The field that it is a value of.
+    pub(crate) fn field(self) -> Field
+        ensures { result ≡ field_of self }
+    {
+        match self {
+            Value::U16(_) => Field::U16,
+            Value::U32(_) => Field::U32,
+            Value::U64(_) => Field::U64,
+            Value::Operator(_) => Field::Operator,
+            Value::Address(_) => Field::Address,
+            Value::Codec(_) => Field::Codec,
+            Value::Media(_) => Field::Media,
+        }
+    }
+}
+
+/// These values as those of a row.
+pub(crate) fn in_rows(values: &[Value]) -> RowValues
+    requires { length values.now ≤ MOST_VALUES }
+    ensures { result.items ≡ map in_row values.now }
+{
+    let mut row_values = ArrayVec::new();
+    for value in values {
+        row_values.push(value.in_row());
+    }
+    row_values
 }
 
 /// The value of this field that a word spells.
@@ -91,17 +154,6 @@ pub(crate) fn word_fault(field: Field) -> Fault
     }
 }
 
-/// The number of 16 bits at this place.
-pub(crate) fn u16_at(values: &[Value], place: usize) -> u16
-    requires { slice_get (map field_of values.now) place ≡ Some Field.U16 }
-    ensures { result ≡ number_at place values.now }
-{
-    match values.get(place) {
-        Some(Value::U16(value)) => *value,
-        _ => unreachable!(),
-    }
-}
-
 /// The number of 32 bits at this place.
 pub(crate) fn u32_at(values: &[Value], place: usize) -> u32
     requires { slice_get (map field_of values.now) place ≡ Some Field.U32 }
@@ -142,28 +194,6 @@ pub(crate) fn address_at(values: &[Value], place: usize) -> Address
 {
     match values.get(place) {
         Some(Value::Address(value)) => *value,
-        _ => unreachable!(),
-    }
-}
-
-/// The codec at this place.
-pub(crate) fn codec_at(values: &[Value], place: usize) -> Codec
-    requires { slice_get (map field_of values.now) place ≡ Some Field.Codec }
-    ensures { result ≡ codec_at place values.now }
-{
-    match values.get(place) {
-        Some(Value::Codec(value)) => *value,
-        _ => unreachable!(),
-    }
-}
-
-/// The kind of source at this place.
-pub(crate) fn media_at(values: &[Value], place: usize) -> Media
-    requires { slice_get (map field_of values.now) place ≡ Some Field.Media }
-    ensures { result ≡ media_at place values.now }
-{
-    match values.get(place) {
-        Some(Value::Media(value)) => *value,
         _ => unreachable!(),
     }
 }

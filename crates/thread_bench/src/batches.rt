@@ -10,7 +10,7 @@ use media_workers::{Bridge, Pace, PublisherName};
 use std::alloc::Global;
 use std::sync::{Arc, Wait};
 
-/// The steps of a batch. The ring of egresses has room for all that a lane sends for them.
+/// The steps of a batch. The ring of egresses holds all that a lane sends for them.
 pub const BATCH: u64 = 32;
 
 /// The most egresses that are taken for a batch.

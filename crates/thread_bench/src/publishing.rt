@@ -28,7 +28,7 @@ pub enum Calling {
     Mutes,
 }
 
-/// How many calls are made at most: more than while a reader enters, and fewer than a log has room for.
+/// How many calls are made at most: more than while a reader enters, and fewer than a log holds.
 const MOST_CALLS: u64 = 1_000_000;
 
 /// So many entries into a desk that these commands make.

@@ -28,16 +28,16 @@ use Rattle.topology.proofs.Parted.{filter-same, filter-and}
 -- ---- who sends
 
 -- the member who sends a source from an address, which is not muted
-pub record Heard (d : Desk) (source : ℕ) (address : Address) (sender : MemberRow) : Type 0 where
+pub record IsHeardFrom (d : Desk) (source : ℕ) (address : Address) (sender : MemberRow) : Type 0 where
   pub quiet : is_muted d source ≡ false
   pub sends : sender_of d source ≡ Some sender.member
   pub there : member_at d sender.member ≡ Some sender
   pub comes : comes_from d source address ≡ true
 
-pub who_is_heard : (d : Desk) (source : ℕ) (address : Address) (sender : MemberRow) → sender_from d source address ≡ Some sender → Heard d source address sender
+pub who_is_heard : (d : Desk) (source : ℕ) (address : Address) (sender : MemberRow) → sender_from d source address ≡ Some sender → IsHeardFrom d source address sender
 who_is_heard d source address sender h = by (is_muted d source) (sender_of d source) refl refl h
   where
-    at_address : (n : ℕ) → is_muted d source ≡ false → sender_of d source ≡ Some n → (m : MemberRow) → member_at d n ≡ Some m → (b : Bool) → same_address m.address address ≡ b → cond b (Some m) None ≡ Some sender → Heard d source address sender
+    at_address : (n : ℕ) → is_muted d source ≡ false → sender_of d source ≡ Some n → (m : MemberRow) → member_at d n ≡ Some m → (b : Bool) → same_address m.address address ≡ b → cond b (Some m) None ≡ Some sender → IsHeardFrom d source address sender
     at_address n quiet sends m there false e h = absurd (cc)
     at_address n quiet sends m there true e h =
         let is : m ≡ sender = cc in
@@ -49,11 +49,11 @@ who_is_heard d source address sender h = by (is_muted d source) (sender_of d sou
           comes = ap (λ o. has_address address (option_and_then (member_at d) o)) sends ∙ ap (has_address address) there ∙ e;
         }
 
-    found : (n : ℕ) → is_muted d source ≡ false → sender_of d source ≡ Some n → (o : Option MemberRow) → member_at d n ≡ o → option_and_then (if_at address) o ≡ Some sender → Heard d source address sender
+    found : (n : ℕ) → is_muted d source ≡ false → sender_of d source ≡ Some n → (o : Option MemberRow) → member_at d n ≡ o → option_and_then (if_at address) o ≡ Some sender → IsHeardFrom d source address sender
     found n quiet sends None there h = absurd (cc)
     found n quiet sends (Some m) there h = at_address n quiet sends m there (same_address m.address address) refl h
 
-    by : (b : Bool) (o : Option ℕ) → is_muted d source ≡ b → sender_of d source ≡ o → cond b None (option_and_then (if_at address) (option_and_then (member_at d) o)) ≡ Some sender → Heard d source address sender
+    by : (b : Bool) (o : Option ℕ) → is_muted d source ≡ b → sender_of d source ≡ o → cond b None (option_and_then (if_at address) (option_and_then (member_at d) o)) ≡ Some sender → IsHeardFrom d source address sender
     by true o quiet sends h = absurd (cc)
     by false None quiet sends h = absurd (cc)
     by false (Some n) quiet sends h = found n quiet sends (member_at d n) refl h
@@ -61,7 +61,7 @@ who_is_heard d source address sender h = by (is_muted d source) (sender_of d sou
 -- ---- what a slot chose
 
 -- another source isn't chosen, nor is one of the slot's own member, where the slot is in one room with what it would get
-of_wanted : (d : Desk) (source : ℕ) (address : Address) (sender : MemberRow) → Heard d source address sender → (x : SlotRow) (o : Option ℕ) → (o ≡ Some source → are_in_one_room d x source ≡ true)
+of_wanted : (d : Desk) (source : ℕ) (address : Address) (sender : MemberRow) → IsHeardFrom d source address sender → (x : SlotRow) (o : Option ℕ) → (o ≡ Some source → are_in_one_room d x source ≡ true)
     → is_this source (option_and_then (unless_barred d x) o) ≡ (is_this source o && not (nat_eq x.member sender.member))
 of_wanted d source address sender h x None near = refl
 of_wanted d source address sender h x (Some n) near = by (nat_eq n source) refl
@@ -127,7 +127,7 @@ by_subs d source sender (y ∷ ys) =
     by false (Some x) = refl
 
 -- a slot takes the source by its subscription where it has one and chose the source
-one_slot : (d : Desk) (source : ℕ) (address : Address) (sender : MemberRow) → good d ≡ true → Heard d source address sender → (x : SlotRow) → slot_at d x.out_ssrc ≡ Some x
+one_slot : (d : Desk) (source : ℕ) (address : Address) (sender : MemberRow) → good d ≡ true → IsHeardFrom d source address sender → (x : SlotRow) → slot_at d x.out_ssrc ≡ Some x
     → option_and_then (λ y. taking source sender y x) (at sub_ssrc x.out_ssrc (subs_of d)) ≡ cond (has_sub d x && chooses d source x) (Some x) None
 one_slot d source address sender g h x found =
     by (at sub_ssrc x.out_ssrc (subs_of d)) refl
@@ -145,14 +145,14 @@ one_slot d source address sender g h x found =
         tests (nat_eq y.source source) (nat_eq x.member sender.member)
         ∙ sym (ap (λ b. cond b (Some x) None) (of_wanted d source address sender h x (Some y.source) (λ its. sub_in_one_room d source x g found (sub_row d x.out_ssrc ∙ ap (option_map (λ (s : SubRow). s.source)) is ∙ its))))
 
-by_slots : (d : Desk) (source : ℕ) (address : Address) (sender : MemberRow) → good d ≡ true → Heard d source address sender → (xs : List SlotRow) → AllByRecursion (Found slot_ssrc (slots_of d)) xs
+by_slots : (d : Desk) (source : ℕ) (address : Address) (sender : MemberRow) → good d ≡ true → IsHeardFrom d source address sender → (xs : List SlotRow) → AllByRecursion (Found slot_ssrc (slots_of d)) xs
     → joined sub_ssrc slot_ssrc (λ x y. taking source sender y x) (subs_of d) xs ≡ filter_map (λ x. cond (has_sub d x && chooses d source x) (Some x) None) xs
 by_slots d source address sender g h [] each = refl
 by_slots d source address sender g h (x ∷ xs) each =
     ap (λ o. cons_option o (joined sub_ssrc slot_ssrc (λ x y. taking source sender y x) (subs_of d) xs)) (one_slot d source address sender g h x (slot_row d x.out_ssrc ∙ each.0))
     ∙ ap (cons_option (cond (has_sub d x && chooses d source x) (Some x) None)) (by_slots d source address sender g h xs each.1)
 
-pub subscribers : (d : Desk) (source : ℕ) (address : Address) (sender : MemberRow) → good d ≡ true → Heard d source address sender
+pub subscribers : (d : Desk) (source : ℕ) (address : Address) (sender : MemberRow) → good d ≡ true → IsHeardFrom d source address sender
     → filter_map (subscriber d sender) (subs_naming d source) ≡ filter (has_sub d) (filter (chooses d source) (slots_of d))
 subscribers d source address sender g h =
     of_passing (λ y. nat_eq y.source source) (subscriber d sender) (subs_of d)
@@ -171,7 +171,7 @@ is_viewer d sender s =
     && (is_this sender.room (room_of_member d s.member) && is_none (subscribed d s.out_ssrc))
 
 -- a slot is shown the source where it has no subscription and chose the source
-one_viewer : (d : Desk) (source : ℕ) (address : Address) (sender : MemberRow) → good d ≡ true → Heard d source address sender → (x : SlotRow)
+one_viewer : (d : Desk) (source : ℕ) (address : Address) (sender : MemberRow) → good d ≡ true → IsHeardFrom d source address sender → (x : SlotRow)
     → (is_this source (shown d sender.room) && is_viewer d sender x) ≡ (not (has_sub d x) && chooses d source x)
 one_viewer d source address sender g h x =
     by (subscribed d x.out_ssrc)
@@ -233,7 +233,7 @@ one_viewer d source address sender g h x =
         ∙ at_index (nat_eq x.index 0) ∙ sym (of_wanted d source address sender h x (shown_on d x) (shown_in_one_room d source x g))
 
 -- the slots that are shown the source
-pub shown_slots : (d : Desk) (source : ℕ) (address : Address) (sender : MemberRow) → good d ≡ true → Heard d source address sender
+pub shown_slots : (d : Desk) (source : ℕ) (address : Address) (sender : MemberRow) → good d ≡ true → IsHeardFrom d source address sender
     → filter (λ x. is_this source (shown d sender.room) && is_viewer d sender x) (slots_of d) ≡ filter (λ s. not (has_sub d s)) (filter (chooses d source) (slots_of d))
 shown_slots d source address sender g h =
     filter-same (λ x. is_this source (shown d sender.room) && is_viewer d sender x) (λ x. not (has_sub d x) && chooses d source x) (one_viewer d source address sender g h) (slots_of d)

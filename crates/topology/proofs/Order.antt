@@ -21,7 +21,7 @@ use Rattle.topology.proofs.KindRows.{slot_ssrc}
 use Rattle.topology.proofs.GoodRows.{slots_rise, index_few}
 use Rattle.topology.proofs.Seats.{sorted_by_index}
 use Rattle.topology.proofs.Parted.{at_place-append, by_place-same, parted_in_order}
-use Rattle.topology.proofs.FromItsSide.{Heard, who_is_heard, has_sub, subscribers, shown_slots}
+use Rattle.topology.proofs.FromItsSide.{IsHeardFrom, who_is_heard, has_sub, subscribers, shown_slots}
 use Rattle.topology.proofs.Viewers.{at_shown, viewers_few}
 
 -- the slots that chose a source, in two parts
@@ -29,7 +29,7 @@ abbrev parted : Desk → ℕ → List SlotRow
 parted d source = filter (has_sub d) (filter (chooses d source) (slots_of d)) ++ filter (λ s. not (has_sub d s)) (filter (chooses d source) (slots_of d))
 
 -- those that take the source are the same, place by place
-taken_at : (d : Desk) (source : ℕ) (address : Address) (sender : MemberRow) (ms : List MemberRow) → good d ≡ true → Heard d source address sender → AreShown d source sender.room ms → (k index : ℕ) → at_place k index (takers d source sender ms) ≡ at_place k index (parted d source)
+taken_at : (d : Desk) (source : ℕ) (address : Address) (sender : MemberRow) (ms : List MemberRow) → good d ≡ true → IsHeardFrom d source address sender → AreShown d source sender.room ms → (k index : ℕ) → at_place k index (takers d source sender ms) ≡ at_place k index (parted d source)
 taken_at d source address sender ms g h are k index =
     let subs = filter_map (subscriber d sender) (subs_naming d source) in
     let chosen = filter (chooses d source) (slots_of d) in
@@ -37,7 +37,7 @@ taken_at d source address sender ms g h are k index =
     ∙ (λ i. at_place k index (subscribers d source address sender g h i) ++ (at_shown d source sender ms k index g are ∙ ap (at_place k index) (shown_slots d source address sender g h)) i)
     ∙ sym (at_place-append k index (filter (has_sub d) chosen) (filter (λ s. not (has_sub d s)) chosen))
 
-takers_in_order : (d : Desk) (source : ℕ) (address : Address) (sender : MemberRow) (ms : List MemberRow) → good d ≡ true → Heard d source address sender → AreShown d source sender.room ms → by_place d.members (by_index (takers d source sender ms)) ≡ receivers d source address
+takers_in_order : (d : Desk) (source : ℕ) (address : Address) (sender : MemberRow) (ms : List MemberRow) → good d ≡ true → IsHeardFrom d source address sender → AreShown d source sender.room ms → by_place d.members (by_index (takers d source sender ms)) ≡ receivers d source address
 unfolding receivers
 takers_in_order d source address sender ms g h are =
     by_place-same d.members (takers d source sender ms) (parted d source) (taken_at d source address sender ms g h are)
@@ -54,7 +54,7 @@ pub slots_to_few : (d : Desk) (member : ℕ) → good d ≡ true → All (λ (s 
 slots_to_few d member g =
     All-filter (λ s. nat_eq s.member member) (λ (s : SlotRow). s.index < 16) (slots_of d) (few d g (slots_of d) (all_found slot_ssrc (slots_of d) (slots_rise d g)))
 
-takers_few : (d : Desk) (source : ℕ) (address : Address) (sender : MemberRow) (ms : List MemberRow) → good d ≡ true → Heard d source address sender → All (λ (s : SlotRow). s.index < 16) (takers d source sender ms)
+takers_few : (d : Desk) (source : ℕ) (address : Address) (sender : MemberRow) (ms : List MemberRow) → good d ≡ true → IsHeardFrom d source address sender → All (λ (s : SlotRow). s.index < 16) (takers d source sender ms)
 takers_few d source address sender ms g h =
     let chosen = filter (chooses d source) (slots_of d) in
     let all = All-filter (chooses d source) (λ (s : SlotRow). s.index < 16) (slots_of d) (few d g (slots_of d) (all_found slot_ssrc (slots_of d) (slots_rise d g))) in

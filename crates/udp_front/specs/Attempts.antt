@@ -12,7 +12,7 @@ pub record Attempt : Type 0 where
   pub octets : List ℕ
   pub sent : Bool
 
--- what goes out of an egress, to whom, and which octets: a note goes nowhere
+-- the datagram of an egress, its address and its octets; a note has none
 abbrev pub datagrams_of : {A : Type 0} → Egress A → List (Address × List ℕ)
 datagrams_of (Media version item to ssrc number bytes resent_by) = (to, bytes) ∷ []
 datagrams_of (Control version item to ssrc bytes) = (to, bytes.items) ∷ []
@@ -30,13 +30,13 @@ failures attempts = length (filter (λ attempt. not attempt.sent) attempts)
 abbrev pub with_tried : List Attempt → Option (List Attempt) → Option (List Attempt)
 with_tried tried attempts = option_map (λ before. before ++ tried) attempts
 
--- the attempts grew by what goes out of each egress, in order, and so many of them failed
+-- the attempts grew by the datagram of each egress, in order, and this many of them failed
 abbrev pub GrewBy : {A : Type 0} → List (Egress A) → Option (List Attempt) → Option (List Attempt) → ℕ → Type 0
 GrewBy egresses old new failed =
     (tried : List Attempt) × (new ≡ with_tried tried old) × (map tried_of tried ≡ flat_map datagrams_of egresses)
     × (failed ≡ failures tried)
 
--- the attempts grew by this one datagram, and so many failed
+-- the attempts grew by this one datagram, and this many failed
 abbrev pub Tried : Address → List ℕ → Option (List Attempt) → Option (List Attempt) → ℕ → Type 0
 Tried to octets old new failed =
     (sent : Bool) × (new ≡ with_tried (record { to = to; octets = octets; sent = sent } ∷ []) old)

@@ -16,7 +16,7 @@ front_status_of (Ok u) = 0
 front_status_of (Err OutOfMemory) = 2
 front_status_of (Err Io) = 3
 
--- how a bridge ends when a file, a socket or a clock tells an error: memory may have run out there too
+-- how a bridge ends when a file, a socket or a clock reports an error, which may be out of memory
 abbrev pub ended_by_io : ErrorKind → FrontFault
 ended_by_io kinds.OutOfMemory = OutOfMemory
 ended_by_io kind = Io

@@ -1,4 +1,4 @@
--- What is kept of a stream between two pieces, and what the next piece is answered.
+-- What is kept of a stream between two pieces, and the answer to the next piece.
 use Rattle.std.specs.Prelude.{◌≡◌, ℕ, Bool, false, List, ◌++◌, map}
 use Rattle.std.specs.declared.vec.Vec.{Vec}
 use Rattle.udp_front.specs.Cut.{Cut, cut, too_long_in, lines_of, is_too_long}

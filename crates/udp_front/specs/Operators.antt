@@ -1,4 +1,4 @@
--- What operators' lines ask for, and what they are answered (own).
+-- What operators' lines ask for, and how they are answered (own).
 use Rattle.std.specs.Prelude.{◌≡◌, ℕ, Bool, not, if◌then◌else◌, List, [], ◌∷◌, ◌++◌}
 use Rattle.std.specs.Prelude.{take, codes, decimal, Option, Some, None, Result, Ok, Err}
 use Rattle.std.specs.List.{list_all}
@@ -10,20 +10,20 @@ use Rattle.script_text.specs.Words.{cut_of}
 use Rattle.script_text.specs.Calls.{spoken_call, spoken_words}
 use Rattle.script_text.specs.Requests.{is_printable}
 use Rattle.script_text.specs.Text.{fault_text}
-use Rattle.udp_front.specs.declared.asking.Ask.{Ask}
-use Rattle.udp_front.specs.declared.asking.Ask.TheVariants as variants
+use Rattle.udp_front.specs.declared.asking.LineAsk.{LineAsk}
+use Rattle.udp_front.specs.declared.asking.LineAsk.TheVariants as variants
 use Rattle.udp_front.specs.declared.asking.Verb.{Verb}
 use Rattle.udp_front.specs.declared.asking.Verb.TheVariants.{Show, Quit, Stop}
 use Rattle.udp_front.specs.declared.answering.Next.{Next}
 use Rattle.udp_front.specs.declared.answering.Next.TheVariants as next
 
--- what a line asks for: a call of the desk, or what a word that stands alone asks for
+-- what a line asks for: a call of the desk, or what a line of one word asks for
 pub data AskOf : Type 0 where
   spoken : CallOf → AskOf
   alone : Verb → AskOf
 
 -- what was read, without where its commands lie
-abbrev pub asks : {A : Type 0} → Ask A → AskOf
+abbrev pub asks : {A : Type 0} → LineAsk A → AskOf
 asks (variants.Call call) = spoken (asked_by call)
 asks (variants.Verb verb) = alone verb
 
@@ -32,7 +32,7 @@ abbrev pub asked_call : Result CallOf (ℕ × Fault) → Result AskOf (ℕ × Fa
 asked_call (Ok call) = Ok (spoken call)
 asked_call (Err fault) = Err fault
 
--- the word that stands alone, if this is one
+-- the line of one word that this is, if it is one
 abbrev pub alone_of : List ℕ → Option Verb
 alone_of word =
     if bytes_eq word (codes "show") then Some Show
@@ -40,7 +40,7 @@ alone_of word =
     else if bytes_eq word (codes "stop") then Some Stop
     else None
 
--- such a word asks for just that if no other word is there; any other line is a call
+-- such a word asks for this if it is the only one; any other line is a call
 abbrev pub alone_or : Option Verb → Result AskOf (ℕ × Fault) → Result AskOf (ℕ × Fault)
 alone_or (Some verb) otherwise = Ok (alone verb)
 alone_or None otherwise = otherwise
@@ -73,7 +73,7 @@ begins_group line = take 1 (spoken_words line) ≡ codes "group" ∷ []
 abbrev pub fault_line : ℕ → Fault → List ℕ
 fault_line word fault = codes "fault " ++ decimal word ++ codes " " ++ fault_text fault ++ codes "\n"
 
--- what a connection is told when no seat is free
+-- the answer to a connection when no seat is free
 abbrev pub busy_line : List ℕ
 busy_line = codes "busy\n"
 
@@ -94,7 +94,7 @@ AppendsReply replies old new call before after =
 abbrev pub AppendsShown : {D : Type 0} → Showing D → D → List ℕ → List ℕ → Type 0
 AppendsShown shows desk before after = (text : List ℕ) × (after ≡ before ++ text) × shows desk text
 
--- what was read of a line is answered so, and this becomes of the connection
+-- what was read of a line is answered so, and this happens to the connection
 abbrev pub AnswersAsk :
     {D : Type 0} → Replying D → Showing D → D → Result AskOf (ℕ × Fault) → D → List ℕ → Next → Type 0
 AnswersAsk replies shows old (Err fault) new text becomes =

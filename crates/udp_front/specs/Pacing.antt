@@ -7,7 +7,7 @@ use Rattle.udp_front.specs.declared.pacing.ReportTimer.{ReportTimer}
 abbrev pub tick_gap : ℕ
 tick_gap = 20000000
 
--- how many ticks are made up for at most
+-- the most ticks that are made up for
 abbrev pub most_ticks : ℕ
 most_ticks = 50
 

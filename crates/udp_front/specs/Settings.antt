@@ -12,7 +12,7 @@ use Rattle.udp_front.specs.declared.setup.SettingKey.{SettingKey}
 use Rattle.udp_front.specs.declared.setup.SettingKey.TheVariants.{Udp, Tcp, Lanes, Operators, BridgeSsrc, Cname}
 use Rattle.udp_front.specs.SettingValues.{address_in, loopback_in, number_in, cname_in}
 
--- what is wrong with settings; a key that is none of them stands there by its octets
+-- what is wrong with settings; an unknown key is named by its octets
 pub data Trouble : Type 0 where
   bad_toml : Trouble
   missing_key : SettingKey → Trouble
@@ -39,12 +39,12 @@ abbrev pub good_value : {A : Type 0} → SettingKey → Option A → Result A Tr
 good_value key None = Err (bad_value key)
 good_value key (Some x) = Ok x
 
--- what the value at a key is, which has to be there
+-- the value at a required key
 abbrev pub needed : {A : Type 0} → SettingKey → (Data → Option A) → Option Data → Result A Trouble
 needed key read None = Err (missing_key key)
 needed key read (Some value) = good_value key (read value)
 
--- what the value at a key is, with a default where it is left out
+-- the value at a key, with a default if it is left out
 abbrev pub given : {A : Type 0} → SettingKey → (Data → Option A) → A → Option Data → Result A Trouble
 given key read default None = Ok default
 given key read default (Some value) = good_value key (read value)
@@ -58,11 +58,11 @@ keys_in (member key value rest) = key ∷ keys_in rest
 unfoldable pub is_known : List ℕ → Bool
 is_known text = list_any (λ key. bytes_eq text (key_text key)) (Udp ∷ Tcp ∷ Lanes ∷ Operators ∷ BridgeSsrc ∷ Cname ∷ [])
 
--- of two texts the one that comes first, octet by octet
+-- the lesser of two texts, octet by octet
 abbrev pub lesser : List ℕ → List ℕ → List ℕ
 lesser a b = if is_lt (slice_cmp nat_cmp a b) then a else b
 
--- the text that comes first of all
+-- the least text of all
 abbrev pub least : List (List ℕ) → Option (List ℕ)
 least [] = None
 least (text ∷ texts) = Some (fold lesser text texts)

@@ -1,11 +1,11 @@
--- How a fault of the settings is told (own).
+-- How a fault of the settings is reported (own).
 use Rattle.std.specs.Prelude.{◌≡◌, ℕ, List, ◌++◌, codes, string_bytes, Result, Ok, Err}
 use Rattle.udp_front.specs.declared.fault.SettingsFault.{SettingsFault}
 use Rattle.udp_front.specs.declared.fault.SettingsFault.TheVariants.{BadToml, MissingKey, BadValue}
 use Rattle.udp_front.specs.declared.fault.SettingsFault.TheVariants.{UnknownKey, OutOfMemory}
 use Rattle.udp_front.specs.Settings.{Trouble, bad_toml, missing_key, bad_value, unknown_key, key_text}
 
--- a fault tells the trouble that was read, unless memory ran out
+-- a fault reports the trouble that was read, unless memory ran out
 abbrev pub TellsTrouble : {A : Type 0} → SettingsFault → Result A Trouble → Type 0
 TellsTrouble BadToml read = read ≡ Err bad_toml
 TellsTrouble (MissingKey key) read = read ≡ Err (missing_key key)

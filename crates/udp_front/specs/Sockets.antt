@@ -1,4 +1,4 @@
--- Addresses as the system has them, its times, and how a bridge tells where it listens (own).
+-- Addresses and times as the system has them, and how a bridge prints where it listens (own).
 use Rattle.std.specs.Prelude.{ℕ, ◌^◌, ◌-◌, min, List, ◌++◌, codes, Option, Some, None}
 use Rattle.std.specs.Duration.{as_nanos}
 use Rattle.std.specs.declared.time.Duration.{Duration}

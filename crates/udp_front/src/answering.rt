@@ -1,15 +1,15 @@
-//! What an operator's line is answered.
+//! Answers operators' lines.
 
 ghost use Rattle.std.specs.Prelude.{◌≡◌, ◌++◌, Ok, IfOk, OnOk, OnErr};
 ghost use Rattle.script_text.specs.declared.fault.Fault.TheVariants.{LineTooLong};
 ghost use Rattle.udp_front.specs.Operators.{fault_line, busy_line, alone, AppendsAnswer, AnswersLine};
 
-use crate::asking::{Ask, Verb, parse_line};
+use crate::asking::{LineAsk, Verb, parse_line};
 use crate::line_desk::LineDesk;
 use script_text::{Fault, ParseFault};
 use std::alloc::{AllocError, Allocator, Global};
 
-/// What becomes of a connection after a line.
+/// What happens to a connection after a line.
 #[derive(Clone, Copy, Debug, PartialEq, Eq)]
 pub enum Next {
     /// It stays.
@@ -20,7 +20,7 @@ pub enum Next {
     Stop,
 }
 
-/// What a connection is told when no seat is free.
+/// The answer to a connection when no seat is free.
 pub fn busy() -> &'static [u8]
     ensures { result.now ≡ busy_line }
 {
@@ -49,7 +49,7 @@ pub fn print_too_long<A: Allocator + Copy>(alloc: A, out: &mut Vec<u8, A>) -> Re
     print_fault(alloc, 0, Fault::LineTooLong, out)
 }
 
-/// Does what a word that stands alone asks for, and appends what the operator is told. An `Err` appends nothing.
+/// Carries out a line of one word, and appends the answer. An `Err` appends nothing.
 fn answer_verb<D: LineDesk>(
     alloc: Global,
     desk: &D,
@@ -70,9 +70,9 @@ fn answer_verb<D: LineDesk>(
     }
 }
 
-/// Answers a line of an operator, without its LF: does what it asks for, and appends what the operator is told.
+/// Answers an operator's line, without its LF: carries it out, and appends the answer.
 ///
-/// When memory runs out nothing is appended, but a call may be carried out.
+/// On out of memory nothing is appended, but a call may have been carried out.
 pub fn answer<D: LineDesk>(
     alloc: Global,
     desk: &mut D,
@@ -84,11 +84,11 @@ pub fn answer<D: LineDesk>(
     ensures err { OnErr result (out.new.items ≡ out.old.items) }
 {
     match parse_line(alloc, line) {
-        Ok(Ask::Call(call)) => {
+        Ok(LineAsk::Call(call)) => {
             desk.reply(alloc, call, out)?;
             Ok(Next::Stay)
         }
-        Ok(Ask::Verb(verb)) => answer_verb(alloc, desk, verb, out),
+        Ok(LineAsk::Verb(verb)) => answer_verb(alloc, desk, verb, out),
         Err(ParseFault::Line { word, fault }) => {
             print_fault(alloc, word, fault, out)?;
             Ok(Next::Stay)

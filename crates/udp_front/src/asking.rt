@@ -20,12 +20,12 @@ use std::alloc::{Allocator, Global};
 
 /// What a line of an operator asks for.
 #[derive(Drop)]
-pub(crate) enum Ask<A: Allocator + Copy = Global> {
+pub(crate) enum LineAsk<A: Allocator + Copy = Global> {
     Call(Call<A>),
     Verb(Verb),
 }
 
-/// A word that stands alone on its line.
+/// A line of one word.
 #[derive(Clone, Copy)]
 pub(crate) enum Verb {
     /// The rows of the desk.
@@ -43,7 +43,7 @@ fn is_printed(line: &[u8]) -> bool
     line.iter().all(|octet| 32 <= *octet && *octet <= 126)
 }
 
-/// The word that stands alone, if this is one.
+/// The line of one word that this is, if it is one.
 fn alone(word: &[u8]) -> Option<Verb>
     ensures { result ≡ alone_of word.now }
 {
@@ -59,24 +59,24 @@ fn alone(word: &[u8]) -> Option<Verb>
 }
 
 /// The call that a line is. Only a group takes memory.
-fn call<A: Allocator + Copy>(alloc: A, line: &[u8]) -> Result<Ask<A>, ParseFault>
+fn call<A: Allocator + Copy>(alloc: A, line: &[u8]) -> Result<LineAsk<A>, ParseFault>
     ensures call { Gives asks result (asked_call (spoken_call line.now)) }
     ensures memory { result ≡ Err ParseFault.OutOfMemory → begins_group line.now }
 {
     match parse_desk(alloc, line) {
-        Ok(call) => Ok(Ask::Call(call)),
+        Ok(call) => Ok(LineAsk::Call(call)),
         Err(fault) => Err(fault),
     }
 }
 
 /// What the words of a line ask for. Only a group takes memory.
-fn words<A: Allocator + Copy>(alloc: A, line: &[u8]) -> Result<Ask<A>, ParseFault>
+fn words<A: Allocator + Copy>(alloc: A, line: &[u8]) -> Result<LineAsk<A>, ParseFault>
     ensures asked { Gives asks result (asked_in line.now (cut_of 32 line.now) (asked_call (spoken_call line.now))) }
     ensures memory { result ≡ Err ParseFault.OutOfMemory → begins_group line.now }
 {
     match cut(line, b' ') {
         None => match alone(line) {
-            Some(verb) => Ok(Ask::Verb(verb)),
+            Some(verb) => Ok(LineAsk::Verb(verb)),
             None => call(alloc, line),
         },
         Some((word, _)) => match alone(word) {
@@ -91,7 +91,10 @@ fn words<A: Allocator + Copy>(alloc: A, line: &[u8]) -> Result<Ask<A>, ParseFaul
 
 /// What a line asks for, or its first fault. Only a group takes memory.
 #[tactic(auto, unfolding(crate::specs::Operators::asked_of))]
-pub(crate) fn parse_line<A: Allocator + Copy>(alloc: A, line: &[u8]) -> Result<Ask<A>, ParseFault>
+pub(crate) fn parse_line<A: Allocator + Copy>(
+    alloc: A,
+    line: &[u8],
+) -> Result<LineAsk<A>, ParseFault>
     ensures asked { Gives asks result (asked_of line.now) }
     ensures memory { result ≡ Err ParseFault.OutOfMemory → begins_group line.now }
 {

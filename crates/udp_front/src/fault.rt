@@ -13,13 +13,13 @@ use std::fmt;
 pub enum SettingsFault {
     /// 1: the text is no TOML.
     BadToml,
-    /// 2: a key that has to be there is not.
+    /// 2: a required key is missing.
     MissingKey { key: SettingKey },
     /// 3: a value of another type, or out of its range.
     BadValue { key: SettingKey },
-    /// 4: a key that is no setting's, the least by its octets.
+    /// 4: an unknown key, the least of them by its octets.
     UnknownKey { key: String },
-    /// 5: nothing was judged, or a text could not be copied.
+    /// 5: memory ran out, before anything was checked or as a text was copied.
     OutOfMemory,
 }
 

@@ -17,7 +17,7 @@ const LINE_LIMIT: usize = 4_096;
 pub struct Fed<A: Allocator + Copy = Global> {
     /// The lines that it ended, without their LF and one CR before it.
     pub lines: Vec<Vec<u8, A>, A>,
-    /// More octets than a line may have stand in a line's place, in this piece or an earlier one.
+    /// Whether a line was too long, in this piece or an earlier one.
     pub too_long: bool,
 }
 
@@ -62,7 +62,7 @@ fn line_of<A: Allocator + Copy>(
 }
 
 impl<A: Allocator + Copy> Lines<A> {
-    /// A stream of which nothing has come.
+    /// A stream from which nothing has come.
     pub fn new(alloc: A) -> Self
         ensures { StandsFor result [] }
     {
@@ -99,8 +99,8 @@ impl<A: Allocator + Copy> Lines<A> {
         Ok(())
     }
 
-    /// Takes the next octet of a line that begins with `carried`, and tells whether it ended that
-    /// line, which is then added.
+    /// Takes the next octet of a line that begins with `carried`, and returns whether it ended that line. If so, the
+    /// line is added.
     fn take(
         &mut self,
         alloc: A,
@@ -138,7 +138,7 @@ impl<A: Allocator + Copy> Lines<A> {
             → StandsFor self.new (before ++ octets.now)) }
         ensures err { OnErr result (self.new ≡ self.old) }
     {
-        // What this piece brings stands apart, so that want of memory changes nothing.
+        // What this piece brings is kept apart, so that out of memory changes nothing.
         let mut next = self.empty(alloc);
         let mut lines = Vec::new(alloc);
         let mut ended = false;

@@ -2,15 +2,25 @@
 //! on a wire, what waits for an operator, and when ticks and reports are due.
 //!
 //! Begin with [`settings`]. [`Lines::feed`] cuts what an operator sends into lines, and [`answer`] asks a [`LineDesk`].
-//! [`send_all`] sends egresses over a [`Wire`], such as a [`UdpWire`]. Contracts say nothing of sockets and clocks.
+//! [`send_all`] sends egresses over a [`Wire`], such as a [`UdpWire`].
+//!
+//! Contracts see a stream as its lines, a wire as the datagrams that were tried, and what waits for an operator as
+//! octets. They say nothing of sockets and clocks.
 //!
 //! ```rust
-//! let settings = settings(alloc, text)?;
-//! let fed = lines.feed(alloc, &octets)?;
+//! let settings = settings(alloc, text)?; // text: the settings' file
+//! let mut lines = Lines::new(alloc);
+//! let mut told = Vec::new(alloc); // what the operator is told
+//! let fed = lines.feed(alloc, &octets)?; // octets: what has come from the operator
 //! for line in &fed.lines {
-//!     let next = answer(alloc, &mut desk, line, &mut told)?; // Next::Stop: the operator stops the bridge
+//!     let next = answer(alloc, &mut desk, line, &mut told)?; // desk: a `LineDesk`
+//!     if next == Next::Stop {
+//!         break; // the operator stops the bridge
+//!     }
 //! }
 //! ```
+//!
+//! `hears_show` of worked_front feeds a stream so, with its lines proved.
 #![tactic(auto)]
 
 mod answering;

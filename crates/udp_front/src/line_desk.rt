@@ -1,4 +1,4 @@
-//! A desk as an operator's lines meet it.
+//! The desk that an operator's lines ask.
 
 ghost use Rattle.std.specs.Prelude.{◌≡◌, ◌++◌, ℕ, List, OnOk, OnErr};
 ghost use Rattle.desk_edit.specs.Asked.{CallOf, asked_by};
@@ -9,10 +9,10 @@ use std::alloc::{AllocError, Global};
 
 /// A desk that answers the lines of one operator.
 pub trait LineDesk {
-    /// What a call may be answered: the desk before it and after it, the call, and the line of the reply.
+    /// Whether a call may have this answer: the desk before it and after it, the call, and the line of the reply.
     ghost replies: { Self → Self → CallOf → List ℕ → Type 0 };
 
-    /// What may be shown of the desk's rows.
+    /// Whether these octets may show the desk's rows.
     ghost shows: { Self → List ℕ → Type 0 };
 
     /// Carries out a call, and appends the line of its reply. An `Err` appends nothing, but the call may be carried

@@ -30,7 +30,7 @@ fn nanos(time: Duration) -> u64
 }
 
 impl Moments {
-    /// A clock that begins now. Before 1970 it begins at 0. An `Err` is the system's, where it tells no time.
+    /// A clock that begins now. Before 1970 it begins at 0. An `Err` is the system's: its clock failed.
     pub fn begin(rt: &impl Clock) -> io::Result<Self> {
         let since_1970 = match SystemTime::now(rt)?.duration_since(UNIX_EPOCH) {
             Ok(time) => time,
@@ -49,8 +49,7 @@ impl Moments {
         self.start
     }
 
-    /// The moment at hand, in nanoseconds since 1970, at most 2^64 - 1. An `Err` is the system's, where it tells no
-    /// time.
+    /// The present moment, in nanoseconds since 1970, at most 2^64 - 1. An `Err` is the system's: its clock failed.
     pub fn now(&self, rt: &impl Clock) -> io::Result<u64>
         ensures { IfOk result (λ now. self.now ≤ now) }
     {

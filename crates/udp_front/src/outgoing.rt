@@ -6,7 +6,7 @@ ghost use Rattle.udp_front.specs.Outbound.{piece, is_too_much};
 use std::alloc::{AllocError, Allocator, Global};
 use std::marker::Model;
 
-/// How many octets an operator may leave unread. What a `show` of a full desk takes is under 2,700,000.
+/// How many octets an operator may leave unread. A `show` of a full desk takes under 2,700,000.
 const UNREAD_LIMIT: usize = 4_194_304;
 
 /// How many octets are written at a time at most.
@@ -73,7 +73,7 @@ impl<A: Allocator + Copy> Outgoing<A> {
         self.waiting().len() > UNREAD_LIMIT
     }
 
-    /// Lets more wait, behind the rest. An `Err` changes nothing.
+    /// Appends octets to those that wait. On out of memory, the only error, nothing changes.
     pub fn append(&mut self, text: &[u8]) -> Result<(), AllocError>
         ensures ok { OnOk result (self.new ≡ self.old ++ text.now) }
         ensures err { OnErr result (self.new ≡ self.old) }
@@ -81,14 +81,14 @@ impl<A: Allocator + Copy> Outgoing<A> {
         self.octets.extend_from_slice(text)
     }
 
-    /// So many of the octets that waited are written, the first ones.
+    /// Notes that the first `count` octets were written.
     pub fn took(&mut self, count: usize)
         ensures { self.new ≡ drop count self.old }
     {
         let waiting = self.waiting().len();
         let left = waiting.saturating_sub(count);
         let written = self.octets.len() - left;
-        // So no more octets are moved than are written.
+        // This moves no more octets than were written.
         if written > left {
             self.octets.copy_within(written.., 0);
             self.octets.truncate(left);

@@ -5,7 +5,7 @@ ghost use Rattle.udp_front.specs.Pacing.{tick_due, after_tick, report_due, after
 
 /// How many nanoseconds lie between two ticks.
 const TICK_GAP: u64 = 20_000_000;
-/// How many ticks are made up for at most.
+/// The most ticks that are made up for.
 const MOST_TICKS: u64 = 50;
 /// How many nanoseconds lie between two reports.
 const REPORT_GAP: u64 = 5_000_000_000;
@@ -20,8 +20,8 @@ pub struct Ticks {
 }
 
 impl Ticks {
-    /// The moment of the next tick that is due now, in nanoseconds since 1970: the start plus a whole multiple of
-    /// 20 ms, the first that has had none. Of more than 50 such the last 50 are given, one at each call.
+    /// The moment of the next tick that is due now, in nanoseconds since 1970: the first whole multiple of 20 ms after
+    /// the start that has had no tick. If more than 50 are due, the last 50 are given, one at each call.
     pub fn due(&mut self, now: u64) -> Option<u64>
         ensures moment { result ≡ tick_due self.old now }
         ensures had { self.new ≡ after_tick self.old now }
@@ -47,7 +47,7 @@ pub struct ReportTimer {
 }
 
 impl ReportTimer {
-    /// Whether a report is due now, which then counts as given.
+    /// Whether a report is due now. If so, it counts as given.
     pub fn due(&mut self, now: u64) -> bool
         ensures due { result ≡ report_due self.old now }
         ensures last { self.new ≡ after_report self.old now }

@@ -21,7 +21,7 @@ const MOST_LANES: u32 = 16;
 /// How many operators there are seats for at most.
 const MOST_OPERATORS: u32 = 16;
 
-/// That no key is left that is not known.
+/// Checks that each key is known.
 fn none_unknown(alloc: Global, table: &Table) -> Result<(), SettingsFault>
     ensures { Gives (λ u. u) result (none_unknown (unknown_in (table_view table.now))) }
 {
@@ -59,7 +59,7 @@ fn from_table(alloc: Global, table: &Table) -> Result<FrontSettings, SettingsFau
 
 /// The settings that a TOML text gives, by these keys:
 ///
-/// | Key | Value | Where it is left out |
+/// | Key | Value | If it is left out |
 /// |---|---|---|
 /// | `udp` | a text, an address as `10.0.0.1:5004`: decimal, without leading zeros | a fault |
 /// | `tcp` | such a text, in 127.0.0.0/8 | a fault |
@@ -68,8 +68,8 @@ fn from_table(alloc: Global, table: &Table) -> Result<FrontSettings, SettingsFau
 /// | `bridge_ssrc` | a number from 0 to 2^32 - 1 | 1 |
 /// | `cname` | a text of 1 to 255 octets, each from 32 to 126 | `bridge` |
 ///
-/// They are judged in this order, and any other key is refused behind them. Port 0 is good: the system chooses one.
-/// Where memory runs out before the text is read, nothing is judged.
+/// They are checked in this order, and then any other key is refused. Port 0 is good: the system chooses one. If memory
+/// runs out before the text is read, nothing is checked.
 pub fn settings(alloc: Global, text: &str) -> Result<FrontSettings, SettingsFault>
     ensures answer { Gives (λ s. s) result (read_of (parse_document text.now)) }
     ensures memory { result ≡ Err SettingsFault.OutOfMemory → ¬ IsBlank text.now }

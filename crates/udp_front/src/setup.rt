@@ -22,7 +22,7 @@ pub struct FrontSettings {
     pub bridge: Settings,
 }
 
-/// A key of the settings. They are judged in this order.
+/// A key of the settings, named as in the file. The values are checked in this order.
 #[derive(Clone, Copy, Debug)]
 pub enum SettingKey {
     Udp,

@@ -15,7 +15,7 @@ pub fn socket_address(address: Address) -> SocketAddr
     SocketAddr::new(IpAddr::V4(Ipv4Addr::from_octets(address.ip)), address.port)
 }
 
-/// The address that the system tells, or `None` where it is one of IPv6. A socket of IPv4 has one of IPv4.
+/// The address that the system reports, or `None` for IPv6. An IPv4 socket has an IPv4 address.
 pub fn address_of(told: SocketAddr) -> Option<Address>
     ensures { result ≡ told_address told }
 {
@@ -30,12 +30,12 @@ pub fn address_of(told: SocketAddr) -> Option<Address>
 
 /// A socket as a wire. What it has sent is not known.
 ///
-/// It tells `false` where the system refuses a datagram, or where memory ran out: both count as loss on the wire.
+/// It returns `false` if the system refuses a datagram or memory runs out: both count as loss on the wire.
 #[derive(Drop)]
 pub struct UdpWire<'a> {
     /// The socket that datagrams go out from.
     pub socket: &'a UdpSocket,
-    /// Where a datagram's parts are put together. It takes memory only for a datagram larger than those before.
+    /// Where a datagram's parts are joined. Only a datagram larger than all before takes memory.
     pub whole: &'a mut Vec<u8>,
 }
 

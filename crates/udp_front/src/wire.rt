@@ -1,4 +1,4 @@
-//! What goes out onto a wire.
+//! Sends datagrams over a wire.
 
 ghost use Rattle.std.specs.Prelude.{◌≡◌, ◌++◌, ◌∷◌, [], ◌≤◌, List, map, Option};
 ghost use Rattle.udp_front.specs.Attempts.{Attempt, Tried, with_tried, GrewBy};
@@ -7,12 +7,12 @@ use bridge_core::{Egress, PacketBytes};
 use rtp_codec::Address;
 use std::alloc::Allocator;
 
-/// Where datagrams are sent. Contracts see the list of its attempts, oldest first, where that is known.
+/// Where datagrams are sent. Contracts see the list of its attempts, oldest first, if that is known.
 pub trait Wire {
-    /// What was tried so far, and whether it was sent. Nothing is known of a socket.
+    /// What was tried so far, and whether it was sent. Of a socket that isn't known.
     ghost attempts: { Self → Option (List Attempt) };
 
-    /// Tries once to send a datagram, and tells whether it was sent.
+    /// Tries once to send a datagram, and returns whether it was sent.
     fn send(&mut self, to: Address, octets: &[u8]) -> bool
         ensures { attempts self.new
             ≡ with_tried (record { to = to; octets = octets.now; sent = result } ∷ []) (attempts self.old) };

@@ -1,4 +1,4 @@
--- A list of edits turned in its own room.
+-- A list of edits turned in its own memory.
 use Rattle.std.proofs.Common.{◌≡◌, ℕ, ◌+◌, ◌-◌, ◌<◌, List, [], ◌∷◌, ◌++◌, map, reverse, take, drop, length, refl, sym, ap, ◌∙◌, get_or, arith, append_assoc, length-append, length-drop, drop-cons, add-one}
 use Rattle.std.specs.List.{insert}
 use Rattle.std.proofs.lemmas.List.{take_more, reverse-reverse}

@@ -6,11 +6,11 @@ use Rattle.desk_rows.specs.Desk.{Desk}
 use Rattle.desk_rows.specs.Edit.{EditOf}
 use Rattle.desk_rows.specs.Exchange.{fits, after}
 
--- so many readers, at most, has a publisher
+-- the most readers of a publisher
 abbrev pub reader_limit : ℕ
 reader_limit = 17
 
--- the desk after a list of edits: after all of them in turn, or as it is where one doesn't fit after those before it
+-- the desk after a list of edits: after all of them in turn, or unchanged if one doesn't fit after those before it
 abbrev pub after_list : Desk → List EditOf → Desk
 after_list desk edits = after_all fits after desk edits
 

@@ -28,18 +28,21 @@ impl Model for Edition {
 }
 
 impl Edition {
+    /// An edition of these rows. The notice is of their version.
     pub fn new(rows: Arc<Listed<Rows>>, notice: Notice) -> Edition
         ensures { result ≡ record { notice = notice; desk = arc_value rows } }
     {
         Edition { rows, notice }
     }
 
+    /// The rows.
     pub fn rows(&self) -> &Rows
         ensures { result.now ≡ self.now.desk }
     {
         self.rows.inner()
     }
 
+    /// The notice of the version.
     pub fn notice(&self) -> &Notice
         ensures { result.now ≡ self.now.notice }
     {

@@ -59,7 +59,7 @@ impl Plain<Edits<Edit>, Edits<Edit>, u64> for Add {
     ghost state = { λ edits. None };
 }
 
-pub(crate) type Head = Word<Edits<Edit>, u64, Law>;
+pub(crate) type LogHead = Word<Edits<Edit>, u64, Law>;
 
 /// A book without lists, for one publisher to be started with.
 ///
@@ -83,7 +83,7 @@ impl Model for Opened {
 }
 
 impl Opened {
-    /// Takes no memory.
+    /// A book in which nothing is published. It takes no memory.
     pub fn new() -> Opened {
         let (seen, mut first, _second) = Seen::open(Start::alone(), 0, 0);
         Opened {
@@ -92,7 +92,7 @@ impl Opened {
         }
     }
 
-    pub(crate) fn into_parts(self) -> (Head, Notice)
+    pub(crate) fn into_parts(self) -> (LogHead, Notice)
         ensures { (result.0 ≡ head_of self) × (result.1 ≡ record { publisher = self; lists = [] }) }
     {
         let Opened { head, notice } = self;
@@ -154,8 +154,8 @@ impl Notice {
         }
     }
 
-    /// Of two notices of one publisher the earlier one has the first lists of the later one. It does nothing
-    /// when it runs.
+    /// A law: of two notices of one publisher, the lists of the earlier one are the first lists of the later one. The
+    /// call does nothing when it runs.
     pub fn agrees(&self, earlier: &Notice)
         requires publisher { earlier.now.publisher ≡ self.now.publisher }
         requires earlier { length earlier.now.lists ≤ length self.now.lists }
@@ -165,9 +165,9 @@ impl Notice {
         both.learn(&earlier.seen);
     }
 
-    /// Adds a list to the book, and says whether it did. It doesn't where the notice lacks a list of the book.
-    pub(crate) fn add(&mut self, head: &Head, edits: &Edits<Edit>) -> bool
-        requires room { length self.old.lists < 2 ^ 64 - 1 }
+    /// Adds a list to the book, and returns whether it did. It doesn't if the notice lacks a list of the book.
+    pub(crate) fn add(&mut self, head: &LogHead, edits: &Edits<Edit>) -> bool
+        requires below { length self.old.lists < 2 ^ 64 - 1 }
         requires head { head.now ≡ head_of self.old.publisher }
         ensures { MatchBool result
             (self.new ≡ record self.old { lists = self.old.lists ++ edits.now ∷ [] }) (Unit {0}) }

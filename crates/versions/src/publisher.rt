@@ -6,7 +6,7 @@ ghost use Rattle.desk_rows.specs.Exchange.{fits, after};
 ghost use Rattle.versions.specs.Published.{after_lists};
 ghost use Rattle.versions.specs.inner.BookRule.{head_of};
 
-use crate::notice::{Head, Law, Notice};
+use crate::notice::{Law, LogHead, Notice};
 use crate::showing::Showing;
 use desk_rows::Edit;
 use logbook::Word;
@@ -14,7 +14,7 @@ use std::marker::Model;
 use std::sync::Wait;
 use undo_log::Edits;
 
-/// The one who publishes versions. It isn't `Drop`: end it by `end`.
+/// Publishes versions. It isn't `Drop`: end it by [`end`](Self::end).
 ///
 /// Contracts see the first desk, the lists that were published, and the list that is staged.
 pub struct Publisher {
@@ -84,11 +84,11 @@ impl Publisher {
         self.notice.again()
     }
 
-    /// Publishes the list that is staged, and answers the version. It waits for readers that are in a version that they
-    /// entered before. Neither of the two copies judges the edits again.
+    /// Publishes the list that is staged, and returns the version. It waits for readers that are still in a version
+    /// that they entered before. Neither of the two copies judges the edits again.
     pub fn publish<R: Wait>(&mut self, rt: &R) -> u64
         requires staged { IsSome self.old.staged }
-        requires room { length self.old.lists < 2 ^ 64 - 1 }
+        requires below { length self.old.lists < 2 ^ 64 - 1 }
         ensures published { IfSome self.old.staged (λ edits. self.new.lists ≡ self.old.lists ++ edits ∷ []) }
         ensures same { (self.new.publisher ≡ self.old.publisher) × (self.new.start ≡ self.old.start) }
         ensures none { self.new.staged ≡ None }
@@ -119,8 +119,8 @@ impl Publisher {
 }
 
 // Adds a list to the book. Nobody else adds to it, so the loop never runs.
-fn grow<R: Wait>(rt: &R, head: &Head, notice: &mut Notice, edits: &Edits<Edit>)
-    requires room { length notice.old.lists < 2 ^ 64 - 1 }
+fn grow<R: Wait>(rt: &R, head: &LogHead, notice: &mut Notice, edits: &Edits<Edit>)
+    requires below { length notice.old.lists < 2 ^ 64 - 1 }
     requires head { head.now ≡ head_of notice.old.publisher }
     ensures { notice.new ≡ record notice.old { lists = notice.old.lists ++ edits.now ∷ [] } }
 {

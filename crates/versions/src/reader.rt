@@ -66,7 +66,7 @@ impl LaneReader {
         self.known = self.known.later(&notice);
     }
 
-    /// Enters the version that was published last. The reader comes back where its publisher has ended.
+    /// Enters the version that was published last. The reader comes back if its publisher has ended.
     pub fn enter(self) -> Result<Entered, LaneReader>
         ensures same { IfOk result (λ e. (e.publisher ≡ self.publisher) × (e.start ≡ self.start)) }
         ensures later { IfOk result (λ e. IsPrefix self.lists e.lists) }
@@ -78,7 +78,7 @@ impl LaneReader {
                 inner.get().notice().agrees(&known);
                 Ok(Entered { inner })
             }
-            // What is shown has each list that was told of, since a notice is told after its publish.
+            // The version that is shown has each list of any notice, since a notice is given after its publish.
             Ok(inner) => Err(LaneReader {
                 inner: inner.leave(),
                 known,
@@ -96,6 +96,7 @@ impl Entered {
         self.inner.get().notice().version()
     }
 
+    /// The rows of the version.
     pub fn rows(&self) -> &Rows
         ensures { result.now ≡ after_lists self.now.start self.now.lists }
     {

@@ -12,11 +12,13 @@ use desk_rows::Rows;
 
 /// What was shown when its owner last looked, and the first desk. No value of it is made.
 pub struct Sight<S, N> {
+    /// The rows at the start.
     pub start: S,
+    /// The notice of what was shown.
     pub notice: N,
 }
 
-/// What an owner has seen, if anything, goes on to what is shown.
+/// What an owner has seen, if anything, is a beginning of what is shown.
 pub struct Follows;
 
 impl Protocol<Edition, Option<Sight<Rows, Notice>>> for Follows {

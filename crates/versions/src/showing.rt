@@ -1,4 +1,4 @@
-//! What shows editions, and the two copies of the rows that they are made of.
+//! Shows editions, from two copies of the rows.
 
 ghost use Rattle.std.specs.Prelude.{◌≡◌, true, ◌++◌, ◌∷◌, [], drop};
 ghost use Rattle.std.specs.Arc.{arc_value};
@@ -21,8 +21,8 @@ use undo_log::{Edits, Listed, Reversible};
 
 pub(crate) type Lead = Writer<Edition, Edition, Option<Sight<Rows, Notice>>, Follows>;
 
-/// What shows editions, with two copies of the rows: that of the edition that is shown, and that of the one before. It
-/// isn't `Drop`: end it by `end`.
+/// Shows editions, with two copies of the rows: that of the edition that is shown, and that of the one before. It isn't
+/// `Drop`: end it by `end`.
 pub struct Showing {
     pub(crate) writer: Writer<Edition, Edition, Option<Sight<Rows, Notice>>, Follows>,
     pub(crate) shown: Arc<Listed<Rows>>,
@@ -61,7 +61,7 @@ impl Model for Showing {
 }
 
 impl Showing {
-    /// The lists of the edition lead to its rows. It does nothing when it runs.
+    /// A law: the lists of the edition lead to its rows. The call does nothing when it runs.
     pub fn leads(&self)
         ensures { self.now.page.desk ≡ after_lists (start_of self.now.seen) self.now.page.notice.lists }
     {
@@ -93,7 +93,7 @@ impl Showing {
         (fits, showing)
     }
 
-    /// Does a list of edits in the copy of the edition before, and shows that.
+    /// Absorbs a list of edits into the copy of the edition before, and shows that copy.
     pub fn after<R: Wait>(self, rt: &R, notice: Notice, edits: Edits<Edit>) -> Showing
         requires fit { all_fit fits after self.page.desk edits ≡ true }
         requires publisher { notice.publisher ≡ self.page.notice.publisher }
@@ -147,6 +147,7 @@ impl Showing {
         }
     }
 
+    /// Waits for readers that are still in a version. From then on readers come back from `enter`.
     pub fn end<R: Wait>(self, rt: &R) {
         let Showing {
             writer,
@@ -198,7 +199,7 @@ fn owned<R: Wait>(rt: &R, rows: &Arc<Listed<Rows>>) -> Arc<Listed<Rows>>
     unreachable!()
 }
 
-// The log of the writer has had room for two editions from the start on, so the loop runs once.
+// The log of the writer has had the capacity for two editions from the start on, so the loop runs once.
 fn appended<R: Wait>(rt: &R, writer: Lead, edition: Edition) -> Lead
     requires { drop writer.behind writer.log.items ≡ [] }
     ensures desk { result.desk ≡ writer.desk }

@@ -31,7 +31,7 @@ pub enum VersionFault {
     OutOfMemory = 2,
 }
 
-/// Starts a publisher of these rows, with so many readers. Version 0 is published.
+/// Starts a publisher of these rows, with 1 to 17 readers. Version 0 is published.
 pub fn start<R: Wait>(
     alloc: Global,
     rt: &R,
@@ -105,7 +105,7 @@ fn owned(alloc: Global, rows: Rows) -> Result<Arc<Listed<Rows>>, AllocError>
     }
 }
 
-// Gives the log its room, and the publisher a sight of the first page.
+// Gives the log its memory, and the publisher a sight of the first page.
 fn begun<R: Wait>(rt: &R, writer: Lead) -> Result<Lead, AllocError>
     requires settled { drop writer.behind writer.log.items ≡ [] }
     requires none { writer.desk.shown.value.notice.lists ≡ [] }

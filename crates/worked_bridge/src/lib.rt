@@ -5,6 +5,8 @@
 pub mod answering;
 pub mod beginning;
 pub mod calling;
+pub mod carrying_out;
+pub mod dropping;
 pub mod framing;
 pub mod front_laws;
 pub mod intake_laws;

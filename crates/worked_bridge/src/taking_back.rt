@@ -13,7 +13,7 @@ use bridge_core::{
 use desk_edit::{Call, Command};
 use std::alloc::Global;
 
-/// How an undo behind an accepted command is answered. Where the log has room it is accepted, and the desk is the one
+/// How an undo behind an accepted command is answered. Where the log isn't full it is accepted, and the desk is the one
 /// before.
 pub fn a_command_comes_back(alloc: Global, core: &mut Core, command: Command) -> Option<Reply>
     ensures { IfSome result (λ reply. core.old.version + 2 ≤ call_limit
@@ -27,7 +27,7 @@ pub fn a_command_comes_back(alloc: Global, core: &mut Core, command: Command) ->
     }
 }
 
-/// How an undo behind an accepted group is answered. Where the log has room it is accepted, and the desk is the one
+/// How an undo behind an accepted group is answered. Where the log isn't full it is accepted, and the desk is the one
 /// before the group.
 pub fn the_group_comes_back(alloc: Global, core: &mut Core, commands: Vec<Command>) -> Option<Reply>
     ensures { IfSome result (λ reply. core.old.version + 2 ≤ call_limit
@@ -41,7 +41,7 @@ pub fn the_group_comes_back(alloc: Global, core: &mut Core, commands: Vec<Comman
     }
 }
 
-/// An undo that names the last call, where something is done and the log has room.
+/// An undo that names the last call, where something is done and the log isn't full.
 pub fn an_undo_is_accepted(alloc: Global, core: &mut Core) -> Reply
     ensures { 1 ≤ length core.old.done → core.old.version + 1 ≤ call_limit
         → result ≡ Reply.Accepted (core.old.version + 1) }

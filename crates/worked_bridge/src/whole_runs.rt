@@ -7,7 +7,7 @@ ghost use Rattle.media_items.specs.Inputs.{input_of, is_sized};
 ghost use Rattle.bridge_core.specs.Sent.{sent_of};
 ghost use Rattle.bridge_core.specs.Lanes.{given_of, goes, packets};
 ghost use Rattle.bridge_core.specs.Steps.{Step, HasTaken, sends, visits};
-ghost use Rattle.bridge_core.specs.Named.{Kind, firsts, sent_on};
+ghost use Rattle.bridge_core.specs.Named.{StreamKind, firsts, sent_on};
 ghost use Rattle.bridge_core.specs.Headline.{numbered_of};
 
 use bridge_core::{
@@ -25,13 +25,13 @@ pub fn sends_its_lists(alloc: Global, settings: Settings, item: &Item) -> Option
         (Step.item 2 (input_of item.now) ∷ [])) }
     ensures videos { IfSome result (λ sent. (ssrc : ℕ)
         → firsts (record { ssrc = settings.bridge_ssrc; cname = settings.cname }) 3 (blank settings.bridge_ssrc)
-        (record { kind = Kind.video; ssrc = ssrc }) (Step.item 2 (input_of item.now) ∷ [])
+        (record { kind = StreamKind.video; ssrc = ssrc }) (Step.item 2 (input_of item.now) ∷ [])
         ≡ map (goes ssrc None) (packets ssrc (visits (ssrc % 3) (blank settings.bridge_ssrc)
         (Step.item 2 (input_of item.now) ∷ [])))) }
     ensures mixes { IfSome result (λ sent. (ssrc : ℕ)
         → map numbered_of (firsts
         (record { ssrc = settings.bridge_ssrc; cname = settings.cname }) 3 (blank settings.bridge_ssrc)
-        (record { kind = Kind.mix; ssrc = ssrc }) (Step.item 2 (input_of item.now) ∷ []))
+        (record { kind = StreamKind.mix; ssrc = ssrc }) (Step.item 2 (input_of item.now) ∷ []))
         ≡ mixes ssrc (given_of (visits (ssrc % 3) (blank settings.bridge_ssrc)
         (Step.item 2 (input_of item.now) ∷ [])))) }
 {

@@ -99,10 +99,10 @@ pub fn writes_other_format(packets: &[Rtcp], out: &mut Vec<u8>) -> Result<(), Wr
     write_compound(packets, out)
 }
 
-/// Where there is room for what can be written, nothing is refused.
-pub fn with_room(packets: &[Rtcp], out: &mut Vec<u8>) -> Result<(), WriteFault>
+/// Where the buffer has the capacity for what can be written, nothing is refused.
+pub fn within_capacity(packets: &[Rtcp], out: &mut Vec<u8>) -> Result<(), WriteFault>
     requires packets { packets_of packets.now ≡ compounds.other_format }
-    requires room { vec_len out.old + 16 ≤ vec_capacity out.old }
+    requires capacity { vec_len out.old + 16 ≤ vec_capacity out.old }
     ensures { IsOk result }
 {
     write_compound(packets, out)

@@ -33,8 +33,8 @@ pub fn an_empty_packet(out: &mut Vec<u8>) -> Result<(), AllocError>
     write(&HEADER, &[], &[], out)
 }
 
-/// Where there is room, no memory is wanted.
-pub fn with_room(out: &mut Vec<u8>) -> Result<(), AllocError>
+/// Where the buffer has the capacity, no memory is taken.
+pub fn within_capacity(out: &mut Vec<u8>) -> Result<(), AllocError>
     requires { vec_len out.old + 18 ≤ vec_capacity out.old }
     ensures { IsOk result }
 {

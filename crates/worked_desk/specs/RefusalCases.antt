@@ -133,7 +133,7 @@ subscribing_anew =
     ∷ (subscribe 501 101, None)
     ∷ []
 
--- ---- full desks, and desks with room for one more row
+-- ---- full desks, and desks that take one more row
 
 -- a room to 64 rooms
 abbrev pub adding_to_64_rooms : List (Command × Option Refusal)

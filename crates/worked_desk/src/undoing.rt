@@ -48,13 +48,13 @@ pub fn undone_len(history: &History<Rows>) -> usize
     history.undone_len()
 }
 
-/// Room for one more edit is made as long as fewer than 1,048,576 are done.
+/// Makes capacity for one more edit, as long as fewer than 1,048,576 are done.
 pub fn reserve(history: &mut History<Rows>) -> Result<(), HistoryFault>
-    ensures room { OnOk result (0 < history.new.room) }
+    ensures capacity { OnOk result (0 < history.new.spare) }
     ensures same { history.new.done ≡ history.old.done }
     ensures full { length history.old.done ≡ 1048576 → result ≡ Err HistoryFault.LogFull }
     ensures last { length history.old.done ≡ 1048575 → result ≢ Err HistoryFault.LogFull }
-    ensures again { history.old.done ≡ [] → history.old.room ≡ 1 → IsOk result }
+    ensures again { history.old.done ≡ [] → history.old.spare ≡ 1 → IsOk result }
 {
     history.reserve()
 }
@@ -68,7 +68,7 @@ pub fn push(history: &mut History<Rows>, edit: Edit) -> Result<(), HistoryFault>
     ensures state { OnOk result (history.new.state ≡ three_rooms) }
     ensures done { OnOk result (history.new.done ≡ takes [] (sub 502 103 ∷ []) ∷ puts [] (room 3 ∷ []) ∷ []) }
     ensures undone { OnOk result (history.new.undone ≡ []) }
-    ensures reserved { history.old.room ≡ 1 → IsOk result }
+    ensures reserved { history.old.spare ≡ 1 → IsOk result }
 {
     history.push(edit)
 }

@@ -3,6 +3,7 @@
 
 pub mod attempts;
 pub mod feeding;
+pub mod flooding;
 pub mod lane_ends;
 pub mod pacing;
 pub mod unread;

@@ -3,6 +3,7 @@
 #![tactic(auto)]
 
 pub mod feedback_laws;
+pub mod formats;
 pub mod jitter_buffers;
 pub mod mixed_ticks;
 pub mod mixes;

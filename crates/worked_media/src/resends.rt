@@ -1,7 +1,7 @@
 //! Packets that are asked for again.
 
 ghost use Rattle.std.specs.Prelude.{◌≡◌, [], ◌∷◌, true, false, IfOk};
-ghost use Rattle.retransmit.specs.Window.{room, latest};
+ghost use Rattle.retransmit.specs.Window.{window_size, latest};
 ghost use Rattle.worked_media.specs.Sent.{owner as owner_of, packet as packet_of, packets};
 
 use bytes::Bytes;
@@ -39,7 +39,7 @@ fn packet(number: u16) -> Entry
 
 /// A window after so many packets to member 1 at port 7, the first one under this number.
 fn window_after(alloc: Global, first: u16, count: u16) -> Result<Window, AllocError>
-    ensures { IfOk result (λ window. window ≡ latest room (packets first count)) }
+    ensures { IfOk result (λ window. window ≡ latest window_size (packets first count)) }
 {
     let mut window = Window::new(alloc)?;
     so_far();

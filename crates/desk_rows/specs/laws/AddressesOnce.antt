@@ -1,18 +1,11 @@
 -- On a good desk no two members have one address.
 use Rattle.std.specs.Prelude.{◌≡◌, ◌≤◌, ◌∷◌, ◌+◌}
-use Rattle.desk_rows.specs.laws.Words.{true, List, [], ap, ◌∙◌, arith, map, nat_eq, eqb-true, Address, same_address, or_left, and_parts, bytes_eq-Decides, count_by, bytes_eq, MemberRow, Member, Desk, rows_of, good, makes, same_claim}
+use Rattle.desk_rows.specs.laws.Words.{true, List, [], ap, ◌∙◌, arith, map, Address, same_address, or_left, count_by, MemberRow, Member, Desk, rows_of, good, makes, same_claim}
 use Rattle.desk_rows.specs.declared.claim.Claim.TheVariants as claims
 use Rattle.desk_rows.specs.laws.ClaimLaws.{claimed_once}
-use Rattle.desk_rows.specs.laws.Equal.{claim_itself}
+use Rattle.desk_rows.specs.laws.Equal.{same_address_is, claim_itself}
 use Rattle.desk_rows.specs.laws.Laws.{good_parts}
 use Rattle.desk_rows.specs.laws.ListLaws.{count_next, count_by-append}
-
-pub same_address_is : (a b : Address) → same_address a b ≡ true → a ≡ b
-same_address_is a b h =
-    let both = and_parts (bytes_eq a.ip b.ip) (nat_eq a.port b.port) h in
-    let ips : a.ip ≡ b.ip = (bytes_eq-Decides a.ip b.ip).0 both.0 in
-    let ports : a.port ≡ b.port = eqb-true a.port b.port both.1 in
-    λ i. record { ip = ips i; port = ports i }
 
 -- a member at the address claims it
 its_address : (a : Address) (m : MemberRow) → same_address m.address a ≡ true → makes (claims.Address a) (Member m) ≡ true

@@ -1,12 +1,12 @@
 -- The tests of equality say what they mean.
 use Rattle.std.specs.Prelude.{◌≡◌, ◌||◌, ◌∷◌, ◌++◌, if◌then◌else◌}
-use Rattle.desk_rows.specs.laws.Words.{ℕ, zero, suc, true, false, List, [], length, refl, sym, ap, ◌∙◌, nat_eq, eq-eqb, Claim, Codec, Key, Media, Row, Member, Room, Source, Slot, Sub, Mute, Gain, Pin, Floor, precedes, key_precedes, same_row, has_key, rank, kind_of, own_numbers, key_numbers, key_of, same_key, same_claim, codec_number, media_number, row_numbers, claim_numbers}
-use Rattle.desk_rows.specs.declared.row.Codec.TheVariants as codecs
-use Rattle.desk_rows.specs.declared.row.Media.TheVariants as medias
+use Rattle.desk_rows.specs.laws.Words.{ℕ, zero, suc, true, false, List, [], length, refl, sym, ap, ◌∙◌, arith, nat_eq, eq-eqb, eqb-true, and_parts, and_from, bytes_eq, bytes_eq-Decides, Address, same_address, Claim, Codec, Key, Kind, Media, Row, Room, precedes, key_precedes, same_row, has_key, rank, kind_of, own_numbers, key_numbers, key_of, same_key, same_claim, claim_numbers, row_values, row_with, codec_number, media_number, same_value, same_values}
+use Rattle.desk_rows.specs.declared.values.RowValue.{RowValue}
+use Rattle.desk_rows.specs.declared.values.RowValue.TheVariants as values
 use Rattle.desk_rows.specs.declared.key.Kind.TheVariants as kinds
 use Rattle.desk_rows.specs.declared.key.Key.TheVariants as keys
 use Rattle.desk_rows.specs.declared.claim.Claim.TheVariants as claims
-use Rattle.desk_rows.specs.laws.ListLaws.{or_turned}
+use Rattle.desk_rows.specs.laws.ListLaws.{true_false, or_turned}
 use Rattle.desk_rows.specs.laws.NumberLaws.{same_numbers_is, numbers_themselves, numbers_not_before, numbers_precede_on, one_list_precedes}
 
 pub number_itself : (n : ℕ) → nat_eq n n ≡ true
@@ -60,50 +60,80 @@ three_numbers _ = refl
 pub one_precedes : (a b : Row) → has_key (key_of a) b ≡ false → (precedes a b || precedes b a) ≡ true
 one_precedes a b e = or_turned (precedes a b) (precedes b a) ∙ one_list_precedes (key_numbers (key_of b)) (key_numbers (key_of a)) (three_numbers (key_of b) ∙ sym (three_numbers (key_of a))) e
 
+-- ---- values
+
+pub same_address_is : (a b : Address) → same_address a b ≡ true → a ≡ b
+same_address_is a b h =
+    let both = and_parts (bytes_eq a.ip b.ip) (nat_eq a.port b.port) h in
+    let ips : a.ip ≡ b.ip = (bytes_eq-Decides a.ip b.ip).0 both.0 in
+    let ports : a.port ≡ b.port = eqb-true a.port b.port both.1 in
+    λ i. record { ip = ips i; port = ports i }
+
+same_codec_is : (a b : Codec) → nat_eq (codec_number a) (codec_number b) ≡ true → a ≡ b
+same_codec_is a b e = grind arith
+
+same_media_is : (a b : Media) → nat_eq (media_number a) (media_number b) ≡ true → a ≡ b
+same_media_is a b e = grind arith
+
+same_value_is : (x y : RowValue) → same_value x y ≡ true → x ≡ y
+same_value_is (values.U16 m) (values.U16 n) e = ap values.U16 (eqb-true m n e)
+same_value_is (values.U32 m) (values.U32 n) e = ap values.U32 (eqb-true m n e)
+same_value_is (values.Address a) (values.Address b) e = ap values.Address (same_address_is a b e)
+same_value_is (values.Codec a) (values.Codec b) e = ap values.Codec (same_codec_is a b e)
+same_value_is (values.Media a) (values.Media b) e = ap values.Media (same_media_is a b e)
+same_value_is _ _ e = absurd (true_false (sym e))
+
+value_itself : (x : RowValue) → same_value x x ≡ true
+value_itself (values.U16 n) = number_itself n
+value_itself (values.U32 n) = number_itself n
+value_itself (values.Address a) = and_from (bytes_eq a.ip a.ip) (nat_eq a.port a.port) ((bytes_eq-Decides a.ip a.ip).1 refl) (number_itself a.port)
+value_itself (values.Codec c) = number_itself (codec_number c)
+value_itself (values.Media m) = number_itself (media_number m)
+
+same_values_is : (xs ys : List RowValue) → same_values xs ys ≡ true → xs ≡ ys
+same_values_is [] [] e = refl
+same_values_is (x ∷ xs) (y ∷ ys) e =
+    let both = and_parts (same_value x y) (same_values xs ys) e in
+    ap (λ (z : RowValue). z ∷ xs) (same_value_is x y both.0) ∙ ap (λ (zs : List RowValue). y ∷ zs) (same_values_is xs ys both.1)
+same_values_is _ _ e = absurd (true_false (sym e))
+
+values_themselves : (xs : List RowValue) → same_values xs xs ≡ true
+values_themselves [] = refl
+values_themselves (x ∷ xs) = and_from (same_value x x) (same_values xs xs) (value_itself x) (values_themselves xs)
+
 -- ---- rows
 
-codec_from : ℕ → Codec
-codec_from zero = codecs.Pcmu
-codec_from _ = codecs.L16
+kind_by : ℕ → Kind
+kind_by r =
+    if nat_eq r (rank kinds.Room) then kinds.Room else
+    if nat_eq r (rank kinds.Member) then kinds.Member else
+    if nat_eq r (rank kinds.Source) then kinds.Source else
+    if nat_eq r (rank kinds.Slot) then kinds.Slot else
+    if nat_eq r (rank kinds.Sub) then kinds.Sub else
+    if nat_eq r (rank kinds.Mute) then kinds.Mute else
+    if nat_eq r (rank kinds.Gain) then kinds.Gain else
+    if nat_eq r (rank kinds.Pin) then kinds.Pin else kinds.Floor
 
-media_from : ℕ → Media
-media_from zero = medias.Audio
-media_from _ = medias.Video
+-- a kind is read off its rank
+kind_back : (kind : Kind) → kind_by (rank kind) ≡ kind
+unfolding kind_by
+kind_back kinds.Room = refl
+kind_back _ = refl
 
-row_by : ℕ → ℕ → ℕ → ℕ → ℕ → ℕ → ℕ → ℕ → List ℕ → Row
-row_by r a b c d e f g h =
-    if nat_eq r (rank kinds.Room) then Room record { room = a; rate = b } else
-    if nat_eq r (rank kinds.Member) then Member record { member = a; room = b; codec = codec_from c; out_audio = d; first_seq = e; first_ts = f; address = record { ip = h; port = g } } else
-    if nat_eq r (rank kinds.Source) then Source record { ssrc = a; member = b; media = media_from c } else
-    if nat_eq r (rank kinds.Slot) then Slot record { out_ssrc = a; member = b; index = c; first_seq = d; first_ts = e } else
-    if nat_eq r (rank kinds.Sub) then Sub record { out_ssrc = a; source = b } else
-    if nat_eq r (rank kinds.Mute) then Mute record { source = a } else
-    if nat_eq r (rank kinds.Gain) then Gain record { member = a; source = b; q8 = c } else
-    if nat_eq r (rank kinds.Pin) then Pin record { room = a; source = b } else Floor record { room = a; member = b }
-
-row_from : List ℕ → Row
-row_from (kind ∷ a ∷ b ∷ c ∷ d ∷ e ∷ f ∷ g ∷ h) = row_by kind a b c d e f g h
-row_from _ = Room record { room = 0; rate = 0 }
-
--- a row is read off its numbers
-row_back : (r : Row) → row_from (row_numbers r) ≡ r
-unfolding row_from row_by codec_from media_from
+-- a row is read off its kind and its values
+row_back : (r : Row) → row_with (kind_of (key_of r)) (row_values r) ≡ r
 row_back (Room r) = refl
-row_back (Member m) = ap (λ codec. Member record m { codec = codec }) (codec_back m.codec) where
-  codec_back : (c : Codec) → codec_from (codec_number c) ≡ c
-  codec_back codecs.Pcmu = refl
-  codec_back codecs.L16 = refl
-row_back (Source s) = ap (λ media. Source record s { media = media }) (media_back s.media) where
-  media_back : (m : Media) → media_from (media_number m) ≡ m
-  media_back medias.Audio = refl
-  media_back medias.Video = refl
 row_back _ = refl
 
 pub same_row_is : (a b : Row) → same_row a b ≡ true → a ≡ b
-same_row_is a b e = sym (row_back a) ∙ ap row_from (same_numbers_is (row_numbers a) (row_numbers b) e) ∙ row_back b
+same_row_is a b e =
+    let kind : Row → Kind = λ (r : Row). kind_of (key_of r) in
+    let both = and_parts (nat_eq (rank (kind a)) (rank (kind b))) (same_values (row_values a) (row_values b)) e in
+    let same : kind a ≡ kind b = sym (kind_back (kind a)) ∙ (ap kind_by (eqb-true _ _ both.0) ∙ kind_back (kind b)) in
+    sym (row_back a) ∙ (ap (λ (k : Kind). row_with k (row_values a)) same ∙ (ap (row_with (kind b)) (same_values_is (row_values a) (row_values b) both.1) ∙ row_back b))
 
 pub row_itself : (r : Row) → same_row r r ≡ true
-row_itself r = numbers_themselves (row_numbers r)
+row_itself r = and_from (nat_eq (rank (kind_of (key_of r))) (rank (kind_of (key_of r)))) (same_values (row_values r) (row_values r)) (number_itself (rank (kind_of (key_of r)))) (values_themselves (row_values r))
 
 -- ---- claims
 

@@ -103,9 +103,13 @@ filter_twice : (a b : Row → Bool) (xs : List Row) → filter (λ x. not (a x |
 filter_twice a b [] = refl
 filter_twice a b (x ∷ xs) = grind (arith, filter_twice a b xs)
 
+-- where all that pass one test answer another alike
+any-filter : (one p : Row → Bool) (b : Bool) → ((r : Row) → one r ≡ true → p r ≡ b) → (rs : List Row) → list_any one (filter p rs) ≡ (list_any one rs && b)
+any-filter one p b alike [] = refl
+any-filter one p b alike (r ∷ rs) = grind (arith, alike r, any-filter one p b alike rs)
+
 pub is_in-filter : (p : Row → Bool) (q : Row) (rs : List Row) → is_in (filter p rs) q ≡ (is_in rs q && p q)
-is_in-filter p q [] = refl
-is_in-filter p q (r ∷ rs) = grind (arith, is_in-filter p q rs, same_row_is q r)
+is_in-filter p q rs = any-filter (same_row q) p (p q) (λ r same. ap p (sym (same_row_is q r same))) rs
 
 pub is_in-without_rows : (rs xs : List Row) (q : Row) → is_in (without_rows rs xs) q ≡ (is_in xs q && not (is_in rs q))
 is_in-without_rows rs xs q = is_in-filter (λ x. not (is_in rs x)) q xs

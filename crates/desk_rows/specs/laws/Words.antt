@@ -28,7 +28,7 @@ pub use borrow.Author.Tests.{eq-eqb}
 pub use Rattle.desk_rows.specs.declared.claim.Claim.{Claim}
 pub use Rattle.desk_rows.specs.declared.counting.Test.TheVariants.{Makes}
 pub use Rattle.desk_rows.specs.declared.edit.Placed.{Placed}
-pub use Rattle.desk_rows.specs.declared.index.Entry.{Entry}
+pub use Rattle.desk_rows.specs.declared.index.IndexEntry.{IndexEntry}
 pub use Rattle.desk_rows.specs.declared.row.Codec.{Codec}
 pub use Rattle.desk_rows.specs.declared.key.Key.{Key}
 pub use Rattle.desk_rows.specs.declared.key.Kind.{Kind}
@@ -50,7 +50,8 @@ pub use Rattle.desk_rows.specs.Naming.{is_gain_of, slot_in, sub_in, subs_naming,
 pub use Rattle.desk_rows.specs.Numbers.{numbers_precede, same_numbers}
 pub use Rattle.desk_rows.specs.Order.{is_in, with_rows, in_order, without_rows, precedes, with_row, key_precedes, key_is_new, are_apart, have_same_keys}
 pub use Rattle.desk_rows.specs.Places.{take_at, can_take, can_put, places_rise, place_in, is_at, put_at}
-pub use Rattle.desk_rows.specs.Row.{same_row, has_key, rank, kind_of, own_numbers, key_numbers, key_of, owner_of, same_key, makes, same_claim, other_claims, claims_of, names, same_media, Want, suits, is_in_range, codec_number, media_number, row_numbers, claim_numbers}
+pub use Rattle.desk_rows.specs.Row.{same_row, has_key, rank, kind_of, own_numbers, key_numbers, key_of, owner_of, same_key, makes, same_claim, other_claims, claims_of, names, same_media, Want, suits, is_in_range, claim_numbers}
+pub use Rattle.desk_rows.specs.Values.{row_values, row_with, codec_number, media_number, same_value, same_values}
 pub use Rattle.desk_rows.specs.inner.Addressed.{ip_and_port, address_cmp, IsByAddress}
 pub use Rattle.desk_rows.specs.inner.Found.{finds, is_elsewhere}
 pub use Rattle.desk_rows.specs.inner.Grouped.{stand_by, in_turn, passes_if, passes_in, IsTableOf}

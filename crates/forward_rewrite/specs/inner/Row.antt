@@ -3,7 +3,7 @@ use Rattle.std.specs.Prelude.{◌≡◌, ℕ, ◌≤◌, List, [], ◌∷◌, �
 use Rattle.std.specs.List.{last_or}
 use Rattle.rtp_codec.specs.Sequence.{next}
 use Rattle.retransmit.specs.SentPacket.{SentPacket}
-use Rattle.retransmit.specs.Window.{room, latest, MayFollow}
+use Rattle.retransmit.specs.Window.{window_size, latest, MayFollow}
 
 -- The number is the one behind the last packet's, where there is one.
 abbrev pub Follows : List SentPacket → ℕ → Type 0
@@ -17,9 +17,9 @@ Lead first (p ∷ ps) behind = (p.number ≡ first) × Lead (next first) ps behi
 -- The packets can be kept in this window, one by one.
 abbrev pub MayGoOn : List SentPacket → List SentPacket → Type 0
 MayGoOn window [] = Unit {0}
-MayGoOn window (p ∷ ps) = MayFollow window p × MayGoOn (latest room (window ++ p ∷ [])) ps
+MayGoOn window (p ∷ ps) = MayFollow window p × MayGoOn (latest window_size (window ++ p ∷ [])) ps
 
 -- The window has no more packets than can be sent again, and a packet of this number may follow.
 pub record IsKept (window : List SentPacket) (number : ℕ) : Type 0 where
-  pub few : length window ≤ room
+  pub few : length window ≤ window_size
   pub follows : Follows window number

@@ -5,7 +5,7 @@ use Rattle.std.specs.Int.{w16, w32, to_be_bytes}
 use Rattle.rtp_codec.specs.Packet.{second_octet}
 use Rattle.retransmit.specs.declared.owner.Owner.{Owner}
 use Rattle.retransmit.specs.SentPacket.{SentPacket}
-use Rattle.retransmit.specs.Window.{room, latest, resend_of}
+use Rattle.retransmit.specs.Window.{window_size, latest, resend_of}
 use Rattle.retransmit.specs.laws.SoFar.{of_number}
 use Rattle.forward_rewrite.specs.Sending.{Sending}
 use Rattle.forward_rewrite.specs.Timestamps.{Stamped, same_run, pause, difference, stamped, last_of}
@@ -58,8 +58,8 @@ pub record IsFound (number : ℕ) (owner : Owner) (packets : List SentPacket) (p
 -- What a number and an owner lead to, in the window behind these packets, is one of the last of them.
 abbrev pub FindsOnlyWhatWasSent : List SentPacket → Type 0
 FindsOnlyWhatWasSent sent =
-    (number : ℕ) (owner : Owner) (p : SentPacket) → resend_of number owner (latest room sent) ≡ Some p → IsFound number owner (latest room sent) p
+    (number : ℕ) (owner : Owner) (p : SentPacket) → resend_of number owner (latest window_size sent) ≡ Some p → IsFound number owner (latest window_size sent) p
 
 -- Each of the last of these packets can be found by its number and its owner.
 abbrev pub FindsEach : List SentPacket → Type 0
-FindsEach sent = (p : SentPacket) → Contains (latest room sent) p → resend_of p.number p.owner (latest room sent) ≡ Some p
+FindsEach sent = (p : SentPacket) → Contains (latest window_size sent) p → resend_of p.number p.owner (latest window_size sent) ≡ Some p

@@ -2,7 +2,7 @@
 use Rattle.std.specs.Prelude.{◌≡◌, ℕ, ◌%◌, if◌then◌else◌, nat_eq, nat_lt, List, Option, None, Some, slice_index_or, ◌⊎◌, ◌<◌, ◌+◌, ◌-◌, min}
 use Rattle.std.specs.Option.{option_or}
 use Rattle.frame_gate.specs.Packets.{NumberedPacket}
-use Rattle.frame_gate.specs.Epochs.{gate_room}
+use Rattle.frame_gate.specs.Epochs.{gate_size}
 
 -- the packet, if it has this number
 abbrev pub of_number : Option NumberedPacket → ℕ → Option NumberedPacket
@@ -11,7 +11,7 @@ of_number (Some p) n = if nat_eq p.number n then Some p else None
 
 -- the packet of this number that has just come, or lies in the cell of the number
 abbrev pub held : List (Option NumberedPacket) → Option NumberedPacket → ℕ → Option NumberedPacket
-held cells newcomer n = option_or (of_number newcomer n) (of_number (slice_index_or cells (n % gate_room) None) n)
+held cells newcomer n = option_or (of_number newcomer n) (of_number (slice_index_or cells (n % gate_size) None) n)
 
 -- what lies in a cell
 abbrev pub cell : List (Option NumberedPacket) → ℕ → Option NumberedPacket
@@ -24,7 +24,7 @@ from_on to (Some p) = if nat_lt p.number to then None else Some p
 
 -- Each packet lies in the cell of its number.
 abbrev pub ArePlaced : List (Option NumberedPacket) → Type 0
-ArePlaced cells = (i : ℕ) (p : NumberedPacket) → cell cells i ≡ Some p → p.number % gate_room ≡ i
+ArePlaced cells = (i : ℕ) (p : NumberedPacket) → cell cells i ≡ Some p → p.number % gate_size ≡ i
 
 -- Packets with numbers below this one may be gone.
 abbrev pub MayForget : ℕ → List (Option NumberedPacket) → List (Option NumberedPacket) → Type 0
@@ -32,4 +32,4 @@ MayForget to old new = (i : ℕ) → (cell new i ≡ cell old i) ⊎ (cell new i
 
 -- What is numbered from one number to before another is gone.
 abbrev pub Forgets : (from to : ℕ) → List (Option NumberedPacket) → List (Option NumberedPacket) → Type 0
-Forgets from to old new = (k : ℕ) → k < min (to - from) gate_room → cell new ((from + k) % gate_room) ≡ from_on to (cell old ((from + k) % gate_room))
+Forgets from to old new = (k : ℕ) → k < min (to - from) gate_size → cell new ((from + k) % gate_size) ≡ from_on to (cell old ((from + k) % gate_size))

@@ -3,35 +3,35 @@ use Rattle.std.specs.Prelude.{◌≡◌, ℕ, ◌-◌, Bool, ◌&&◌, nat_eq, L
 use Rattle.std.specs.Str.{bytes_eq}
 use Rattle.std.specs.Map.{lookup, lookup_entry, remove_entry}
 use Rattle.std.specs.Option.{option_map_or}
-use Rattle.intake.specs.declared.known.Key.{Key}
+use Rattle.intake.specs.declared.known.OriginKey.{OriginKey}
 use Rattle.intake.specs.Sources.{Origin, Known, most_known}
 use Rattle.feedback.specs.Upstream.{Asker}
 use Rattle.intake.specs.inner.Kept.{KeptOf, Keeps, kept_by}
 
-abbrev pub same_key : Key → Key → Bool
+abbrev pub same_key : OriginKey → OriginKey → Bool
 same_key a b = bytes_eq a.ip b.ip && (nat_eq a.port b.port && nat_eq a.ssrc b.ssrc)
 
 -- the key of an origin
-abbrev pub key_of : Origin → Key
+abbrev pub key_of : Origin → OriginKey
 key_of o = record { ip = o.address.ip; port = o.address.port; ssrc = o.ssrc }
 
 -- what is kept under a key
-abbrev pub kept_at : Key → List (Key × KeptOf) → Option KeptOf
+abbrev pub kept_at : OriginKey → List (OriginKey × KeptOf) → Option KeptOf
 kept_at key entries = lookup (same_key key) entries
 
 -- what is kept under a key at this clock rate
-abbrev pub kept_for : Key → (rate : ℕ) → List (Key × KeptOf) → Option KeptOf
+abbrev pub kept_for : OriginKey → (rate : ℕ) → List (OriginKey × KeptOf) → Option KeptOf
 kept_for key rate entries = kept_by rate (kept_at key entries)
 
 -- with this under the key, before the others, of which there may be so many with it
-abbrev pub put_within : ℕ → Key → KeptOf → List (Key × KeptOf) → List (Key × KeptOf)
+abbrev pub put_within : ℕ → OriginKey → KeptOf → List (OriginKey × KeptOf) → List (OriginKey × KeptOf)
 put_within most key k entries = option_map_or (λ e. (e.0, k) ∷ remove_entry (same_key key) entries) (lookup_entry (same_key key) entries) ((key, k) ∷ take (most - 1) entries)
 
-abbrev pub put_first : Key → KeptOf → List (Key × KeptOf) → List (Key × KeptOf)
+abbrev pub put_first : OriginKey → KeptOf → List (OriginKey × KeptOf) → List (OriginKey × KeptOf)
 put_first key k entries = put_within most_known key k entries
 
 -- This is kept of these sources, in their order.
-abbrev pub Holds : List (Key × KeptOf) → List Known → Type 0
+abbrev pub Holds : List (OriginKey × KeptOf) → List Known → Type 0
 Holds [] [] = Unit {0}
 Holds [] (k ∷ ks) = ⊥
 Holds (e ∷ es) [] = ⊥
@@ -40,5 +40,5 @@ Holds (e ∷ es) (k ∷ ks) = ((e.0 ≡ key_of k.origin) × Keeps e.1 k.story) �
 -- what contracts see of an intake: who speaks, the sources that are kept, and how many epochs have begun
 pub record IntakeOf : Type 0 where
   pub asker : Asker
-  pub entries : List (Key × KeptOf)
+  pub entries : List (OriginKey × KeptOf)
   pub epochs : ℕ

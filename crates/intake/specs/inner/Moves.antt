@@ -9,7 +9,7 @@ use Rattle.frame_gate.specs.Answer.{Answer}
 use Rattle.frame_gate.specs.Packets.{NumberedPacket}
 use Rattle.intake.specs.declared.outcome.Outcome.{Outcome}
 use Rattle.intake.specs.declared.outcome.Outcome.TheVariants as outcomes
-use Rattle.intake.specs.declared.known.Key.{Key}
+use Rattle.intake.specs.declared.known.OriginKey.{OriginKey}
 use Rattle.intake.specs.Ingested.{Ingested}
 use Rattle.intake.specs.Media.{Coming, origin_of, restarts, placed, frames_from}
 use Rattle.intake.specs.Taking.{Voice, IsVoice, asked_of}
@@ -17,8 +17,8 @@ use Rattle.intake.specs.inner.Kept.{KeptOf, JudgedOf, AdmissionOf, NextOf, Admit
 use Rattle.intake.specs.inner.Holding.{IntakeOf, kept_for, put_first}
 
 -- the source of what is kept
-abbrev pub source_in : Option KeptOf → Option SourceOf
-source_in kept = option_map (λ k. k.source) kept
+abbrev pub state_in : Option KeptOf → Option SourceOf
+state_in kept = option_map (λ k. k.source) kept
 
 abbrev pub epoch_in : Option KeptOf → ℕ
 epoch_in None = 0
@@ -29,13 +29,13 @@ abbrev pub next_of : Option KeptOf → ℕ → JudgedOf → Option AdmissionOf �
 next_of kept epochs j admission = record { rate = j.rate; source = j.source; epoch = if j.begins then epochs + 1 else epoch_in kept; begins = j.begins; admission = admission }
 
 -- This is kept now, before the others.
-abbrev pub IsKept : IntakeOf → IntakeOf → Key → NextOf → Type 0
+abbrev pub IsKept : IntakeOf → IntakeOf → OriginKey → NextOf → Type 0
 IsKept old new key next =
     (k : KeptOf) × Becomes (kept_for key next.rate old.entries) next k
     × (new ≡ record { asker = old.asker; entries = put_first key k old.entries; epochs = if next.begins then old.epochs + 1 else old.epochs })
 
 -- the same, of a source with a judged packet
-abbrev pub Advances : IntakeOf → IntakeOf → Key → JudgedOf → Option AdmissionOf → Type 0
+abbrev pub Advances : IntakeOf → IntakeOf → OriginKey → JudgedOf → Option AdmissionOf → Type 0
 Advances old new key j admission = IsKept old new key (next_of (kept_for key j.rate old.entries) old.epochs j admission)
 
 -- the outcome of a packet that came to the gate
@@ -54,7 +54,7 @@ given voice c epoch verdict answer = record {
 }
 
 -- The packet came to the source's gate.
-pub record Gates (old new : IntakeOf) (key : Key) (j : JudgedOf) (c : Coming) (p : NumberedPacket) (ingested : Ingested) : Type 0 where
+pub record Gates (old new : IntakeOf) (key : OriginKey) (j : JudgedOf) (c : Coming) (p : NumberedPacket) (ingested : Ingested) : Type 0 where
   pub admission : AdmissionOf
   pub admits : Admits (gate_for (kept_for key j.rate old.entries) j.begins) p admission
   pub advances : Advances old new key j (Some admission)

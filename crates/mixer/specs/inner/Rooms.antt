@@ -75,5 +75,5 @@ pub record IsRoom (d : Desk) (voices : List Voice) (r : RoomOf) : Type 0 where
 pub record IsHeard (d : Desk) (voices : List Voice) (m : MemberRow) (out : List ℤ) (who : Contributors) : Type 0 where
   pub samples : out ≡ map (heard_at voices d m) (range_with_len 0 (tick_at (member_rate d m)))
   pub count : who.count ≤ most_csrcs
-  pub room : who.count ≤ length who.ssrcs
+  pub few : who.count ≤ length who.ssrcs
   pub named : take who.count who.ssrcs ≡ take most_csrcs (contributors voices d m)

@@ -33,5 +33,5 @@ IsNext cells tokens next = slice_get cells (length tokens) ≡ Some next.of
 -- the tokens of a desk or a seat, with capacity for those of all cells
 pub record AreTokens (cells : List ℕ) (tokens : List (OnceToken EntryOf)) (capacity : ℕ) (after : Option (OnceToken EntryOf)) : Type 0 where
   pub first : AreFirst cells tokens
-  pub room : length cells ≤ capacity
+  pub few : length cells ≤ capacity
   pub next : IfSome after (IsNext cells tokens)

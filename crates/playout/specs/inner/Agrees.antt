@@ -5,7 +5,7 @@ use Rattle.playout.specs.Playout.{Pair, sample_at}
 -- The cells are the places from p on, and no place behind the last cell has a sample.
 pub record Agrees (cells : List (Option ℤ)) (pairs : List Pair) (p : ℕ) : Type 0 where
   pub here : (i : ℕ) → i < length cells → slice_index_or cells i None ≡ sample_at pairs (p + i)
-  pub room : (n : ℕ) → p + length cells ≤ n → sample_at pairs n ≡ None
+  pub behind : (n : ℕ) → p + length cells ≤ n → sample_at pairs n ≡ None
 
 -- with the sample, where there is none
 abbrev pub filled : List (Option ℤ) → ℕ → ℤ → List (Option ℤ)

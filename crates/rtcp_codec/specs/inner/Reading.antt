@@ -4,7 +4,7 @@ use Rattle.std.specs.List.{flat_map, AllByRecursion}
 use Rattle.rtcp_codec.specs.declared.fault.RtcpFault.{RtcpFault}
 use Rattle.rtcp_codec.specs.Description.{Item, Chunk, item_octets, chunk_octets, FitsItem, FitsChunk}
 use Rattle.rtcp_codec.specs.Packet.{Packet, kind, type_of, count_of, IsPacket, IsBody, Sender, Receiver, Sdes, Bye, App, Nack, Pli, Other}
-use Rattle.rtcp_codec.specs.declared.kind.Kind.TheVariants as kinds
+use Rattle.rtcp_codec.specs.declared.kind.PacketKind.TheVariants as kinds
 use Rattle.rtcp_codec.specs.declared.report.ReportBlock.{ReportBlock}
 use Rattle.rtcp_codec.specs.Kind.{kind_of}
 use Rattle.rtcp_codec.specs.Nack.{FitsWord}

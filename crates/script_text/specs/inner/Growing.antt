@@ -3,18 +3,18 @@ use Rattle.std.specs.Prelude.{◌≡◌, ℕ, ◌+◌, ◌<◌, ◌≤◌, List,
 use Rattle.std.specs.declared.vec.Vec.{Vec}
 use Rattle.std.specs.declared.alloc.AllocError.{AllocError}
 
--- octets that are held, how many they are, and for how many there is room
-pub record Room : Type 0 where
+-- octets that are held, how many they are, and for how many there is capacity
+pub record TextBuffer : Type 0 where
   pub items : List ℕ
   pub len : ℕ
   pub capacity : ℕ
 
 -- what a vector holds
-abbrev pub room_of : {A : Type 0} → Vec ℕ A → Room
-room_of v = record { items = v.items; len = vec_len v; capacity = vec_capacity v }
+abbrev pub buffer_of : {A : Type 0} → Vec ℕ A → TextBuffer
+buffer_of v = record { items = v.items; len = vec_len v; capacity = vec_capacity v }
 
--- a text was appended, or a front of it, as there was no room for all
-abbrev pub Grows : Room → Room → List ℕ → Result (Unit {0}) AllocError → Type 0
+-- a text was appended, or a front of it, as the capacity was short
+abbrev pub Grows : TextBuffer → TextBuffer → List ℕ → Result (Unit {0}) AllocError → Type 0
 Grows old new text (Ok u) =
     (new.items ≡ old.items ++ text) × (new.len ≡ old.len + length text) × (old.capacity ≤ new.capacity)
 Grows old new text (Err e) =

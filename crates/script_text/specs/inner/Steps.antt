@@ -18,7 +18,7 @@ use Rattle.script_text.specs.Lines.{lines_by, whole, ended, parts_of}
 use Rattle.script_text.specs.Text.{sent_text}
 use Rattle.script_text.specs.Bridge.{Bridge, first_desk, opening_bridge, answer_text, bridge_after}
 use Rattle.script_text.specs.Bridge.{item_sent, after_item, items_sent, items_text, after_items}
-use Rattle.script_text.specs.Output.{Outcome, told, stopped, outcome_of, IsFrontOf, IsCutOf}
+use Rattle.script_text.specs.Output.{RunOutput, told, stopped, outcome_of, IsFrontOf, IsCutOf}
 
 -- the reply tells of want of memory
 abbrev pub wants_memory : Reply → Bool
@@ -66,7 +66,7 @@ abbrev pub IsMidLine : Held → Type 0
 IsMidLine held = All (λ b. (b == 10) ≡ false) held.pending
 
 -- what is still to come from a place, with these octets
-abbrev pub to_come : (List ℕ → List (List ℕ)) → Place → List ℕ → Outcome
+abbrev pub to_come : (List ℕ → List (List ℕ)) → Place → List ℕ → RunOutput
 to_come last place text = outcome_of place.bridge place.line (lines_by last (parts_of (place.pending ++ text)))
 
 -- the octets led from one place to the other, and this was sent

@@ -30,8 +30,8 @@ loop-one-preserved g c =
       apart = apart.1;
       fit = still_fit c.loop-one.table.entries c.commit_one-packets.new.table.entries one left apart.0 c.commit_one-packets.ensures.streams fit.1;
       next = next.1;
-      room = omega (arith, ap length steps, c.commit_one-packets.ensures.spare);
-      out_room =
+      capacity = omega (arith, ap length steps, c.commit_one-packets.ensures.spare);
+      out_capacity =
           let n : length c.commit_one-packets.result.items ≡ length one.prepared.packets = ap length c.commit_one-packets.ensures.packets ∙ length-map one.prepared.packets out_of in
           grind (arith, common_steps, ap packet_count steps, n);
     }

@@ -1,4 +1,4 @@
--- What is left leads to the same as all from the start, each stream can go on with its part, and there is room for it.
+-- What is left leads to the same as all from the start, each stream can go on with its part, and the capacity suffices for it.
 use Rattle.std.proofs.Common.{◌≡◌, ℕ, ◌+◌, ◌≤◌, ◌++◌, length, map, vec_len, vec_capacity}
 use Rattle.std.specs.Vec.Iter.{into_iter_items}
 use Rattle.indexmap.specs.IndexMap.{spare}
@@ -17,6 +17,6 @@ invariant-loop-one g l =
       apart : AreDistinct (receivers_of rest);
       fit : AllFit l.table.entries rest;
       next : AreNext l.fn.table.entries l.stamp l.frame rest;
-      room : length rest ≤ spare l.table;
-      out_room : vec_len l.out + packet_count rest ≤ vec_capacity l.out;
+      capacity : length rest ≤ spare l.table;
+      out_capacity : vec_len l.out + packet_count rest ≤ vec_capacity l.out;
     }

@@ -1,4 +1,4 @@
--- What is there and what is left make the whole, and there is room for what is left.
+-- What is there and what is left make the whole, and the capacity suffices for what is left.
 use Rattle.std.proofs.Common.{◌≡◌, ◌+◌, ◌≤◌, ◌++◌, length, map, vec_len, vec_capacity}
 use Rattle.std.specs.Vec.Iter.{into_iter_items}
 use Rattle.bridge_core.specs.Sent.{sent_of}
@@ -12,6 +12,6 @@ invariant-loop-packet g l =
     record {
       items : map sent_of l.out.items ++ map sent rest ≡ map sent_of l.fn.out.items ++ map sent l.fn.packets.items;
       len : vec_len l.out + length rest ≡ vec_len l.fn.out + vec_len l.fn.packets;
-      room : vec_len l.out + length rest ≤ vec_capacity l.out;
+      fits : vec_len l.out + length rest ≤ vec_capacity l.out;
       capacity : vec_capacity l.fn.out ≤ vec_capacity l.out;
     }

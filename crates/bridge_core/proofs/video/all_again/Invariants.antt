@@ -1,4 +1,4 @@
--- What is there and what is left make the whole, and there is room for what is left.
+-- What is there and what is left make the whole, and the capacity suffices for what is left.
 use Rattle.std.proofs.Common.{◌≡◌, ◌+◌, ◌≤◌, ◌++◌, Some, length, map, vec_len, vec_capacity}
 use Rattle.std.specs.Vec.Iter.{into_iter_items}
 use Rattle.bridge_core.specs.Sent.{sent_of}
@@ -11,5 +11,5 @@ invariant-loop-entry g l =
     let sent = goes l.ssrc (Some l.version) in
     record {
       items : map sent_of l.out.items ++ map sent rest ≡ map sent l.fn.entries.items;
-      room : vec_len l.out + length rest ≤ vec_capacity l.out;
+      fits : vec_len l.out + length rest ≤ vec_capacity l.out;
     }

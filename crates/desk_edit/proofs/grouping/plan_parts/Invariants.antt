@@ -11,7 +11,7 @@ abbrev pub invariant-loop-command : goal.invariant-loop-command
 invariant-loop-command g l = record {
   more : List EditOf;
   few : vec_len l.edits + length l.rest ≡ vec_len l.fn.edits + length l.fn.commands;
-  room : MAX_GROUP ≤ vec_capacity l.edits;
+  capacity : MAX_GROUP ≤ vec_capacity l.edits;
   all : l.edits.items ≡ l.fn.edits.items ++ more;
   fit : all_fit fits after l.fn.rows more ≡ true;
   leads : fold after l.fn.rows more ≡ l.rows;

@@ -16,15 +16,15 @@ exchange_each-requires-clause-there g c p =
     let n = count_by (passes_in g.T.Grouped.in_row p) in
     omega (arith, c.requires.there p, c.rows_in-taken.ensures.same p, ap n c.taken_others.ensures, c.rows_in-old.ensures.same p, ap n c.old.ensures)
 
-pub exchange_each-requires-clause-room : goal.exchange_each-requires-clause-room
-exchange_each-requires-clause-room g c =
+pub exchange_each-requires-clause-capacity : goal.exchange_each-requires-clause-capacity
+exchange_each-requires-clause-capacity g c =
     let others = c.args.others.now in
     let in_row = g.T.Grouped.in_row in
     let all = λ (x : g.row.T.Denot). true in
     let n = count_by (passes_in in_row all) in
     let few = count_by-le-length (passes_in in_row all) (filter (is_of g.T.Grouped.kind) others) in
     let same = count_of_kind g.T.Grouped.kind in_row g.met.T.Grouped.of_kind all others in
-    omega (arith, few, same, c.requires.before all, c.requires.room, c.rows_in-taken.ensures.same all, ap n c.taken_others.ensures, c.rows_in-old.ensures.same all, ap n c.old.ensures, c.rows_in-put.ensures.same all, ap n c.put_others.ensures, c.rows_in-new.ensures.same all, ap n c.new.ensures)
+    omega (arith, few, same, c.requires.before all, c.requires.capacity, c.rows_in-taken.ensures.same all, ap n c.taken_others.ensures, c.rows_in-old.ensures.same all, ap n c.old.ensures, c.rows_in-put.ensures.same all, ap n c.put_others.ensures, c.rows_in-new.ensures.same all, ap n c.new.ensures)
 
 pub returns-clause-table : goal.returns-clause-table
 returns-clause-table g c =

@@ -1,4 +1,4 @@
--- What is there and the members that are left make the whole, in the room that there was.
+-- What is there and the members that are left make the whole, in the capacity that there was.
 use Rattle.std.specs.Prelude.{◌≡◌, ◌+◌, ◌≤◌, ◌++◌}
 use Rattle.desk_rows.specs.laws.Words.{length, vec_len, vec_capacity, entries_from}
 use Rattle.desk_rows.proofs.index.list_places.Given as goal
@@ -6,7 +6,7 @@ use Rattle.desk_rows.proofs.index.list_places.Given as goal
 abbrev pub invariant-loop-member : goal.invariant-loop-member
 invariant-loop-member g l = record {
   so_far : l.index.items ++ entries_from (length l.index.items) l.rest ≡ entries_from 0 l.members;
-  room : vec_len l.index + length l.rest ≤ vec_capacity l.index;
+  fits : vec_len l.index + length l.rest ≤ vec_capacity l.index;
   capacity : vec_capacity l.fn.index ≤ vec_capacity l.index;
 }
 

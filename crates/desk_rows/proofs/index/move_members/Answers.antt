@@ -7,20 +7,20 @@ pub index_members-requires-clause-numbers : goal.index_members-requires-clause-n
 index_members-requires-clause-numbers g c =
     subst Once (sym (c.deref.ensures.value ∙ c.put_members.ensures.items ∙ ap (put_at c.args.put.now) c.take_members.ensures.items)) c.requires.numbers
 
-pub index_members-requires-clause-room : goal.index_members-requires-clause-room
-index_members-requires-clause-room g c =
+pub index_members-requires-clause-capacity : goal.index_members-requires-clause-capacity
+index_members-requires-clause-capacity g c =
     let long = ap length (c.deref.ensures.value ∙ c.put_members.ensures.items ∙ ap (put_at c.args.put.now) c.take_members.ensures.items) in
     let after = length-put_at c.args.put.now _ c.requires.put in
-    omega (arith, long, after, c.requires.room.1)
+    omega (arith, long, after, c.requires.capacity.1)
 
 pub list_by_address-requires : goal.list_by_address-requires
 list_by_address-requires g c =
     let long = ap length (c.deref-2.ensures.value ∙ c.put_members.ensures.items ∙ ap (put_at c.args.put.now) c.take_members.ensures.items) in
     let after = length-put_at c.args.put.now _ c.requires.put in
-    omega (arith, long, after, c.requires.room.2)
+    omega (arith, long, after, c.requires.capacity.2)
 
 pub list_by_room-requires : goal.list_by_room-requires
 list_by_room-requires g c =
     let long = ap length (c.deref-3.ensures.value ∙ c.put_members.ensures.items ∙ ap (put_at c.args.put.now) c.take_members.ensures.items) in
     let after = length-put_at c.args.put.now _ c.requires.put in
-    omega (arith, long, after, c.requires.room.3)
+    omega (arith, long, after, c.requires.capacity.3)

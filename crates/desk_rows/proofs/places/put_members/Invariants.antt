@@ -6,7 +6,7 @@ abbrev pub invariant-loop-first : goal.invariant-loop-first
 invariant-loop-first g l = record {
   so_far : put_at l.fn.placed l.fn.members.items ≡ put_at l.rest l.members.items;
   can : can_put l.rest l.members.items ≡ true;
-  room : vec_len l.members + length l.rest ≤ vec_capacity l.members;
+  fits : vec_len l.members + length l.rest ≤ vec_capacity l.members;
   capacity : vec_capacity l.fn.members ≤ vec_capacity l.members;
 }
 

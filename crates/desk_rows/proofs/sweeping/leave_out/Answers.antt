@@ -23,7 +23,7 @@ loop-first-preserved g c =
       so_far = ap (λ ys. ys ++ without_rows ts rest) c.append.ensures.items ∙ append_assoc out stay (without_rows ts rest) ∙ ap (λ ys. out ++ ys) (sym (ap (λ l. without_rows l rows) left ∙ parts)) ∙ c.loop-first.invariant.so_far;
       rows = ap in_order c.without_first-rest.ensures ∙ rest_in_order (t ∷ []) others c.parted_at.ensures.order;
       taken = (and_parts (list_all (precedes t) ts) (in_order ts) order).1;
-      room = omega (arith, long, few_left (t ∷ []) others, c.parted_at.ensures.long, c.loop-first.invariant.room, c.append.ensures.len, c.append.ensures.capacity);
+      fits = omega (arith, long, few_left (t ∷ []) others, c.parted_at.ensures.long, c.loop-first.invariant.fits, c.append.ensures.len, c.append.ensures.capacity);
       capacity = omega (arith, c.loop-first.invariant.capacity, c.append.ensures.capacity);
     }
 

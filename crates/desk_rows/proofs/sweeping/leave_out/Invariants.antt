@@ -1,4 +1,4 @@
--- What is there and what is left of the rows that stay make the whole, in the room that there was.
+-- What is there and what is left of the rows that stay make the whole, in the capacity that there was.
 use Rattle.std.specs.Prelude.{◌≡◌, ◌+◌, ◌≤◌, ◌++◌}
 use Rattle.desk_rows.specs.laws.Words.{true, length, vec_len, vec_capacity, in_order, without_rows}
 use Rattle.desk_rows.proofs.sweeping.leave_out.Given as goal
@@ -8,7 +8,7 @@ invariant-loop-first g l = record {
   so_far : l.out.items ++ without_rows l.left l.rest ≡ l.fn.out.items ++ without_rows l.fn.taken l.fn.rows;
   rows : in_order l.rest ≡ true;
   taken : in_order l.left ≡ true;
-  room : vec_len l.out + length l.rest ≤ vec_capacity l.out;
+  fits : vec_len l.out + length l.rest ≤ vec_capacity l.out;
   capacity : vec_capacity l.fn.out ≤ vec_capacity l.out;
 }
 

@@ -26,7 +26,7 @@ loop-first-preserved g c =
           ∙ ap (λ ys. out ++ ys) (sym (ap (λ l. with_rows l rows) left ∙ parts)) ∙ c.loop-first.invariant.so_far;
       rows = c.parted_before.ensures.order;
       order = (and_parts (list_all (precedes p) ps) (in_order ps) order).1;
-      room = omega (arith, long, c.parted_before.ensures.long, c.loop-first.invariant.room, c.append.ensures.len, c.append.ensures.capacity, c.push_reserved.ensures.len, c.push_reserved.ensures.capacity);
+      fits = omega (arith, long, c.parted_before.ensures.long, c.loop-first.invariant.fits, c.append.ensures.len, c.append.ensures.capacity, c.push_reserved.ensures.len, c.push_reserved.ensures.capacity);
       capacity = omega (arith, c.loop-first.invariant.capacity, c.append.ensures.capacity, c.push_reserved.ensures.capacity);
     }
 

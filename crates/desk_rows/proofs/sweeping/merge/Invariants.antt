@@ -7,7 +7,7 @@ invariant-loop-first g l = record {
   so_far : l.out.items ++ with_rows l.left l.rest ≡ l.fn.out.items ++ with_rows l.fn.put l.fn.rows;
   rows : in_order l.rest ≡ true;
   order : in_order l.left ≡ true;
-  room : vec_len l.out + (length l.rest + length l.left) ≤ vec_capacity l.out;
+  fits : vec_len l.out + (length l.rest + length l.left) ≤ vec_capacity l.out;
   capacity : vec_capacity l.fn.out ≤ vec_capacity l.out;
 }
 

@@ -11,7 +11,7 @@ append-requires g c =
     let others = c.parted_before.result.1.now in
     let put = c.args.put.now in
     let made = ap length (c.deref-in-Some.ensures.value ∙ c.merge.ensures.items ∙ ap (λ ys. ys ++ with_rows put others) c.clear.ensures.items) in
-    omega (arith, made, length-with_rows put others, c.parted_before.ensures.long, ap length c.deref.ensures.value, c.args.rows.now.ok.0, c.requires.room.0, c.truncate.ensures.len, c.truncate.ensures.capacity)
+    omega (arith, made, length-with_rows put others, c.parted_before.ensures.long, ap length c.deref.ensures.value, c.args.rows.now.ok.0, c.requires.capacity.0, c.truncate.ensures.len, c.truncate.ensures.capacity)
 
 pub returns-in-Some-clause-items : goal.returns-in-Some-clause-items
 returns-in-Some-clause-items g c =

@@ -1,4 +1,4 @@
--- What is there and what is left make the whole, and there is room for what is left.
+-- What is there and what is left make the whole, and the capacity suffices for what is left.
 use Rattle.std.proofs.Common.{◌≡◌, ◌+◌, ◌≤◌, ◌++◌, length, map, vec_len, vec_capacity}
 use Rattle.std.specs.Vec.Iter.{into_iter_items}
 use Rattle.media_items.specs.Inputs.{input_of}
@@ -13,6 +13,6 @@ invariant-loop-frame g l =
     record {
       items : map input_of l.items.items ++ items rest ≡ map input_of l.fn.items.items ++ items l.fn.frames.items;
       len : vec_len l.items + length rest ≡ vec_len l.fn.items + vec_len l.fn.frames;
-      room : vec_len l.items + length rest ≤ vec_capacity l.items;
+      fits : vec_len l.items + length rest ≤ vec_capacity l.items;
       capacity : vec_capacity l.fn.items ≤ vec_capacity l.items;
     }

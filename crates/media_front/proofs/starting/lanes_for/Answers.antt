@@ -32,7 +32,7 @@ loop-reader-preserved c =
       left = append_assoc done (c.in-Some.reader ∷ []) _ ∙ (ap (λ l. done ++ l) (sym next.0) ∙ k.left);
       len = omega (arith, k.len, next.1, ap length next.0);
       many = omega (arith, c.push_reserved.ensures.len, k.many);
-      room = c.push_reserved.ensures.capacity ∙ k.room;
+      capacity = c.push_reserved.ensures.capacity ∙ k.capacity;
       readers = ap (map (λ (l : LaneNow). l.reader)) pushed ∙ (map-append (λ (l : LaneNow). l.reader) lanes (lane ∷ [])
           ∙ (ap (λ (rs : List ReaderOf). rs ++ lane.reader ∷ []) k.readers ∙ ap (λ (l : LaneNow). done ++ l.reader ∷ []) is));
       new = subst (λ (ls : List LaneNow). (j : ℕ) (l : LaneNow) → slice_get ls j ≡ Some l → IsNew name c.len-count.result j l) (sym pushed)

@@ -4,5 +4,5 @@ use Rattle.media_front.proofs.starting.paces_for.Given as goal
 abbrev pub invariant-loop-bell : goal.invariant-loop-bell
 invariant-loop-bell g l = record {
   many : vec_len l.paces ≡ l.bell-index;
-  room : vec_capacity l.paces ≡ vec_capacity l.initial.paces;
+  capacity : vec_capacity l.paces ≡ vec_capacity l.initial.paces;
 }

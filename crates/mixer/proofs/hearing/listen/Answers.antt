@@ -47,7 +47,7 @@ returns g c voices is =
           ∙ ap clamped (heard_of d m i c.args.room.now.inputs ws is.inputs)
           ∙ ap (λ vs. clamped (sum_of (map (part_of d m i) vs))) others_are);
       count = c.mix_by_total.ensures.count;
-      room = search rules;
+      few = search rules;
       named = c.mix_by_total.ensures.ssrcs
           ∙ ap (λ (xs : List Input). take most_csrcs (contributing m.member xs c.write_gains.new.gains)) inputs
           ∙ ap (λ (gs : List ℕ). take most_csrcs (contributing m.member c.args.room.now.inputs gs)) gains

@@ -16,8 +16,8 @@ loop-one-preserved g c =
       streams = λ k. ap (kept_after k left) (c.commit_one.ensures.streams k) ∙ ap (λ rs. kept_after k rs (mix_at k c.loop-one.streams.entries)) (sym steps) ∙ inv.streams k;
       out = ap (λ es. es ++ rest) (c.push_reserved.ensures.items ∙ ap (λ p. old ++ p ∷ []) c.commit_one.ensures.packet)
           ∙ append_assoc old _ rest ∙ ap (λ rs. old ++ map sent_of rs) (sym steps) ∙ inv.out;
-      room = omega (arith, ap length steps, c.commit_one.ensures.spare);
-      out_room = omega (arith, ap length steps, c.push_reserved.ensures.len, c.push_reserved.ensures.capacity);
+      capacity = omega (arith, ap length steps, c.commit_one.ensures.spare);
+      out_capacity = omega (arith, ap length steps, c.push_reserved.ensures.len, c.push_reserved.ensures.capacity);
     }
 
 pub returns-clause-streams : goal.returns-clause-streams

@@ -1,4 +1,4 @@
--- What is left leads to the same as all from the start, and there is room for it.
+-- What is left leads to the same as all from the start, and the capacity suffices for it.
 use Rattle.std.proofs.Common.{◌≡◌, ℕ, ◌+◌, ◌≤◌, ◌++◌, length, map, vec_len, vec_capacity}
 use Rattle.std.specs.Vec.Iter.{into_iter_items}
 use Rattle.indexmap.specs.IndexMap.{spare}
@@ -12,6 +12,6 @@ invariant-loop-one g l =
     record {
       streams : (ssrc : ℕ) → kept_after ssrc rest (mix_at ssrc l.streams.entries) ≡ kept_after ssrc l.fn.ready.items (mix_at ssrc l.fn.streams.entries);
       out : l.out.items ++ map sent_of rest ≡ l.fn.out.items ++ map sent_of l.fn.ready.items;
-      room : length rest ≤ spare l.streams;
-      out_room : vec_len l.out + length rest ≤ vec_capacity l.out;
+      capacity : length rest ≤ spare l.streams;
+      out_capacity : vec_len l.out + length rest ≤ vec_capacity l.out;
     }

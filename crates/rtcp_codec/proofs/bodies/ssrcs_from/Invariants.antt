@@ -9,5 +9,5 @@ invariant-loop g l = record {
   count : length l.ssrcs.items ≡ l.counter;
   fits : AllByRecursion (λ ssrc. ssrc < 2 ^ 32) l.ssrcs.items;
   parts : l.octets ≡ number_octets l.ssrcs.items ++ l.rest;
-  room : 4 * l.count ≤ 4 * l.counter + length l.rest;
+  enough : 4 * l.count ≤ 4 * l.counter + length l.rest;
 }

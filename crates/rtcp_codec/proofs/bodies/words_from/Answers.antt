@@ -10,5 +10,5 @@ loop-preserved g c =
     record {
       fits = rw e (AllByRecursion-push FitsWord c.loop.words.items word c.loop.invariant.fits c.word_from.ensures.fits);
       parts = rw e (text_more word_octets c.args.octets.now c.loop.words.items word c.loop.rest.now _ c.loop.invariant.parts c.word_from.ensures.parts);
-      room = omega arith;
+      enough = omega arith;
     }

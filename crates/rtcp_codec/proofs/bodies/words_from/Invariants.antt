@@ -8,5 +8,5 @@ abbrev pub invariant-loop : goal.invariant-loop
 invariant-loop g l = record {
   fits : AllByRecursion FitsWord l.words.items;
   parts : l.octets ≡ flat_map word_octets l.words.items ++ l.rest;
-  room : length l.octets ≡ 4 * l.counter + length l.rest;
+  enough : length l.octets ≡ 4 * l.counter + length l.rest;
 }

@@ -12,5 +12,5 @@ loop-preserved g c =
       count = rw e (omega (arith, length-append c.loop.blocks.items (block ∷ [])));
       fits = rw e (AllByRecursion-push IsSoundBlock c.loop.blocks.items block c.loop.invariant.fits c.block_from.ensures.fits);
       parts = rw e (text_more block_octets c.args.octets.now c.loop.blocks.items block c.loop.rest.now _ c.loop.invariant.parts c.block_from.ensures.parts);
-      room = omega arith;
+      enough = omega arith;
     }

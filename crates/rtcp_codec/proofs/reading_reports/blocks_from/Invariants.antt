@@ -10,5 +10,5 @@ invariant-loop g l = record {
   count : length l.blocks.items ≡ l.counter;
   fits : AllByRecursion IsSoundBlock l.blocks.items;
   parts : l.octets ≡ flat_map block_octets l.blocks.items ++ l.rest;
-  room : 24 * l.count ≤ 24 * l.counter + length l.rest;
+  enough : 24 * l.count ≤ 24 * l.counter + length l.rest;
 }

@@ -10,10 +10,10 @@ use Rattle.rtcp_codec.proofs.writing.append_packets.Goals as goal
 pub append_packet-requires-clause-writable : goal.append_packet-requires-clause-writable
 append_packet-requires-clause-writable g c = (first_left _ _ _ (mapped_left packet_of c.args.packets.now c.loop-packet.packet-index c.packet-item.result c.loop-packet-test.true c.packet-item.is) c.loop-packet.invariant.writable).0
 
-pub append_packet-requires-clause-room : goal.append_packet-requires-clause-room
-append_packet-requires-clause-room g c =
+pub append_packet-requires-clause-capacity : goal.append_packet-requires-clause-capacity
+append_packet-requires-clause-capacity g c =
     let left = mapped_left packet_of c.args.packets.now c.loop-packet.packet-index c.packet-item.result c.loop-packet-test.true c.packet-item.is in
-    omega (arith, written_size _ _ _ left, c.loop-packet.invariant.len, c.requires.room)
+    omega (arith, written_size _ _ _ left, c.loop-packet.invariant.len, c.requires.capacity)
 
 pub loop-packet-preserved : goal.loop-packet-preserved
 loop-packet-preserved g c =

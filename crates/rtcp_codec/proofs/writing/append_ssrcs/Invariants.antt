@@ -1,4 +1,4 @@
--- What was written and what is left make the whole, and there is room for it.
+-- What was written and what is left make the whole, and the capacity suffices for it.
 use Rattle.std.proofs.Common.{◌≡◌, ◌+◌, ◌^◌, ◌<◌, ◌≤◌, ◌++◌, length, drop, vec_len, vec_capacity}
 use Rattle.std.specs.List.{AllByRecursion}
 use Rattle.rtp_codec.specs.Packet.{number_octets}

@@ -1,4 +1,4 @@
--- What was written and what is left make the whole, and there is room for it.
+-- What was written and what is left make the whole, and the capacity suffices for it.
 use Rattle.std.proofs.Common.{◌≡◌, ◌+◌, ◌^◌, ◌<◌, ◌≤◌, ◌++◌, length, map, drop, vec_len, vec_capacity}
 use Rattle.std.specs.List.{flat_map, AllByRecursion}
 use Rattle.rtcp_codec.specs.Description.{item_octets, TextsFit}

@@ -8,14 +8,14 @@ use Rattle.rtcp_codec.proofs.writing_reports.append_blocks.Goals as goal
 zeros : ReportBlock
 zeros = record { ssrc = 0; fraction = 0; lost = pos 0; highest = 0; jitter = 0; lsr = 0; dlsr = 0 }
 
-pub append_block-requires-clause-room : goal.append_block-requires-clause-room
-append_block-requires-clause-room g c =
+pub append_block-requires-clause-capacity : goal.append_block-requires-clause-capacity
+append_block-requires-clause-capacity g c =
     let blocks = c.args.blocks.now in
     let i = c.loop-block.block-index in
     let one = block_octets (get_or blocks i zeros) in
     let rest = flat_map block_octets (drop (i + 1) blocks) in
     let len = ap length (text_at block_octets blocks i zeros c.loop-block-test.true) ∙ length-append one rest in
-    omega (arith, len, c.loop-block.invariant.len, c.requires.room)
+    omega (arith, len, c.loop-block.invariant.len, c.requires.capacity)
 
 pub loop-block-preserved : goal.loop-block-preserved
 unfolding zeros

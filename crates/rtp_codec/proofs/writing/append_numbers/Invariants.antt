@@ -1,4 +1,4 @@
--- The octets of the numbers so far stand behind what stood before, and the rest has room.
+-- The octets of the numbers so far stand behind what stood before, and the capacity suffices for the rest.
 use Rattle.std.proofs.Common.{◌≡◌, ◌+◌, ◌*◌, ◌≤◌, ◌++◌, drop, vec_len, vec_capacity}
 use Rattle.rtp_codec.specs.Packet.{number_octets}
 use Rattle.rtp_codec.proofs.writing.append_numbers.Given as goal

@@ -16,8 +16,8 @@ loop-i-preserved c =
     let back : z ≡ c.from_be_bytes.result = to_z-of_z w16 c.from_be_bytes.result fits in
     let is : z ≡ sample_of (slice_index_or octets (2 * i) 0) (slice_index_or octets (2 * i + 1) 0) = back ∙ c.from_be_bytes.ensures ∙ ap (to_z w16) (omega arith) in
     let there : 2 * i + 1 < length octets = omega (arith, c.loop-i-test.true, c.requires) in
-    let room : i < length c.loop-i.samples = omega (arith, c.loop-i-test.true, c.loop-i.auto.samples) in
-    (search rules, decoded_more octets c.loop-i.samples i z there room is c.loop-i.invariant.1)
+    let within : i < length c.loop-i.samples = omega (arith, c.loop-i-test.true, c.loop-i.auto.samples) in
+    (search rules, decoded_more octets c.loop-i.samples i z there within is c.loop-i.invariant.1)
 
 pub returns-clause-back : goal.returns-clause-back
 returns-clause-back c =

@@ -11,11 +11,11 @@ loop-i-preserved c =
     let i = c.loop-i.i in
     let sample : ℤ = slice_index_or c.args.samples.now (c.args.start + i) (pos 0) in
     let long : length (slice_set c.loop-i.codes i c.code_at.result) ≡ 16 = search rules in
-    let room : i < length c.loop-i.codes = omega (arith, c.loop-i.invariant.0, c.loop-i-test.true) in
+    let within : i < length c.loop-i.codes = omega (arith, c.loop-i.invariant.0, c.loop-i-test.true) in
     let fits : SFits w16 sample = search rules in
     let is : to_z w16 (of_z w16 sample) ≡ sample = grind (arith, to_z-of_z) in
     let one : IsCode sample c.code_at.result = subst (λ (z : ℤ). IsCode z c.code_at.result) is c.code_at.ensures in
-    let here : slice_index_or (slice_set c.loop-i.codes i c.code_at.result) i 0 ≡ c.code_at.result = get_or-set_same c.loop-i.codes i c.code_at.result 0 room in (
+    let here : slice_index_or (slice_set c.loop-i.codes i c.code_at.result) i 0 ≡ c.code_at.result = get_or-set_same c.loop-i.codes i c.code_at.result 0 within in (
       long,
       λ k lt. elim (cases_lt k i) [
         | inl less ↦

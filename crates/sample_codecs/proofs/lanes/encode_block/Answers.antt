@@ -13,12 +13,12 @@ loop-i-preserved c =
     let octet : ℕ = slice_index_or c.codes_of-codes.result c.loop-i.i 0 in
     let long : length (slice_set c.loop-i.out i octet) ≡ length samples = search rules in
     let there : i < length samples = omega arith in
-    let room : i < length c.loop-i.out = omega arith in
+    let within : i < length c.loop-i.out = omega arith in
     let one : IsCode sample octet = c.codes_of-codes.ensures c.loop-i.i c.loop-i-test.true in (
       long,
       λ before.
           let held : AllZip IsCode (take i samples) (take i c.loop-i.out) = c.loop-i.invariant.1 before in
           subst (λ (n : ℕ). AllZip IsCode (take n samples) (take n (slice_set c.loop-i.out i octet))) (add_assoc c.args.start c.loop-i.i 1)
-          (subst (λ codes. AllZip IsCode (take (i + 1) samples) codes) (sym (take_more_set c.loop-i.out i octet room))
+          (subst (λ codes. AllZip IsCode (take (i + 1) samples) codes) (sym (take_more_set c.loop-i.out i octet within))
           (subst (λ xs. AllZip IsCode xs (take i c.loop-i.out ++ octet ∷ [])) (sym (take_more samples i (pos 0) there)) (AllZip-more IsCode _ _ sample octet held one))),
     )

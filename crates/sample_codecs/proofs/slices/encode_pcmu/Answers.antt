@@ -17,12 +17,12 @@ loop-i-preserved c =
     let long : length (slice_set c.loop-i.out i c.encode_sample.result) ≡ length samples = search rules in
     let held : AllZip IsCode (take i samples) (take i c.loop-i.out) = c.loop-i.invariant.1 in
     let there : i < length samples = search rules in
-    let room : i < length c.loop-i.out = search rules in
+    let within : i < length c.loop-i.out = search rules in
     let fits : SFits w16 sample = search rules in
     let is : to_z w16 (of_z w16 sample) ≡ sample = grind (arith, to_z-of_z) in
     let one : IsCode sample c.encode_sample.result = subst (λ (z : ℤ). IsCode z c.encode_sample.result) is c.encode_sample.ensures in (
       long,
-      subst (λ codes. AllZip IsCode (take (i + 1) samples) codes) (sym (take_more_set c.loop-i.out i c.encode_sample.result room))
+      subst (λ codes. AllZip IsCode (take (i + 1) samples) codes) (sym (take_more_set c.loop-i.out i c.encode_sample.result within))
           (subst (λ xs. AllZip IsCode xs (take i c.loop-i.out ++ c.encode_sample.result ∷ [])) (sym (take_more samples i (pos 0) there)) (AllZip-more IsCode _ _ sample c.encode_sample.result held one)),
     )
 

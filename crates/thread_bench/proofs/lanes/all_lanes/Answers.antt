@@ -22,7 +22,7 @@ loop-lane-preserved g c =
       publisher = subst (All (λ (one : LaneNow). one.reader.publisher ≡ g.N.PublisherName.publisher)) (sym {A = List LaneNow} more)
           (All-push (λ (one : LaneNow). one.reader.publisher ≡ g.N.PublisherName.publisher) old next k.publisher c.in-Some.ensures.publisher);
       count = ap length more ∙ grind (arith, common_steps, k.count);
-      room = grind (arith, common_steps, k.room, c.push_reserved.ensures.capacity);
+      capacity = grind (arith, common_steps, k.capacity, c.push_reserved.ensures.capacity);
       readers = c.in-Some.ensures.readers;
     }
 

@@ -11,6 +11,6 @@ invariant-loop-lane g l = record {
       IsNew (record { ssrc = l.fn.settings.bridge_ssrc; cname = l.fn.settings.cname }) l.fn.count place one;
   publisher : All (λ (one : LaneNow). one.reader.publisher ≡ g.N.PublisherName.publisher) l.lanes.items;
   count : length l.lanes.items ≡ l.lane;
-  room : l.fn.count ≤ vec_capacity l.lanes;
+  capacity : l.fn.count ≤ vec_capacity l.lanes;
   readers : All (λ (r : ReaderOf). r.publisher ≡ g.N.PublisherName.publisher) l.readers.items;
 }

@@ -21,7 +21,7 @@ pub returns-in-Ok-clause-takes : goal.returns-in-Ok-clause-takes
 returns-in-Ok-clause-takes g c =
     let was = c.self.inside in
     let new = core_with c.commit.new.self was.lanes.items was.intake in
-    let version : c.commit.new.self.version ≡ was.desk.version + 1 = c.commit.ensures.version.1 ∙ c.commit.ensures.version.0 ∙ ap (λ (d : DeskOf). d.version + 1) {y = record was.desk { room = c.prepare.new.self.room }} c.prepare.ensures.same in
+    let version : c.commit.new.self.version ≡ was.desk.version + 1 = c.commit.ensures.version.1 ∙ c.commit.ensures.version.0 ∙ ap (λ (d : DeskOf). d.version + 1) {y = record was.desk { spare = c.prepare.new.self.spare }} c.prepare.ensures.same in
     subst (λ (core : CoreOf). Takes core new (Step.publish new.desk) []) c.self.view_is (published (core_with was.desk was.lanes.items was.intake) new version refl)
 
 pub returns-in-Ok-clause-history : goal.returns-in-Ok-clause-history

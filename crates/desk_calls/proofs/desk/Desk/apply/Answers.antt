@@ -13,5 +13,5 @@ invariant_of-self g c =
     record {
       good = ap good {x = c.push.new.self.state} does.0 ∙ still_good was.history.state c.args.edits c.self.invariant.good;
       fewer = omega (arith, ap length {x = c.push.new.self.done} does.1 ∙ length_push was.history.done c.args.edits, c.self.invariant.fewer);
-      limit = omega (arith, c.requires.room.1, ap (λ (d : DeskOf). d.version) c.self.view_is);
+      limit = omega (arith, c.requires.capacity.1, ap (λ (d : DeskOf). d.version) c.self.view_is);
     }

@@ -22,7 +22,7 @@ exchange_members-requires g c =
       put = found.put;
       numbers = found.numbers;
       few = found.members_few;
-      room = (own.2, own.3, own.11, own.13);
+      capacity = (own.2, own.3, own.11, own.13);
     }
 
 pub exchange_rows-requires : goal.exchange_rows-requires
@@ -39,7 +39,7 @@ exchange_rows-requires g c =
       apart = found.apart;
       later = good_order _ found.good_after;
       few = found.others_few;
-      room = (own.4, own.5);
+      capacity = (own.4, own.5);
     }
 
 pub follow-requires : goal.follow-requires
@@ -54,7 +54,7 @@ follow-requires g c =
       orders = found.orders;
       there = λ p. omega (arith, own.6.same p, found.go (passes_in sub_in p));
       before = λ p. omega (arith, own.6.same p, ap (count_by (passes_in sub_in p)) now, found.balance (passes_in sub_in p));
-      room = omega (arith, ap (λ rows. length (filter (is_of kinds.Sub) rows)) now, found.subs_few, own.7);
+      capacity = omega (arith, ap (λ rows. length (filter (is_of kinds.Sub) rows)) now, found.subs_few, own.7);
     }
 
 pub follow-requires-2 : goal.follow-requires-2
@@ -69,14 +69,14 @@ follow-requires-2 g c =
       orders = found.orders;
       there = λ p. omega (arith, own.8.same p, found.go (passes_in slot_in p));
       before = λ p. omega (arith, own.8.same p, ap (count_by (passes_in slot_in p)) now, found.balance (passes_in slot_in p));
-      room = omega (arith, ap (λ rows. length (filter (is_of kinds.Slot) rows)) now, found.slots_few, own.9);
+      capacity = omega (arith, ap (λ rows. length (filter (is_of kinds.Slot) rows)) now, found.slots_few, own.9);
     }
 
 pub invariant_of-self : goal.invariant_of-self
 unfolding exchanged
 invariant_of-self g c =
     let found = at _ _ c.args.edit.now c.self.view_is c.requires in
-    ((λ i. good (desk_of c.self.inside.bridge_ssrc (c.exchange_members.ensures.items i) (c.exchange_rows.ensures.items i))) ∙ found.good_after, c.exchange_members.ensures.index, c.exchange_members.ensures.room.0, c.exchange_members.ensures.room.1, c.exchange_rows.ensures.room.0, c.exchange_rows.ensures.room.1, subst (λ others. IsTableOf sub_in (λ s. s.source) (λ s. s.out_ssrc) others c.follow.new.table.items) c.deref.ensures.value c.follow.ensures.table, omega (arith, c.follow.ensures.capacity, c.self.invariant.7), subst (λ others. IsTableOf slot_in (λ s. s.member) (λ s. s.index) others c.follow-2.new.table.items) c.deref-2.ensures.value c.follow-2.ensures.table, omega (arith, c.follow-2.ensures.capacity, c.self.invariant.9), c.exchange_members.ensures.addresses, c.exchange_members.ensures.room.2, c.exchange_members.ensures.rooms, c.exchange_members.ensures.room.3)
+    ((λ i. good (desk_of c.self.inside.bridge_ssrc (c.exchange_members.ensures.items i) (c.exchange_rows.ensures.items i))) ∙ found.good_after, c.exchange_members.ensures.index, c.exchange_members.ensures.capacity.0, c.exchange_members.ensures.capacity.1, c.exchange_rows.ensures.capacity.0, c.exchange_rows.ensures.capacity.1, subst (λ others. IsTableOf sub_in (λ s. s.source) (λ s. s.out_ssrc) others c.follow.new.table.items) c.deref.ensures.value c.follow.ensures.table, omega (arith, c.follow.ensures.capacity, c.self.invariant.7), subst (λ others. IsTableOf slot_in (λ s. s.member) (λ s. s.index) others c.follow-2.new.table.items) c.deref-2.ensures.value c.follow-2.ensures.table, omega (arith, c.follow-2.ensures.capacity, c.self.invariant.9), c.exchange_members.ensures.addresses, c.exchange_members.ensures.capacity.2, c.exchange_members.ensures.rooms, c.exchange_members.ensures.capacity.3)
 
 pub returns : goal.returns
 unfolding exchanged

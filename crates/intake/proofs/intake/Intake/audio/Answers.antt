@@ -1,6 +1,6 @@
 use Rattle.std.proofs.Common.{◌∙◌, ap, sym, subst, None}
 use Rattle.media_items.specs.Formats.{rate_of}
-use Rattle.intake.specs.declared.known.Key.{Key}
+use Rattle.intake.specs.declared.known.OriginKey.{OriginKey}
 use Rattle.intake.specs.Ingested.{Ingested}
 use Rattle.intake.specs.Media.{Coming, audio_course, mark_of, sounds, telling}
 use Rattle.intake.specs.Taking.{sourced}
@@ -32,4 +32,4 @@ returns-clause-moves g c =
     with_fact c.telling.result c.telling.ensures.advances c.telling.ensures.ingest (λ ingest advances is voice s right asker knows.
     subst (λ (i : Ingested). Gives i c.telling.new.self (sourced voice (rate_of format) (audio_course format coming) coming s)) (sym is)
     (when_telling (rate_of format) (audio_course format coming) coming old j judges s knows voice c.telling.new.self _ (sym c.is_spent.ensures ∙ c.if-is_spent.false) (λ st. ap (λ items. telling j.verdict items st) (sym same))
-    (subst (λ (key : Key). Advances old c.telling.new.self key j None) c.key_of-key.ensures advances)))
+    (subst (λ (key : OriginKey). Advances old c.telling.new.self key j None) c.key_of-key.ensures advances)))

@@ -3,7 +3,7 @@ use Rattle.std.proofs.lemmas.Int.{to_z-of_z}
 use Rattle.source_valid.specs.Ranges.{IsExt}
 use Rattle.source_valid.specs.Histories.{accepted}
 use Rattle.frame_gate.specs.Packets.{numbered}
-use Rattle.intake.specs.declared.known.Key.{Key}
+use Rattle.intake.specs.declared.known.OriginKey.{OriginKey}
 use Rattle.intake.specs.Ingested.{Ingested}
 use Rattle.media_items.specs.Rates.{video_rate}
 use Rattle.intake.specs.Media.{Coming, video_course, gate_packet}
@@ -34,7 +34,7 @@ returns-in-None-clause-moves g c =
     with_fact c.plain.result c.plain.ensures.advances c.plain.ensures.ingest (λ ingest advances is voice s right asker knows.
     subst (λ (i : Ingested). Gives i c.plain.new.self (sourced voice video_rate (video_course coming) coming s)) (sym is)
     (when_plain video_rate (video_course coming) coming old j judges s knows voice c.plain.new.self (sym c.is_spent.ensures ∙ c.if-is_spent.false) (λ st. video_plain coming j.verdict st none)
-    (subst (λ (key : Key). Advances old c.plain.new.self key j None) c.key_of-key.ensures advances)))
+    (subst (λ (key : OriginKey). Advances old c.plain.new.self key j None) c.key_of-key.ensures advances)))
 
 pub returns-in-Some-clause-moves : goal.returns-in-Some-clause-moves
 returns-in-Some-clause-moves g c =

@@ -4,7 +4,7 @@ use Rattle.media_front.specs.declared.tally.Tally.{Tally}
 use Rattle.media_workers.specs.declared.parcel.Parcel.TheVariants.{Work}
 use Rattle.media_front.specs.inner.Tallies.{lane_by, lanes_by, AreOf}
 use Rattle.media_front.proofs.PlaceLemmas.{length_beside, All_read}
-use Rattle.media_front.proofs.GiveLemmas.{given_one, pushed_length, counted_of}
+use Rattle.media_front.proofs.GiveLemmas.{given_one, pushed_length, counted_in_book}
 use Rattle.media_front.proofs.feed.LaneFeed.give_one.Goals as goal
 
 pub index-requires : goal.index-requires
@@ -55,7 +55,7 @@ invariant_of-self g c =
       omega (arith, still, c.self.invariant.1),
       omega (arith, still, c.self.invariant.2),
       subst (λ (v : Tally). AreOf publisher (set here.tallies.items lane v)) (sym c.count.ensures)
-          (counted_of publisher here.tallies.items lane u c.is_ok-accepted.result low c.index_mut.ensures.value c.self.invariant.3),
+          (counted_in_book publisher here.tallies.items lane u c.is_ok-accepted.result low c.index_mut.ensures.value c.self.invariant.3),
     )
 
 pub returns : goal.returns

@@ -48,7 +48,7 @@ push_reserved-requires g c =
     let tokens = c.self.invariant.2 in
     let there = is_there g.H.Hall.cells c.len-next.result c.in-Ok.token.of (subst (λ cs. slice_get cs c.len-next.result ≡ Some c.in-Ok.token.of) c.self.invariant.0 c.in-Ok.ensures.ok.0) in
     let at = c.len-next.ensures in
-    omega (arith, there, at, tokens.room)
+    omega (arith, there, at, tokens.few)
 
 pub push_reserved-requires-in-Ok : goal.push_reserved-requires-in-Ok
 push_reserved-requires-in-Ok g c =
@@ -58,7 +58,7 @@ push_reserved-requires-in-Ok g c =
     let long : length c.seat.inside.seen.items ≡ length c.self.inside.entries.items = sym (length-shown c.seat.inside.seen.items) ∙ (ap length same ∙ length-shown c.self.inside.entries.items) in
     let seat_len : vec_len c.seat.inside.seen ≡ length c.seat.inside.seen.items = search rules in
     let len : c.len-next.result ≡ length c.self.inside.entries.items = search rules in
-    omega (arith, there, len, long, seat_len, tokens.room)
+    omega (arith, there, len, long, seat_len, tokens.few)
 
 -- the entry of the call
 abbrev entry_of : (g : Given.Over) → goal.After-tell g → EntryOf

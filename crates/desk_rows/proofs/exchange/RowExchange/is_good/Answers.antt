@@ -1,7 +1,7 @@
 use Rattle.desk_rows.specs.laws.Words.{sym, ◌∙◌}
 use Rattle.desk_rows.specs.laws.Laws.{apt_parts}
 use Rattle.desk_rows.proofs.NewKeys.{keyed_later}
-use Rattle.desk_rows.proofs.exchange.Exchange.is_good.Goals as goal
+use Rattle.desk_rows.proofs.exchange.RowExchange.is_good.Goals as goal
 
 pub invariant_of-later : goal.invariant_of-later
 invariant_of-later g c =
