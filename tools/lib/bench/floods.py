@@ -5,13 +5,14 @@ FLOOD is one of
   noise        random octets from a member's address
   sources      good RTP packets from a member, each with a random SSRC
   asks         compounds of 8,192 octets from a receiver: 31 blocks, 100 PLIs, and NACKs of numbers in and out of its window
+  pictures     compounds of 64 PLIs from a receiver, which the bridge passes on to the call's sender
   restarts     two members whose video restarts at every second packet
   open-frames  packets of 2,044 video sources, none of which ends a frame
   gaps         packets of one octet of which each asks the bridge for the 249 numbers before it
 
 A flood holds where at least 99 in 100 of the call's packets that reached the bridge come to the listener, the ticks are late by
-at most 10 ms (99th percentile), memory is flat after the first minute, and the control that goes out to the flood's senders has at
-most 1.5 octets for each of theirs. The status is 0 where all floods held.
+at most 10 ms (99th percentile), memory is flat after the first minute, and the control that goes out to the flood's senders, with the
+PLIs that go to the call's, has at most 1.5 octets for each of theirs, of `pictures` 3.5. The status is 0 where all floods held.
 """
 
 import pathlib
@@ -30,6 +31,7 @@ RATES = {
     "noise": 200_000,
     "sources": 200_000,
     "asks": 1_000,
+    "pictures": 50,
     "restarts": 20_000,
     "open-frames": 50_000,
     "gaps": 20_000,

@@ -5,7 +5,7 @@ CROWD is one of
   endless   15 connections that send lines without an end
   drip      15 connections that send an octet a second
   unread    15 connections that ask for the rows of a full desk and read nothing
-  half      2,000 connections that close in mid-line
+  half      connections that close in mid-line, one after another
   busy      15 connections that call as fast as they can: each has up to 128 calls that aren't answered yet
 
 Beside each crowd two members talk with each other. Behind it the honest operator's calls and the others' accepted calls have the
@@ -30,8 +30,9 @@ NEEDS = "the program, a minute"
 
 SEATS = 16
 ALLOWED = 0.05
-# How many calls the busy send at a time.
+# How many calls the busy send at a time, and how often. The log has 1,048,576 calls, of which the honest operator needs some.
 BATCH = 64
+BATCHES = 15_000
 
 
 def options(parser):
@@ -42,18 +43,25 @@ def options(parser):
 
 
 class Crowd:
-    """The connections of a crowd to a bridge, until a moment."""
+    """The connections of a crowd to a bridge, until a moment. Another process has them, so that this one has time for the honest operator."""
 
     def __init__(self, name, port, seconds):
         self.port = port
         self.end = time.monotonic() + seconds
         self.accepted = []
-        self.thread = threading.Thread(target=getattr(self, name))
-        if name == "busy":
-            # Another process calls, so that this one has time for the honest operator. It begins before there are threads.
-            self.numbers, there = multiprocessing.Pipe(duplex=False)
-            multiprocessing.get_context("fork").Process(target=call_ahead, args=(port, self.end, there), daemon=True).start()
+        came, there = multiprocessing.Pipe(duplex=False)
+        # It begins before there are threads.
+        multiprocessing.get_context("fork").Process(target=self.carry_out, args=(name, there), daemon=True).start()
+        there.close()
+        self.thread = threading.Thread(target=self.wait, args=(came,))
         self.thread.start()
+
+    def carry_out(self, name, there):
+        getattr(self, name)()
+        there.send(self.accepted)
+
+    def wait(self, came):
+        self.accepted = came.recv()
 
     def lasts(self):
         return time.monotonic() < self.end
@@ -109,12 +117,12 @@ class Crowd:
         self.together(ask, SEATS - 1)
 
     def half(self):
-        for _ in range(2000):
-            with self.connection() as one:
+        while self.lasts():
+            with contextlib.suppress(OSError), self.connection() as one:
                 one.sendall(b"add-room 6")
 
     def busy(self):
-        self.accepted = self.numbers.recv()
+        self.accepted = call_ahead(self.port, self.end)
 
 
 class Ahead:
@@ -137,9 +145,10 @@ class Ahead:
         return some != b""
 
 
-def call_ahead(port, end, pipe):
+def call_ahead(port, end):
     """Has 15 connections call until a moment, and gives the numbers of the accepted calls."""
     ones = [Ahead(port, 1000 + number) for number in range(SEATS - 1)]
+    left = BATCHES - 2 * len(ones)
     with selectors.DefaultSelector() as ready:
         for one in ones:
             ready.register(one.connection, selectors.EVENT_READ, one)
@@ -154,10 +163,11 @@ def call_ahead(port, end, pipe):
                 if not one.read():
                     ready.unregister(one.connection)
                     one.waiting = 0
-                elif one.waiting <= BATCH and time.monotonic() < end:
+                elif one.waiting <= BATCH and left and time.monotonic() < end:
                     one.send()
+                    left -= 1
     lines = [line for one in ones for line in b"".join(one.told).decode().splitlines()]
-    pipe.send([int(line[3:]) for line in lines if line.startswith("ok ")])
+    return [int(line[3:]) for line in lines if line.startswith("ok ")]
 
 
 CROWDS = ["silent", "endless", "drip", "unread", "half", "busy"]

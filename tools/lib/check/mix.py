@@ -47,7 +47,7 @@ class Voice:
         r = self.r
         rate = rate if r.random() < 0.97 else r.choice([USUAL, MUSIC])
         tick = rate // TICKS
-        # (a datagram has room for 4,090 samples of L16)
+        # (a datagram carries 4,090 samples of L16)
         count = r.choice([tick, tick, tick, tick, tick // 2, 3 * tick // 2, 1, min(10 * tick, 4090)])
         pt = 11 if rate == MUSIC else r.choice([0, 97])
         loud = r.choice([30, 3000, 32767])

@@ -5,11 +5,14 @@ of over 38, or a link that leads nowhere. Code, tables, headings and lists of na
 a sentence counts as one word.
 
 Of sources the status is 1 where a function of crates/*/src has over 30 lines, a line over 120 columns, or a file over 300 lines, and
-where a name of the bridge's crates is doubled: a type with two homes, a word of definitions with three. Functions with over five
-parameters beside `self`, `rt` and `alloc` are printed alone.
+where a name of the bridge's crates is doubled: a type with two homes, a word of definitions with three. Types are structs, enums,
+traits and aliases, public or not; those of cases, examples and tests don't count. It is 1 as well where the lib.rt of a crate of the
+bridge has no example, or where a lib.rt names a function of another crate ("`NAME` of CRATE") that isn't there. Functions with over
+five parameters beside `self`, `rt` and `alloc` are printed alone.
 """
 
 import collections
+import itertools
 import re
 import statistics
 
@@ -216,10 +219,10 @@ def homes_of(pairs, least):
 
 
 def type_names():
-    """The public types of the bridge's crates, with their homes."""
+    """The types of the bridge's crates, public or not, with their homes."""
     for crate in bridge_crates():
         for path in sorted((CRATES / crate / "src").glob("**/*.rt")):
-            for name in re.findall(r"^pub (?:struct|enum|trait) (\w+)", path.read_text(), re.M):
+            for name in re.findall(r"^(?:pub(?:\([^)]*\))? )?(?:struct|enum|trait|type) (\w+)", path.read_text(), re.M):
                 yield name, crate
 
 
@@ -240,9 +243,46 @@ def check_names():
     return not any(doubled.values())
 
 
+# Examples
+
+# One or more names in backquotes, and the crate that has them.
+NAMED_CALLS = re.compile(r"((?:`\w+`(?:, and |, | and | ))+)of (\w+)")
+
+
+def opening_of(path):
+    """The comment with which a file begins."""
+    lines = itertools.takewhile(lambda line: line.startswith("//!"), path.read_text().splitlines())
+    return "\n".join(line[3:].strip() for line in lines)
+
+
+def functions_of(crate):
+    """The names of all functions of a crate."""
+    return {name for path in (CRATES / crate / "src").glob("**/*.rt") for name in re.findall(r"\bfn (\w+)", path.read_text())}
+
+
+def missing_calls(path):
+    """The functions that the comment of a file names, and that their crates don't have."""
+    for names, crate in NAMED_CALLS.findall(without_fences(opening_of(path)).replace("\n", " ")):
+        if (CRATES / crate).is_dir():
+            for name in sorted(set(re.findall(r"`(\w+)`", names)) - functions_of(crate)):
+                yield f"{path.relative_to(ROOT)}: {crate} has no function `{name}`"
+
+
+def check_examples():
+    """Prints which lib.rt has no example, and which functions of other crates it names in vain. Whether there are none."""
+    faults = []
+    for path in sorted(CRATES.glob("*/src/lib.rt")):
+        if path.parts[-3] in bridge_crates() and "```rust" not in opening_of(path):
+            faults.append(f"{path.relative_to(ROOT)}: no example")
+        faults += missing_calls(path)
+    print(f"{len(faults)} faults of examples in lib.rt")
+    print("".join(f"       {fault}\n" for fault in faults), end="")
+    return not faults
+
+
 def run(args):
     good = [args.sources or check_documents()]
     if not args.docs:
         print()
-        good += [check_sources(), check_names()]
+        good += [check_sources(), check_names(), check_examples()]
     return 0 if all(good) else 1
