@@ -18,7 +18,7 @@ use crate::wakes::Wakes;
 use crate::waking::{FrontWaker, LaneWaker};
 use bridge_core::{Intake, Settings};
 use flood_guard::FloodGuard;
-use media_front::{LaneFeed, MediaFront, fault_of};
+use media_front::{LaneFeed, MediaFront, fault_of, pli_octets};
 use media_workers::StartFault;
 use mio::Waker;
 use operator_desk::{DeskFault, GatherFault, Hall, Log, MAX_OPERATORS, Seat, SharedDesk};
@@ -183,8 +183,9 @@ where
     }
     let intake = Intake::new(alloc, settings.try_clone()?)?;
     let guard = FloodGuard::new(alloc)?;
+    let cost = pli_octets(alloc, &settings)?;
     match LaneFeed::start(rt, alloc, readers, &settings, waker) {
-        Ok(feed) => Ok(MediaFront::new(intake, feed, guard, start)),
+        Ok(feed) => Ok(MediaFront::new(intake, feed, guard, cost, start)),
         Err(fault) => Err(start_fault(fault)),
     }
 }

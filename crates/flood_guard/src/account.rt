@@ -13,12 +13,12 @@ const MOST_CREDIT: u64 = 65_536;
 /// The length of a window, in nanoseconds.
 const WINDOW: u64 = 20_000_000;
 
-/// What may still be sent to an address, and how much it asked for.
+/// What control an address may still cause, and how much it asked for.
 #[derive(Clone, Copy)]
 pub(crate) struct Account {
     /// The address.
     pub(crate) address: Address,
-    /// The octets of control that may still be sent to it, 0 to 65,536.
+    /// The octets of control that it may still cause, 0 to 65,536.
     pub(crate) credit: u64,
     /// The number of the last window in which it asked. Window 0 begins in 1970, and each has 20 ms.
     pub(crate) window: u64,

@@ -139,9 +139,10 @@ impl<A: Allocator + Copy> FloodGuard<A> {
         keep(&mut self.accounts, place, account);
     }
 
-    /// Whether a control datagram of this many octets may be sent to an address. If so, it costs its octets of credit.
+    /// Whether an address may cause this many octets of control: a datagram to it, or one to another address because of
+    /// what it asks for. If so, the octets are taken off its credit.
     ///
-    /// Nothing may be sent to an address without an account. A refusal changes nothing.
+    /// An address without an account may cause nothing. A refusal changes nothing.
     pub fn spend(&mut self, to: &Address, octets: u64) -> bool
         ensures answer { result ≡ may_spend to.now octets self.old }
         ensures after { self.new ≡ accounts_after (spend to.now octets) self.old }

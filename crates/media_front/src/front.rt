@@ -13,6 +13,7 @@ ghost use Rattle.udp_front.specs.Attempts.{datagrams_of};
 ghost use Rattle.udp_front.specs.Pacing.{most_ticks, report_due, after_report};
 ghost use Rattle.udp_front.specs.declared.ending.FrontFault.TheVariants.{OutOfMemory as MemoryFault};
 ghost use Rattle.media_front.specs.FedLanes.{FedLane, ports_in, owing_notice, rung, AllAreGiven, ArePopped};
+ghost use Rattle.media_front.specs.Prices.{pli_octets};
 ghost use Rattle.media_front.specs.Tries.{WereTried};
 ghost use Rattle.media_front.specs.Fronts.{HasTaken, MayHaveTaken, HasReported, ticks_due, after_ticks};
 
@@ -45,11 +46,15 @@ pub struct MediaFront<N: PublisherName, P: Pace> {
     intake: Intake,
     feed: LaneFeed<N, P>,
     guard: FloodGuard,
+    /// How many octets a PLI costs the address that it comes from.
+    pli_cost: u64,
     ticks: Ticks,
     reports: ReportTimer,
 }
 
 impl<N: PublisherName, P: Pace> Model for MediaFront<N, P> {
+    ghost use Rattle.std.specs.Prelude.{◌≡◌};
+    ghost use Rattle.media_front.specs.Prices.{pli_octets};
     ghost use Rattle.media_front.specs.Fronts.{FrontOf};
 
     ghost Value = { FrontOf P };
@@ -61,11 +66,21 @@ impl<N: PublisherName, P: Pace> Model for MediaFront<N, P> {
       ticks = f.ticks;
       reports = f.reports;
     } };
+
+    ghost invariant = { λ f. f.pli_cost ≡ pli_octets f.intake.asker };
 }
 
 impl<N: PublisherName, P: Pace> MediaFront<N, P> {
-    /// A front whose ticks and reports are counted from `start`.
-    pub fn new(intake: Intake, feed: LaneFeed<N, P>, guard: FloodGuard, start: u64) -> Self
+    /// A front whose ticks and reports are counted from `start`. `pli_cost` is how many octets pass a PLI on, as
+    /// [`pli_octets`](crate::pli_octets) counts them.
+    pub fn new(
+        intake: Intake,
+        feed: LaneFeed<N, P>,
+        guard: FloodGuard,
+        pli_cost: u64,
+        start: u64,
+    ) -> Self
+        requires cost { pli_cost ≡ pli_octets intake.asker }
         ensures { result ≡ record {
           intake = intake;
           feed = feed;
@@ -78,6 +93,7 @@ impl<N: PublisherName, P: Pace> MediaFront<N, P> {
             intake,
             feed,
             guard,
+            pli_cost,
             ticks: Ticks { start, had: 0 },
             reports: ReportTimer { last: start },
         }
@@ -97,7 +113,8 @@ impl<N: PublisherName, P: Pace> MediaFront<N, P> {
     /// - The front tries to send what the intake asks the sender for, in order. Each of these datagrams costs its
     ///   octets. One that its address has too little credit for is dropped.
     /// - Every lane is given each item. A NACK keeps as many of its first numbers as the guard grants. A NACK, a report
-    ///   block or a PLI is left out if the guard grants it nothing.
+    ///   block or a PLI is left out if the guard grants it nothing. A PLI also costs its sender the octets that pass it
+    ///   on, and is left out if the sender has too little credit.
     ///
     /// On out of memory, the only error, nothing is sent, and no lane is given an item. The intake may have taken the
     /// datagram in.
@@ -126,8 +143,13 @@ impl<N: PublisherName, P: Pace> MediaFront<N, P> {
         let copies = copies_of_all(alloc, &ingest.items, self.feed.count())?;
         credit(&mut self.guard, ingest.outcome, from, octets.len() as u64);
         try_paid(&mut self.guard, &ingest.up, wire);
-        self.feed
-            .hand_out_all(&mut self.guard, moment, &ingest.items, copies);
+        self.feed.hand_out_all(
+            &mut self.guard,
+            self.pli_cost,
+            moment,
+            &ingest.items,
+            copies,
+        );
         Ok(ingest.outcome)
     }
 
@@ -242,6 +264,7 @@ impl<N: PublisherName, P: Pace> MediaFront<N, P> {
             intake: _,
             feed,
             guard: _,
+            pli_cost: _,
             ticks: _,
             reports: _,
         } = self;

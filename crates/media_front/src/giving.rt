@@ -8,14 +8,13 @@ ghost use Rattle.std.specs.declared.vec.Vec.{Vec as Row};
 ghost use Rattle.media_items.specs.Inputs.{input_of, is_sized};
 ghost use Rattle.media_items.specs.declared.item.Item.{Item as AnItem};
 ghost use Rattle.media_front.specs.FedLanes.{FedLane, IsFed, AreGiven, AllAreGiven};
-ghost use Rattle.media_front.specs.Granted.{asked_count, granted_count, after_ask, cut_at, as_granted};
-ghost use Rattle.media_front.specs.Granted.{granted_of, after_asking};
+ghost use Rattle.media_front.specs.Granted.{granted_by, after_input, cut_at, as_granted, granted_of, after_asking};
 ghost use Rattle.media_front.specs.inner.Beats.{input_at};
 ghost use Rattle.media_front.specs.inner.Copies.{AreCopies};
 
 use crate::beat::Beat;
 use crate::feed::LaneFeed;
-use crate::granting::{cut_at, granted_count, is_left_out};
+use crate::granting::{cut_at, granted_by, is_left_out};
 use bridge_core::Item;
 use flood_guard::FloodGuard;
 use media_workers::{Pace, Parcel, PublisherName};
@@ -77,10 +76,11 @@ impl<N: PublisherName, P: Pace> LaneFeed<N, P> {
     }
 
     /// Gives every lane one of these copies of an item, cut to what the guard grants. An item that uses a quota and is
-    /// granted nothing is left out.
+    /// granted nothing is left out. A PLI costs its address so many octets.
     fn hand_out_granted(
         &mut self,
         guard: &mut FloodGuard,
+        cost: u64,
         moment: u64,
         item: &Item,
         copies: Vec<Item>,
@@ -88,22 +88,24 @@ impl<N: PublisherName, P: Pace> LaneFeed<N, P> {
         requires copies { AreCopies (length self.old) (input_of item.now) copies.items }
         requires sized { is_sized (input_of item.now) ≡ true }
         ensures given { AllAreGiven
-            (as_granted (granted_count moment (asked_count (input_of item.now)) guard.old) (input_of item.now))
+            (as_granted (granted_by cost moment (input_of item.now) guard.old) (input_of item.now))
             self.old self.new }
-        ensures guard { guard.new ≡ after_ask moment (asked_count (input_of item.now)) guard.old }
+        ensures guard { guard.new ≡ after_input cost moment (input_of item.now) guard.old }
         ensures lanes { length self.new ≡ length self.old }
     {
-        let granted = granted_count(guard, moment, item);
+        let granted = granted_by(guard, cost, moment, item);
         if is_left_out(granted) {
             return;
         }
         self.hand_out(item, granted, copies);
     }
 
-    /// Gives every lane one of the copies of each item that the guard grants, one item after another.
+    /// Gives every lane one of the copies of each item that the guard grants, one item after another. A PLI costs its
+    /// address so many octets.
     pub(crate) fn hand_out_all(
         &mut self,
         guard: &mut FloodGuard,
+        cost: u64,
         moment: u64,
         items: &[Item],
         all: Vec<Vec<Item>>,
@@ -111,14 +113,14 @@ impl<N: PublisherName, P: Pace> LaneFeed<N, P> {
         requires copies { AllZip (λ (item : AnItem Heap) (row : Row (AnItem Heap) Heap).
             AreCopies (length self.old) (input_of item) row.items) items.now all.items }
         requires sized { list_all is_sized (map input_of items.now) ≡ true }
-        ensures given { AllAreGiven (granted_of moment (map input_of items.now) guard.old) self.old self.new }
-        ensures guard { guard.new ≡ after_asking moment (map input_of items.now) guard.old }
+        ensures given { AllAreGiven (granted_of cost moment (map input_of items.now) guard.old) self.old self.new }
+        ensures guard { guard.new ≡ after_asking cost moment (map input_of items.now) guard.old }
     {
         let mut at = 0;
         for copies in all {
             let is_item = at < items.len();
             prove!(is_item);
-            self.hand_out_granted(guard, moment, &items[at], copies);
+            self.hand_out_granted(guard, cost, moment, &items[at], copies);
             at += 1;
         }
     }

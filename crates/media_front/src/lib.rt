@@ -13,10 +13,11 @@
 //! // readers, notice and rows: of a shared desk of the hall H; waker: a `Rouse`; wire: a `Wire`
 //! let intake = Intake::new(alloc, settings.try_clone()?)?;
 //! let guard = FloodGuard::new(alloc)?;
+//! let cost = pli_octets(alloc, &settings)?;
 //! let Ok(feed) = LaneFeed::<PublisherOf<H>, _>::start(rt, alloc, readers, &settings, &waker) else {
 //!     return println!(rt; "no lanes");
 //! };
-//! let mut media = MediaFront::new(intake, feed, guard, start);
+//! let mut media = MediaFront::new(intake, feed, guard, cost, start);
 //! media.tell(notice);
 //! let outcome = media.datagram(alloc, rows, &from, moment, octets, &mut wire); // from, at this moment
 //! media.tick(moment);
@@ -39,6 +40,7 @@ mod laws;
 mod naming;
 mod paying;
 mod popping;
+mod pricing;
 mod starting;
 mod tally;
 mod trying;
@@ -51,3 +53,4 @@ pub use self::laws::{
     owed_notices_are_carried,
 };
 pub use self::naming::PublisherOf;
+pub use self::pricing::pli_octets;

@@ -310,7 +310,7 @@ static double lateness(double share)
     return ticks ? (late[(long)((ticks - 1) * share)] - late[0]) * 1e3 : -1;
 }
 
-static void hold(double seconds, double most)
+static void hold(double seconds)
 {
     double begun = seconds_now(), minute = begun;
     long early = 0, now = 0;
@@ -336,7 +336,7 @@ static void hold(double seconds, double most)
     printf("ticks: %ld, late by %.1f ms (median), %.1f (99th percentile), %.1f (most)\n", ticks, lateness(0.5), lateness(0.99), lateness(1));
     printf("flood: %ld octets in; out for it %ld octets of control (%.3f for one) and %ld of packets (%.3f)\n", shared->octets,
            up_octets, up, down_octets, shared->octets ? (double)down_octets / shared->octets : 0);
-    int holds = share >= 99 && lateness(0.99) <= 10 && up <= most && now <= early * 1.05 + 1024;
+    int holds = share >= 99 && lateness(0.99) <= 10 && up <= 1.5 && now <= early * 1.05 + 1024;
     printf("%s\n", holds ? "held" : "NOT HELD");
 }
 
@@ -362,7 +362,7 @@ int main(int count, char **words)
     pid_t child = atol(words[4]) ? fork() : -1;
     if (child == 0)
         flood(next, atol(words[4]));
-    hold(atof(words[3]), next == pictures ? 3.5 : 1.5);
+    hold(atof(words[3]));
     if (child > 0) {
         kill(child, SIGKILL);
         waitpid(child, 0, 0);

@@ -12,7 +12,7 @@ FLOOD is one of
 
 A flood holds where at least 99 in 100 of the call's packets that reached the bridge come to the listener, the ticks are late by
 at most 10 ms (99th percentile), memory is flat after the first minute, and the control that goes out to the flood's senders, with the
-PLIs that go to the call's, has at most 1.5 octets for each of theirs, of `pictures` 3.5. The status is 0 where all floods held.
+PLIs that go to the call's, has at most 1.5 octets for each of theirs. The status is 0 where all floods held.
 """
 
 import pathlib

@@ -64,7 +64,7 @@ loop-copies-preserved g c =
     let x = c.index-items-at.result in
     let at = c.loop-copies.at in
     let low : at < length items = omega (arith, k.at, one.0) in
-    let step = granted_step c.args.moment input_of items at x c.args.guard.now c.loop-copies.guard c.hand_out_granted.new.guard c.args.self.now c.loop-copies.self c.hand_out_granted.new.self
+    let step = granted_step c.args.cost c.args.moment input_of items at x c.args.guard.now c.loop-copies.guard c.hand_out_granted.new.guard c.args.self.now c.loop-copies.self c.hand_out_granted.new.self
     low c.index-items-at.is k.given k.guard c.hand_out_granted.ensures.given c.hand_out_granted.ensures.guard in
     record {
       at = omega (arith, k.at, length-append done (c.in-Some.copies ∷ []));
@@ -85,8 +85,8 @@ returns g c =
     let many : c.loop-copies.at ≡ length items = omega (arith, k.at, k.len, c.in-None.ensures.steps.0, ap length k.left, length-append done rest, same) in
     let whole : take c.loop-copies.at items ≡ items = ap (λ (n : ℕ). take n items) many ∙ take_all (length items) items (omega arith) in
     record {
-      given = subst (λ (xs : List (Item Global)). AllAreGiven (granted_of c.args.moment (map input_of xs) c.args.guard.now) c.args.self.now c.loop-copies.self) whole k.given;
-      guard = subst (λ (xs : List (Item Global)). c.loop-copies.guard ≡ after_asking c.args.moment (map input_of xs) c.args.guard.now) whole k.guard;
+      given = subst (λ (xs : List (Item Global)). AllAreGiven (granted_of c.args.cost c.args.moment (map input_of xs) c.args.guard.now) c.args.self.now c.loop-copies.self) whole k.given;
+      guard = subst (λ (xs : List (Item Global)). c.loop-copies.guard ≡ after_asking c.args.cost c.args.moment (map input_of xs) c.args.guard.now) whole k.guard;
     }
 
 pub prove-unreachable-requires : goal.prove-unreachable-requires

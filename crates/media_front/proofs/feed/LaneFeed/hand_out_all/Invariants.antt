@@ -11,6 +11,6 @@ invariant-loop-copies g l = record {
   left : l.yielded ++ into_iter_items l.copies-iterator ≡ l.fn.all.items;
   len : into_iter_len l.copies-iterator ≡ length (into_iter_items l.copies-iterator);
   lanes : length l.self ≡ length l.initial.self;
-  given : AllAreGiven (granted_of l.moment (map input_of (take l.at l.items)) l.initial.guard) l.initial.self l.self;
-  guard : l.guard ≡ after_asking l.moment (map input_of (take l.at l.items)) l.initial.guard;
+  given : AllAreGiven (granted_of l.cost l.moment (map input_of (take l.at l.items)) l.initial.guard) l.initial.self l.self;
+  guard : l.guard ≡ after_asking l.cost l.moment (map input_of (take l.at l.items)) l.initial.guard;
 }

@@ -8,12 +8,12 @@ use Rattle.media_front.proofs.feed.LaneFeed.hand_out_granted.Goals as goal
 
 pub returns-then-is_left_out-clause-given : goal.returns-then-is_left_out-clause-given
 returns-then-is_left_out-clause-given g c =
-    none_given c.granted_count-granted.result _ (input_of c.args.item.now) c.args.self.now c.granted_count-granted.ensures.count c.if-is_left_out.ensures
+    none_given c.granted_by-granted.result _ (input_of c.args.item.now) c.args.self.now c.granted_by-granted.ensures.count c.if-is_left_out.ensures
 
 pub returns-clause-given : goal.returns-clause-given
 returns-clause-given g c =
-    one_given c.granted_count-granted.result _ (input_of c.args.item.now) c.args.self.now c.hand_out.new.self c.granted_count-granted.ensures.count c.if-is_left_out.ensures c.hand_out.ensures
+    one_given c.granted_by-granted.result _ (input_of c.args.item.now) c.args.self.now c.hand_out.new.self c.granted_by-granted.ensures.count c.if-is_left_out.ensures c.hand_out.ensures
 
 pub returns-clause-lanes : goal.returns-clause-lanes
 returns-clause-lanes g c =
-    sym (length_all_zip (IsFed (cut_at c.granted_count-granted.result (input_of c.args.item.now))) c.args.self.now c.hand_out.new.self c.hand_out.ensures)
+    sym (length_all_zip (IsFed (cut_at c.granted_by-granted.result (input_of c.args.item.now))) c.args.self.now c.hand_out.new.self c.hand_out.ensures)

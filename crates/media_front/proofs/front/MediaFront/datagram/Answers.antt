@@ -11,6 +11,7 @@ use Rattle.media_front.specs.FedLanes.{AllAreGiven}
 use Rattle.media_front.specs.Tries.{WereTried}
 use Rattle.flood_guard.specs.declared.account.Account.{Account}
 use Rattle.media_front.specs.Paid.{paid_of, after_paying}
+use Rattle.media_front.specs.Prices.{pli_octets}
 use Rattle.media_front.specs.Granted.{granted_of, after_asking}
 use Rattle.media_front.specs.Fronts.{FrontOf, Arrival, HasTaken, MayHaveTaken, once_earned, once_paid}
 use Rattle.media_front.specs.inner.Copies.{AreCopies}
@@ -39,6 +40,7 @@ returns-clause-takes g c =
     let here = c.self.inside in
     let arrival : Arrival = record { desk = c.args.rows.now; from = c.args.from.now; moment = c.args.moment; octets = c.args.octets.now } in
     let ingest = c.in_ok-ingest.ingest in
+    let cost : ℕ = pli_octets here.intake.asker in
     let new : FrontOf g.row.P.Denot = record { intake = c.datagram.new.self; feed = c.hand_out_all.new.self; guard = c.hand_out_all.new.guard; ticks = here.ticks; reports = here.reports } in
     let before = g.W.Wire.attempts c.args.wire.now in
     let after = g.W.Wire.attempts c.try_paid.new.wire in
@@ -53,8 +55,10 @@ returns-clause-takes g c =
       takes = c.in_ok-ingest.ensures.takes;
       up = subst (λ (a : List Account). WereTried (paid_of (map datagram_of ingest.up.items) a) before after) earned
           (subst (λ (xs : List (Address × Vec ℕ Global)). WereTried (paid_of (map datagram_of xs) c.credit.new.guard) before after) c.deref-2.ensures.value c.try_paid.ensures.tried);
-      items = subst (λ (a : List Account). AllAreGiven (granted_of c.args.moment (map input_of ingest.items.items) a) here.feed c.hand_out_all.new.self) paid
-          (subst (λ (xs : List (Item Global)). AllAreGiven (granted_of c.args.moment (map input_of xs) c.try_paid.new.guard) here.feed c.hand_out_all.new.self) c.deref-3.ensures.value c.hand_out_all.ensures.given);
-      guard = subst (λ (xs : List (Item Global)). c.hand_out_all.new.guard ≡ after_asking c.args.moment (map input_of xs) c.try_paid.new.guard) c.deref-3.ensures.value c.hand_out_all.ensures.guard
-          ∙ ap (after_asking c.args.moment (map input_of ingest.items.items)) paid;
+      items = subst (λ (a : List Account). AllAreGiven (granted_of cost c.args.moment (map input_of ingest.items.items) a) here.feed c.hand_out_all.new.self) paid
+          (subst (λ (n : ℕ). AllAreGiven (granted_of n c.args.moment (map input_of ingest.items.items) c.try_paid.new.guard) here.feed c.hand_out_all.new.self) c.self.invariant
+          (subst (λ (xs : List (Item Global)). AllAreGiven (granted_of here.pli_cost c.args.moment (map input_of xs) c.try_paid.new.guard) here.feed c.hand_out_all.new.self) c.deref-3.ensures.value c.hand_out_all.ensures.given));
+      guard = subst (λ (n : ℕ). c.hand_out_all.new.guard ≡ after_asking n c.args.moment (map input_of ingest.items.items) c.try_paid.new.guard) c.self.invariant
+          (subst (λ (xs : List (Item Global)). c.hand_out_all.new.guard ≡ after_asking here.pli_cost c.args.moment (map input_of xs) c.try_paid.new.guard) c.deref-3.ensures.value c.hand_out_all.ensures.guard)
+          ∙ ap (after_asking cost c.args.moment (map input_of ingest.items.items)) paid;
     })
