@@ -43,9 +43,13 @@ pub enum Case {
 /// in a frame.
 #[derive(Clone, Copy)]
 pub struct Order {
+    /// What is done.
     pub case: Case,
+    /// How often it is done, from 1 on.
     pub times: u64,
+    /// How many slots, sources or members the desk has.
     pub slots: u16,
+    /// How many packets a frame has, 1 to 256.
     pub packets: u16,
 }
 

@@ -3,7 +3,9 @@
 /// Packets, and their octets.
 #[derive(Clone, Copy)]
 pub struct Tally {
+    /// How many packets.
     pub packets: u64,
+    /// The octets of all of them.
     pub octets: u64,
 }
 

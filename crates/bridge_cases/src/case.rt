@@ -5,15 +5,19 @@ use std::alloc::{AllocError, Global};
 /// Lines to a bridge, with what it has to answer. Each text has an LF behind each line.
 #[derive(Drop)]
 pub struct Case {
+    /// What the case shows.
     pub name: String,
+    /// How many lanes the bridge has, 1 to 16.
     pub lanes: u32,
     /// Whether the lines are those of a script, which is run as a whole.
     pub is_script: bool,
+    /// The lines before the refused one.
     pub before: String,
     /// The line whose requests for memory are refused, or nothing.
     pub refused: String,
     /// Whether that line makes no request.
     pub takes_none: bool,
+    /// The lines behind it.
     pub after: String,
     /// What is asked after a refusal.
     pub asked: String,

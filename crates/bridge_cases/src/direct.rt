@@ -88,9 +88,13 @@ fn mix<'a>(alloc: Global, heap: &'a Refusing, nth: u64, out: &mut String) -> io:
 /// What such calls are made with: memory, the rows of a desk, and the item that waits first.
 #[derive(Clone, Copy)]
 pub struct Parts<'b, 'a> {
+    /// The memory of what is no part of the bridge.
     pub alloc: Global,
+    /// The memory of the bridge, which can be refused.
     pub heap: &'a Refusing,
+    /// The rows of the desk.
     pub rows: &'b Rows<&'a Refusing>,
+    /// The item that waits first.
     pub first: Option<&'b Item<&'a Refusing>>,
 }
 

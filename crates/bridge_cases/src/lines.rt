@@ -13,7 +13,7 @@ pub const MOST: u64 = 100_000;
 /// How a line was answered while a request for memory was refused.
 #[derive(Clone, Copy, PartialEq, Eq)]
 pub enum Answer {
-    /// The bridge refuses the line for want of memory.
+    /// The bridge refuses the line: out of memory.
     Refused,
     /// The line is answered, though a request was refused: there was another way.
     Anyway,
@@ -46,8 +46,11 @@ pub fn first_word(line: &str) -> (&str, &str) {
 /// A datagram that comes.
 #[derive(Drop)]
 pub struct Arrival {
+    /// When it comes, in nanoseconds since 1970.
     pub moment: u64,
+    /// The address that it comes from.
     pub from: Address,
+    /// Its octets.
     pub octets: Vec<u8>,
 }
 

@@ -8,7 +8,7 @@ use std::alloc::Global;
 use std::io;
 
 /// Runs the script with each request for memory refused in turn, until it makes no more. Each run but the last one ends
-/// for want of memory, with answers to whole lines, and there is one for each front of the answers. Prints what
+/// out of memory, with answers to whole lines, and there is one for each front of the answers. Prints what
 /// differs, and tells whether nothing does.
 pub fn is_run(rt: &HostRuntime, alloc: Global, case: &Case) -> io::Result<bool> {
     let name = case.name.as_str();

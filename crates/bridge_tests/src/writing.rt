@@ -54,7 +54,7 @@ fn ends(alloc: Global, limit: usize, fails: Option<ErrorKind>, want: Result<(), 
     answer == want && TEXT.as_bytes().get(..limit) == Some(writer.0.taken.as_slice())
 }
 
-/// A writer that tells want of memory between two lines ends the run so; within a line it has failed.
+/// A writer that is out of memory between two lines ends the run by that fault. Within a line it has failed.
 #[test]
 fn a_writer_may_take_a_part(rt: HostRuntime) -> Result<(), Fail> {
     let failed = Err(RunFault::Write);

@@ -56,9 +56,13 @@ fn field<'a>(text: &'a str, name: &str) -> Result<(&'a str, &'a str), Untried> {
 /// What is to be written, and the octets that it is written behind.
 #[derive(Drop)]
 pub struct ToWrite {
+    /// The octets that stand before the packet.
     pub before: Vec<u8>,
+    /// The packet's header.
     pub header: Header,
+    /// Its contributing sources, 0 to 15.
     pub csrcs: Vec<u32>,
+    /// The octets of its payload.
     pub payload: Vec<u8>,
 }
 

@@ -36,7 +36,7 @@ pub planned : (d : Desk) (c : Command) → good d ≡ true → reason_against d 
 unfolding desk_after reason_against
 planned d c g h = led d (form_of c) g h
 
--- want of memory is no reason against a command
+-- out of memory is no reason against a command
 pub never_memory : (why : Reason) → refusal_for why ≡ refusals.OutOfMemory → ⊥
 never_memory (reasons.Exists) h = cc
 never_memory (reasons.NoRoom) h = cc

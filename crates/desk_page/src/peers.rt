@@ -9,7 +9,7 @@ use std::alloc::{AllocError, Global};
 /// How many browsers' connections there are at most.
 pub(crate) const PEERS: usize = 32;
 
-/// How many milliseconds nothing has gone over a connection, at least, that a new one takes the place of.
+/// For how many milliseconds a connection has to be still before a new one may take its place.
 const STILLNESS: u64 = 1_000;
 
 /// The browsers' connections.

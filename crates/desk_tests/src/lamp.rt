@@ -92,7 +92,7 @@ fn dark<A: Allocator + Copy>(log: A) -> History<Lamp<A>> {
 }
 
 /// As many edits are done as there may be, some are taken back, one is done again, and the last is
-/// asked for: with ample memory nothing is refused for want of it, however long the two lists are.
+/// asked for: with ample memory nothing is refused by out of memory, however long the two lists are.
 #[test]
 fn a_full_log_is_filled_and_undone(rt: HostRuntime) -> Result<(), Fail> {
     let alloc = rt.alloc();

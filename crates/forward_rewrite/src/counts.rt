@@ -13,6 +13,6 @@ pub struct Counts {
     pub ts: u32,
     /// The moment of that frame or tick, in nanoseconds since 1970.
     pub moment: u64,
-    /// The clock rate of the timestamp, in Hz.
+    /// The clock rate of the timestamp, in Hz: 8000 or 44100 for audio, 90000 for video.
     pub rate: u32,
 }

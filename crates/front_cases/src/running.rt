@@ -10,6 +10,7 @@ use udp_front::{Listening, settings};
 /// A bridge that runs on a thread of its own, until an operator stops it.
 #[derive(Drop)]
 pub struct Running {
+    /// The addresses that it listens on.
     pub listening: Listening,
     has_stopped: Arc<AtomicBool, Global>,
 }
@@ -17,7 +18,9 @@ pub struct Running {
 /// What the thread of a bridge runs. Only `main` can start it: a thread takes no handle of sockets from elsewhere.
 #[derive(Drop)]
 pub struct Start {
+    /// The bridge's sockets and settings.
     pub front: Front,
+    /// Whether it has stopped without a fault.
     pub has_stopped: Arc<AtomicBool, Global>,
 }
 

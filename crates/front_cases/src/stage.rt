@@ -22,11 +22,13 @@ const OPERATORS: usize = 20;
 /// A bridge on ports of the system's choice, and the sockets around it, by number.
 #[derive(Drop)]
 pub struct Stage {
+    /// The memory of all of it.
     pub alloc: Global,
     /// How many lanes a bridge has where its line does not say.
     lanes: usize,
     bridge: Option<Running>,
     operators: [Option<Operator>; OPERATORS],
+    /// The sockets of members, once there is one.
     pub members: Option<Members>,
 }
 

@@ -14,7 +14,7 @@ use Rattle.media_workers.specs.Bridges.{EndOf}
 use Rattle.lane_laws.specs.Shares.{of_lane}
 use Rattle.lane_laws.specs.NamedVersions.{AreGiven}
 
--- Of what is sent for the items of these steps, each lane, by its place, sent just its share.
+-- Each lane, by its place, sent just its share of what is sent for the items of these steps.
 abbrev pub AreShares : {N : Type 0} → List Step → List (List Sent) → List (EndOf N) → Type 0
 AreShares {N} steps all ends =
     (lane : ℕ) (end : EndOf N) → slice_get ends lane ≡ Some end → map sent_of (sent end.sink) ≡ of_lane lane steps all

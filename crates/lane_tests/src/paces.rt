@@ -23,6 +23,7 @@ impl Pace for Free {
 /// Lets nothing pass until the gate is open.
 #[derive(Drop)]
 pub struct Held {
+    /// Whether items may pass.
     pub gate: Arc<AtomicBool, Global>,
 }
 
@@ -43,7 +44,9 @@ impl Pace for Held {
 /// Says that it was asked, and waits a while until the other was.
 #[derive(Drop)]
 pub struct Together {
+    /// Whether it was asked.
     pub own: Arc<AtomicBool, Global>,
+    /// Whether the other was asked.
     pub other: Arc<AtomicBool, Global>,
 }
 
@@ -98,6 +101,7 @@ impl Asked {
 /// Notes what it is asked, and lets each item pass.
 #[derive(Drop)]
 pub struct Counted {
+    /// What it was asked.
     pub asked: Arc<Asked, Global>,
 }
 
@@ -113,6 +117,7 @@ impl Pace for Counted {
 /// Stops before the item of this number.
 #[derive(Drop)]
 pub struct StopsAt {
+    /// The number of the item that may not pass, from 1 on.
     pub item_no: u64,
 }
 

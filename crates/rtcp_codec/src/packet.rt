@@ -39,7 +39,7 @@ pub struct Pli {
 /// A packet without a variant of its own: another type, or another format of feedback.
 #[derive(Drop)]
 pub struct Other<A: Allocator = Global> {
-    /// The packet type.
+    /// The packet type, 0 to 255.
     pub pt: u8,
     /// The count, or the format of feedback; at most 31.
     pub count: u8,

@@ -28,7 +28,7 @@ pub struct SenderReport<A: Allocator = Global> {
     pub ssrc: u32,
     /// The NTP timestamp: seconds since 1900 in the upper 32 bits, their fraction in the lower 32.
     pub ntp: u64,
-    /// The RTP timestamp of the same moment.
+    /// The RTP timestamp of the same moment, in units of the media's clock.
     pub ts: u32,
     /// The packets that the sender has sent, modulo 2^32.
     pub packets: u32,

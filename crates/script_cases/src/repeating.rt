@@ -5,7 +5,9 @@ use std::alloc::AllocError;
 /// A line that stands for several, one for each number from the first to the last.
 #[derive(Clone, Copy)]
 pub struct Repeated<'a> {
+    /// The first number.
     pub first: u64,
+    /// The last number.
     pub last: u64,
     text: &'a str,
 }

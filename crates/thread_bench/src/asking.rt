@@ -10,8 +10,9 @@ pub struct Order {
     pub rounds: u64,
     /// The calls of one operator, an even number.
     pub calls: u64,
-    /// The desk that is called as a full one, and how often that is measured.
+    /// The desk that is called as a full one.
     pub full: Plan,
+    /// How often the full desk is measured.
     pub full_rounds: u64,
     /// The calls of each of sixteen operators, an even number.
     pub crowd: u64,

@@ -32,7 +32,9 @@ pub enum Callers {
 /// A seat at its desk.
 #[derive(Drop)]
 pub struct Post<'d, 'a, H: Hall> {
+    /// The desk.
     pub desk: &'d SharedDesk<'a, H>,
+    /// The seat.
     pub seat: Seat<'a, H>,
 }
 

@@ -17,7 +17,9 @@ pub enum Measure {
 /// What was done, and its floor.
 #[derive(Clone, Copy)]
 pub struct Compared {
+    /// What the bridge did.
     pub mine: Took,
+    /// What its floor did.
     pub floor: Took,
 }
 

@@ -23,7 +23,9 @@ pub type LanePace<R> = Rung<R, Rouser<R>>;
 /// A bell for each lane, paces by them, and what waits until lanes sleep.
 #[derive(Drop)]
 pub struct Paced<R: Wait + Drop> {
+    /// A bell for each lane.
     pub bells: Vec<Arc<Bell, Global>>,
+    /// A pace for each lane.
     pub paces: Vec<LanePace<R>>,
     /// It lets item n pass once lanes went to sleep n times.
     pub sleeps: Rung<R, ()>,

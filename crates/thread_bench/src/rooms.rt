@@ -21,9 +21,13 @@ const STREAM: u32 = 300_000;
 /// members. Each slot has a video source, the slots in turn of these.
 #[derive(Clone, Copy)]
 pub struct Plan {
+    /// The members, numbered from 0.
     pub members: u16,
+    /// The audio sources.
     pub voices: u16,
+    /// The video sources.
     pub pictures: u16,
+    /// The slots.
     pub slots: u16,
     /// Each member has a gain for each audio source. The room has a floor, and a pin where there is a video source.
     pub has_gains: bool,

@@ -38,6 +38,7 @@ pub struct Progress {
 /// What lanes are to do.
 #[derive(Clone, Copy)]
 pub struct Course {
+    /// How many steps lanes are to take.
     pub steps: u64,
     /// How many egresses come of all steps.
     pub egresses: u64,

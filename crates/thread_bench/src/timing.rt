@@ -5,6 +5,7 @@ use std::time::{Clock, CpuClock, Duration, Instant};
 /// What was done, and in how much time, in nanoseconds. A time is 0 where the clock could not be read.
 #[derive(Clone, Copy)]
 pub struct Took {
+    /// How many of it were done.
     pub done: u64,
     /// From the beginning to the end.
     pub wall: u64,

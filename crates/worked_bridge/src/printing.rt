@@ -149,8 +149,8 @@ pub fn a_fault_ends_with_1() -> u8
     }))
 }
 
-/// Want of memory.
-pub fn want_of_memory_ends_with_2() -> u8
+/// Out of memory.
+pub fn out_of_memory_ends_with_2() -> u8
     ensures { result ≡ 2 }
 {
     status(&Err(RunFault::OutOfMemory))

@@ -1,4 +1,4 @@
--- Commands, and what stands against them first; with None nothing does, want of memory apart.
+-- Commands and their first refusals, out of memory apart; None where there is none.
 use Rattle.std.specs.Prelude.{List, [], ◌∷◌, Option, None, Some}
 use Rattle.desk_edit.specs.declared.command.Command.{Command}
 use Rattle.desk_edit.specs.declared.refusal.Refusal.{Refusal}

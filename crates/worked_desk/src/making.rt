@@ -116,8 +116,8 @@ pub fn subscribe_anew(alloc: Global, rows: &mut Rows) -> Result<(), Refusal>
     carry_out(alloc, rows, &subscribe(501, 104))
 }
 
-/// With the first room would go the sub of a slot of one of its members, three steps on; and what
-/// would not go does not depend on the room.
+/// Removing the first room removes the sub of a slot of one of its members, three steps on. A row that stays doesn't
+/// depend on the room.
 pub fn dependents()
     ensures sub { IsDependent two_rooms (RoomKey 1) (sub 501 101) }
     ensures other_source { ¬ (IsDependent two_rooms (RoomKey 1) (video 103 12)) }

@@ -18,8 +18,8 @@ use desk_edit::{Command, Refusal, plan};
 use desk_rows::Rows;
 use std::alloc::Global;
 
-/// What stands against a command first, want of memory apart. A contract leaves no choice here: want
-/// of memory is told only where nothing else stands against the command.
+/// The first refusal of a command, out of memory apart. A contract leaves no choice here: out of memory is told only
+/// where no other refusal holds.
 pub fn refusal(alloc: Global, rows: &Rows, command: &Command) -> Option<Refusal>
     ensures { result ≡ refused rows.now command.now }
 {

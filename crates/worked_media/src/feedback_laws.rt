@@ -23,8 +23,7 @@ use rtp_codec::Address;
 use std::alloc::{AllocError, Global};
 use topology::{choice, member_from, slot_at};
 
-/// Of what a NACK names, the list that is resent has each number once, however often it is named, and no
-/// other one.
+/// The list that is resent has each number that a NACK names once, however often it is named, and no other.
 pub fn asks_for_each_number_once(alloc: Global, nack: Nack) -> Result<Vec<u16>, AllocError>
     ensures { IfOk result (λ v. (n : ℕ) → filter (nat_eq n) (firsts v.items)
         ≡ (if list_any (nat_eq n) (numbers_named nack.words.items) then n ∷ [] else [])) }

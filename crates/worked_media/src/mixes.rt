@@ -209,8 +209,8 @@ pub fn an_own_sample_is_taken_off_before_the_clamp() -> i16
     out[0]
 }
 
-/// Named are others that have a gain and a sample: not the receiver's own source, one at gain 0, or one without a
-/// sample.
+/// A mix names the others that have a gain and a sample. It doesn't name the receiver's own source, one at gain 0, or
+/// one without a sample.
 pub fn only_who_is_heard_is_named() -> Contributors
     ensures { take result.count result.ssrcs ≡ 24 ∷ [] }
 {

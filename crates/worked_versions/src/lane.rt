@@ -11,7 +11,9 @@ use versions::{LaneReader, Notice};
 /// What an item saw: a version of the desk, and how many rows of a kind there are at it.
 #[derive(Clone, Copy)]
 pub struct Seen {
+    /// The version of the desk.
     pub version: u64,
+    /// How many rows of the kind it has.
     pub rows: usize,
 }
 

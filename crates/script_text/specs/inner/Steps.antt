@@ -20,7 +20,7 @@ use Rattle.script_text.specs.Bridge.{Bridge, first_desk, opening_bridge, answer_
 use Rattle.script_text.specs.Bridge.{item_sent, after_item, items_sent, items_text, after_items}
 use Rattle.script_text.specs.Output.{RunOutput, told, stopped, outcome_of, IsFrontOf, IsCutOf}
 
--- the reply tells of want of memory
+-- the reply reports out of memory
 abbrev pub wants_memory : Reply → Bool
 wants_memory (Refused at OutOfMemory) = true
 wants_memory reply = false
@@ -144,7 +144,7 @@ AnswersLine old number line new before now result =
     (bridge : Bridge) → Hears bridge.wire (request_of line) → Stands old bridge
     → (sent : List ℕ) × Appends before now sent × LineEnds bridge number line new sent result
 
--- all was sent, or a front and not all, or nothing for want of memory
+-- all was sent, or a front and not all, or nothing on out of memory
 abbrev pub SendEnds : List ℕ → List ℕ → Result (Unit {0}) RunFault → Type 0
 SendEnds octets sent (Ok u) = sent ≡ octets
 SendEnds octets sent (Err errors.Write) = IsCutOf sent octets

@@ -18,7 +18,7 @@ AreNear g (x ∷ xs) = IsNear g x × AreNear (max g x) xs
 abbrev pub with_numbers : Stretch → List ℕ → Stretch
 with_numbers s xs = record { base = s.base; accepted = s.accepted ++ map pos xs; jump = s.jump; told = s.told }
 
--- Of a source past probation, all packets are accepted, with the sender's numbers for extended numbers.
+-- All packets of a source past probation are accepted, with the sender's numbers as extended numbers.
 abbrev pub TrueNumbers : Type 0
 TrueNumbers =
     (s : Stretch) (xs : List ℕ) → AreNear (greatest_of s) xs → fold after_number (Valid s) (map (λ x. x % 2 ^ 16) xs) ≡ Valid (with_numbers s xs)
