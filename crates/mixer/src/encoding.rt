@@ -2,7 +2,7 @@
 
 ghost use Rattle.std.specs.Prelude.{◌≡◌, true, OnOk};
 ghost use Rattle.forward_rewrite.specs.Mixes.{encoded};
-ghost use Rattle.mixer.specs.inner.Encoded.{IsEncoded};
+ghost use Rattle.mixer.specs.inner.Encoded.{IsEncoded, AreEncoded};
 
 use forward_rewrite::{encode_into, payload_len};
 use media_items::Format;
@@ -75,5 +75,26 @@ impl<A: Allocator + Copy> Encoded<A> {
             self.kept = true;
         }
         Ok(())
+    }
+}
+
+/// The last payload of each encoding, so that members with different codecs in turn share theirs.
+#[derive(Drop)]
+pub struct Encodings<A: Allocator + Copy> {
+    /// The last one of PCMU.
+    pub pcmu: Encoded<A>,
+    /// The last one of L16.
+    pub linear: Encoded<A>,
+}
+
+impl<A: Allocator + Copy> Encodings<A> {
+    /// No samples, and no payloads.
+    pub fn new(alloc: A) -> Self
+        ensures { AreEncoded result }
+    {
+        Encodings {
+            pcmu: Encoded::new(alloc),
+            linear: Encoded::new(alloc),
+        }
     }
 }

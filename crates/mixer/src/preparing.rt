@@ -10,10 +10,10 @@ ghost use Rattle.mixer.specs.Hearing.{Voice as VoiceOf, member_rate};
 ghost use Rattle.mixer.specs.inner.Named.{IsHeardOf};
 ghost use Rattle.mixer.specs.inner.Rooms.{IsRoom};
 ghost use Rattle.mixer.specs.inner.Ready.{IsPrepared, hears_any};
-ghost use Rattle.mixer.specs.inner.Encoded.{IsEncoded};
+ghost use Rattle.mixer.specs.inner.Encoded.{IsEncoded, AreEncoded};
 
-use crate::apart::SSRC_OCTETS;
-use crate::encoding::Encoded;
+use crate::apart::own_start;
+use crate::encoding::{Encoded, Encodings};
 use crate::hearing::{listen, listen_in_full};
 use crate::rooms::RoomSound;
 use crate::streams::MixTable;
@@ -46,8 +46,8 @@ pub struct Scratch<A: Allocator + Copy> {
     pub near: usize,
     /// The samples of a mix.
     pub samples: Vec<i16, A>,
-    /// The last payload.
-    pub last: Encoded<A>,
+    /// The last payloads.
+    pub last: Encodings<A>,
     /// What packets are cut off. It is empty before and behind a packet.
     pub block: BytesMut<A>,
 }
@@ -56,12 +56,12 @@ impl<A: Allocator + Copy> Scratch<A> {
     /// No samples, and a block for this many octets.
     pub fn new(alloc: A, octets: usize) -> Result<Self, AllocError>
         ensures block { IfOk result (λ s. s.block.items ≡ []) }
-        ensures last { IfOk result (λ s. IsEncoded s.last) }
+        ensures last { IfOk result (λ s. AreEncoded s.last) }
     {
         Ok(Scratch {
             near: 0,
             samples: Vec::new(alloc),
-            last: Encoded::new(alloc),
+            last: Encodings::new(alloc),
             block: BytesMut::with_capacity(alloc, octets)?,
         })
     }
@@ -80,8 +80,9 @@ struct MixHeard<'a> {
     shared: bool,
 }
 
-/// The packet of what a member without gains hears, if it hears anything. It is cut off the block.
-fn prepare_in_full<A: Allocator + Copy>(
+/// The packet of what a member without gains hears, if it hears anything. It is cut off the block. `last` is the last
+/// payload of its encoding.
+fn prepare_encoded<A: Allocator + Copy>(
     stream: &MixStream,
     heard: MixHeard<'_>,
     last: &mut Encoded<A>,
@@ -107,6 +108,35 @@ fn prepare_in_full<A: Allocator + Copy>(
     last.encode(heard.format, heard.samples, heard.shared)?;
     let prepared = stream.prepare_in(block, heard.format, heard.named, &last.payload, moment)?;
     Ok(Some(prepared))
+}
+
+/// The packet of what a member without gains hears, if it hears anything. It is cut off the block.
+fn prepare_in_full<A: Allocator + Copy>(
+    stream: &MixStream,
+    heard: MixHeard<'_>,
+    last: &mut Encodings<A>,
+    block: &mut BytesMut<A>,
+    moment: u64,
+) -> Result<Option<PreparedMix<A>>, AllocError>
+    requires few { heard.named.count ≤ most_csrcs }
+    requires last { AreEncoded last.old }
+    requires empty { block.old.items ≡ [] }
+    ensures none { IfOk result (λ p. (d : Desk) (voices : List VoiceOf) (m : MemberRow)
+        → IsHeardOf d voices m heard.entry.samples.now heard.entry.named
+        → is_some p ≡ hears_any d voices m) }
+    ensures some { IfOk result (λ o. IfSome o (λ p. (d : Desk) (voices : List VoiceOf) (m : MemberRow)
+        → IsHeardOf d voices m heard.entry.samples.now heard.entry.named
+        → heard.entry.format ≡ format_of m.codec (member_rate d m)
+        → IsPrepared d voices moment m stream.now p)) }
+    ensures last { OnOk result (AreEncoded last.new) }
+    ensures empty { OnOk result (block.new.items ≡ []) }
+{
+    match heard.format {
+        Format::Pcmu => prepare_encoded(stream, heard, &mut last.pcmu, block, moment),
+        Format::L16At8000 | Format::L16At44100 => {
+            prepare_encoded(stream, heard, &mut last.linear, block, moment)
+        }
+    }
 }
 
 /// The packet of what a member hears by its gains, if it hears anything.
@@ -151,13 +181,13 @@ pub fn prepare_for<A: Allocator + Copy>(
 ) -> Result<Option<PreparedMix<A>>, AllocError>
     requires own { room.now.room ≡ member.now.room }
     requires is { (voices : List VoiceOf) × IsRoom tick.now.rows.now voices room.now }
-    requires last { IsEncoded scratch.old.last }
+    requires last { AreEncoded scratch.old.last }
     requires empty { scratch.old.block.items ≡ [] }
     ensures none { IfOk result (λ p. (voices : List VoiceOf) → IsRoom tick.now.rows.now voices room.now
         → is_some p ≡ hears_any tick.now.rows.now voices member.now) }
     ensures some { IfOk result (λ o. IfSome o (λ p. (voices : List VoiceOf) → IsRoom tick.now.rows.now voices room.now
         → IsPrepared tick.now.rows.now voices tick.now.moment member.now stream.now p)) }
-    ensures last { OnOk result (IsEncoded scratch.new.last) }
+    ensures last { OnOk result (AreEncoded scratch.new.last) }
     ensures empty { OnOk result (scratch.new.block.items ≡ []) }
 {
     let Scratch {
@@ -167,6 +197,8 @@ pub fn prepare_for<A: Allocator + Copy>(
         block,
     } = scratch;
     samples.resize(tick_at(room.rate), 0)?;
+    // Members without inputs of their own hear the same.
+    let shared = own_start(&room.members, member.member, *near) == room.members.len();
     match listen_in_full(tick.rows, member, room, near, samples) {
         Some(named) => {
             let format = format_of(member.codec, room.rate);
@@ -174,7 +206,7 @@ pub fn prepare_for<A: Allocator + Copy>(
                 format,
                 named,
                 samples,
-                shared: SSRC_OCTETS * usize::from(named.count) == room.named.len(),
+                shared,
             };
             prepare_in_full(stream, heard, last, block, tick.moment)
         }

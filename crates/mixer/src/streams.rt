@@ -7,7 +7,7 @@ ghost use Rattle.forward_rewrite.specs.Mixes.{MixOf};
 ghost use Rattle.topology.specs.Mixes.{mix_member};
 ghost use Rattle.mixer.specs.Hearing.{Voice as VoiceOf};
 ghost use Rattle.mixer.specs.Mixers.{mix_at};
-ghost use Rattle.mixer.specs.inner.Encoded.{IsEncoded, most_block};
+ghost use Rattle.mixer.specs.inner.Encoded.{AreEncoded, most_block};
 ghost use Rattle.mixer.specs.inner.Rooms.{AreLong, IsRoom, IsRate, of_room};
 ghost use Rattle.mixer.specs.inner.Ready.{AreRooms, IsReady, Passes, current, hears_any, hearers, members_of};
 ghost use Rattle.mixer.specs.inner.Ready.{AreReady, pass_rate};
@@ -109,7 +109,7 @@ fn ready_for<A: Allocator + Copy>(
 ) -> Result<Option<Ready<A>>, AllocError>
     requires own { room.now.room ≡ member.now.room }
     requires is { (voices : List VoiceOf) × IsRoom tick.now.rows.now voices room.now }
-    requires last { IsEncoded scratch.old.last }
+    requires last { AreEncoded scratch.old.last }
     requires empty { scratch.old.block.items ≡ [] }
     ensures none { IfOk result (λ ready. (voices : List VoiceOf) → IsRoom tick.now.rows.now voices room.now
         → is_some ready ≡ hears_any tick.now.rows.now voices member.now) }
@@ -118,7 +118,7 @@ fn ready_for<A: Allocator + Copy>(
         (λ r. (r.member ≡ member.now)
         × ((voices : List VoiceOf) → IsRoom tick.now.rows.now voices room.now
         → IsReady tick.now.rows.now voices tick.now.moment tick.now.streams.now.entries r))) }
-    ensures last { OnOk result (IsEncoded scratch.new.last) }
+    ensures last { OnOk result (AreEncoded scratch.new.last) }
     ensures empty { OnOk result (scratch.new.block.items ≡ []) }
 {
     let stream = stream_for(tick.streams, member);
@@ -142,7 +142,7 @@ fn add<'a, A: Allocator + Copy>(
     requires few { length (of_room member.now.room tick.now.voices.now) ≤ 64 }
     requires long { AreLong tick.now.rows.now tick.now.voices.now }
     requires rooms { AreRooms tick.now.rows.now tick.now.voices.now rooms.old.items }
-    requires last { IsEncoded scratch.old.last }
+    requires last { AreEncoded scratch.old.last }
     requires empty { scratch.old.block.items ≡ [] }
     ensures rooms { OnOk result (AreRooms tick.now.rows.now tick.now.voices.now rooms.new.items) }
     ensures members { OnOk result (members_of ready.new.items
@@ -150,7 +150,7 @@ fn add<'a, A: Allocator + Copy>(
     ensures ready { OnOk result (AreReady tick.now.rows.now tick.now.voices.now tick.now.moment
         tick.now.streams.now.entries ready.old.items
         → AreReady tick.now.rows.now tick.now.voices.now tick.now.moment tick.now.streams.now.entries ready.new.items) }
-    ensures last { OnOk result (IsEncoded scratch.new.last) }
+    ensures last { OnOk result (AreEncoded scratch.new.last) }
     ensures empty { OnOk result (scratch.new.block.items ≡ []) }
 {
     let place = place_of(tick.alloc, tick.rows, rooms, tick.voices, member.room)?;

@@ -5,10 +5,16 @@ use Rattle.media_items.specs.declared.format.Format.TheVariants.{L16At44100}
 use Rattle.media_items.specs.Formats.{octets_of, tick_of}
 use Rattle.forward_rewrite.specs.Mixes.{encoded}
 use Rattle.mixer.specs.declared.encoding.Encoded.{Encoded}
+use Rattle.mixer.specs.declared.encoding.Encodings.{Encodings}
 
 -- If the samples are kept, the payload is theirs in their format.
 abbrev pub IsEncoded : {A : Type 0} → Encoded A → Type 0
 IsEncoded e = e.kept ≡ true → e.payload.items ≡ encoded e.format e.samples.items
+
+-- Of each encoding: if the samples are kept, the payload is theirs in their format.
+pub record AreEncoded {A : Type 0} (e : Encodings A) : Type 0 where
+  pub pcmu : IsEncoded e.pcmu
+  pub linear : IsEncoded e.linear
 
 -- the octets of the longest packet: a header with all contributing sources, and a tick of the longest format
 abbrev pub most_packet : ℕ

@@ -1,7 +1,7 @@
 use Rattle.std.proofs.Common.{List, ap, sym, subst, ◌∙◌}
 use Rattle.std.specs.List.{AllByRecursion}
 use Rattle.mixer.specs.inner.Rooms.{RoomOf}
-use Rattle.mixer.specs.inner.Encoded.{IsEncoded}
+use Rattle.mixer.specs.inner.Encoded.{AreEncoded}
 use Rattle.mixer.specs.inner.Ready.{ReadyOf, AreRooms, IsReady, members_of}
 use Rattle.mixer.proofs.StreamSteps.{one_mine, not_mine}
 use Rattle.mixer.proofs.streams.ready_all.Goals as goal
@@ -21,7 +21,7 @@ loop-member-preserved g c =
           record {
             rooms = subst (λ (rs : List RoomOf). AreRooms d voices rs) (sym (ap (λ v. v.items) w.rooms-is)) w.in_ok-add.ensures.rooms;
             members = ap (λ v. members_of v.items) w.ready-is ∙ w.in_ok-add.ensures.members ∙ one_mine d voices lane lanes n ms _ c.is_mine.result _ c.loop-member-test.true c.is_mine.ensures w.if-is_mine.true c.loop-member.invariant.members;
-            last = subst IsEncoded (sym (ap (λ s. s.last) w.scratch-is)) w.in_ok-add.ensures.last;
+            last = subst AreEncoded (sym (ap (λ s. s.last) w.scratch-is)) w.in_ok-add.ensures.last;
             block = ap (λ s. s.block.items) w.scratch-is ∙ w.in_ok-add.ensures.empty;
             ready = subst (λ (rs : List ReadyOf). AllByRecursion P rs) (sym (ap (λ v. v.items) w.ready-is)) (w.in_ok-add.ensures.ready c.loop-member.invariant.ready);
           }
@@ -29,7 +29,7 @@ loop-member-preserved g c =
           record {
             rooms = subst (λ (rs : List RoomOf). AreRooms d voices rs) (sym (ap (λ v. v.items) w.rooms-is)) c.loop-member.invariant.rooms;
             members = ap (λ v. members_of v.items) w.ready-is ∙ not_mine d voices lane lanes n ms _ c.is_mine.result _ c.loop-member-test.true c.is_mine.ensures w.if-is_mine.false c.loop-member.invariant.members;
-            last = subst IsEncoded (sym (ap (λ s. s.last) w.scratch-is)) c.loop-member.invariant.last;
+            last = subst AreEncoded (sym (ap (λ s. s.last) w.scratch-is)) c.loop-member.invariant.last;
             block = ap (λ s. s.block.items) w.scratch-is ∙ c.loop-member.invariant.block;
             ready = subst (λ (rs : List ReadyOf). AllByRecursion P rs) (sym (ap (λ v. v.items) w.ready-is)) c.loop-member.invariant.ready;
           }

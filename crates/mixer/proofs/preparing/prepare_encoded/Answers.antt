@@ -4,7 +4,7 @@ use Rattle.media_items.specs.declared.format.Format.{Format}
 use Rattle.forward_rewrite.specs.Mixes.{GivesTick, sounding, sound_of, encoded, format_of}
 use Rattle.mixer.specs.Hearing.{member_rate, contributors}
 use Rattle.mixer.proofs.Sounds.{something_of, many}
-use Rattle.mixer.proofs.preparing.prepare_in_full.Goals as goal
+use Rattle.mixer.proofs.preparing.prepare_encoded.Goals as goal
 
 pub returns-clause-some : goal.returns-clause-some
 returns-clause-some g c d voices m is format =
