@@ -12,6 +12,7 @@ ghost use Rattle.udp_front.specs.Operators.{
   asks,
   begins_group,
   is_printed,
+  is_request,
 };
 
 use desk_edit::Call;
@@ -41,6 +42,13 @@ fn is_printed(line: &[u8]) -> bool
     ensures { result ≡ is_printed line.now }
 {
     line.iter().all(|octet| 32 <= *octet && *octet <= 126)
+}
+
+/// Whether a line is the first one of a browser's request: it ends in the version of HTTP (RFC 9112 section 3).
+fn is_request(line: &[u8]) -> bool
+    ensures { result ≡ is_request line.now }
+{
+    line.ends_with(b" HTTP/1.1".as_slice())
 }
 
 /// The line of one word that this is, if it is one.
@@ -90,6 +98,9 @@ fn words<A: Allocator + Copy>(alloc: A, line: &[u8]) -> Result<LineAsk<A>, Parse
 }
 
 /// What a line asks for, or its first fault. Only a group takes memory.
+///
+/// A browser's request asks for the end of the connection: a page that is open on the bridge's machine can send one,
+/// and the lines of its body would be calls.
 #[tactic(auto, unfolding(crate::specs::Operators::asked_of))]
 pub(crate) fn parse_line<A: Allocator + Copy>(
     alloc: A,
@@ -103,6 +114,9 @@ pub(crate) fn parse_line<A: Allocator + Copy>(
             word: 0,
             fault: Fault::BadByte,
         });
+    }
+    if is_request(line) {
+        return Ok(LineAsk::Verb(Verb::Quit));
     }
     words(alloc, line)
 }
