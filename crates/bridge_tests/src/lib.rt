@@ -1,7 +1,9 @@
-//! Readers and writers that fail, over a run. Tests alone.
+//! Readers, writers and wires that fail. Tests alone.
 #![tactic(auto)]
 
 #[cfg(test)]
 mod reading;
+#[cfg(test)]
+mod sending;
 #[cfg(test)]
 mod writing;
