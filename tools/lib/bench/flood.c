@@ -165,7 +165,7 @@ static void flood(size_t (*next)(uint8_t *, int *), long rate)
 /* The call, and what is known of it. */
 static uint8_t kept[RING][12 + PICTURE];
 static unsigned next_number;
-static long reached, came, came_then, up_octets, down_octets;
+static long reached, came, came_then, sounds, mixed, up_octets, down_octets;
 static uint8_t had[65536];
 static double late[MOST_TICKS];
 static long ticks;
@@ -205,9 +205,10 @@ static void speaker_hears(const uint8_t *at, ssize_t size)
                     if ((uint16_t)(next_number - 1 - ((at[word] << 8 | at[word + 1]) + bit)) < RING - 1)
                         send_packet((at[word] << 8 | at[word + 1]) + bit);
         for (ssize_t block = 8; at[1] == 201 && block + 24 <= used; block += 24)
-            if (get32(at + block) == 101) {
-                reached = (long)get32(at + block + 8) - ((int32_t)(get32(at + block + 4) << 8) >> 8);
-                came_then = came;
+            if (get32(at + block) == 101 || get32(at + block) == 201) {
+                long had = (long)get32(at + block + 8) - ((int32_t)(get32(at + block + 4) << 8) >> 8);
+                *(get32(at + block) == 101 ? &reached : &sounds) = had;
+                *(get32(at + block) == 101 ? &came_then : &mixed) = get32(at + block) == 101 ? came : ticks;
             }
     }
 }
@@ -336,7 +337,8 @@ static void hold(double seconds)
     printf("ticks: %ld, late by %.1f ms (median), %.1f (99th percentile), %.1f (most)\n", ticks, lateness(0.5), lateness(0.99), lateness(1));
     printf("flood: %ld octets in; out for it %ld octets of control (%.3f for one) and %ld of packets (%.3f)\n", shared->octets,
            up_octets, up, down_octets, shared->octets ? (double)down_octets / shared->octets : 0);
-    int holds = share >= 99 && lateness(0.99) <= 10 && up <= 1.5 && now <= early * 1.05 + 1024;
+    /* A mix comes for each packet of sound, 60 ms after it. */
+    int holds = share >= 99 && sounds > 0 && mixed + 3 >= 0.99 * sounds && lateness(0.99) <= 10 && up <= 1.5 && now <= early * 1.05 + 1024;
     printf("%s\n", holds ? "held" : "NOT HELD");
 }
 

@@ -9,6 +9,7 @@ Each input is a case of the repository that is changed at one to four places, or
 of tools/lib/models, and Python's `tomllib`. The first differences are printed. The status is 0 where there is none.
 """
 
+import concurrent.futures
 import random
 import re
 import socket
@@ -33,6 +34,7 @@ def options(parser):
     parser.add_argument("input", choices=["datagrams", "lines", "settings"], metavar="INPUT")
     parser.add_argument("--count", type=int, default=1_000_000, help="how many inputs (%(default)s)")
     parser.add_argument("--seed", type=int, default=1)
+    parser.add_argument("--jobs", type=int, default=1, help="on how many processors at once (%(default)s)")
     add_program(parser)
 
 
@@ -130,30 +132,56 @@ def lines(draw, count, program):
 
 # Settings
 
+ADDRESSES = 'udp = "127.0.0.1:5004"\ntcp = "127.0.0.1:7000"\n'
+# Forms of TOML that no case has.
+FORMS = [
+    "lanes = 0x1_0", "lanes = +2", "lanes = 0b10", "operators = 0o17", "operators = 1_6", "lanes = 1e1", "lanes = -inf", "lanes = nan",
+    "cname = 'a b'", 'cname = """\na\\\n  b"""', "cname = '''\na'b'''", 'cname = "\\u0061\\U00000062\\t"', '"cname" = "a"', "'lanes' = 2",
+    "lanes = true", "lanes = [1, 2,]", "lanes = { a = 1 }", "more.lanes = 1", "[more]\nlanes = 1", "[[more]]\n[[more]]", "[a.b]\n[a]", "\tlanes\t=\t2 # two",
+]  # fmt: skip
+# What is not judged: what a float past all floats is, TOML doesn't say. tomllib reads TOML 1.0, and some escapes, times without seconds,
+# and line ends and last commas in inline tables are of 1.1. Python alone takes some other characters for line ends.
+NOT_JUDGED = re.compile(
+    r" > |[\x85\u2028\u2029\x0b\x0c\x1c-\x1e]|[eE][+]?[0-9_]{3}|\\[ex]|\{[^}]*(?:\n|,\s*\})|(?<![0-9:+.-])[0-9]{2}:[0-9]{2}(?![0-9:])"
+)
+
 
 def escaped(text):
     return text.replace("\\", "\\\\").replace("\r", "\\r").replace("\n", "\\n") + "\\"
+
+
+def said_of_settings(program, asked):
+    """Which of these lines of front_cases come out otherwise. Ends where the program has not read them all."""
+    run = subprocess.run([program], input="".join(f"{it}\n" for it in asked).encode(), capture_output=True, check=False)
+    *differ, last, rest = ["", *run.stdout.decode(errors="replace").split("\n")]
+    differ = set(differ[1:])
+    if run.returncode or rest or last != f"{len(asked)} lines, {len(differ)} differ" or not differ <= set(asked):
+        fail(f"status {run.returncode} after {len(asked)} settings, and last {last!r}; the first: {asked[0]}")
+    return differ
 
 
 def texts(draw, count, program):
     cases = (CRATES / "front_cases" / "stdin").read_text().splitlines()
     given = [it[9:].split(" > ")[0] for it in cases if it.startswith("settings ") and " > " in it]
     corpus = [it.replace("\\n", "\n").replace("\\\\", "\\").encode() for it in given if len(it) < 300]
+    corpus += [f"{before}{it}\n".encode() for it in FORMS for before in ("", ADDRESSES)]
+    had = set()
 
-    def text():
+    def judged():
+        """A new line of front_cases, with the answer that it wants."""
         while True:
-            found = mutant(draw, corpus, TOML).decode(errors="ignore")
-            # (what a float past all floats is, TOML doesn't say; the escape `\\e` is of TOML 1.1, and tomllib reads 1.0)
-            if " > " not in found and not re.search(r"[\x85\u2028\u2029\x0b\x0c\x1c-\x1e]|[eE][+]?[0-9_]{3}|\\e", found):
-                return found
+            text = mutant(draw, corpus, TOML).decode(errors="ignore")
+            says = "" if NOT_JUDGED.search(text) else settings_of(text)
+            asked = f"settings {escaped(text)} > {says}"
+            if says.isprintable() and says and asked not in had:
+                had.add(asked)
+                return asked, says
 
-    for data in batches(count, text):
-        wanted = [settings_of(it) for it in data]
-        asked = [f"settings {escaped(it)} > {says}" for it, says in zip(data, wanted)]
-        script = "".join(f"{it}\n" for it in asked)
-        run = subprocess.run([program], input=script.encode(), capture_output=True, check=False)
-        differ = set(run.stdout.decode(errors="replace").split("\n")[:-2])
-        yield asked, wanted, ["another" if it in differ else says for it, says in zip(asked, wanted)]
+    for data in batches(count, judged):
+        had.clear()
+        asked, wanted = map(list, zip(*data))
+        differ = said_of_settings(program, asked)
+        yield asked, wanted, ["another" if it in differ else says for it, says in data]
 
 
 # All
@@ -165,19 +193,25 @@ def batches(count, made, size=BATCH):
         yield [made() for _ in range(min(size, count - at))]
 
 
-def run(args):
-    draw = random.Random(args.seed)
+def tried(kind, seed, count, program):
+    """Tries so many inputs. The first differences, and how many there are."""
     kinds = {"datagrams": datagrams, "lines": lines, "settings": texts}
-    program = release_program(args.binary, "front_cases" if args.input == "settings" else "confbridge")
-    tried = differ = 0
-    for data, wanted, got in kinds[args.input](draw, args.count, program):
+    told, differ = [], 0
+    for data, wanted, got in kinds[kind](random.Random(seed), count, program):
         if len(got) != len(data):
             fail(f"{len(data)} inputs have {len(got)} answers")
-        for one, says, said in zip(data, wanted, got):
-            if says != said:
-                differ += 1
-                if differ <= MOST_SHOWN:
-                    print(f"{one}: wanted {says}, got {said}", flush=True)
-        tried += len(data)
-    print(f"{tried} inputs, {differ} differ")
+        found = [f"{one}: wanted {says}, got {said}" for one, says, said in zip(data, wanted, got) if says != said]
+        differ += len(found)
+        told += found[: MOST_SHOWN - len(told)]
+    return told, differ
+
+
+def run(args):
+    program = release_program(args.binary, "front_cases" if args.input == "settings" else "confbridge")
+    counts = [args.count // args.jobs + (job < args.count % args.jobs) for job in range(args.jobs)]
+    with concurrent.futures.ProcessPoolExecutor(args.jobs) as pool:
+        parts = [pool.submit(tried, args.input, f"{args.seed} {job}", count, program) for job, count in enumerate(counts)]
+        results = [part.result() for part in parts]
+    differ = sum(found for _, found in results)
+    print(*[line for told, _ in results for line in told][:MOST_SHOWN], f"{args.count} inputs, {differ} differ", sep="\n")
     return 1 if differ else 0
