@@ -16,7 +16,7 @@ use Rattle.forward_rewrite.specs.RoutedList.{packets_of}
 use Rattle.forward_rewrite.specs.Streams.{PreparedOf, state_of, committed, SendsNext}
 use Rattle.media_items.specs.OwnStreams.{is_mine}
 use Rattle.media_items.specs.Inputs.{Input}
-use Rattle.feedback.specs.Upstream.{Asker}
+use Rattle.upward.specs.Upstream.{Asker}
 use Rattle.bridge_core.specs.Sent.{Sent}
 use Rattle.bridge_core.specs.Lanes.{Visit, Routed, routed_to, routed_at, routed, sendings, packets_sent, stream_of, packets, packets_at, owner_of, goes, is_lanes, sends_at}
 use Rattle.bridge_core.specs.declared.visit.LaneVisit.{LaneVisit}

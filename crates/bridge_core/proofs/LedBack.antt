@@ -11,11 +11,10 @@ use Rattle.forward_rewrite.specs.Sending.{Sending}
 use Rattle.forward_rewrite.specs.RoutedList.{packets_of}
 use Rattle.forward_rewrite.specs.laws.Laws.{IsFound}
 use Rattle.topology.specs.Looking.{member_from}
-use Rattle.feedback.specs.Resends.{resends_to, resends}
-use Rattle.feedback.specs.Asked.{firsts as each_once}
+use Rattle.feedback.specs.Resends.{resends_to, resends, firsts as each_once}
 use Rattle.media_items.specs.OwnStreams.{is_mine}
 use Rattle.media_items.specs.Inputs.{Input, Request}
-use Rattle.feedback.specs.Upstream.{Asker}
+use Rattle.upward.specs.Upstream.{Asker}
 use Rattle.bridge_core.specs.Sent.{Sent}
 use Rattle.bridge_core.specs.Lanes.{Visit, Routed, routed, sendings, packets_sent, packets, goes, is_lanes, sends_at}
 use Rattle.bridge_core.specs.Steps.{Step, visits, visit_after}

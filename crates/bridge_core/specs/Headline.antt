@@ -19,7 +19,7 @@ use Rattle.mixer.specs.Mixes.{to_member}
 use Rattle.media_items.specs.Inputs.{Request}
 use Rattle.bridge_core.specs.Sent.{Sent, MediaPacket}
 use Rattle.bridge_core.specs.Sent.Sent.{media, control, note}
-use Rattle.feedback.specs.Upstream.{Asker}
+use Rattle.upward.specs.Upstream.{Asker}
 use Rattle.bridge_core.specs.Lanes.{Visit, packets, goes, mix_goes}
 use Rattle.bridge_core.specs.Steps.{Step, visits}
 use Rattle.bridge_core.specs.Named.{StreamKind, firsts}

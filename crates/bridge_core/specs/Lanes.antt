@@ -27,7 +27,7 @@ use Rattle.topology.specs.Receivers.{slots_to}
 use Rattle.forward_rewrite.specs.declared.counts.Counts.{Counts}
 use Rattle.forward_rewrite.specs.Streams.{counts_of}
 use Rattle.mixer.specs.Mixes.{turns, counts_of as mix_counts_of}
-use Rattle.feedback.specs.Upstream.{Asker, upstream_packets}
+use Rattle.upward.specs.Upstream.{Asker, upstream_packets}
 use Rattle.feedback.specs.PassedUp.{pli_up}
 use Rattle.reports.specs.SenderReports.{sender_packets}
 use Rattle.reports.specs.LossNotes.{note_of}

@@ -4,7 +4,7 @@ use Rattle.std.specs.Prelude.{List, [], ◌∷◌, ◌++◌, length, Some, slice
 use Rattle.desk_rows.specs.Edit.{EditOf}
 use Rattle.desk_rows.specs.Desk.{Desk}
 use Rattle.desk_calls.specs.Desk.{DeskOf}
-use Rattle.feedback.specs.Upstream.{Asker}
+use Rattle.upward.specs.Upstream.{Asker}
 use Rattle.media_items.specs.Inputs.{Input}
 use Rattle.intake.specs.inner.Holding.{IntakeOf}
 use Rattle.bridge_core.specs.Sent.{Sent}

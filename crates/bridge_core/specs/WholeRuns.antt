@@ -11,7 +11,7 @@ use Rattle.forward_rewrite.specs.Mixes.{Sound}
 use Rattle.media_items.specs.OwnStreams.{is_mine}
 use Rattle.mixer.specs.Hearing.{voices_of, sound_for}
 use Rattle.mixer.specs.Mixes.{mixes}
-use Rattle.feedback.specs.Upstream.{Asker}
+use Rattle.upward.specs.Upstream.{Asker}
 use Rattle.media_items.specs.Inputs.{Input, Told, Loss}
 use Rattle.bridge_core.specs.Sent.{Sent}
 use Rattle.media_items.specs.Inputs.Input.{frame, audio, tick, nack, block, pli, report}

@@ -14,13 +14,14 @@ ghost use Rattle.bridge_core.specs.inner.Visits.{visit_on, asker_of};
 use crate::egress::Egress;
 use crate::video::VideoStreams;
 use crate::visit::LaneVisit;
-use feedback::{pli_up, upstream};
+use feedback::pli_up;
 use reports::note;
 use retransmit::Owner;
 use rtcp_codec::ReportBlock;
 use rtp_codec::Address;
 use std::alloc::{AllocError, Allocator};
 use topology::member_from;
+use upward::upstream;
 
 /// A list of this egress alone.
 fn only<A: Allocator + Copy>(alloc: A, egress: Egress<A>) -> Result<Vec<Egress<A>, A>, AllocError>

@@ -18,7 +18,7 @@ ghost use Rattle.forward_rewrite.specs.Mixes.{Sound};
 ghost use Rattle.media_items.specs.OwnStreams.{is_mine};
 ghost use Rattle.mixer.specs.Hearing.{voices_of, sound_for};
 ghost use Rattle.mixer.specs.Mixes.{mixes};
-ghost use Rattle.feedback.specs.Upstream.{Asker};
+ghost use Rattle.upward.specs.Upstream.{Asker};
 ghost use Rattle.media_items.specs.Inputs.{Input, Request, Told, Loss};
 ghost use Rattle.bridge_core.specs.Sent.{Sent};
 ghost use Rattle.bridge_core.specs.Lanes.{packets, goes, routed_to, given_of, sends_at};

@@ -4,7 +4,7 @@ use Rattle.std.proofs.lemmas.List.{append-nil}
 use Rattle.std.proofs.lemmas.List.Folds.{list_any-append}
 use Rattle.std.proofs.lemmas.Bool.{cases_eq}
 use Rattle.std.proofs.lemmas.Bool.Decides.{nat_tests}
-use Rattle.feedback.specs.Asked.{firsts}
+use Rattle.feedback.specs.Resends.{firsts}
 use Rattle.feedback.specs.inner.Seen.{has, added}
 
 -- one filter for two

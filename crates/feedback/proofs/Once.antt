@@ -3,7 +3,7 @@ use Rattle.std.proofs.Common.{◌≡◌, ℕ, Bool, true, false, ◌&&◌, ◌||
 use Rattle.std.proofs.lemmas.List.Sums.{fold_push}
 use Rattle.std.proofs.lemmas.Bool.{cases_eq}
 use Rattle.std.proofs.lemmas.Bool.Decides.{nat_tests}
-use Rattle.feedback.specs.Asked.{firsts}
+use Rattle.feedback.specs.Resends.{firsts}
 use Rattle.feedback.specs.inner.Seen.{has, added}
 use Rattle.feedback.proofs.Collected.{filter-both, all_collected}
 

@@ -7,7 +7,7 @@ ghost use Rattle.rtp_codec.specs.declared.address.Address.{Address};
 ghost use Rattle.desk_rows.specs.Desk.{Desk, good};
 ghost use Rattle.topology.specs.Looking.{slot_at};
 ghost use Rattle.topology.specs.Choice.{choice};
-ghost use Rattle.feedback.specs.Asked.{firsts};
+ghost use Rattle.feedback.specs.Resends.{firsts};
 ghost use Rattle.feedback.specs.PassedUp.{is_of_member_at, pli_up};
 
 use topology::choices_stay_in_the_room;

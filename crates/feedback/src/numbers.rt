@@ -1,12 +1,9 @@
-//! The sequence numbers that a receiver asks for.
+//! Numbers that are asked for, each at its first place only.
 
 ghost use Rattle.std.specs.Prelude.{◌≡◌, [], fold, IfOk, OnOk};
-ghost use Rattle.rtcp_codec.specs.Nack.{numbers_named};
-ghost use Rattle.rtcp_codec.specs.View.{packet_of};
-ghost use Rattle.feedback.specs.Asked.{firsts, asked_in};
+ghost use Rattle.feedback.specs.Resends.{firsts};
 ghost use Rattle.feedback.specs.inner.Seen.{added, Marks};
 
-use rtcp_codec::{NackWord, Rtcp, nack_numbers};
 use std::alloc::{AllocError, Allocator};
 
 /// The number of sequence numbers.
@@ -65,37 +62,4 @@ pub(crate) fn each_once<A: Allocator + Copy>(
     let mut once = Vec::new(alloc);
     add_all(&mut once, &mut marks, numbers)?;
     Ok(once)
-}
-
-/// The numbers that words name, in order.
-fn numbers_in<A: Allocator + Copy>(alloc: A, words: &[NackWord]) -> Result<Vec<u16, A>, AllocError>
-    ensures { IfOk result (λ numbers. numbers.items ≡ numbers_named words.now) }
-{
-    let mut numbers = Vec::new(alloc);
-    for word in words {
-        numbers.extend_from_slice(&nack_numbers(alloc, word.pid, word.blp)?)?;
-    }
-    Ok(numbers)
-}
-
-/// The sequence numbers that a packet asks for (RFC 4585 section 6.2.1).
-///
-/// A generic NACK asks for those of its words, in their order, with repeats. No other packet asks for any.
-/// [`resend`](crate::resend) answers each number once. The only error is out of memory.
-pub fn numbers_of<A: Allocator + Copy, B: Allocator>(
-    alloc: A,
-    packet: &Rtcp<B>,
-) -> Result<Vec<u16, A>, AllocError>
-    ensures { IfOk result (λ numbers. numbers.items ≡ asked_in (packet_of packet.now)) }
-{
-    match packet {
-        Rtcp::Nack(nack) => numbers_in(alloc, &nack.words),
-        Rtcp::Sender(_)
-        | Rtcp::Receiver(_)
-        | Rtcp::Sdes(_)
-        | Rtcp::Bye(_)
-        | Rtcp::App(_)
-        | Rtcp::Pli(_)
-        | Rtcp::Other(_) => Ok(Vec::new(alloc)),
-    }
 }

@@ -1,6 +1,6 @@
 -- An intake with a source that was used.
 use Rattle.std.proofs.Common.{◌≡◌, ℕ, ◌+◌, Bool, if◌then◌else◌, List, ◌∙◌, ap, subst}
-use Rattle.feedback.specs.Upstream.{Asker}
+use Rattle.upward.specs.Upstream.{Asker}
 use Rattle.intake.specs.declared.known.OriginKey.{OriginKey}
 use Rattle.intake.specs.inner.Kept.{KeptOf}
 use Rattle.intake.specs.inner.Holding.{IntakeOf, put_first}

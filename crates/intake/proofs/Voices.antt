@@ -5,7 +5,7 @@ use Rattle.std.specs.List.{AllByRecursion}
 use Rattle.rtcp_codec.specs.declared.nack.NackWord.{NackWord}
 use Rattle.rtcp_codec.specs.Nack.{IsPacking}
 use Rattle.rtcp_codec.specs.Compound.{written}
-use Rattle.feedback.specs.Upstream.{Asker, seq_of, upstream_packets}
+use Rattle.upward.specs.Upstream.{Asker, seq_of, upstream_packets}
 use Rattle.intake.specs.Taking.{Voice, IsVoice, asking}
 
 seq_fits : (ext : ℤ) → seq_of ext < 2 ^ 16

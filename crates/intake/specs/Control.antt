@@ -5,7 +5,7 @@ use Rattle.rtcp_codec.specs.declared.report.ReportBlock.{ReportBlock}
 use Rattle.rtcp_codec.specs.Packet.{Packet, Sender, Receiver, Sdes, Bye, App, Nack, Pli, Other}
 use Rattle.source_valid.specs.declared.heard.Heard.{Heard}
 use Rattle.source_valid.specs.Histories.{Sender as Noted, standing_of, past_probation_in}
-use Rattle.feedback.specs.Asked.{asked_in}
+use Rattle.upward.specs.Asked.{asked_in}
 use Rattle.media_items.specs.Inputs.{Input}
 use Rattle.intake.specs.Stories.{Story}
 use Rattle.intake.specs.Sources.{Known, retold}

@@ -14,8 +14,8 @@ use Rattle.desk_rows.specs.declared.row.Source.{Source}
 use Rattle.desk_rows.specs.Desk.{Desk}
 use Rattle.topology.specs.Looking.{member_at}
 use Rattle.topology.specs.Choice.{sources_of}
-use Rattle.feedback.specs.Upstream.{Asker}
-use Rattle.reports.specs.ReceiverReports.{receiver_packets}
+use Rattle.upward.specs.Upstream.{Asker}
+use Rattle.upward.specs.ReceiverReports.{receiver_packets}
 use Rattle.intake.specs.Stories.{Story}
 use Rattle.intake.specs.Sources.{Sources, Known, story_at, retold}
 

@@ -12,7 +12,7 @@ use Rattle.desk_rows.specs.declared.row.Media.{Media}
 use Rattle.desk_rows.specs.declared.row.Media.TheVariants.{Audio, Video}
 use Rattle.desk_rows.specs.declared.row.Source.{Source}
 use Rattle.topology.specs.Looking.{source_from, member_from, rate_of as rate_of_member}
-use Rattle.feedback.specs.Upstream.{Asker, seq_of, upstream_packets}
+use Rattle.upward.specs.Upstream.{Asker, seq_of, upstream_packets}
 use Rattle.intake.specs.declared.outcome.Outcome.TheVariants.{TooLong, Neither, BadRtp, BadRtcp, Unknown, BadPayload, Spent, Rtcp}
 use Rattle.intake.specs.Readings.{Reading, too_long, neither, no_packet, packet, no_compound, compound}
 use Rattle.intake.specs.Stories.{Story, story_by, judged, begins, judged_on}

@@ -6,11 +6,11 @@ ghost use Rattle.rtcp_codec.specs.View.{packet_of, packets_of};
 ghost use Rattle.media_items.specs.Inputs.{input_of};
 ghost use Rattle.intake.specs.Control.{asks, block_item};
 
-use feedback::numbers_of;
 use media_items::Item;
 use rtcp_codec::{ReportBlock, Rtcp};
 use rtp_codec::Address;
 use std::alloc::{AllocError, Allocator};
+use upward::numbers_of;
 
 /// Appends an item for each report block.
 fn put_blocks<A: Allocator + Copy>(

@@ -1,7 +1,7 @@
 //! The intake: its state, and the way of a datagram.
 //!
 //! A media packet goes on in `media`, then in `advancing` for its source, in `gating` for the source's gate, and in
-//! `upward` for what the source is asked for. A compound goes on in `control`. Receiver reports are made in
+//! `requesting` for what the source is asked for. A compound goes on in `control`. Receiver reports are made in
 //! `reporting`.
 
 ghost use Rattle.std.specs.Prelude.{◌≡◌, true, map, IfOk, OnErr};

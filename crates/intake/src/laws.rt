@@ -4,7 +4,7 @@ ghost use Rattle.std.specs.Prelude.{◌≡◌, ℕ, true, if◌then◌else◌, L
 ghost use Rattle.rtp_codec.specs.Octets.{AreOctets};
 ghost use Rattle.desk_rows.specs.Desk.{Desk, good};
 ghost use Rattle.topology.specs.Looking.{comes_from};
-ghost use Rattle.feedback.specs.Upstream.{Asker};
+ghost use Rattle.upward.specs.Upstream.{Asker};
 ghost use Rattle.intake.specs.Readings.{Reading, IsReading};
 ghost use Rattle.intake.specs.Stories.{Story};
 ghost use Rattle.intake.specs.Sources.{Origin, Sources, story_at};

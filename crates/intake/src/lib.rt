@@ -31,9 +31,9 @@ mod media;
 mod outcome;
 mod payloads;
 mod reporting;
+mod requesting;
 mod settings;
 mod sounding;
-mod upward;
 
 pub use self::ingest::Ingest;
 pub use self::intake::Intake;

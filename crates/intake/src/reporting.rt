@@ -15,11 +15,11 @@ use crate::intake::Intake;
 use crate::known::{Known, key_of};
 use crate::settings::Settings;
 use desk_rows::{Kind, Member, Row, Rows, Source};
-use reports::receiver_report;
 use rtcp_codec::ReportBlock;
 use rtp_codec::Address;
 use std::alloc::{AllocError, Allocator};
 use topology::member_at;
+use upward::receiver_report;
 
 /// The source in a row.
 fn source_in(row: &Row) -> Option<Source>

@@ -15,7 +15,7 @@ use Rattle.desk_edit.specs.Calls.{no_calls, desk_now}
 use Rattle.desk_calls.specs.Accepted.{after_calls}
 use Rattle.versions.specs.Published.{NoticeOf, after_lists}
 use Rattle.versions.proofs.Prefixes.{prefix_self, prefix_trans, prefix_whole, prefix_length}
-use Rattle.feedback.specs.Upstream.{Asker}
+use Rattle.upward.specs.Upstream.{Asker}
 use Rattle.media_items.specs.declared.item.Item.{Item}
 use Rattle.bridge_core.specs.Sent.{Sent, sent_of}
 use Rattle.bridge_core.specs.Lanes.{Visit}

@@ -4,7 +4,7 @@ use Rattle.std.proofs.lemmas.List.{length_push}
 use Rattle.std.proofs.lemmas.List.Elements.{All-push}
 use Rattle.logbook.specs.Pages.{Book}
 use Rattle.desk_rows.specs.Desk.{Desk}
-use Rattle.feedback.specs.Upstream.{Asker}
+use Rattle.upward.specs.Upstream.{Asker}
 use Rattle.versions.specs.Published.{ReaderOf, new_reader}
 use Rattle.bridge_core.specs.LaneState.{LaneOf, HasHandled}
 use Rattle.media_workers.specs.LaneRuns.{LaneNow}

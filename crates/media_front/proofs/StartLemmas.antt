@@ -3,7 +3,7 @@ use Rattle.std.proofs.Common.{◌≡◌, ℕ, zero, suc, List, [], ◌∷◌, �
 use Rattle.std.specs.List.{AllByRecursion}
 use Rattle.logbook.specs.Pages.{Book}
 use Rattle.versions.specs.Published.{NoticeOf}
-use Rattle.feedback.specs.Upstream.{Asker}
+use Rattle.upward.specs.Upstream.{Asker}
 use Rattle.media_workers.specs.LaneRuns.{LaneNow}
 use Rattle.media_workers.specs.Ports.{port_of}
 use Rattle.media_front.specs.declared.tally.Tally.{Tally}

@@ -4,7 +4,7 @@ use Rattle.std.specs.declared.alloc.Global.{Global}
 use Rattle.rtrb.specs.Ring.{sent, received}
 use Rattle.rtrb.specs.declared.producer.Producer.{Producer}
 use Rattle.rtrb.specs.declared.AnyItems.{AnyItems}
-use Rattle.feedback.specs.Upstream.{Asker}
+use Rattle.upward.specs.Upstream.{Asker}
 use Rattle.bridge_core.specs.declared.egress.Egress.{Egress}
 use Rattle.bridge_core.specs.LaneState.{HasHandled}
 use Rattle.media_workers.specs.declared.lane_end.LaneEnd.{LaneEnd}

@@ -1,4 +1,3 @@
 pub mod Times
 pub mod SenderReports
-pub mod ReceiverReports
 pub mod LossNotes

@@ -1,16 +1,8 @@
-//! Laws of the definitions: functions that do nothing when they run.
+//! A law of the definitions: a function that does nothing when it runs.
 
-ghost use Rattle.std.specs.Prelude.{◌≡◌, ℕ, ◌+◌, ◌*◌, ◌/◌, ◌%◌, ◌^◌, ◌<◌, ◌≤◌, List};
-ghost use Rattle.std.specs.List.{flat_map};
-ghost use Rattle.rtcp_codec.specs.declared.report.ReportBlock.{ReportBlock};
+ghost use Rattle.std.specs.Prelude.{◌≡◌, ℕ, ◌+◌, ◌*◌, ◌/◌, ◌%◌, ◌^◌, ◌<◌, ◌≤◌};
 ghost use Rattle.forward_rewrite.specs.declared.counts.Counts.{Counts};
 ghost use Rattle.reports.specs.Times.{second, from_1900_to_1970, ntp_of, ts_at};
-ghost use Rattle.reports.specs.ReceiverReports.{receiver_reports, blocks_in};
-
-/// A law: receiver reports contain each of their blocks once, in order.
-pub fn blocks_are_told_once()
-    ensures { (ssrc : ℕ) (blocks : List ReportBlock) → flat_map blocks_in (receiver_reports ssrc blocks) ≡ blocks }
-{}
 
 /// A law of the timestamps in sender reports.
 ///

@@ -1,8 +1,7 @@
-//! Sender and receiver reports (RFC 3550 section 6.4): those that the bridge sends, and what a receiver's report says.
+//! Reports of outgoing streams (RFC 3550 section 6.4): those that the bridge sends, and what a receiver's report says.
 //!
-//! Begin with [`sender_report`] for a stream that was sent, and with [`receiver_report`] for sources that were heard.
-//! [`note`] reads a block of a receiver's report. A contract sees each report as a compound of packets, and gives its
-//! octets.
+//! Begin with [`sender_report`] for a stream that was sent. [`note`] reads a block of a receiver's report. A contract
+//! sees each report as a compound of packets, and gives its octets.
 //!
 //! ```rust
 //! // Half a second after the last frame, at 90000 Hz: RTP timestamp 1000 + 45000.
@@ -15,11 +14,9 @@
 
 mod laws;
 mod noting;
-mod receiving;
 mod sending;
 mod timing;
 
-pub use laws::{blocks_are_told_once, times_of_reports};
+pub use laws::times_of_reports;
 pub use noting::{LossNote, note};
-pub use receiving::receiver_report;
 pub use sending::sender_report;

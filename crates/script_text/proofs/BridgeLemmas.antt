@@ -10,7 +10,7 @@ use Rattle.desk_edit.specs.declared.refusal.Refusal.TheVariants.{OutOfMemory}
 use Rattle.desk_edit.specs.Calls.{no_calls, desk_now, refusal_of, after_call as history_after}
 use Rattle.bridge_core.specs.declared.reply.Reply.{Reply}
 use Rattle.bridge_core.specs.declared.reply.Reply.TheVariants.{Accepted, Refused}
-use Rattle.feedback.specs.Upstream.{Asker}
+use Rattle.upward.specs.Upstream.{Asker}
 use Rattle.media_items.specs.Inputs.{Input, is_sized}
 use Rattle.media_items.specs.Inputs.Input.{report}
 use Rattle.bridge_core.specs.Sent.{Sent}

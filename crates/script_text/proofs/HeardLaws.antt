@@ -6,7 +6,7 @@ use Rattle.std.proofs.lemmas.Bool.{cases_lt}
 use Rattle.hex.specs.Hex.{IsBytes}
 use Rattle.rtp_codec.specs.Octets.{AreOctets}
 use Rattle.rtp_codec.specs.declared.address.Address.{Address}
-use Rattle.feedback.specs.Upstream.{Asker}
+use Rattle.upward.specs.Upstream.{Asker}
 use Rattle.intake.specs.Readings.{Reading, too_long, IsReading}
 use Rattle.intake.specs.Taking.{Voice, IsVoice}
 use Rattle.script_text.specs.declared.fault.Fault.{Fault}

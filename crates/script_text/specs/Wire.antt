@@ -1,7 +1,7 @@
 -- How a script's bridge reads what comes off the wire, and speaks to senders (own).
 use Rattle.std.specs.Prelude.{ℕ, List, [], ◌∷◌, codes, Result, Ok, Err}
 use Rattle.rtcp_codec.specs.declared.nack.NackWord.{NackWord}
-use Rattle.feedback.specs.Upstream.{Asker}
+use Rattle.upward.specs.Upstream.{Asker}
 use Rattle.intake.specs.Readings.{Reading, IsReading}
 use Rattle.intake.specs.Taking.{Voice, IsVoice}
 use Rattle.script_text.specs.declared.script.TheConstants.{BRIDGE_SSRC}

@@ -6,9 +6,10 @@ ghost use Rattle.worked_media.specs.Reported.{name, first_block, second_block};
 
 use crate::streaming::{owner, switched};
 use forward_rewrite::Counts;
-use reports::{LossNote, note, receiver_report, sender_report};
+use reports::{LossNote, note, sender_report};
 use rtcp_codec::ReportBlock;
 use std::alloc::{AllocError, Global};
+use upward::receiver_report;
 
 /// What is counted of a stream whose last frame had timestamp 1000, one second after 1970.
 fn counts() -> Counts

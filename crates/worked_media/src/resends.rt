@@ -5,11 +5,11 @@ ghost use Rattle.retransmit.specs.Window.{window_size, latest};
 ghost use Rattle.worked_media.specs.Sent.{owner as owner_of, packet as packet_of, packets};
 
 use bytes::Bytes;
-use feedback::numbers_of;
 use retransmit::{Entry, Owner, PacketBytes, Window, so_far};
 use rtcp_codec::{Nack, NackWord, Pli, Rtcp};
 use rtp_codec::Address;
 use std::alloc::{AllocError, Global};
+use upward::numbers_of;
 
 fn owner(member: u32, port: u16) -> Owner
     ensures { result ≡ owner_of member port }

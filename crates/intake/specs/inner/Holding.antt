@@ -5,7 +5,7 @@ use Rattle.std.specs.Map.{lookup, lookup_entry, remove_entry}
 use Rattle.std.specs.Option.{option_map_or}
 use Rattle.intake.specs.declared.known.OriginKey.{OriginKey}
 use Rattle.intake.specs.Sources.{Origin, Known, most_known}
-use Rattle.feedback.specs.Upstream.{Asker}
+use Rattle.upward.specs.Upstream.{Asker}
 use Rattle.intake.specs.inner.Kept.{KeptOf, Keeps, kept_by}
 
 abbrev pub same_key : OriginKey → OriginKey → Bool

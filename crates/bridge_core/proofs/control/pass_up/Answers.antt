@@ -2,7 +2,7 @@ use Rattle.std.proofs.Common.{List, ℕ, [], ◌∷◌, cond, true, refl, ap, sy
 use Rattle.std.proofs.lemmas.Result.{IfOk-weaker}
 use Rattle.rtp_codec.specs.declared.address.Address.{Address}
 use Rattle.rtcp_codec.specs.Compound.{written}
-use Rattle.feedback.specs.Upstream.{upstream_packets}
+use Rattle.upward.specs.Upstream.{upstream_packets}
 use Rattle.feedback.specs.PassedUp.{pli_up}
 use Rattle.media_items.specs.Inputs.{Input, Loss}
 use Rattle.bridge_core.specs.Lanes.{controls, passed_up}

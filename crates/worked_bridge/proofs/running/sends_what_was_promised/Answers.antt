@@ -2,7 +2,7 @@ use Rattle.std.proofs.Common.{◌≡◌, ℕ, true, List, [], ◌∷◌, map, re
 use Rattle.desk_rows.specs.Desk.{blank, good}
 use Rattle.desk_edit.specs.Asked.{asked_by}
 use Rattle.desk_edit.specs.Calls.{no_calls}
-use Rattle.feedback.specs.Upstream.{Asker}
+use Rattle.upward.specs.Upstream.{Asker}
 use Rattle.media_items.specs.Inputs.{input_of}
 use Rattle.intake.specs.inner.Holding.{IntakeOf}
 use Rattle.bridge_core.specs.Sent.{sent_of}

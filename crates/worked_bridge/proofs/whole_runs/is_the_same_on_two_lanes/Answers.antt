@@ -1,5 +1,5 @@
 use Rattle.std.proofs.Common.{◌++◌, ℕ, List, [], ◌∷◌, length, map, ap, sym, ◌∙◌, arith}
-use Rattle.feedback.specs.Upstream.{Asker}
+use Rattle.upward.specs.Upstream.{Asker}
 use Rattle.media_items.specs.Inputs.{input_of}
 use Rattle.intake.specs.inner.Holding.{IntakeOf}
 use Rattle.bridge_core.specs.Sent.{Sent, sent_of}

@@ -1,5 +1,5 @@
 use Rattle.std.proofs.Common.{◌≡◌, ◌∙◌, ap, map, sym, subst, IfOk, List, ℕ}
-use Rattle.feedback.specs.Upstream.{seq_of}
+use Rattle.upward.specs.Upstream.{seq_of}
 use Rattle.intake.proofs.Voices.{all_seqs, asking_is}
 use Rattle.intake.proofs.intake.Intake.asking.Goals as goal
 

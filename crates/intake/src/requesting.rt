@@ -1,0 +1,67 @@
+//! Makes the datagrams that ask a source for packets or a picture.
+
+ghost use Rattle.std.specs.Prelude.{◌≡◌, ◌≤◌, [], ◌∷◌, length, IfOk, map};
+ghost use Rattle.upward.specs.Upstream.{most_words};
+ghost use Rattle.intake.specs.Ingested.{datagram_of};
+ghost use Rattle.intake.specs.Media.{origin_of};
+ghost use Rattle.intake.specs.Taking.{Voice, IsVoice, asking, asked_of};
+ghost use Rattle.intake.specs.inner.Comings.{coming_of};
+
+use crate::coming::Coming;
+use crate::intake::Intake;
+use crate::settings::Settings;
+use rtp_codec::Address;
+use std::alloc::{AllocError, Allocator};
+use upward::upstream;
+
+/// One datagram to an address.
+fn one_datagram<A: Allocator + Copy>(
+    alloc: A,
+    to: &Address,
+    octets: Vec<u8, A>,
+) -> Result<Vec<(Address, Vec<u8, A>), A>, AllocError>
+    ensures { IfOk result (λ up. map datagram_of up.items ≡ (to.now, octets.items) ∷ []) }
+{
+    let mut up = Vec::with_capacity(alloc, 1)?;
+    up.push_reserved((*to, octets));
+    Ok(up)
+}
+
+impl<A: Allocator + Copy> Intake<A> {
+    /// The octets that ask a source for packets, a picture or both.
+    fn asking(
+        &self,
+        alloc: A,
+        source: u32,
+        nacks: &[i64],
+        pli: bool,
+    ) -> Result<Vec<u8, A>, AllocError>
+        requires { length nacks.now ≤ most_words }
+        ensures { (voice : Voice) → IsVoice voice → voice.asker ≡ self.now.asker
+            → IfOk result (λ octets. octets.items ≡ asking voice source nacks.now pli) }
+    {
+        let Settings { bridge_ssrc, cname } = &self.settings;
+        upstream(alloc, *bridge_ssrc, cname, source, nacks, pli)
+    }
+
+    /// The datagram for a packet's source, if it is asked for anything.
+    pub(crate) fn asked(
+        &self,
+        alloc: A,
+        coming: Coming<'_>,
+        nacks: &[i64],
+        pli: bool,
+    ) -> Result<Vec<(Address, Vec<u8, A>), A>, AllocError>
+        requires { length nacks.now ≤ most_words }
+        ensures { (voice : Voice) → IsVoice voice → voice.asker ≡ self.now.asker
+            → IfOk result
+            (λ up. map datagram_of up.items
+            ≡ asked_of voice (origin_of (coming_of coming.entry)) nacks.now pli) }
+    {
+        if nacks.is_empty() && !pli {
+            return Ok(Vec::new(alloc));
+        }
+        let octets = self.asking(alloc, coming.view.ssrc, nacks, pli)?;
+        one_datagram(alloc, coming.from, octets)
+    }
+}

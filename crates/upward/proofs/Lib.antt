@@ -1,0 +1,3 @@
+pub mod Writable
+pub mod ReportsWritable
+pub mod ToldOnce
