@@ -1,4 +1,4 @@
-"""Has operators who misbehave beside one who doesn't, whose lines have to be answered within 50 ms.
+"""Has operators who misbehave beside one who doesn't, of whose lines 99 in 100 have to be answered within 50 ms.
 
 CROWD is one of
   silent    1,000 connections that say nothing
