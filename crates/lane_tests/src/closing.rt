@@ -93,12 +93,12 @@ fn is_part(alloc: Global, taken: &Vec<Egress>) -> Option<bool> {
     Some(is_part)
 }
 
-/// Whether two lanes handled all frames.
-fn are_handled<N: PublisherName>(ends: &Ends<N>) -> bool {
+/// Whether two lanes handled so many frames each, and refused none.
+pub fn are_handled<N: PublisherName>(ends: &Ends<N>, frames: u64) -> bool {
     ends.len() == 2
         && ends
             .iter()
-            .all(|end| end.handled == FRAMES && end.refused.is_none())
+            .all(|end| end.handled == frames && end.refused.is_none())
 }
 
 /// Gives the frames, takes some of what they send, and ends the lanes.
@@ -120,7 +120,7 @@ fn is_ended<N: PublisherName, P: Pace, R: Threads + Wait>(
     let ends = running.close(rt);
     is_given
         && gathered.is_whole()
-        && are_handled(&ends)
+        && are_handled(&ends, FRAMES)
         && is_part(alloc, gathered.sent()) == Some(true)
 }
 

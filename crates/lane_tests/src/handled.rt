@@ -8,7 +8,7 @@ use crate::items::FitItem;
 use crate::lanes::{OwnLane, own_lane};
 use crate::rows::{FIRST, SECOND, frame, mute, set_up, unmute};
 use crate::stage::OneDesk;
-use crate::streams::is_packet;
+use crate::streams::{is_packet, version_of};
 use crate::told::{OfHall, Told};
 use bridge_core::Egress;
 use media_workers::PublisherName;
@@ -42,9 +42,25 @@ fn are_packets(sent: &Vec<Egress>, item: u64) -> bool {
     }
 }
 
-/// Whether the first lane sends a frame only once its source is not muted, and the second lane sends the same when all
-/// that it is told is the last notice.
-fn are_told<'a, H: Hall, R: Wait>(
+/// Whether once the source is muted the first lane, which is told of it, sends nothing. The third lane is told nothing:
+/// it sends nothing either, or packets by a version below that of the mute.
+fn is_muted<'a, H: Hall, R: Wait>(
+    rt: &R,
+    alloc: Global,
+    desk: &mut OneDesk<'a, H>,
+    first: &mut OwnLane<OfHall<H>>,
+    third: &mut OwnLane<OfHall<H>>,
+) -> Option<bool> {
+    let item = frame(alloc)?;
+    let of_mute = desk.does(rt, alloc, mute())?;
+    let muted = sent_after(alloc, first, &item, of_mute)?;
+    let untold = third.handle(alloc, &item).ok()?;
+    Some(muted.is_empty() && untold.iter().all(|egress| version_of(egress) < 7))
+}
+
+/// Whether once the source is no longer muted the first lane, which is told of it, sends the frame, and the second lane
+/// sends the same when all that it is told is the last notice.
+fn is_unmuted<'a, H: Hall, R: Wait>(
     rt: &R,
     alloc: Global,
     desk: &mut OneDesk<'a, H>,
@@ -52,15 +68,26 @@ fn are_told<'a, H: Hall, R: Wait>(
     second: &mut OwnLane<OfHall<H>>,
 ) -> Option<bool> {
     let item = frame(alloc)?;
-    let of_mute = desk.does(rt, alloc, mute())?;
-    let muted = sent_after(alloc, first, &item, of_mute)?;
     let of_unmute = desk.does(rt, alloc, unmute())?;
     let heard = sent_after(alloc, first, &item, of_unmute)?;
     let beside = sent_after(alloc, second, &item, desk.notice(rt))?;
-    Some(muted.is_empty() && are_packets(&heard, 2) && are_packets(&beside, 1))
+    Some(are_packets(&heard, 2) && are_packets(&beside, 1))
 }
 
-/// The same, with lanes of these readers. The desk then has version 8, and the rows that it was set up with.
+/// Whether three lanes handle the frame so. The desk then has version 8, and the rows that it was set up with.
+fn are_told<'a, H: Hall, R: Wait>(
+    rt: &R,
+    alloc: Global,
+    desk: &mut OneDesk<'a, H>,
+    lanes: (OwnLane<OfHall<H>>, OwnLane<OfHall<H>>, OwnLane<OfHall<H>>),
+) -> Option<bool> {
+    let (mut first, mut second, mut third) = lanes;
+    let is_muted = is_muted(rt, alloc, desk, &mut first, &mut third)?;
+    let is_unmuted = is_unmuted(rt, alloc, desk, &mut first, &mut second)?;
+    Some(is_muted && is_unmuted && desk.has_only(rt, alloc, 8, &set_up()))
+}
+
+/// The same, with lanes of these readers, over a desk without rows.
 fn is_played<'a, H: Hall, R: Wait>(
     rt: &R,
     alloc: Global,
@@ -72,13 +99,10 @@ fn is_played<'a, H: Hall, R: Wait>(
     if !desk.does_all(rt, alloc, &set_up()) {
         return None;
     }
-    let mut first = own_lane::<H>(alloc, readers)?;
+    let first = own_lane::<H>(alloc, readers);
     let second = own_lane::<H>(alloc, readers);
-    let are_told = match second {
-        Some(mut second) => are_told(rt, alloc, desk, &mut first, &mut second),
-        None => None,
-    };
-    Some(are_told? && desk.has_only(rt, alloc, 8, &set_up()))
+    let third = own_lane::<H>(alloc, readers);
+    are_told(rt, alloc, desk, (first?, second?, third?))
 }
 
 /// The same, over a desk.
@@ -95,7 +119,7 @@ fn scene<H: Hall + Send + Sync + 'static, R: Threads + Wait + Copy + Drop + Send
     requires start { no_rows 1 ≡ H.start }
     requires seats { (1 ≡ H.seats) × (H.seats ≡ H.parts) }
 {
-    match OneDesk::<H>::open(rt, alloc, log, blank, opened, 2) {
+    match OneDesk::<H>::open(rt, alloc, log, blank, opened, 3) {
         Some((desk, readers)) => {
             let mut desk = desk;
             let mut readers = readers;
@@ -108,7 +132,8 @@ fn scene<H: Hall + Send + Sync + 'static, R: Threads + Wait + Copy + Drop + Send
 }
 
 /// A lane that is told of the mute of a source sends none of its frame. Told of the mute's end, it sends both packets.
-/// So does another lane that is told of the end alone.
+/// So does another lane that is told of the end alone. A lane that is told nothing sends none of the frame after the
+/// mute, or sends it by an older version.
 #[test]
 fn a_lane_handles_by_what_it_is_told(rt: HostRuntime) -> Result<(), Fail> {
     let alloc = rt.alloc();

@@ -5,6 +5,8 @@
 #[cfg(test)]
 mod beginning;
 #[cfg(test)]
+mod beside;
+#[cfg(test)]
 mod cast;
 #[cfg(test)]
 mod closing;

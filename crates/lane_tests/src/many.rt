@@ -48,7 +48,7 @@ fn give_all<N: PublisherName>(
 }
 
 /// Gives each lane a copy of an item with the notice.
-fn tell_all<N: PublisherName>(
+pub fn tell_all<N: PublisherName>(
     alloc: Global,
     running: &mut Running<N, Counted>,
     item: &FitItem,

@@ -11,26 +11,31 @@ use std::alloc::Global;
 /// How many items a round has, as many as a lane's ring holds.
 pub const PER_ROUND: u64 = 1_024;
 
-/// A core with one lane, and all that it has sent.
+/// A core, and all that it has sent.
 #[derive(Drop)]
 pub struct OneThread {
     core: Core,
     sent: Vec<Egress>,
 }
 
-/// A core with one lane and without rooms.
-fn core(alloc: Global) -> Option<Core> {
+/// A core with so many lanes and without rooms.
+fn core(alloc: Global, lanes: u32) -> Option<Core> {
     let settings = Settings {
         bridge_ssrc: 1,
         cname: Bytes::from_static(b"bridge"),
     };
-    Core::new(alloc, 1, settings).ok()
+    Core::new(alloc, lanes, settings).ok()
 }
 
 impl OneThread {
-    /// A core over the room.
+    /// A core with one lane over the room.
     pub fn new(alloc: Global) -> Option<OneThread> {
-        let core = core(alloc)?;
+        OneThread::with_lanes(alloc, 1)
+    }
+
+    /// A core with so many lanes over the room.
+    pub fn with_lanes(alloc: Global, lanes: u32) -> Option<OneThread> {
+        let core = core(alloc, lanes)?;
         let mut one = OneThread {
             core,
             sent: Vec::new(alloc),
@@ -56,12 +61,22 @@ impl OneThread {
         true
     }
 
-    /// Handles an item. False where it is refused.
+    /// The desk's version.
+    pub fn version(&self) -> u64 {
+        self.core.version()
+    }
+
+    /// Handles an item on its first lane. False where it is refused.
     pub fn handles(&mut self, alloc: Global, item: &FitItem) -> bool {
-        if self.core.lanes() == 0 {
+        self.handles_on(alloc, 0, item)
+    }
+
+    /// Handles an item on this lane. False where it is refused, or there is no such lane.
+    pub fn handles_on(&mut self, alloc: Global, lane: u32, item: &FitItem) -> bool {
+        if lane as usize >= self.core.lanes() {
             return false;
         }
-        match self.core.item(alloc, 0, item.item()) {
+        match self.core.item(alloc, lane, item.item()) {
             Ok(sent) => self.keep(sent),
             Err(_) => false,
         }

@@ -65,7 +65,7 @@ impl Pace for Together {
     }
 }
 
-/// What a lane has asked.
+/// What a lane has asked, or an operator who keeps pace with lanes.
 #[derive(Drop)]
 pub struct Asked {
     times: AtomicU64,
@@ -90,7 +90,8 @@ impl Asked {
         !self.is_out_of_order.load(Ordering::SeqCst)
     }
 
-    fn note(&self, item_no: u64) {
+    /// Notes that it asks for this number.
+    pub fn note(&self, item_no: u64) {
         let before = self.times.fetch_add(1, Ordering::SeqCst);
         if before.wrapping_add(1) != item_no {
             self.is_out_of_order.store(true, Ordering::SeqCst);

@@ -96,6 +96,16 @@ pub fn stream_of(egress: &Egress) -> u32 {
     head_of(egress).ssrc
 }
 
+/// The version by which an egress is sent first.
+pub fn version_of(egress: &Egress) -> u64 {
+    head_of(egress).version
+}
+
+/// The number, among its lane's items, of the item that an egress is for.
+pub fn item_of(egress: &Egress) -> u64 {
+    head_of(egress).item
+}
+
 /// What is counted of egresses.
 #[derive(Clone, Copy, PartialEq, Eq)]
 pub enum Sort {
@@ -122,7 +132,7 @@ pub fn has(all: &Vec<Egress>, sort: Sort) -> bool {
 }
 
 /// Whether two egresses are the same, octet by octet.
-fn is_same(one: &Egress, other: &Egress) -> bool {
+pub fn is_same(one: &Egress, other: &Egress) -> bool {
     let (front, rest) = octets_of(one);
     let (other_front, other_rest) = octets_of(other);
     head_of(one) == head_of(other)
@@ -140,6 +150,21 @@ pub fn is_beginning(stream: u32, part: &Vec<Egress>, whole: &Vec<Egress>) -> boo
                 Some(other) if is_same(egress, other) => {}
                 _ => return false,
             }
+        }
+    }
+    true
+}
+
+/// Whether what is sent on this stream has the numbers 0, 1, 2 and so on.
+pub fn is_numbered(stream: u32, sent: &Vec<Egress>) -> bool {
+    let mut next: u16 = 0;
+    for egress in sent {
+        let head = head_of(egress);
+        if head.ssrc == stream {
+            if head.number != next {
+                return false;
+            }
+            next = next.wrapping_add(1);
         }
     }
     true
