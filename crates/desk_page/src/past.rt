@@ -152,9 +152,16 @@ function rowsSeen(seenRows, entry) {
   return steps.flatMap(([, seen]) => seen.rows);
 }
 
+// Such an entry shows MOST rows, and says how many more there are.
+const MOST = 12;
+function moreWords(rows) {
+  const more = rows.length - MOST;
+  return more === 1 ? "and 1 more row" : `and ${more} more rows`;
+}
+
 if (typeof module !== "undefined") {
   module.exports = {
     parseDesk, isMusic, roomsFor, codecOf, seen, videosFor, heard, lines, dropped, free, suggested, inWords,
-    replyInWords, noDeskInWords, history, named, foreignWords, rowsSeen, lookOf, changes };
+    replyInWords, noDeskInWords, history, named, foreignWords, rowsSeen, moreWords, lookOf, changes };
 }
 "##;

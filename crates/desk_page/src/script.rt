@@ -229,8 +229,8 @@ function roomCard(room) {
 
 function callItem(entry) {
   if (entry.foreign) {
-    const rows = rowsSeen(seenRows, entry).slice(0, 12);
-    return el("li", {}, soft(foreignWords(entry)), ...rows.map((row) => el("div", {}, code(row))));
+    const rows = rowsSeen(seenRows, entry), boxes = rows.slice(0, MOST).map((row) => el("div", {}, code(row)));
+    return el("li", {}, soft(foreignWords(entry)), ...boxes, rows.length > MOST ? soft(moreWords(rows)) : null);
   }
   const kind = entry.undone ? "undone" : entry.number === null ? "refused" : "";
   const became = entry.undone ? " undone" : entry.undone === null ? " may be undone" : "";
