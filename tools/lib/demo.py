@@ -15,7 +15,7 @@ from lib.shared import CRATES, ROOT, add_program_or_build, fail, found_program, 
 
 NEEDS = "a program, ports 5004, 6000, 6002, 7000 and 7080"
 
-UDP, TCP, PAGE = ("127.0.0.1", 5004), ("127.0.0.1", 7000), "127.0.0.1:7080"
+UDP, TCP, PAGE = ("127.0.0.1", 5004), ("127.0.0.1", 7000), ("127.0.0.1", 7080)
 # Each member's port, the SSRC of its tone, and the tone in Hz.
 MEMBERS = [(6000, 201, 440), (6002, 202, 1000)]
 DESK = [
@@ -52,20 +52,26 @@ def picture(tick):
     return [bytes((at // 8 + tick + 128 * part) % 256 for at in range(600)) for part in range(2)]
 
 
+def text_of(address):
+    return f"{address[0]}:{address[1]}"
+
+
 def started(crate, words, seconds, given=None):
     program = found_program(given, crate)
+    if not program:
+        print(f"building crates/{crate} without proofs, which takes some minutes", flush=True)
     command = [program, *words] if program else try_command(words, seconds)
     return subprocess.Popen(command, cwd=CRATES / crate, stdin=subprocess.DEVNULL, stdout=subprocess.DEVNULL)
 
 
-def connected(bridge):
-    """An operator's connection, once the bridge listens."""
-    while bridge.poll() is None:
+def connected(program, address):
+    """A connection to a program, once it listens there."""
+    while program.poll() is None:
         try:
-            return socket.create_connection(TCP, timeout=10)
+            return socket.create_connection(address, timeout=60)
         except ConnectionRefusedError:
             time.sleep(0.2)
-    return fail("the bridge has ended")
+    return fail(f"the program for {text_of(address)} has ended with status {program.returncode}")
 
 
 def talk():
@@ -92,16 +98,18 @@ def talk():
 def run(args):
     programs = [started("confbridge", ["serve", ROOT / "examples/serve.toml"], 86400, args.binary)]
     try:
-        operator = Operator(connected(programs[0]))
+        operator = Operator(connected(programs[0], TCP))
         for line in DESK:
             operator.ask(line)
         operator.tell("quit")
-        programs.append(started("desk_page", ["--bridge", f"{TCP[0]}:{TCP[1]}", "--listen", PAGE], 86400))
-        print(f"the desk is at http://{PAGE}/ (Ctrl-C ends the call)")
+        programs.append(started("desk_page", ["--bridge", text_of(TCP), "--listen", text_of(PAGE)], 86400))
+        connected(programs[1], PAGE).close()
+        print(f"the desk is at http://{text_of(PAGE)}/ (Ctrl-C ends the call)", flush=True)
         talk()
     except KeyboardInterrupt:
         return 0
     finally:
+        # `rt try` ends the program that it runs once it is asked to end, and leaves it behind where it is killed.
         for program in programs:
-            program.kill()
+            program.terminate()
             program.wait()

@@ -25,6 +25,21 @@ window.dragged = (from, to) => {
   fire(a, "dragstart"); fire(b, "dragover"); fire(b, "drop"); fire(a, "dragend");
 };
 window.version = () => (desk ? desk.version : -1);
+window.drawn = () => {
+  const number = (node) => node.textContent.match(/[0-9]+/)[0], of = (node, what) => node.closest(`[data-${what}]`).dataset[what];
+  const all = (selector, row, from = document) => [...from.querySelectorAll(selector)].map(row);
+  return [
+    ...all("[data-room]", (n) => `${n.querySelector("h3").textContent.replace(" Hz", "")}: ${all("[data-member]", (m) => of(m, "member"), n)}`),
+    ...all("[data-member] div.soft", (n) => `member ${of(n, "member")} ${of(n, "room")} ${n.textContent}`),
+    ...all(".chip:has(button) .what", (n) => `source ${number(n)} ${of(n, "member")} ${n.textContent.split(" ")[0]}`),
+    ...all(".chip.muted:has(button)", (n) => `mute ${number(n)}`),
+    ...all(".chip input", (n) => `${n.dataset.key} ${n.value} ${n.parentNode.className}`),
+    ...all("[data-slot]", (n) => `slot ${of(n, "slot")} ${of(n, "member")} ${number(n)}`),
+    ...all('[data-slot]:has([data-key^="unsubscribe "])', (n) => `sub ${of(n, "slot")} ${number(n.firstElementChild)}`),
+    ...all('[data-key^="unpin "]', (n) => `pin ${of(n, "room")} ${number(n.parentNode)}`),
+    ...all('[data-key^="take-floor "]', (n) => `floor ${of(n, "room")} ${number(n.parentNode)}`),
+  ].sort();
+};
 true
 """
 
@@ -60,6 +75,31 @@ KEYS = [
 CODES = {"Enter": 13, "ArrowDown": 40}
 
 
+def drawn_of(rows):
+    """What the page draws of these rows of `show`: each room with its members by place, and the gain of each source that a member hears."""
+    words = [row.split() for row in rows]
+    forms = {"member": "member {2} {3} {4} {5}, mix {6}", "slot": "slot {1} {2} {3}"}
+    found = [forms.get(one[0], row).format(*one) for row, one in zip(rows, words) if one[0] not in ("room", "gain")]
+    rooms = {one[2]: one[3] for one in words if one[0] == "member"}
+    found += [f"{' '.join(one)}: {','.join(m for m in rooms if rooms[m] == one[1])}" for one in words if one[0] == "room"]
+    gains = {(one[1], one[2]): one[3] for one in words if one[0] == "gain"}
+    for ssrc, owner in [one[1:3] for one in words if one[0] == "source" and one[3] == "audio"]:
+        chip = "chip muted" if f"mute {ssrc}" in rows else "chip"
+        hear = [member for member in rooms if member != owner and rooms[member] == rooms[owner]]
+        found += [f"gain {member} {ssrc} {gains.get((member, ssrc), 256)} {chip}" for member in hear]
+    return sorted(found)
+
+
+def compare(browser, version, bridge, what):
+    """The rows that the page has. Ends where these, or what it draws, are not what the bridge's `show` says."""
+    rows, drawn = browser.run("[desk.rows, drawn()]")
+    if [*rows, f"end {version}"] != bridge:
+        fail(f"after {what} the page has {rows}, the bridge {bridge}")
+    if drawn != drawn_of(rows):
+        fail(f"after {what} the page draws {drawn}, not {drawn_of(rows)}")
+    return rows
+
+
 def by_keys(browser, shown):
     """Goes on with a session by keys alone. After each step the page shows what the bridge's `show` says."""
     version = browser.run("version()")
@@ -70,8 +110,7 @@ def by_keys(browser, shown):
             browser.types(text)
         browser.press(key, CODES[key])
         browser.wait(f"version() === {version}")
-        if [*browser.run("desk.rows"), f"end {version}"] != shown():
-            fail(f"after {what} by keys the page shows another desk than the bridge")
+        compare(browser, version, shown(), f"{what} by keys")
 
 
 def undoes_others(browser, shown, ask):
@@ -89,8 +128,9 @@ def undoes_others(browser, shown, ask):
         browser.wait(f"version() === {version}")
         version += 1
         told = [browser.run(word) for word in words]
-        if told != wanted or [*browser.run("desk.rows"), f"end {version - 1}"] != shown():
+        if told != wanted:
             fail(f"at version {version - 1} of another operator's change the buttons say {told}, not {wanted}")
+        compare(browser, version - 1, shown(), "another operator's change")
 
 
 def is_told(browser, looks):
@@ -112,8 +152,8 @@ def adds_music(browser, shown):
         version += 1
         browser.run(f"{script}; true")
         browser.wait(f"version() === {version}")
-        rows = browser.run("desk.rows")
-        if [*rows, f"end {version}"] != shown() or not any(one.startswith(row) for one in rows if one not in before):
+        rows = compare(browser, version, shown(), f"`{script}`")
+        if not any(one.startswith(row) for one in rows if one not in before):
             fail(f"after `{script}` the page shows {rows}")
     is_told(browser, [
         ("document.querySelector('[data-room=\"3\"] .head').textContent.includes('44100 Hz')", True),
@@ -134,9 +174,22 @@ def undoes_music(browser, shown):
         version += 1
         browser.run("document.getElementById('undo').click(); true")
         browser.wait(f"version() === {version}")
-    rows, redo = browser.run("desk.rows"), browser.run("document.getElementById('redo').textContent")
-    if [*rows, f"end {version}"] != shown() or redo != "Redo: add-room 3 44100":
-        fail(f"after a music room is undone the page shows {rows}, and its button says {redo}")
+    compare(browser, version, shown(), "the undo of a music room")
+    is_told(browser, [("document.getElementById('redo').textContent", "Redo: add-room 3 44100")])
+
+
+def leaves_rows_out(browser, shown, ask):
+    """Of another operator's change the history shows 12 rows, and says how many more there are."""
+    version = browser.run("version()") + 1
+    rooms = " / ".join(f"add-room {room}" for room in range(20, 34))
+    if ask(f"group {rooms}") != f"ok {version}":
+        fail("another operator's group is refused")
+    browser.wait(f"version() === {version}")
+    compare(browser, version, shown(), "another operator's group")
+    is_told(browser, [
+        ("document.querySelectorAll('#calls li:first-child code').length", 12),
+        ("document.querySelector('#calls li:first-child').textContent.endsWith('and 2 more rows')", True),
+    ])  # fmt: skip
 
 
 def opened(command, folder, address):
@@ -162,15 +215,15 @@ def drive(command, folder, address, shown, ask, pictures=None):
             begun = time.monotonic()
             two.wait(f"version() === {version}")
             times.append(time.monotonic() - begun)
-            rows, bridge = one.run("desk.rows"), shown()
-            if [*rows, f"end {version}"] != bridge:
-                fail(f"after {what} the page shows {rows}, the bridge {bridge}")
+            for browser in one, two:
+                compare(browser, version, shown(), what)
         look(one, version)
         adds_music(one, shown)
         look_at_sizes(one, pictures)
         undoes_music(one, shown)
         by_keys(one, shown)
         undoes_others(one, shown, ask)
+        leaves_rows_out(one, shown, ask)
     finally:
         one.close()
         two.close()

@@ -3,13 +3,15 @@
 An operator adds rooms, one of them for music, and members, subscribes, mutes, moves a member, undoes three times and does one
 again. After each line the page's desk is what the bridge's `show` says. A second operator's change is there within half a
 second. Bad requests are refused by name and change nothing. A silent bridge keeps nobody waiting, and a bridge that comes back
-is found again. With node, the page's functions choose the lines of clicks as they should. With chromium, two browsers go
-through a call by clicks, forms and a drag: after each step the page shows what `show` says, and the second browser within half
-a second.
+is found again. In node, the page's functions choose the lines of clicks as they should. In chromium, two browsers go through a
+call by clicks, forms and a drag: after each step both draw what `show` says, and the second one within half a second. With
+--http-only neither node nor chromium is needed, and nothing tries the page's script.
 """
 
 import concurrent.futures
+import contextlib
 import http.client
+import os
 import pathlib
 import re
 import shutil
@@ -24,7 +26,7 @@ from lib.driving import drive
 from lib.serving import Operator, free_port, settings
 from lib.shared import CRATES, add_program_or_build, fail, found_program, try_command
 
-NEEDS = "a program, a minute"
+NEEDS = "a program, node and chromium, two minutes"
 
 MARKUP_TOKEN = re.compile(rb'<meta name="desk-token" content="([0-9a-f]{32})">')
 CALLS = [
@@ -55,6 +57,7 @@ def options(parser):
     add_program_or_build(parser)
     parser.add_argument("--page", metavar="PROGRAM", help="the page's program (crates/desk_page/out/desk_page if not given)")
     parser.add_argument("--browser", default="chromium", metavar="COMMAND", help="the browser (%(default)s)")
+    parser.add_argument("--http-only", action="store_true", help="try neither the page's functions nor a browser")
     parser.add_argument("--pictures", type=pathlib.Path, metavar="FOLDER", help="where pictures of the page go")
 
 
@@ -76,10 +79,24 @@ def connected(program, port):
     """A connection to a program, once it listens."""
     while program.poll() is None:
         try:
-            return socket.create_connection(("127.0.0.1", port), timeout=10)
+            return socket.create_connection(("127.0.0.1", port), timeout=60)
         except ConnectionRefusedError:
             time.sleep(0.1)
     return fail(f"a program ended with status {program.returncode} before it listened")
+
+
+def signal_all(program, number):
+    """Sends a signal to a program and to what it has started: `rt try` runs a program as a process below its own."""
+    parents = {}
+    for path in pathlib.Path("/proc").glob("[0-9]*/stat"):
+        with contextlib.suppress(OSError):
+            parents[int(path.parent.name)] = int(path.read_text().rpartition(")")[2].split()[1])
+    found = [program.pid]
+    for parent in found:
+        found += [one for one in parents if parents[one] == parent]
+    for one in found:
+        with contextlib.suppress(ProcessLookupError):
+            os.kill(one, number)
 
 
 class Page:
@@ -123,11 +140,20 @@ class Page:
 
 def shown(operator):
     """The lines of `show`, as an operator gets them."""
-    operator.tell("show")
-    lines = [operator.lines.readline().strip()]
-    while not lines[-1].startswith("end "):
-        lines.append(operator.lines.readline().strip())
+    lines = operator.shown()
+    check(lines and lines[-1].startswith("end "), f"the bridge answers `show` by {lines}")
     return lines
+
+
+def seated(bridge, port):
+    """An operator of a bridge, once it answers. It listens before all of its memory is there, and frees a seat some time after its operator left."""
+    for _ in range(100):
+        operator = Operator(connected(bridge, port))
+        with contextlib.suppress(ConnectionError):
+            if any(line.startswith("end ") for line in operator.shown()):
+                return operator
+        time.sleep(0.1)
+    return fail("the bridge has no seat for an operator")
 
 
 def go_through(page, operator):
@@ -186,17 +212,40 @@ def refuses(page, operator, version):
     ]:
         status, _, text = page.ask(method, path, body, fields)
         check(status == wanted and text.startswith(name), f"{method} {path} {body}: {status} {text}, not {wanted} {name}")
-    try:
-        check(page.ask("POST", "/call", b"a" * 1_048_576, good)[0] == 413, "a body of 1 MiB isn't refused with 413")
-    except (BrokenPipeError, ConnectionResetError):
-        pass
+    refuses_long(page, good)
+    check(page.ask("GET", "/")[0] == 200, "behind a body of 1 MiB the page isn't there")
     check(shown(operator)[-1] == f"end {version}", "a bad request has reached the bridge")
 
 
-def takes_others(page):
+def refuses_long(page, fields):
+    """A body of 1 MiB is refused before it is whole, and what still comes of it is dropped."""
+    lines = [f"{name}: {value}" for name, value in {"Host": f"127.0.0.1:{page.port}", "Content-Length": 1_048_576, **fields}.items()]
+    with socket.create_connection(("127.0.0.1", page.port), timeout=20) as one:
+        one.sendall("\r\n".join(["POST /call HTTP/1.1", *lines, "", "a" * 4_096]).encode())
+        with one.makefile("rb") as answer:
+            check(answer.read().startswith(b"HTTP/1.1 413 "), "a body of 1 MiB isn't refused with 413")
+        # The page reads on for a second behind its response. Octets that come later reset the connection.
+        with contextlib.suppress(ConnectionError):
+            one.sendall(b"a" * (1_048_576 - 4_096))
+
+
+def is_closed(connection):
+    """Whether the page has closed a connection, over which nothing else comes."""
+    connection.setblocking(False)
+    try:
+        return connection.recv(1) == b""
+    except BlockingIOError:
+        return False
+
+
+def takes_others(page, operator, version):
     """Connections that say nothing keep nobody out, and those that say little keep others out for a second."""
     silent = [socket.create_connection(("127.0.0.1", page.port), timeout=10) for _ in range(200)]
     check(page.ask("GET", "/")[0] == 200, "200 connections that say nothing keep others out")
+    # The page has 32 places, and the oldest silent connection gives its place to a new one.
+    check(all(is_closed(one) for one in silent[:168]), "the page keeps more than 32 connections that say nothing")
+    check(page.ask("GET", "/")[0] == 200, "behind 200 connections that say nothing the page answers once")
+    check(shown(operator)[-1] == f"end {version}", "connections that say nothing have changed the desk")
     for one in silent:
         one.close()
     slow = [socket.create_connection(("127.0.0.1", page.port), timeout=10) for _ in range(32)]
@@ -210,7 +259,7 @@ def takes_others(page):
 
 def stands_silence(page, bridge, version):
     """A bridge that says nothing keeps nobody else waiting, and a call is sent once."""
-    bridge.send_signal(signal.SIGSTOP)
+    signal_all(bridge, signal.SIGSTOP)
     try:
         with concurrent.futures.ThreadPoolExecutor() as pool:
             waits = pool.submit(page.call, "add-room 8")
@@ -220,7 +269,7 @@ def stands_silence(page, bridge, version):
             status, text = waits.result()
             check(status == 504 and text.startswith("Lost"), f"a call without an answer is told {status} {text}")
     finally:
-        bridge.send_signal(signal.SIGCONT)
+        signal_all(bridge, signal.SIGCONT)
     time.sleep(0.5)
     rows, calls = page.desk()
     check(rows.count("room 8") <= 1 and rows[-1] in (f"end {version}", f"end {version + 1}"), "a lost call was sent again")
@@ -229,24 +278,25 @@ def stands_silence(page, bridge, version):
 
 def finds_seats(page, bridge, port):
     """Where all seats are taken the page says so, and takes the next free one."""
-    others = [socket.create_connection(("127.0.0.1", port), timeout=10) for _ in range(2)]
-    for one in others:
-        one.sendall(b"show\n")
-        check(one.recv(4) != b"", "an operator is told nothing")
+    others = [seated(bridge, port) for _ in range(2)]
     status, _, text = page.ask("GET", "/desk")
     check(status == 503 and text.startswith("Busy"), f"with all seats taken the desk is {status} {text}")
-    others[0].close()
+    others[0].tell("quit")
     time.sleep(0.5)
     check(page.ask("GET", "/desk")[0] == 200, "the page doesn't take a free seat")
-    others[1].close()
+    others[1].tell("quit")
     check(bridge.poll() is None, "the bridge has ended")
+
+
+def find_commands(browser):
+    """Ends where a command isn't there that runs the page's script."""
+    for command, package in ("node", "nodejs"), (browser, "chromium"):
+        if not shutil.which(command):
+            fail(f"there is no command `{command}`: install Debian's package {package}, or leave the page's script untried with --http-only")
 
 
 def try_functions():
     """The functions of the page that choose a click's line, by themselves."""
-    if not shutil.which("node"):
-        print("there is no command `node`: the page's functions are not tried")
-        return
     texts = [(CRATES / f"desk_page/src/{part}.rt").read_text() for part in ("spelling", "past")]
     script = "".join(re.search(r'br##"(.*)"##;', text, re.S)[1] for text in texts)
     with tempfile.TemporaryDirectory() as folder:
@@ -258,17 +308,11 @@ def try_functions():
     print(done.stdout.strip())
 
 
-def browse(args, folder, page, port):
+def browse(args, folder, page, operator):
     """Two browsers go through a call."""
-    if not shutil.which(args.browser):
-        print(f"there is no command `{args.browser}`: no browser tries the page")
-        return
-    with socket.create_connection(("127.0.0.1", port), timeout=10) as connection:
-        operator = Operator(connection)
-        address = f"http://127.0.0.1:{page.port}/"
-        times = drive(args.browser, folder, address, lambda: shown(operator), operator.ask, args.pictures)
-        operator.tell("quit")
-        operator.lines.close()
+    address = f"http://127.0.0.1:{page.port}/"
+    times = drive(args.browser, folder, address, lambda: shown(operator), operator.ask, args.pictures)
+    operator.tell("quit")
     print(f"a second browser sees a step after {statistics.median(times):.2f} s, and {max(times):.2f} s at most")
 
 
@@ -278,33 +322,34 @@ def session(args, folder):
     addresses = ["--bridge", f"127.0.0.1:{tcp}", "--listen", f"127.0.0.1:{port}"]
     programs = [started("confbridge", args.binary, words, args.seconds, folder), started("desk_page", args.page, addresses, args.seconds, folder)]
     try:
-        first = connected(programs[0], tcp)
+        page, operator = Page(port), seated(programs[0], tcp)
         connected(programs[1], port).close()
-        page, operator = Page(port), Operator(first)
         page.load()
         version = sees_others(page, operator, go_through(page, operator))
         refuses(page, operator, version)
-        takes_others(page)
+        takes_others(page, operator, version)
         stands_silence(page, programs[0], version)
         operator.tell("stop")
         programs[0].wait(timeout=30)
         status, _, text = page.ask("GET", "/desk")
         check(status == 502 and text.startswith("Gone"), f"without a bridge the desk is {status} {text}")
         programs.append(started("confbridge", args.binary, words, args.seconds, folder))
-        connected(programs[-1], tcp).close()
-        time.sleep(0.5)
         finds_seats(page, programs[-1], tcp)
-        browse(args, folder, page, tcp)
+        if not args.http_only:
+            browse(args, folder, page, seated(programs[-1], tcp))
         check(page.call("add-room 9")[1].startswith("ok "), "the page doesn't find the bridge that came back")
     finally:
+        # `rt try` ends the program that it runs once it is asked to end, and leaves it behind where it is killed.
         for program in programs:
-            program.kill()
+            program.terminate()
             program.wait()
     print(f"a session of {version} versions at the page, no fault")
 
 
 def run(args):
-    try_functions()
+    if not args.http_only:
+        find_commands(args.browser)
+        try_functions()
     with tempfile.TemporaryDirectory(ignore_cleanup_errors=True) as folder:
         session(args, folder)
     return 0

@@ -248,4 +248,5 @@ for (const [page_part, looks_part] of [[100, 0], [100, 100], [90, 0], [60, 0], [
 }
 
 same(page.changes(["room 1", "mute 1"], ["room 1", "room 2"]), ["- mute 1", "+ room 2"]);
+same([13, 20].map((count) => page.moreWords(Array(count))), ["and 1 more row", "and 8 more rows"]);
 console.log(`${tried} tries of the page's functions, no fault`);
