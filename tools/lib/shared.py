@@ -133,6 +133,15 @@ def first_difference(script, printed):
 # Costs
 
 
+def compiled(source, folder):
+    """The path of a program in C, compiled to a folder for the processors that the bridge's programs are built for."""
+    if not shutil.which("cc"):
+        fail("there is no command `cc`")
+    path = f"{folder}/{source.stem}"
+    subprocess.run(["cc", "-O3", "-march=x86-64-v2", "-o", path, source], check=True)
+    return path
+
+
 def processor_time(command, given=subprocess.DEVNULL, told=subprocess.DEVNULL):
     """The processor time that a command takes, in seconds."""
     with subprocess.Popen(command, stdin=given, stdout=told) as run:

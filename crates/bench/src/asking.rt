@@ -21,10 +21,14 @@ pub enum Case {
     Tick,
     /// The same in a room of 44100 Hz.
     Music,
-    /// The same sound and tick, where nobody is in the room.
+    /// The same speech and tick, where nobody is in the room.
     Sound,
+    /// The same music and tick, where nobody is in the room.
+    Played,
     /// The tick alone, where nobody is in the room.
     Silence,
+    /// The same, where music was played.
+    Paused,
     /// 160 samples are encoded.
     Encode,
     /// 160 octets are decoded.
@@ -65,7 +69,9 @@ fn case_of(word: &str) -> Option<Case> {
         "tick" => Some(Case::Tick),
         "music" => Some(Case::Music),
         "sound" => Some(Case::Sound),
+        "played" => Some(Case::Played),
         "silence" => Some(Case::Silence),
+        "paused" => Some(Case::Paused),
         "encode" => Some(Case::Encode),
         "decode" => Some(Case::Decode),
         "copy" => Some(Case::Copy),
@@ -99,7 +105,7 @@ pub fn asked(
         _ => None,
     };
     order.ok_or(io::Error::other(
-        "usage: bench frame|nobody|nack|find|datagram|elsewhere|tick|music|sound|silence|encode|decode|copy|keep|await \
-         TIMES SLOTS PACKETS",
+        "usage: bench frame|nobody|nack|find|datagram|elsewhere|tick|music|sound|played|silence|paused|encode|decode|\
+         copy|keep|await TIMES SLOTS PACKETS",
     ))
 }

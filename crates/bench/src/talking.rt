@@ -175,23 +175,23 @@ pub fn heard(alloc: Global, sort: Sort, order: &Order) -> io::Result<Tally> {
     talk(alloc, &mut core, call, order.times)
 }
 
-/// As many speak, and none is in the room.
-pub fn unheard(alloc: Global, order: &Order) -> io::Result<Tally> {
+/// As many speak or play, and none is in the room.
+pub fn unheard(alloc: Global, sort: Sort, order: &Order) -> io::Result<Tally> {
     let speakers = speakers(alloc, order.slots)?;
-    let mut core = empty_core(alloc, Sort::Speech)?;
+    let mut core = empty_core(alloc, sort)?;
     let call = Call {
-        sort: Sort::Speech,
+        sort,
         speakers: &speakers,
     };
     talk(alloc, &mut core, call, order.times)
 }
 
-/// As many spoke once, none is in the room, and nobody says more.
-pub fn silent(alloc: Global, order: &Order) -> io::Result<Tally> {
+/// As many spoke or played once, none is in the room, and nothing more comes.
+pub fn silent(alloc: Global, sort: Sort, order: &Order) -> io::Result<Tally> {
     let speakers = speakers(alloc, order.slots)?;
-    let mut core = empty_core(alloc, Sort::Speech)?;
+    let mut core = empty_core(alloc, sort)?;
     let call = Call {
-        sort: Sort::Speech,
+        sort,
         speakers: &speakers,
     };
     let mut tally = talk(alloc, &mut core, call, 1)?;

@@ -16,11 +16,10 @@ PLIs that go to the call's, has at most 1.5 octets for each of theirs. The statu
 """
 
 import pathlib
-import shutil
 import subprocess
 import tempfile
 
-from lib.shared import add_program, fail, release_program
+from lib.shared import add_program, compiled, release_program
 
 NEEDS = "the program, `cc`, a minute or more a flood; root for large socket buffers"
 
@@ -47,12 +46,9 @@ def options(parser):
 
 def run(args):
     program = release_program(args.binary)
-    if not shutil.which("cc"):
-        fail("there is no command `cc`")
     has_held = True
     with tempfile.TemporaryDirectory() as folder:
-        flood = f"{folder}/flood"
-        subprocess.run(["cc", "-O2", "-o", flood, HERE / "flood.c"], check=True)
+        flood = compiled(HERE / "flood.c", folder)
         for name in [args.flood] if args.flood else RATES:
             rate = RATES[name] if args.rate is None else args.rate
             print(f"{name}, {rate} datagrams a second", flush=True)

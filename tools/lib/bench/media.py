@@ -1,17 +1,27 @@
-"""Times frames, NACKs, datagrams and sound in the core.
+"""Times frames, NACKs, datagrams and sound in the core, or counts their instructions.
 
 A case is run N times as often as fills S seconds, and as many times twice as often. Its time is the least of the longer runs
 less the least of the shorter ones, over the times between them, in processor time: making the desk and filling the windows is
 in both. The cases take turns, so that a busy moment meets all of them. In the same run the yardstick is timed: the copy of as
-many octets into fresh vectors.
+many octets into fresh vectors. So is the floor of ticks, tick.c: a program in C that only adds up, takes off, clamps, encodes and
+writes headers, for members who all speak and samples that are there.
+
+With --instructions callgrind counts one run of each length, and a case is run often enough for 20 million of them.
 """
 
-from lib.shared import add_measuring, add_program, processor_time, release_program
+import pathlib
+import subprocess
+import tempfile
 
-NEEDS = "the program of the crate bench, minutes"
+from lib.shared import add_measuring, add_program, compiled, instructions, processor_time, release_program
 
+NEEDS = "the program of the crate bench, `cc`, minutes; valgrind to count instructions"
+
+HERE = pathlib.Path(__file__).resolve().parent
 RECEIVERS = 16
 WINDOW = 512
+# How many instructions a run takes at least, where they are counted.
+ENOUGH = 20_000_000
 # The row to which all others are compared.
 YARDSTICK = "copy, 4 packets a frame"
 
@@ -21,12 +31,18 @@ def row(words, units=1):
     return {words: 1}, units
 
 
-def tick(members):
+def tick(case, unheard, silent, members):
     """A tick alone: sound and ticks in a room of so many, less the same sound where nobody is in the room, plus the silent ticks that
     this takes off too much."""
-    return {f"tick {members} 1": 1, f"sound {members} 1": -1, f"silence {members} 1": 1}, 1
+    return {f"{case} {members} 1": 1, f"{unheard} {members} 1": -1, f"{silent} {members} 1": 1}, 1
 
 
+def put(unheard, silent, members):
+    """An audio packet put to its source: sound and ticks where nobody is in the room, less the ticks."""
+    return {f"{unheard} {members} 1": 1, f"{silent} {members} 1": -1}, members
+
+
+SPEECH, MUSIC = ("sound", "silence"), ("played", "paused")
 # Each row: how often each of its cases counts, and over how many packets, frames or numbers.
 ROWS = {
     "copy, 4 packets a frame": row("copy 16 4", 4 * RECEIVERS),
@@ -48,55 +64,81 @@ ROWS = {
         for packets in (4, 16, 64)
     },
     "datagram from nobody's address": row("elsewhere 2 1"),
-    "tick of 16 members": tick(16),
-    "tick of 64 members": tick(64),
-    "tick of 64 members at 44100 Hz, with their puts": row("music 64 1"),
+    "tick of 16 members": tick("tick", *SPEECH, 16),
+    "tick of 64 members": tick("tick", *SPEECH, 64),
+    "tick of 64 members at 44100 Hz": tick("music", *MUSIC, 64),
     "tick with nobody in the room, 64 sources": row("silence 64 1"),
-    "audio packet put to its source, 64 sources": ({"sound 64 1": 1, "silence 64 1": -1}, 64),
+    "tick with nobody in the room, 64 sources at 44100 Hz": row("paused 64 1"),
+    "audio packet put to its source, 64 sources": put(*SPEECH, 64),
+    "audio packet put to its source, 64 sources at 44100 Hz": put(*MUSIC, 64),
     "160 samples encoded": row("encode 1 1"),
     "160 octets decoded": row("decode 1 1"),
+}
+# The floor of a row, by its members and the samples of a tick.
+FLOORS = {
+    "tick of 16 members": "C 16 160",
+    "tick of 64 members": "C 64 160",
+    "tick of 64 members at 44100 Hz": "C 64 882",
 }
 
 
 def options(parser):
     add_program(parser, "bench")
     add_measuring(parser, 7)
-    parser.add_argument("--seconds", type=float, default=0.5, help="how long a run takes at least (%(default)s)")
+    how = parser.add_mutually_exclusive_group()
+    how.add_argument("--seconds", type=float, default=0.5, help="how long a run takes at least (%(default)s)")
+    how.add_argument("--instructions", action="store_true", help="count instructions by callgrind, one run each")
 
 
-def spent(program, case, times):
-    """The processor time of one run, in seconds."""
-    name, slots, packets = case.split()
-    return processor_time([program, name, str(times), slots, packets])
+def command(programs, case, times):
+    """The command that does a case so often."""
+    name, *sizes = case.split()
+    program, floor = programs
+    return [floor, str(times), *sizes] if name == "C" else [program, name, str(times), *sizes]
 
 
-def enough(program, case, seconds):
-    """How often the case is done in so much time: a power of two."""
-    base, times = spent(program, case, 0), 1
-    while spent(program, case, times) - base < seconds:
+def timed(words):
+    """The processor time of one run, in nanoseconds."""
+    return processor_time(words) * 1e9
+
+
+def counted(words):
+    """The instructions of one run."""
+    return instructions(words, subprocess.DEVNULL)
+
+
+def enough(measure, programs, case, least):
+    """How often the case is done where it costs so much: a power of two."""
+    base, times = measure(command(programs, case, 0)), 1
+    while measure(command(programs, case, times)) - base < least:
         times *= 2
     return times
 
 
-def nanoseconds(program, cases, runs, seconds):
-    """The time of each case."""
-    counts = {case: enough(program, case, seconds) for case in cases}
-    least = {}
+def costs(measure, programs, cases, runs, least):
+    """The cost of each case."""
+    counts = {case: enough(measure, programs, case, least) for case in cases}
+    best = {}
     for _ in range(runs):
         for case in cases:
             for times in (counts[case], 2 * counts[case]):
-                took = spent(program, case, times)
-                least[case, times] = min(took, least.get((case, times), took))
-    return {case: (least[case, 2 * count] - least[case, count]) / count * 1e9 for case, count in counts.items()}
+                cost = measure(command(programs, case, times))
+                best[case, times] = min(cost, best.get((case, times), cost))
+    return {case: (best[case, 2 * count] - best[case, count]) / count for case, count in counts.items()}
 
 
 def run(args):
+    measure, unit, runs, least = (counted, "instructions", 1, ENOUGH) if args.instructions else (timed, "ns", args.runs, args.seconds * 1e9)
     rows = {name: made for name, made in ROWS.items() if args.only in name or name == YARDSTICK}
-    cases = list(dict.fromkeys(case for made, _ in rows.values() for case in made))
-    each = nanoseconds(release_program(args.binary, "bench"), cases, args.runs, args.seconds)
+    floors = {name: case for name, case in FLOORS.items() if name in rows}
+    cases = list(dict.fromkeys([case for made, _ in rows.values() for case in made] + list(floors.values())))
+    with tempfile.TemporaryDirectory() as folder:
+        programs = release_program(args.binary, "bench"), compiled(HERE / "tick.c", folder)
+        each = costs(measure, programs, cases, runs, least)
     yardstick = None
     for name, (made, units) in rows.items():
-        took = sum(often * each[case] for case, often in made.items()) / units
-        yardstick = yardstick or took
-        print(f"{name}: {took:.1f} ns, {took / yardstick:.2f} of the copy", flush=True)
+        cost = sum(often * each[case] for case, often in made.items()) / units
+        yardstick = yardstick or cost
+        beside = f", {cost / each[floors[name]]:.2f} of C's {each[floors[name]]:,.0f}" if name in floors else ""
+        print(f"{name}: {cost:,.1f} {unit}, {cost / yardstick:.2f} of the copy{beside}", flush=True)
     return 0

@@ -14,11 +14,10 @@ of processor time that the host took away. The status is 0 where the bridge answ
 """
 
 import pathlib
-import shutil
 import subprocess
 import tempfile
 
-from lib.shared import add_program, fail, release_program
+from lib.shared import add_program, compiled, release_program
 
 NEEDS = "the program, `cc`, a minute; root for large socket buffers"
 
@@ -36,8 +35,6 @@ def options(parser):
 
 def run(args):
     program = release_program(args.binary)
-    if not shutil.which("cc"):
-        fail("there is no command `cc`")
     words = [program, args.load, args.count]
     if args.load == "storm":
         words.append(args.lines)
@@ -46,6 +43,4 @@ def run(args):
     elif args.load != "both" and not args.no_python:
         words.append(HERE / "floor.py")
     with tempfile.TemporaryDirectory() as folder:
-        load = f"{folder}/load"
-        subprocess.run(["cc", "-O2", "-o", load, HERE / "load.c"], check=True)
-        return subprocess.run([load, *words], check=False).returncode
+        return subprocess.run([compiled(HERE / "load.c", folder), *words], check=False).returncode
