@@ -226,14 +226,28 @@ static void listener_hears(const uint8_t *at, ssize_t size, double now)
         late[ticks++] = now - get32(at + 4) / (double)SAMPLES * 0.02;
 }
 
-/* What the members of the flood are told: what goes up to senders, and packets. */
+/* Whether a compound has a NACK or a PLI. Another one is a report, which time bounds. */
+static int asks_for(const uint8_t *at, ssize_t size)
+{
+    for (ssize_t used; size >= 4; at += used, size -= used) {
+        used = 4 * ((at[2] << 8 | at[3]) + 1);
+        if (at[1] == 205 || at[1] == 206)
+            return 1;
+        if (used > size)
+            return 0;
+    }
+    return 0;
+}
+
+/* What the members of the flood are told: NACKs and PLIs, and packets. */
 static void flood_hears(int one)
 {
     uint8_t octets[9000];
     ssize_t n;
     while ((n = recv(one, octets, sizeof octets, MSG_DONTWAIT)) > 0) {
         int is_control = n > 1 && octets[1] >= 192 && octets[1] <= 223;
-        *(is_control ? &up_octets : &down_octets) += n;
+        up_octets += is_control && asks_for(octets, n) ? n : 0;
+        down_octets += is_control ? 0 : n;
         if (!is_control && n >= 12 && get32(octets + 8) == 502)
             shared->number = octets[2] << 8 | octets[3];
     }
@@ -338,7 +352,7 @@ static void hold(double seconds)
     printf("flood: %ld octets in; out for it %ld octets of control (%.3f for one) and %ld of packets (%.3f)\n", shared->octets,
            up_octets, up, down_octets, shared->octets ? (double)down_octets / shared->octets : 0);
     /* A mix comes for each packet of sound, 60 ms after it. */
-    int holds = share >= 99 && sounds > 0 && mixed + 3 >= 0.99 * sounds && lateness(0.99) <= 10 && up <= 1.5 && now <= early * 1.05 + 1024;
+    int holds = share >= 99 && sounds > 0 && mixed + 3 >= 0.99 * sounds && lateness(0.99) <= 10 && up_octets <= 1.5 * shared->octets + 256 * (2 + STRANGERS) && now <= early * 1.05 + 1024;
     printf("%s\n", holds ? "held" : "NOT HELD");
 }
 

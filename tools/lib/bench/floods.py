@@ -11,8 +11,8 @@ FLOOD is one of
   gaps         packets of one octet of which each asks the bridge for the 249 numbers before it
 
 A flood holds where at least 99 in 100 of the call's packets that reached the bridge come to the listener, the ticks are late by
-at most 10 ms (99th percentile), memory is flat after the first minute, and the control that goes out to the flood's senders, with the
-PLIs that go to the call's, has at most 1.5 octets for each of theirs. The status is 0 where all floods held.
+at most 10 ms (99th percentile), memory is flat after the first minute, and the NACKs and PLIs that go out to the flood's senders, with
+the PLIs that go to the call's, have at most 1.5 octets for each of theirs, and 256 for each sender. The status is 0 where all floods held.
 """
 
 import pathlib
