@@ -142,7 +142,7 @@ FORMS = [
 # What is not judged: what a float past all floats is, TOML doesn't say. tomllib reads TOML 1.0, and some escapes, times without seconds,
 # and line ends and last commas in inline tables are of 1.1. Python alone takes some other characters for line ends.
 NOT_JUDGED = re.compile(
-    r" > |[\x85\u2028\u2029\x0b\x0c\x1c-\x1e]|[eE][+]?[0-9_]{3}|\\[ex]|\{[^}]*(?:\n|,\s*\})|(?<![0-9:+.-])[0-9]{2}:[0-9]{2}(?![0-9:])"
+    r" > |[\x85\u2028\u2029\x0b\x0c\x1c-\x1e]|[eE][+]?[0-9_]{3}|\\[ex]|\{(?:(?s:.*)\n(?s:.*)\}|[^}]*,\s*\})|(?<![0-9:+.-])[0-9]{2}:[0-9]{2}(?![0-9:])"
 )
 
 
