@@ -87,6 +87,23 @@ static size_t asks(uint8_t *at, int *from)
     return size;
 }
 
+/* A receiver report without blocks, and as many NACKs of one number as fit. Half of the numbers are in the window. */
+static size_t nacks(uint8_t *at, int *from)
+{
+    size_t size = 8;
+    *from = floods[0];
+    put32(at, 0x80c90001);
+    put32(at + 4, 9);
+    for (; size + 16 <= 8192; size += 16) {
+        put32(at + size, 0x81cd0003);
+        put32(at + size + 4, 9);
+        put32(at + size + 8, 502);
+        put16(at + size + 12, drawn(2) ? shared->number - drawn(RING) : drawn(65536));
+        put16(at + size + 14, 0);
+    }
+    return size;
+}
+
 /* A receiver report without blocks, and as many lost pictures as the bridge passes on in 20 ms. */
 static size_t pictures(uint8_t *at, int *from)
 {
@@ -138,8 +155,8 @@ static size_t gaps(uint8_t *at, int *from)
 }
 
 static const struct { const char *name; size_t (*next)(uint8_t *, int *); } kinds[] = {
-    {"strangers", from_strangers}, {"noise", from_member}, {"sources", unknown_sources}, {"asks", asks}, {"pictures", pictures},
-    {"restarts", restarts}, {"open-frames", open_frames}, {"gaps", gaps},
+    {"strangers", from_strangers}, {"noise", from_member}, {"sources", unknown_sources}, {"asks", asks}, {"nacks", nacks},
+    {"pictures", pictures}, {"restarts", restarts}, {"open-frames", open_frames}, {"gaps", gaps},
 };
 
 static void flood(size_t (*next)(uint8_t *, int *), long rate)
@@ -359,8 +376,9 @@ static void hold(double seconds)
 int main(int count, char **words)
 {
     size_t (*next)(uint8_t *, int *) = 0;
-    if (count != 5)
-        die("usage: flood BINARY FLOOD SECONDS RATE");
+    if (count != 6)
+        die("usage: flood BINARY FLOOD SECONDS RATE LANES");
+    lanes = atoi(words[5]);
     for (size_t i = 0; i < sizeof kinds / sizeof *kinds; i++)
         if (!strcmp(words[2], kinds[i].name))
             next = kinds[i].next;

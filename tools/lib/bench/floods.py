@@ -5,6 +5,7 @@ FLOOD is one of
   noise        random octets from a member's address
   sources      good RTP packets from a member, each with a random SSRC
   asks         compounds of 8,192 octets from a receiver: 31 blocks, 100 PLIs, and NACKs of numbers in and out of its window
+  nacks        compounds of 8,184 octets from a receiver: 511 NACKs of one number, in and out of its window
   pictures     compounds of 64 PLIs from a receiver, which the bridge passes on to the call's sender
   restarts     two members whose video restarts at every second packet
   open-frames  packets of 2,044 video sources, none of which ends a frame
@@ -30,6 +31,7 @@ RATES = {
     "noise": 200_000,
     "sources": 200_000,
     "asks": 1_000,
+    "nacks": 1_000,
     "pictures": 50,
     "restarts": 20_000,
     "open-frames": 50_000,
@@ -41,6 +43,7 @@ def options(parser):
     parser.add_argument("--flood", choices=RATES, metavar="FLOOD", help="this one alone; all, one after another, if none is given")
     parser.add_argument("--seconds", type=float, default=600, help="how long each lasts (%(default)s)")
     parser.add_argument("--rate", type=int, help="how many datagrams a second, in place of the flood's own; 0 is the call alone")
+    parser.add_argument("--lanes", type=int, default=1, help="how many lanes the bridge has (%(default)s)")
     add_program(parser)
 
 
@@ -52,7 +55,7 @@ def run(args):
         for name in [args.flood] if args.flood else RATES:
             rate = RATES[name] if args.rate is None else args.rate
             print(f"{name}, {rate} datagrams a second", flush=True)
-            ran = subprocess.run([flood, program, name, str(args.seconds), str(rate)], capture_output=True, text=True, check=False)
+            ran = subprocess.run([flood, program, name, str(args.seconds), str(rate), str(args.lanes)], capture_output=True, text=True, check=False)
             print(ran.stdout, ran.stderr, sep="", flush=True)
             has_held = has_held and ran.returncode == 0 and ran.stdout.endswith("\nheld\n")
     return 0 if has_held else 1
