@@ -1,4 +1,4 @@
-"""Has operators who misbehave beside one who doesn't, of whose lines 99 in 100 have to be answered within 50 ms.
+"""Has operators who misbehave beside one who doesn't, whose lines have to be answered within 50 ms.
 
 CROWD is one of
   silent    1,000 connections that say nothing
@@ -200,7 +200,7 @@ def told_of(name, took, accepted, crowd, heard, sent):
         f"of {sent} packets the members heard {heard[0]} and {heard[1]}" if heard else "A MEMBER HEARD A GAP",
     ]
     print("; ".join(told), flush=True)
-    return bool(is_whole and heard and late <= ALLOWED)
+    return bool(is_whole and heard and took[-1] <= ALLOWED)
 
 
 def ended(name, bridge, count):
