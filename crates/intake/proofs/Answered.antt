@@ -2,11 +2,12 @@
 use Rattle.std.proofs.Common.{◌≡◌, ℕ, ◌||◌, List, ◌∙◌, ap}
 use Rattle.rtp_codec.specs.declared.address.Address.{Address}
 use Rattle.source_valid.specs.declared.verdict.Verdict.{Verdict}
+use Rattle.source_valid.specs.Histories.{restarts}
 use Rattle.frame_gate.specs.Answer.{Answer}
 use Rattle.intake.specs.declared.outcome.Outcome.{Outcome}
 use Rattle.media_items.specs.Inputs.{Input}
 use Rattle.intake.specs.Ingested.{Ingested}
-use Rattle.intake.specs.Media.{Coming, origin_of, restarts, frames_from}
+use Rattle.intake.specs.Media.{Coming, origin_of, frames_from}
 use Rattle.intake.specs.Taking.{Voice, asked_of}
 use Rattle.intake.specs.inner.Moves.{outcome_at, given}
 

@@ -2,7 +2,7 @@
 use Rattle.std.proofs.Common.{◌≡◌, ℕ, ℤ, ◌+◌, Bool, true, false, ◌&&◌, ◌||◌, nat_eq, if◌then◌else◌, List, [], ◌∷◌, ◌++◌, length, drop, Option, None, Some, refl, sym, ap, subst, ◌∙◌}
 use Rattle.source_valid.specs.declared.verdict.Verdict.{Verdict}
 use Rattle.source_valid.specs.declared.verdict.Verdict.TheVariants.{Probation, Accepted, Jump, Restarted}
-use Rattle.source_valid.specs.Histories.{accepted}
+use Rattle.source_valid.specs.Histories.{accepted, restarts}
 use Rattle.source_valid.specs.Ranges.{IsExt, IsInRange}
 use Rattle.frame_gate.specs.Packets.{GatePacket, NumberedPacket, numbered}
 use Rattle.frame_gate.specs.Epochs.{epoch_of, frames_of, place_of, nacks_of, gives_up}
@@ -14,7 +14,7 @@ use Rattle.intake.specs.Stories.{Story, Mark, story_by, judged, begins, judged_o
 use Rattle.intake.specs.Sources.{Sources, story_at}
 use Rattle.media_items.specs.Inputs.{Input}
 use Rattle.intake.specs.Ingested.{Ingested, only, with_items}
-use Rattle.intake.specs.Media.{Coming, Course, origin_of, mark_of, told, plain, telling, placed, restarts, gate_packet, frames_from, gated_with, newly, video_course}
+use Rattle.intake.specs.Media.{Coming, Course, origin_of, mark_of, told, plain, telling, placed, gate_packet, frames_from, gated_with, newly, video_course}
 use Rattle.intake.proofs.Answered.{ingested}
 use Rattle.intake.specs.Taking.{Voice, IsVoice, asked_of, most_epochs, answer_of, sources_after, sourced}
 use Rattle.intake.specs.Intakes.{Knows}

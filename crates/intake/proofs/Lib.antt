@@ -14,3 +14,4 @@ pub mod Read
 pub mod Readable
 pub mod Sized
 pub mod UnitLemmas
+pub mod VerdictLemmas

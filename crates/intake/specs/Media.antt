@@ -99,13 +99,6 @@ gated_with c p outcome anew story = record {
   pli = anew || gives_up (epoch_of story.gated) p;
 }
 
--- the packet initialises its source anew
-abbrev pub restarts : Verdict → Bool
-restarts Probation = false
-restarts (Accepted ext) = false
-restarts Jump = false
-restarts (Restarted ext) = true
-
 -- what a video packet does, by its verdict: nothing but the verdict on probation and at a jump, else what its gate gives
 abbrev pub video_course : Coming → Verdict → Story → Course
 video_course c Probation story = plain Probation story

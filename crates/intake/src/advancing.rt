@@ -5,11 +5,11 @@ ghost use Rattle.std.specs.Prelude.{is_some, option_map, option_copied, None, ma
 ghost use Rattle.std.specs.List.{list_all};
 ghost use Rattle.media_items.specs.Inputs.{input_of, is_sized};
 ghost use Rattle.intake.specs.Ingested.{ingested_of, only, with_items};
-ghost use Rattle.intake.specs.Media.{told};
+ghost use Rattle.intake.specs.Media.{told, placed};
 ghost use Rattle.intake.specs.Taking.{most_epochs};
 ghost use Rattle.intake.specs.inner.Kept.{Judges, base_of, gate_for};
 ghost use Rattle.intake.specs.inner.Holding.{kept_for};
-ghost use Rattle.intake.specs.inner.Moves.{state_in, epoch_in, IsKept, Advances};
+ghost use Rattle.intake.specs.inner.Moves.{outcome_at, state_in, epoch_in, IsKept, Advances};
 
 use crate::admitting::Admission;
 use crate::ingest::Ingest;
@@ -18,7 +18,7 @@ use crate::judging::{Judged, Mark, judge};
 use crate::kept::{Kept, NextState};
 use crate::known::OriginKey;
 use crate::outcome::Outcome;
-use frame_gate::Admitted;
+use frame_gate::{Admitted, Place};
 use media_items::Item;
 use source_valid::{SourceState, Verdict};
 use std::alloc::{AllocError, Allocator};
@@ -43,16 +43,35 @@ fn epoch_in<A: Allocator + Copy>(kept: Option<&Kept<A>>) -> u64
     }
 }
 
-/// The outcome of a verdict.
-fn told(verdict: Verdict) -> Outcome
-    ensures { result ≡ told verdict }
+/// The outcome of an accepted packet, by its place at its source's gate.
+fn placed(ext: i64, place: Place) -> Outcome
+    ensures { result ≡ placed ext place }
+{
+    match place {
+        Place::Taken => Outcome::Accepted { ext },
+        Place::Late => Outcome::Late { ext },
+        Place::Duplicate => Outcome::Duplicate { ext },
+    }
+}
+
+/// The outcome of a packet with this verdict, by its place at its source's gate.
+pub(crate) fn outcome_at(verdict: Verdict, place: Place) -> Outcome
+    ensures { result ≡ outcome_at verdict place }
 {
     match verdict {
         Verdict::Probation => Outcome::Probation,
-        Verdict::Accepted { ext } => Outcome::Accepted { ext },
+        Verdict::Accepted { ext } => placed(ext, place),
         Verdict::Jump => Outcome::Jump,
         Verdict::Restarted { ext } => Outcome::Restarted { ext },
     }
+}
+
+/// The outcome of a packet that comes to no gate.
+#[tactic(auto, using(crate::proofs::VerdictLemmas::told_at_no_gate))]
+fn told(verdict: Verdict) -> Outcome
+    ensures { result ≡ told verdict }
+{
+    outcome_at(verdict, Place::Taken)
 }
 
 /// The number of epochs, with the one that begins now if any.

@@ -4,28 +4,29 @@ ghost use Rattle.std.specs.Prelude.{◌≡◌, ◌+◌, ◌≤◌, ◌||◌, ◌
 ghost use Rattle.std.specs.Prelude.{IfOk, OnErr};
 ghost use Rattle.std.specs.Prelude.{option_copied, vec_len, vec_capacity};
 ghost use Rattle.rtp_codec.specs.View.{packet_of};
+ghost use Rattle.source_valid.specs.Histories.{restarts};
 ghost use Rattle.frame_gate.specs.Frame.{highest_pt};
 ghost use Rattle.frame_gate.specs.Packets.{IsExt, NumberedPacket, numbered};
 ghost use Rattle.media_items.specs.Inputs.{input_of};
 ghost use Rattle.intake.specs.Ingested.{ingested_of};
-ghost use Rattle.intake.specs.Media.{restarts, placed, origin_of, gate_packet, frame_item, frames_from};
+ghost use Rattle.intake.specs.Media.{origin_of, gate_packet, frame_item, frames_from};
 ghost use Rattle.intake.specs.Taking.{most_epochs};
 ghost use Rattle.intake.specs.inner.Comings.{coming_of};
 ghost use Rattle.intake.specs.inner.Kept.{Admits, base_of, gate_for};
 ghost use Rattle.intake.specs.inner.Holding.{kept_for};
 ghost use Rattle.frame_gate.specs.Epochs.{most_missing};
-ghost use Rattle.intake.specs.inner.Moves.{outcome_at, epoch_in, Gates};
+ghost use Rattle.intake.specs.inner.Moves.{epoch_in, Gates};
 
 use crate::admitting::{Admission, admit};
+use crate::advancing::outcome_at;
 use crate::coming::Coming;
 use crate::ingest::Ingest;
 use crate::intake::Intake;
 use crate::judging::Judged;
 use crate::kept::Kept;
 use crate::known::OriginKey;
-use crate::outcome::Outcome;
 use bytes::Bytes;
-use frame_gate::{Frame, Gate, Packet, Place};
+use frame_gate::{Frame, Gate, Packet};
 use media_items::{Item, MediaFrame};
 use rtp_codec::RtpView;
 use source_valid::Verdict;
@@ -54,39 +55,11 @@ fn packet_with<A: Allocator + Copy>(view: &RtpView<'_>, payload: Bytes<A>) -> Pa
     }
 }
 
-/// The outcome of an accepted packet, by its place at the gate.
-fn placed(ext: i64, place: Place) -> Outcome
-    ensures { result ≡ placed ext place }
-{
-    match place {
-        Place::Taken => Outcome::Accepted { ext },
-        Place::Late => Outcome::Late { ext },
-        Place::Duplicate => Outcome::Duplicate { ext },
-    }
-}
-
-/// The outcome of a packet that came to the gate.
-fn outcome_at(verdict: Verdict, place: Place) -> Outcome
-    ensures { result ≡ outcome_at verdict place }
-{
-    match verdict {
-        Verdict::Probation => Outcome::Probation,
-        Verdict::Accepted { ext } => placed(ext, place),
-        Verdict::Jump => Outcome::Jump,
-        Verdict::Restarted { ext } => Outcome::Restarted { ext },
-    }
-}
-
 /// Whether a picture is lost: the source restarts, or its gate gives up.
 fn loses(verdict: Verdict, gives_up: bool) -> bool
     ensures { result ≡ (restarts verdict || gives_up) }
 {
-    match verdict {
-        Verdict::Restarted { ext: _ } => true,
-        Verdict::Probation => gives_up,
-        Verdict::Accepted { ext: _ } => gives_up,
-        Verdict::Jump => gives_up,
-    }
+    verdict.restarts() || gives_up
 }
 
 /// A frame as an item.

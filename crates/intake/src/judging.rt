@@ -82,28 +82,22 @@ pub(crate) fn units_of(rate: u32, moment: u64) -> u32
 }
 
 /// Whether a packet with this verdict initialises its source. `was_past` tells whether probation was over before.
+#[tactic(auto, using(crate::proofs::VerdictLemmas::initialises_if))]
 fn initialises(was_past: bool, verdict: Verdict) -> bool
     ensures { (given : List Step) → was_past ≡ past_probation_in (standing_of given)
         → result ≡ initialises (standing_of given) verdict }
 {
-    match verdict {
-        Verdict::Probation => false,
-        Verdict::Accepted { ext: _ } => !was_past,
-        Verdict::Jump => false,
-        Verdict::Restarted { ext: _ } => true,
-    }
+    verdict.restarts() || (verdict.accepted().is_some() && !was_past)
 }
 
 /// The source after the packet's arrival, if the packet is accepted.
+#[tactic(auto, using(crate::proofs::VerdictLemmas::arrives, crate::proofs::VerdictLemmas::stays_away))]
 fn arrived(source: SourceState, verdict: Verdict, mark: Mark) -> SourceState
     ensures { (given : List Step) → Represents source given → Represents result (given ++ arrival verdict mark) }
 {
     let mut source = source;
-    match verdict {
-        Verdict::Probation => {}
-        Verdict::Accepted { ext: _ } => source.arrival(mark.ts, mark.units),
-        Verdict::Jump => {}
-        Verdict::Restarted { ext: _ } => source.arrival(mark.ts, mark.units),
+    if verdict.accepted().is_some() {
+        source.arrival(mark.ts, mark.units);
     }
     source
 }

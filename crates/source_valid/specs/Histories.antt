@@ -33,6 +33,13 @@ accepted (Accepted ext) = Some ext
 accepted Jump = None
 accepted (Restarted ext) = Some ext
 
+-- the packet initialises its source anew
+abbrev pub restarts : Verdict → Bool
+restarts Probation = false
+restarts (Accepted ext) = false
+restarts Jump = false
+restarts (Restarted ext) = true
+
 -- how far a source has come by one more number
 abbrev pub after_number : Standing → ℕ → Standing
 after_number Unheard n = Waiting n

@@ -1,7 +1,7 @@
 //! The verdict on a packet.
 
 ghost use Rattle.std.specs.Prelude.{◌≡◌};
-ghost use Rattle.source_valid.specs.Histories.{accepted};
+ghost use Rattle.source_valid.specs.Histories.{accepted, restarts};
 
 /// The answer to one packet's sequence number (RFC 3550 A.1).
 #[derive(Clone, Copy, PartialEq, Eq)]
@@ -35,5 +35,12 @@ impl Verdict {
             Verdict::Jump => None,
             Verdict::Restarted { ext } => Some(ext),
         }
+    }
+
+    /// Whether the packet initialises its source anew.
+    pub fn restarts(&self) -> bool
+        ensures { result ≡ restarts self.now }
+    {
+        matches!(*self, Verdict::Restarted { .. })
     }
 }

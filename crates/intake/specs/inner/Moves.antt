@@ -4,6 +4,7 @@ use Rattle.std.specs.Option.{option_map}
 use Rattle.source_valid.specs.inner.Kept.{Kept as SourceOf}
 use Rattle.source_valid.specs.declared.verdict.Verdict.{Verdict}
 use Rattle.source_valid.specs.declared.verdict.Verdict.TheVariants.{Probation, Accepted, Jump, Restarted}
+use Rattle.source_valid.specs.Histories.{restarts}
 use Rattle.frame_gate.specs.declared.packet.Place.{Place}
 use Rattle.frame_gate.specs.Answer.{Answer}
 use Rattle.frame_gate.specs.Packets.{NumberedPacket}
@@ -11,7 +12,7 @@ use Rattle.intake.specs.declared.outcome.Outcome.{Outcome}
 use Rattle.intake.specs.declared.outcome.Outcome.TheVariants as outcomes
 use Rattle.intake.specs.declared.known.OriginKey.{OriginKey}
 use Rattle.intake.specs.Ingested.{Ingested}
-use Rattle.intake.specs.Media.{Coming, origin_of, restarts, placed, frames_from}
+use Rattle.intake.specs.Media.{Coming, origin_of, placed, frames_from}
 use Rattle.intake.specs.Taking.{Voice, IsVoice, asked_of}
 use Rattle.intake.specs.inner.Kept.{KeptOf, JudgedOf, AdmissionOf, NextOf, Admits, Becomes, gate_for}
 use Rattle.intake.specs.inner.Holding.{IntakeOf, kept_for, put_first}

@@ -2,7 +2,8 @@ use Rattle.std.proofs.Common.{◌∙◌, ap, sym, map, ◌||◌, ◌++◌, ◌+�
 use Rattle.std.specs.List.{list_all}
 use Rattle.frame_gate.specs.Answer.{Answer}
 use Rattle.media_items.specs.Inputs.{input_of, is_sized}
-use Rattle.intake.specs.Media.{Coming, origin_of, restarts, frames_from}
+use Rattle.source_valid.specs.Histories.{restarts}
+use Rattle.intake.specs.Media.{Coming, origin_of, frames_from}
 use Rattle.intake.specs.Sources.{Origin}
 use Rattle.intake.specs.Taking.{asked_of}
 use Rattle.intake.specs.inner.Comings.{coming_of}
