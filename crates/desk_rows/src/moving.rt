@@ -11,14 +11,18 @@ ghost use Rattle.desk_rows.specs.inner.Addressed.{IsByAddress};
 ghost use Rattle.desk_rows.specs.inner.Roomed.{IsByRoom};
 ghost use Rattle.desk_rows.specs.inner.Judged.{HasOrders, OnlyReplaces};
 
+use crate::addressing::list_by_address;
 use crate::borrowed::EditLists;
-use crate::index::{IndexEntry, move_members};
+use crate::following::list_by_room;
+use crate::index::{IndexEntry, index_members};
+use crate::places::{put_members, take_members};
 use crate::row::{Member, Row};
 use crate::sliding::replace_one;
 use crate::sweeping::{put_rows, take_rows};
 use std::alloc::Allocator;
 
-/// Takes the members that go from their places, and puts those that come at theirs.
+/// Takes the members that go from their places, and puts those that come at theirs. If any member moves, the index and
+/// the tables by address and by room are made anew.
 pub(crate) fn exchange_members<A: Allocator + Copy>(
     members: &mut Vec<Member, A>,
     index: &mut Vec<IndexEntry, A>,
@@ -46,7 +50,14 @@ pub(crate) fn exchange_members<A: Allocator + Copy>(
         × (MAX_MEMBERS ≤ vec_capacity by_address.new) × (MAX_MEMBERS ≤ vec_capacity by_room.new) }
 {
     let (taken, put) = (edit.taken_members(), edit.put_members());
-    move_members(members, index, by_address, by_room, taken, put);
+    if taken.is_empty() && put.is_empty() {
+        return;
+    }
+    take_members(members, taken);
+    put_members(members, put);
+    index_members(index, members);
+    list_by_address(by_address, members);
+    list_by_room(by_room, members);
 }
 
 /// The replaced row and its replacement, if the edit changes no other row beside the members.

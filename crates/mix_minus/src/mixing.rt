@@ -7,7 +7,7 @@ ghost use Rattle.mix_minus.specs.Sums.{AreSmall};
 use crate::contributors::{Contributors, first_heard};
 use crate::input::Input;
 use crate::parts::{write_all, write_without};
-use crate::places::{PLACES, clear, leave_places, mix_places, turn_places};
+use crate::places::{Listener, PLACES, clear, leave_places, mix_places, turn_places};
 use crate::ranges::know_inputs;
 use crate::sums::add_all;
 
@@ -25,7 +25,12 @@ pub fn mix(inputs: &[Input], gains: &[u32], receiver: u32, out: &mut [i16]) -> C
     let mut start = 0;
     while start < out.len() {
         let count = (out.len() - start).min(PLACES);
-        mix_places(inputs, gains, receiver, start, count, out);
+        let listener = Listener {
+            receiver,
+            inputs,
+            gains,
+        };
+        mix_places(listener, start, count, out);
         start += count;
     }
     first_heard(inputs, gains, receiver)
@@ -64,7 +69,12 @@ pub fn mix_by_total(
     let mut start = 0;
     while start < out.len() {
         let count = (out.len() - start).min(PLACES);
-        turn_places(total, inputs, gains, receiver, start, count, out);
+        let listener = Listener {
+            receiver,
+            inputs,
+            gains,
+        };
+        turn_places(total, listener, start, count, out);
         start += count;
     }
     first_heard(inputs, gains, receiver)

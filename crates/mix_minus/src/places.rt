@@ -41,26 +41,36 @@ fn write(sums: &[i32], start: usize, out: &mut [i16])
     }
 }
 
+/// A listener, and what it listens to.
+#[derive(Clone, Copy)]
+pub struct Listener<'a, 'b> {
+    /// The member that listens.
+    pub receiver: u32,
+    /// The inputs of its room.
+    pub inputs: &'a [Input<'b>],
+    /// Its gain for each input, in 256ths.
+    pub gains: &'a [u32],
+}
+
 /// Mixes `count` places from `start` on.
-pub fn mix_places(
-    inputs: &[Input],
-    gains: &[u32],
-    receiver: u32,
-    start: usize,
-    count: usize,
-    out: &mut [i16],
-)
-    requires mixable { AreMixable inputs.now gains.now }
-    requires reach { ReachTo (start + count) inputs.now }
+pub fn mix_places(listener: Listener<'_, '_>, start: usize, count: usize, out: &mut [i16])
+    requires mixable { AreMixable listener.inputs.now listener.gains.now }
+    requires reach { ReachTo (start + count) listener.inputs.now }
     requires count { count ≤ 256 }
     requires out { start + count ≤ length out.old }
     ensures written { (i : ℕ) → i < count
-        → at out.new (start + i) ≡ clamped (heard_sum receiver (start + i) inputs.now gains.now) }
+        → at out.new (start + i)
+        ≡ clamped (heard_sum listener.entry.receiver (start + i) listener.entry.inputs.now listener.entry.gains.now) }
     ensures before { (i : ℕ) → i < start → at out.new i ≡ at out.old i }
 {
     let mut block = [0; PLACES];
     let sums = &mut block[..count];
     clear(sums);
+    let Listener {
+        receiver,
+        inputs,
+        gains,
+    } = listener;
     add_all_heard(sums, inputs, gains, receiver, start);
     write(sums, start, out);
 }
@@ -68,27 +78,31 @@ pub fn mix_places(
 /// Mixes `count` places from `start` on, from the room's total.
 pub fn turn_places(
     total: &[i32],
-    inputs: &[Input],
-    gains: &[u32],
-    receiver: u32,
+    listener: Listener<'_, '_>,
     start: usize,
     count: usize,
     out: &mut [i16],
 )
-    requires mixable { AreMixable inputs.now gains.now }
-    requires reach { ReachTo (start + count) inputs.now }
-    requires total { IsTotal inputs.now total.now }
+    requires mixable { AreMixable listener.inputs.now listener.gains.now }
+    requires reach { ReachTo (start + count) listener.inputs.now }
+    requires total { IsTotal listener.inputs.now total.now }
     requires small { AreSmall 16777216 total.now }
     requires count { count ≤ 256 }
     requires out { start + count ≤ length out.old }
     requires long { start + count ≤ length total.now }
     ensures written { (i : ℕ) → i < count
-        → at out.new (start + i) ≡ clamped (heard_sum receiver (start + i) inputs.now gains.now) }
+        → at out.new (start + i)
+        ≡ clamped (heard_sum listener.entry.receiver (start + i) listener.entry.inputs.now listener.entry.gains.now) }
     ensures before { (i : ℕ) → i < start → at out.new i ≡ at out.old i }
 {
     let mut block = [0; PLACES];
     let sums = &mut block[..count];
     load(sums, total, start);
+    let Listener {
+        receiver,
+        inputs,
+        gains,
+    } = listener;
     turn_all(sums, inputs, gains, receiver, start);
     write(sums, start, out);
 }
