@@ -21,18 +21,19 @@ use flood_guard::FloodGuard;
 use media_front::{LaneFeed, MediaFront, fault_of, pli_octets};
 use media_workers::StartFault;
 use mio::Waker;
-use operator_desk::{DeskFault, GatherFault, Hall, Log, MAX_OPERATORS, Seat, SharedDesk};
+use operator_desk::{
+    DeskFault, DeskNames, GatherFault, Hall, Log, MAX_OPERATORS, Seat, SharedDesk,
+};
 use operator_threads::Operators;
 use std::alloc::{AllocError, Global};
 use std::marker::Brand;
 use std::net::Net;
 use std::sync::atomic::AtomicBool;
-use std::sync::ledger::Blank;
 use std::sync::{Arc, Wait};
 use std::thread::Threads;
 use std::time::Clock;
 use udp_front::{FrontFault, FrontSettings, Moments};
-use versions::{LaneReader, Opened};
+use versions::LaneReader;
 
 /// Runs a bridge until an operator stops it.
 pub(crate) fn open<R>(rt: &R, alloc: Global, front: Front) -> Result<Stopped, FrontFault>
@@ -46,8 +47,7 @@ where
         rt,
         alloc,
         &log,
-        Blank::new(operators as u64),
-        Opened::new(),
+        DeskNames::new(operators),
         ssrc,
         operators,
         front,
@@ -59,8 +59,7 @@ fn open_in<'a, H, R>(
     rt: &R,
     alloc: Global,
     log: &'a Log,
-    blank: Blank,
-    opened: Opened,
+    names: DeskNames,
     ssrc: u32,
     operators: u32,
     front: Front,
@@ -69,14 +68,14 @@ where
     H: Hall + Send + Sync + 'static,
     R: Threads + Clock + Wait + Net + Copy + Send + Sync + Drop + 'static,
     requires log { log.now ≡ H.cells }
-    requires blank { (blank.name ≡ H.name) × (blank.parts ≡ H.parts) }
-    requires publisher { opened ≡ H.publisher }
+    requires ledger { (names.ledger.name ≡ H.name) × (names.ledger.parts ≡ H.parts) }
+    requires publisher { names.publisher ≡ H.publisher }
     requires start { no_rows ssrc ≡ H.start }
     requires seats { (operators ≡ H.seats) × (H.seats ≡ H.parts) }
 {
     // One reader for each lane, and one for the front.
     let readers = front.settings.lanes as usize + 1;
-    let made = SharedDesk::<H>::new(rt, alloc, log, blank, opened, ssrc, operators, readers);
+    let made = SharedDesk::<H>::new(rt, alloc, log, names, ssrc, operators, readers);
     match made {
         // There are as many seats as operators.
         Ok((desk, seats, readers)) if seats.len() <= MAX_OPERATORS as usize => {

@@ -21,15 +21,14 @@ use bridge_core::Egress;
 use desk_edit::Command;
 use desk_rows::{Mute, Sub};
 use media_workers::PublisherName;
-use operator_desk::{Hall, Log};
+use operator_desk::{DeskNames, Hall, Log};
 use std::alloc::Global;
 use std::marker::Brand;
-use std::sync::ledger::Blank;
 use std::sync::{Arc, Wait};
 use std::test::*;
 use std::thread;
 use std::thread::{Threads, join};
-use versions::{LaneReader, Opened};
+use versions::LaneReader;
 
 /// How many lanes there are.
 const LANES: u32 = 2;
@@ -266,16 +265,15 @@ fn scene<H: Hall + Send + Sync + 'static, R: Threads + Wait + Copy + Drop + Send
     rt: &R,
     alloc: Global,
     log: &Log,
-    blank: Blank,
-    opened: Opened,
+    names: DeskNames,
 ) -> bool
     requires log { log.now ≡ H.cells }
-    requires blank { (blank.name ≡ H.name) × (blank.parts ≡ H.parts) }
-    requires publisher { opened ≡ H.publisher }
+    requires ledger { (names.ledger.name ≡ H.name) × (names.ledger.parts ≡ H.parts) }
+    requires publisher { names.publisher ≡ H.publisher }
     requires start { no_rows 1 ≡ H.start }
     requires seats { (1 ≡ H.seats) × (H.seats ≡ H.parts) }
 {
-    match OneDesk::<H>::open(rt, alloc, log, blank, opened, LANES as usize) {
+    match OneDesk::<H>::open(rt, alloc, log, names, LANES as usize) {
         Some((desk, readers)) => {
             let mut desk = desk;
             let is_well = is_started(rt, alloc, &mut desk, readers);
@@ -293,6 +291,6 @@ fn scene<H: Hall + Send + Sync + 'static, R: Threads + Wait + Copy + Drop + Send
 fn lanes_run_beside_calls(rt: HostRuntime) -> Result<(), Fail> {
     let alloc = rt.alloc();
     let log = Log::new(alloc)?;
-    assert!(rt; scene::<Brand, _>(&rt, alloc, &log, Blank::new(1), Opened::new()));
+    assert!(rt; scene::<Brand, _>(&rt, alloc, &log, DeskNames::new(1)));
     Ok(())
 }

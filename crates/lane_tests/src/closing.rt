@@ -19,14 +19,13 @@ use bridge_core::Egress;
 use desk_edit::Command;
 use desk_rows::Sub;
 use media_workers::{Pace, PublisherName};
-use operator_desk::{Hall, Log};
+use operator_desk::{DeskNames, Hall, Log};
 use std::alloc::Global;
 use std::marker::Brand;
 use std::sync::Wait;
-use std::sync::ledger::Blank;
 use std::test::*;
 use std::thread::Threads;
-use versions::{LaneReader, Opened};
+use versions::LaneReader;
 
 /// How many frames each lane is given. What they send doesn't fit a lane's ring of 4,096 egresses.
 const FRAMES: u64 = 1_024;
@@ -161,16 +160,15 @@ fn scene<H: Hall + Send + Sync + 'static, R: Threads + Wait + Copy + Drop + Send
     rt: &R,
     alloc: Global,
     log: &Log,
-    blank: Blank,
-    opened: Opened,
+    names: DeskNames,
 ) -> bool
     requires log { log.now ≡ H.cells }
-    requires blank { (blank.name ≡ H.name) × (blank.parts ≡ H.parts) }
-    requires publisher { opened ≡ H.publisher }
+    requires ledger { (names.ledger.name ≡ H.name) × (names.ledger.parts ≡ H.parts) }
+    requires publisher { names.publisher ≡ H.publisher }
     requires start { no_rows 1 ≡ H.start }
     requires seats { (1 ≡ H.seats) × (H.seats ≡ H.parts) }
 {
-    match OneDesk::<H>::open(rt, alloc, log, blank, opened, 2) {
+    match OneDesk::<H>::open(rt, alloc, log, names, 2) {
         Some((desk, readers)) => {
             let mut desk = desk;
             let is_set_up = sets_up(rt, alloc, &mut desk);
@@ -189,6 +187,6 @@ fn scene<H: Hall + Send + Sync + 'static, R: Threads + Wait + Copy + Drop + Send
 fn lanes_end_while_they_send(rt: HostRuntime) -> Result<(), Fail> {
     let alloc = rt.alloc();
     let log = Log::new(alloc)?;
-    assert!(rt; scene::<Brand, _>(&rt, alloc, &log, Blank::new(1), Opened::new()));
+    assert!(rt; scene::<Brand, _>(&rt, alloc, &log, DeskNames::new(1)));
     Ok(())
 }

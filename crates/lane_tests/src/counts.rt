@@ -10,14 +10,13 @@ use crate::running::Running;
 use crate::stage::OneDesk;
 use crate::told::OfHall;
 use media_workers::StartFault;
-use operator_desk::{Hall, Log};
+use operator_desk::{DeskNames, Hall, Log};
 use std::alloc::Global;
 use std::marker::Brand;
 use std::sync::Wait;
-use std::sync::ledger::Blank;
 use std::test::*;
 use std::thread::Threads;
-use versions::{LaneReader, Opened};
+use versions::LaneReader;
 
 fn free(alloc: Global, count: usize) -> Option<Vec<Free>> {
     let mut paces = Vec::new(alloc);
@@ -52,16 +51,15 @@ fn scene<H: Hall + Send + Sync + 'static, R: Threads + Wait + Copy + Drop + Send
     rt: &R,
     alloc: Global,
     log: &Log,
-    blank: Blank,
-    opened: Opened,
+    names: DeskNames,
 ) -> bool
     requires log { log.now ≡ H.cells }
-    requires blank { (blank.name ≡ H.name) × (blank.parts ≡ H.parts) }
-    requires publisher { opened ≡ H.publisher }
+    requires ledger { (names.ledger.name ≡ H.name) × (names.ledger.parts ≡ H.parts) }
+    requires publisher { names.publisher ≡ H.publisher }
     requires start { no_rows 1 ≡ H.start }
     requires seats { (1 ≡ H.seats) × (H.seats ≡ H.parts) }
 {
-    match OneDesk::<H>::open(rt, alloc, log, blank, opened, 2) {
+    match OneDesk::<H>::open(rt, alloc, log, names, 2) {
         Some((desk, readers)) => {
             desk.end(rt);
             back::<H, R>(rt, alloc, readers, 1) == Some(2)
@@ -76,6 +74,6 @@ fn scene<H: Hall + Send + Sync + 'static, R: Threads + Wait + Copy + Drop + Send
 fn too_few_paces_hand_lanes_back(rt: HostRuntime) -> Result<(), Fail> {
     let alloc = rt.alloc();
     let log = Log::new(alloc)?;
-    assert!(rt; scene::<Brand, _>(&rt, alloc, &log, Blank::new(1), Opened::new()));
+    assert!(rt; scene::<Brand, _>(&rt, alloc, &log, DeskNames::new(1)));
     Ok(())
 }

@@ -17,14 +17,13 @@ use crate::streams::{Sort, has, is_beginning};
 use crate::told::{OfHall, Told};
 use bridge_core::Egress;
 use media_workers::PublisherName;
-use operator_desk::{Hall, Log};
+use operator_desk::{DeskNames, Hall, Log};
 use std::alloc::Global;
 use std::marker::Brand;
-use std::sync::ledger::Blank;
 use std::sync::{Arc, Wait};
 use std::test::*;
 use std::thread::Threads;
-use versions::{LaneReader, Opened};
+use versions::LaneReader;
 
 /// How many rounds there are. Before each the desk changes.
 const ROUNDS: u64 = 10;
@@ -192,17 +191,16 @@ fn scene<H: Hall + Send + Sync + 'static, R: Threads + Wait + Copy + Drop + Send
     rt: &R,
     alloc: Global,
     log: &Log,
-    blank: Blank,
-    opened: Opened,
+    names: DeskNames,
     lanes: u32,
 ) -> bool
     requires log { log.now ≡ H.cells }
-    requires blank { (blank.name ≡ H.name) × (blank.parts ≡ H.parts) }
-    requires publisher { opened ≡ H.publisher }
+    requires ledger { (names.ledger.name ≡ H.name) × (names.ledger.parts ≡ H.parts) }
+    requires publisher { names.publisher ≡ H.publisher }
     requires start { no_rows 1 ≡ H.start }
     requires seats { (1 ≡ H.seats) × (H.seats ≡ H.parts) }
 {
-    match OneDesk::<H>::open(rt, alloc, log, blank, opened, lanes as usize) {
+    match OneDesk::<H>::open(rt, alloc, log, names, lanes as usize) {
         Some((desk, readers)) => {
             let mut desk = desk;
             let is_well = is_started(rt, alloc, &mut desk, readers);
@@ -220,7 +218,7 @@ fn plays<R: Threads + Wait + Copy + Drop + Send + 'static>(
     lanes: u32,
 ) -> bool {
     match Log::new(alloc) {
-        Ok(log) => scene::<Brand, R>(rt, alloc, &log, Blank::new(1), Opened::new(), lanes),
+        Ok(log) => scene::<Brand, R>(rt, alloc, &log, DeskNames::new(1), lanes),
         Err(_) => false,
     }
 }

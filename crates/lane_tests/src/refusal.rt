@@ -13,15 +13,14 @@ use crate::stage::OneDesk;
 use crate::told::OfHall;
 use bridge_core::Item;
 use media_workers::{HandleFault, Pace, PublisherName};
-use operator_desk::{Hall, Log};
+use operator_desk::{DeskNames, Hall, Log};
 use std::alloc::Global;
 use std::marker::Brand;
-use std::sync::ledger::Blank;
 use std::sync::{Arc, Wait};
 use std::test::*;
 use std::thread;
 use std::thread::Threads;
-use versions::{LaneReader, Opened};
+use versions::LaneReader;
 
 /// Waits until each lane was asked so often.
 fn wait_for<R: Wait>(rt: &R, asked: &Vec<Arc<Asked, Global>>, times: u64) {
@@ -111,16 +110,15 @@ fn scene<H: Hall + Send + Sync + 'static, R: Threads + Wait + Copy + Drop + Send
     rt: &R,
     alloc: Global,
     log: &Log,
-    blank: Blank,
-    opened: Opened,
+    names: DeskNames,
 ) -> bool
     requires log { log.now ≡ H.cells }
-    requires blank { (blank.name ≡ H.name) × (blank.parts ≡ H.parts) }
-    requires publisher { opened ≡ H.publisher }
+    requires ledger { (names.ledger.name ≡ H.name) × (names.ledger.parts ≡ H.parts) }
+    requires publisher { names.publisher ≡ H.publisher }
     requires start { no_rows 1 ≡ H.start }
     requires seats { (1 ≡ H.seats) × (H.seats ≡ H.parts) }
 {
-    match OneDesk::<H>::open(rt, alloc, log, blank, opened, 2) {
+    match OneDesk::<H>::open(rt, alloc, log, names, 2) {
         Some((desk, readers)) => match started::<H, R>(rt, alloc, readers) {
             Some((running, asked)) => is_refused(rt, running, desk, &asked),
             None => {
@@ -137,6 +135,6 @@ fn scene<H: Hall + Send + Sync + 'static, R: Threads + Wait + Copy + Drop + Send
 fn a_refused_item_comes_back(rt: HostRuntime) -> Result<(), Fail> {
     let alloc = rt.alloc();
     let log = Log::new(alloc)?;
-    assert!(rt; scene::<Brand, _>(&rt, alloc, &log, Blank::new(1), Opened::new()));
+    assert!(rt; scene::<Brand, _>(&rt, alloc, &log, DeskNames::new(1)));
     Ok(())
 }

@@ -14,15 +14,14 @@ use crate::streams::is_packet;
 use crate::told::{OfHall, Told};
 use bridge_core::Egress;
 use media_workers::{FitParcels, Pace, Parcel, PublisherName};
-use operator_desk::{Hall, Log};
+use operator_desk::{DeskNames, Hall, Log};
 use rtrb::{Consumer, Producer, RingBuffer};
 use std::alloc::Global;
 use std::marker::Brand;
-use std::sync::ledger::Blank;
 use std::sync::{Arc, Wait};
 use std::test::*;
 use std::thread::Threads;
-use versions::{LaneReader, Opened};
+use versions::LaneReader;
 
 /// The ends of a ring of parcels.
 type Ring<N> = (
@@ -134,17 +133,16 @@ fn scene<H: Hall + Send + Sync + 'static, R: Threads + Wait + Copy + Drop + Send
     rt: &R,
     alloc: Global,
     log: &Log,
-    blank: Blank,
-    opened: Opened,
+    names: DeskNames,
     stops_at: Option<u64>,
 ) -> bool
     requires log { log.now ≡ H.cells }
-    requires blank { (blank.name ≡ H.name) × (blank.parts ≡ H.parts) }
-    requires publisher { opened ≡ H.publisher }
+    requires ledger { (names.ledger.name ≡ H.name) × (names.ledger.parts ≡ H.parts) }
+    requires publisher { names.publisher ≡ H.publisher }
     requires start { no_rows 1 ≡ H.start }
     requires seats { (1 ≡ H.seats) × (H.seats ≡ H.parts) }
 {
-    match OneDesk::<H>::open(rt, alloc, log, blank, opened, 1) {
+    match OneDesk::<H>::open(rt, alloc, log, names, 1) {
         Some((desk, readers)) => {
             let mut desk = desk;
             let is_set_up = desk.does_all(rt, alloc, &set_up());
@@ -164,7 +162,7 @@ fn plays<R: Threads + Wait + Copy + Drop + Send + 'static>(
     stops_at: Option<u64>,
 ) -> bool {
     match Log::new(alloc) {
-        Ok(log) => scene::<Brand, R>(rt, alloc, &log, Blank::new(1), Opened::new(), stops_at),
+        Ok(log) => scene::<Brand, R>(rt, alloc, &log, DeskNames::new(1), stops_at),
         Err(_) => false,
     }
 }

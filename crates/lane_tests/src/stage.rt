@@ -7,11 +7,10 @@ ghost use Rattle.versions.specs.Published.{new_reader};
 use crate::told::{OfHall, Told};
 use desk_edit::{Call, Command, Form};
 use desk_rows::{Kind, Rows};
-use operator_desk::{Answer, Hall, Log, Seat, SharedDesk};
+use operator_desk::{Answer, DeskNames, Hall, Log, Seat, SharedDesk};
 use std::alloc::Global;
 use std::sync::Wait;
-use std::sync::ledger::Blank;
-use versions::{LaneReader, Opened};
+use versions::LaneReader;
 
 /// All kinds of rows.
 const KINDS: [Kind; 9] = [
@@ -53,18 +52,17 @@ impl<'a, H: Hall> OneDesk<'a, H> {
         rt: &R,
         alloc: Global,
         log: &'a Log,
-        blank: Blank,
-        opened: Opened,
+        names: DeskNames,
         readers: usize,
     ) -> Option<(OneDesk<'a, H>, Vec<LaneReader>)>
         requires log { log.now ≡ H.cells }
-        requires blank { (blank.name ≡ H.name) × (blank.parts ≡ H.parts) }
-        requires publisher { opened ≡ H.publisher }
+        requires ledger { (names.ledger.name ≡ H.name) × (names.ledger.parts ≡ H.parts) }
+        requires publisher { names.publisher ≡ H.publisher }
         requires start { no_rows 1 ≡ H.start }
         requires seats { (1 ≡ H.seats) × (H.seats ≡ H.parts) }
         ensures { IfSome result (λ r. All (λ reader. reader ≡ new_reader H.publisher H.start) r.1.items) }
     {
-        match SharedDesk::<H>::new(rt, alloc, log, blank, opened, 1, 1, readers) {
+        match SharedDesk::<H>::new(rt, alloc, log, names, 1, 1, readers) {
             Ok((desk, mut seats, readers)) => match seats.pop() {
                 Some(seat) => Some((OneDesk { desk, seat }, readers)),
                 None => {

@@ -14,16 +14,15 @@ use crate::streams::is_packet;
 use crate::told::{OfHall, Told};
 use bridge_core::Egress;
 use media_workers::{Pace, PublisherName};
-use operator_desk::{Hall, Log};
+use operator_desk::{DeskNames, Hall, Log};
 use std::alloc::Global;
 use std::marker::Brand;
 use std::sync::atomic::AtomicBool;
-use std::sync::ledger::Blank;
 use std::sync::{Arc, Wait};
 use std::test::*;
 use std::thread;
 use std::thread::Threads;
-use versions::{LaneReader, Opened};
+use versions::LaneReader;
 
 /// Gives both lanes a copy of an item with the notice. False where a ring is full.
 fn tell_both<N: PublisherName, P: Pace>(
@@ -159,16 +158,15 @@ fn scene<H: Hall + Send + Sync + 'static, R: Threads + Wait + Copy + Drop + Send
     rt: &R,
     alloc: Global,
     log: &Log,
-    blank: Blank,
-    opened: Opened,
+    names: DeskNames,
 ) -> bool
     requires log { log.now ≡ H.cells }
-    requires blank { (blank.name ≡ H.name) × (blank.parts ≡ H.parts) }
-    requires publisher { opened ≡ H.publisher }
+    requires ledger { (names.ledger.name ≡ H.name) × (names.ledger.parts ≡ H.parts) }
+    requires publisher { names.publisher ≡ H.publisher }
     requires start { no_rows 1 ≡ H.start }
     requires seats { (1 ≡ H.seats) × (H.seats ≡ H.parts) }
 {
-    match OneDesk::<H>::open(rt, alloc, log, blank, opened, 2) {
+    match OneDesk::<H>::open(rt, alloc, log, names, 2) {
         Some((desk, readers)) => {
             let mut desk = desk;
             let is_set_up = desk.does_all(rt, alloc, &set_up());
@@ -187,6 +185,6 @@ fn scene<H: Hall + Send + Sync + 'static, R: Threads + Wait + Copy + Drop + Send
 fn lanes_run_together(rt: HostRuntime) -> Result<(), Fail> {
     let alloc = rt.alloc();
     let log = Log::new(alloc)?;
-    assert!(rt; scene::<Brand, _>(&rt, alloc, &log, Blank::new(1), Opened::new()));
+    assert!(rt; scene::<Brand, _>(&rt, alloc, &log, DeskNames::new(1)));
     Ok(())
 }

@@ -8,9 +8,9 @@
 //! accepted. All seats see beginnings of one log. Contracts say nothing of time: a call may wait for calls of others.
 //!
 //! ```rust
-//! // H: a hall, whose ledger is `blank` and whose publisher is `opened`.
+//! // H: a hall of these names
 //! let log = Log::new(alloc)?;
-//! let (desk, mut seats, readers) = SharedDesk::<H>::new(&rt, alloc, &log, blank, opened, 1, 2, 1)?; // two seats
+//! let (desk, mut seats, readers) = SharedDesk::<H>::new(&rt, alloc, &log, names, 1, 2, 1)?; // two seats
 //! let call = Call::Apply(Command::AddRoom(Room { room: 1, rate: 8_000 }));
 //! let answer = desk.call(&rt, alloc, &mut seats[0], call); // its number and notice, or why it is refused
 //! match desk.gather(&rt, alloc, seats) {
@@ -37,7 +37,7 @@ mod waiting;
 pub use self::answer::{Answer, Why};
 pub use self::entry::LogEntry;
 pub use self::fault::{DeskFault, GatherFault};
-pub use self::hall::Hall;
+pub use self::hall::{DeskNames, Hall};
 pub use self::log::Log;
 pub use self::seat::Seat;
 pub use self::shared::{MAX_OPERATORS, SharedDesk};

@@ -16,7 +16,7 @@ use crate::answer::Answer;
 use crate::entry::LogEntry;
 use crate::fault::{DeskFault, GatherFault};
 use crate::gathering::judged;
-use crate::hall::Hall;
+use crate::hall::{DeskNames, Hall};
 use crate::held::Held;
 use crate::log::Log;
 use crate::seat::{Seat, seats_for};
@@ -25,9 +25,8 @@ use desk_calls::Desk;
 use desk_edit::Call;
 use desk_rows::Rows;
 use std::alloc::{AllocError, Global};
-use std::sync::ledger::Blank;
 use std::sync::{Mutex, MutexGuard, Wait};
-use versions::{LaneReader, MAX_READERS, Notice, Opened, start};
+use versions::{LaneReader, MAX_READERS, Notice, start};
 
 /// The most operators of a desk.
 pub const MAX_OPERATORS: u32 = 16;
@@ -42,20 +41,19 @@ pub struct SharedDesk<'a, H: Hall> {
 
 impl<'a, H: Hall> SharedDesk<'a, H> {
     /// A desk without rows over a log in which nothing is written, with a seat for each of 1 to 16 operators, and 1 to
-    /// 17 readers of what it publishes. The ledger has a part for each operator.
+    /// 17 readers of what it publishes.
     pub fn new<R: Wait>(
         rt: &R,
         alloc: Global,
         log: &'a Log,
-        blank: Blank,
-        opened: Opened,
+        names: DeskNames,
         bridge_ssrc: u32,
         operators: u32,
         readers: usize,
     ) -> Result<(SharedDesk<'a, H>, Vec<Seat<'a, H>>, Vec<LaneReader>), DeskFault>
         requires log { log.now ≡ H.cells }
-        requires blank { (blank.name ≡ H.name) × (blank.parts ≡ H.parts) }
-        requires publisher { opened ≡ H.publisher }
+        requires ledger { (names.ledger.name ≡ H.name) × (names.ledger.parts ≡ H.parts) }
+        requires publisher { names.publisher ≡ H.publisher }
         requires start { no_rows bridge_ssrc ≡ H.start }
         requires seats { (operators ≡ H.seats) × (H.seats ≡ H.parts) }
         ensures seats { IfOk result (λ r. r.1.items ≡ new_seats operators) }
@@ -72,16 +70,7 @@ impl<'a, H: Hall> SharedDesk<'a, H> {
         if readers == 0 || readers > MAX_READERS {
             return Err(DeskFault::Places);
         }
-        let made = SharedDesk::made(
-            rt,
-            alloc,
-            log,
-            blank,
-            opened,
-            bridge_ssrc,
-            operators,
-            readers,
-        );
+        let made = SharedDesk::made(rt, alloc, log, names, bridge_ssrc, operators, readers);
         match made {
             Ok(made) => Ok(made),
             Err(_) => Err(DeskFault::OutOfMemory),
@@ -92,28 +81,28 @@ impl<'a, H: Hall> SharedDesk<'a, H> {
         rt: &R,
         alloc: Global,
         log: &'a Log,
-        blank: Blank,
-        opened: Opened,
+        names: DeskNames,
         bridge_ssrc: u32,
         operators: u32,
         readers: usize,
     ) -> Result<(SharedDesk<'a, H>, Vec<Seat<'a, H>>, Vec<LaneReader>), AllocError>
         requires log { log.now ≡ H.cells }
-        requires blank { (blank.name ≡ H.name) × (blank.parts ≡ H.parts) }
-        requires publisher { opened ≡ H.publisher }
+        requires ledger { (names.ledger.name ≡ H.name) × (names.ledger.parts ≡ H.parts) }
+        requires publisher { names.publisher ≡ H.publisher }
         requires start { no_rows bridge_ssrc ≡ H.start }
         requires seats { (operators ≡ H.seats) × (H.seats ≡ H.parts) }
         ensures seats { IfOk result (λ r. r.1.items ≡ new_seats operators) }
         ensures readers { IfOk result (λ r.
             (length r.2.items ≡ readers) × All (λ l. l ≡ new_reader H.publisher H.start) r.2.items) }
     {
-        let (calls, mut rest) = blank.open::<H>();
+        let DeskNames { ledger, publisher } = names;
+        let (calls, mut rest) = ledger.open::<H>();
         let seats = seats_for(alloc, log, &mut rest, operators)?;
         let entries = Vec::with_capacity(alloc, log.len())?;
         let desk = Desk::new(alloc, Rows::new(alloc, bridge_ssrc)?);
         let rows = Rows::new(alloc, bridge_ssrc)?;
         // A publisher can't be dropped, so it comes last.
-        match start(alloc, rt, opened, rows, readers) {
+        match start(alloc, rt, publisher, rows, readers) {
             Ok((publisher, lanes)) => {
                 let held = Held {
                     log,

@@ -5,14 +5,12 @@ ghost use Rattle.desk_rows.specs.Desk.{blank as no_rows};
 
 use crate::calls::{Reply, call_of, reply_of, version_of};
 use crate::replay::{Operator, is_same, replayed};
-use operator_desk::{Hall, Log, Seat, SharedDesk};
+use operator_desk::{DeskNames, Hall, Log, Seat, SharedDesk};
 use std::alloc::Global;
 use std::marker::Brand;
 use std::sync::Wait;
-use std::sync::ledger::Blank;
 use std::test::*;
 use std::thread::{Threads, map_vec};
-use versions::Opened;
 
 /// How many operators there are.
 const OPERATORS: u32 = 16;
@@ -109,16 +107,15 @@ fn crowd<H: Hall + Send + Sync, R: Threads + Wait + Sync>(
     rt: &R,
     alloc: Global,
     log: &Log,
-    blank: Blank,
-    opened: Opened,
+    names: DeskNames,
 ) -> bool
     requires log { log.now ≡ H.cells }
-    requires blank { (blank.name ≡ H.name) × (blank.parts ≡ H.parts) }
-    requires publisher { opened ≡ H.publisher }
+    requires ledger { (names.ledger.name ≡ H.name) × (names.ledger.parts ≡ H.parts) }
+    requires publisher { names.publisher ≡ H.publisher }
     requires start { no_rows 1 ≡ H.start }
     requires seats { (16 ≡ H.seats) × (H.seats ≡ H.parts) }
 {
-    match SharedDesk::<H>::new(rt, alloc, log, blank, opened, 1, OPERATORS, 1) {
+    match SharedDesk::<H>::new(rt, alloc, log, names, 1, OPERATORS, 1) {
         Ok((desk, seats, _readers)) => {
             let worked = all_work(rt, alloc, &desk, seats);
             agrees(rt, alloc, desk, worked)
@@ -133,6 +130,6 @@ fn crowd<H: Hall + Send + Sync, R: Threads + Wait + Sync>(
 fn sixteen_operators_make_one_legal_log(rt: HostRuntime) -> Result<(), Fail> {
     let alloc = rt.alloc();
     let log = Log::new(alloc)?;
-    assert!(rt; crowd::<Brand, _>(&rt, alloc, &log, Blank::new(16), Opened::new()));
+    assert!(rt; crowd::<Brand, _>(&rt, alloc, &log, DeskNames::new(16)));
     Ok(())
 }

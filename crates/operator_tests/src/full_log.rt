@@ -6,13 +6,12 @@ ghost use Rattle.desk_rows.specs.Desk.{blank as no_rows};
 use crate::calls::{Reply, reply_of};
 use desk_edit::{Call, Command, Refusal};
 use desk_rows::Room;
-use operator_desk::{Hall, Log, Seat, SharedDesk};
+use operator_desk::{DeskNames, Hall, Log, Seat, SharedDesk};
 use std::alloc::Global;
 use std::marker::Brand;
 use std::sync::Wait;
-use std::sync::ledger::Blank;
 use std::test::*;
-use versions::{LaneReader, Notice, Opened};
+use versions::{LaneReader, Notice};
 
 /// How many calls a log takes.
 const CALLS: u64 = 1_048_576;
@@ -97,14 +96,14 @@ fn is_filled<'a, H: Hall, R: Wait>(
     }
 }
 
-fn scene<H: Hall, R: Wait>(rt: &R, alloc: Global, log: &Log, blank: Blank, opened: Opened) -> bool
+fn scene<H: Hall, R: Wait>(rt: &R, alloc: Global, log: &Log, names: DeskNames) -> bool
     requires log { log.now ≡ H.cells }
-    requires blank { (blank.name ≡ H.name) × (blank.parts ≡ H.parts) }
-    requires publisher { opened ≡ H.publisher }
+    requires ledger { (names.ledger.name ≡ H.name) × (names.ledger.parts ≡ H.parts) }
+    requires publisher { names.publisher ≡ H.publisher }
     requires start { no_rows 1 ≡ H.start }
     requires seats { (1 ≡ H.seats) × (H.seats ≡ H.parts) }
 {
-    match SharedDesk::<H>::new(rt, alloc, log, blank, opened, 1, 1, 1) {
+    match SharedDesk::<H>::new(rt, alloc, log, names, 1, 1, 1) {
         Ok((desk, seats, readers)) => is_filled(rt, alloc, desk, seats, readers),
         Err(_) => false,
     }
@@ -116,6 +115,6 @@ fn scene<H: Hall, R: Wait>(rt: &R, alloc: Global, log: &Log, blank: Blank, opene
 fn a_log_takes_all_its_calls(rt: HostRuntime) -> Result<(), Fail> {
     let alloc = rt.alloc();
     let log = Log::new(alloc)?;
-    assert!(rt; scene::<Brand, _>(&rt, alloc, &log, Blank::new(1), Opened::new()));
+    assert!(rt; scene::<Brand, _>(&rt, alloc, &log, DeskNames::new(1)));
     Ok(())
 }

@@ -3,32 +3,29 @@
 ghost use Rattle.std.specs.Prelude.{◌≡◌};
 ghost use Rattle.desk_rows.specs.Desk.{blank as no_rows};
 
-use operator_desk::{DeskFault, Hall, Log, SharedDesk};
+use operator_desk::{DeskFault, DeskNames, Hall, Log, SharedDesk};
 use std::alloc::Global;
 use std::marker::Brand;
 use std::sync::Wait;
-use std::sync::ledger::Blank;
 use std::test::*;
-use versions::Opened;
 
 /// How many seats and readers such a desk has, or why there is none.
 fn opened<H: Hall, R: Wait>(
     rt: &R,
     alloc: Global,
     log: &Log,
-    blank: Blank,
-    opened: Opened,
+    names: DeskNames,
     operators: u32,
     readers: usize,
 ) -> Result<(usize, usize), DeskFault>
     requires log { log.now ≡ H.cells }
-    requires blank { (blank.name ≡ H.name) × (blank.parts ≡ H.parts) }
-    requires publisher { opened ≡ H.publisher }
+    requires ledger { (names.ledger.name ≡ H.name) × (names.ledger.parts ≡ H.parts) }
+    requires publisher { names.publisher ≡ H.publisher }
     requires start { no_rows 1 ≡ H.start }
     requires seats { (operators ≡ H.seats) × (H.seats ≡ H.parts) }
 {
     let (desk, seats, readers) = SharedDesk::<H>::new(
-        rt, alloc, log, blank, opened, 1, operators, readers,
+        rt, alloc, log, names, 1, operators, readers,
     )?;
     desk.end(rt);
     Ok((seats.len(), readers.len()))
@@ -42,15 +39,8 @@ fn places<R: Wait>(
     readers: usize,
 ) -> Option<Result<(usize, usize), DeskFault>> {
     let log = Log::new(alloc).ok()?;
-    Some(opened::<Brand, _>(
-        rt,
-        alloc,
-        &log,
-        Blank::new(operators as u64),
-        Opened::new(),
-        operators,
-        readers,
-    ))
+    let names = DeskNames::new(operators);
+    Some(opened::<Brand, _>(rt, alloc, &log, names, operators, readers))
 }
 
 #[test]

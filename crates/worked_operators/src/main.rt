@@ -11,22 +11,20 @@ use crate::telling::reader_is_told;
 use crate::together::two_at_once;
 use crate::turns::two_in_turn;
 use crate::used::used_log;
-use operator_desk::Log;
+use operator_desk::{DeskNames, Log};
 use std::alloc::{AllocError, Global};
 use std::io;
 use std::marker::Brand;
-use std::sync::ledger::Blank;
-use versions::Opened;
 
 fn main(rt: HostRuntime) -> io::Result<()> {
     let alloc: Global = rt.alloc();
     let log = made(alloc)?;
-    two_in_turn::<Brand, _>(&rt, alloc, &log, Blank::new(2), Opened::new())?;
-    used_log::<Brand, _>(&rt, alloc, &log, Blank::new(1), Opened::new())?;
+    two_in_turn::<Brand, _>(&rt, alloc, &log, DeskNames::new(2))?;
+    used_log::<Brand, _>(&rt, alloc, &log, DeskNames::new(1))?;
     let log = made(alloc)?;
-    reader_is_told::<Brand, _>(&rt, alloc, &log, Blank::new(1), Opened::new())?;
+    reader_is_told::<Brand, _>(&rt, alloc, &log, DeskNames::new(1))?;
     let log = made(alloc)?;
-    two_at_once::<Brand, _>(&rt, alloc, &log, Blank::new(2), Opened::new())
+    two_at_once::<Brand, _>(&rt, alloc, &log, DeskNames::new(2))
 }
 
 fn made(alloc: Global) -> io::Result<Log> {

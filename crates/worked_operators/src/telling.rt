@@ -9,13 +9,12 @@ ghost use Rattle.operator_desk.specs.LegalLogs.{after_log};
 use crate::saying::says;
 use desk_edit::{Call, Command};
 use desk_rows::{Codec, Kind, Media, Member, Mute, Room, Rows, Slot, Source, Sub};
-use operator_desk::{Answer, Hall, Log, Seat, SharedDesk};
+use operator_desk::{Answer, DeskNames, Hall, Log, Seat, SharedDesk};
 use rtp_codec::Address;
 use std::alloc::Global;
 use std::io;
 use std::sync::Wait;
-use std::sync::ledger::Blank;
-use versions::{LaneReader, Notice, Opened};
+use versions::{LaneReader, Notice};
 
 /// Six calls set a room up. A reader that is told of the seventh, which mutes a source, finds it muted; told of the
 /// eighth, it finds none muted. Another reader, which is told of nothing else than what is published then, finds the
@@ -24,16 +23,15 @@ pub fn reader_is_told<H: Hall, R: Wait + Print>(
     rt: &R,
     alloc: Global,
     log: &Log,
-    blank: Blank,
-    opened: Opened,
+    names: DeskNames,
 ) -> io::Result<()>
     requires log { log.now ≡ H.cells }
-    requires blank { (blank.name ≡ H.name) × (blank.parts ≡ H.parts) }
-    requires publisher { opened ≡ H.publisher }
+    requires ledger { (names.ledger.name ≡ H.name) × (names.ledger.parts ≡ H.parts) }
+    requires publisher { names.publisher ≡ H.publisher }
     requires start { no_rows 1 ≡ H.start }
     requires seats { (1 ≡ H.seats) × (H.seats ≡ H.parts) }
 {
-    match SharedDesk::<H>::new(rt, alloc, log, blank, opened, 1, 1, 2) {
+    match SharedDesk::<H>::new(rt, alloc, log, names, 1, 1, 2) {
         Ok((desk, mut seats, mut readers)) => {
             let other = readers.pop().unwrap();
             let reader = readers.pop().unwrap();

@@ -10,13 +10,11 @@ ghost use Rattle.worked_operators.specs.Has.{Has};
 
 use desk_edit::{Call, Command};
 use desk_rows::Room;
-use operator_desk::{Answer, Hall, Log, LogEntry, Seat, SharedDesk};
+use operator_desk::{Answer, DeskNames, Hall, Log, LogEntry, Seat, SharedDesk};
 use std::alloc::Global;
 use std::io;
 use std::sync::Wait;
-use std::sync::ledger::Blank;
 use std::thread::{Threads, join};
-use versions::Opened;
 
 /// A seat at its desk.
 #[derive(Drop)]
@@ -30,16 +28,15 @@ pub fn two_at_once<H: Hall + Send + Sync, R: Threads + Wait + Print + Sync>(
     rt: &R,
     alloc: Global,
     log: &Log,
-    blank: Blank,
-    opened: Opened,
+    names: DeskNames,
 ) -> io::Result<()>
     requires log { log.now ≡ H.cells }
-    requires blank { (blank.name ≡ H.name) × (blank.parts ≡ H.parts) }
-    requires publisher { opened ≡ H.publisher }
+    requires ledger { (names.ledger.name ≡ H.name) × (names.ledger.parts ≡ H.parts) }
+    requires publisher { names.publisher ≡ H.publisher }
     requires start { no_rows 1 ≡ H.start }
     requires seats { (2 ≡ H.seats) × (H.seats ≡ H.parts) }
 {
-    match SharedDesk::<H>::new(rt, alloc, log, blank, opened, 1, 2, 1) {
+    match SharedDesk::<H>::new(rt, alloc, log, names, 1, 2, 1) {
         Ok((desk, mut seats, _readers)) => {
             let two = seats.pop().unwrap();
             let one = seats.pop().unwrap();

@@ -6,12 +6,10 @@ ghost use Rattle.desk_rows.specs.Desk.{blank as no_rows};
 use crate::saying::{say_fault, says};
 use desk_edit::{Call, Command};
 use desk_rows::{Kind, Room};
-use operator_desk::{Hall, Log, Seat, SharedDesk};
+use operator_desk::{DeskNames, Hall, Log, Seat, SharedDesk};
 use std::alloc::Global;
 use std::io;
 use std::sync::Wait;
-use std::sync::ledger::Blank;
-use versions::Opened;
 
 /// Two operators add a room each. Neither can undo while the other has called since, so one of them takes both back.
 /// The log is handed out once both seats are back.
@@ -19,16 +17,15 @@ pub fn two_in_turn<H: Hall, R: Wait + Print>(
     rt: &R,
     alloc: Global,
     log: &Log,
-    blank: Blank,
-    opened: Opened,
+    names: DeskNames,
 ) -> io::Result<()>
     requires log { log.now ≡ H.cells }
-    requires blank { (blank.name ≡ H.name) × (blank.parts ≡ H.parts) }
-    requires publisher { opened ≡ H.publisher }
+    requires ledger { (names.ledger.name ≡ H.name) × (names.ledger.parts ≡ H.parts) }
+    requires publisher { names.publisher ≡ H.publisher }
     requires start { no_rows 1 ≡ H.start }
     requires seats { (2 ≡ H.seats) × (H.seats ≡ H.parts) }
 {
-    match SharedDesk::<H>::new(rt, alloc, log, blank, opened, 1, 2, 1) {
+    match SharedDesk::<H>::new(rt, alloc, log, names, 1, 2, 1) {
         Ok((desk, mut seats, _readers)) => {
             let called = take_turns(rt, alloc, &desk, &mut seats);
             let gathered = without_one(rt, alloc, desk, seats);

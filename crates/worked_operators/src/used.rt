@@ -6,28 +6,25 @@ ghost use Rattle.desk_rows.specs.Desk.{blank as no_rows};
 use crate::saying::{say_fault, says};
 use desk_edit::{Call, Command};
 use desk_rows::Room;
-use operator_desk::{Hall, Log, SharedDesk};
+use operator_desk::{DeskNames, Hall, Log, SharedDesk};
 use std::alloc::Global;
 use std::io;
 use std::sync::Wait;
-use std::sync::ledger::Blank;
-use versions::Opened;
 
 /// Its calls are refused, and its log is not handed out.
 pub fn used_log<H: Hall, R: Wait + Print>(
     rt: &R,
     alloc: Global,
     log: &Log,
-    blank: Blank,
-    opened: Opened,
+    names: DeskNames,
 ) -> io::Result<()>
     requires log { log.now ≡ H.cells }
-    requires blank { (blank.name ≡ H.name) × (blank.parts ≡ H.parts) }
-    requires publisher { opened ≡ H.publisher }
+    requires ledger { (names.ledger.name ≡ H.name) × (names.ledger.parts ≡ H.parts) }
+    requires publisher { names.publisher ≡ H.publisher }
     requires start { no_rows 1 ≡ H.start }
     requires seats { (1 ≡ H.seats) × (H.seats ≡ H.parts) }
 {
-    match SharedDesk::<H>::new(rt, alloc, log, blank, opened, 1, 1, 1) {
+    match SharedDesk::<H>::new(rt, alloc, log, names, 1, 1, 1) {
         Ok((desk, mut seats, _readers)) => {
             let call = Call::Apply(Command::AddRoom(Room {
                 room: 1,

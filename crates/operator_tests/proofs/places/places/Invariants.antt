@@ -2,7 +2,7 @@ use Rattle.desk_rows.specs.Desk.{blank}
 use Rattle.operator_tests.proofs.places.places.Given as goal
 
 abbrev pub ghosts-opened-H-Hall : goal.ghosts-opened-H-Hall
-ghosts-opened-H-Hall g a = record { cells = a.log.now; publisher = a.opened; start = blank 1; seats = a.blank.parts }
+ghosts-opened-H-Hall g a = record { cells = a.log.now; publisher = a.names.publisher; start = blank 1; seats = a.names.ledger.parts }
 
 abbrev pub ghosts-opened-H-Ledger : goal.ghosts-opened-H-Ledger
-ghosts-opened-H-Ledger g a = record { name = a.blank.name; parts = a.blank.parts }
+ghosts-opened-H-Ledger g a = record { name = a.names.ledger.name; parts = a.names.ledger.parts }
