@@ -8,14 +8,12 @@ use crate::timing::{Took, Watch, least_of};
 use bridge_core::{Core, Reply};
 use desk_edit::{Call, Command};
 use desk_rows::{Mute, Room};
-use operator_desk::{Answer, Hall, Log, Seat, SharedDesk};
+use operator_desk::{Answer, DeskNames, Hall, Log, Seat, SharedDesk};
 use std::alloc::Global;
 use std::io;
 use std::marker::Brand;
 use std::sync::Wait;
-use std::sync::ledger::Blank;
 use std::time::{Clock, CpuClock};
-use versions::Opened;
 
 /// What an operator calls in turn.
 #[derive(Clone, Copy)]
@@ -115,19 +113,18 @@ fn by_one<H: Hall, R: Wait + Clock + CpuClock>(
     rt: &R,
     alloc: Global,
     log: &Log,
-    blank: Blank,
-    opened: Opened,
+    names: DeskNames,
     commands: &[Command],
     turn: Turn,
     calls: u64,
 ) -> Option<Took>
     requires log { log.now ≡ H.cells }
-    requires blank { (blank.name ≡ H.name) × (blank.parts ≡ H.parts) }
-    requires publisher { opened ≡ H.publisher }
+    requires ledger { (names.ledger.name ≡ H.name) × (names.ledger.parts ≡ H.parts) }
+    requires publisher { names.publisher ≡ H.publisher }
     requires start { no_rows 1 ≡ H.start }
     requires seats { (1 ≡ H.seats) × (H.seats ≡ H.parts) }
 {
-    match SharedDesk::<H>::new(rt, alloc, log, blank, opened, 1, 1, 1) {
+    match SharedDesk::<H>::new(rt, alloc, log, names, 1, 1, 1) {
         Ok((desk, mut seats, _readers)) => {
             let took = match seats.pop() {
                 Some(mut seat) => timed(rt, alloc, &desk, &mut seat, commands, turn, calls),
@@ -168,15 +165,7 @@ pub fn at_desk<R: Wait + Clock + CpuClock>(
 ) -> io::Result<Took> {
     let commands = commands_for(alloc, plan)?;
     let log = Log::new(alloc)?;
-    let took = by_one::<Brand, _>(
-        rt,
-        alloc,
-        &log,
-        Blank::new(1),
-        Opened::new(),
-        &commands,
-        turn,
-        calls,
-    );
+    let names = DeskNames::new(1);
+    let took = by_one::<Brand, _>(rt, alloc, &log, names, &commands, turn, calls);
     took.ok_or(io::Error::other("there is no shared desk"))
 }

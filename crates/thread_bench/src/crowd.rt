@@ -7,15 +7,13 @@ use crate::calls::{Turn, call_desk, fill};
 use crate::rooms::{Plan, commands_for};
 use crate::timing::{Took, Watch};
 use desk_edit::Command;
-use operator_desk::{Hall, Log, Seat, SharedDesk};
+use operator_desk::{DeskNames, Hall, Log, Seat, SharedDesk};
 use std::alloc::Global;
 use std::io;
 use std::marker::Brand;
 use std::sync::Wait;
-use std::sync::ledger::Blank;
 use std::thread::{Threads, map_vec};
 use std::time::{Clock, CpuClock};
-use versions::Opened;
 
 /// How many seats the desk has.
 const SEATS: u32 = 16;
@@ -113,19 +111,18 @@ fn by_sixteen<H: Hall + Send + Sync, R: Threads + Wait + Sync + Clock + CpuClock
     rt: &R,
     alloc: Global,
     log: &Log,
-    blank: Blank,
-    opened: Opened,
+    names: DeskNames,
     commands: &[Command],
     callers: Callers,
     calls: u64,
 ) -> Option<Took>
     requires log { log.now ≡ H.cells }
-    requires blank { (blank.name ≡ H.name) × (blank.parts ≡ H.parts) }
-    requires publisher { opened ≡ H.publisher }
+    requires ledger { (names.ledger.name ≡ H.name) × (names.ledger.parts ≡ H.parts) }
+    requires publisher { names.publisher ≡ H.publisher }
     requires start { no_rows 1 ≡ H.start }
     requires seats { (16 ≡ H.seats) × (H.seats ≡ H.parts) }
 {
-    match SharedDesk::<H>::new(rt, alloc, log, blank, opened, 1, SEATS, 1) {
+    match SharedDesk::<H>::new(rt, alloc, log, names, 1, SEATS, 1) {
         Ok((desk, seats, _readers)) => {
             let took = timed(rt, alloc, &desk, seats, commands, callers, calls);
             desk.end(rt);
@@ -145,15 +142,7 @@ pub fn at_full_desk<R: Threads + Wait + Sync + Clock + CpuClock>(
 ) -> io::Result<Took> {
     let commands = commands_for(alloc, plan)?;
     let log = Log::new(alloc)?;
-    let took = by_sixteen::<Brand, _>(
-        rt,
-        alloc,
-        &log,
-        Blank::new(16),
-        Opened::new(),
-        &commands,
-        callers,
-        calls,
-    );
+    let names = DeskNames::new(16);
+    let took = by_sixteen::<Brand, _>(rt, alloc, &log, names, &commands, callers, calls);
     took.ok_or(io::Error::other("there is no desk of sixteen"))
 }

@@ -31,11 +31,11 @@ const FULL_MUTES: &str = "a call at a full shared desk, mute and unmute in turn"
 
 const FULL_GAINS: &str = "a call at a full shared desk, set-gain over another";
 
-const SEATS: &str = "16 seats on 16 threads, mute and unmute in turn";
+const SEATS: &str = "16 seats of a full desk on 16 threads, mute and unmute in turn";
 
-const ENTRIES: &str = "enter and leave";
+const ENTRIES: &str = "enter and leave, a full desk";
 
-const BESIDE: &str = "enter and leave while an operator calls";
+const BESIDE: &str = "enter and leave while an operator calls, a full desk";
 
 const LANE: &str = "an egress of a lane, frames of 4 packets to 16 receivers";
 
@@ -176,8 +176,8 @@ fn tell_calls<R: Wait + Clock + CpuClock + Print>(
     tell(rt, order.is_timed, MUTES, Measure::Time, &mutes)
 }
 
-/// Measures the calls of one operator at a full desk, and prints their lines.
-fn tell_full<R: Wait + Clock + CpuClock + Print>(
+/// Measures calls and entries at a full desk, and prints their lines.
+fn tell_full<R: Threads + Wait + Sync + Clock + CpuClock + Print>(
     rt: &R,
     alloc: Global,
     order: &Order,
@@ -189,7 +189,13 @@ fn tell_full<R: Wait + Clock + CpuClock + Print>(
     let mutes = calls(rt, alloc, &order, &order.full, Turn::Mutes { picture: 0 })?;
     tell(rt, order.is_timed, FULL_MUTES, Measure::Time, &mutes)?;
     let gains = calls(rt, alloc, &order, &order.full, Turn::Gains { member: 0 })?;
-    tell(rt, order.is_timed, FULL_GAINS, Measure::Time, &gains)
+    tell(rt, order.is_timed, FULL_GAINS, Measure::Time, &gains)?;
+    let all = crowd(rt, alloc, &order, &order.full)?;
+    tell(rt, order.is_timed, SEATS, Measure::Throughput, &all)?;
+    let entered = entering(rt, alloc, &order, &order.full)?;
+    tell(rt, order.is_timed, ENTRIES, Measure::Time, &entered)?;
+    let beside = entering_beside(rt, alloc, &order, &order.full)?;
+    tell(rt, order.is_timed, BESIDE, Measure::Time, &beside)
 }
 
 /// Measures desks and lanes, and prints a line for each figure.
@@ -200,12 +206,6 @@ pub fn measured<R: Threads + Wait + Sync + Clock + CpuClock + Print + Copy + Sen
 ) -> io::Result<()> {
     tell_calls(rt, alloc, order)?;
     tell_full(rt, alloc, order)?;
-    let all = crowd(rt, alloc, order, &HUNDREDS)?;
-    tell(rt, order.is_timed, SEATS, Measure::Throughput, &all)?;
-    let entered = entering(rt, alloc, order, &HUNDREDS)?;
-    tell(rt, order.is_timed, ENTRIES, Measure::Time, &entered)?;
-    let beside = entering_beside(rt, alloc, order, &HUNDREDS)?;
-    tell(rt, order.is_timed, BESIDE, Measure::Time, &beside)?;
     let lane = one_lane(rt, alloc, order, &FAN, &frames_of(alloc, PACKETS)?)?;
     tell(rt, order.is_timed, LANE, Measure::Processor, &lane)?;
     let lanes = four_lanes(rt, alloc, order, &HALL, &talk_of(&HALL))?;

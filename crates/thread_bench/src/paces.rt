@@ -20,15 +20,22 @@ impl<R: Wait + Drop> Rouse for Rouser<R> {
 /// The pace of a lane.
 pub type LanePace<R> = Rung<R, Rouser<R>>;
 
-/// A bell for each lane, paces by them, and what waits until lanes sleep.
+/// What wakes lanes, and waits until they sleep.
 #[derive(Drop)]
-pub struct Paced<R: Wait + Drop> {
+pub struct Bells<R: Wait + Drop> {
     /// A bell for each lane.
     pub bells: Vec<Arc<Bell, Global>>,
-    /// A pace for each lane.
-    pub paces: Vec<LanePace<R>>,
     /// It lets item n pass once lanes went to sleep n times.
     pub sleeps: Rung<R, ()>,
+}
+
+/// Bells, and paces by them.
+#[derive(Drop)]
+pub struct Paced<R: Wait + Drop> {
+    /// The bells.
+    pub bells: Bells<R>,
+    /// A pace for each lane.
+    pub paces: Vec<LanePace<R>>,
 }
 
 fn closed_bell<R: Wait>(rt: &R, alloc: Global) -> Result<Arc<Bell, Global>, AllocError> {
@@ -55,11 +62,11 @@ pub fn paces_for<R: Wait + Copy + Drop>(
         paces.push(Rung::by(*rt, Arc::try_clone(&bell)?, rouser))?;
         bells.push(bell)?;
     }
-    Ok(Paced {
+    let bells = Bells {
         bells,
-        paces,
         sleeps: Rung::by(*rt, front, ()),
-    })
+    };
+    Ok(Paced { bells, paces })
 }
 
 /// Rings each lane's bell for so many parcels.

@@ -10,15 +10,14 @@ use crate::meeting::Meeting;
 use crate::rooms::{Plan, commands_for};
 use crate::timing::{Took, Watch};
 use desk_edit::Command;
-use operator_desk::{Answer, Hall, Log, Seat, SharedDesk};
+use operator_desk::{Answer, DeskNames, Hall, Log, Seat, SharedDesk};
 use std::alloc::Global;
 use std::io;
 use std::marker::Brand;
 use std::sync::Wait;
-use std::sync::ledger::Blank;
 use std::thread::{Threads, join};
 use std::time::{Clock, CpuClock};
-use versions::{LaneReader, Opened};
+use versions::LaneReader;
 
 /// What the operator calls while a reader enters.
 #[derive(Clone, Copy)]
@@ -28,8 +27,8 @@ pub enum Calling {
     Mutes,
 }
 
-/// How many calls are made at most: more than while a reader enters, and fewer than a log holds.
-const MOST_CALLS: u64 = 1_000_000;
+/// How many calls are made at most: more than while a reader enters, and fewer than the log of a full desk still takes.
+const MOST_CALLS: u64 = 900_000;
 
 /// So many entries into a desk that these commands make.
 #[derive(Clone, Copy)]
@@ -128,17 +127,16 @@ fn beside<'a, H: Hall + Send + Sync, R: Threads + Wait + Sync + Clock + CpuClock
 fn over<H: Hall + Send + Sync, R: Threads + Wait + Sync + Clock + CpuClock>(
     rt: &R,
     log: &Log,
-    blank: Blank,
-    opened: Opened,
+    names: DeskNames,
     visit: &Visit<'_>,
 ) -> Option<Took>
     requires log { log.now ≡ H.cells }
-    requires blank { (blank.name ≡ H.name) × (blank.parts ≡ H.parts) }
-    requires publisher { opened ≡ H.publisher }
+    requires ledger { (names.ledger.name ≡ H.name) × (names.ledger.parts ≡ H.parts) }
+    requires publisher { names.publisher ≡ H.publisher }
     requires start { no_rows 1 ≡ H.start }
     requires seats { (1 ≡ H.seats) × (H.seats ≡ H.parts) }
 {
-    match SharedDesk::<H>::new(rt, visit.alloc, log, blank, opened, 1, 1, 1) {
+    match SharedDesk::<H>::new(rt, visit.alloc, log, names, 1, 1, 1) {
         Ok((desk, seats, readers)) => {
             let took = beside(rt, &desk, seats, readers, visit);
             desk.end(rt);
@@ -164,6 +162,6 @@ pub fn entries_beside<R: Threads + Wait + Sync + Clock + CpuClock>(
         entries,
         calling,
     };
-    let took = over::<Brand, _>(rt, &log, Blank::new(1), Opened::new(), &visit);
+    let took = over::<Brand, _>(rt, &log, DeskNames::new(1), &visit);
     took.ok_or(io::Error::other("there is no desk to enter"))
 }

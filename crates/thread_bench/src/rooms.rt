@@ -73,7 +73,7 @@ pub const HALL: Plan = Plan {
 pub const FEW: Plan = Plan {
     members: 4,
     voices: 2,
-    pictures: 4,
+    pictures: 16,
     slots: 8,
     has_gains: true,
 };

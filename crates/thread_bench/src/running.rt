@@ -7,16 +7,15 @@ use crate::batches::{BATCH, feed_batches};
 use crate::feeding::feed_core;
 use crate::lanes::lanes_by;
 use crate::loads::Load;
-use crate::paces::{Paced, open_all, paces_for};
+use crate::paces::{Bells, Paced, open_all, paces_for};
 use crate::rooms::{Plan, core_with};
 use crate::streaming::{Course, feed_stream};
 use crate::timing::{Took, Watch};
-use lane_bell::{Bell, Rung};
 use media_workers::{Bridge, Pace, PublisherName};
 use std::alloc::Global;
 use std::io;
 use std::marker::Brand;
-use std::sync::{Arc, Wait};
+use std::sync::Wait;
 use std::thread::Threads;
 use std::time::{Clock, CpuClock};
 use versions::{LaneReader, Opened, start};
@@ -60,8 +59,7 @@ fn fed<N: PublisherName, P: Pace, R: Wait + Clock + CpuClock + Drop>(
     rt: &R,
     alloc: Global,
     bridge: &mut Bridge<N, P>,
-    bells: &Vec<Arc<Bell, Global>>,
-    sleeps: &mut Rung<R, ()>,
+    bells: &mut Bells<R>,
     load: &Load,
     lanes: u32,
     way: &Way,
@@ -70,6 +68,7 @@ fn fed<N: PublisherName, P: Pace, R: Wait + Clock + CpuClock + Drop>(
     requires lanes { lanes ≤ length bridge.old }
 {
     let watch = Watch::begin(rt);
+    let Bells { bells, sleeps } = bells;
     let taken = match way {
         Way::Batches(batches) => feed_batches(rt, alloc, bridge, bells, sleeps, load, *batches),
         Way::Stream(course) => feed_stream(rt, alloc, bridge, bells, load, lanes, course),
@@ -92,24 +91,11 @@ fn by_readers<
     requires readers { All (λ (r : ReaderOf). r.publisher ≡ N.publisher) readers.items }
 {
     let lanes = lanes_by::<N>(alloc, readers, count)?;
-    let Paced {
-        bells,
-        paces,
-        mut sleeps,
-    } = paces_for(rt, alloc, count)?;
+    let Paced { mut bells, paces } = paces_for(rt, alloc, count)?;
     match Bridge::<N, _>::start(rt, alloc, lanes, paces) {
         Ok(mut bridge) => {
-            let took = fed(
-                rt,
-                alloc,
-                &mut bridge,
-                &bells,
-                &mut sleeps,
-                load,
-                count,
-                way,
-            );
-            open_all(rt, &bells);
+            let took = fed(rt, alloc, &mut bridge, &mut bells, load, count, way);
+            open_all(rt, &bells.bells);
             let _ends = bridge.close(rt);
             Ok(took)
         }

@@ -27,7 +27,7 @@ NEEDS = "the program, a minute; valgrind to count instructions"
 def options(parser):
     add_program(parser)
     add_measuring(parser, 5)
-    parser.add_argument("--calls", type=int, default=2000, help="how many calls a run makes, an even number (%(default)s)")
+    parser.add_argument("--calls", type=int, default=2000, help="how many calls a run makes, an even number from 1000 on (%(default)s)")
     parser.add_argument("--instructions", action="store_true", help="count instructions by callgrind, in one run")
 
 
@@ -171,6 +171,8 @@ def told_row(name, kind, costs):
 
 
 def run(args):
+    if args.calls < 1000 or args.calls % 2:
+        fail("--calls is an even number from 1000 on: of fewer, the front's own rounds cost more than the calls")
     program, unit = release_program(args.binary), "instructions" if args.instructions else "ns"
     print(f"| Call, {unit} | replay | refused | serve | refused | others | Ratio of what the change takes |\n|---|---|---|---|---|---|---|")
     for name, lines, members, sources, audio in DESKS:

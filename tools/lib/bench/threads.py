@@ -3,7 +3,7 @@
 The program thread_bench runs N times. It measures each figure and its floor in turn, some rounds each, and tells the least times
 as a ratio. A row has the median ratio, in brackets the least and the most, and the median time. The floors are
   a call at a shared desk       the same call at the desk of a core on one thread
-  16 seats on 16 threads        as many calls of one seat: how many times as many calls a second
+  16 seats of a full desk       as many calls of one seat: how many times as many calls a second
   enter and leave               a lock and an unlock of a mutex that nobody else wants
     while an operator calls     the same while nobody calls
   an egress of a lane           the same items on one thread, by the core, in processor time of all threads
