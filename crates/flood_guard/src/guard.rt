@@ -97,7 +97,7 @@ fn found(accounts: &[Account], place: Option<usize>, address: &Address) -> Accou
     }
 }
 
-/// The accounts of at most 1,024 addresses. Only [`new`](Self::new) takes memory.
+/// The accounts of at most 1,024 addresses. Only [`new`](Self::new) and [`copy`](Self::copy) take memory.
 ///
 /// An address is entered when a datagram comes from it. Once 1,024 are kept, the least recently used address is
 /// forgotten, with its credit and with what it asked for. A datagram from an address is a use, and so is a grant to it.
@@ -126,6 +126,15 @@ impl<A: Allocator + Copy> FloodGuard<A> {
         ensures { IfOk result (λ guard. guard ≡ []) }
     {
         let accounts = Vec::with_capacity(alloc, MOST_ADDRESSES)?;
+        Ok(Self { accounts })
+    }
+
+    /// A copy, with capacity for 1,024 accounts too. The only error is out of memory.
+    pub fn copy(&self, alloc: A) -> Result<Self, AllocError>
+        ensures { IfOk result (λ guard. guard ≡ self.now) }
+    {
+        let mut accounts = Vec::with_capacity(alloc, MOST_ADDRESSES)?;
+        accounts.extend_from_slice(&self.accounts)?;
         Ok(Self { accounts })
     }
 

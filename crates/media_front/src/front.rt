@@ -21,6 +21,7 @@ use crate::beat::Beat;
 use crate::feed::LaneFeed;
 use crate::giving::copies_of_all;
 use crate::paying::{credit, try_paid};
+use crate::planning::{Plan, Received, plan_for, settle};
 use crate::trying::try_all;
 use bridge_core::{Egress, Intake, Outcome};
 use desk_rows::Rows;
@@ -139,17 +140,24 @@ impl<N: PublisherName, P: Pace> MediaFront<N, P> {
             ≡ record self.old { intake = self.new.intake; feed = self.new.feed; guard = self.new.guard } }
         ensures asker { self.new.intake.asker ≡ self.old.intake.asker }
     {
-        let ingest = self.intake.datagram(alloc, rows, from, moment, octets)?;
-        let copies = copies_of_all(alloc, &ingest.items, self.feed.count())?;
-        credit(&mut self.guard, ingest.outcome, from, octets.len() as u64);
-        try_paid(&mut self.guard, &ingest.up, wire);
-        self.feed.hand_out_all(
-            &mut self.guard,
-            self.pli_cost,
+        let received = Received {
+            from: *from,
             moment,
-            &ingest.items,
-            copies,
+            octets: octets.len() as u64,
+        };
+        let ingest = self.intake.datagram(alloc, rows, from, moment, octets)?;
+        let planned = plan_for(alloc, &self.guard, self.pli_cost, received, ingest)?;
+        let copies = copies_of_all(alloc, &planned.ingest.items, self.feed.count())?;
+        credit(
+            &mut self.guard,
+            planned.ingest.outcome,
+            from,
+            received.octets,
         );
+        try_paid(&mut self.guard, &planned.ingest.up, wire);
+        let Plan { ingest, accounts } = planned;
+        settle(&mut self.guard, accounts);
+        self.feed.hand_out_all(&ingest.items, copies);
         Ok(ingest.outcome)
     }
 

@@ -8,15 +8,12 @@ ghost use Rattle.std.specs.declared.vec.Vec.{Vec as Row};
 ghost use Rattle.media_items.specs.Inputs.{input_of, is_sized};
 ghost use Rattle.media_items.specs.declared.item.Item.{Item as AnItem};
 ghost use Rattle.media_front.specs.FedLanes.{FedLane, IsFed, AreGiven, AllAreGiven};
-ghost use Rattle.media_front.specs.Granted.{granted_by, after_input, cut_at, as_granted, granted_of, after_asking};
 ghost use Rattle.media_front.specs.inner.Beats.{input_at};
 ghost use Rattle.media_front.specs.inner.Copies.{AreCopies};
 
 use crate::beat::Beat;
 use crate::feed::LaneFeed;
-use crate::granting::{cut_at, granted_by, is_left_out};
 use bridge_core::Item;
-use flood_guard::FloodGuard;
 use media_workers::{Pace, Parcel, PublisherName};
 use std::alloc::{AllocError, Global};
 
@@ -62,65 +59,31 @@ impl<N: PublisherName, P: Pace> LaneFeed<N, P> {
         self.tallies[lane].count(accepted);
     }
 
-    /// Gives every lane one of these copies of an item, cut to what is granted of it.
-    fn hand_out(&mut self, item: &Item, granted: Option<u64>, copies: Vec<Item>)
+    /// Gives every lane one of these copies of an item.
+    fn hand_out(&mut self, item: &Item, copies: Vec<Item>)
         requires copies { AreCopies (length self.old) (input_of item.now) copies.items }
         requires sized { is_sized (input_of item.now) ≡ true }
-        ensures { AreGiven self.old (cut_at granted (input_of item.now)) self.new }
+        ensures { AreGiven self.old (input_of item.now) self.new }
     {
         let mut lane = 0;
         for copy in copies {
-            self.give_one(lane, cut_at(copy, granted));
+            self.give_one(lane, copy);
             lane += 1;
         }
     }
 
-    /// Gives every lane one of these copies of an item, cut to what the guard grants. An item that uses a quota and is
-    /// granted nothing is left out. A PLI costs its address so many octets.
-    fn hand_out_granted(
-        &mut self,
-        guard: &mut FloodGuard,
-        cost: u64,
-        moment: u64,
-        item: &Item,
-        copies: Vec<Item>,
-    )
-        requires copies { AreCopies (length self.old) (input_of item.now) copies.items }
-        requires sized { is_sized (input_of item.now) ≡ true }
-        ensures given { AllAreGiven
-            (as_granted (granted_by cost moment (input_of item.now) guard.old) (input_of item.now))
-            self.old self.new }
-        ensures guard { guard.new ≡ after_input cost moment (input_of item.now) guard.old }
-        ensures lanes { length self.new ≡ length self.old }
-    {
-        let granted = granted_by(guard, cost, moment, item);
-        if is_left_out(granted) {
-            return;
-        }
-        self.hand_out(item, granted, copies);
-    }
-
-    /// Gives every lane one of the copies of each item that the guard grants, one item after another. A PLI costs its
-    /// address so many octets.
-    pub(crate) fn hand_out_all(
-        &mut self,
-        guard: &mut FloodGuard,
-        cost: u64,
-        moment: u64,
-        items: &[Item],
-        all: Vec<Vec<Item>>,
-    )
+    /// Gives every lane one of the copies of each item, one item after another.
+    pub(crate) fn hand_out_all(&mut self, items: &[Item], all: Vec<Vec<Item>>)
         requires copies { AllZip (λ (item : AnItem Heap) (row : Row (AnItem Heap) Heap).
             AreCopies (length self.old) (input_of item) row.items) items.now all.items }
         requires sized { list_all is_sized (map input_of items.now) ≡ true }
-        ensures given { AllAreGiven (granted_of cost moment (map input_of items.now) guard.old) self.old self.new }
-        ensures guard { guard.new ≡ after_asking cost moment (map input_of items.now) guard.old }
+        ensures { AllAreGiven (map input_of items.now) self.old self.new }
     {
         let mut at = 0;
         for copies in all {
             let is_item = at < items.len();
             prove!(is_item);
-            self.hand_out_granted(guard, cost, moment, &items[at], copies);
+            self.hand_out(&items[at], copies);
             at += 1;
         }
     }

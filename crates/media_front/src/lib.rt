@@ -39,6 +39,7 @@ mod granting;
 mod laws;
 mod naming;
 mod paying;
+mod planning;
 mod popping;
 mod pricing;
 mod starting;
