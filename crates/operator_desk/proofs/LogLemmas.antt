@@ -1,5 +1,5 @@
 -- A log that goes on by one call.
-use Rattle.std.proofs.Common.{◌≡◌, ℕ, ◌+◌, ◌<◌, ◌≤◌, Bool, true, false, nat_eq, List, [], ◌∷◌, ◌++◌, length, take, Some, None, refl, sym, ap, subst, ◌∙◌, arith, length-append, ⊎_elim}
+use Rattle.std.proofs.Common.{◌≡◌, ◌≢◌, ℕ, suc, ◌+◌, ◌<◌, ◌≤◌, Bool, true, false, nat_eq, List, [], ◌∷◌, ◌++◌, length, take, drop, take-append-drop, Some, None, refl, sym, ap, subst, ◌∙◌, arith, length-append, ⊎_elim}
 use Rattle.std.specs.Prelude.{if◌then◌else◌, IfSome}
 use Rattle.std.proofs.lemmas.List.{map-append, length-map, take-append-le, take_all}
 use Rattle.std.proofs.lemmas.List.Sums.{fold_push}
@@ -71,6 +71,27 @@ other_from first op (x ∷ log) e other = ap (λ ns. if nat_eq x.op op then firs
 
 pub other_numbers : (op : ℕ) (log : List EntryOf) (e : EntryOf) → nat_eq e.op op ≡ false → numbers op (log ++ e ∷ []) ≡ numbers op log
 other_numbers op log e other = other_from 1 op log e other
+
+-- a log that goes on has no fewer numbers
+numbers_long : (first op : ℕ) (log more : List EntryOf) → length (numbers_from first op log) ≤ length (numbers_from first op (log ++ more))
+numbers_long first op [] more = omega arith
+numbers_long first op (x ∷ log) more = step (nat_eq x.op op) (numbers_long (first + 1) op log more)
+  where
+    step : (b : Bool) → length (numbers_from (first + 1) op log) ≤ length (numbers_from (first + 1) op (log ++ more))
+        → length (if b then first ∷ numbers_from (first + 1) op log else numbers_from (first + 1) op log) ≤ length (if b then first ∷ numbers_from (first + 1) op (log ++ more) else numbers_from (first + 1) op (log ++ more))
+    step true is = omega (arith, is)
+    step false is = is
+
+-- an operator with a call behind a place has more numbers than before it
+pub own_behind : (op : ℕ) (log : List EntryOf) (k : ℕ) (e : EntryOf) → take (suc k) log ≡ take k log ++ e ∷ [] → nat_eq e.op op ≡ true → numbers op log ≢ numbers op (take k log)
+own_behind op log k e next own same =
+    let before : List ℕ = numbers op (take k log) in
+    let more = ap (λ (l : List EntryOf). length (numbers op l)) next in
+    let one = ap length (own_from 1 op (take k log) e own) in
+    let longer = length-append before ((1 + length (take k log)) ∷ []) in
+    let long = numbers_long 1 op (take (suc k) log) (drop (suc k) log) in
+    let whole = ap (λ (l : List EntryOf). length (numbers op l)) (take-append-drop (suc k) log) in
+    omega (arith, ap length same, more, one, longer, long, whole)
 
 -- all published lists lead to the desk of the log
 pub desks-all : (start : Desk) (log : List EntryOf) (lists : List (List EditOf)) → AreDesks start log lists → after_lists start lists ≡ desk_now (after_log start log)

@@ -1,7 +1,7 @@
 //! What lies under the lock of a shared desk.
 
 ghost use Rattle.std.specs.Prelude.{◌≡◌, true, length, slice_get, None, Some, IfSome, IfNone, IfOk};
-ghost use Rattle.std.specs.Bool.{OnTrue};
+ghost use Rattle.std.specs.Bool.{OnTrue, OnFalse};
 ghost use Rattle.std.specs.List.{All, sum_by};
 ghost use mathlib.Core.List.{IsPrefix};
 ghost use Rattle.desk_rows.specs.Desk.{good};
@@ -14,7 +14,7 @@ ghost use Rattle.operator_desk.specs.OwnCalls.{numbers};
 ghost use Rattle.operator_desk.specs.Seats.{SeatOf};
 ghost use Rattle.operator_desk.specs.Answers.{IsAnswered, IsNotice, IsCopy};
 ghost use Rattle.operator_desk.specs.Gathering.{AreAllIn};
-ghost use Rattle.operator_desk.specs.inner.Held.{Leads};
+ghost use Rattle.operator_desk.specs.inner.Held.{IsOurs, Leads};
 
 use crate::answer::{Answer, Why};
 use crate::entry::LogEntry;
@@ -167,6 +167,7 @@ impl<'a, H: Hall> Held<'a, H> {
         ensures seen { OnTrue result (seat.new.seen ≡ self.now.log) }
         ensures begins { OnTrue result (IsPrefix seat.old.seen self.now.log) }
         ensures own { OnTrue result (numbers seat.old.op self.now.log ≡ numbers seat.old.op seat.old.seen) }
+        ensures foreign { OnFalse result (¬ IsOurs seat.old self.now.log) }
     {
         let from = seat.seen.len();
         if self.entries.len() < from {
@@ -181,7 +182,8 @@ impl<'a, H: Hall> Held<'a, H> {
         true
     }
 
-    /// Answers a seat, if it is this desk's.
+    /// Answers a seat. `None` for a seat of another desk: it has seen more than the log, or the log has calls of its
+    /// operator that it didn't make.
     pub fn call<R: Wait>(
         &mut self,
         rt: &R,
@@ -189,7 +191,9 @@ impl<'a, H: Hall> Held<'a, H> {
         seat: &mut Seat<'a, H>,
         call: Call,
     ) -> Option<Answer>
-        ensures { IfSome result (λ answer. IsAnswered H.start H.publisher seat.old seat.new (asked_by call) answer) }
+        ensures answer { IfSome result (λ answer.
+            IsAnswered H.start H.publisher seat.old seat.new (asked_by call) answer) }
+        ensures foreign { IfNone result (¬ IsOurs seat.old self.old.log) }
     {
         if !self.show(seat) {
             return None;

@@ -1,7 +1,7 @@
 //! Rows of tokens that show one log.
 
-ghost use Rattle.std.specs.Prelude.{◌≡◌, ◌≤◌, ◌<◌, length, take, vec_len, vec_capacity, IfOk};
-ghost use Rattle.std.specs.Bool.{OnTrue};
+ghost use Rattle.std.specs.Prelude.{◌≡◌, ◌≢◌, ◌≤◌, ◌<◌, length, take, vec_len, vec_capacity, IfOk};
+ghost use Rattle.std.specs.Bool.{OnTrue, OnFalse};
 ghost use Rattle.operator_desk.specs.OwnCalls.{numbers};
 ghost use Rattle.operator_desk.specs.inner.Tokens.{marks, shown, AreFirst};
 
@@ -35,7 +35,10 @@ pub fn none_of<'a>(
 ) -> bool
     requires entries { AreFirst log.now entries.now.items }
     requires from { from ≤ vec_len entries.now }
-    ensures { OnTrue result (numbers op (shown entries.now.items) ≡ numbers op (take from (shown entries.now.items))) }
+    ensures none { OnTrue result
+        (numbers op (shown entries.now.items) ≡ numbers op (take from (shown entries.now.items))) }
+    ensures some { OnFalse result
+        (numbers op (shown entries.now.items) ≢ numbers op (take from (shown entries.now.items))) }
 {
     for k in from..entries.len() {
         if log.read(k, &entries[k]).op() == op {
