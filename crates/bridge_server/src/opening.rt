@@ -268,7 +268,7 @@ where
     let count = front.settings.operators;
     match begin(rt, alloc, readers, front) {
         Ok((rounds, waker)) => {
-            let operators = Operators::new(rt, desk, seats);
+            let operators = Operators::new(rt, alloc, desk, seats);
             let mut rounds = rounds;
             let done = serve(rt, alloc, &operators, &waker, &mut rounds);
             // The desk ends first: a lane then ends at its next item, and what is left in its ring is dropped.

@@ -7,12 +7,12 @@ ghost use Rattle.operator_threads.specs.Told.{IsKnown, IsTelling, SeatShows};
 ghost use Rattle.udp_front.specs.Operators.{AppendsShown};
 
 use crate::operators::Operators;
+use crate::printed::Printed;
 use crate::printing::print_answer;
 use crate::seats::TakenSeat;
 use desk_edit::Call;
 use lane_bell::Rouse;
 use operator_desk::{Answer, Hall};
-use script_text::print_rows;
 use std::alloc::{AllocError, Global};
 use std::sync::{MutexGuard, Wait};
 use udp_front::LineDesk;
@@ -55,14 +55,20 @@ impl<'b, 'a, H: Hall, R: Wait, F: Rouse> AtDesk<'b, 'a, H, R, F> {
         answer
     }
 
-    /// Appends the rows of one version, a line for each, and the version. An `Err` appends nothing.
-    fn print(&self, alloc: Global, out: &mut Vec<u8>) -> Result<(), AllocError>
+    /// Appends the rows of one version, a line for each, and the version. An `Err` appends nothing. The rows are
+    /// printed anew if the desk has changed since they were printed last.
+    fn print(
+        &self,
+        alloc: Global,
+        printed: &mut Printed<H>,
+        out: &mut Vec<u8>,
+    ) -> Result<(), AllocError>
         ensures ok { OnOk result
             (AppendsShown (λ desk text. SeatShows H.start text) self.now out.old.items out.new.items) }
         ensures err { OnErr result (out.new.items ≡ out.old.items) }
     {
-        let (version, rows) = self.operators.desk.rows(self.rt, alloc)?;
-        print_rows(&rows, version, out)
+        printed.refresh(self.rt, alloc, &self.operators.desk)?;
+        printed.append(out)
     }
 
     /// Learns the notice of an accepted call, and rouses the front.
@@ -92,9 +98,9 @@ impl<'b, 'a, H: Hall, R: Wait, F: Rouse> LineDesk for AtDesk<'b, 'a, H, R, F> {
     }
 
     fn show(&self, alloc: Global, out: &mut Vec<u8>) -> Result<(), AllocError> {
-        let turn = self.operators.showing.lock(self.rt);
-        let answer = self.print(alloc, out);
-        MutexGuard::unlock(turn);
+        let mut printed = self.operators.printed.lock(self.rt);
+        let answer = self.print(alloc, &mut printed, out);
+        MutexGuard::unlock(printed);
         answer
     }
 }

@@ -6,7 +6,7 @@
 //!
 //! ```rust
 //! // desk and seats: of a shared desk; stream: a connection; front: what is roused after each accepted call
-//! let operators = Operators::new(&rt, desk, seats);
+//! let operators = Operators::new(&rt, alloc, desk, seats);
 //! match operators.reserve(&rt) {
 //!     None => turn_away(stream),
 //!     Some(op) => match Caller::new(&rt, alloc, stream) {
@@ -25,6 +25,7 @@ mod caller;
 mod latest;
 mod operators;
 mod places;
+mod printed;
 mod printing;
 mod seats;
 mod talking;

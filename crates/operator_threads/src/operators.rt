@@ -8,6 +8,7 @@ use crate::at_desk::AtDesk;
 use crate::caller::Caller;
 use crate::latest::Latest;
 use crate::places::Places;
+use crate::printed::Printed;
 use crate::seats::{FreeSeats, TakenSeat};
 use lane_bell::Rouse;
 use operator_desk::{Hall, MAX_OPERATORS, Seat, SharedDesk};
@@ -24,15 +25,20 @@ pub struct Operators<'a, H: Hall> {
     places: Mutex<Places>,
     seats: Mutex<FreeSeats<'a, H>>,
     latest: Mutex<Latest<H>>,
-    /// Held while the rows are copied and printed, which takes milliseconds for a full desk. Operators who keep asking
-    /// take one processor together, and the others' calls have the rest.
-    pub(crate) showing: Mutex<()>,
+    /// Held while the rows are printed, which takes milliseconds for a full desk, or copied as they were printed last.
+    /// Operators who keep asking take one processor together, and the others' calls have the rest.
+    pub(crate) printed: Mutex<Printed<H>>,
     stopped: AtomicBool,
 }
 
 impl<'a, H: Hall> Operators<'a, H> {
     /// The operators of a desk with these seats, all of them free. There are as many places as seats, 16 at most.
-    pub fn new<R: Wait>(rt: &R, desk: SharedDesk<'a, H>, seats: Vec<Seat<'a, H>>) -> Self {
+    pub fn new<R: Wait>(
+        rt: &R,
+        alloc: Global,
+        desk: SharedDesk<'a, H>,
+        seats: Vec<Seat<'a, H>>,
+    ) -> Self {
         let latest = Latest::new(desk.notice(rt));
         let places = seats.len().min(MAX_OPERATORS as usize);
         Self {
@@ -40,7 +46,7 @@ impl<'a, H: Hall> Operators<'a, H> {
             places: Mutex::new(Places::new(places)),
             seats: Mutex::new(FreeSeats { seats }),
             latest: Mutex::new(latest),
-            showing: Mutex::new(()),
+            printed: Mutex::new(Printed::nothing(alloc)),
             stopped: AtomicBool::new(false),
         }
     }
@@ -168,7 +174,7 @@ impl<'a, H: Hall> Operators<'a, H> {
             seats,
             places: _,
             latest: _,
-            showing: _,
+            printed: _,
             stopped: _,
         } = self;
         (desk, seats.into_inner().seats)

@@ -8,13 +8,14 @@ CROWD is one of
   half      connections that close in mid-line, one after another
   busy      15 connections that call as fast as they can: each has up to 128 calls that aren't answered yet
 
-Beside each crowd two members talk with each other. Behind it the honest operator's calls and the others' accepted calls have the
+Beside each crowd two members talk with each other. Beside `unread` the honest operator asks for the rows, too. Behind it the honest operator's calls and the others' accepted calls have the
 numbers from 1 to the desk's version, each once, and as many calls are accepted of all operators as the bridge says at its end. The
 packets that each member heard have no gap, and no item was dropped for a lane. The status is 0 where all is so.
 """
 
 import contextlib
 import multiprocessing
+import re
 import selectors
 import socket
 import tempfile
@@ -173,10 +174,25 @@ def call_ahead(port, end):
 CROWDS = ["silent", "endless", "drip", "unread", "half", "busy"]
 
 
-def asked(operator, crowd, thread, accepted):
+def shown(connection):
+    """Asks for the rows, and reads them. How long that took."""
+    begun, last = time.monotonic(), b""
+    connection.sendall(b"show\n")
+    while not re.search(rb"(^|\n)end [0-9]+\n$", last):
+        some = connection.recv(1 << 20)
+        if not some:
+            fail("the connection ends in the rows")
+        last = (last + some)[-40:]
+    return time.monotonic() - begun
+
+
+def asked(operator, connection, crowd, thread, accepted):
     """Has the honest operator call while the crowd is there. How long each answer took."""
-    took = []
+    took, rounds = [], 0
     while thread.is_alive():
+        rounds += 1
+        if crowd == "unread" and rounds % 10 == 0:
+            took.append(shown(connection))
         for line in ("add-room 63", "remove-room 63"):
             begun = time.monotonic()
             word, _, rest = operator.ask(line).partition(" ")
@@ -230,7 +246,7 @@ def held(program, name, args):
             accepted = list(range(1, count + 1 + fill(operator, pair.lines())))
             crowd = Crowd(name, port, args.seconds)
             pair.begin(udp)
-            took = asked(operator, name, crowd.thread, accepted)
+            took = asked(operator, connection, name, crowd.thread, accepted)
             is_well = told_of(name, took, accepted, crowd, pair.end(), pair.sent)
             operator.tell("stop")
         return ended(name, bridge, len(accepted) + len(crowd.accepted)) and is_well

@@ -1,0 +1,83 @@
+//! The rows as they were printed last.
+
+ghost use Rattle.std.specs.Prelude.{◌≡◌, ◌++◌, [], OnOk, OnErr};
+ghost use Rattle.std.specs.Bool.{OnTrue};
+ghost use Rattle.operator_threads.specs.Told.{SeatShows};
+
+use operator_desk::{Hall, SharedDesk};
+use script_text::print_rows;
+use std::alloc::{AllocError, Global};
+use std::marker::{Model, PhantomData};
+use std::sync::Wait;
+
+/// The lines of the rows of a hall's desk, as they were printed last. Contracts see the octets.
+#[derive(Drop)]
+pub(crate) struct Printed<H: Hall> {
+    /// The version that they are of, if they are of one.
+    version: Option<u64>,
+    text: Vec<u8>,
+    hall: PhantomData<H>,
+}
+
+impl<H: Hall> Model for Printed<H> {
+    ghost use Rattle.std.specs.Prelude.{ℕ, List, IfSome};
+    ghost use Rattle.operator_threads.specs.Told.{SeatShows};
+
+    ghost Value = { List ℕ };
+
+    ghost view = { λ p. p.text.items };
+
+    ghost invariant = { λ p. IfSome p.version (λ version. SeatShows H.start p.text.items) };
+}
+
+impl<H: Hall> Printed<H> {
+    /// Nothing was printed yet. It takes no memory.
+    pub fn nothing(alloc: Global) -> Self
+        ensures { result ≡ [] }
+    {
+        Self {
+            version: None,
+            text: Vec::new(alloc),
+            hall: PhantomData,
+        }
+    }
+
+    /// Whether the lines are of this version.
+    fn is_of(&self, version: u64) -> bool
+        ensures { OnTrue result (SeatShows H.start self.now) }
+    {
+        match self.version {
+            Some(printed) => printed == version,
+            None => false,
+        }
+    }
+
+    /// Prints the rows of the version that is published now, unless they were printed last. The only error is out of
+    /// memory.
+    pub fn refresh<R: Wait>(
+        &mut self,
+        rt: &R,
+        alloc: Global,
+        desk: &SharedDesk<'_, H>,
+    ) -> Result<(), AllocError>
+        ensures { OnOk result (SeatShows H.start self.new) }
+    {
+        if self.is_of(desk.notice(rt).version()) {
+            return Ok(());
+        }
+        let (version, rows) = desk.rows(rt, alloc)?;
+        self.version = None;
+        self.text.clear();
+        print_rows(&rows, version, &mut self.text)?;
+        self.version = Some(version);
+        Ok(())
+    }
+
+    /// Appends the lines. An `Err` appends nothing.
+    pub fn append(&self, out: &mut Vec<u8>) -> Result<(), AllocError>
+        ensures ok { OnOk result (out.new.items ≡ out.old.items ++ self.now) }
+        ensures err { OnErr result (out.new.items ≡ out.old.items) }
+    {
+        out.extend_from_slice(&self.text)
+    }
+}
