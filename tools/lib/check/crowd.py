@@ -187,12 +187,12 @@ def shown(connection):
 
 
 def asked(operator, connection, crowd, thread, accepted):
-    """Has the honest operator call while the crowd is there. How long each answer took."""
-    took, rounds = [], 0
+    """Has the honest operator call while the crowd is there. How long each answer took, and each time the rows."""
+    took, rows, rounds = [], [], 0
     while thread.is_alive():
         rounds += 1
         if crowd == "unread" and rounds % 10 == 0:
-            took.append(shown(connection))
+            rows.append(shown(connection))
         for line in ("add-room 63", "remove-room 63"):
             begun = time.monotonic()
             word, _, rest = operator.ask(line).partition(" ")
@@ -201,16 +201,17 @@ def asked(operator, connection, crowd, thread, accepted):
                 fail(f"{crowd}: `{line}` is answered `{word} {rest}`")
             accepted.append(int(rest))
         time.sleep(0.002)
-    return sorted(took)
+    return sorted(took), sorted(rows)
 
 
-def told_of(name, took, accepted, crowd, heard, sent):
+def told_of(name, took, rows, accepted, crowd, heard, sent):
     """Prints how it went. Whether all is as it should be."""
     numbers = sorted(accepted + crowd.accepted)
     is_whole = numbers == list(range(1, len(numbers) + 1))
     late = took[int(len(took) * 0.99)]
     told = [
         f"{name}: {len(took)} lines of the honest operator, answered within {late * 1e3:.1f} ms (99th percentile), {took[-1] * 1e3:.1f} ms (all)",
+        *[f"the rows {len(rows)} times, within {rows[-1] * 1e3:.1f} ms" for _ in rows[:1]],
         f"{len(crowd.accepted)} calls of the crowd",
         "each number once" if is_whole else "NUMBERS LOST",
         f"of {sent} packets the members heard {heard[0]} and {heard[1]}" if heard else "A MEMBER HEARD A GAP",
@@ -246,8 +247,8 @@ def held(program, name, args):
             accepted = list(range(1, count + 1 + fill(operator, pair.lines())))
             crowd = Crowd(name, port, args.seconds)
             pair.begin(udp)
-            took = asked(operator, connection, name, crowd.thread, accepted)
-            is_well = told_of(name, took, accepted, crowd, pair.end(), pair.sent)
+            took, rows = asked(operator, connection, name, crowd.thread, accepted)
+            is_well = told_of(name, took, rows, accepted, crowd, pair.end(), pair.sent)
             operator.tell("stop")
         return ended(name, bridge, len(accepted) + len(crowd.accepted)) and is_well
 
