@@ -1,4 +1,4 @@
-"""Has operators who misbehave beside one who doesn't, whose lines have to be answered within 50 ms.
+"""Has operators who misbehave beside one who doesn't, whose calls have to be answered within 50 ms.
 
 CROWD is one of
   silent    1,000 connections that say nothing
@@ -8,9 +8,10 @@ CROWD is one of
   half      connections that close in mid-line, one after another
   busy      15 connections that call as fast as they can: each has up to 128 calls that aren't answered yet
 
-Beside each crowd two members talk with each other. Beside `unread` the honest operator asks for the rows, too. Behind it the honest operator's calls and the others' accepted calls have the
-numbers from 1 to the desk's version, each once, and as many calls are accepted of all operators as the bridge says at its end. The
-packets that each member heard have no gap, and no item was dropped for a lane. The status is 0 where all is so.
+Beside each crowd two members talk with each other. Beside `unread` the honest operator asks for the rows, too; how long that takes is
+told, and not judged. Behind the crowd the honest operator's calls and the others' accepted calls have the numbers from 1 to the desk's
+version, each once, and as many calls are accepted of all operators as the bridge says at its end. The packets that each member heard
+have no gap, and no item was dropped for a lane. The status is 0 where all is so.
 """
 
 import contextlib
