@@ -1,4 +1,4 @@
-//! Mixes a few places of a tick at a time, in an array on the stack.
+//! Mixes a few samples of a tick at a time, in an array on the stack. A place is the index of a sample in its tick.
 
 ghost use Rattle.std.specs.Prelude.{◌≡◌, ℕ, ◌+◌, ◌<◌, ◌≤◌, pos, ◌-ℤ◌, length};
 ghost use Rattle.mix_minus.specs.Mix.{clamped, heard_sum, sample_sum, AreMixable, ReachTo, IsTotal};
@@ -107,7 +107,7 @@ pub fn turn_places(
     write(sums, start, out);
 }
 
-/// Writes `count` places from `start` on of what is left of the total without some inputs.
+/// Takes the samples of some inputs off the total, and writes what is left, clamped: `count` places from `start` on.
 pub fn leave_places(total: &[i32], own: &[Input], start: usize, count: usize, out: &mut [i16])
     requires few { length own.now ≤ 64 }
     requires reach { ReachTo (start + count) own.now }

@@ -46,7 +46,7 @@ pub struct Held<'a, H: Hall> {
     pub publisher: Publisher,
     /// Counts the accepted calls.
     pub calls: Book<H>,
-    /// No part and no call: the seats have them all.
+    /// The desk's own share of the ledger. It is empty: the seats have all parts, and have counted all calls.
     pub rest: Share<H>,
 }
 
@@ -129,7 +129,7 @@ impl<'a, H: Hall> Held<'a, H> {
         calls.audit(&mut rest);
     }
 
-    /// Gives the log up.
+    /// Ends the publisher, and gives the log up.
     pub fn end<R: Wait>(self, rt: &R) {
         let Held {
             publisher,
