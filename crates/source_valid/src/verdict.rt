@@ -15,8 +15,8 @@ pub enum Verdict {
     },
     /// The packet does not count: its number is too far off.
     Jump,
-    /// The packet counts, and initialises the source anew. It is the second of two far numbers in a row, or the first of
-    /// a cycle that would make extended numbers pass 2^62 + 65535.
+    /// The packet counts, and initialises the source anew. It is the second of two far numbers in a row, or the first
+    /// of a cycle that would make extended numbers pass 2^62 + 65535.
     Restarted {
         /// Its extended sequence number, 0 to 65535.
         ext: i64,
