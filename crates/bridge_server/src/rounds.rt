@@ -7,7 +7,7 @@ use crate::wakes::Wakes;
 use crate::waking::LaneWaker;
 use desk_rows::Rows;
 use lane_bell::Rung;
-use media_front::{MediaFront, PublisherOf};
+use media_front::{MOST_EGRESSES, MediaFront, PublisherOf};
 use mio::net::TcpStream;
 use operator_desk::Hall;
 use std::alloc::Global;
@@ -23,9 +23,6 @@ const LONGEST_WAIT: u64 = 5;
 /// How many datagrams are taken in under one entry into the published desk, so that neither a tick nor an operator's
 /// call waits long for them.
 const DATAGRAMS: u32 = 64;
-
-/// How many egresses a round sends at most, as `MediaFront::send` has it.
-const SENT: u32 = 4_096;
 
 /// The media of a bridge in hall H, on a runtime R.
 pub(crate) type ServerMedia<H, R> = MediaFront<PublisherOf<H>, Rung<R, LaneWaker>>;
@@ -84,7 +81,7 @@ impl<H: Hall + Send + Sync + 'static, R: Wait + Clock + Copy + Send + Drop + 'st
         let woken = self.wake(rt);
         done?;
         woken?;
-        self.is_behind = self.media.send(&mut self.sockets.wire()) >= SENT;
+        self.is_behind = self.media.send(&mut self.sockets.wire()) >= MOST_EGRESSES;
         Ok(())
     }
 

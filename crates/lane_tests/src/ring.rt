@@ -25,14 +25,33 @@ use versions::LaneReader;
 /// How many parcels a lane's ring holds.
 const RING_PARCELS: u64 = 1_024;
 
-/// Fills the ring. Says whether each parcel was accepted.
-fn fills<N: PublisherName, P: Pace>(running: &mut Running<N, P>) -> bool {
-    for moment in 0..RING_PARCELS {
+/// How many places are left free of it by a parcel that matters less.
+const LEFT: u64 = 64;
+
+/// Gives the lane so many parcels. Says whether each was accepted.
+fn gives<N: PublisherName, P: Pace>(running: &mut Running<N, P>, parcels: u64) -> bool {
+    for moment in 0..parcels {
         if running.push(0, FitItem::tick(moment).alone::<N>()).is_err() {
             return false;
         }
     }
     true
+}
+
+/// Gives the lane a parcel that leaves places free. Says whether it was accepted.
+fn gives_leaving<N: PublisherName, P: Pace>(running: &mut Running<N, P>) -> bool {
+    let parcel = FitItem::tick(78).alone::<N>();
+    running.push_leaving(0, parcel, LEFT as usize).is_ok()
+}
+
+/// Fills the ring. Says whether each parcel was accepted, but for one that had to leave places free which were the last
+/// ones.
+fn fills<N: PublisherName, P: Pace>(running: &mut Running<N, P>) -> bool {
+    let most = RING_PARCELS - LEFT - 1;
+    gives(running, most)
+        && gives_leaving(running)
+        && !gives_leaving(running)
+        && gives(running, LEFT)
 }
 
 /// Whether it is a tick of this moment with a notice.
@@ -132,8 +151,9 @@ fn scene<H: Hall + Send + Sync + 'static, R: Threads + Wait + Copy + Drop + Send
     }
 }
 
-/// A held lane accepts as many parcels as its ring holds, and hands the next one back with its notice. Once it
-/// goes on, all that were accepted are handled.
+/// A held lane accepts as many parcels as its ring holds, and hands the next one back with its notice. A parcel that
+/// has to leave 64 places free it accepts while there are more, and then hands back. Once it goes on, all that were
+/// accepted are handled.
 #[test]
 fn a_full_ring_hands_back(rt: HostRuntime) -> Result<(), Fail> {
     let alloc = rt.alloc();

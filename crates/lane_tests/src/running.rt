@@ -60,6 +60,16 @@ impl<N: PublisherName, P: Pace> Running<N, P> {
         self.bridge.push(lane, parcel)
     }
 
+    /// Gives a lane a parcel, or hands it back if its ring has no more than `free` places left.
+    pub fn push_leaving(&mut self, lane: u32, parcel: Parcel, free: usize) -> Result<(), Parcel>
+        requires { IsFit N.publisher parcel }
+    {
+        if lane >= self.lanes {
+            return Err(parcel);
+        }
+        self.bridge.push_leaving(lane, parcel, free)
+    }
+
     /// The next egress of any lane.
     pub fn pop(&mut self) -> Option<(u32, Egress)> {
         self.bridge.pop()

@@ -2,13 +2,11 @@
 
 ghost use Rattle.std.specs.Prelude.{◌≡◌, ◌<◌, ◌≤◌, length, map, Some, slice_get};
 ghost use Rattle.std.specs.Bool.{OnTrue};
-ghost use Rattle.std.specs.List.{list_any};
-ghost use Rattle.std.specs.Prelude.{is_some};
 ghost use Rattle.bridge_core.specs.Calls.{most_lanes};
 ghost use Rattle.media_workers.specs.Bridges.{AllEnded};
 ghost use Rattle.media_front.specs.FedLanes.{FedLane, ports_in, owing_notice, rung};
 
-use crate::tally::{Tally, owe_all, owe_any, ring_all};
+use crate::tally::{Tally, owe_all, ring_all};
 use bridge_core::Egress;
 use lane_bell::Bell;
 use media_workers::{Bridge, LaneEnd, Pace, PublisherName};
@@ -54,19 +52,12 @@ impl<N: PublisherName, P: Pace> LaneFeed<N, P> {
         self.tallies.len() as u32
     }
 
-    /// How many parcels were dropped for a lane: its ring was full, or the lane had ended.
+    /// How many parcels were dropped for a lane, since its ring had too few free places for them.
     pub fn dropped(&self, lane: u32) -> u64
         requires lane { lane < length self.now }
         ensures { (x : FedLane _) → slice_get self.now lane ≡ Some x → result ≡ x.dropped }
     {
         self.tallies[lane as usize].dropped
-    }
-
-    /// Whether a lane is still owed a notice.
-    pub fn owes(&self) -> bool
-        ensures { result ≡ list_any (λ (x : FedLane _). is_some x.owed) self.now }
-    {
-        owe_any(&self.tallies)
     }
 
     /// Whether a lane has ended. No contract speaks of the answer.

@@ -2,8 +2,7 @@
 
 ghost use Rattle.std.specs.Prelude.{◌≡◌, ◌<◌, ◌≤◌, ℕ, true, false, List, length, map, Some, OnErr, IfOk, slice_get};
 ghost use Rattle.std.specs.Bool.{MatchBool};
-ghost use Rattle.std.specs.List.{flat_map, list_any};
-ghost use Rattle.std.specs.Prelude.{is_some};
+ghost use Rattle.std.specs.List.{flat_map};
 ghost use Rattle.std.specs.declared.alloc.Global.{Global as Heap};
 ghost use Rattle.media_items.specs.Inputs.{Input};
 ghost use Rattle.bridge_core.specs.Calls.{most_lanes};
@@ -204,7 +203,8 @@ impl<N: PublisherName, P: Pace> MediaFront<N, P> {
             (HasReported rows.now now self.old self.new (W.attempts wire.old) (W.attempts wire.new))
             ((self.new ≡ self.old) × (W.attempts wire.new ≡ W.attempts wire.old))) }
         ensures timer { IfOk result (λ due. self.new.reports ≡ after_report self.old.reports now) }
-        ensures same { self.new ≡ record self.new { ticks = self.old.ticks } }
+        ensures same { self.new ≡ record self.new { guard = self.old.guard; ticks = self.old.ticks } }
+        ensures asker { self.new.intake.asker ≡ self.old.intake.asker }
         ensures err { OnErr result ((self.new ≡ self.old) × (W.attempts wire.new ≡ W.attempts wire.old)) }
     {
         let mut timer = self.reports;
@@ -241,13 +241,6 @@ impl<N: PublisherName, P: Pace> MediaFront<N, P> {
         self.feed.has_ended()
     }
 
-    /// Whether a lane is still owed a notice.
-    pub fn owes(&self) -> bool
-        ensures { result ≡ list_any (λ (x : FedLane _). is_some x.owed) self.now.feed }
-    {
-        self.feed.owes()
-    }
-
     /// How many lanes there are.
     pub fn lanes(&self) -> u32
         ensures count { result ≡ length self.now.feed }
@@ -256,7 +249,7 @@ impl<N: PublisherName, P: Pace> MediaFront<N, P> {
         self.feed.count()
     }
 
-    /// How many parcels were dropped for a lane: its ring was full, or the lane had ended.
+    /// How many parcels were dropped for a lane, since its ring had too few free places for them.
     pub fn dropped(&self, lane: u32) -> u64
         requires lane { lane < length self.now.feed }
         ensures { (x : FedLane _) → slice_get self.now.feed lane ≡ Some x → result ≡ x.dropped }

@@ -6,8 +6,8 @@
 //! datagram, [`MediaFront::tick`] and [`MediaFront::report`] the moment. Then [`MediaFront::ring`] wakes the lanes, and
 //! [`MediaFront::send`] sends what they gave. The crate has no socket and no clock.
 //!
-//! Contracts see a feed as its lanes: for each one its port of `media_workers`, the notice that it is owed, and how
-//! many parcels were dropped. They say nothing of when a ring is full.
+//! Contracts see a feed as its lanes: for each one its port of `media_workers`, the notice that it is owed, how many
+//! parcels it accepted since its bell was rung, and how many were dropped. They don't say when a parcel is dropped.
 //!
 //! ```rust
 //! // readers, notice and rows: of a shared desk of the hall H; waker: a `Rouse`; wire: a `Wire`
@@ -51,7 +51,8 @@ pub use self::feed::LaneFeed;
 pub use self::front::MediaFront;
 pub use self::laws::{
     control_up_is_bounded, items_given_are_bounded, numbers_given_are_bounded,
-    owed_notices_are_carried,
+    owed_notices_are_carried, passed_plis_have_their_cost,
 };
 pub use self::naming::PublisherOf;
+pub use self::popping::MOST_EGRESSES;
 pub use self::pricing::pli_octets;

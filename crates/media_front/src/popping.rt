@@ -13,8 +13,8 @@ use bridge_core::Egress;
 use media_workers::{Pace, PublisherName};
 use udp_front::{Wire, send_all};
 
-/// How many egresses one call sends at most.
-const MOST_EGRESSES: u32 = 4_096;
+/// How many egresses one call of `send` sends at most.
+pub const MOST_EGRESSES: u32 = 4_096;
 
 impl<N: PublisherName, P: Pace> LaneFeed<N, P> {
     /// The next egress of any lane, with the lane's number.

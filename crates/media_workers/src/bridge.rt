@@ -108,6 +108,18 @@ impl<N: PublisherName, P: Pace> Bridge<N, P> {
         self.ports[lane as usize].push(parcel)
     }
 
+    /// Gives a lane a parcel as `push` does, or hands it back if the lane's ring has no more than `free` places left.
+    /// So these are kept for other parcels.
+    pub fn push_leaving(&mut self, lane: u32, parcel: Parcel, free: usize) -> Result<(), Parcel>
+        requires lane { lane < length self.old }
+        requires fit { IsFit N.publisher parcel }
+        ensures ok { OnOk result ((port : PortOf _) → slice_get self.old lane ≡ Some port →
+            (port.closed ≡ false) × (self.new ≡ slice_set self.old lane (accept parcel port))) }
+        ensures err { IfErr result (λ back. (back ≡ parcel) × (self.new ≡ self.old)) }
+    {
+        self.ports[lane as usize].push_leaving(parcel, free)
+    }
+
     /// The next egress of any lane, with the lane's number. After the first `push_end` there is none.
     pub fn pop(&mut self) -> Option<(u32, Egress)>
         ensures lane { IfSome result (λ r. r.0 < length self.old) }

@@ -94,7 +94,7 @@ fn rings<N: PublisherName>(
     Ok((parcels, consumer, sink, egresses))
 }
 
-/// A flag, for two.
+/// A flag that isn't set, and a second handle of it.
 fn flags(alloc: Global) -> Result<(Arc<AtomicBool, Global>, Arc<AtomicBool, Global>), AllocError> {
     let flag = Arc::new(alloc, AtomicBool::new(false))?;
     let other = Arc::try_clone(&flag)?;
@@ -160,6 +160,26 @@ impl<N: PublisherName, P: Pace> Port<N, P> {
                 Ok(())
             }
             Err(PushError::Full(back)) => Err(back),
+        }
+    }
+
+    /// Whether the ring has more than `free` places left.
+    fn has_places(&mut self, free: usize) -> bool
+        ensures { self.new ≡ self.old }
+    {
+        self.parcels.cached_slots() > free || self.parcels.slots() > free
+    }
+
+    /// Gives the lane a parcel as `push` does, or hands it back if the ring has no more than `free` places left.
+    pub fn push_leaving(&mut self, parcel: Parcel, free: usize) -> Result<(), Parcel>
+        requires { IsFit N.publisher parcel }
+        ensures ok { OnOk result ((self.old.closed ≡ false) × (self.new ≡ accept parcel self.old)) }
+        ensures err { IfErr result (λ back. (back ≡ parcel) × (self.new ≡ self.old)) }
+    {
+        if self.has_places(free) {
+            self.push(parcel)
+        } else {
+            Err(parcel)
         }
     }
 
