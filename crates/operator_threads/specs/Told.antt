@@ -1,5 +1,5 @@
 -- What an operator at a shared desk is answered (own).
-use Rattle.std.specs.Prelude.{◌≡◌, ℕ, List}
+use Rattle.std.specs.Prelude.{◌≡◌, ◌≤◌, ℕ, List}
 use mathlib.Core.List.{IsPrefix}
 use Rattle.logbook.specs.Pages.{Book}
 use Rattle.desk_rows.specs.Desk.{Desk}
@@ -34,6 +34,10 @@ SeatReplies start publisher old new known call text =
     (answer : Answer) × IsAnswered start publisher old new call answer × (text ≡ answer_text answer)
     × IsKnown answer known
 
--- the rows after a legal log are told, and last their version
-abbrev pub SeatShows : Desk → List ℕ → Type 0
-SeatShows start text = (version : ℕ) × (rows : Desk) × IsCopy start version rows × (text ≡ show_text rows version)
+-- the rows after a legal log of this many calls are told, and last this version
+abbrev pub ShowsAt : Desk → ℕ → List ℕ → Type 0
+ShowsAt start version text = (rows : Desk) × IsCopy start version rows × (text ≡ show_text rows version)
+
+-- the rows of a version are told that is this one or a later one
+abbrev pub SeatShows : Desk → ℕ → List ℕ → Type 0
+SeatShows start least text = (version : ℕ) × (least ≤ version) × ShowsAt start version text

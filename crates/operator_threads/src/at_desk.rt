@@ -56,18 +56,19 @@ impl<'b, 'a, H: Hall, R: Wait, F: Rouse> AtDesk<'b, 'a, H, R, F> {
     }
 
     /// Appends the rows of one version, a line for each, and the version. An `Err` appends nothing. The rows are
-    /// printed anew if the desk has changed since they were printed last.
+    /// printed anew if those that were printed last are of an earlier version than `asked`.
     fn print(
         &self,
         alloc: Global,
         printed: &mut Printed<H>,
+        asked: u64,
         out: &mut Vec<u8>,
     ) -> Result<(), AllocError>
         ensures ok { OnOk result
-            (AppendsShown (λ desk text. SeatShows H.start text) self.now out.old.items out.new.items) }
+            (AppendsShown (λ desk text. SeatShows H.start asked text) self.now out.old.items out.new.items) }
         ensures err { OnErr result (out.new.items ≡ out.old.items) }
     {
-        printed.refresh(self.rt, alloc, &self.operators.desk)?;
+        printed.refresh(self.rt, alloc, &self.operators.desk, asked)?;
         printed.append(out)
     }
 
@@ -85,12 +86,13 @@ impl<'b, 'a, H: Hall, R: Wait, F: Rouse> AtDesk<'b, 'a, H, R, F> {
 }
 
 impl<'b, 'a, H: Hall, R: Wait, F: Rouse> LineDesk for AtDesk<'b, 'a, H, R, F> {
+    ghost use Rattle.std.specs.Prelude.{length};
     ghost use Rattle.operator_threads.specs.Told.{SeatReplies, SeatShows};
 
     ghost replies = { λ old new call text.
         SeatReplies H.start H.publisher old.taken.seat new.taken.seat new.known call text };
 
-    ghost shows = { λ desk text. SeatShows H.start text };
+    ghost shows = { λ desk text. SeatShows H.start (length desk.known.lists) text };
 
     fn reply(&mut self, alloc: Global, call: Call, out: &mut Vec<u8>) -> Result<(), AllocError> {
         let answer = self.answer_call(alloc, call);
@@ -98,8 +100,10 @@ impl<'b, 'a, H: Hall, R: Wait, F: Rouse> LineDesk for AtDesk<'b, 'a, H, R, F> {
     }
 
     fn show(&self, alloc: Global, out: &mut Vec<u8>) -> Result<(), AllocError> {
+        let published = self.operators.desk.notice(self.rt).version();
+        let asked = published.max(self.known.version());
         let mut printed = self.operators.printed.lock(self.rt);
-        let answer = self.print(alloc, &mut printed, out);
+        let answer = self.print(alloc, &mut printed, asked, out);
         MutexGuard::unlock(printed);
         answer
     }

@@ -60,7 +60,7 @@ impl<'a, H: Hall> Operators<'a, H> {
         u32::try_from(place?).ok()
     }
 
-    /// Gives back a reserved place for which no thread could be started.
+    /// Gives a reserved place back: its connection got no thread, or has ended.
     pub fn release<R: Wait>(&self, rt: &R, op: u32) {
         let mut places = self.places.lock(rt);
         places.release(op as usize);

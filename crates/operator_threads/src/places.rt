@@ -6,12 +6,15 @@ ghost use Rattle.operator_threads.specs.Places.{with_taken};
 
 use std::marker::Model;
 
+/// How many places there are at most: one for each operator that a desk may have.
+const PLACES: usize = 16;
+
 /// The places of operators, numbered from 0. Contracts see for each whether it is taken.
 #[derive(Drop)]
 pub(crate) struct Places {
     /// How many there are.
     count: usize,
-    taken: [bool; 16],
+    taken: [bool; PLACES],
 }
 
 impl Model for Places {
@@ -32,7 +35,7 @@ impl Places {
     {
         Self {
             count,
-            taken: [false; 16],
+            taken: [false; PLACES],
         }
     }
 

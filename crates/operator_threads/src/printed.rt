@@ -21,13 +21,13 @@ pub(crate) struct Printed<H: Hall> {
 
 impl<H: Hall> Model for Printed<H> {
     ghost use Rattle.std.specs.Prelude.{ℕ, List, IfSome};
-    ghost use Rattle.operator_threads.specs.Told.{SeatShows};
+    ghost use Rattle.operator_threads.specs.Told.{ShowsAt};
 
     ghost Value = { List ℕ };
 
     ghost view = { λ p. p.text.items };
 
-    ghost invariant = { λ p. IfSome p.version (λ version. SeatShows H.start p.text.items) };
+    ghost invariant = { λ p. IfSome p.version (λ version. ShowsAt H.start version p.text.items) };
 }
 
 impl<H: Hall> Printed<H> {
@@ -42,29 +42,44 @@ impl<H: Hall> Printed<H> {
         }
     }
 
-    /// Whether the lines are of this version.
-    fn is_of(&self, version: u64) -> bool
-        ensures { OnTrue result (SeatShows H.start self.now) }
+    /// Whether the lines are of this version, or of a later one.
+    fn is_since(&self, version: u64) -> bool
+        ensures { OnTrue result (SeatShows H.start version self.now) }
     {
         match self.version {
-            Some(printed) => printed == version,
+            Some(printed) => printed >= version,
             None => false,
         }
     }
 
-    /// Prints the rows of the version that is published now, unless they were printed last. The only error is out of
-    /// memory.
+    /// Prints the rows of the version that is published now, unless those that were printed last are of this version or
+    /// a later one, which was published when they were asked for. The only error is out of memory.
     pub fn refresh<R: Wait>(
         &mut self,
         rt: &R,
         alloc: Global,
         desk: &SharedDesk<'_, H>,
+        asked: u64,
     ) -> Result<(), AllocError>
-        ensures { OnOk result (SeatShows H.start self.new) }
+        ensures { OnOk result (SeatShows H.start asked self.new) }
     {
-        if self.is_of(desk.notice(rt).version()) {
-            return Ok(());
+        // It prints once at most. No clause of the desk says so.
+        for _ in rt.forever() {
+            if self.is_since(asked) {
+                return Ok(());
+            }
+            self.print_anew(rt, alloc, desk)?;
         }
+        unreachable!()
+    }
+
+    /// Prints the rows of the version that is published now. The only error is out of memory.
+    fn print_anew<R: Wait>(
+        &mut self,
+        rt: &R,
+        alloc: Global,
+        desk: &SharedDesk<'_, H>,
+    ) -> Result<(), AllocError> {
         let (version, rows) = desk.rows(rt, alloc)?;
         self.version = None;
         self.text.clear();

@@ -49,7 +49,8 @@ impl<'a, H: Hall> FreeSeats<'a, H> {
         TakenSeat { seat }
     }
 
-    /// Gives a seat back. It takes no memory if nothing was added meanwhile.
+    /// Gives a seat back. It takes no memory: the list has capacity for the seats that were taken from it. A seat
+    /// beyond those is lost.
     pub fn give(&mut self, taken: TakenSeat<'a, H>)
         ensures back { vec_len self.old.seats < vec_capacity self.old.seats
             → self.new.seats.items ≡ self.old.seats.items ++ taken.entry.seat ∷ [] }
