@@ -2,8 +2,9 @@
 //! sockets and sends what the lanes give.
 //!
 //! Begin with [`Front::bind`], then [`Front::run`]. It returns once an operator stops the bridge, with how many calls
-//! of each operator were accepted, and how many items were dropped for each lane. All decisions are in operator_threads
-//! and media_front: here are the sockets, and the loop that joins the rest. Contracts say nothing of sockets.
+//! of each operator were accepted, and how many items were dropped for each lane. What lines and datagrams lead to is
+//! decided in operator_threads and media_front. Here are the sockets, the loop that joins the rest, and when lanes are
+//! woken. Contracts say nothing of sockets.
 //!
 //! ```rust
 //! let front = Front::bind(&rt, settings(alloc, text)?)?; // text: the settings' file

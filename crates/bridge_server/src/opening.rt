@@ -1,12 +1,13 @@
 //! How a bridge begins and ends.
 
-ghost use Rattle.std.specs.Prelude.{◌≡◌, ◌≤◌, ◌+◌, true, vec_len, IfOk};
+ghost use Rattle.std.specs.Prelude.{◌≡◌, ◌↔◌, ◌≤◌, ◌+◌, true, map, vec_len, IfOk};
 ghost use Rattle.std.specs.List.{All};
 ghost use Rattle.intake.specs.Names.{is_name};
 ghost use Rattle.desk_rows.specs.Desk.{blank as no_rows};
 ghost use Rattle.versions.specs.Published.{ReaderOf};
 ghost use Rattle.bridge_core.specs.Calls.{most_lanes};
 ghost use Rattle.operator_desk.specs.Opening.{most_operators};
+ghost use Rattle.media_front.specs.FedLanes.{FedLane};
 
 use crate::calls::calls_of;
 use crate::front::{Front, WAKER};
@@ -90,7 +91,9 @@ where
 }
 
 /// The bridge's fault, if its desk doesn't start.
-fn desk_fault(fault: DeskFault) -> FrontFault {
+fn desk_fault(fault: DeskFault) -> FrontFault
+    ensures { (result ≡ FrontFault.OutOfMemory) ↔ (fault ≡ DeskFault.OutOfMemory) }
+{
     match fault {
         DeskFault::OutOfMemory => FrontFault::OutOfMemory,
         // Settings that were read never have these faults.
@@ -99,7 +102,9 @@ fn desk_fault(fault: DeskFault) -> FrontFault {
 }
 
 /// The bridge's fault, if its lanes don't start.
-fn start_fault(fault: StartFault) -> FrontFault {
+fn start_fault(fault: StartFault) -> FrontFault
+    ensures { (result ≡ FrontFault.OutOfMemory) ↔ (fault ≡ StartFault.OutOfMemory) }
+{
     match fault {
         StartFault::OutOfMemory => FrontFault::OutOfMemory,
         StartFault::Count | StartFault::Spawn => FrontFault::Io,
@@ -218,12 +223,23 @@ fn dropped_of<H, R>(alloc: Global, media: &ServerMedia<H, R>) -> Result<Vec<u64>
 where
     H: Hall,
     R: Wait + Drop,
+    ensures { IfOk result (λ dropped. dropped.items ≡ map (λ (x : FedLane _). x.dropped) media.now.feed) }
 {
     let mut dropped = Vec::new(alloc);
     for lane in 0..media.lanes() {
         dropped.push(media.dropped(lane))?;
     }
     Ok(dropped)
+}
+
+/// The bridge's fault, if the log can't be gathered.
+fn gather_fault(fault: GatherFault) -> FrontFault
+    ensures { (result ≡ FrontFault.OutOfMemory) ↔ (fault ≡ GatherFault.OutOfMemory) }
+{
+    match fault {
+        GatherFault::OutOfMemory => FrontFault::OutOfMemory,
+        GatherFault::SeatMissing { .. } | GatherFault::LogTaken => FrontFault::Io,
+    }
 }
 
 /// Ends the desk, and returns how many calls of each operator were accepted.
@@ -240,10 +256,7 @@ fn gather<'a, H: Hall, R: Wait>(
         Ok(log) => Ok(calls_of(alloc, count, &log)?),
         Err((desk, _seats, fault)) => {
             desk.end(rt);
-            Err(match fault {
-                GatherFault::OutOfMemory => FrontFault::OutOfMemory,
-                GatherFault::SeatMissing { .. } | GatherFault::LogTaken => FrontFault::Io,
-            })
+            Err(gather_fault(fault))
         }
     }
 }

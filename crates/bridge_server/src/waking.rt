@@ -6,7 +6,7 @@ use std::alloc::{AllocError, Global};
 use std::sync::Arc;
 use std::sync::atomic::{AtomicBool, Ordering};
 
-/// Ends the front's wait. An operator's thread does so after an accepted call.
+/// Ends the front's wait. An operator's thread does so after an accepted call, and after `stop`.
 #[derive(Drop)]
 pub(crate) struct FrontWaker(pub(crate) Arc<Waker, Global>);
 
