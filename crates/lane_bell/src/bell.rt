@@ -13,6 +13,13 @@ struct Rings {
     is_open: bool,
 }
 
+impl Rings {
+    /// Whether the lane may take so many parcels.
+    fn let_pass(&self, parcels: u64) -> bool {
+        self.parcels >= parcels || self.is_open
+    }
+}
+
 /// Wakes a lane. Ring it for each parcel that the lane is given, so that the lane can sleep until then.
 ///
 /// It is open at first: the lane then waits at its ring, and takes processor time until it has a parcel. So a lane gets
@@ -61,16 +68,16 @@ impl Bell {
     /// Whether it was rung for this many parcels, or is open.
     fn has_rung<R: Wait>(&self, rt: &R, parcels: u64) -> bool {
         let rings = self.rings.lock(rt);
-        let has_rung = rings.parcels >= parcels || rings.is_open;
+        let has_rung = rings.let_pass(parcels);
         MutexGuard::unlock(rings);
         has_rung
     }
 
     /// Sleeps until it was rung for this many parcels, or is open.
     fn wait<R: Wait>(&self, rt: &R, parcels: u64) {
-        let rings = self.rung.wait_while(rt, self.rings.lock(rt), |rings| {
-            rings.parcels < parcels && !rings.is_open
-        });
+        let rings = self
+            .rung
+            .wait_while(rt, self.rings.lock(rt), |rings| !rings.let_pass(parcels));
         MutexGuard::unlock(rings);
     }
 }
