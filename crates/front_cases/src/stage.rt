@@ -4,11 +4,11 @@ use crate::member::Members;
 use crate::operator::Operator;
 use crate::running::{Running, Start};
 use crate::text::numbered;
-use rtp_codec::Address;
 use std::alloc::{AllocGlobal, Global};
-use std::net::{IpAddr, Ipv4Addr, Net, SocketAddr, TcpStream};
+use std::net::{Net, SocketAddr, TcpStream};
 use std::thread;
 use std::time::{Clock, Duration};
+use udp_front::socket_address;
 
 /// How many turns an answer or a datagram may take: 6 s, where a report is due every 5 s.
 const TURNS: u32 = 1_200;
@@ -30,12 +30,6 @@ pub struct Stage {
     operators: [Option<Operator>; OPERATORS],
     /// The sockets of members, once there is one.
     pub members: Option<Members>,
-}
-
-/// An address as the system has it.
-pub fn socket_address(address: Address) -> SocketAddr {
-    let [a, b, c, d] = address.ip;
-    SocketAddr::new(IpAddr::V4(Ipv4Addr::new(a, b, c, d)), address.port)
 }
 
 /// Lets the bridge go on for so many turns.

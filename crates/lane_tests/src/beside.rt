@@ -8,7 +8,7 @@ use crate::beginning::begun;
 use crate::cast::{set_up, slot, streams, video};
 use crate::closing::are_handled;
 use crate::feed::frame_of;
-use crate::gathering::{Gathered, are_asked, are_in_order, asked_by, paces, settle};
+use crate::gathering::{Gathered, are_in_order, asked_by, paces, settle, wait_until};
 use crate::items::FitItem;
 use crate::many::tell_all;
 use crate::one_thread::OneThread;
@@ -26,7 +26,6 @@ use std::alloc::Global;
 use std::marker::Brand;
 use std::sync::{Arc, Wait};
 use std::test::*;
-use std::thread;
 use std::thread::{Threads, join};
 use versions::LaneReader;
 
@@ -40,7 +39,7 @@ const COUNT: u64 = 2_048;
 const BATCH: u64 = 64;
 
 /// How many frames a lane, and how many calls the operator, may be behind before a batch is given. A lane's ring has
-/// room for these and for the batch.
+/// places for these and for the batch.
 const BEHIND: u64 = 512;
 
 /// The version of the desk that is set up. It is a multiple of four.
@@ -72,17 +71,6 @@ fn call_at(version: u64) -> Command {
 /// The frame of this number: of member 3, whom slots of both lanes always show, and of member 1 in turn.
 fn frame(alloc: Global, number: u64) -> Option<FitItem> {
     frame_of(alloc, if number % 2 == 0 { 3 } else { 1 }, number)
-}
-
-/// Waits until each was asked so often.
-fn wait_until<R: Wait>(rt: &R, asked: &Vec<Arc<Asked, Global>>, times: u64) {
-    for _ in rt.forever() {
-        if are_asked(asked, times) {
-            return;
-        }
-        thread::yield_now();
-    }
-    unreachable!()
 }
 
 /// Makes all calls, each once the lanes have come as far. The last of those that are asked counts them, and one more

@@ -8,6 +8,7 @@ use crate::beginning::begun;
 use crate::cast::{set_up, slot, streams, video};
 use crate::feed::frame_of;
 use crate::gathering::Gathered;
+use crate::many::tell_all;
 use crate::one_thread::OneThread;
 use crate::paces::Free;
 use crate::running::{Ends, Running};
@@ -41,27 +42,19 @@ fn show_more() -> Command {
     })
 }
 
-/// Gives both lanes the frame of this number with the notice.
-fn give_both<N: PublisherName, P: Pace>(
+/// Gives each lane so many frames of member 3, each with the notice. False where one isn't accepted.
+pub fn give_frames<N: PublisherName, P: Pace>(
     alloc: Global,
     running: &mut Running<N, P>,
-    number: u64,
-    told: &Told<N>,
-) -> Option<bool> {
-    let first = frame_of(alloc, 3, number)?;
-    let second = first.copy(alloc)?;
-    let is_given = running.push(0, first.with(told.again())).is_ok();
-    Some(is_given && running.push(1, second.with(told.again())).is_ok())
-}
-
-/// Gives both lanes all frames.
-fn give_frames<N: PublisherName, P: Pace>(
-    alloc: Global,
-    running: &mut Running<N, P>,
+    frames: u64,
     told: &Told<N>,
 ) -> bool {
-    for number in 0..FRAMES {
-        if give_both(alloc, running, number, told) != Some(true) {
+    for number in 0..frames {
+        let is_given = match frame_of(alloc, 3, number) {
+            Some(item) => tell_all(alloc, running, &item, told),
+            None => false,
+        };
+        if !is_given {
             return false;
         }
     }
@@ -109,7 +102,7 @@ fn is_ended<N: PublisherName, P: Pace, R: Threads + Wait>(
 ) -> bool {
     let mut running = running;
     let mut gathered = Gathered::new(alloc);
-    let is_given = give_frames(alloc, &mut running, &told);
+    let is_given = give_frames(alloc, &mut running, FRAMES, &told);
     if is_given {
         for _ in 0..TAKEN {
             let (_, egress) = next(rt, &mut running);

@@ -3,9 +3,8 @@
 
 use crate::cast::{MEMBERS, slot, sound, video};
 use crate::items::FitItem;
-use crate::rows::address;
-use bridge_core::{Frame, FramePacket, Item, MediaFrame};
-use bytes::Bytes;
+use crate::rows::{address, packet};
+use bridge_core::{Frame, Item, MediaFrame};
 use rtcp_codec::ReportBlock;
 use std::alloc::Global;
 
@@ -40,15 +39,6 @@ pub fn frame_of(alloc: Global, member: u32, number: u64) -> Option<FitItem> {
 /// The moment of an item, in nanoseconds since 1970. There are 20 ms from tick to tick.
 fn moment(number: u64) -> u64 {
     number.wrapping_mul(625_000).wrapping_add(1_000_000_000)
-}
-
-fn packet(ext: i64, marker: bool, payload: &'static [u8]) -> FramePacket {
-    FramePacket {
-        ext,
-        marker,
-        pt: 100,
-        payload: Bytes::from_static(payload),
-    }
 }
 
 /// A frame of two packets.

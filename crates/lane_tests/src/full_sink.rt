@@ -5,8 +5,7 @@ ghost use Rattle.desk_rows.specs.Desk.{blank as no_rows};
 ghost use Rattle.versions.specs.Published.{new_reader};
 
 use crate::beginning::begun;
-use crate::closing::sets_up;
-use crate::feed::frame_of;
+use crate::closing::{give_frames, sets_up};
 use crate::paces::{Asked, Counted};
 use crate::running::Running;
 use crate::stage::OneDesk;
@@ -26,24 +25,6 @@ const RING_EGRESSES: u64 = 4_096;
 
 /// How many frames fill it. Each goes to four slots, in two packets.
 const FRAMES: u64 = RING_EGRESSES / 8;
-
-/// Gives the lane all frames. False where one isn't accepted.
-fn gives<N: PublisherName, P: Pace>(
-    alloc: Global,
-    running: &mut Running<N, P>,
-    told: &Told<N>,
-) -> bool {
-    for number in 0..FRAMES {
-        let is_given = match frame_of(alloc, 3, number) {
-            Some(item) => running.push(0, item.with(told.again())).is_ok(),
-            None => false,
-        };
-        if !is_given {
-            return false;
-        }
-    }
-    true
-}
 
 /// Waits until the lane asks its pace for an item behind all frames.
 fn wait_for_all<R: Wait>(rt: &R, asked: &Asked) {
@@ -75,7 +56,7 @@ fn is_full<N: PublisherName, P: Pace, R: Threads + Wait>(
     told: Told<N>,
 ) -> bool {
     let mut running = running;
-    let are_given = gives(alloc, &mut running, &told);
+    let are_given = give_frames(alloc, &mut running, FRAMES, &told);
     if are_given {
         wait_for_all(rt, asked);
     }

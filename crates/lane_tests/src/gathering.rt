@@ -69,14 +69,25 @@ pub fn paces(alloc: Global, asked: &Vec<Arc<Asked, Global>>) -> Option<Vec<Count
     Some(paces)
 }
 
-/// Whether each lane was asked so often.
-pub fn are_asked(asked: &Vec<Arc<Asked, Global>>, times: u64) -> bool {
+/// Whether each was asked so often.
+fn are_asked(asked: &Vec<Arc<Asked, Global>>, times: u64) -> bool {
     asked.iter().all(|asked| asked.times() >= times)
 }
 
 /// Whether each lane was asked for 1, 2, 3 and so on.
 pub fn are_in_order(asked: &Vec<Arc<Asked, Global>>) -> bool {
     asked.iter().all(|asked| asked.is_in_order())
+}
+
+/// Waits until each was asked so often.
+pub fn wait_until<R: Wait>(rt: &R, asked: &Vec<Arc<Asked, Global>>, times: u64) {
+    for _ in rt.forever() {
+        if are_asked(asked, times) {
+            return;
+        }
+        thread::yield_now();
+    }
+    unreachable!()
 }
 
 /// Takes what lanes send until each was asked so often, and all that they have sent then.

@@ -16,7 +16,7 @@ use crate::stage::OneDesk;
 use crate::streams::{Sort, has, is_beginning};
 use crate::told::{OfHall, Told};
 use bridge_core::Egress;
-use media_workers::PublisherName;
+use media_workers::{Pace, PublisherName};
 use operator_desk::{DeskNames, Hall, Log};
 use std::alloc::Global;
 use std::marker::Brand;
@@ -46,10 +46,10 @@ fn give_all<N: PublisherName>(
     true
 }
 
-/// Gives each lane a copy of an item with the notice.
-pub fn tell_all<N: PublisherName>(
+/// Gives each lane a copy of an item with the notice. False where one isn't accepted.
+pub fn tell_all<N: PublisherName, P: Pace>(
     alloc: Global,
-    running: &mut Running<N, Counted>,
+    running: &mut Running<N, P>,
     item: &FitItem,
     told: &Told<N>,
 ) -> bool {

@@ -5,7 +5,7 @@ ghost use Rattle.desk_rows.specs.Desk.{blank as no_rows};
 ghost use Rattle.versions.specs.Published.{new_reader};
 
 use crate::beginning::begun;
-use crate::gathering::{are_asked, asked_by, paces};
+use crate::gathering::{asked_by, paces, wait_until};
 use crate::items::FitItem;
 use crate::paces::{Asked, Counted};
 use crate::running::{Ends, Running};
@@ -21,17 +21,6 @@ use std::test::*;
 use std::thread;
 use std::thread::Threads;
 use versions::LaneReader;
-
-/// Waits until each lane was asked so often.
-fn wait_for<R: Wait>(rt: &R, asked: &Vec<Arc<Asked, Global>>, times: u64) {
-    for _ in rt.forever() {
-        if are_asked(asked, times) {
-            return;
-        }
-        thread::yield_now();
-    }
-    unreachable!()
-}
 
 /// Waits until the lane has ended.
 fn wait_for_end<N: PublisherName, P: Pace, R: Wait>(rt: &R, running: &Running<N, P>, lane: u32) {
@@ -76,7 +65,7 @@ fn is_refused<'a, H: Hall, N: PublisherName, P: Pace, R: Threads + Wait>(
     let first = running.push(0, FitItem::tick(1).alone::<N>()).is_ok();
     let second = running.push(1, FitItem::tick(1).alone::<N>()).is_ok();
     if first && second {
-        wait_for(rt, asked, 2);
+        wait_until(rt, asked, 2);
     }
     desk.end(rt);
     let third = running.push(0, FitItem::tick(5).alone::<N>()).is_ok();

@@ -66,7 +66,8 @@ pub fn unmute() -> Command {
     Command::Unmute { source: 101 }
 }
 
-fn packet(ext: i64, marker: bool, payload: &'static [u8]) -> FramePacket {
+/// A packet of a frame. Its payload type is 100.
+pub fn packet(ext: i64, marker: bool, payload: &'static [u8]) -> FramePacket {
     FramePacket {
         ext,
         marker,

@@ -5,7 +5,7 @@ ghost use Rattle.desk_rows.specs.Desk.{blank as no_rows};
 ghost use Rattle.versions.specs.Published.{new_reader};
 
 use crate::beginning::begun;
-use crate::items::FitItem;
+use crate::many::tell_all;
 use crate::paces::Together;
 use crate::rows::{FIRST, SECOND, frame, set_up};
 use crate::running::{Ends, Running};
@@ -23,21 +23,6 @@ use std::test::*;
 use std::thread;
 use std::thread::Threads;
 use versions::LaneReader;
-
-/// Gives both lanes a copy of an item with the notice. False where a ring is full.
-fn tell_both<N: PublisherName, P: Pace>(
-    alloc: Global,
-    running: &mut Running<N, P>,
-    item: FitItem,
-    told: Told<N>,
-) -> bool {
-    let Some(copy) = item.copy(alloc) else {
-        return false;
-    };
-    let first = running.push(0, copy.with(told.again())).is_ok();
-    let second = running.push(1, item.with(told)).is_ok();
-    first && second
-}
 
 /// The next two egresses with their lanes, for which it waits.
 fn next_two<N: PublisherName, P: Pace, R: Wait>(
@@ -99,7 +84,7 @@ fn are_together<N: PublisherName, P: Pace, R: Threads + Wait>(
 ) -> bool {
     let mut running = running;
     let is_told = match frame(alloc) {
-        Some(item) => tell_both(alloc, &mut running, item, told),
+        Some(item) => tell_all(alloc, &mut running, &item, &told),
         None => false,
     };
     if !is_told {
