@@ -1,7 +1,8 @@
 """Compares what the bridge says of mutated input with readers of its own.
 
 INPUT is one of
-  datagrams   RTP packets and RTCP compounds, by `rx` lines of `replay`
+  datagrams   RTP packets and RTCP compounds, by `rx` lines of `replay`: whether each is read, or its first fault
+  fields      these, by the program of crates/codec_cases: each field that is read, and what compounds are written as
   lines       operators' lines, over a connection to a served bridge
   settings    TOML texts, by the program of crates/front_cases
 
@@ -18,11 +19,14 @@ import tempfile
 
 from lib.models.codec import Dropped, read_rtcp, read_rtp
 from lib.models.lines import fault_of_line, settings_of
+from lib.models.told import told_of
 from lib.serving import settings, started
 from lib.shared import CRATES, add_program, fail, release_program
 
-NEEDS = "the program, of front_cases for settings; 25 s a million"
+NEEDS = "the program, of codec_cases for fields and of front_cases for settings; 25 s a million"
 
+# The programs that answer, where it isn't the bridge's.
+PROGRAMS = {"fields": "codec_cases", "settings": "front_cases"}
 BATCH = 20_000
 MOST_SHOWN = 20
 TELLING = [0, 1, 2, 3, 7, 8, 31, 32, 127, 128, 129, 192, 200, 201, 202, 203, 204, 205, 206, 207, 223, 224, 254, 255]
@@ -31,7 +35,7 @@ TOML = b' \t\n\r"\'=.[]{},#_+-:\\0123456789abcdefxounitrlsTZ\xc3\xa9'
 
 
 def options(parser):
-    parser.add_argument("input", choices=["datagrams", "lines", "settings"], metavar="INPUT")
+    parser.add_argument("input", choices=["datagrams", "fields", "lines", "settings"], metavar="INPUT")
     parser.add_argument("--count", type=int, default=1_000_000, help="how many inputs (%(default)s)")
     parser.add_argument("--seed", type=int, default=1)
     parser.add_argument("--jobs", type=int, default=1, help="on how many processors at once (%(default)s)")
@@ -86,10 +90,31 @@ def said_of_datagram(data):
     return "rx dropped Unknown"
 
 
-def datagrams(draw, count, program):
+def datagrams_like(draw, count):
+    """Lists of datagrams that are changed cases of the codecs."""
     texts = [path.read_text() for path in (CRATES / "codec_cases" / "data").glob("*.txt")]
     corpus = [bytes.fromhex(word) for text in texts for word in re.findall(r"\b(?:[0-9a-f]{2}){8,400}\b", text)]
-    for data in batches(count, lambda: mutant(draw, corpus, TELLING) or b"\x80"):
+    return batches(count, lambda: mutant(draw, corpus, TELLING) or b"\x80")
+
+
+def fields(draw, count, program):
+    with tempfile.NamedTemporaryFile("w", suffix=".txt") as cases:
+        for data in datagrams_like(draw, count):
+            cases.seek(0)
+            cases.truncate()
+            wanted = [told_of(it) for it in data]
+            cases.writelines(f"datagram {it.hex()} => {says}\n" for it, says in zip(data, wanted))
+            cases.flush()
+            run = subprocess.run([program], input=f"{cases.name}\n", capture_output=True, text=True, check=False)
+            *said, last = run.stdout.splitlines() or [""]
+            if run.returncode or not last.startswith(f"{len(data)} cases, "):
+                fail(f"status {run.returncode} after {len(data)} cases, and last {last!r}; the first: {data[0].hex()}")
+            got = {int(at): text for text in "\n".join(said).split(f"{cases.name}:") for at in re.findall(r"^([0-9]+): ", text)}
+            yield [it.hex() for it in data], wanted, [got.get(at, says) for at, says in enumerate(wanted, 1)]
+
+
+def datagrams(draw, count, program):
+    for data in datagrams_like(draw, count):
         script = "".join(f"rx 0 9.9.9.9:9 {it.hex()}\n" for it in data)
         run = subprocess.run([program, "replay"], input=script, capture_output=True, text=True, check=False)
         yield [it.hex() for it in data], [said_of_datagram(it) for it in data], run.stdout.splitlines()
@@ -195,7 +220,7 @@ def batches(count, made, size=BATCH):
 
 def tried(kind, seed, count, program):
     """Tries so many inputs. The first differences, and how many there are."""
-    kinds = {"datagrams": datagrams, "lines": lines, "settings": texts}
+    kinds = {"datagrams": datagrams, "fields": fields, "lines": lines, "settings": texts}
     told, differ = [], 0
     for data, wanted, got in kinds[kind](random.Random(seed), count, program):
         if len(got) != len(data):
@@ -207,7 +232,7 @@ def tried(kind, seed, count, program):
 
 
 def run(args):
-    program = release_program(args.binary, "front_cases" if args.input == "settings" else "confbridge")
+    program = release_program(args.binary, PROGRAMS.get(args.input, "confbridge"))
     counts = [args.count // args.jobs + (job < args.count % args.jobs) for job in range(args.jobs)]
     with concurrent.futures.ProcessPoolExecutor(args.jobs) as pool:
         parts = [pool.submit(tried, args.input, f"{args.seed} {job}", count, program) for job, count in enumerate(counts)]

@@ -25,18 +25,20 @@ def read_rtp(d):
     if d[0] >> 6 != 2:
         raise rtp_fault(2)
     at = 12 + 4 * (d[0] & 15)
+    csrcs, extension, padding = d[12:at], None, 0
     if len(d) < at:
         raise rtp_fault(3)
     if d[0] & 16:
         if len(d) < at + 4 or len(d) < at + 4 + 4 * number(d[at + 2 : at + 4]):
             raise rtp_fault(4)
-        at += 4 + 4 * number(d[at + 2 : at + 4])
-    end = len(d)
+        extension = d[at : at + 4 + 4 * number(d[at + 2 : at + 4])]
+        at += len(extension)
     if d[0] & 32:
-        if not 1 <= d[-1] <= end - at:
+        padding = d[-1]
+        if not 1 <= padding <= len(d) - at:
             raise rtp_fault(5)
-        end -= d[-1]
-    return dict(marker=d[1] >> 7, pt=d[1] & 127, seq=number(d[2:4]), ts=number(d[4:8]), ssrc=number(d[8:12]), payload=d[at:end])
+    fields = dict(marker=d[1] >> 7, pt=d[1] & 127, seq=number(d[2:4]), ts=number(d[4:8]), ssrc=number(d[8:12]))
+    return dict(fields, csrcs=csrcs, extension=extension, payload=d[at : len(d) - padding], padding=padding)
 
 
 def after_items(body, at):
