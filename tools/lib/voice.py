@@ -3,14 +3,14 @@
 import socket
 import time
 
-from lib.packets import is_rtcp, payload_of, rtp, ssrc_of
+from lib.packets import is_rtcp, number, payload_of, rtp, ssrc_of
 from lib.serving import port_of, udp_socket
 
 VOICE, MIX = 1000, 100001
 # A packet of sound has one of so many samples, by its number.
 TONES = 96
-# A packet goes out each so many seconds.
-EACH = 0.02
+# A packet goes out each so many seconds, with so many samples.
+EACH, SAMPLES = 0.02, 160
 
 
 def sized(octets):
@@ -48,7 +48,7 @@ class Voice:
         while now - self.begun >= EACH * len(self.sent):
             at = len(self.sent)
             self.sent.append(now)
-            self.speaker.sendto(rtp(at, 160 * at, VOICE, bytes([0x80 + at % TONES]) * 160, pt=0), self.to)
+            self.speaker.sendto(rtp(at, SAMPLES * at, VOICE, bytes([0x80 + at % TONES]) * SAMPLES, pt=0), self.to)
         for one, keep in (self.listener, True), (self.speaker, False):
             try:
                 while True:
@@ -74,6 +74,10 @@ class Voice:
         """How long after it was sent each packet of sound was heard that came in a time, sorted."""
         last = [(moment, payload_of(octets)[-1]) for moment, octets in self.got[MIX] if span[0] <= moment < span[1]]
         return sorted(self.age(moment, sample) for moment, sample in last if 0x80 <= sample < 0x80 + TONES)
+
+    def lateness(self, span):
+        """When each packet of sound came, by its timestamp, that came in a time: the lower, the earlier. Sorted."""
+        return sorted(moment - number(octets[4:8]) / SAMPLES * EACH for moment, octets in self.got[MIX] if span[0] <= moment < span[1])
 
     def age(self, moment, sample):
         """How long before a moment the latest packet with this sample was sent."""

@@ -2,6 +2,8 @@
 enum { RECEIVERS = 16, ROOM = 64, VIDEO = 1100, SAMPLES = 160, MIX = 12 + 15 * 4 + SAMPLES };
 
 static pid_t server;
+/* What the bridge says on its standard error. */
+static int told_at = -1;
 static struct sockaddr_in udp, tcp;
 static int desk = -1;
 
@@ -51,6 +53,7 @@ static void start_bridge(const char *binary)
         _exit(127);
     }
     close(ends[1]);
+    told_at = ends[0];
     do {
         ssize_t n = read(ends[0], told + had, sizeof told - 1 - had);
         if (n <= 0)
@@ -100,10 +103,15 @@ static void accepted(const char *line)
 
 static void stop_bridge(void)
 {
+    char told[4096];
+    ssize_t n;
     int status;
     dprintf(desk, "stop\n");
+    while ((n = read(told_at, told, sizeof told)) > 0)
+        printf("%.*s", (int)n, told);
     waitpid(server, &status, 0);
     close(desk);
+    close(told_at);
     server = 0;
     if (!WIFEXITED(status) || WEXITSTATUS(status))
         die("the bridge didn't end well");

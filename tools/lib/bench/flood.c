@@ -104,6 +104,26 @@ static size_t nacks(uint8_t *at, int *from)
     return size;
 }
 
+/* Receiver reports of 31 blocks, as many as fit, and one of the blocks that still fit. */
+static size_t blocks(uint8_t *at, int *from)
+{
+    size_t size = 0;
+    *from = floods[0];
+    memset(at, 0, 8192);
+    while (8192 - size >= 8 + 24) {
+        unsigned fit = (8192 - size - 8) / 24;
+        fit = fit < 31 ? fit : 31;
+        put32(at + size, 0x80c90000 | fit << 24 | (1 + 6 * fit));
+        put32(at + size + 4, 9);
+        for (size_t end = size + 8 + 24 * fit, block = size + 8; block < end; block += 24) {
+            put32(at + block, 502);
+            put32(at + block + 8, shared->number - drawn(RING));
+        }
+        size += 8 + 24 * fit;
+    }
+    return size;
+}
+
 /* A receiver report without blocks, and as many lost pictures as the bridge passes on in 20 ms. */
 static size_t pictures(uint8_t *at, int *from)
 {
@@ -143,6 +163,14 @@ static size_t open_frames(uint8_t *at, int *from)
     return 212;
 }
 
+/* The same, of the largest packets that the bridge takes. */
+static size_t large_frames(uint8_t *at, int *from)
+{
+    open_frames(at, from);
+    memset(at + 212, 7, 8192 - 212);
+    return 8192;
+}
+
 /* The largest jumps that the bridge follows: each asks it for all numbers between. */
 static size_t gaps(uint8_t *at, int *from)
 {
@@ -156,7 +184,8 @@ static size_t gaps(uint8_t *at, int *from)
 
 static const struct { const char *name; size_t (*next)(uint8_t *, int *); } kinds[] = {
     {"strangers", from_strangers}, {"noise", from_member}, {"sources", unknown_sources}, {"asks", asks}, {"nacks", nacks},
-    {"pictures", pictures}, {"restarts", restarts}, {"open-frames", open_frames}, {"gaps", gaps},
+    {"blocks", blocks}, {"pictures", pictures}, {"restarts", restarts}, {"open-frames", open_frames},
+    {"large-frames", large_frames}, {"gaps", gaps},
 };
 
 static void flood(size_t (*next)(uint8_t *, int *), long rate)
@@ -182,7 +211,7 @@ static void flood(size_t (*next)(uint8_t *, int *), long rate)
 /* The call, and what is known of it. */
 static uint8_t kept[RING][12 + PICTURE];
 static unsigned next_number;
-static long reached, came, came_then, sounds, mixed, up_octets, down_octets;
+static long reached, came, came_then, sounds, mixed, up_octets, report_octets, down_octets;
 static uint8_t had[65536];
 static double late[MOST_TICKS];
 static long ticks;
@@ -263,7 +292,7 @@ static void flood_hears(int one)
     ssize_t n;
     while ((n = recv(one, octets, sizeof octets, MSG_DONTWAIT)) > 0) {
         int is_control = n > 1 && octets[1] >= 192 && octets[1] <= 223;
-        up_octets += is_control && asks_for(octets, n) ? n : 0;
+        *(asks_for(octets, n) ? &up_octets : &report_octets) += is_control ? n : 0;
         down_octets += is_control ? 0 : n;
         if (!is_control && n >= 12 && get32(octets + 8) == 502)
             shared->number = octets[2] << 8 | octets[3];
@@ -342,7 +371,17 @@ static double lateness(double share)
     return ticks ? (late[(long)((ticks - 1) * share)] - late[0]) * 1e3 : -1;
 }
 
-static void hold(double seconds)
+/* How many milliseconds the last mix is late, after the earliest. */
+static double late_now(void)
+{
+    double earliest = ticks ? late[0] : 0;
+    for (long i = 0; i < ticks; i++)
+        earliest = late[i] < earliest ? late[i] : earliest;
+    return ticks ? (late[ticks - 1] - earliest) * 1e3 : -1;
+}
+
+/* Whether the call is as it should be, so many seconds long. */
+static int held(double seconds)
 {
     double begun = seconds_now(), minute = begun;
     long early = 0, now = 0;
@@ -356,8 +395,9 @@ static void hold(double seconds)
             minute = seconds_now();
             now = resident(server);
             early = early ? early : now;
-            printf("after %.0f s: VmRSS %ld kB, processor %.2f s, %ld datagrams of the flood, %ld lost before the bridge\n",
-                   minute - begun, now, processor(server, 0), shared->datagrams, dropped());
+            printf("after %.0f s: VmRSS %ld kB, processor %.2f s, the last mix %.1f ms late, %ld datagrams of the flood, %ld lost before the "
+                   "bridge\n",
+                   minute - begun, now, processor(server, 0), late_now(), shared->datagrams, dropped());
             fflush(stdout);
         }
     }
@@ -366,11 +406,10 @@ static void hold(double seconds)
     printf("call: %u packets sent, %ld reached the bridge by its last report, %ld of them came (%.2f%%)\n", next_number, reached, came_then,
            share);
     printf("ticks: %ld, late by %.1f ms (median), %.1f (99th percentile), %.1f (most)\n", ticks, lateness(0.5), lateness(0.99), lateness(1));
-    printf("flood: %ld octets in; out for it %ld octets of control (%.3f for one) and %ld of packets (%.3f)\n", shared->octets,
-           up_octets, up, down_octets, shared->octets ? (double)down_octets / shared->octets : 0);
+    printf("flood: %ld octets in; out for it %ld octets of control (%.3f for one) and %ld of packets (%.3f); beside it %ld of reports\n",
+           shared->octets, up_octets, up, down_octets, shared->octets ? (double)down_octets / shared->octets : 0, report_octets);
     /* A mix comes for each packet of sound, 60 ms after it. */
-    int holds = share >= 99 && sounds > 0 && mixed + 3 >= 0.99 * sounds && lateness(0.99) <= 10 && up_octets <= 1.5 * shared->octets + 256 * (2 + STRANGERS) && now <= early * 1.05 + 1024;
-    printf("%s\n", holds ? "held" : "NOT HELD");
+    return share >= 99 && sounds > 0 && mixed + 3 >= 0.99 * sounds && lateness(0.99) <= 10 && up_octets <= 1.5 * shared->octets + 256 * (2 + STRANGERS) && now <= early * 1.05 + 1024;
 }
 
 int main(int count, char **words)
@@ -392,15 +431,16 @@ int main(int count, char **words)
     for (int i = 0; i < STRANGERS; i++)
         strangers[i] = udp_socket(&strangers_at[i]);
     start_bridge(words[1]);
-    set_call(next == open_frames);
+    set_call(next == open_frames || next == large_frames);
     pid_t child = atol(words[4]) ? fork() : -1;
     if (child == 0)
         flood(next, atol(words[4]));
-    hold(atof(words[3]));
+    int holds = held(atof(words[3]));
     if (child > 0) {
         kill(child, SIGKILL);
         waitpid(child, 0, 0);
     }
     stop_bridge();
+    printf("%s\n", holds ? "held" : "NOT HELD");
     return 0;
 }

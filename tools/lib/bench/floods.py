@@ -6,9 +6,11 @@ FLOOD is one of
   sources      good RTP packets from a member, each with a random SSRC
   asks         compounds of 8,192 octets from a receiver: 31 blocks, 100 PLIs, and NACKs of numbers in and out of its window
   nacks        compounds of 8,184 octets from a receiver: 511 NACKs of one number, in and out of its window
+  blocks       compounds of 8,176 octets from a receiver: 337 report blocks
   pictures     compounds of 64 PLIs from a receiver, which the bridge passes on to the call's sender
   restarts     two members whose video restarts at every second packet
   open-frames  packets of 2,044 video sources, none of which ends a frame
+  large-frames the same, of 8,192 octets each
   gaps         packets of one octet of which each asks the bridge for the 249 numbers before it
 
 A flood holds where at least 99 in 100 of the call's packets that reached the bridge come to the listener, the ticks are late by
@@ -32,9 +34,11 @@ RATES = {
     "sources": 200_000,
     "asks": 1_000,
     "nacks": 1_000,
+    "blocks": 1_000,
     "pictures": 50,
     "restarts": 20_000,
     "open-frames": 50_000,
+    "large-frames": 12_000,
     "gaps": 20_000,
 }
 

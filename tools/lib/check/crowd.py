@@ -16,6 +16,7 @@ have no gap, and no item was dropped for a lane. The status is 0 where all is so
 
 import contextlib
 import multiprocessing
+import pathlib
 import re
 import selectors
 import socket
@@ -205,6 +206,11 @@ def asked(operator, connection, crowd, thread, accepted):
     return sorted(took), sorted(rows)
 
 
+def resident(bridge):
+    """The memory of a bridge in MB."""
+    return int(re.search(r"VmRSS:\s+([0-9]+)", pathlib.Path(f"/proc/{bridge.pid}/status").read_text())[1]) / 1000
+
+
 def told_of(name, took, rows, accepted, crowd, heard, sent):
     """Prints how it went. Whether all is as it should be."""
     numbers = sorted(accepted + crowd.accepted)
@@ -246,10 +252,12 @@ def held(program, name, args):
             operator = Operator(connection)
             count = fill(operator, full_desk(64, short=2)) if name == "unread" else 0
             accepted = list(range(1, count + 1 + fill(operator, pair.lines())))
+            before = resident(bridge)
             crowd = Crowd(name, port, args.seconds)
             pair.begin(udp)
             took, rows = asked(operator, connection, name, crowd.thread, accepted)
             is_well = told_of(name, took, rows, accepted, crowd, pair.end(), pair.sent)
+            print(f"  memory {before:.0f} MB before the crowd, {resident(bridge):.0f} MB behind it", flush=True)
             operator.tell("stop")
         return ended(name, bridge, len(accepted) + len(crowd.accepted)) and is_well
 

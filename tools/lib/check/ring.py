@@ -3,8 +3,8 @@
 A member sends sound, and video that 32 members see 16 times each. For some seconds it sends more frames than the bridge can send
 on, so that the rings fill and items are dropped. Another member sees the video once and hears the sound. At its end the bridge
 has to say of a lane that items were dropped. All that this member was sent has to be in order, without a gap in a stream's
-numbers. Behind the load it has to see each frame and hear all sound again, no later than before the load. Last, the bridge is stopped
-under the load, and the tool prints how long it takes to end.
+numbers. Behind the load it has to see each frame and hear all sound again, no later than before the load, by when it was sent and by
+its timestamps. Last, the bridge is stopped under the load, and the tool prints how long it takes to end.
 """
 
 import socket
@@ -81,6 +81,11 @@ def held(room, args):
     return before, room.go_on(LOOKED_AT), emptied - end
 
 
+def fallen_behind(before, behind):
+    """How many seconds sound comes later than before, by its timestamps: 20 ms for each tick that its lane has missed."""
+    return behind[len(behind) // 2] - before[len(before) // 2] if before and behind else 0
+
+
 def faults_of(room, before, behind, dropped):
     """What is wrong."""
     for stream, name in (SHOWN, "video"), (MIX, "sound"):
@@ -91,6 +96,9 @@ def faults_of(room, before, behind, dropped):
     worse = heard_worse(room.delays(before), room.delays(behind), LOOKED_AT)
     if worse:
         yield f"behind the load {worse}"
+    missed = fallen_behind(room.lateness(before), room.lateness(behind))
+    if missed > 0.01:
+        yield f"by its timestamps sound comes {missed * 1e3:.0f} ms later than before the load"
     if not any(dropped.values()):
         yield "no ring was full: take a higher --rate"
 
