@@ -44,6 +44,8 @@ impl Caller {
         let events = Events::with_capacity(alloc, EVENTS)?;
         let interest = Interest::READABLE | Interest::WRITABLE;
         poll.registry().register(&mut stream, Token(0), interest)?;
+        // An answer's last octets don't wait until what went before them is acknowledged, which may take 40 ms.
+        stream.set_nodelay(true)?;
         let mut chunk = Vec::new(alloc);
         chunk.resize(CHUNK, 0)?;
         Ok(Self {
