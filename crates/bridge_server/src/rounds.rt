@@ -24,6 +24,9 @@ const LONGEST_WAIT: u64 = 5;
 /// call waits long for them.
 const DATAGRAMS: u32 = 64;
 
+/// From how many nanoseconds without a tick on the bridge stood still: 1 s, whose 50 ticks it makes up for.
+const STOOD_STILL: u64 = 1_000_000_000;
+
 /// The media of a bridge in hall H, on a runtime R.
 pub(crate) type ServerMedia<H, R> = MediaFront<PublisherOf<H>, Rung<R, LaneWaker>>;
 
@@ -35,6 +38,8 @@ pub(crate) struct Rounds<H: Hall, R: Wait + Drop> {
     /// It is taken out while the desk is entered.
     pub(crate) reader: Option<LaneReader>,
     pub(crate) media: ServerMedia<H, R>,
+    /// When the ticks that were due were given last, in nanoseconds since 1970.
+    pub(crate) ticked: u64,
     /// The last round sent as much as a round may, so that more may wait.
     pub(crate) is_behind: bool,
     /// Lanes wake the front while it is set.
@@ -113,12 +118,16 @@ impl<H: Hall + Send + Sync + 'static, R: Wait + Clock + Copy + Send + Drop + 'st
         Ok(())
     }
 
-    /// Takes in the next datagram, if one waits.
+    /// Takes in the next datagram, if one waits. Where the bridge stood still for over a second, the ticks that it
+    /// makes up for go first, so that they don't run past the sound that waits.
     fn take_datagram(&mut self, rt: &R, rows: &Rows) -> Result<(), FrontFault> {
         let Read::Datagram { from, octets } = self.sockets.read()? else {
             return Ok(());
         };
         let moment = self.moments.now(rt)?;
+        if moment.saturating_sub(self.ticked) > STOOD_STILL {
+            self.tick_at(moment);
+        }
         let (octets, mut wire) = self.sockets.parts(octets);
         self.media
             .datagram(self.alloc, rows, &from, moment, octets, &mut wire)?;
@@ -137,7 +146,13 @@ impl<H: Hall + Send + Sync + 'static, R: Wait + Clock + Copy + Send + Drop + 'st
     /// Gives each lane the ticks that are due.
     fn tick(&mut self, rt: &R) -> Result<(), FrontFault> {
         let now = self.moments.now(rt)?;
-        self.media.tick(now);
+        self.tick_at(now);
         Ok(())
+    }
+
+    /// Gives each lane the ticks that are due at this moment.
+    fn tick_at(&mut self, now: u64) {
+        self.media.tick(now);
+        self.ticked = now;
     }
 }
