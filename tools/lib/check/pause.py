@@ -1,7 +1,8 @@
 """Lets a bridge stand still for a while, as a machine that is paused does, and looks at what members hear afterwards.
 
 The bridge is stopped and continued by signals, for each of some times, while a member goes on sending sound. Two seconds after it
-goes on, another member has to hear all sound again, no later than before the pause.
+goes on, another member has to hear all sound again, no later than before the pause. Behind pauses of one to three seconds it is heard
+later, so that the status is 1 where these are tried.
 """
 
 import os
