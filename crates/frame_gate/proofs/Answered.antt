@@ -4,20 +4,18 @@ use Rattle.std.specs.Prelude.{is_some, unwrap_or}
 use Rattle.std.specs.Option.{option_copied}
 use Rattle.std.proofs.Common.{Bor}
 use Rattle.std.proofs.lemmas.Bool.Decides.{nat_tests}
-use Rattle.std.proofs.lemmas.List.Sums.{fold-append}
 use Rattle.frame_gate.specs.Packets.{NumberedPacket, ext_of}
 use Rattle.frame_gate.specs.Frame.{WholeFrame}
 use Rattle.frame_gate.specs.declared.packet.Place.{Place}
 use Rattle.frame_gate.specs.declared.packet.Place.TheVariants.{Taken, Late, Duplicate}
 use Rattle.frame_gate.specs.declared.walk.Walk.{Walk}
-use Rattle.frame_gate.specs.Answer.{Answer}
 use Rattle.frame_gate.specs.Runs.{divided, frames_in, row}
 use Rattle.frame_gate.specs.inner.Cells.{held, of_number, ArePlaced, MayForget, Forgets}
 use Rattle.frame_gate.specs.inner.Walks.{Stands}
-use Rattle.frame_gate.specs.Epochs.{Epoch, blank, packet_at, greatest, next_of, frames_of, placed, resynced, opened, place_of, taking, if_taken, epoch_after, epoch_of, top, missing_above}
+use Rattle.frame_gate.specs.Epochs.{Epoch, packet_at, greatest, next_of, frames_of, placed, resynced, opened, place_of, taking, if_taken, epoch_after, top, missing_above}
 use Rattle.frame_gate.specs.inner.Ties.{Tied, begun_at}
 use Rattle.frame_gate.specs.inner.Kept.{Kept, PreparedOf}
-use Rattle.frame_gate.specs.Admits.{IsAt, Answers, Admits, Takes, CommitsAt, Commits}
+use Rattle.frame_gate.specs.Admits.{IsAt, Answers, Takes, CommitsAt, Commits}
 use Rattle.std.proofs.lemmas.Bool.{cases_lt}
 use Rattle.frame_gate.proofs.Newcomers.{placed-set, from-set}
 use Rattle.frame_gate.proofs.Forgetting.{tied-alike, held-kept, held-placed, left_over, left_from}
@@ -82,7 +80,7 @@ place_by e p b h is =
     ap (λ x. cond x Late (cond (is_some (packet_at e.taken p.number)) Duplicate Taken)) f ∙ ap (λ x. cond x Duplicate Taken) is
 
 -- the same walk, with all frames given already
-rebased : (at : ℕ → Option NumberedPacket) (given : List WholeFrame) (e : Epoch) (w : Walk) (out : List WholeFrame) → Tied at given e w out → Tied at (frames_of e) e w []
+pub rebased : (at : ℕ → Option NumberedPacket) (given : List WholeFrame) (e : Epoch) (w : Walk) (out : List WholeFrame) → Tied at given e w out → Tied at (frames_of e) e w []
 rebased at given e w out h = record {
   stands = record {
     after = h.stands.after;
@@ -158,15 +156,6 @@ something_new k new e p r walk h begun above over long free tied nacks pli place
       | inl lt ↦ lt
       | inr far ↦ absurd (let x : Some q ≡ None = sym there ∙ tied.agrees q.number from ∙ tied.behind q.number far in cc)
     ]
-
-pub epoch_of-push : (before : List NumberedPacket) (p : NumberedPacket) → epoch_of (before ++ p ∷ []) ≡ epoch_after (epoch_of before) p
-epoch_of-push before p = fold-append epoch_after blank before (p ∷ [])
-
--- what holds of the epoch holds of the packets
-pub admits : (k new : Kept) (p : NumberedPacket) (a : Answer) → ((e : Epoch) → IsAt k e → Answers e p a × IsAt new (epoch_after e p)) → Admits k new p a
-admits k new p a f before h =
-    let x = f (epoch_of before) h in
-    (x.0, subst (IsAt new) (sym (epoch_of-push before p)) x.1)
 
 pub none_there : {X : Type 0} (o : Option X) → is_some o ≡ false → o ≡ None
 none_there None h = refl

@@ -1,6 +1,6 @@
 -- What a gate answers.
-use Rattle.std.specs.Prelude.{◌≡◌, ℕ, ◌+◌, ◌<◌, ◌≤◌, ◌%◌, max, List, [], ◌∷◌, ◌++◌, None, Some, slice_set, unwrap_or}
-use Rattle.frame_gate.specs.Packets.{NumberedPacket}
+use Rattle.std.specs.Prelude.{◌≡◌, ℕ, ℤ, ◌+◌, ◌<◌, ◌≤◌, ◌%◌, max, false, List, [], ◌++◌, map, Option, None, Some, slice_set, unwrap_or}
+use Rattle.frame_gate.specs.Packets.{NumberedPacket, ext_of}
 use Rattle.frame_gate.specs.Answer.{Answer}
 use Rattle.frame_gate.specs.declared.walk.Walk.{Walk}
 use Rattle.frame_gate.specs.declared.packet.Place.{Place}
@@ -8,7 +8,8 @@ use Rattle.frame_gate.specs.declared.packet.Place.TheVariants.{Taken, Late, Dupl
 use Rattle.frame_gate.specs.inner.Cells.{held, cell, ArePlaced, MayForget, Forgets}
 use Rattle.frame_gate.specs.Epochs.{Epoch, gate_size, epoch_of, epoch_after, frames_of, place_of, nacks_of, gives_up, top}
 use Rattle.frame_gate.specs.inner.Ties.{Tied}
-use Rattle.frame_gate.specs.inner.Kept.{Kept, PreparedOf}
+use Rattle.frame_gate.specs.inner.Kept.{Kept, PreparedOf, PreparedCutsOf}
+use Rattle.frame_gate.specs.GivenUp.{given_up, GaveUp, AnswersGivingUp, missing_in}
 
 -- The gate is where the epoch is, and holds at most the packets numbered next to next + 255.
 pub record IsAt (k : Kept) (e : Epoch) : Type 0 where
@@ -29,10 +30,9 @@ pub record Answers (e : Epoch) (p : NumberedPacket) (a : Answer) : Type 0 where
   pub nacks : a.nacks ≡ nacks_of e p
   pub pli : a.pli ≡ gives_up e p
 
--- Whatever packets the old gate was given, this answers one more, and the new gate was given it too.
+-- Wherever the old gate is, this answers one more packet, and the new gate is where the packet leads.
 abbrev pub Admits : Kept → Kept → NumberedPacket → Answer → Type 0
-Admits old new p a =
-    (before : List NumberedPacket) → Represents old before → Answers (epoch_of before) p a × Represents new (before ++ p ∷ [])
+Admits old new p a = (e : Epoch) → IsAt old e → Answers e p a × IsAt new (epoch_after e p)
 
 -- The gate has taken the packet and the walk, and has let go of what is decided.
 pub record Takes (old : Kept) (packet : NumberedPacket) (walk : Walk) (new : Kept) : Type 0 where
@@ -54,3 +54,27 @@ Commits old r new = CommitsAt r.answer.place old r new
 -- Once it is committed, the packet is admitted.
 abbrev pub Prepares : Kept → NumberedPacket → PreparedOf → Type 0
 Prepares old p r = (new : Kept) → Commits old r new → Admits old new p r.answer
+
+-- Wherever the gate is, these are the missing numbers.
+abbrev pub Misses : Kept → List ℤ → Type 0
+Misses k numbers = (e : Epoch) → IsAt k e → numbers ≡ map ext_of (missing_in e)
+
+-- Wherever the old gate is, this answers where a number is given up, and the new gate has given it up.
+abbrev pub GivesUp : Kept → Kept → ℕ → GaveUp → Type 0
+GivesUp old new n a = (e : Epoch) → IsAt old e → AnswersGivingUp e n a × IsAt new (given_up e n)
+
+-- The gate has this walk, and has let go of what is decided.
+pub record CommitsCuts (old : Kept) (r : PreparedCutsOf) (new : Kept) : Type 0 where
+  pub walk_is : new.walk ≡ r.walk
+  pub greatest : new.greatest ≡ old.greatest
+  pub others : MayForget r.walk.next old.cells new.cells
+  pub gone : Forgets old.walk.next r.walk.next old.cells new.cells
+
+-- Once it is committed, the number is given up.
+abbrev pub PreparesCuts : Kept → ℕ → PreparedCutsOf → Type 0
+PreparesCuts old n r = (new : Kept) → CommitsCuts old r new → GivesUp old new n r.answer
+
+-- Once they are committed, a number is given up if there is one, and else nothing changes.
+abbrev pub PreparesMaybe : Kept → Option ℕ → PreparedCutsOf → Type 0
+PreparesMaybe old None r = (new : Kept) → CommitsCuts old r new → (e : Epoch) → IsAt old e → (r.answer.frames ≡ []) × (r.answer.pli ≡ false) × IsAt new e
+PreparesMaybe old (Some n) r = PreparesCuts old n r

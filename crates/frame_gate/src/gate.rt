@@ -25,9 +25,9 @@ use std::marker::Model;
 /// first, which takes the memory, and [`commit`](Self::commit) last, which can't fail.
 #[derive(Drop)]
 pub struct Gate<A: Allocator + Copy = Global> {
-    cells: Vec<Option<HeldPacket<A>>, A>,
-    walk: Walk,
-    greatest: Option<u64>,
+    pub(crate) cells: Vec<Option<HeldPacket<A>>, A>,
+    pub(crate) walk: Walk,
+    pub(crate) greatest: Option<u64>,
 }
 
 impl<A: Allocator + Copy> Model for Gate<A> {

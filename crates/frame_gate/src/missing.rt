@@ -9,7 +9,7 @@ use crate::held::ext_of;
 use std::alloc::{AllocError, Allocator};
 
 /// Asks for one more number.
-fn ask<A: Allocator + Copy>(out: &mut Vec<i64, A>, number: u64) -> Result<(), AllocError>
+pub(crate) fn ask<A: Allocator + Copy>(out: &mut Vec<i64, A>, number: u64) -> Result<(), AllocError>
     requires { number < 2 ^ 63 }
     ensures { OnOk result (out.new.items ≡ out.old.items ++ ext_of number ∷ []) }
 {

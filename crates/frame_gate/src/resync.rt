@@ -21,7 +21,7 @@ fn cut<A: Allocator + Copy>(
     frames: &mut Vec<Frame<A>, A>,
 ) -> Result<Walk, AllocError>
     requires cells { length cells.now ≡ 256 }
-    requires number { number ≤ 2 ^ 63 }
+    requires number { number ≤ 2 ^ 63 + 256 }
     requires far { walk.next + 256 ≤ number }
     ensures tied { IfOk result (λ w. (given : List WholeFrame) (e : Epoch)
         → Tied (held cells.now None) given e walk frames.old.items
@@ -47,7 +47,7 @@ pub fn resync<A: Allocator + Copy>(
     frames: &mut Vec<Frame<A>, A>,
 ) -> Result<Walk, AllocError>
     requires cells { length cells.now ≡ 256 }
-    requires number { number ≤ 2 ^ 63 }
+    requires number { number ≤ 2 ^ 63 + 256 }
     requires ordered { (from.next ≤ from.after) × (from.next ≤ number) }
     ensures tied { IfOk result (λ w. (given : List WholeFrame) (e : Epoch) (most : ℕ)
         → Tied (held cells.now None) given e from frames.old.items → number < from.next + 256 + most

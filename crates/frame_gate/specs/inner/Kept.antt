@@ -3,6 +3,7 @@ use Rattle.std.specs.Prelude.{ℕ, List, Option}
 use Rattle.frame_gate.specs.Packets.{NumberedPacket}
 use Rattle.frame_gate.specs.declared.walk.Walk.{Walk}
 use Rattle.frame_gate.specs.Answer.{Answer}
+use Rattle.frame_gate.specs.GivenUp.{GaveUp}
 
 pub record Kept : Type 0 where
   pub cells : List (Option NumberedPacket)
@@ -14,3 +15,8 @@ pub record PreparedOf : Type 0 where
   pub packet : NumberedPacket
   pub walk : Walk
   pub answer : Answer
+
+-- what contracts see of cuts that are prepared
+pub record PreparedCutsOf : Type 0 where
+  pub walk : Walk
+  pub answer : GaveUp
