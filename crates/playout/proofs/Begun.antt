@@ -1,8 +1,8 @@
 -- A beginning, and what becomes of a put behind it.
-use Rattle.std.proofs.Common.{◌≡◌, ℕ, ℤ, ◌+◌, ◌-◌, ◌≤◌, ◌≢◌, ◌^◌, Bool, true, false, cond, List, [], ◌∷◌, ◌++◌, length, Option, None, Some, refl, sym, ap, ◌∙◌, arith, subst, length-append}
+use Rattle.std.proofs.Common.{◌≡◌, ℕ, ℤ, ◌+◌, ◌≤◌, ◌≢◌, Bool, true, false, cond, List, [], ◌∷◌, ◌++◌, length, Option, None, Some, refl, sym, ap, ◌∙◌, arith, subst, length-append}
 use Rattle.playout.specs.declared.placed.PlacedSamples.{PlacedSamples}
 use Rattle.playout.specs.declared.placed.PlacedSamples.TheVariants.{Kept, Late, Reset}
-use Rattle.playout.specs.Playout.{Pair, Play, sample_at, offers, delay, is_reset, place_of, placed_of, pairs_after, begun_by}
+use Rattle.playout.specs.Playout.{Pair, Play, sample_at, offers, is_reset, place_of, placed_of, pairs_after, begun_by}
 use Rattle.playout.specs.Calls.{put_after, play_put, answer_of}
 use Rattle.playout.specs.inner.Agrees.{Agrees}
 use Rattle.playout.specs.inner.Holds.{PlayoutOf, Holds, Puts}
@@ -30,7 +30,7 @@ reset_is late kept true h = refl
 reset_is true kept false h = absurd cc
 reset_is false kept false h = absurd cc
 
-not_reset : (late : Bool) (kept : ℕ) (placed : PlacedSamples) (b : Bool) → placed ≢ Reset → cond b Reset (cond late Late (Kept kept)) ≡ placed → b ≡ false
+pub not_reset : (late : Bool) (kept : ℕ) (placed : PlacedSamples) (b : Bool) → placed ≢ Reset → cond b Reset (cond late Late (Kept kept)) ≡ placed → b ≡ false
 not_reset late kept placed true other h = absurd (other (sym h))
 not_reset late kept placed false other h = refl
 
@@ -88,7 +88,3 @@ pub reset_step : (old new : PlayoutOf) (ts : ℕ) (samples : List ℤ) (play : P
     → (Reset ≡ placed_of (length old.cells) play.position play.pairs ts samples) × Holds new (Some (put_after (with_rate (length old.cells) play) ts samples))
 reset_step old new ts samples play is held =
     (is, subst (λ (next : Play). Holds new (Some next)) (sym (after_reset (length old.cells) play ts samples (sym is))) held)
-
--- a beginning is far enough from 0
-pub half_below : (rate ts : ℕ) → rate ≤ 48000 → 2 ^ 31 ≤ ts + 2 ^ 32 - delay rate
-half_below rate ts most = omega arith

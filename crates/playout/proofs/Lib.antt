@@ -4,5 +4,7 @@ pub mod Copied
 pub mod EachSource
 pub mod Falls
 pub mod Offered
+pub mod Renewed
 pub mod Taken
 pub mod Turned
+pub mod Unasked

@@ -1,4 +1,6 @@
 pub mod Calls
 pub mod Playout
 pub mod Playouts
+pub mod Renewal
 pub mod inner
+pub mod laws

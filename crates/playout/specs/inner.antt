@@ -1,3 +1,4 @@
 pub mod Agrees
 pub mod Cells
+pub mod Counts
 pub mod Holds

@@ -1,12 +1,14 @@
 //! A jitter buffer for one source.
 
-ghost use Rattle.std.specs.Prelude.{◌≡◌, ◌≤◌, ◌<◌, ◌*◌, ◌+◌, ◌-◌, ◌%◌, ◌^◌, ℕ, true, IfOk, None, length};
-ghost use Rattle.playout.specs.Playout.{delay, begun_by};
+ghost use Rattle.std.specs.Prelude.{◌≡◌, ◌≤◌, ◌<◌, ◌*◌, ◌+◌, ◌-◌, ◌%◌, ◌^◌, ℕ, true, IfOk, None, Some, length};
+ghost use Rattle.playout.specs.Playout.{Play, delay, begun_by};
+ghost use Rattle.playout.specs.Renewal.{offset_of};
 ghost use Rattle.playout.specs.inner.Agrees.{Agrees, IsBlank};
 ghost use Rattle.playout.specs.inner.Holds.{Holds, Puts, Shows, HasTaken};
 
+use crate::offset::Offset;
 use crate::placed::PlacedSamples;
-use crate::putting::put_begun;
+use crate::putting::{offset_from, put_begun};
 use crate::ring::Ring;
 use std::alloc::{AllocError, Allocator, Global};
 use std::marker::Model;
@@ -81,6 +83,23 @@ impl<A: Allocator> Playout<A> {
         self.ring.keep(delay, samples)
     }
 
+    /// Empties the buffer. It begins anew with these samples, as with the first ones.
+    pub(crate) fn restart(&mut self, ts: u32, samples: &[i16])
+        requires few { length samples.now * 5 ≤ length self.old.cells }
+        ensures begun { Holds self.new (Some (begun_by (length self.old.cells) ts samples.now)) }
+        ensures rate { length self.new.cells ≡ length self.old.cells }
+    {
+        self.ring.clear();
+        self.begin(ts, samples);
+    }
+
+    /// How far the place of this RTP timestamp is from the position.
+    pub(crate) fn offset(&self, ts: u32) -> Offset
+        ensures { (play : Play) → Holds self.now (Some play) → result ≡ offset_of play.position ts }
+    {
+        offset_from(self.position, ts)
+    }
+
     /// Puts samples at the places from this RTP timestamp on: 1 sample to a fifth of a second.
     pub fn put(&mut self, ts: u32, samples: &[i16]) -> PlacedSamples
         requires some { 0 < length samples.now }
@@ -96,8 +115,7 @@ impl<A: Allocator> Playout<A> {
             PlacedSamples::Kept { count } => PlacedSamples::Kept { count },
             PlacedSamples::Late => PlacedSamples::Late,
             PlacedSamples::Reset => {
-                self.ring.clear();
-                self.begin(ts, samples);
+                self.restart(ts, samples);
                 PlacedSamples::Reset
             }
         }

@@ -14,14 +14,19 @@
 #![tactic(auto)]
 
 mod jitter_buffer;
+mod laws;
 mod many;
+mod offset;
 mod placed;
 mod places;
 mod putting;
 mod ring;
+mod source_playout;
+mod tally;
 mod timed_samples;
 
 pub use jitter_buffer::Playout;
+pub use laws::nothing_is_renewed_unasked;
 pub use many::Playouts;
 pub use placed::PlacedSamples;
 pub use timed_samples::TimedSamples;

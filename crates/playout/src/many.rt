@@ -2,10 +2,13 @@
 
 ghost use Rattle.std.specs.Prelude.{◌≡◌, ◌≤◌, ◌<◌, ◌*◌, [], length, None, Some, IfOk, OnOk, OnErr};
 ghost use Rattle.playout.specs.Playout.{begun_by};
-ghost use Rattle.playout.specs.Playouts.{PutOf, TakeAll, playout_at, Has, HasAlso, ShowsOf};
-ghost use Rattle.playout.specs.inner.Holds.{Holds, HasPut, ShowsAt};
+ghost use Rattle.playout.specs.Renewal.{no_tally};
+ghost use Rattle.playout.specs.Playouts.{PutOf, TakeAll, Renewing, playout_at, Has, HasAlso, ShowsOf};
+ghost use Rattle.playout.specs.inner.Counts.{PutsInto};
+ghost use Rattle.playout.specs.inner.Holds.{Holds, ShowsAt};
 
 use crate::jitter_buffer::Playout;
+use crate::source_playout::SourcePlayout;
 use crate::timed_samples::TimedSamples;
 use indexmap::IndexMap;
 use rtp_codec::Address;
@@ -15,9 +18,6 @@ use std::marker::Model;
 
 /// The number of sources to allocate for at first.
 const FIRST_SOURCES: usize = 16;
-
-/// The ticks in a second.
-const TICKS: u32 = 50;
 
 /// The key of a source: an SSRC, and the parts of an address.
 #[derive(Clone, Copy, PartialEq, Eq, Hash)]
@@ -39,22 +39,27 @@ fn key_of(source: u32, address: &Address) -> SourceKey
 }
 
 /// The jitter buffer that these samples begin.
-fn begun<A: Allocator + Copy>(alloc: A, block: TimedSamples<'_>) -> Result<Playout<A>, AllocError>
+fn begun<A: Allocator + Copy>(
+    alloc: A,
+    block: TimedSamples<'_>,
+) -> Result<SourcePlayout<A>, AllocError>
     requires least { 50 ≤ block.rate }
     requires most { block.rate ≤ 48000 }
     requires some { 0 < length block.samples.now }
     requires few { length block.samples.now * 5 ≤ block.rate }
-    ensures { IfOk result
-        (λ playout. Holds playout (Some (begun_by block.entry.rate block.entry.ts block.entry.samples.now))) }
+    ensures begun { IfOk result (λ source.
+        Holds source.playout (Some (begun_by block.entry.rate block.entry.ts block.entry.samples.now))) }
+    ensures none { IfOk result (λ source. source.tally ≡ no_tally) }
 {
     let mut playout = Playout::new(alloc, block.rate)?;
     playout.put(block.ts, block.samples);
-    Ok(playout)
+    Ok(SourcePlayout::new(playout))
 }
 
 /// Puts samples into the jitter buffer of their source. At another rate than its own it begins anew.
 fn put_into<A: Allocator + Copy>(
-    playout: &mut Playout<A>,
+    source: &mut SourcePlayout<A>,
+    renews: bool,
     alloc: A,
     block: TimedSamples<'_>,
 ) -> Result<(), AllocError>
@@ -62,13 +67,14 @@ fn put_into<A: Allocator + Copy>(
     requires most { block.rate ≤ 48000 }
     requires some { 0 < length block.samples.now }
     requires few { length block.samples.now * 5 ≤ block.rate }
-    ensures put { OnOk result (HasPut playout.old playout.new block.entry.rate block.entry.ts block.entry.samples.now) }
-    ensures err { OnErr result (playout.new ≡ playout.old) }
+    ensures put { OnOk result
+        (PutsInto renews source.old source.new block.entry.rate block.entry.ts block.entry.samples.now) }
+    ensures err { OnErr result (source.new ≡ source.old) }
 {
-    if playout.rate() == block.rate {
-        playout.put(block.ts, block.samples);
+    if source.playout().rate() == block.rate {
+        source.put(renews, block.ts, block.samples);
     } else {
-        *playout = begun(alloc, block)?;
+        *source = begun(alloc, block)?;
     }
     Ok(())
 }
@@ -86,14 +92,16 @@ fn peek_at<A: Allocator>(playout: &Playout<A>, rate: u32, out: &mut [i16]) -> u3
     }
 }
 
-type PlayoutTable<A> = IndexMap<SourceKey, Playout<A>, BuildHasherDefault<FoldHasher>, A>;
+type PlayoutTable<A> = IndexMap<SourceKey, SourcePlayout<A>, BuildHasherDefault<FoldHasher>, A>;
 
 /// The jitter buffers of a lane (media worker), one for each source by SSRC and address.
 ///
 /// A source's buffer begins with its first samples, and is never dropped. It begins anew where the clock rate changes.
+/// After [`renew`](Self::renew) it also begins anew where its sound is late or piles up.
 #[derive(Drop)]
 pub struct Playouts<A: Allocator + Copy = Global> {
     table: PlayoutTable<A>,
+    renews: bool,
 }
 
 impl<A: Allocator + Copy> Model for Playouts<A> {
@@ -101,7 +109,7 @@ impl<A: Allocator + Copy> Model for Playouts<A> {
 
     ghost Value = { PlayoutsOf };
 
-    ghost view = { λ p. p.table.entries };
+    ghost view = { λ p. record { renews = p.renews; sources = p.table.entries } };
 }
 
 impl<A: Allocator + Copy> Playouts<A> {
@@ -110,7 +118,25 @@ impl<A: Allocator + Copy> Playouts<A> {
         ensures { IfOk result (λ playouts. Has playouts []) }
     {
         let table = IndexMap::with_capacity(alloc, FIRST_SOURCES)?;
-        Ok(Self { table })
+        Ok(Self {
+            table,
+            renews: false,
+        })
+    }
+
+    /// From here on, the buffer of each source begins anew after late or full sound, as by a first put.
+    ///
+    /// Late: a put with samples that were due before it came, if late samples add up to 300 ms. 1000 samples in time
+    /// make up for one late sample. So a slow clock, or a path that becomes longer, does not silence a source.
+    ///
+    /// Full: a put that finds over 120 ms of sound waiting, if all puts of the last 20 s of the source's sound found so
+    /// much. So a fast clock, or a path that becomes shorter, does not delay a source for good.
+    ///
+    /// To begin anew takes no memory.
+    pub fn renew(&mut self)
+        ensures { HasAlso self.old self.new Renewing }
+    {
+        self.renews = true;
     }
 
     /// Begins the buffer of a new source.
@@ -130,8 +156,8 @@ impl<A: Allocator + Copy> Playouts<A> {
             (PutOf source address.now block.entry.rate block.entry.ts block.entry.samples.now)) }
         ensures err { OnErr result (self.new ≡ self.old) }
     {
-        let playout = begun(alloc, block)?;
-        self.table.insert(key_of(source, address), playout)?;
+        let begun = begun(alloc, block)?;
+        self.table.insert(key_of(source, address), begun)?;
         Ok(())
     }
 
@@ -156,7 +182,7 @@ impl<A: Allocator + Copy> Playouts<A> {
         ensures err { OnErr result (self.new ≡ self.old) }
     {
         match self.table.get_mut(&key_of(source, address)) {
-            Some(playout) => put_into(playout, alloc, block),
+            Some(kept) => put_into(kept, self.renews, alloc, block),
             None => self.begin(alloc, source, address, block),
         }
     }
@@ -166,8 +192,8 @@ impl<A: Allocator + Copy> Playouts<A> {
         ensures { HasAlso self.old self.new TakeAll }
     {
         for index in 0..self.table.len() {
-            if let Some(playout) = self.table.get_index_mut(index) {
-                playout.skip((playout.rate() / TICKS) as usize);
+            if let Some(kept) = self.table.get_index_mut(index) {
+                kept.tick();
             }
         }
     }
@@ -179,7 +205,7 @@ impl<A: Allocator + Copy> Playouts<A> {
         ensures { ShowsOf self.now source address.now rate out.new result }
     {
         match self.table.get(&key_of(source, address)) {
-            Some(playout) => peek_at(playout, rate, out),
+            Some(kept) => peek_at(kept.playout(), rate, out),
             None => {
                 out.fill(0);
                 0

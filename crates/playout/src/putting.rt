@@ -2,8 +2,10 @@
 
 ghost use Rattle.std.specs.Prelude.{◌≡◌, ℕ, ◌+◌, ◌-◌, ◌<◌, ◌≤◌, ◌^◌, ◌%◌, length, List};
 ghost use Rattle.playout.specs.Playout.{Pair, placed_of, pairs_after};
+ghost use Rattle.playout.specs.Renewal.{offset_of};
 ghost use Rattle.playout.specs.inner.Agrees.{Agrees};
 
+use crate::offset::Offset;
 use crate::placed::PlacedSamples;
 use crate::ring::Ring;
 use std::alloc::Allocator;
@@ -16,6 +18,17 @@ fn distance(position: u32, ts: u32) -> u32
     ensures { result ≡ (ts + 2 ^ 31 + 2 ^ 32 - position) % 2 ^ 32 }
 {
     ts.wrapping_sub(position).wrapping_add(HALF_A_TURN)
+}
+
+/// How far the place of a timestamp is from the position.
+pub(crate) fn offset_from(position: u32, ts: u32) -> Offset
+    ensures { (p : ℕ) → p % 2 ^ 32 ≡ position → 2 ^ 31 ≤ p → result ≡ offset_of p ts }
+{
+    let far = distance(position, ts);
+    Offset {
+        ahead: far.saturating_sub(HALF_A_TURN),
+        behind: HALF_A_TURN.saturating_sub(far),
+    }
 }
 
 /// Puts samples after the first put. On `Reset` the caller begins anew.

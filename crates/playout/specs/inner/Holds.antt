@@ -1,6 +1,7 @@
 -- How what is kept of a playout stands to the playout.
 use Rattle.std.specs.Prelude.{◌≡◌, ℕ, ℤ, ◌≤◌, ◌%◌, ◌^◌, Bool, true, false, List, length, Option, None, Some}
 use Rattle.playout.specs.declared.placed.PlacedSamples.{PlacedSamples}
+use Rattle.playout.specs.declared.tally.SoundTally.{SoundTally}
 use Rattle.playout.specs.Playout.{Play}
 use Rattle.playout.specs.Calls.{play_put, play_taken, answer_of, PlaysOut, at_rate}
 use Rattle.playout.specs.inner.Agrees.{Agrees, IsBlank}
@@ -10,6 +11,11 @@ pub record PlayoutOf : Type 0 where
   pub begun : Bool
   pub position : ℕ
   pub cells : List (Option ℤ)
+
+-- what is kept of a source: its playout, and what is counted of its sound
+pub record SourceOf : Type 0 where
+  pub playout : PlayoutOf
+  pub tally : SoundTally
 
 -- Nothing is held before the first put; then a second's places, the position modulo 2^32, and what is there from it on.
 abbrev pub Holds : PlayoutOf → Option Play → Type 0
@@ -29,10 +35,6 @@ abbrev pub Puts : PlayoutOf → PlayoutOf → ℕ → List ℤ → PlacedSamples
 Puts old new ts samples placed =
     (play : Option Play) → Holds old play
     → (placed ≡ answer_of play ts samples) × Holds new (Some (play_put (length old.cells) play ts samples))
-
--- Whatever playout the old one holds, the new one holds what a put at this rate makes of it.
-abbrev pub HasPut : PlayoutOf → PlayoutOf → ℕ → ℕ → List ℤ → Type 0
-HasPut old new rate ts samples = (play : Option Play) → Holds old play → Holds new (Some (play_put rate play ts samples))
 
 -- Whatever playout it holds, these are the next samples, and so many of them were there.
 abbrev pub Shows : PlayoutOf → List ℤ → ℕ → Type 0

@@ -1,8 +1,8 @@
-use Rattle.std.proofs.Common.{◌≡◌, ◌≤◌, ◌∙◌, ℕ, sym, subst, refl, Some, length, arith}
+use Rattle.std.proofs.Common.{◌≡◌, ◌∙◌, ℕ, sym, subst, refl, Some, length}
 use Rattle.playout.specs.declared.placed.PlacedSamples.TheVariants.{Kept, Late, Reset}
 use Rattle.playout.specs.Playout.{begun_by}
 use Rattle.playout.specs.inner.Holds.{PlayoutOf, Holds, Puts}
-use Rattle.playout.proofs.Begun.{puts_by, other_step, reset_step, half_below}
+use Rattle.playout.proofs.Begun.{puts_by, other_step, reset_step}
 use Rattle.playout.proofs.jitter_buffer.Playout.put.Goals as goal
 
 pub returns-in-Kept-clause-puts : goal.returns-in-Kept-clause-puts
@@ -36,13 +36,10 @@ returns-in-Reset-clause-puts g c =
     let ts = c.args.ts in
     let samples = c.args.samples.now in
     let inside : PlayoutOf = record { begun = c.self.inside.begun; position = c.self.inside.position; cells = c.self.inside.ring } in
-    let new : PlayoutOf = c.begin.new.self in
-    let cleared : length c.clear.new.self ≡ length c.self.inside.ring = c.clear.ensures.long ∙ c.put_begun.ensures.long in
-    let most : length c.clear.new.self ≤ 48000 = omega (arith, cleared, c.self.invariant.most) in
-    let held : Holds new (Some (begun_by (length c.clear.new.self) ts samples)) =
-    (c.begin.ensures.begun, sym c.begin.ensures.rate, sym c.begin.ensures.position, half_below (length c.clear.new.self) ts most, c.begin.ensures.agrees) in
+    let new : PlayoutOf = c.restart.new.self in
+    let long : length c.put_begun.new.ring ≡ length c.self.inside.ring = c.put_begun.ensures.long in
     subst (λ (old : PlayoutOf). Puts old new ts samples Reset) c.self.view_is
     (puts_by inside new ts samples Reset c.if-not-self.false (λ play h.
     reset_step inside new ts samples play
     (sym c.in-Reset.is ∙ c.put_begun.ensures.placed play.position play.pairs h.4 h.2 h.3)
-    (subst (λ (n : ℕ). Holds new (Some (begun_by n ts samples))) cleared held)))
+    (subst (λ (n : ℕ). Holds new (Some (begun_by n ts samples))) long c.restart.ensures.begun)))
