@@ -4,9 +4,9 @@ use Rattle.source_valid.specs.Histories.{Number, standing_of}
 use Rattle.source_valid.specs.Represents.{Represents as IsGiven}
 use Rattle.source_valid.specs.declared.verdict.Verdict.{Verdict}
 use Rattle.frame_gate.specs.Packets.{NumberedPacket}
-use Rattle.frame_gate.specs.Epochs.{epoch_of}
+use Rattle.frame_gate.specs.Watched.{GateEvent, came}
 use Rattle.frame_gate.specs.Admits.{Answers}
-use Rattle.intake.specs.Stories.{Story, Mark, untold, story_by, judged, begins, judged_on, initialises, arrival}
+use Rattle.intake.specs.Stories.{Story, Mark, untold, story_by, judged, begins, judged_on, initialises, arrival, gate_epoch}
 use Rattle.intake.specs.inner.Kept.{KeptOf, JudgedOf, AdmissionOf, HasGiven, HasGated, Keeps, Judges, Becomes, Admits, gate_in, gate_for, kept_by}
 use Rattle.intake.specs.inner.Moves.{state_in, epoch_in, next_of}
 
@@ -34,11 +34,11 @@ stands_at rate None (Some story) h = absurd h
 stands_at rate (Some k) None h = absurd h
 stands_at rate (Some k) (Some story) h = stands_so rate k story (nat_eq k.rate rate) (nat_eq story.rate rate) (ap (λ r. nat_eq r rate) h.rate) h
 
-gated_by : (kept : Option KeptOf) (packets : List NumberedPacket) (b : Bool) → HasGated (gate_in kept) packets → HasGated (gate_for kept b) (if b then [] else packets)
-gated_by None packets true h = refl
-gated_by None packets false h = h
-gated_by (Some k) packets true h = refl
-gated_by (Some k) packets false h = h
+gated_by : (kept : Option KeptOf) (events : List GateEvent) (b : Bool) → HasGated (gate_in kept) events → HasGated (gate_for kept b) (if b then [] else events)
+gated_by None events true h = refl
+gated_by None events false h = h
+gated_by (Some k) events true h = refl
+gated_by (Some k) events false h = h
 
 module _ (kept : Option KeptOf) (story : Story) (epochs : ℕ) (m : Mark) (j : JudgedOf) (at : StandsAt kept story) (judges : Judges (state_in kept) m j) where
   pub verdict_is : j.verdict ≡ judged story m.seq
@@ -66,14 +66,14 @@ module _ (kept : Option KeptOf) (story : Story) (epochs : ℕ) (m : Mark) (j : J
 
   -- the story with the packet at the gate
   abbrev pub with_packet : NumberedPacket → Story
-  with_packet p = record { rate = m.rate; given = (judged_on story epochs m).given; epoch = (judged_on story epochs m).epoch; gated = (judged_on story epochs m).gated ++ p ∷ [] }
+  with_packet p = record { rate = m.rate; given = (judged_on story epochs m).given; epoch = (judged_on story epochs m).epoch; gated = (judged_on story epochs m).gated ++ came p ∷ [] }
 
   module _ (p : NumberedPacket) (a : AdmissionOf) (new : KeptOf) (admits : Admits (gate_for kept j.begins) p a) (becomes : Becomes kept (next_of kept epochs j (Some a)) new) where
-    both : Answers (epoch_of (judged_on story epochs m).gated) p a.prepared.answer × HasGated new.gate (with_packet p).gated
+    both : Answers (gate_epoch (judged_on story epochs m)) p a.prepared.prepared.answer × HasGated new.gate (with_packet p).gated
     both = let settles = becomes.gate in let told = admits.after (judged_on story epochs m).gated settles.base settles.gate gated_is settles.before settles.commits in
         (told.0, subst (λ g. HasGated g (with_packet p).gated) (sym settles.now) told.1)
 
-    pub answers_is : Answers (epoch_of (judged_on story epochs m).gated) p a.prepared.answer
+    pub answers_is : Answers (gate_epoch (judged_on story epochs m)) p a.prepared.prepared.answer
     answers_is = both.0
 
     pub keeps_packet : Keeps new (with_packet p)

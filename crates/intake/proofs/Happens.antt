@@ -5,12 +5,12 @@ use Rattle.source_valid.specs.declared.verdict.Verdict.TheVariants.{Probation, A
 use Rattle.source_valid.specs.Histories.{accepted, restarts}
 use Rattle.source_valid.specs.Ranges.{IsExt, IsInRange}
 use Rattle.frame_gate.specs.Packets.{GatePacket, NumberedPacket, numbered}
-use Rattle.frame_gate.specs.Epochs.{epoch_of, frames_of, place_of, nacks_of, gives_up}
+use Rattle.frame_gate.specs.Epochs.{frames_of, place_of, nacks_of, gives_up}
 use Rattle.frame_gate.specs.Admits.{Answers}
 use Rattle.intake.specs.declared.outcome.Outcome.TheVariants.{Spent}
 use Rattle.intake.specs.declared.outcome.Outcome.TheVariants as outcomes
 use Rattle.intake.specs.declared.known.OriginKey.{OriginKey}
-use Rattle.intake.specs.Stories.{Story, Mark, story_by, judged, begins, judged_on}
+use Rattle.intake.specs.Stories.{Story, Mark, story_by, judged, begins, judged_on, gate_epoch}
 use Rattle.intake.specs.Sources.{Sources, story_at}
 use Rattle.media_items.specs.Inputs.{Input}
 use Rattle.intake.specs.Ingested.{Ingested, only, with_items}
@@ -36,7 +36,7 @@ otherwise : (b : Bool) (x y : Ingested × Sources) (i : Ingested) (new : IntakeO
 otherwise true x y i new is h = cc
 otherwise false x y i new is h = h
 
-drop-front : {X : Type 0} (xs ys : List X) → drop (length xs) (xs ++ ys) ≡ ys
+pub drop-front : {X : Type 0} (xs ys : List X) → drop (length xs) (xs ++ ys) ≡ ys
 drop-front [] ys = refl
 drop-front (x ∷ xs) ys = drop-front xs ys
 
@@ -132,11 +132,11 @@ module _ (rate : ℕ) (course_of : Verdict → Story → Course) (c : Coming) (o
     when_plain voice new free is advances = when_telling voice new [] free is advances
 
     -- what the gate answers is what is defined of the packet
-    given_is : (voice : Voice) (p : NumberedPacket) (a : AdmissionOf) (epoch : ℕ) → Answers (epoch_of later.gated) p a.prepared.answer → epoch ≡ later.epoch
-        → given voice c epoch j.verdict a.prepared.answer ≡ answer_of voice c (gated_with c p (outcome_at j.verdict) (restarts j.verdict) later)
+    given_is : (voice : Voice) (p : NumberedPacket) (a : AdmissionOf) (epoch : ℕ) → Answers (gate_epoch later) p a.prepared.prepared.answer → epoch ≡ later.epoch
+        → given voice c epoch j.verdict a.prepared.prepared.answer ≡ answer_of voice c (gated_with c p (outcome_at j.verdict) (restarts j.verdict) later)
     given_is voice p a epoch answers same =
-        let e = epoch_of later.gated in
-        let answer = a.prepared.answer in
+        let e = gate_epoch later in
+        let answer = a.prepared.prepared.answer in
         let anew = restarts j.verdict in
         let new_ones : newly e p ≡ answer.frames = ap (drop (length (frames_of e))) answers.frames ∙ drop-front (frames_of e) answer.frames in
         ap (λ place. ingested (outcome_at j.verdict place) (asked_of voice (origin_of c) answer.nacks (anew || answer.pli)) (frames_from (origin_of c) c.moment epoch answer.frames)) answers.place

@@ -98,6 +98,19 @@ holds_retold o f k w (e ∷ es) (x ∷ ks) h is keeps = (elim (same_origin o x.o
       rw fails (rw t (h.0, holds_retold o f k w es ks h.1 (rw fails at is) keeps))
 ]) refl
 
+-- with another story for the source at an origin, of which the same is kept
+pub holds_told : (o : Origin) (f : Story → Story) (k : KeptOf) (es : List (OriginKey × KeptOf)) (ks : List Known) → Holds es ks → kept_at (key_of o) es ≡ Some k → ((story : Story) → Keeps k story → Keeps k (f story))
+    → Holds es (retold o f ks)
+holds_told o f k [] ks h is keeps = cc
+holds_told o f k (e ∷ es) [] h is keeps = absurd h
+holds_told o f k (e ∷ es) (x ∷ ks) h is keeps = (elim (same_origin o x.origin) as (λ y. same_origin o x.origin ≡ y → Holds (e ∷ es) (retold o f (x ∷ ks))) [
+  | true ↦ λ t. let passes : same_key (key_of o) e.0 ≡ true = ap (same_key (key_of o)) h.0.0 ∙ t in
+      let same : k ≡ e.1 = (let is' = rw passes at is in cc) in
+      rw t ((h.0.0, subst (λ (y : KeptOf). Keeps y (f x.story)) same (keeps x.story (subst (λ (y : KeptOf). Keeps y x.story) (sym same) h.0.1))), h.1)
+  | false ↦ λ t. let fails : same_key (key_of o) e.0 ≡ false = ap (same_key (key_of o)) h.0.0 ∙ t in
+      rw t (h.0, holds_told o f k es ks h.1 (rw fails at is) keeps)
+]) refl
+
 pub holds_same : (o : Origin) (f : Story → Story) (es : List (OriginKey × KeptOf)) (ks : List Known) → Holds es ks → kept_at (key_of o) es ≡ None → Holds es (retold o f ks)
 holds_same o f [] [] h is = tt
 holds_same o f [] (k ∷ ks) h is = absurd h

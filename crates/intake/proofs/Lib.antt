@@ -8,6 +8,9 @@ pub mod KnownSources
 pub mod BlocksFrom
 pub mod Renewals
 pub mod Happens
+pub mod WaitLemmas
+pub mod AloneLemmas
+pub mod OtherSources
 pub mod Results
 pub mod Turns
 pub mod Read

@@ -128,7 +128,7 @@ just_these d o ks h =
 abbrev origins : List Known → List Origin
 origins ks = map (λ k. k.origin) ks
 
-origins_retold : (o : Origin) (f : Story → Story) (ks : List Known) → origins (retold o f ks) ≡ origins ks
+pub origins_retold : (o : Origin) (f : Story → Story) (ks : List Known) → origins (retold o f ks) ≡ origins ks
 origins_retold o f [] = refl
 origins_retold o f (k ∷ ks) = (elim (same_origin o k.origin) as (λ y. same_origin o k.origin ≡ y → origins (retold o f (k ∷ ks)) ≡ origins (k ∷ ks)) [
   | true ↦ λ t. rw t refl

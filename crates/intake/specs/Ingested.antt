@@ -2,8 +2,10 @@
 use Rattle.std.specs.Prelude.{ℕ, List, [], map}
 use Rattle.rtp_codec.specs.declared.address.Address.{Address}
 use Rattle.intake.specs.declared.outcome.Outcome.{Outcome}
+use Rattle.intake.specs.declared.outcome.Outcome.TheVariants.{Unknown}
 use Rattle.media_items.specs.Inputs.{Input, input_of}
 use Rattle.intake.specs.declared.ingest.Ingest.{Ingest}
+use Rattle.intake.specs.declared.ingest.WaitAnswer.{WaitAnswer}
 use Rattle.std.specs.declared.vec.Vec.{Vec}
 
 -- its outcome, the datagrams that are sent back, and the items for the lanes
@@ -27,3 +29,7 @@ datagram_of d = (d.0, d.1.items)
 -- what the intake answers, without where its octets lie
 abbrev pub ingested_of : {A : Type 0} → Ingest A → Ingested
 ingested_of i = record { outcome = i.outcome; up = map datagram_of i.up.items; items = map input_of i.items.items }
+
+-- what the intake answers to a wait, as to a datagram of an unknown source
+abbrev pub answered_of : {A : Type 0} → WaitAnswer A → Ingested
+answered_of a = record { outcome = Unknown; up = map datagram_of a.up.items; items = map input_of a.items.items }

@@ -1,10 +1,11 @@
 -- What an intake answers (own).
 use Rattle.std.specs.Prelude.{◌≡◌, ℕ, List}
 use Rattle.intake.specs.Readings.{Reading, IsReading}
-use Rattle.intake.specs.Sources.{Sources}
+use Rattle.intake.specs.Sources.{Origin, Sources}
 use Rattle.intake.specs.Ingested.{Ingested}
 use Rattle.intake.specs.Taking.{Voice, IsVoice, Datagram, taken_in}
 use Rattle.intake.specs.inner.Holding.{Holds, IntakeOf}
+use Rattle.intake.specs.Waiting.{waited_for}
 use Rattle.intake.specs.Reported.{reported}
 use Rattle.rtp_codec.specs.declared.address.Address.{Address}
 use Rattle.desk_rows.specs.Desk.{Desk}
@@ -28,3 +29,7 @@ TakesIn old new ingested octets datagram =
 abbrev pub TellsSenders : IntakeOf → IntakeOf → List (Address × List ℕ) → Desk → ℕ → Type 0
 TellsSenders old new told desk moment =
     (s : Sources) → Knows old s → (told ≡ (reported old.asker desk moment s).0) × Knows new (reported old.asker desk moment s).1
+
+-- Whatever sources the old intake knew, this is the answer to a wait of a source, and the new one knows the sources after it.
+abbrev pub WaitsFor : IntakeOf → IntakeOf → Ingested → Desk → Origin → (moment : ℕ) → Type 0
+WaitsFor old new answered desk o moment = Moves old new answered (λ voice s. waited_for voice desk o moment s)

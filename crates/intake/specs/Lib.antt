@@ -6,6 +6,8 @@ pub mod Ingested
 pub mod Media
 pub mod Control
 pub mod Taking
+pub mod Waiting
+pub mod PacketsAlone
 pub mod Reported
 pub mod Intakes
 pub mod inner

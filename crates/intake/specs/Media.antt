@@ -11,14 +11,15 @@ use Rattle.frame_gate.specs.Packets.{GatePacket, NumberedPacket, numbered}
 use Rattle.frame_gate.specs.Frame.{WholeFrame}
 use Rattle.sample_codecs.specs.MuLaw.{decoded}
 use Rattle.sample_codecs.specs.L16.{samples_of}
-use Rattle.frame_gate.specs.Epochs.{Epoch, epoch_of, epoch_after, frames_of, place_of, nacks_of, gives_up}
+use Rattle.frame_gate.specs.Epochs.{Epoch, epoch_after, frames_of, place_of, nacks_of, gives_up}
+use Rattle.frame_gate.specs.Watched.{came}
 use Rattle.intake.specs.declared.outcome.Outcome.{Outcome}
 use Rattle.intake.specs.declared.outcome.Outcome.TheVariants as outcomes
 use Rattle.media_items.specs.Inputs.{Input}
 use Rattle.media_items.specs.Formats.{rate_of, format_of_packet, holds_whole}
 use Rattle.media_items.specs.declared.format.Format.{Format}
 use Rattle.media_items.specs.declared.format.Format.TheVariants.{Pcmu, L16At8000, L16At44100}
-use Rattle.intake.specs.Stories.{Story, Mark, units_of}
+use Rattle.intake.specs.Stories.{Story, Mark, units_of, gate_epoch}
 use Rattle.intake.specs.Sources.{Origin}
 
 -- a media packet: from where and at which moment it came, and what stands in it
@@ -92,11 +93,11 @@ frames_from o moment epoch frames = map (frame_item o moment epoch) frames
 -- the packet comes to the gate; a restart loses the picture, and so does a gate that gives up
 abbrev pub gated_with : Coming → NumberedPacket → (Place → Outcome) → Bool → Story → Course
 gated_with c p outcome anew story = record {
-  outcome = outcome (place_of (epoch_of story.gated) p);
-  story = record { rate = story.rate; given = story.given; epoch = story.epoch; gated = story.gated ++ p ∷ [] };
-  items = frames_from (origin_of c) c.moment story.epoch (newly (epoch_of story.gated) p);
-  nacks = nacks_of (epoch_of story.gated) p;
-  pli = anew || gives_up (epoch_of story.gated) p;
+  outcome = outcome (place_of (gate_epoch story) p);
+  story = record { rate = story.rate; given = story.given; epoch = story.epoch; gated = story.gated ++ came p ∷ [] };
+  items = frames_from (origin_of c) c.moment story.epoch (newly (gate_epoch story) p);
+  nacks = nacks_of (gate_epoch story) p;
+  pli = anew || gives_up (gate_epoch story) p;
 }
 
 -- what a video packet does, by its verdict: nothing but the verdict on probation and at a jump, else what its gate gives

@@ -3,18 +3,23 @@ use Rattle.std.specs.Prelude.{ℕ, ◌+◌, ◌*◌, ◌/◌, ◌^◌, ◌%◌, 
 use Rattle.source_valid.specs.declared.verdict.Verdict.{Verdict}
 use Rattle.source_valid.specs.declared.verdict.Verdict.TheVariants.{Probation, Accepted, Jump, Restarted}
 use Rattle.source_valid.specs.Histories.{Step, Number, Arrival, Standing, standing_of, verdict_of, past_probation_in}
-use Rattle.frame_gate.specs.Packets.{NumberedPacket}
+use Rattle.frame_gate.specs.Epochs.{Epoch}
+use Rattle.frame_gate.specs.Watched.{GateEvent, watch_of}
 
--- the clock rate of a source in Hz, what it was given, its epoch, or 0 before its first one, and the packets of this epoch that came to its gate
+-- the clock rate of a source in Hz, what it was given, its epoch, or 0 before its first one, and what came to its gate in this epoch: packets, and waits after the first packet
 pub record Story : Type 0 where
   pub rate : ℕ
   pub given : List Step
   pub epoch : ℕ
-  pub gated : List NumberedPacket
+  pub gated : List GateEvent
 
 -- the story of a source of this clock rate of which nothing is known
 abbrev pub untold : ℕ → Story
 untold rate = record { rate = rate; given = []; epoch = 0; gated = [] }
+
+-- the epoch at a source's gate; without waits it is that of the packets alone
+abbrev pub gate_epoch : Story → Epoch
+gate_epoch story = (watch_of story.gated).epoch
 
 -- the story of a source by which a packet of this clock rate is judged: the story at another rate is dropped, and the source begins anew (own)
 abbrev pub story_by : (rate : ℕ) → Option Story → Story

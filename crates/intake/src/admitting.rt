@@ -1,12 +1,13 @@
-//! Admits a packet at its source's gate.
+//! What comes to a source's gate: packets and waits.
 
 ghost use Rattle.std.specs.Prelude.{◌≡◌, ◌≤◌, IfOk, Some, None, true, is_some, option_copied, length};
 ghost use Rattle.frame_gate.specs.Epochs.{most_missing};
 ghost use Rattle.frame_gate.specs.Frame.{highest_pt};
 ghost use Rattle.frame_gate.specs.Packets.{IsExt, numbered};
-ghost use Rattle.intake.specs.inner.Kept.{Admits, Settles, base_of};
+ghost use Rattle.frame_gate.specs.Waits.{answer_in};
+ghost use Rattle.intake.specs.inner.Kept.{Admits, Settles, HasWaited, base_of};
 
-use frame_gate::{Admitted, Gate, Packet, PreparedAnswer};
+use frame_gate::{Admitted, Packet, PreparedPacket, PreparedWait, Waited, WatchedGate};
 use std::alloc::{AllocError, Allocator, Global};
 use std::marker::Model;
 
@@ -14,8 +15,8 @@ use std::marker::Model;
 #[derive(Drop)]
 pub(crate) struct Admission<A: Allocator + Copy = Global> {
     /// A new gate, if there was none.
-    fresh: Option<Gate<A>>,
-    prepared: PreparedAnswer<A>,
+    fresh: Option<WatchedGate<A>>,
+    prepared: PreparedPacket<A>,
 }
 
 impl<A: Allocator + Copy> Model for Admission<A> {
@@ -29,7 +30,7 @@ impl<A: Allocator + Copy> Model for Admission<A> {
 impl<A: Allocator + Copy> Admission<A> {
     /// The answer that the gate will give.
     pub(crate) fn answer(&self) -> &Admitted<A>
-        ensures { result.now ≡ self.now.prepared.answer }
+        ensures { result.now ≡ self.now.prepared.prepared.answer }
     {
         self.prepared.answer()
     }
@@ -38,13 +39,13 @@ impl<A: Allocator + Copy> Admission<A> {
 /// Prepares a packet for the gate.
 pub(crate) fn admit<A: Allocator + Copy>(
     alloc: A,
-    gate: Option<&Gate<A>>,
+    gate: Option<&WatchedGate<A>>,
     ext: i64,
     packet: Packet<A>,
 ) -> Result<Admission<A>, AllocError>
     requires ext { IsExt ext }
     requires pt { packet.pt ≤ highest_pt }
-    ensures few { IfOk result (λ a. length a.prepared.answer.nacks ≤ most_missing) }
+    ensures few { IfOk result (λ a. length a.prepared.prepared.answer.nacks ≤ most_missing) }
     ensures admits { IfOk result (λ a. Admits (option_copied gate.entry) (numbered ext packet) a) }
 {
     match gate {
@@ -56,7 +57,7 @@ pub(crate) fn admit<A: Allocator + Copy>(
             })
         }
         None => {
-            let fresh = Gate::new(alloc)?;
+            let fresh = WatchedGate::new(alloc)?;
             let prepared = fresh.prepare(alloc, ext, packet)?;
             Ok(Admission {
                 fresh: Some(fresh),
@@ -69,11 +70,11 @@ pub(crate) fn admit<A: Allocator + Copy>(
 /// Commits a prepared packet.
 #[inline(always)]
 pub(crate) fn settle<A: Allocator + Copy>(
-    gate: &mut Option<Gate<A>>,
+    gate: &mut Option<WatchedGate<A>>,
     admission: Admission<A>,
 ) -> Admitted<A>
     requires ready { is_some (base_of gate.old admission) ≡ true }
-    ensures answer { result ≡ admission.prepared.answer }
+    ensures answer { result ≡ admission.prepared.prepared.answer }
     ensures settles { Settles gate.old admission gate.new }
 {
     let Admission { fresh, prepared } = admission;
@@ -82,6 +83,21 @@ pub(crate) fn settle<A: Allocator + Copy>(
     }
     match gate {
         Some(gate) => gate.commit(prepared),
+        None => unreachable!(),
+    }
+}
+
+/// Commits a prepared wait.
+pub(crate) fn settle_wait<A: Allocator + Copy>(
+    gate: &mut Option<WatchedGate<A>>,
+    prepared: PreparedWait<A>,
+) -> Waited<A>
+    requires ready { is_some gate.old ≡ true }
+    ensures answer { result ≡ answer_in prepared }
+    ensures waited { HasWaited gate.old prepared gate.new }
+{
+    match gate {
+        Some(gate) => gate.wait(prepared),
         None => unreachable!(),
     }
 }

@@ -146,7 +146,7 @@ impl<A: Allocator + Copy> Intake<A> {
         requires ready { IfSome next.admission
             (λ a. is_some (base_of (gate_for (kept_for key next.rate self.old.entries) next.begins) a) ≡ true) }
         ensures kept { OnOk result (IsKept self.old self.new key next) }
-        ensures answer { IfOk result (λ answer. answer ≡ option_map (λ a. a.prepared.answer) next.admission) }
+        ensures answer { IfOk result (λ answer. answer ≡ option_map (λ a. a.prepared.prepared.answer) next.admission) }
         ensures err { OnErr result (self.new ≡ self.old) }
         ensures asker { self.new.asker ≡ self.old.asker }
     {
@@ -170,7 +170,7 @@ impl<A: Allocator + Copy> Intake<A> {
             (λ a. is_some
             (base_of (gate_for (kept_for key judged.now.rate self.old.entries) judged.now.begins) a) ≡ true) }
         ensures advances { OnOk result (Advances self.old self.new key judged.now admission) }
-        ensures answer { IfOk result (λ answer. answer ≡ option_map (λ a. a.prepared.answer) admission) }
+        ensures answer { IfOk result (λ answer. answer ≡ option_map (λ a. a.prepared.prepared.answer) admission) }
         ensures err { OnErr result (self.new ≡ self.old) }
         ensures asker { self.new.asker ≡ self.old.asker }
     {

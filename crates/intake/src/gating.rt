@@ -9,9 +9,9 @@ ghost use Rattle.frame_gate.specs.Frame.{highest_pt};
 ghost use Rattle.frame_gate.specs.Packets.{IsExt, NumberedPacket, numbered};
 ghost use Rattle.media_items.specs.Inputs.{input_of};
 ghost use Rattle.intake.specs.Ingested.{ingested_of};
-ghost use Rattle.intake.specs.Media.{origin_of, gate_packet, frame_item, frames_from};
+ghost use Rattle.intake.specs.Media.{gate_packet, frame_item, frames_from};
 ghost use Rattle.intake.specs.Taking.{most_epochs};
-ghost use Rattle.intake.specs.inner.Comings.{coming_of};
+ghost use Rattle.intake.specs.inner.Comings.{coming_of, origin_in};
 ghost use Rattle.intake.specs.inner.Kept.{Admits, base_of, gate_for};
 ghost use Rattle.intake.specs.inner.Holding.{kept_for};
 ghost use Rattle.frame_gate.specs.Epochs.{most_missing};
@@ -19,21 +19,24 @@ ghost use Rattle.intake.specs.inner.Moves.{epoch_in, Gates};
 
 use crate::admitting::{Admission, admit};
 use crate::advancing::outcome_at;
-use crate::coming::Coming;
+use crate::coming::{Coming, Origin, origin_of};
 use crate::ingest::Ingest;
 use crate::intake::Intake;
 use crate::judging::Judged;
 use crate::kept::Kept;
 use crate::known::OriginKey;
 use bytes::Bytes;
-use frame_gate::{Frame, Gate, Packet};
+use frame_gate::{Frame, Packet, WatchedGate};
 use media_items::{Item, MediaFrame};
 use rtp_codec::RtpView;
 use source_valid::Verdict;
 use std::alloc::{AllocError, Allocator};
 
 /// The gate for a packet. There is none yet if an epoch begins with it.
-fn gate_for<A: Allocator + Copy>(kept: Option<&Kept<A>>, begins: bool) -> Option<&Gate<A>>
+pub(crate) fn gate_for<A: Allocator + Copy>(
+    kept: Option<&Kept<A>>,
+    begins: bool,
+) -> Option<&WatchedGate<A>>
     ensures { option_copied result ≡ gate_for (option_copied kept.entry) begins }
 {
     match kept {
@@ -63,34 +66,35 @@ fn loses(verdict: Verdict, gives_up: bool) -> bool
 }
 
 /// A frame as an item.
-fn framed<A: Allocator + Copy>(coming: Coming<'_>, epoch: u64, frame: Frame<A>) -> Item<A>
-    ensures { input_of result ≡ frame_item (origin_of (coming_of coming.entry)) coming.entry.moment epoch frame }
+fn framed<A: Allocator + Copy>(origin: Origin, moment: u64, epoch: u64, frame: Frame<A>) -> Item<A>
+    ensures { input_of result ≡ frame_item (origin_in origin) moment epoch frame }
 {
     Item::Frame(MediaFrame {
-        source: coming.view.ssrc,
-        address: *coming.from,
+        source: origin.ssrc,
+        address: origin.address,
         epoch,
-        moment: coming.moment,
+        moment,
         frame,
     })
 }
 
 /// Appends the frames as items. The list has the capacity.
-fn put_frames<A: Allocator + Copy>(
+pub(crate) fn put_frames<A: Allocator + Copy>(
     items: &mut Vec<Item<A>, A>,
-    coming: Coming<'_>,
+    origin: Origin,
+    moment: u64,
     epoch: u64,
     frames: Vec<Frame<A>, A>,
 )
     requires { vec_len items.old + vec_len frames ≤ vec_capacity items.old }
     ensures items { map input_of items.new.items
         ≡ map input_of items.old.items
-        ++ frames_from (origin_of (coming_of coming.entry)) coming.entry.moment epoch frames.items }
+        ++ frames_from (origin_in origin) moment epoch frames.items }
     ensures len { vec_len items.new ≡ vec_len items.old + vec_len frames }
     ensures capacity { vec_capacity items.old ≤ vec_capacity items.new }
 {
     for frame in frames {
-        items.push_reserved(framed(coming, epoch, frame));
+        items.push_reserved(framed(origin, moment, epoch, frame));
     }
 }
 
@@ -115,7 +119,7 @@ impl<A: Allocator + Copy> Intake<A> {
     ) -> Result<Admission<A>, AllocError>
         requires ext { IsExt ext }
         requires pt { packet.pt ≤ highest_pt }
-        ensures few { IfOk result (λ a. length a.prepared.answer.nacks ≤ most_missing) }
+        ensures few { IfOk result (λ a. length a.prepared.prepared.answer.nacks ≤ most_missing) }
         ensures admits { IfOk result
             (λ a. Admits (gate_for (kept_for key.now judged.now.rate self.now.entries) judged.now.begins)
             (numbered ext packet) a) }
@@ -135,7 +139,7 @@ impl<A: Allocator + Copy> Intake<A> {
     ) -> Result<Ingest<A>, AllocError>
         requires below { (judged.now.begins && nat_eq self.old.epochs most_epochs) ≡ false }
         requires epoch { judged.now.epoch ≡ epoch_in (kept_for key judged.now.rate self.old.entries) }
-        requires few { length admission.prepared.answer.nacks ≤ most_missing }
+        requires few { length admission.prepared.prepared.answer.nacks ≤ most_missing }
         requires ready { is_some
             (base_of (gate_for (kept_for key judged.now.rate self.old.entries) judged.now.begins) admission) ≡ true }
         ensures gates { (p : NumberedPacket)
@@ -145,16 +149,17 @@ impl<A: Allocator + Copy> Intake<A> {
         ensures err { OnErr result (self.new ≡ self.old) }
         ensures asker { self.new.asker ≡ self.old.asker }
     {
+        let origin = origin_of(coming);
         let answer = admission.answer();
         let pli = loses(judged.verdict, answer.pli);
-        let up = self.asked(alloc, coming, &answer.nacks, pli)?;
+        let up = self.asked(alloc, origin, &answer.nacks, pli)?;
         let outcome = outcome_at(judged.verdict, answer.place);
         let mut items = Vec::with_capacity(alloc, answer.frames.len())?;
         let epoch = self.epoch_for(judged);
         let Some(admitted) = self.advance(key, judged, Some(admission))? else {
             unreachable!()
         };
-        put_frames(&mut items, coming, epoch, admitted.frames);
+        put_frames(&mut items, origin, coming.moment, epoch, admitted.frames);
         Ok(Ingest { outcome, up, items })
     }
 

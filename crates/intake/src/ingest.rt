@@ -1,4 +1,4 @@
-//! The answer of the intake to a datagram.
+//! The answers of the intake to a datagram and to a wait.
 
 ghost use Rattle.std.specs.Prelude.{◌≡◌, true, map};
 ghost use Rattle.std.specs.List.{list_all};
@@ -31,6 +31,32 @@ impl<A: Allocator + Copy> Ingest<A> {
     {
         Self {
             outcome,
+            up: Vec::new(alloc),
+            items: Vec::new(alloc),
+        }
+    }
+}
+
+/// The answer to a wait.
+#[derive(Drop)]
+pub struct WaitAnswer<A: Allocator + Copy = Global> {
+    /// Datagrams to send, with the addresses that they go to: at most one.
+    pub up: Vec<(Address, Vec<u8, A>), A>,
+    /// The items for each lane, in this order: frames alone.
+    pub items: Vec<Item<A>, A>,
+    /// No item is audio of a wrong size.
+    pub ghost sized: { list_all is_sized (map input_of items.items) ≡ true },
+}
+
+impl<A: Allocator + Copy> WaitAnswer<A> {
+    ghost use Rattle.intake.specs.Ingested.{only, answered_of};
+    ghost use Rattle.intake.specs.declared.outcome.Outcome.TheVariants.{Unknown};
+
+    /// An answer with nothing in it.
+    pub(crate) fn nothing(alloc: A) -> Self
+        ensures { answered_of result ≡ only Unknown }
+    {
+        Self {
             up: Vec::new(alloc),
             items: Vec::new(alloc),
         }

@@ -1,33 +1,35 @@
 //! The intake: its state, and the way of a datagram.
 //!
 //! A media packet goes on in `media`, then in `advancing` for its source, in `gating` for the source's gate, and in
-//! `requesting` for what the source is asked for. A compound goes on in `control`. Receiver reports are made in
-//! `reporting`.
+//! `requesting` for what the source is asked for. A compound goes on in `control`, and a wait in `waiting`. Receiver
+//! reports are made in `reporting`.
 
 ghost use Rattle.std.specs.Prelude.{◌≡◌, true, map, IfOk, OnErr};
 ghost use Rattle.desk_rows.specs.Desk.{good};
 ghost use Rattle.intake.specs.Names.{is_name};
 ghost use Rattle.intake.specs.Sources.{no_sources};
-ghost use Rattle.intake.specs.Ingested.{ingested_of, datagram_of};
-ghost use Rattle.intake.specs.Intakes.{Knows, TakesIn, TellsSenders};
+ghost use Rattle.intake.specs.Ingested.{ingested_of, answered_of, datagram_of};
+ghost use Rattle.intake.specs.Intakes.{Knows, TakesIn, WaitsFor, TellsSenders};
 
-use crate::ingest::Ingest;
+use crate::coming::Origin;
+use crate::ingest::{Ingest, WaitAnswer};
 use crate::known::Known;
 use crate::outcome::Outcome;
 use crate::payloads::PayloadBlock;
 use crate::reporting::sources_of;
 use crate::settings::Settings;
-use desk_rows::Rows;
+use desk_rows::{Media, Rows};
 use rtp_codec::{Address, Class, classify};
 use std::alloc::{AllocError, Allocator, Global};
 use std::marker::Model;
+use topology::source_from;
 
 /// The most octets of a datagram.
 const MOST_OCTETS: usize = 8_192;
 
 /// The receive side. It judges each datagram, and turns it into items for the lanes and datagrams for its sender.
 ///
-/// Contracts see the sources that it knows, as a function of the datagrams and reports so far.
+/// Contracts see the sources that it knows, as a function of the datagrams, waits and reports so far.
 #[derive(Drop)]
 pub struct Intake<A: Allocator + Copy = Global> {
     pub(crate) settings: Settings<A>,
@@ -96,6 +98,45 @@ impl<A: Allocator + Copy> Intake<A> {
             Class::Neither => Ok(Ingest::only(alloc, Outcome::Neither)),
             Class::Rtp => self.rtp(alloc, rows, from, moment, octets),
             Class::Rtcp => self.rtcp(alloc, rows, from, moment, octets),
+        }
+    }
+
+    /// Tells the gate of a video source that time has passed. Call it every 20 ms for each video source of the desk.
+    ///
+    /// A call asks again for each packet that was missing at 2, 5, 11 or 21 calls before it, by one NACK (RFC 4585
+    /// section 6.2.1). It gives up the packets that were missing at 25 calls before it, or at 5 while the source
+    /// doesn't answer NACKs. Then it also asks for a picture, by a PLI (RFC 4585 section 6.3.1), and the frames that
+    /// this sets free are its items, with this moment. What it asks for goes to `from` in one datagram.
+    ///
+    /// Nothing comes of the call, and nothing changes, unless the desk has a video source of this SSRC of a member at
+    /// the address `from`, and a packet of its epoch has come to its gate. The order of use stays in any case.
+    ///
+    /// `moment` is in nanoseconds since 1970. On out of memory, the only error, nothing changes.
+    pub fn wait(
+        &mut self,
+        alloc: A,
+        rows: &Rows<A>,
+        from: &Address,
+        ssrc: u32,
+        moment: u64,
+    ) -> Result<WaitAnswer<A>, AllocError>
+        ensures waits { IfOk result (λ answer. WaitsFor self.old self.new (answered_of answer) rows.now
+            (record { address = from.now; ssrc = ssrc }) moment) }
+        ensures err { OnErr result (self.new ≡ self.old) }
+        ensures asker { self.new.asker ≡ self.old.asker }
+    {
+        let Some(source) = source_from(rows, ssrc, from) else {
+            return Ok(WaitAnswer::nothing(alloc));
+        };
+        match source.media {
+            Media::Audio => Ok(WaitAnswer::nothing(alloc)),
+            Media::Video => {
+                let origin = Origin {
+                    address: *from,
+                    ssrc,
+                };
+                self.video_wait(alloc, origin, moment)
+            }
         }
     }
 

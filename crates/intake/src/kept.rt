@@ -5,10 +5,11 @@ ghost use Rattle.rtcp_codec.specs.Report.{FitsLost};
 ghost use Rattle.intake.specs.Stories.{Story};
 ghost use Rattle.intake.specs.Control.{heard_on};
 ghost use Rattle.intake.specs.Reported.{block_on, renewed};
-ghost use Rattle.intake.specs.inner.Kept.{Keeps, base_of, gate_for, kept_by, SettlesAll, Becomes};
+ghost use Rattle.frame_gate.specs.Waits.{answer_in};
+ghost use Rattle.intake.specs.inner.Kept.{Keeps, base_of, gate_for, kept_by, SettlesAll, Becomes, HasWaited};
 
-use crate::admitting::{Admission, settle};
-use frame_gate::{Admitted, Gate};
+use crate::admitting::{Admission, settle, settle_wait};
+use frame_gate::{Admitted, PreparedWait, Waited, WatchedGate};
 use rtcp_codec::ReportBlock;
 use source_valid::SourceState;
 use std::alloc::{Allocator, Global};
@@ -21,7 +22,7 @@ pub(crate) struct Kept<A: Allocator + Copy = Global> {
     pub(crate) rate: u32,
     pub(crate) source: SourceState,
     pub(crate) epoch: u64,
-    pub(crate) gate: Option<Gate<A>>,
+    pub(crate) gate: Option<WatchedGate<A>>,
 }
 
 impl<A: Allocator + Copy> Model for Kept<A> {
@@ -62,11 +63,11 @@ impl<A: Allocator + Copy> Model for NextState<A> {
 /// Commits the prepared packet, if there is one.
 #[inline(always)]
 pub(crate) fn settle_all<A: Allocator + Copy>(
-    gate: &mut Option<Gate<A>>,
+    gate: &mut Option<WatchedGate<A>>,
     admission: Option<Admission<A>>,
 ) -> Option<Admitted<A>>
     requires ready { IfSome admission (λ a. is_some (base_of gate.old a) ≡ true) }
-    ensures answer { result ≡ option_map (λ a. a.prepared.answer) admission }
+    ensures answer { result ≡ option_map (λ a. a.prepared.prepared.answer) admission }
     ensures settles { SettlesAll gate.old admission gate.new }
 {
     match admission {
@@ -83,7 +84,7 @@ impl<A: Allocator + Copy> Kept<A> {
         requires ready { IfSome next.admission
             (λ a. is_some (base_of (gate_for (kept_by next.rate (Some self.old)) next.begins) a) ≡ true) }
         ensures becomes { Becomes (kept_by next.rate (Some self.old)) next self.new }
-        ensures answer { result ≡ option_map (λ a. a.prepared.answer) next.admission }
+        ensures answer { result ≡ option_map (λ a. a.prepared.prepared.answer) next.admission }
     {
         let NextState {
             rate,
@@ -132,5 +133,15 @@ impl<A: Allocator + Copy> Kept<A> {
             // The block was made before.
             source.block(0, 0);
         }
+    }
+
+    /// Commits a prepared wait at the gate. This takes no memory.
+    pub(crate) fn wait(&mut self, prepared: PreparedWait<A>) -> Waited<A>
+        requires ready { is_some self.old.gate ≡ true }
+        ensures answer { result ≡ answer_in prepared }
+        ensures waited { HasWaited self.old.gate prepared self.new.gate }
+        ensures same { self.new ≡ record self.old { gate = self.new.gate } }
+    {
+        settle_wait(&mut self.gate, prepared)
     }
 }

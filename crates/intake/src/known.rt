@@ -6,11 +6,12 @@ ghost use Rattle.rtcp_codec.specs.View.{packet_of, packets_of};
 ghost use Rattle.intake.specs.Sources.{most_known, Known as KnownOf, retold};
 ghost use Rattle.intake.specs.Control.{heard_on, noted, noted_all};
 ghost use Rattle.intake.specs.Reported.{renewed};
-ghost use Rattle.intake.specs.inner.Kept.{KeptOf, base_of, gate_for, Becomes};
-ghost use Rattle.intake.specs.inner.Holding.{Holds, kept_at, kept_for, key_of, put_first};
+ghost use Rattle.frame_gate.specs.Waits.{answer_in};
+ghost use Rattle.intake.specs.inner.Kept.{KeptOf, base_of, gate_in, gate_for, Becomes};
+ghost use Rattle.intake.specs.inner.Holding.{Holds, kept_at, kept_for, key_of, put_first, WaitedAt};
 
 use crate::kept::{Kept, NextState, settle_all};
-use frame_gate::Admitted;
+use frame_gate::{Admitted, PreparedWait, Waited};
 use lru::LruCache;
 use rtcp_codec::Rtcp;
 use rtp_codec::Address;
@@ -100,7 +101,7 @@ impl<A: Allocator + Copy> Known<A> {
         requires new { kept_at key self.old ≡ None }
         requires ready { IfSome next.admission (λ a. is_some (base_of (gate_for None next.begins) a) ≡ true) }
         ensures becomes { OnOk result ((k : KeptOf) × Becomes None next k × (self.new ≡ put_first key k self.old)) }
-        ensures answer { IfOk result (λ answer. answer ≡ option_map (λ a. a.prepared.answer) next.admission) }
+        ensures answer { IfOk result (λ answer. answer ≡ option_map (λ a. a.prepared.prepared.answer) next.admission) }
         ensures err { OnErr result (self.new ≡ self.old) }
     {
         let NextState {
@@ -133,7 +134,7 @@ impl<A: Allocator + Copy> Known<A> {
             (λ a. is_some (base_of (gate_for (kept_for key next.rate self.old) next.begins) a) ≡ true) }
         ensures becomes { OnOk result ((k : KeptOf) × Becomes (kept_for key next.rate self.old) next k
             × (self.new ≡ put_first key k self.old)) }
-        ensures answer { IfOk result (λ answer. answer ≡ option_map (λ a. a.prepared.answer) next.admission) }
+        ensures answer { IfOk result (λ answer. answer ≡ option_map (λ a. a.prepared.prepared.answer) next.admission) }
         ensures err { OnErr result (self.new ≡ self.old) }
     {
         match self.cache.get_mut(&key) {
@@ -164,6 +165,19 @@ impl<A: Allocator + Copy> Known<A> {
         match self.cache.peek_mut(&key_of(from, ssrc)) {
             Some(kept) => kept.renew(),
             None => {}
+        }
+    }
+
+    /// Commits a prepared wait at a source's gate. Gives the source's epoch and the gate's answer. The order of use
+    /// stays, and this takes no memory.
+    pub(crate) fn wait(&mut self, key: &OriginKey, prepared: PreparedWait<A>) -> (u64, Waited<A>)
+        requires ready { is_some (gate_in (kept_at key.now self.old)) ≡ true }
+        ensures answer { result.1 ≡ answer_in prepared }
+        ensures waited { WaitedAt self.old self.new key.now prepared result.0 }
+    {
+        match self.cache.peek_mut(key) {
+            Some(kept) => (kept.epoch, kept.wait(prepared)),
+            None => unreachable!(),
         }
     }
 

@@ -1,16 +1,22 @@
 //! Laws of the definitions: functions that do nothing when they run.
 
-ghost use Rattle.std.specs.Prelude.{◌≡◌, ℕ, true, if◌then◌else◌, List, map, IfSome, option_map};
+ghost use Rattle.std.specs.Prelude.{◌≡◌, ℕ, true, false, if◌then◌else◌, List, map, IfSome, option_map};
 ghost use Rattle.rtp_codec.specs.Octets.{AreOctets};
+ghost use Rattle.frame_gate.specs.Packets.{NumberedPacket};
+ghost use Rattle.frame_gate.specs.Epochs.{epoch_of};
+ghost use Rattle.frame_gate.specs.Watched.{came};
 ghost use Rattle.desk_rows.specs.Desk.{Desk, good};
 ghost use Rattle.topology.specs.Looking.{comes_from};
 ghost use Rattle.upward.specs.Upstream.{Asker};
 ghost use Rattle.intake.specs.Readings.{Reading, IsReading};
-ghost use Rattle.intake.specs.Stories.{Story};
-ghost use Rattle.intake.specs.Sources.{Origin, Sources, story_at};
-ghost use Rattle.intake.specs.Taking.{Voice, IsVoice};
+ghost use Rattle.intake.specs.Stories.{Story, gate_epoch};
+ghost use Rattle.intake.specs.Sources.{Origin, Sources, no_sources, same_origin, story_at};
+ghost use Rattle.intake.specs.Taking.{Voice, IsVoice, Datagram, taken_in};
+ghost use Rattle.intake.specs.Waiting.{waited_for};
+ghost use Rattle.intake.specs.PacketsAlone.{HavePacketsAlone};
 ghost use Rattle.intake.specs.Reported.{block_on, renewed, reported};
 
+use frame_gate::packets_alone_are_an_epoch;
 use rtcp_codec::{compound_or_fault, numbers_have_words};
 use rtp_codec::faultless_is_packet;
 
@@ -44,4 +50,28 @@ pub fn reports_begin_intervals()
         → map (λ k. k.origin) (reported asker d moment s).1.known ≡ map (λ k. k.origin) s.known }
     ensures next { (ssrc moment : ℕ) (story : Story)
         → IfSome (block_on ssrc moment (renewed story)) (λ b. b.fraction ≡ 0) }
+{}
+
+/// A law of sources without waits. Datagrams and reports bring packets alone to the gates, and then the epoch at a
+/// gate is that of these packets.
+pub fn gates_without_waits()
+    ensures epoch { (story : Story) (packets : List NumberedPacket) → story.gated ≡ map came packets
+        → gate_epoch story ≡ epoch_of packets }
+    ensures start { HavePacketsAlone no_sources }
+    ensures datagrams { (voice : Voice) (s : Sources) (d : Datagram) → HavePacketsAlone s
+        → HavePacketsAlone (taken_in voice s d).1 }
+    ensures reports { (asker : Asker) (d : Desk) (moment : ℕ) (s : Sources) → HavePacketsAlone s
+        → HavePacketsAlone (reported asker d moment s).1 }
+{
+    packets_alone_are_an_epoch();
+}
+
+/// A law of waits. The order of use stays, other sources stay as they were, and no epoch begins.
+pub fn waits_leave_others_alone()
+    ensures order { (voice : Voice) (d : Desk) (o : Origin) (moment : ℕ) (s : Sources)
+        → map (λ k. k.origin) (waited_for voice d o moment s).1.known ≡ map (λ k. k.origin) s.known }
+    ensures others { (voice : Voice) (d : Desk) (o p : Origin) (moment : ℕ) (s : Sources) → same_origin p o ≡ false
+        → story_at p (waited_for voice d o moment s).1.known ≡ story_at p s.known }
+    ensures epochs { (voice : Voice) (d : Desk) (o : Origin) (moment : ℕ) (s : Sources)
+        → (waited_for voice d o moment s).1.epochs ≡ s.epochs }
 {}

@@ -1,13 +1,14 @@
 //! The receive side. It takes in each datagram from the wire, and returns its outcome, the items for the lanes, and the
 //! datagrams that ask its sender for something.
 //!
-//! Begin with [`Intake::new`], then [`Intake::datagram`] and [`Intake::reports`]. A contract sees the sources that the
-//! intake knows, as a function of the datagrams and reports so far.
+//! Begin with [`Intake::new`], then [`Intake::datagram`], [`Intake::wait`] and [`Intake::reports`]. A contract sees the
+//! sources that the intake knows, as a function of the datagrams, waits and reports so far.
 //!
 //! ```rust
 //! let settings = Settings { bridge_ssrc: 1, cname: Bytes::from_static(b"bridge") };
 //! let mut intake = Intake::new(alloc, settings)?;
 //! let ingest = intake.datagram(alloc, &rows, &from, moment, &octets)?; // its outcome, items, and datagrams to send
+//! let answer = intake.wait(alloc, &rows, &from, 1001, moment)?; // every 20 ms: items, and datagrams to send
 //! let reports = intake.reports(alloc, &rows, moment)?; // receiver reports, with the addresses that they go to
 //! ```
 //!
@@ -34,11 +35,13 @@ mod reporting;
 mod requesting;
 mod settings;
 mod sounding;
+mod waiting;
 
-pub use self::ingest::Ingest;
+pub use self::ingest::{Ingest, WaitAnswer};
 pub use self::intake::Intake;
 pub use self::laws::{
-    datagrams_are_read, readings_agree, reports_begin_intervals, voices_are_there,
+    datagrams_are_read, gates_without_waits, readings_agree, reports_begin_intervals,
+    voices_are_there, waits_leave_others_alone,
 };
 pub use self::outcome::Outcome;
 pub use self::settings::Settings;

@@ -3,11 +3,10 @@
 ghost use Rattle.std.specs.Prelude.{◌≡◌, ◌≤◌, [], ◌∷◌, length, IfOk, map};
 ghost use Rattle.upward.specs.Upstream.{most_words};
 ghost use Rattle.intake.specs.Ingested.{datagram_of};
-ghost use Rattle.intake.specs.Media.{origin_of};
+ghost use Rattle.intake.specs.inner.Comings.{origin_in};
 ghost use Rattle.intake.specs.Taking.{Voice, IsVoice, asking, asked_of};
-ghost use Rattle.intake.specs.inner.Comings.{coming_of};
 
-use crate::coming::Coming;
+use crate::coming::Origin;
 use crate::intake::Intake;
 use crate::settings::Settings;
 use rtp_codec::Address;
@@ -44,11 +43,11 @@ impl<A: Allocator + Copy> Intake<A> {
         upstream(alloc, *bridge_ssrc, cname, source, nacks, pli)
     }
 
-    /// The datagram for a packet's source, if it is asked for anything.
+    /// The datagram for a source, if it is asked for anything.
     pub(crate) fn asked(
         &self,
         alloc: A,
-        coming: Coming<'_>,
+        origin: Origin,
         nacks: &[i64],
         pli: bool,
     ) -> Result<Vec<(Address, Vec<u8, A>), A>, AllocError>
@@ -56,12 +55,12 @@ impl<A: Allocator + Copy> Intake<A> {
         ensures { (voice : Voice) → IsVoice voice → voice.asker ≡ self.now.asker
             → IfOk result
             (λ up. map datagram_of up.items
-            ≡ asked_of voice (origin_of (coming_of coming.entry)) nacks.now pli) }
+            ≡ asked_of voice (origin_in origin) nacks.now pli) }
     {
         if nacks.is_empty() && !pli {
             return Ok(Vec::new(alloc));
         }
-        let octets = self.asking(alloc, coming.view.ssrc, nacks, pli)?;
-        one_datagram(alloc, coming.from, octets)
+        let octets = self.asking(alloc, origin.ssrc, nacks, pli)?;
+        one_datagram(alloc, &origin.address, octets)
     }
 }

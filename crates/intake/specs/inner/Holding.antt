@@ -1,12 +1,13 @@
 -- The sources that are kept, by the parts of their addresses and their SSRCs.
-use Rattle.std.specs.Prelude.{◌≡◌, ℕ, ◌-◌, Bool, ◌&&◌, nat_eq, List, [], ◌∷◌, take, Option}
+use Rattle.std.specs.Prelude.{◌≡◌, ℕ, ◌-◌, Bool, ◌&&◌, nat_eq, List, [], ◌∷◌, take, Option, Some}
 use Rattle.std.specs.Str.{bytes_eq}
-use Rattle.std.specs.Map.{lookup, lookup_entry, remove_entry}
+use Rattle.std.specs.Map.{lookup, lookup_entry, remove_entry, set_value}
 use Rattle.std.specs.Option.{option_map_or}
 use Rattle.intake.specs.declared.known.OriginKey.{OriginKey}
 use Rattle.intake.specs.Sources.{Origin, Known, most_known}
 use Rattle.upward.specs.Upstream.{Asker}
-use Rattle.intake.specs.inner.Kept.{KeptOf, Keeps, kept_by}
+use Rattle.frame_gate.specs.Waits.{PreparedWaitOf}
+use Rattle.intake.specs.inner.Kept.{KeptOf, Keeps, HasWaited, kept_by}
 
 abbrev pub same_key : OriginKey → OriginKey → Bool
 same_key a b = bytes_eq a.ip b.ip && (nat_eq a.port b.port && nat_eq a.ssrc b.ssrc)
@@ -36,6 +37,16 @@ Holds [] [] = Unit {0}
 Holds [] (k ∷ ks) = ⊥
 Holds (e ∷ es) [] = ⊥
 Holds (e ∷ es) (k ∷ ks) = ((e.0 ≡ key_of k.origin) × Keeps e.1 k.story) × Holds es ks
+
+-- The prepared wait was committed at the gate of the source under a key, which stays where it stands, and has this epoch.
+pub record WaitedAt (old new : List (OriginKey × KeptOf)) (key : OriginKey) (r : PreparedWaitOf) (epoch : ℕ) : Type 0 where
+  pub before : KeptOf
+  pub after : KeptOf
+  pub kept : kept_at key old ≡ Some before
+  pub its_epoch : epoch ≡ before.epoch
+  pub waited : HasWaited before.gate r after.gate
+  pub same : after ≡ record before { gate = after.gate }
+  pub entries : new ≡ set_value (same_key key) old after
 
 -- what contracts see of an intake: who speaks, the sources that are kept, and how many epochs have begun
 pub record IntakeOf : Type 0 where

@@ -1,14 +1,15 @@
 -- What is kept of a source, and how it stands to the source's story.
-use Rattle.std.specs.Prelude.{◌≡◌, ℕ, Bool, nat_eq, if◌then◌else◌, List, [], ◌∷◌, ◌++◌, Option, None, Some, is_some, true}
+use Rattle.std.specs.Prelude.{◌≡◌, ℕ, ◌≤◌, Bool, nat_eq, if◌then◌else◌, List, [], ◌∷◌, ◌++◌, length, Option, None, Some, is_some, true}
 use Rattle.source_valid.specs.declared.verdict.Verdict.{Verdict}
 use Rattle.source_valid.specs.inner.Kept.{Kept as SourceOf}
 use Rattle.source_valid.specs.Histories.{Step, Number, standing_of, verdict_of}
 use Rattle.source_valid.specs.Represents.{Represents as IsGiven}
 use Rattle.source_valid.specs.Ranges.{IsInRange}
-use Rattle.frame_gate.specs.inner.Kept.{Kept as GateOf, PreparedOf}
 use Rattle.frame_gate.specs.Packets.{NumberedPacket}
-use Rattle.frame_gate.specs.Epochs.{epoch_of}
-use Rattle.frame_gate.specs.Admits.{Represents as Gates, Answers, Commits}
+use Rattle.frame_gate.specs.Epochs.{most_missing}
+use Rattle.frame_gate.specs.Watched.{GateEvent, came, watch_of}
+use Rattle.frame_gate.specs.Admits.{Answers}
+use Rattle.frame_gate.specs.Waits.{WatchedOf as GateOf, PreparedPacketOf, PreparedWaitOf, Watches, CommitsPacket, CommitsWait, PreparesWait}
 use Rattle.intake.specs.Stories.{Story, Mark, initialises, arrival}
 
 -- a clock rate, a source, its epoch, and its gate, which it has from the first packet on that comes to it
@@ -18,10 +19,11 @@ pub record KeptOf : Type 0 where
   pub epoch : ℕ
   pub gate : Option GateOf
 
--- the gate was given these packets
-abbrev pub HasGated : Option GateOf → List NumberedPacket → Type 0
-HasGated None packets = packets ≡ []
-HasGated (Some gate) packets = Gates gate packets
+-- this came to the gate, a packet at least
+abbrev pub HasGated : Option GateOf → List GateEvent → Type 0
+HasGated None events = events ≡ []
+HasGated (Some gate) [] = ⊥
+HasGated (Some gate) (e ∷ events) = Watches gate (watch_of (e ∷ events))
 
 -- the source was given this
 abbrev pub HasGiven : Option SourceOf → List Step → Type 0
@@ -54,23 +56,24 @@ pub record Judges (source : Option SourceOf) (m : Mark) (j : JudgedOf) : Type 0 
 -- a packet that is ready for a gate: a new one, where there was none
 pub record AdmissionOf : Type 0 where
   pub fresh : Option GateOf
-  pub prepared : PreparedOf
+  pub prepared : PreparedPacketOf
 
 -- the gate that a packet comes to
 abbrev pub base_of : Option GateOf → AdmissionOf → Option GateOf
 base_of gate a = elim a.fresh [ None ↦ gate | Some fresh ↦ Some fresh ]
 
--- Whatever packets the gate was given: once it is committed, one more is answered, and the gate was given it too.
+-- Whatever came to the gate: once it is committed, one more packet is answered, and came to the gate too.
 pub record Admits (gate : Option GateOf) (p : NumberedPacket) (a : AdmissionOf) : Type 0 where
   pub ready : is_some (base_of gate a) ≡ true
-  pub after : (packets : List NumberedPacket) (old new : GateOf) → HasGated gate packets → base_of gate a ≡ Some old → Commits old a.prepared new → Answers (epoch_of packets) p a.prepared.answer × Gates new (packets ++ p ∷ [])
+  pub after : (events : List GateEvent) (old new : GateOf) → HasGated gate events → base_of gate a ≡ Some old → CommitsPacket old a.prepared new
+      → Answers (watch_of events).epoch p a.prepared.prepared.answer × HasGated (Some new) (events ++ came p ∷ [])
 
 -- what was ready was committed
 pub record Settles (old : Option GateOf) (a : AdmissionOf) (new : Option GateOf) : Type 0 where
   pub base : GateOf
   pub gate : GateOf
   pub before : base_of old a ≡ Some base
-  pub commits : Commits base a.prepared gate
+  pub commits : CommitsPacket base a.prepared gate
   pub now : new ≡ Some gate
 
 -- what a source is to become: its clock rate, with what it was given, its epoch, whether this begins with the packet, and what is ready for its gate
@@ -105,3 +108,18 @@ pub record Becomes (old : Option KeptOf) (next : NextOf) (new : KeptOf) : Type 0
   pub source : new.source ≡ next.source
   pub epoch : new.epoch ≡ next.epoch
   pub gate : SettlesAll (gate_for old next.begins) next.admission new.gate
+
+-- The prepared wait was committed at the gate.
+pub record HasWaited (old : Option GateOf) (r : PreparedWaitOf) (new : Option GateOf) : Type 0 where
+  pub base : GateOf
+  pub gate : GateOf
+  pub before : old ≡ Some base
+  pub commits : CommitsWait base r gate
+  pub now : new ≡ Some gate
+
+-- A wait is ready for the gate, if there is one; it asks for no more numbers again than are missing.
+abbrev pub ReadiesWait : Option GateOf → Option PreparedWaitOf → Type 0
+ReadiesWait None None = Unit {0}
+ReadiesWait None (Some r) = ⊥
+ReadiesWait (Some gate) None = ⊥
+ReadiesWait (Some gate) (Some r) = PreparesWait gate r × (length r.nacks ≤ most_missing)

@@ -8,14 +8,17 @@ use Rattle.source_valid.specs.Histories.{restarts}
 use Rattle.frame_gate.specs.declared.packet.Place.{Place}
 use Rattle.frame_gate.specs.Answer.{Answer}
 use Rattle.frame_gate.specs.Packets.{NumberedPacket}
+use Rattle.frame_gate.specs.Watched.{Waited}
+use Rattle.frame_gate.specs.Waits.{PreparedWaitOf, answer_in}
 use Rattle.intake.specs.declared.outcome.Outcome.{Outcome}
 use Rattle.intake.specs.declared.outcome.Outcome.TheVariants as outcomes
 use Rattle.intake.specs.declared.known.OriginKey.{OriginKey}
+use Rattle.intake.specs.Sources.{Origin}
 use Rattle.intake.specs.Ingested.{Ingested}
 use Rattle.intake.specs.Media.{Coming, origin_of, placed, frames_from}
 use Rattle.intake.specs.Taking.{Voice, IsVoice, asked_of}
 use Rattle.intake.specs.inner.Kept.{KeptOf, JudgedOf, AdmissionOf, NextOf, Admits, Becomes, gate_for}
-use Rattle.intake.specs.inner.Holding.{IntakeOf, kept_for, put_first}
+use Rattle.intake.specs.inner.Holding.{IntakeOf, WaitedAt, key_of, kept_for, put_first}
 
 -- the source of what is kept
 abbrev pub state_in : Option KeptOf → Option SourceOf
@@ -59,4 +62,19 @@ pub record Gates (old new : IntakeOf) (key : OriginKey) (j : JudgedOf) (c : Comi
   pub admission : AdmissionOf
   pub admits : Admits (gate_for (kept_for key j.rate old.entries) j.begins) p admission
   pub advances : Advances old new key j (Some admission)
-  pub answers : (voice : Voice) → IsVoice voice → voice.asker ≡ old.asker → ingested ≡ given voice c (next_of (kept_for key j.rate old.entries) old.epochs j (Some admission)).epoch j.verdict admission.prepared.answer
+  pub answers : (voice : Voice) → IsVoice voice → voice.asker ≡ old.asker → ingested ≡ given voice c (next_of (kept_for key j.rate old.entries) old.epochs j (Some admission)).epoch j.verdict admission.prepared.prepared.answer
+
+-- what is answered where the gate answers a wait so
+abbrev pub wait_given : Voice → Origin → (moment epoch : ℕ) → Waited → Ingested
+wait_given voice o moment epoch answer = record {
+  outcome = outcomes.Unknown;
+  up = asked_of voice o answer.nacks answer.pli;
+  items = frames_from o moment epoch answer.frames;
+}
+
+-- The prepared wait was committed at the source's gate.
+pub record WaitsAtGate (old new : IntakeOf) (o : Origin) (moment : ℕ) (r : PreparedWaitOf) (ingested : Ingested) : Type 0 where
+  pub epoch : ℕ
+  pub waited : WaitedAt old.entries new.entries (key_of o) r epoch
+  pub others : new ≡ record old { entries = new.entries }
+  pub answers : (voice : Voice) → IsVoice voice → voice.asker ≡ old.asker → ingested ≡ wait_given voice o moment epoch (answer_in r)

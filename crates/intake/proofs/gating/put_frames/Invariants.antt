@@ -2,14 +2,14 @@
 use Rattle.std.proofs.Common.{◌≡◌, ◌+◌, ◌≤◌, ◌++◌, length, map, vec_len, vec_capacity}
 use Rattle.std.specs.Vec.Iter.{into_iter_items}
 use Rattle.media_items.specs.Inputs.{input_of}
-use Rattle.intake.specs.Media.{origin_of, frames_from}
-use Rattle.intake.specs.inner.Comings.{coming_of}
+use Rattle.intake.specs.Media.{frames_from}
+use Rattle.intake.specs.inner.Comings.{origin_in}
 use Rattle.intake.proofs.gating.put_frames.Given as goal
 
 abbrev pub invariant-loop-frame : goal.invariant-loop-frame
 invariant-loop-frame g l =
     let rest = into_iter_items l.frame-iterator in
-    let items = frames_from (origin_of (coming_of l.coming)) l.coming.moment l.epoch in
+    let items = frames_from (origin_in l.origin) l.moment l.epoch in
     record {
       items : map input_of l.items.items ++ items rest ≡ map input_of l.fn.items.items ++ items l.fn.frames.items;
       len : vec_len l.items + length rest ≡ vec_len l.fn.items + vec_len l.fn.frames;

@@ -10,5 +10,5 @@ returns g c = λ voice is asker.
     let there = ap (λ e. e && not c.args.pli) (sym c.is_empty.ensures) ∙ some in
     let octets = c.in_ok-octets.ensures voice is asker in
     subst (λ x. IfOk c.one_datagram.result (λ d. map datagram_of d.items ≡ x))
-    (ap (λ x. (c.args.coming.from.now, x) ∷ []) octets ∙ ap (λ b. if b then [] else (c.args.coming.from.now, asking voice c.args.coming.view.now.ssrc c.args.nacks.now c.args.pli) ∷ []) (sym there))
+    (ap (λ x. (c.args.origin.address, x) ∷ []) octets ∙ ap (λ b. if b then [] else (c.args.origin.address, asking voice c.args.origin.ssrc c.args.nacks.now c.args.pli) ∷ []) (sym there))
     c.one_datagram.ensures

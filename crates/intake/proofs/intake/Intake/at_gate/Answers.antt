@@ -1,4 +1,4 @@
-use Rattle.std.proofs.Common.{◌∙◌, ap, sym, map, ◌||◌, ◌++◌, ◌+◌, if◌then◌else◌}
+use Rattle.std.proofs.Common.{◌≡◌, ◌∙◌, ap, sym, map, ◌||◌, ◌++◌, ◌+◌, if◌then◌else◌}
 use Rattle.std.specs.List.{list_all}
 use Rattle.frame_gate.specs.Answer.{Answer}
 use Rattle.media_items.specs.Inputs.{input_of, is_sized}
@@ -6,7 +6,7 @@ use Rattle.source_valid.specs.Histories.{restarts}
 use Rattle.intake.specs.Media.{Coming, origin_of, frames_from}
 use Rattle.intake.specs.Sources.{Origin}
 use Rattle.intake.specs.Taking.{asked_of}
-use Rattle.intake.specs.inner.Comings.{coming_of}
+use Rattle.intake.specs.inner.Comings.{coming_of, origin_in}
 use Rattle.intake.specs.inner.Kept.{JudgedOf}
 use Rattle.intake.specs.inner.Moves.{outcome_at}
 use Rattle.intake.proofs.AtGates.{some_injective}
@@ -16,17 +16,19 @@ use Rattle.intake.proofs.intake.Intake.at_gate.Goals as goal
 
 pub invariant_of-result : goal.invariant_of-result
 invariant_of-result g c =
-    let origin : Origin = origin_of (coming_of c.args.coming) in
+    let origin : Origin = origin_in c.origin_of-origin.result in
     let frames = frames_from origin c.args.coming.moment c.epoch_for-epoch.result c.admitted.inside.frames.items in
     record { sized = ap (list_all is_sized) (c.put_frames.ensures.items ∙ ap (λ xs. map input_of xs ++ frames) c.in_ok-items.ensures.items) ∙ sized_frames origin c.args.coming.moment c.epoch_for-epoch.result c.admitted.inside.frames.items }
 
 pub returns-clause-gates : goal.returns-clause-gates
 returns-clause-gates g c = λ p admits.
-    let answer : Answer = c.args.admission.prepared.answer in
+    let answer : Answer = c.args.admission.prepared.prepared.answer in
     let j : JudgedOf = c.args.judged.now in
     let at = c.answer.view_is ∙ c.answer-answer.ensures in
     let coming : Coming = coming_of c.args.coming in
     let origin : Origin = origin_of coming in
+    let parts : Origin = origin_in c.origin_of-origin.result in
+    let same : parts ≡ origin = c.origin_of-origin.ensures in
     let told = some_injective _ _ (sym c.in-Some.is ∙ c.in_ok-admitted.ensures.answer) in
     record {
       admission = c.args.admission;
@@ -34,9 +36,11 @@ returns-clause-gates g c = λ p admits.
       advances = c.in_ok-admitted.ensures.advances;
       answers = λ voice is asker. given_is voice coming _ j.verdict answer _ _ _
           (c.outcome_at-outcome.ensures ∙ ap (λ (x : JudgedOf). outcome_at x.verdict c.answer.inside.place) c.judged.view_is ∙ ap (λ (a : Answer). outcome_at j.verdict a.place) at)
-          (c.in_ok-up.ensures voice is asker ∙ ap (λ n. asked_of voice origin n c.loses-pli.result) (c.deref.ensures.value ∙ ap (λ (a : Answer). a.nacks) at)
+          (c.in_ok-up.ensures voice is asker ∙ ap (λ n. asked_of voice parts n c.loses-pli.result) (c.deref.ensures.value ∙ ap (λ (a : Answer). a.nacks) at)
+          ∙ ap (λ (x : Origin). asked_of voice x answer.nacks c.loses-pli.result) same
           ∙ ap (λ b. asked_of voice origin answer.nacks b) (c.loses-pli.ensures ∙ ap (λ (x : JudgedOf). restarts x.verdict || c.answer.inside.pli) c.judged.view_is ∙ ap (λ (a : Answer). restarts j.verdict || a.pli) at))
-          (c.put_frames.ensures.items ∙ ap (λ xs. map input_of xs ++ frames_from origin coming.moment c.epoch_for-epoch.result c.admitted.inside.frames.items) c.in_ok-items.ensures.items
+          (c.put_frames.ensures.items ∙ ap (λ xs. map input_of xs ++ frames_from parts coming.moment c.epoch_for-epoch.result c.admitted.inside.frames.items) c.in_ok-items.ensures.items
+          ∙ ap (λ (x : Origin). frames_from x coming.moment c.epoch_for-epoch.result c.admitted.inside.frames.items) same
           ∙ ap (λ fs. frames_from origin coming.moment c.epoch_for-epoch.result fs) (ap (λ (a : Answer). a.frames) (c.admitted.view_is ∙ told))
           ∙ ap (λ e. frames_from origin coming.moment e answer.frames) (c.epoch_for-epoch.ensures ∙ ap (λ e. if j.begins then c.args.self.now.epochs + 1 else e) c.requires.epoch));
     }

@@ -1,0 +1,39 @@
+use Rattle.std.proofs.Common.{◌≡◌, ◌∙◌, ap, subst, map, List, ◌++◌}
+use Rattle.std.specs.List.{list_all}
+use Rattle.frame_gate.specs.Watched.{Waited}
+use Rattle.media_items.specs.Inputs.{input_of, is_sized}
+use Rattle.intake.specs.declared.outcome.Outcome.TheVariants.{Unknown}
+use Rattle.intake.specs.declared.known.OriginKey.{OriginKey}
+use Rattle.intake.specs.Media.{frames_from}
+use Rattle.intake.specs.Sources.{Origin}
+use Rattle.intake.specs.Taking.{asked_of}
+use Rattle.intake.specs.inner.Comings.{origin_in}
+use Rattle.intake.specs.inner.Kept.{KeptOf}
+use Rattle.intake.specs.inner.Holding.{IntakeOf, WaitedAt}
+use Rattle.intake.proofs.Answered.{ingested}
+use Rattle.intake.proofs.Sized.{sized_frames}
+use Rattle.intake.proofs.intake.Intake.at_wait.Goals as goal
+
+pub invariant_of-result : goal.invariant_of-result
+invariant_of-result g c =
+    let origin : Origin = origin_in c.args.origin in
+    let frames = frames_from origin c.args.moment c.wait-epoch.result.0 c.waited.inside.frames.items in
+    record { sized = ap (list_all is_sized) (c.put_frames.ensures.items ∙ ap (λ xs. map input_of xs ++ frames) c.in_ok-items.ensures.items) ∙ sized_frames origin c.args.moment c.wait-epoch.result.0 c.waited.inside.frames.items }
+
+pub returns-clause-waits : goal.returns-clause-waits
+returns-clause-waits g c =
+    let origin : Origin = origin_in c.args.origin in
+    let epoch = c.wait-epoch.result.0 in
+    let new = c.wait-epoch.new.self in
+    record {
+      epoch = epoch;
+      waited = subst (λ (key : OriginKey). WaitedAt c.args.self.now.entries new key c.args.prepared epoch) c.origin_key.ensures
+          (subst (λ (i : IntakeOf). WaitedAt i.entries new c.origin_key.result c.args.prepared epoch) c.self.view_is c.wait-epoch.ensures.waited);
+      others = ap (λ (i : IntakeOf). record i { entries = new }) c.self.view_is;
+      answers = λ voice is asker.
+          ap (λ x. ingested Unknown x (map input_of c.put_frames.new.items.items))
+          (c.in_ok-up.ensures voice is asker ∙ ap (λ n. asked_of voice origin n c.gives_up.result) c.nacks.ensures ∙ ap (λ b. asked_of voice origin c.args.prepared.nacks b) c.gives_up.ensures)
+          ∙ ap (λ x. ingested Unknown (asked_of voice origin c.args.prepared.nacks c.args.prepared.cuts.answer.pli) x)
+          (c.put_frames.ensures.items ∙ ap (λ xs. map input_of xs ++ frames_from origin c.args.moment epoch c.waited.inside.frames.items) c.in_ok-items.ensures.items
+          ∙ ap (λ fs. frames_from origin c.args.moment epoch fs) (ap (λ (a : Waited). a.frames) (c.waited.view_is ∙ c.wait-epoch.ensures.answer)));
+    }
