@@ -65,9 +65,10 @@ fn plan_parts<A: Allocator + Copy>(
     edits: &mut Vec<Edit<A>, A>,
 ) -> Result<(), GroupRefusal>
     requires few { vec_len edits.old + length commands.now ≤ MAX_GROUP }
-    requires capacity { MAX_GROUP ≤ vec_capacity edits.old }
+    requires capacity { vec_len edits.old + length commands.now ≤ vec_capacity edits.old }
     ensures carries_out { OnOk result (Carries rows.old commands.now edits.old.items edits.new.items) }
     ensures accepted { OnOk result (part_refused (vec_len edits.old) rows.old commands.now ≡ None) }
+    ensures room { vec_capacity edits.new ≡ vec_capacity edits.old }
     ensures first { IfErr result (λ why. why ≢ GroupRefusal.OutOfMemory
         → part_refused (vec_len edits.old) rows.old commands.now ≡ Some why) }
 {
@@ -93,10 +94,11 @@ fn plan_later<A: Allocator + Copy>(
     requires fits { fits rows.now first ≡ true }
     ensures carries_out { IfOk result (λ edits. Carries (after rows.now first) later.now (first ∷ []) edits.items) }
     ensures accepted { OnOk result (part_refused 1 (after rows.now first) later.now ≡ None) }
+    ensures room { IfOk result (λ edits. vec_capacity edits ≡ 1 + length later.now) }
     ensures first { IfErr result (λ why. why ≢ GroupRefusal.OutOfMemory
         → part_refused 1 (after rows.now first) later.now ≡ Some why) }
 {
-    let Ok(mut edits) = Vec::with_capacity(alloc, MAX_GROUP) else {
+    let Ok(mut edits) = Vec::with_capacity(alloc, 1 + later.len()) else {
         return Err(GroupRefusal::OutOfMemory);
     };
     if later.is_empty() {
@@ -114,7 +116,8 @@ fn plan_later<A: Allocator + Copy>(
 
 /// Plans a group: one edit for each command, or the group's first refusal. Nothing changes.
 ///
-/// Each command is judged on the desk after those before it. Out of memory is reported only if the size is good and the
+/// Each command is judged on the desk after those before it. The list has capacity for these edits and no more, since
+/// a history keeps it. Out of memory is reported only if the size is good and the
 /// first command is not refused; later commands may not have been judged then.
 pub fn plan_group<A: Allocator + Copy>(
     alloc: A,
@@ -125,6 +128,7 @@ pub fn plan_group<A: Allocator + Copy>(
     ensures carries_out { IfOk result
         (λ edits. fold after rows.now edits.items ≡ desk_after_all rows.now commands.now) }
     ensures each { IfOk result (λ edits. length edits.items ≡ length commands.now) }
+    ensures room { IfOk result (λ edits. vec_capacity edits ≡ length commands.now) }
     ensures accepted { OnOk result (group_refused rows.now commands.now ≡ None) }
     ensures first { IfErr result (λ why. why ≢ GroupRefusal.OutOfMemory
         → group_refused rows.now commands.now ≡ Some why) }

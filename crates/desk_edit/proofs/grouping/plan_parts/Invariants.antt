@@ -4,14 +4,14 @@ use Rattle.desk_rows.specs.Edit.{EditOf}
 use Rattle.desk_rows.specs.Exchange.{fits, after}
 use Rattle.desk_edit.specs.Commands.{desk_after}
 use Rattle.desk_edit.specs.Groups.{part_refused}
-use Rattle.desk_edit.specs.declared.grouping.TheConstants.{MAX_GROUP}
 use Rattle.desk_edit.proofs.grouping.plan_parts.Given as goal
 
 abbrev pub invariant-loop-command : goal.invariant-loop-command
 invariant-loop-command g l = record {
   more : List EditOf;
   few : vec_len l.edits + length l.rest ≡ vec_len l.fn.edits + length l.fn.commands;
-  capacity : MAX_GROUP ≤ vec_capacity l.edits;
+  capacity : vec_len l.edits + length l.rest ≤ vec_capacity l.edits;
+  room : vec_capacity l.edits ≡ vec_capacity l.fn.edits;
   all : l.edits.items ≡ l.fn.edits.items ++ more;
   fit : all_fit fits after l.fn.rows more ≡ true;
   leads : fold after l.fn.rows more ≡ l.rows;
