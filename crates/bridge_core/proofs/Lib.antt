@@ -11,6 +11,7 @@ pub mod OnStreams
 pub mod AskedAgain
 pub mod RoutedLists
 pub mod Chosen
+pub mod Carried
 pub mod LedBack
 pub mod Octets
 pub mod Telling

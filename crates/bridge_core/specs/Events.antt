@@ -48,11 +48,21 @@ pub record Sends (old new : CoreOf) (lane : ℕ) (input : Input) (sent : List Se
   pub lanes : length new.lanes ≡ length old.lanes
   pub who : new.intake.asker ≡ old.intake.asker
 
--- From the first core to the last, each takes one of the events; this is what is sent for the items, in order.
+-- At most the intake changed: datagrams were taken in, or receiver reports were asked for.
+pub record Listens (old new : CoreOf) : Type 0 where
+  pub version : new.version ≡ old.version
+  pub desk : new.desk ≡ old.desk
+  pub done : new.done ≡ old.done
+  pub undone : new.undone ≡ old.undone
+  pub lanes : new.lanes ≡ old.lanes
+  pub who : new.intake.asker ≡ old.intake.asker
+
+-- From the first core to the last, each takes one of the events; this is what is sent for the items, in order. Before
+-- each event, and after the last one, the intake may take in datagrams and report.
 abbrev pub Plays : CoreOf → List Event → List (List Sent) → CoreOf → Type 0
-Plays first [] sent last = (sent ≡ []) × (last ≡ first)
+Plays first [] sent last = (sent ≡ []) × Listens first last
 Plays first (Event.called call ∷ events) sent last =
-    (next : CoreOf) × Accepts first next call × Plays next events sent last
+    (ready : CoreOf) × (next : CoreOf) × Listens first ready × Accepts ready next call × Plays next events sent last
 Plays first (Event.item lane input ∷ events) sent last =
-    (next : CoreOf) × (now : List Sent) × (later : List (List Sent)) × (sent ≡ now ∷ later)
-    × Sends first next lane input now × Plays next events later last
+    (ready : CoreOf) × (next : CoreOf) × (now : List Sent) × (later : List (List Sent)) × (sent ≡ now ∷ later)
+    × Listens first ready × Sends ready next lane input now × Plays next events later last

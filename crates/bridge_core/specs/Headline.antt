@@ -4,6 +4,8 @@ use Rattle.std.specs.Prelude.{◌≡◌, ℕ, ◌+◌, ◌%◌, ◌^◌, true, B
 use Rattle.std.specs.List.{AllByRecursion, Contains}
 use Rattle.desk_rows.specs.declared.row.Member.{Member as MemberRow}
 use Rattle.desk_rows.specs.Desk.{Desk, good}
+use Rattle.rtp_codec.specs.Packet.{written}
+use Rattle.frame_gate.specs.Frame.{SourcePacket}
 use Rattle.retransmit.specs.SentPacket.{SentPacket}
 use Rattle.retransmit.specs.Window.{window_size, latest}
 use Rattle.topology.specs.Looking.{comes_from, member_from}
@@ -13,10 +15,11 @@ use Rattle.topology.specs.Mixes.{mix_member}
 use Rattle.media_items.specs.Frame.{SourceFrame}
 use Rattle.forward_rewrite.specs.Sending.{Sending, Numbered}
 use Rattle.forward_rewrite.specs.Mixes.{Sound, mix_packet}
-use Rattle.forward_rewrite.specs.RoutedList.{part_of, numbered}
+use Rattle.forward_rewrite.specs.RoutedList.{part_of, header_of, numbered}
 use Rattle.mixer.specs.Hearing.{Given, voices_of, sound_for}
 use Rattle.mixer.specs.Mixes.{to_member}
 use Rattle.media_items.specs.Inputs.{Request}
+use Rattle.media_items.specs.Inputs.Input.{frame}
 use Rattle.bridge_core.specs.Sent.{Sent, MediaPacket}
 use Rattle.bridge_core.specs.Sent.Sent.{media, control, note}
 use Rattle.upward.specs.Upstream.{Asker}
@@ -114,14 +117,40 @@ pub record GoesWhole (ssrc : ℕ) (sending : Sending) (sent : List Sent) : Type 
       ≡ map (goes ssrc None)
       (numbered ssrc number (map (part_of record { sending = sending; ts = ts }) sending.frame.frame.packets))
 
--- What is sent again is, octet for octet, one of the last 512 packets that were sent on the stream for the first time;
--- who asks is a member at the address to which it went then.
+-- The packet carries a packet of a frame that the lane was given at the visit that it names. It has the frame's source,
+-- address and epoch, and that packet's extended number, marker, payload type and payload.
+pub record Carries (ssrc : ℕ) (visits : List Visit) (p : SentPacket) : Type 0 where
+  pub visit : Visit
+  pub handled : Contains visits visit
+  pub version : p.version ≡ visit.version
+  pub item : p.item ≡ visit.item
+  pub f : SourceFrame
+  pub input : visit.input ≡ frame f
+  pub source : p.source ≡ f.source
+  pub address : p.address ≡ f.address
+  pub epoch : p.epoch ≡ f.epoch
+  pub carried : SourcePacket
+  pub of_frame : Contains f.frame.packets carried
+  pub ext : p.ext ≡ carried.ext
+  pub ts : ℕ
+  pub bytes : p.bytes ≡ written (header_of ssrc p.number ts carried) (f.source ∷ []) carried.payload
+
+-- The packet is owed to who asks: its number was asked for, it is one of the last 512 packets of the stream, and it
+-- went to the member that is at the asking address now, at that address.
+pub record IsOwed (start : Desk) (before : List Step) (lane : ℕ) (visit : Visit) (request : Request)
+    (p : SentPacket) : Type 0 where
+  pub asked : Contains request.numbers p.number
+  pub recent : Contains (latest window_size (packets request.out_ssrc (visits lane start before))) p
+  pub address : p.owner.address ≡ request.from
+  pub member : member_from visit.desk request.from ≡ Some p.owner.member
+
+-- What is sent again is, octet for octet, a packet that is owed to who asks. It was sent on the stream for the first
+-- time, and carries a source's packet.
 pub record LeadsBack (who : Asker) (lanes : ℕ) (start : Desk) (before : List Step) (lane : ℕ) (visit : Visit)
     (request : Request) (sent : Sent) : Type 0 where
   pub packet : SentPacket
   pub same : sent ≡ goes request.out_ssrc (Some visit.version) packet
+  pub owed : IsOwed start before lane visit request packet
   pub sent_before : Contains (firsts who lanes start (record { kind = StreamKind.video; ssrc = request.out_ssrc }) before)
       (goes request.out_ssrc None packet)
-  pub recent : Contains (latest window_size (packets request.out_ssrc (visits lane start before))) packet
-  pub address : packet.owner.address ≡ request.from
-  pub member : member_from visit.desk request.from ≡ Some packet.owner.member
+  pub carries : Carries request.out_ssrc (visits lane start before) packet

@@ -1,8 +1,10 @@
 -- What is promised of whole runs (own).
-use Rattle.std.specs.Prelude.{◌≡◌, ℕ, ◌%◌, true, if◌then◌else◌, List, ◌∷◌, [], ◌++◌, map, filter, None, Some}
-use Rattle.std.specs.List.{AllByRecursion, flat_map}
+use Rattle.std.specs.Prelude.{◌≡◌, ℕ, ◌%◌, true, nat_eq, if◌then◌else◌, List, ◌∷◌, [], ◌++◌, map, filter, None, Some}
+use Rattle.std.specs.List.{AllByRecursion, Contains, IsDistinct, flat_map}
 use Rattle.desk_rows.specs.declared.row.Member.{Member as MemberRow}
 use Rattle.desk_rows.specs.Desk.{Desk}
+use Rattle.retransmit.specs.SentPacket.{SentPacket}
+use Rattle.retransmit.specs.Window.{window_size, latest}
 use Rattle.topology.specs.declared.receivers.Receiver.{Receiver}
 use Rattle.topology.specs.Receivers.{receiver_on}
 use Rattle.topology.specs.Mixes.{mix_member}
@@ -12,18 +14,19 @@ use Rattle.media_items.specs.OwnStreams.{is_mine}
 use Rattle.mixer.specs.Hearing.{voices_of, sound_for}
 use Rattle.mixer.specs.Mixes.{mixes}
 use Rattle.upward.specs.Upstream.{Asker}
-use Rattle.media_items.specs.Inputs.{Input, Told, Loss}
+use Rattle.media_items.specs.Inputs.{Input, Request, Told, Loss}
 use Rattle.bridge_core.specs.Sent.{Sent}
 use Rattle.media_items.specs.Inputs.Input.{frame, audio, tick, nack, block, pli, report}
 use Rattle.topology.specs.Looking.{member_from}
 use Rattle.feedback.specs.PassedUp.{pli_up}
+use Rattle.feedback.specs.Resends.{resends}
 use Rattle.bridge_core.specs.Lanes.{packets, goes, routed, routed_to, stream_of, given_of}
 use Rattle.bridge_core.specs.Lanes.{passed_up, notes, reports_to, is_lanes, sends_at}
 use Rattle.bridge_core.specs.Steps.{Step, visits, visit_after, sends}
 use Rattle.bridge_core.specs.Named.{Name, StreamKind, is_on, firsts}
 use Rattle.bridge_core.specs.Telling.{IsSenderReportOf, IsNoteOf, IsPassedUpOf}
 use Rattle.bridge_core.specs.Headline.{HaveNoGap, numbers, numbered_of, IsChosenOf}
-use Rattle.bridge_core.specs.Headline.{GoesWhole, IsMixOf, GoesOnce, LeadsBack}
+use Rattle.bridge_core.specs.Headline.{GoesWhole, IsMixOf, GoesOnce, IsOwed, LeadsBack}
 
 -- what a lane sends for an input that comes after these steps
 abbrev pub sent_after : Asker → ℕ → Desk → List Step → ℕ → Input → List Sent
@@ -53,6 +56,24 @@ pub record IsMixed (who : Asker) (lanes : ℕ) (start : Desk) (before : List Ste
       (visit_after start before lane (tick moment)).desk m ≡ Some sound
       → GoesOnce (visit_after start before lane (tick moment)) m sound
       (filter (is_on m.out_audio) (sent_after who lanes start before lane (tick moment)))
+
+-- The NACK is answered in the stream's lane alone. All that is sent again leads back, all that is owed to who asks is
+-- sent, and no number is sent twice.
+pub record IsAskedAgain (who : Asker) (lanes : ℕ) (start : Desk) (before : List Step) (lane : ℕ)
+    (request : Request) : Type 0 where
+  pub given : sent_after who lanes start before lane (nack request)
+      ≡ (if is_mine lane lanes request.out_ssrc
+      then map (goes request.out_ssrc (Some (visit_after start before lane (nack request)).version))
+      (resends (visit_after start before lane (nack request)).desk request.from request.numbers
+      (latest window_size (packets request.out_ssrc (visits lane start before)))) else [])
+  pub each : AllByRecursion
+      (LeadsBack who lanes start before lane (visit_after start before lane (nack request)) request)
+      (sent_after who lanes start before lane (nack request))
+  pub all : (p : SentPacket) → is_mine lane lanes request.out_ssrc ≡ true
+      → IsOwed start before lane (visit_after start before lane (nack request)) request p
+      → Contains (sent_after who lanes start before lane (nack request))
+      (goes request.out_ssrc (Some (visit_after start before lane (nack request)).version) p)
+  pub once : IsDistinct nat_eq (numbers (sent_after who lanes start before lane (nack request)))
 
 -- The block is answered in the stream's lane alone, by a note that leads back.
 pub record IsNoted (who : Asker) (lanes : ℕ) (start : Desk) (before : List Step) (lane : ℕ) (told : Told) : Type 0 where
@@ -85,15 +106,13 @@ pub record IsReported (who : Asker) (lanes : ℕ) (start : Desk) (before : List 
       (sent_after who lanes start before lane (report moment))
 
 -- An input is answered by what was promised of its kind: a frame goes to all who chose it, sound sends nothing, and at
--- a tick all hear their mixes. What is sent again leads back, and so do notes. Lost pictures go to the chosen sources,
--- and reports count what was sent for the first time.
+-- a tick all hear their mixes. A NACK is answered by all that is owed and nothing else, and notes lead back. Lost
+-- pictures go to the chosen sources, and reports count what was sent for the first time.
 abbrev pub IsKept : Asker → ℕ → Desk → List Step → ℕ → Input → Type 0
 IsKept who lanes start before lane (frame f) = IsShared who lanes start before lane f
 IsKept who lanes start before lane (audio sound) = sent_after who lanes start before lane (audio sound) ≡ []
 IsKept who lanes start before lane (tick moment) = IsMixed who lanes start before lane moment
-IsKept who lanes start before lane (nack request) =
-    AllByRecursion (LeadsBack who lanes start before lane (visit_after start before lane (nack request)) request)
-    (sent_after who lanes start before lane (nack request))
+IsKept who lanes start before lane (nack request) = IsAskedAgain who lanes start before lane request
 IsKept who lanes start before lane (block told) = IsNoted who lanes start before lane told
 IsKept who lanes start before lane (pli loss) = IsAskedFor who lanes start before lane loss
 IsKept who lanes start before lane (report moment) = IsReported who lanes start before lane moment

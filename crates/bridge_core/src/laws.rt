@@ -29,18 +29,20 @@ ghost use Rattle.bridge_core.specs.UndoRuns.{AcceptsAll, UndoesInARow, RedoesInA
 ghost use Rattle.bridge_core.specs.Runs.{Runs};
 ghost use Rattle.bridge_core.specs.EveryLane.{to_every};
 ghost use Rattle.bridge_core.specs.Events.{Event, Plays, steps_of, calls_among};
-ghost use Rattle.bridge_core.specs.WholeRuns.{Holds};
+ghost use Rattle.bridge_core.specs.WholeRuns.{IsAskedAgain, Holds};
 ghost use Rattle.bridge_core.specs.Named.{Name, StreamKind, is_on, sent_on, firsts};
 ghost use Rattle.bridge_core.specs.Headline.{AreGood, HaveNoGap, numbers, numbered_of, IsChosenOf};
-ghost use Rattle.bridge_core.specs.Headline.{GoesWhole, IsMixOf, GoesOnce, LeadsBack};
+ghost use Rattle.bridge_core.specs.Headline.{GoesWhole, IsMixOf, GoesOnce};
 ghost use Rattle.bridge_core.specs.Telling.{IsSenderReportOf, IsNoteOf, IsPassedUpOf};
 
-use forward_rewrite::{each_frame_goes_whole, found_is_what_was_sent, numbers_in_a_row};
+use forward_rewrite::{
+    each_frame_goes_whole, found_is_what_was_sent, numbers_in_a_row, time_goes_on,
+};
 use mixer::{mixes_are_in_a_row, mixes_go_to_their_members, ticks_add_what_is_heard};
 use topology::{all_who_chose_receive, mixes_are_apart, receivers_are_distinct};
 
-/// Over any steps that cores take one by one, from a core that has taken nothing on: what is sent,
-/// joined in order, is what `sends` gives for the whole list, and the last core has taken all of it.
+/// Over any steps that cores take one by one, from a core that has taken nothing on: what is sent, joined in order, is
+/// what `sends` gives for the whole list, and the last core has taken all of it.
 pub fn all_that_is_sent()
     ensures { (start : Desk) (steps : List Step) (sent : List (List Sent)) (first last : CoreOf)
         → HasTaken first start [] → Runs first steps sent last
@@ -84,9 +86,8 @@ pub fn streams_have_no_gap()
     mixes_are_in_a_row();
 }
 
-/// What is sent on a stream follows from the items of its lane and their desks alone: there may be
-/// any number of lanes, and the other lanes may be given anything. So it is the same on any number of
-/// lanes that are all given every item.
+/// What is sent on a stream follows from the items of its lane and their desks alone: there may be any number of lanes,
+/// and the other lanes may be given anything. So it is the same on any number of lanes that are all given every item.
 pub fn lane_count_does_not_matter()
     ensures same_items { (who : Asker) (few many : ℕ) (start : Desk) (these those : List Step) (ssrc : ℕ)
         → visits (ssrc % few) start these ≡ visits (ssrc % many) start those
@@ -124,9 +125,8 @@ pub fn frames_go_whole()
     all_who_chose_receive();
 }
 
-/// Each packet that is sent at a tick names the version and the item, and goes where the desk of that
-/// version has it go: to the member whose mix its stream is, at its address. It carries what the member
-/// hears of all that the lane was given before.
+/// Each packet that is sent at a tick names the version and the item, and goes where the desk of that version has it:
+/// to the member whose mix its stream is, at its address. It carries what the member hears of all given before.
 pub fn mixes_are_heard()
     ensures { (who : Asker) (lanes lane : ℕ) (start : Desk) (before : List Step) (moment : ℕ)
         → good (desk_of start before) ≡ true
@@ -156,18 +156,17 @@ pub fn all_who_hear_get_it()
     mixes_go_to_their_members();
 }
 
-/// Each packet that is sent again is, octet for octet and under its number, one of the last 512 that
-/// were sent on its stream. The member who asks is the one that it went to, at the address that it went
-/// to. It names the version and the item by which it was sent first.
+/// Each packet that is sent again has a number that was asked for. It is, octet for octet, one of the last 512 that
+/// were sent on its stream. The member who asks is the one that it went to, at the address that it went to. It names
+/// the version and the item by which it was sent first, and carries a packet of the frame that the lane was given then.
+/// A NACK is answered in its stream's lane alone: by all such packets, each of them once.
 pub fn resends_lead_back()
-    ensures { (who : Asker) (lanes lane : ℕ) (start : Desk) (before : List Step) (request : Request) → good start ≡ true
-        → AreGood before
-        → (let visit = visit_after start before lane (Input.nack request) in
-        AllByRecursion (AllByRecursion (LeadsBack who lanes start before lane visit request))
-        (sent_at who lanes start before (Step.item lane (Input.nack request)))) }
+    ensures { (who : Asker) (lanes lane : ℕ) (start : Desk) (before : List Step) (request : Request)
+        → good start ≡ true → AreGood before → IsAskedAgain who lanes start before lane request }
 {
     streams_are_routed_lists();
     found_is_what_was_sent();
+    time_goes_on();
 }
 
 /// At a report, sender reports alone are sent: to members of its version's desk, at their addresses, on their own
@@ -258,14 +257,15 @@ pub fn undos_are_redone()
 {}
 
 /// The headline. For a first desk, any list of accepted calls and items in any order, and any number of
-/// lanes, as cores that take them one by one answer:
+/// lanes, as cores that take them one by one answer, and take in datagrams and report in between:
 ///
 /// - accepted commands, undone from their end, give back the desk before them, members at their places;
 /// - each packet is what the desk of the version that it names says: it chose the packet's source, who
 ///   gets it, and that all who chose it get the whole frame; and at a tick each member who hears anything
 ///   gets what it hears, which is what a mix packet carries;
 /// - each stream numbers without a gap modulo 65536;
-/// - a number asked for again leads back to just the packet that had it, for its owner alone;
+/// - a number asked for again leads back to just the packet that had it, for its owner alone. All packets that are owed
+///   are sent again, each once, and no others;
 /// - a sender report counts just what was sent on its stream for the first time, a note leads back to the packet that
 ///   the receiver had last, and a lost picture is asked for from the source that the slot chose;
 /// - the number of lanes makes no difference to a stream.
