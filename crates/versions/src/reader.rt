@@ -55,6 +55,13 @@ impl Model for Entered {
 }
 
 impl LaneReader {
+    /// A notice of what the reader knows: each later entry has seen these lists.
+    pub fn known(&self) -> Notice
+        ensures { result ≡ record { publisher = self.now.publisher; lists = self.now.lists } }
+    {
+        self.known.again()
+    }
+
     /// Takes in a notice of the reader's publisher. Each later entry is at that version or at a later one.
     pub fn learn(&mut self, notice: Notice)
         requires publisher { notice.publisher ≡ self.old.publisher }

@@ -1,7 +1,8 @@
 //! How a publisher is started with its readers.
 
-ghost use Rattle.std.specs.Prelude.{◌≡◌, ◌↔◌, ◌⊎◌, ◌<◌, ◌≤◌, [], Err, All, length, fold, drop, IfOk};
+ghost use Rattle.std.specs.Prelude.{◌≡◌, ◌↔◌, ◌⊎◌, ◌+◌, ◌<◌, ◌≤◌, [], Err, All, length, fold, drop, IfOk};
 ghost use Rattle.std.specs.Arc.{arc_value};
+ghost use Rattle.std.specs.Bool.{OnTrue};
 ghost use Rattle.left_right.specs.Sides.{view as sight_of};
 ghost use Rattle.versions.specs.Published.{new_publisher, new_reader, reader_limit};
 ghost use Rattle.versions.specs.inner.ReaderRule.{IsOf, first_sight, reader_of};
@@ -114,14 +115,23 @@ fn begun<R: Wait>(rt: &R, writer: Lead) -> Result<Lead, AllocError>
     ensures seen { IfOk result (λ w. sight_of w.desk.place ≡ first_sight writer.desk.shown.value) }
 {
     let mut writer = writer;
-    for _ in 0..2 {
-        if !repeats(&mut writer) {
-            writer.take(rt);
-            return Err(AllocError);
-        }
+    if !holds_two(&mut writer) {
+        writer.take(rt);
+        return Err(AllocError);
     }
     let writer = turned(rt, writer)?;
     turned(rt, writer)
+}
+
+// Lets two editions wait in the log, which has the memory for two from then on.
+fn holds_two(writer: &mut Lead) -> bool
+    requires settled { drop writer.old.behind writer.old.log.items ≡ [] }
+    ensures same { writer.new.desk ≡ writer.old.desk }
+    ensures idle { fold (λ before next. next) writer.new.desk.shown.value (drop writer.new.behind writer.new.log.items)
+        ≡ writer.new.desk.shown.value }
+    ensures two { OnTrue result (length (drop writer.new.behind writer.new.log.items) ≡ 2) }
+{
+    repeats(writer) && repeats(writer)
 }
 
 // Appends the edition that is shown.
@@ -131,6 +141,8 @@ fn repeats(writer: &mut Lead) -> bool
     ensures same { writer.new.desk ≡ writer.old.desk }
     ensures idle { fold (λ before next. next) writer.new.desk.shown.value (drop writer.new.behind writer.new.log.items)
         ≡ writer.new.desk.shown.value }
+    ensures one { OnTrue result (length (drop writer.new.behind writer.new.log.items)
+        ≡ length (drop writer.old.behind writer.old.log.items) + 1) }
 {
     match writer.published().again() {
         Ok(edition) => writer.append(edition).is_ok(),
