@@ -1,8 +1,10 @@
 -- Why a log is not handed out (own).
-use Rattle.std.specs.Prelude.{◌≡◌, ℕ, ◌<◌, Bool, true, false, nat_eq, List}
-use Rattle.std.specs.List.{list_any}
+use Rattle.std.specs.Prelude.{◌≡◌, ℕ, ◌<◌, ◌≤◌, Bool, true, false, nat_eq, List, length, Option, Some, None, slice_get}
+use Rattle.std.specs.List.{All, list_any}
+use Rattle.std.specs.declared.sync.OnceToken.{OnceToken}
 use Rattle.operator_desk.specs.declared.fault.GatherFault.{GatherFault}
 use Rattle.operator_desk.specs.declared.fault.GatherFault.TheVariants.{SeatMissing, LogTaken, OutOfMemory}
+use Rattle.operator_desk.specs.Entry.{EntryOf}
 use Rattle.operator_desk.specs.Seats.{SeatOf}
 
 -- a seat of this operator is among these
@@ -13,8 +15,15 @@ is_handed_in op seats = list_any (λ (s : SeatOf). nat_eq s.op op) seats
 abbrev pub AreAllIn : ℕ → List SeatOf → Type 0
 AreAllIn count seats = (op : ℕ) → op < count → is_handed_in op seats ≡ true
 
--- a seat is missing only if it wasn't handed in, and the least one is named; the other faults come only if none is missing
-abbrev pub IsFault : ℕ → List SeatOf → GatherFault → Type 0
-IsFault count seats (SeatMissing op) = (op < count) × (is_handed_in op seats ≡ false) × AreAllIn op seats
-IsFault count seats LogTaken = AreAllIn count seats
-IsFault count seats OutOfMemory = AreAllIn count seats
+-- the token is of the cell behind all that these seats have seen, or behind more
+abbrev pub IsTaken : List ℕ → List SeatOf → Option (OnceToken EntryOf) → Type 0
+IsTaken cells seats None = ⊥
+IsTaken cells seats (Some token) =
+    (n : ℕ) × All (λ (s : SeatOf). length s.seen ≤ n) seats × (slice_get cells n ≡ Some token.of)
+
+-- A seat is missing only if it wasn't handed in, and the least one is named; the other faults come only if none is
+-- missing. That the log is taken is shown by a token of a cell of which no seat knows.
+abbrev pub IsFault : List ℕ → ℕ → List SeatOf → GatherFault → Option (OnceToken EntryOf) → Type 0
+IsFault cells count seats (SeatMissing op) behind = (op < count) × (is_handed_in op seats ≡ false) × AreAllIn op seats
+IsFault cells count seats LogTaken behind = AreAllIn count seats × IsTaken cells seats behind
+IsFault cells count seats OutOfMemory behind = AreAllIn count seats

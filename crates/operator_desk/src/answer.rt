@@ -40,3 +40,13 @@ impl Why {
         }
     }
 }
+
+/// The answer to a call that the desk refuses.
+pub(crate) fn refused(at: u64, why: Refusal) -> Answer
+    ensures { result ≡ Answer.Refused at (Why.Told why) }
+{
+    Answer::Refused {
+        at,
+        why: Why::Told(why),
+    }
+}

@@ -1,6 +1,11 @@
 //! Why a desk is not made, and why a log is not handed out.
 
+use crate::entry::LogEntry;
+use std::sync::OnceToken;
 use thiserror::Error;
+
+/// What shows that the cell behind a log is written. It has no bytes.
+pub type Behind<'a> = OnceToken<'a, LogEntry>;
 
 /// Why a desk is not made. The first that holds is reported.
 #[derive(Clone, Copy, Debug, PartialEq, Eq, Error)]

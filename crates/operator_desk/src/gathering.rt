@@ -1,44 +1,65 @@
 //! Whether a log can be handed out.
 
-ghost use Rattle.std.specs.Prelude.{◌≡◌, None, IfSome, IfNone, IfOk, IfErr, OnOk};
+ghost use Rattle.std.specs.Prelude.{◌≡◌, ◌≤◌, length, None, IfSome, IfNone, IfOk, IfErr, OnOk};
+ghost use Rattle.std.specs.Bool.{OnTrue};
+ghost use Rattle.std.specs.List.{All};
+ghost use Rattle.operator_desk.specs.Answers.{Tells};
 ghost use Rattle.operator_desk.specs.LegalLogs.{IsLegal};
+ghost use Rattle.operator_desk.specs.Seats.{SeatOf};
 ghost use Rattle.operator_desk.specs.Gathering.{IsFault, AreAllIn, is_handed_in};
 
 use crate::entry::LogEntry;
-use crate::fault::GatherFault;
+use crate::fault::{Behind, GatherFault};
 use crate::hall::Hall;
 use crate::held::Held;
 use crate::seat::Seat;
+use crate::waiting::never;
 use std::alloc::Global;
+use std::sync::Wait;
+use versions::Notice;
 
-/// A copy of the log, if all seats are among these and nothing else was written.
-pub fn judged<'a, H: Hall>(
+/// A copy of the log and the notice that it led to, if all seats are among these and nothing else was written.
+///
+/// It waits for ever if the log is taken and a seat has seen more than it.
+pub fn judged<'a, H: Hall, R: Wait>(
+    rt: &R,
     held: &Held<'a, H>,
     alloc: Global,
     seats: &Vec<Seat<'a, H>>,
     count: u32,
-) -> Result<Vec<LogEntry>, GatherFault>
+) -> Result<(Vec<LogEntry>, Notice), (GatherFault, Option<Behind<'a>>)>
     ensures all { OnOk result (AreAllIn count seats.now.items) }
     ensures beyond { OnOk result (held.now.beyond ≡ None) }
-    ensures copy { IfOk result (λ log. log.items ≡ held.now.log) }
-    ensures legal { IfOk result (λ log. IsLegal H.start log.items) }
-    ensures fault { IfErr result (λ fault. IsFault count seats.now.items fault) }
+    ensures copy { IfOk result (λ r. r.0.items ≡ held.now.log) }
+    ensures legal { IfOk result (λ r. IsLegal H.start r.0.items) }
+    ensures tells { IfOk result (λ r. Tells H.start H.publisher r.0.items r.1) }
+    ensures fault { IfErr result (λ e. IsFault H.cells count seats.now.items e.0 e.1) }
 {
     if let Some(op) = missing(seats, count) {
-        return Err(GatherFault::SeatMissing { op });
+        return Err((GatherFault::SeatMissing { op }, None));
     }
-    if held.taken().is_some() {
-        return Err(GatherFault::LogTaken);
+    if let Some(token) = held.taken() {
+        if !saw_no_more(seats, held.len()) {
+            return never(rt);
+        }
+        return Err((GatherFault::LogTaken, Some(token)));
     }
     match held.copied(alloc) {
-        Ok(log) => Ok(log),
-        Err(_) => Err(GatherFault::OutOfMemory),
+        Ok(log) => Ok((log, held.told())),
+        Err(_) => Err((GatherFault::OutOfMemory, None)),
     }
+}
+
+/// Whether no seat has seen more entries than these.
+fn saw_no_more<'a, H: Hall>(seats: &Vec<Seat<'a, H>>, entries: usize) -> bool
+    ensures { OnTrue result (All (λ (s : SeatOf). length s.seen ≤ entries) seats.now.items) }
+{
+    seats.iter().all(|seat| seat.has_seen() <= entries)
 }
 
 /// The least operator whose seat is missing.
 fn missing<'a, H: Hall>(seats: &Vec<Seat<'a, H>>, count: u32) -> Option<u32>
-    ensures some { IfSome result (λ op. IsFault count seats.now.items (GatherFault.SeatMissing op)) }
+    ensures some { IfSome result (λ op. IsFault H.cells count seats.now.items (GatherFault.SeatMissing op) None) }
     ensures none { IfNone result (AreAllIn count seats.now.items) }
 {
     for op in 0..count {

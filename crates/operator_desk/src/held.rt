@@ -12,11 +12,11 @@ ghost use Rattle.desk_calls.specs.Edits.{fits};
 ghost use Rattle.operator_desk.specs.LegalLogs.{after_log, IsLegal};
 ghost use Rattle.operator_desk.specs.OwnCalls.{numbers};
 ghost use Rattle.operator_desk.specs.Seats.{SeatOf};
-ghost use Rattle.operator_desk.specs.Answers.{IsAnswered, IsNotice, IsCopy};
+ghost use Rattle.operator_desk.specs.Answers.{IsAnswered, IsNotice, IsCopy, Tells};
 ghost use Rattle.operator_desk.specs.Gathering.{AreAllIn};
 ghost use Rattle.operator_desk.specs.inner.Held.{IsOurs, Leads};
 
-use crate::answer::{Answer, Why};
+use crate::answer::{Answer, Why, refused};
 use crate::entry::LogEntry;
 use crate::hall::Hall;
 use crate::log::Log;
@@ -85,6 +85,20 @@ impl<'a, H: Hall> Held<'a, H> {
     /// What is published now.
     pub fn notice(&self) -> Notice
         ensures { IsNotice H.start H.publisher result }
+    {
+        self.publisher.tell()
+    }
+
+    /// How many entries the log has.
+    pub fn len(&self) -> usize
+        ensures { result ≡ length self.now.log }
+    {
+        self.entries.len()
+    }
+
+    /// What is published now: that to which the log led.
+    pub fn told(&self) -> Notice
+        ensures { Tells H.start H.publisher self.now.log result }
     {
         self.publisher.tell()
     }
@@ -276,15 +290,5 @@ impl<'a, H: Hall> Held<'a, H> {
                 }
             }
         }
-    }
-}
-
-/// The answer to a call that the desk refuses.
-fn refused(at: u64, why: Refusal) -> Answer
-    ensures { result ≡ Answer.Refused at (Why.Told why) }
-{
-    Answer::Refused {
-        at,
-        why: Why::Told(why),
     }
 }

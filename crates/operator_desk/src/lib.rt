@@ -36,7 +36,7 @@ mod waiting;
 
 pub use self::answer::{Answer, Why};
 pub use self::entry::LogEntry;
-pub use self::fault::{DeskFault, GatherFault};
+pub use self::fault::{Behind, DeskFault, GatherFault};
 pub use self::hall::{DeskNames, Hall};
 pub use self::log::Log;
 pub use self::seat::Seat;

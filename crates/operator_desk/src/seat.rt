@@ -1,6 +1,6 @@
 //! Seats of operators.
 
-ghost use Rattle.std.specs.Prelude.{◌≡◌, ◌+◌, ◌≤◌, IfOk, OnOk};
+ghost use Rattle.std.specs.Prelude.{◌≡◌, ◌+◌, ◌≤◌, length, IfOk, OnOk};
 ghost use mathlib.Core.List.{IsPrefix};
 ghost use Rattle.operator_desk.specs.Seats.{new_seat, new_seats};
 ghost use Rattle.operator_desk.specs.inner.Tokens.{shown, AreFirst};
@@ -77,6 +77,13 @@ impl<'a, H: Hall> Seat<'a, H> {
         ensures { result ≡ self.now.op }
     {
         self.op
+    }
+
+    /// How many entries of the log it has seen.
+    pub(crate) fn has_seen(&self) -> usize
+        ensures { result ≡ length self.now.seen }
+    {
+        self.seen.len()
     }
 
     /// Gives its share back, if what it has seen is a beginning of the log. Otherwise it is no seat of this desk, and

@@ -8,13 +8,13 @@ ghost use Rattle.desk_edit.specs.Asked.{asked_by};
 ghost use Rattle.versions.specs.Published.{new_reader};
 ghost use Rattle.operator_desk.specs.LegalLogs.{IsLegal};
 ghost use Rattle.operator_desk.specs.Seats.{SeatOf, new_seats};
-ghost use Rattle.operator_desk.specs.Answers.{IsAnswered, IsNotice, IsCopy};
+ghost use Rattle.operator_desk.specs.Answers.{IsAnswered, IsNotice, IsCopy, Tells};
 ghost use Rattle.operator_desk.specs.Opening.{desk_fault};
 ghost use Rattle.operator_desk.specs.Gathering.{IsFault};
 
 use crate::answer::Answer;
 use crate::entry::LogEntry;
-use crate::fault::{DeskFault, GatherFault};
+use crate::fault::{Behind, DeskFault, GatherFault};
 use crate::gathering::judged;
 use crate::hall::{DeskNames, Hall};
 use crate::held::Held;
@@ -165,33 +165,43 @@ impl<'a, H: Hall> SharedDesk<'a, H> {
         rows
     }
 
-    /// The whole log, once all seats are back. Readers find no rows from then on.
+    /// The whole log, once all seats are back, with the notice of its last version. Readers find no rows from then on.
     ///
-    /// It waits for ever if a seat is of another desk.
+    /// It waits for ever if a seat is of another desk. The fault `LogTaken` comes with what shows that the cell behind
+    /// the log is written.
     pub fn gather<R: Wait>(
         self,
         rt: &R,
         alloc: Global,
         seats: Vec<Seat<'a, H>>,
-    ) -> Result<Vec<LogEntry>, (SharedDesk<'a, H>, Vec<Seat<'a, H>>, GatherFault)>
+    ) -> Result<
+        (Vec<LogEntry>, Notice),
+        (
+            SharedDesk<'a, H>,
+            Vec<Seat<'a, H>>,
+            GatherFault,
+            Option<Behind<'a>>,
+        ),
+    >
         requires parts { H.seats ≡ H.parts }
-        ensures legal { IfOk result (λ log. IsLegal H.start log.items) }
-        ensures begins { IfOk result (λ log. All (λ (s : SeatOf). IsPrefix s.seen log.items) seats.entry.items) }
-        ensures sum { IfOk result (λ log. length log.items ≡ sum_by (λ (s : SeatOf). s.count) seats.entry.items) }
+        ensures legal { IfOk result (λ r. IsLegal H.start r.0.items) }
+        ensures tells { IfOk result (λ r. Tells H.start H.publisher r.0.items r.1) }
+        ensures begins { IfOk result (λ r. All (λ (s : SeatOf). IsPrefix s.seen r.0.items) seats.entry.items) }
+        ensures sum { IfOk result (λ r. length r.0.items ≡ sum_by (λ (s : SeatOf). s.count) seats.entry.items) }
         ensures back { IfErr result (λ e. e.1 ≡ seats.entry) }
-        ensures fault { IfErr result (λ e. IsFault H.seats seats.entry.items e.2) }
+        ensures fault { IfErr result (λ e. IsFault H.cells H.seats seats.entry.items e.2 e.3) }
     {
         let SharedDesk {
             inner,
             seats: count,
         } = self;
         let held = inner.into_inner();
-        match judged(&held, alloc, &seats, count) {
-            Ok(log) => {
+        match judged(rt, &held, alloc, &seats, count) {
+            Ok((log, notice)) => {
                 held.settle(rt, seats);
-                Ok(log)
+                Ok((log, notice))
             }
-            Err(fault) => Err((SharedDesk::around(held, count), seats, fault)),
+            Err((fault, behind)) => { Err((SharedDesk::around(held, count), seats, fault, behind)) }
         }
     }
 

@@ -90,13 +90,13 @@ fn agrees<'a, H: Hall, R: Wait>(
         return false;
     };
     match desk.gather(rt, alloc, seats) {
-        Ok(log) => match (rows, replayed(alloc, log, operators)) {
+        Ok((log, _)) => match (rows, replayed(alloc, log, operators)) {
             (Ok((version, rows)), Some(one)) => {
                 version == one.version() && is_same(&rows, one.rows())
             }
             _ => false,
         },
-        Err((desk, _seats, _fault)) => {
+        Err((desk, _seats, _fault, _behind)) => {
             desk.end(rt);
             false
         }

@@ -88,8 +88,8 @@ fn is_filled<'a, H: Hall, R: Wait>(
     };
     let is_entered = enters_last(readers, desk.notice(rt));
     match desk.gather(rt, alloc, seats) {
-        Ok(log) => is_full && is_entered && log.len() as u64 == CALLS,
-        Err((desk, _seats, _fault)) => {
+        Ok((log, _)) => is_full && is_entered && log.len() as u64 == CALLS,
+        Err((desk, _seats, _fault, _behind)) => {
             desk.end(rt);
             false
         }

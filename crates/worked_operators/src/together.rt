@@ -143,8 +143,8 @@ fn gathered<'a, H: Hall, R: Wait>(
     seats.push_reserved(one);
     seats.push_reserved(two);
     match desk.gather(rt, alloc, seats) {
-        Ok(log) => Some(log),
-        Err((desk, _seats, _fault)) => {
+        Ok((log, _)) => Some(log),
+        Err((desk, _seats, _fault, _behind)) => {
             desk.end(rt);
             None
         }

@@ -73,8 +73,8 @@ fn without_one<'a, H: Hall, R: Wait + Print>(
     let mut seats = seats;
     let kept = seats.pop();
     match desk.gather(rt, alloc, seats) {
-        Ok(log) => println!(rt; "gathered {}", log.len()),
-        Err((desk, seats, fault)) => {
+        Ok((log, _)) => println!(rt; "gathered {}", log.len()),
+        Err((desk, seats, fault, _behind)) => {
             let told = say_fault(rt, fault);
             let gathered = whole(rt, alloc, desk, with(seats, kept));
             told?;
@@ -101,13 +101,13 @@ fn whole<'a, H: Hall, R: Wait + Print>(
     requires parts { H.seats ≡ H.parts }
 {
     match desk.gather(rt, alloc, seats) {
-        Ok(log) => {
+        Ok((log, _)) => {
             for entry in &log {
                 println!(rt; "by {}", entry.op())?;
             }
             Ok(())
         }
-        Err((desk, _seats, fault)) => {
+        Err((desk, _seats, fault, _behind)) => {
             desk.end(rt);
             say_fault(rt, fault)
         }

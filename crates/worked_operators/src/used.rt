@@ -32,8 +32,9 @@ pub fn used_log<H: Hall, R: Wait + Print>(
             }));
             let called = says(rt, alloc, &desk, &mut seats[0], call);
             let gathered = match desk.gather(rt, alloc, seats) {
-                Ok(log) => println!(rt; "gathered {}", log.len()),
-                Err((desk, _seats, fault)) => {
+                Ok((log, _notice)) => println!(rt; "gathered {}", log.len()),
+                Err((desk, _seats, fault, behind)) => {
+                    drop(behind);
                     desk.end(rt);
                     say_fault(rt, fault)
                 }
