@@ -1,4 +1,4 @@
--- Lanes that learnt of the same publishes saw beginnings of one list.
+-- Lanes whose entries saw beginnings of one list.
 use Rattle.std.proofs.Common.{Bool, ◌≡◌, ◌⊎◌, ◌+◌, ◌<◌, ◌≤◌, ℕ, zero, suc, List, [], ◌∷◌, ◌++◌, length, map, take, slice_get, Some, Option, IfSome, refl, ap, sym, subst, ◌∙◌, ⊎_elim, arith}
 use Rattle.std.specs.List.{AllByRecursion}
 use Rattle.std.specs.Prelude.{slice_index_or}
@@ -32,7 +32,8 @@ use Rattle.media_workers.specs.Bridges.{EndOf, EndsAs, AllEnded, AreNew}
 use Rattle.lane_laws.specs.Merges.{Versioned, InOrder, UpTo}
 use Rattle.lane_laws.specs.Visits.{desk_at, visits_by}
 use Rattle.lane_laws.specs.NamedVersions.{IsGiven, AreGiven}
-use Rattle.lane_laws.specs.Learnt.{HasNotice, HasLearnt, AllLearnt, AllBegin, lanes_of, versioned, handled}
+use Rattle.lane_laws.specs.OneList.{sent_by}
+use Rattle.lane_laws.specs.Learnt.{HasNotice, HasSeen, AllSeen, HaveKnown, AllBegin, lanes_of, versioned, handled}
 use Rattle.lane_laws.proofs.Merging.{lower}
 
 -- ---- beginnings
@@ -41,52 +42,21 @@ use Rattle.lane_laws.proofs.Merging.{lower}
 abbrev AllOf : List (List EditOf) → List Served → Type 0
 AllOf lists served = AllByRecursion (λ (s : Served). IsPrefix s.lists lists) served
 
--- none of these was handled after more lists
-abbrev NoneLater : List (List EditOf) → List Served → Type 0
-NoneLater lists served = AllByRecursion (λ (s : Served). length s.lists ≤ length lists) served
+-- of what began with a beginning of the lists, each is a beginning of the lists
+later_all : (now lists : List (List EditOf)) (ss : List Served) → IsPrefix now lists → AllOf now ss → AllOf lists ss
+later_all now lists [] begins all = tt
+later_all now lists (s ∷ ss) begins all = (prefix_trans s.lists now lists all.0 begins, later_all now lists ss begins all.1)
 
--- what a lane handles that knows the lists already
-known_begin : (lists known : List (List EditOf)) (ps : List Parcel) (ss : List Served) → IsPrefix lists known → AreServed known ps ss → NoneLater lists ss → AllOf lists ss
-known_begin lists known [] [] knows served few = tt
-known_begin lists known [] (s ∷ ss) knows served few = absurd served
-known_begin lists known (p ∷ ps) [] knows served few = absurd served
-known_begin lists known (Work item notice ∷ ps) (s ∷ ss) knows served few =
-    let more : IsPrefix lists s.lists = prefix_trans lists known s.lists knows served.0.1 in
-    let all : lists ≡ s.lists = prefix_whole lists s.lists more few.0 in
-    (subst (λ (x : List (List EditOf)). IsPrefix x lists) all (prefix_self lists), known_begin lists s.lists ps ss more served.1 few.1)
-known_begin lists known (End ∷ ps) (s ∷ ss) knows served few = absurd served.0
-
--- what a notice tells, where it is this one
-told_is : (notice : Option NoticeOf) (told : NoticeOf) (now : List (List EditOf)) → notice ≡ Some told → IfSome notice (λ (n : NoticeOf). IsPrefix n.lists now) → IsPrefix told.lists now
-told_is notice told now is all = subst (λ (o : Option NoticeOf). IfSome o (λ (n : NoticeOf). IsPrefix n.lists now)) is all
-
--- what a lane handles that is told of the lists with one of its items
-told_begin : (lists known : List (List EditOf)) (ps : List Parcel) (ss : List Served) (k : ℕ) (item : Item Global) (notice : NoticeOf)
-    → k < length ps → slice_index_or ps k (Work item (Some notice)) ≡ Work item (Some notice) → notice.lists ≡ lists
-    → AreServed known ps ss → NoneLater lists ss → IsPrefix known lists × AllOf lists ss
-told_begin lists known [] ss k item notice low at is served few = absurd (omega arith)
-told_begin lists known (p ∷ ps) [] k item notice low at is served few = absurd served
-told_begin lists known (End ∷ ps) (s ∷ ss) k item notice low at is served few = absurd served.0
-told_begin lists known (Work other told ∷ ps) (s ∷ ss) zero item notice low at is served few =
-    let this : told ≡ Some notice = cc (at) in
-    let more : IsPrefix lists s.lists = subst (λ (x : List (List EditOf)). IsPrefix x s.lists) is (told_is told notice s.lists this served.0.2) in
-    let all : lists ≡ s.lists = prefix_whole lists s.lists more few.0 in (
-      subst (λ (x : List (List EditOf)). IsPrefix known x) (sym all) served.0.1,
-      (subst (λ (x : List (List EditOf)). IsPrefix x lists) all (prefix_self lists), known_begin lists s.lists ps ss more served.1 few.1),
-    )
-told_begin lists known (Work other told ∷ ps) (s ∷ ss) (suc k) item notice low at is served few =
-    let rest = told_begin lists s.lists ps ss k item notice (omega (arith, low)) at is served.1 few.1 in
-    (prefix_trans known s.lists lists served.0.1 rest.0, (rest.0, rest.1))
-
-learnt_begin : {N P : Type 0} (lists : List (List EditOf)) (answers : P → ℕ → Bool → Type 0) (port : PortOf P) (end : EndOf N) (ended : EndsAs answers port end)
-    → HasLearnt lists answers port end ended → AllOf lists ended.ran.served
-learnt_begin lists answers port end ended has =
-    let ran = ended.ran in
-    let known = port.lane.reader.lists in
-    ⊎_elim
-    (λ (before : IsPrefix lists known). known_begin lists known ran.done ran.served before ran.in_order has.none_later)
-    (λ (told : HasNotice lists ran.done). (told_begin lists known ran.done ran.served told.2.0 told.0 told.1 told.2.1 told.2.2 told.3 ran.in_order has.none_later).1)
-    has.learnt
+-- what lanes saw whose readers knew a beginning of the lists at the end
+pub known_seen : {N P : Type 0} (lists : List (List EditOf)) (answers : P → ℕ → Bool → Type 0) (ports : List (PortOf P)) (ends : List (EndOf N)) (ended : AllEnded answers ports ends)
+    → HaveKnown lists ends → AllSeen lists answers ports ends ended
+known_seen lists answers [] [] ended known = tt
+known_seen lists answers [] (e ∷ es) ended known = absurd ended
+known_seen lists answers (p ∷ ps) [] ended known = absurd ended
+known_seen lists answers (p ∷ ps) (e ∷ es) ended known = (
+  later_all e.known.lists lists ended.0.ran.served known.0 ended.0.ran.known.entries,
+  known_seen lists answers ps es ended.1 known.1,
+)
 
 -- what was handled is a beginning of the parcels with items
 handled_first : (known : List (List EditOf)) (ps last : List Parcel) (ss : List Served) → AreServed known ps ss → (works (ps ++ last) ≡ ps ++ works last) × (length ps ≡ length ss)
@@ -120,9 +90,9 @@ in_order known (p ∷ ps) [] served = absurd served
 in_order known (Work item notice ∷ ps) (s ∷ ss) served = (prefix_length known s.lists served.0.1, in_order s.lists ps ss served.1)
 in_order known (End ∷ ps) (s ∷ ss) served = absurd served.0
 
-up_to : (most : ℕ) (lists : List (List EditOf)) (ss : List Served) → length lists ≡ most → NoneLater lists ss → UpTo most (map versioned ss)
-up_to most lists [] is few = tt
-up_to most lists (s ∷ ss) is few = (omega (arith, few.0, is), up_to most lists ss is few.1)
+up_to : (most : ℕ) (lists : List (List EditOf)) (ss : List Served) → length lists ≡ most → AllOf lists ss → UpTo most (map versioned ss)
+up_to most lists [] is all = tt
+up_to most lists (s ∷ ss) is all = (omega (arith, prefix_length s.lists lists all.0, is), up_to most lists ss is all.1)
 
 calls_of-take : (n : ℕ) (log : List EntryOf) → calls_of (take n log) ≡ take n (calls_of log)
 calls_of-take zero log = refl
@@ -162,32 +132,32 @@ pub record AtPlace {N P : Type 0} (lists : List (List EditOf)) (answers : P → 
   pub port : PortOf P
   pub its_lane : slice_get (lanes_of ports) lane ≡ Some port.lane
   pub ended : EndsAs answers port end
-  pub learnt : HasLearnt lists answers port end ended
+  pub seen : HasSeen lists answers port end ended
   pub items : slice_get lanes lane ≡ Some (map versioned ended.ran.served)
 
 pub at_end : {N P : Type 0} (lists : List (List EditOf)) (answers : P → ℕ → Bool → Type 0) (ports : List (PortOf P)) (ends : List (EndOf N)) (ended : AllEnded answers ports ends) (lane : ℕ) (end : EndOf N)
-    → AllLearnt lists answers ports ends ended → slice_get ends lane ≡ Some end → AtPlace lists answers ports (handled answers ports ends ended) lane end
-at_end lists answers [] [] ended lane end learnt at = absurd (cc (at))
-at_end lists answers [] (e ∷ es) ended lane end learnt at = absurd learnt
-at_end lists answers (p ∷ ps) [] ended lane end learnt at = absurd learnt
-at_end {N} {P} lists answers (p ∷ ps) (e ∷ es) ended zero end learnt at =
+    → AllSeen lists answers ports ends ended → slice_get ends lane ≡ Some end → AtPlace lists answers ports (handled answers ports ends ended) lane end
+at_end lists answers [] [] ended lane end seen at = absurd (cc (at))
+at_end lists answers [] (e ∷ es) ended lane end seen at = absurd seen
+at_end lists answers (p ∷ ps) [] ended lane end seen at = absurd seen
+at_end {N} {P} lists answers (p ∷ ps) (e ∷ es) ended zero end seen at =
     let same : e ≡ end = cc (at) in
     subst (λ (x : EndOf N). AtPlace lists answers (p ∷ ps) (handled answers (p ∷ ps) (e ∷ es) ended) zero x) same
-    record { port = p; its_lane = refl; ended = ended.0; learnt = learnt.0; items = refl }
-at_end lists answers (p ∷ ps) (e ∷ es) ended (suc lane) end learnt at =
-    let rest = at_end lists answers ps es ended.1 lane end learnt.1 at in
-    record { port = rest.port; its_lane = rest.its_lane; ended = rest.ended; learnt = rest.learnt; items = rest.items }
+    record { port = p; its_lane = refl; ended = ended.0; seen = seen.0; items = refl }
+at_end lists answers (p ∷ ps) (e ∷ es) ended (suc lane) end seen at =
+    let rest = at_end lists answers ps es ended.1 lane end seen.1 at in
+    record { port = rest.port; its_lane = rest.its_lane; ended = rest.ended; seen = rest.seen; items = rest.items }
 
 -- for each lane there is how it ended
 pub end_of : {N P : Type 0} (lists : List (List EditOf)) (answers : P → ℕ → Bool → Type 0) (ports : List (PortOf P)) (ends : List (EndOf N)) (ended : AllEnded answers ports ends) (lane : ℕ) (port : PortOf P)
-    → AllLearnt lists answers ports ends ended → slice_get ports lane ≡ Some port → (end : EndOf N) × (slice_get ends lane ≡ Some end) × EndsAs answers port end
-end_of lists answers [] [] ended lane port learnt at = absurd (cc (at))
-end_of lists answers [] (e ∷ es) ended lane port learnt at = absurd learnt
-end_of lists answers (p ∷ ps) [] ended lane port learnt at = absurd learnt
-end_of {N} {P} lists answers (p ∷ ps) (e ∷ es) ended zero port learnt at =
+    → AllSeen lists answers ports ends ended → slice_get ports lane ≡ Some port → (end : EndOf N) × (slice_get ends lane ≡ Some end) × EndsAs answers port end
+end_of lists answers [] [] ended lane port seen at = absurd (cc (at))
+end_of lists answers [] (e ∷ es) ended lane port seen at = absurd seen
+end_of lists answers (p ∷ ps) [] ended lane port seen at = absurd seen
+end_of {N} {P} lists answers (p ∷ ps) (e ∷ es) ended zero port seen at =
     let same : p ≡ port = cc (at) in
     (e, refl, subst (λ (x : PortOf P). EndsAs answers x e) same ended.0)
-end_of lists answers (p ∷ ps) (e ∷ es) ended (suc lane) port learnt at = end_of lists answers ps es ended.1 lane port learnt.1 at
+end_of lists answers (p ∷ ps) (e ∷ es) ended (suc lane) port seen at = end_of lists answers ps es ended.1 lane port seen.1 at
 
 -- what is wanted of a merged list: a lane whose items are in order and not later than the last call sends by it what it sends by itself
 abbrev pub SendsBy : Asker → ℕ → Desk → List Call → List (List Versioned) → (ℕ → List Sent) → Type 0
@@ -202,11 +172,11 @@ sent_share {N} {P} lists start log answers ports lanes lane end new shares desks
     let state = here.port.lane.state in
     let is = new.1 lane here.port.lane here.its_lane in
     let known = here.port.lane.reader.lists in
-    let seen = learnt_begin lists answers here.port end here.ended here.learnt in
+    let seen = here.seen in
     let items = map versioned ran.served in
     let order : InOrder 0 items = lower 0 (length known) items (omega arith) (in_order known ran.done ran.served ran.in_order) in
     let many : length lists ≡ length (calls_of log) = desks.many ∙ sym (length-map log (λ (e : EntryOf). e.call)) in
-    let few = up_to (length (calls_of log)) lists ran.served many here.learnt.none_later in
+    let few = up_to (length (calls_of log)) lists ran.served many seen in
     let visits = visits_from here.port.lane.reader.start 0 ran.served in
     ran.sends [] is.none
     ∙ (ap (λ (w : Asker). all_sent w state.lane state.lanes [] visits) is.who
@@ -215,6 +185,13 @@ sent_share {N} {P} lists start log answers ports lanes lane end new shares desks
     ∙ (ap (λ (d : Desk). all_sent new.0 lane (length ports) [] (visits_from d 0 ran.served)) (begins_there start (lanes_of ports) lane here.port.lane begin here.its_lane)
     ∙ (ap (all_sent new.0 lane (length ports) []) (visits_are start log lists 0 ran.served desks seen)
     ∙ sym (merged lane items here.items order few))))))
+
+-- what a lane sent is what its end's sink took
+pub own_end : {N : Type 0} (ends : List (EndOf N)) (lane : ℕ) (own : List Sent) → slice_get (sent_by ends) lane ≡ Some own
+    → (end : EndOf N) × (slice_get ends lane ≡ Some end) × (map sent_of (sent end.sink) ≡ own)
+own_end [] lane own at = absurd (cc (at))
+own_end (e ∷ es) zero own at = (e, refl, cc (at))
+own_end (e ∷ es) (suc lane) own at = own_end es lane own at
 
 -- of what all is given, so is a beginning
 pub first_given : {X : Type 0} (start : Desk) (calls : List Call) (f : X → Sent) (xs ys : List X) → IsPrefix xs ys → AreGiven start calls (map f ys) → AreGiven start calls (map f xs)

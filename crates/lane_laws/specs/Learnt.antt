@@ -1,8 +1,9 @@
--- Lanes that learnt of the same publishes (own).
-use Rattle.std.specs.Prelude.{◌≡◌, ◌⊎◌, ℕ, ◌≤◌, Bool, true, List, [], ◌∷◌, length, map, Some}
+-- Lanes whose entries saw beginnings of one list of publishes (own).
+use Rattle.std.specs.Prelude.{◌≡◌, ℕ, Bool, true, List, [], ◌∷◌, length, map, Some}
 use Rattle.std.specs.List.{All, AllByRecursion, Contains}
 use Rattle.std.specs.declared.alloc.Global.{Global}
 use mathlib.Core.List.{IsPrefix}
+use Rattle.logbook.specs.Pages.{Book}
 use Rattle.desk_rows.specs.Desk.{Desk, good}
 use Rattle.desk_rows.specs.Edit.{EditOf}
 use Rattle.versions.specs.Published.{NoticeOf}
@@ -23,21 +24,23 @@ abbrev pub HasNotice : List (List EditOf) → List Parcel → Type 0
 HasNotice lists parcels =
     (item : Item Global) × (notice : NoticeOf) × Contains parcels (Work item (Some notice)) × (notice.lists ≡ lists)
 
--- The lane knew these lists when it began, or was told of them with one of the items that it handled; and it handled no
--- item by a later version.
-pub record HasLearnt {N P : Type 0} (lists : List (List EditOf)) (answers : P → ℕ → Bool → Type 0) (port : PortOf P)
-    (end : EndOf N) (ended : EndsAs answers port end) : Type 0 where
-  pub learnt : IsPrefix lists port.lane.reader.lists ⊎ HasNotice lists ended.ran.done
-  pub none_later : AllByRecursion (λ (s : Served). length s.lists ≤ length lists) ended.ran.served
+-- Each item of the lane was handled at a version of these lists: what its entry saw is a beginning of them.
+abbrev pub HasSeen : {N P : Type 0} (lists : List (List EditOf)) (answers : P → ℕ → Bool → Type 0) (port : PortOf P)
+    (end : EndOf N) → EndsAs answers port end → Type 0
+HasSeen lists answers port end ended = AllByRecursion (λ (s : Served). IsPrefix s.lists lists) ended.ran.served
 
 -- The same of each lane.
-abbrev pub AllLearnt : {N P : Type 0} (lists : List (List EditOf)) (answers : P → ℕ → Bool → Type 0)
+abbrev pub AllSeen : {N P : Type 0} (lists : List (List EditOf)) (answers : P → ℕ → Bool → Type 0)
     (ports : List (PortOf P)) (ends : List (EndOf N)) → AllEnded answers ports ends → Type 0
-AllLearnt lists answers [] [] ended = Unit {0}
-AllLearnt lists answers [] (e ∷ es) ended = ⊥
-AllLearnt lists answers (p ∷ ps) [] ended = ⊥
-AllLearnt lists answers (p ∷ ps) (e ∷ es) ended =
-    HasLearnt lists answers p e ended.0 × AllLearnt lists answers ps es ended.1
+AllSeen lists answers [] [] ended = Unit {0}
+AllSeen lists answers [] (e ∷ es) ended = ⊥
+AllSeen lists answers (p ∷ ps) [] ended = ⊥
+AllSeen lists answers (p ∷ ps) (e ∷ es) ended =
+    HasSeen lists answers p e ended.0 × AllSeen lists answers ps es ended.1
+
+-- What each lane's reader knew at the end is a beginning of these lists.
+abbrev pub HaveKnown : {N : Type 0} → List (List EditOf) → List (EndOf N) → Type 0
+HaveKnown {N} lists ends = AllByRecursion (λ (end : EndOf N). IsPrefix end.known.lists lists) ends
 
 -- the lanes as they were handed in
 abbrev pub lanes_of : {P : Type 0} → List (PortOf P) → List LaneNow
@@ -46,6 +49,15 @@ lanes_of ports = map (λ p. p.lane) ports
 -- The readers of all these lanes begin with this desk.
 abbrev pub AllBegin : Desk → List LaneNow → Type 0
 AllBegin start lanes = All (λ (lane : LaneNow). lane.reader.start ≡ start) lanes
+
+-- The readers of all these lanes are of this publisher.
+abbrev pub AllRead : Book → List LaneNow → Type 0
+AllRead publisher lanes = All (λ (lane : LaneNow). lane.reader.publisher ≡ publisher) lanes
+
+-- Lanes whose readers are of this publisher have ended so.
+abbrev pub HaveEnded : {N P : Type 0} → (P → ℕ → Bool → Type 0) → Book → List (EndOf N) → Type 0
+HaveEnded {N} {P} answers publisher ends =
+    (ports : List (PortOf P)) × AllEnded answers ports ends × AllRead publisher (lanes_of ports)
 
 -- an item that was handled, with its version: how many lists its entry had
 abbrev pub versioned : Served → Versioned
@@ -59,8 +71,8 @@ handled answers [] (e ∷ es) ended = []
 handled answers (p ∷ ps) [] ended = []
 handled answers (p ∷ ps) (e ∷ es) ended = map versioned ended.0.ran.served ∷ handled answers ps es ended.1
 
--- The lanes of one bridge have ended, after each learnt of the calls of this log: the log is legal, some lists lead to
--- its desks, and each lane learnt these lists and handled no item by a later version.
+-- The lanes of one bridge have ended beside this log: the log is legal, some lists lead to its desks, and what each entry
+-- of a lane saw is a beginning of these lists.
 pub record EndedAfter {N P : Type 0} (answers : P → ℕ → Bool → Type 0) (start : Desk) (log : List EntryOf)
     (ports : List (PortOf P)) (ends : List (EndOf N)) : Type 0 where
   pub first : good start ≡ true
@@ -70,7 +82,7 @@ pub record EndedAfter {N P : Type 0} (answers : P → ℕ → Bool → Type 0) (
   pub new : AreNew (lanes_of ports)
   pub begin : AllBegin start (lanes_of ports)
   pub ended : AllEnded answers ports ends
-  pub learnt : AllLearnt lists answers ports ends ended
+  pub seen : AllSeen lists answers ports ends ended
 
 -- the calls of the log and the items that the lanes handled, in one list
 abbrev pub merged : {N P : Type 0} {answers : P → ℕ → Bool → Type 0} {start : Desk} {log : List EntryOf}

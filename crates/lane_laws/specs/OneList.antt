@@ -14,23 +14,27 @@ use Rattle.media_workers.specs.Bridges.{EndOf}
 use Rattle.lane_laws.specs.Shares.{of_lane}
 use Rattle.lane_laws.specs.NamedVersions.{AreGiven}
 
+-- what each of these lanes sent
+abbrev pub sent_by : {N : Type 0} → List (EndOf N) → List (List Sent)
+sent_by {N} ends = map (λ (end : EndOf N). map sent_of (sent end.sink)) ends
+
 -- Each lane, by its place, sent just its share of what is sent for the items of these steps.
-abbrev pub AreShares : {N : Type 0} → List Step → List (List Sent) → List (EndOf N) → Type 0
-AreShares {N} steps all ends =
-    (lane : ℕ) (end : EndOf N) → slice_get ends lane ≡ Some end → map sent_of (sent end.sink) ≡ of_lane lane steps all
+abbrev pub AreShares : List Step → List (List Sent) → List (List Sent) → Type 0
+AreShares steps all sent =
+    (lane : ℕ) (own : List Sent) → slice_get sent lane ≡ Some own → own ≡ of_lane lane steps all
 
 -- The lanes of this bridge, this many, sent what this list of calls and items sends from this desk on: its calls are
--- these, each lane sent its share, and what is promised of whole runs holds of all that is sent.
-pub record IsOneList {N : Type 0} (who : Asker) (many : ℕ) (start : Desk) (calls : List Call) (ends : List (EndOf N))
+-- these, what each lane sent is its share, and what is promised of whole runs holds of all that is sent.
+pub record IsOneList (who : Asker) (many : ℕ) (start : Desk) (calls : List Call) (sent : List (List Sent))
     (events : List Event) : Type 0 where
   pub calls_are : calls_among events ≡ calls
-  pub shares : let steps = steps_of (no_calls start) events in AreShares steps (sends who many start steps) ends
+  pub shares : let steps = steps_of (no_calls start) events in AreShares steps (sends who many start steps) sent
   pub holds : let steps = steps_of (no_calls start) events in Holds who many start steps (sends who many start steps)
 
 -- Each packet that a lane sent goes where the desk of its version has it go.
-abbrev pub SendByVersions : {N : Type 0} → Desk → List Call → List (EndOf N) → Type 0
-SendByVersions {N} start calls ends =
-    (lane : ℕ) (end : EndOf N) → slice_get ends lane ≡ Some end → AreGiven start calls (map sent_of (sent end.sink))
+abbrev pub SendByVersions : Desk → List Call → List (List Sent) → Type 0
+SendByVersions start calls sent =
+    (lane : ℕ) (own : List Sent) → slice_get sent lane ≡ Some own → AreGiven start calls own
 
 -- Each packet that `pop` gave of a lane goes where the desk of its version has it go.
 abbrev pub GaveByVersions : {P : Type 0} → Desk → List Call → List (PortOf P) → Type 0

@@ -13,10 +13,10 @@ ghost use Rattle.bridge_core.specs.EveryLane.{to_every};
 ghost use Rattle.operator_desk.specs.Entry.{EntryOf};
 ghost use Rattle.operator_desk.specs.LegalLogs.{calls_of, after_log};
 ghost use Rattle.media_workers.specs.Ports.{PortOf};
-ghost use Rattle.media_workers.specs.Bridges.{EndOf, EndsAs};
+ghost use Rattle.media_workers.specs.Bridges.{EndOf, EndsAs, AllEnded};
 ghost use Rattle.lane_laws.specs.Undone.{HaveCommands, with_undos};
-ghost use Rattle.lane_laws.specs.Learnt.{HasNotice, EndedAfter, merged};
-ghost use Rattle.lane_laws.specs.OneList.{AreShares, IsOneList, SendByVersions, GaveByVersions};
+ghost use Rattle.lane_laws.specs.Learnt.{HasNotice, AllSeen, HaveKnown, EndedAfter, merged};
+ghost use Rattle.lane_laws.specs.OneList.{AreShares, IsOneList, SendByVersions, GaveByVersions, sent_by};
 
 use crate::laws::{
     calls_keep_their_order, lanes_send_by_one_list, legal_lists_hold, packets_go_by_their_versions,
@@ -31,19 +31,26 @@ pub fn lanes_learn_what_they_handled<N: PublisherName, P: Pace>()
         HasNotice lists port.accepted → end.handled ≡ length port.accepted → HasNotice lists ended.ran.done }
 {}
 
-/// If every lane learnt of the same publishes and handled no item by a later version, one list of the calls that were
-/// published and of the items that the lanes handled gives all that each lane sent.
+/// If what each lane's reader knew at the end is a beginning of some lists, so is what each of its entries saw.
+pub fn lanes_saw_what_they_know<N: PublisherName, P: Pace>()
+    ensures { (ports : List (PortOf P)) (ends : List (EndOf N)) (ended : AllEnded P.answers ports ends)
+        (lists : List (List EditOf)) → HaveKnown lists ends → AllSeen lists P.answers ports ends ended }
+{}
+
+/// If what each lane's entries saw are beginnings of what was published, one list of the calls that were published and
+/// of the items that the lanes handled gives all that each lane sent.
 pub fn lanes_send_their_shares<N: PublisherName, P: Pace>()
     ensures { (start : Desk) (log : List EntryOf) (ports : List (PortOf P)) (ends : List (EndOf N)) →
         (h : EndedAfter P.answers start log ports ends) →
         (let steps = steps_of (no_calls start) (merged h) in
-        AreShares steps (sends (h.new).0 (length ports) start steps) ends) }
+        AreShares steps (sends (h.new).0 (length ports) start steps) (sent_by ends)) }
 {
     lanes_send_by_one_list();
 }
 
-/// The headline of a running bridge. If every lane learnt of the same publishes and handled no item by a later version,
-/// the calls of the log and the items that the lanes handled are one list:
+/// The headline of a running bridge. If what each lane's entries saw are beginnings of what was published, the calls of
+/// the log and the items that the lanes handled are one list. [`none_knew_more`](crate::none_knew_more) shows that they
+/// are, for any bridge whose desk has ended.
 ///
 /// - if the log ends with commands and as many undos of them, the rows that are published last are those before the
 ///   commands, members at their places;
@@ -59,9 +66,9 @@ pub fn the_running_headline<N: PublisherName, P: Pace>()
         after_lists start h.lists ≡ after_lists start (take (length before) h.lists) }
     ensures holds { (start : Desk) (log : List EntryOf) (ports : List (PortOf P)) (ends : List (EndOf N)) →
         (h : EndedAfter P.answers start log ports ends) →
-        IsOneList (h.new).0 (length ports) start (calls_of log) ends (merged h) }
+        IsOneList (h.new).0 (length ports) start (calls_of log) (sent_by ends) (merged h) }
     ensures sent { (start : Desk) (log : List EntryOf) (ports : List (PortOf P)) (ends : List (EndOf N)) →
-        EndedAfter P.answers start log ports ends → SendByVersions start (calls_of log) ends }
+        EndedAfter P.answers start log ports ends → SendByVersions start (calls_of log) (sent_by ends) }
     ensures popped { (start : Desk) (log : List EntryOf) (ports : List (PortOf P)) (ends : List (EndOf N)) →
         EndedAfter P.answers start log ports ends → GaveByVersions start (calls_of log) ports }
     ensures lanes { (start : Desk) (log : List EntryOf) (ports : List (PortOf P)) (ends : List (EndOf N)) →

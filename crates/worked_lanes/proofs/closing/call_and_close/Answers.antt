@@ -1,33 +1,33 @@
-use Rattle.std.proofs.Common.{◌≡◌, sym, subst}
-use Rattle.media_workers.specs.Bridges.{EndOf, AreNew}
-use Rattle.lane_laws.specs.Learnt.{AllBegin}
-use Rattle.worked_lanes.proofs.ToldLemmas.{all_learnt, each}
+use Rattle.std.proofs.Common.{◌≡◌, ◌∙◌, ap, sym, subst}
+use Rattle.versions.specs.Published.{NoticeOf}
+use Rattle.media_workers.specs.Bridges.{AreNew}
+use Rattle.lane_laws.specs.Learnt.{AllBegin, AllRead, lanes_of}
 use Rattle.worked_lanes.proofs.closing.call_and_close.Goals as goal
 
-pub returns-then-are_handled : goal.returns-then-are_handled
-returns-then-are_handled g c =
+pub none_knew_more-requires : goal.none_knew_more-requires
+none_knew_more-requires g c =
+    let accepted = c.in-Accepted.ensures in
+    let ports = c.tell-in-Accepted.new.bridge in
+    let lanes = c.tell-in-Accepted.ensures.lanes ∙ c.tell.ensures.lanes in
+    let read = subst (AllRead g.H.Hall.publisher) (sym lanes) c.requires.read in
+    record { ended = (ports, c.close-ends.ensures.ended, subst (λ b. AllRead b (lanes_of ports)) (sym accepted.tells.0) read) }
+
+pub returns-then-none_knew_more : goal.returns-then-none_knew_more
+returns-then-none_knew_more g c =
     let start = g.H.Hall.start in
     let seen = c.call.new.seat.seen in
-    let lists = c.in-Accepted.notice.lists in
     let accepted = c.in-Accepted.ensures in
-    let ports = c.tell_both-told.new.bridge in
+    let ports = c.tell-in-Accepted.new.bridge in
     let ends = c.close-ends.result.items in
     let ended = c.close-ends.ensures.ended in
-    let lanes = c.tell_both-told.ensures.lanes in
-    let handled = each (λ (end : EndOf g.row.N.Denot). end.handled ≡ 1) ends c.if-are_handled.ensures in
-    record {
-      lists = lists;
+    let lanes = c.tell-in-Accepted.ensures.lanes ∙ c.tell.ensures.lanes in
+    c.the_running_headline.ensures.sent start seen ports ends record {
+      first = c.requires.first;
+      legal = accepted.legal;
+      lists = c.in-Accepted.notice.lists;
       desks = accepted.tells.1;
-      ports = ports;
+      new = subst AreNew (sym lanes) c.requires.new;
+      begin = subst (AllBegin start) (sym lanes) c.requires.begin;
       ended = ended;
-      sent = λ none. c.the_running_headline.ensures.sent start seen ports ends record {
-        first = c.requires.first;
-        legal = accepted.legal;
-        lists = lists;
-        desks = accepted.tells.1;
-        new = subst AreNew (sym lanes) c.requires.new;
-        begin = subst (AllBegin start) (sym lanes) c.requires.begin;
-        ended = ended;
-        learnt = all_learnt lists g.P.Pace.answers ports ends ended c.lanes_learn_what_they_handled.ensures c.if-told.ensures.told handled none;
-      };
+      seen = c.lanes_saw_what_they_know.ensures ports ends ended c.in-Accepted.notice.lists c.if-none_knew_more.ensures.known;
     }
