@@ -11,7 +11,7 @@ use Rattle.intake.specs.Readings.{Reading, too_long, IsReading}
 use Rattle.intake.specs.Taking.{Voice, IsVoice}
 use Rattle.script_text.specs.declared.fault.Fault.{Fault}
 use Rattle.script_text.specs.declared.fault.Fault.TheVariants.{LineTooLong, BadByte}
-use Rattle.script_text.specs.declared.line.TheConstants.{LINE_LIMIT}
+use Rattle.script_text.specs.Lines.{line_limit}
 use Rattle.script_text.specs.Words.{words_of}
 use Rattle.script_text.specs.Requests.{Request, Nothing, Desk, Item, Rx, Report, Show, is_printable, words_request, request_of}
 use Rattle.script_text.specs.Wire.{Wire, script_asker, IsHeard, Hears, HearsAll, OnWires}
@@ -78,7 +78,7 @@ by_recursion (x ∷ xs) h = (h 0, by_recursion xs (λ i. h (suc i)))
 line_octets : (line : List ℕ) (moment : ℕ) (from : Address) (octets : List ℕ) → request_of line ≡ Ok (Rx moment from octets) → AreOctets octets
 unfolding request_of
 line_octets line moment from octets e =
-    by_recursion octets (rx_back line moment from octets (words_read (nat_lt LINE_LIMIT (length line)) (not (list_all is_printable line)) (length line == 0 || slice_index line 0 == 35) (words_request (words_of line)) moment from octets e)).3.bytes
+    by_recursion octets (rx_back line moment from octets (words_read (nat_lt line_limit (length line)) (not (list_all is_printable line)) (length line == 0 || slice_index line 0 == 35) (words_request (words_of line)) moment from octets e)).3.bytes
 
 line_heard : (wire : Wire) → HearsEach wire → (line : List ℕ) (asked : Result Request (ℕ × Fault)) → request_of line ≡ asked → Hears wire asked
 line_heard wire each line (Ok Nothing) e = tt

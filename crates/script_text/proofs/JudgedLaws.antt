@@ -1,7 +1,6 @@
 -- Reasons against calls, in their order.
 use Rattle.std.proofs.Common.{◌≡◌, ℕ, ◌+◌, Bool, true, false, ◌&&◌, nat_le, nat_lt, nat_eq, List, [], ◌∷◌, ◌++◌, length, map, Option, Some, None, option_map, if◌then◌else◌, refl, ap, ◌∙◌, arith}
 use Rattle.std.specs.Option.{option_or}
-use Rattle.undo_log.specs.declared.history.TheConstants.{LIMIT}
 use Rattle.std.proofs.lemmas.Bool.{and_parts}
 use Rattle.std.proofs.lemmas.Bool.Decides.{nat_tests}
 use Rattle.desk_rows.specs.Desk.{Desk}
@@ -9,7 +8,6 @@ use Rattle.desk_edit.specs.declared.command.Command.TheVariants.{AddRoom, Remove
 use Rattle.desk_edit.specs.declared.command.Command.{Command}
 use Rattle.desk_edit.specs.Asked.{CallOf}
 use Rattle.desk_edit.specs.Asked.CallOf.{Apply, Group, Undo, Redo}
-use Rattle.desk_edit.specs.declared.grouping.TheConstants.{MAX_GROUP}
 use Rattle.desk_edit.specs.declared.refusal.Reason.{Reason}
 use Rattle.desk_edit.specs.declared.refusal.Reason.TheVariants as reasons
 use Rattle.desk_edit.specs.Told.{told_of}
@@ -19,11 +17,11 @@ use Rattle.desk_edit.specs.declared.refusal.GroupRefusal.TheVariants.{Empty, Too
 use Rattle.desk_edit.specs.declared.refusal.Refusal.{Refusal}
 use Rattle.desk_edit.specs.declared.refusal.Refusal.TheVariants.{LogFull, EmptyGroup, GroupTooLong, PartRefused}
 use Rattle.desk_edit.specs.Commands.{desk_after}
-use Rattle.desk_edit.specs.Reasons.{refusal_for, refusal_of_group}
+use Rattle.desk_edit.specs.Reasons.{group_limit, refusal_for, refusal_of_group}
 use Rattle.desk_edit.specs.Groups.{part_or_later, part_refused}
 use Rattle.desk_edit.specs.Forms.{form_of}
 use Rattle.desk_edit.specs.Refusals.{cases_of, first_case, reason_against, refused}
-use Rattle.desk_edit.specs.Calls.{refusal_at, or_log_full}
+use Rattle.desk_edit.specs.Calls.{call_limit, refusal_at, or_log_full}
 use Rattle.script_text.specs.Judged.{log_case, told_as, part_cases, call_cases, case_numbers, turn_of, Rises, IsSingle}
 
 log_last : (cases : List (Bool × Refusal)) (version : ℕ) → or_log_full (first_case cases) version ≡ first_case (cases ++ log_case version ∷ [])
@@ -52,7 +50,7 @@ parts_first part d (command ∷ commands) =
 
 size_first : (none many log : Bool) (parts others : Option Refusal) → parts ≡ others
     → option_or (option_map refusal_of_group (if none then Some Empty else (if many then Some TooLong else None))) (if log then Some LogFull else parts)
-    ≡ (if none then Some EmptyGroup else (if many then Some (GroupTooLong MAX_GROUP) else (if log then Some LogFull else others)))
+    ≡ (if none then Some EmptyGroup else (if many then Some (GroupTooLong group_limit) else (if log then Some LogFull else others)))
 size_first true many log parts others h = refl
 size_first false true log parts others h = refl
 size_first false false true parts others h = refl
@@ -66,7 +64,7 @@ asked version done undone d (Apply command) =
     let cases = cases_of d (form_of command) in
     ap (λ (o : Option Refusal). or_log_full o version) (told_first refusal_for cases) ∙ log_last (told_as refusal_for cases) version
 asked version done undone d (Group commands) =
-    size_first (nat_eq (length commands) 0) (nat_lt MAX_GROUP (length commands)) (nat_eq version LIMIT) (option_map refusal_of_group (part_refused 0 d commands)) (first_case (part_cases 0 d commands)) (parts_first 0 d commands)
+    size_first (nat_eq (length commands) 0) (nat_lt group_limit (length commands)) (nat_eq version call_limit) (option_map refusal_of_group (part_refused 0 d commands)) (first_case (part_cases 0 d commands)) (parts_first 0 d commands)
 asked version done undone d (Undo last) = refl
 asked version done undone d (Redo last) = refl
 

@@ -1,13 +1,14 @@
 -- Lines of rows, one after another.
-use Rattle.std.proofs.Common.{◌≡◌, ℕ, zero, suc, ◌+◌, ◌<◌, ◌≤◌, List, [], ◌∷◌, ◌++◌, length, take, drop, get_or, Some, None, Result, Ok, Err, sym, ap, ◌∙◌, append_assoc, arith}
+use Rattle.std.proofs.Common.{◌≡◌, ℕ, zero, suc, ◌+◌, ◌<◌, ◌≤◌, List, [], ◌∷◌, ◌++◌, length, take, drop, get_or, Some, None, Ok, Err, refl, sym, ap, ◌∙◌, append_assoc, arith}
 use Rattle.std.specs.List.{slice_get, flat_map}
 use Rattle.std.proofs.lemmas.Grind.{common_steps}
 use Rattle.std.proofs.lemmas.List.{append-nil}
 use Rattle.desk_rows.specs.declared.row.Row.{Row}
-use Rattle.std.specs.Result.{OnOk, OnErr}
-use Rattle.script_text.specs.Output.{IsFrontOf}
+use Rattle.std.specs.declared.alloc.AllocError.{AllocError}
 use Rattle.script_text.specs.Text.{line_text}
 use Rattle.script_text.specs.RowLines.{row_words, rows_text}
+use Rattle.script_text.specs.inner.Growing.{TextBuffer, Grows}
+use Rattle.script_text.proofs.GrowLemmas.{grows_none, grows_then, grows_stop, grows_same}
 
 -- the row at a place, and those behind it
 at_place : (rs : List Row) (i : ℕ) (r : Row) → slice_get rs i ≡ Some r → drop i rs ≡ r ∷ drop (i + 1) rs
@@ -23,20 +24,48 @@ none_there (x ∷ rs) (suc i) h =
     let e : suc i + 1 ≡ suc (i + 1) = omega arith in
     (none.0, ap (λ (n : ℕ). drop n (x ∷ rs)) e ∙ none.1)
 
--- the lines of the rows from a place on are that of the row there and the others
-pub next_line : (rs : List Row) (i : ℕ) (r : Row) (before old all : List ℕ) → slice_get rs i ≡ Some r → before ++ rows_text i (drop i rs) ≡ old ++ all → (before ++ line_text (row_words i r)) ++ rows_text (i + 1) (drop (i + 1) rs) ≡ old ++ all
-next_line rs i r before old all h k =
-    append_assoc before (line_text (row_words i r)) (rows_text (i + 1) (drop (i + 1) rs)) ∙ (sym (ap (λ (t : List Row). before ++ rows_text i t) (at_place rs i r h)) ∙ k)
+-- the lines up to a place are out, and with those of the rows from there on they are all
+pub record IsOnWay (old now : TextBuffer) (rest all : List ℕ) : Type 0 where
+  pub so_far : List ℕ
+  pub out : Grows old now so_far (Ok tt)
+  pub whole : so_far ++ rest ≡ all
 
--- where there is none, there are none behind it
-pub no_line : (rs : List Row) (i : ℕ) (before old all : List ℕ) → slice_get rs i ≡ None → before ++ rows_text i (drop i rs) ≡ old ++ all → before ++ rows_text (i + 1) (drop (i + 1) rs) ≡ old ++ all
-no_line rs i before old all h k =
+pub on_way : (old : TextBuffer) (rs : List Row) → IsOnWay old old (rows_text 0 (drop 0 rs)) (rows_text 0 rs)
+on_way old rs = record { so_far = []; out = grows_none old; whole = refl }
+
+-- with the line of the row at a place
+with_line : (rs : List Row) (i : ℕ) (r : Row) (so_far all : List ℕ) → slice_get rs i ≡ Some r → so_far ++ rows_text i (drop i rs) ≡ all → (so_far ++ line_text (row_words i r)) ++ rows_text (i + 1) (drop (i + 1) rs) ≡ all
+with_line rs i r so_far all h is =
+    append_assoc so_far (line_text (row_words i r)) (rows_text (i + 1) (drop (i + 1) rs)) ∙ (sym (ap (λ (t : List Row). so_far ++ rows_text i t) (at_place rs i r h)) ∙ is)
+
+-- the line of the row at a place is out too
+pub next_line : (old mid new : TextBuffer) (rs : List Row) (i : ℕ) (r : Row) (all : List ℕ) → slice_get rs i ≡ Some r → IsOnWay old mid (rows_text i (drop i rs)) all → Grows mid new (line_text (row_words i r)) (Ok tt)
+    → IsOnWay old new (rows_text (i + 1) (drop (i + 1) rs)) all
+next_line old mid new rs i r all h way grows = record {
+  so_far = way.so_far ++ line_text (row_words i r);
+  out = grows_then old mid new way.so_far (line_text (row_words i r)) (Ok tt) way.out grows;
+  whole = with_line rs i r way.so_far all h way.whole;
+}
+
+-- it is not all out, so all is not
+pub line_short : (old mid new : TextBuffer) (rs : List Row) (i : ℕ) (r : Row) (all : List ℕ) (e : AllocError) → slice_get rs i ≡ Some r → IsOnWay old mid (rows_text i (drop i rs)) all → Grows mid new (line_text (row_words i r)) (Err e)
+    → Grows old new all (Err e)
+line_short old mid new rs i r all e h way grows =
+    let line = line_text (row_words i r) in
+    let rest = rows_text (i + 1) (drop (i + 1) rs) in
+    grows_same old new ((way.so_far ++ line) ++ rest) all (Err e) (with_line rs i r way.so_far all h way.whole)
+    (grows_stop old new (way.so_far ++ line) rest e (grows_then old mid new way.so_far line (Err e) way.out grows))
+
+-- where there is no row, there is none behind it
+pub no_line : (old mid : TextBuffer) (rs : List Row) (i : ℕ) (all : List ℕ) → slice_get rs i ≡ None → IsOnWay old mid (rows_text i (drop i rs)) all → IsOnWay old mid (rows_text (i + 1) (drop (i + 1) rs)) all
+no_line old mid rs i all h way =
     let none = none_there rs i h in
-    ap (λ (t : List Row). before ++ rows_text (i + 1) t) none.1 ∙ (sym (ap (λ (t : List Row). before ++ rows_text i t) none.0) ∙ k)
+    record { so_far = way.so_far; out = way.out; whole = ap (λ (t : List Row). way.so_far ++ rows_text (i + 1) t) none.1 ∙ (sym (ap (λ (t : List Row). way.so_far ++ rows_text i t) none.0) ∙ way.whole) }
 
 -- behind the last row nothing is left
-pub last_line : (rs : List Row) (i : ℕ) (before old all : List ℕ) → length rs ≤ i → before ++ rows_text i (drop i rs) ≡ old ++ all → before ≡ old ++ all
-last_line rs i before old all h k = sym (ap (λ (t : List Row). before ++ rows_text i t) (none_left rs i h) ∙ append-nil before) ∙ k
+pub last_line : (old mid : TextBuffer) (rs : List Row) (i : ℕ) (all : List ℕ) → length rs ≤ i → IsOnWay old mid (rows_text i (drop i rs)) all → Grows old mid all (Ok tt)
+last_line old mid rs i all h way =
+    grows_same old mid way.so_far all (Ok tt) (sym (append-nil way.so_far) ∙ (sym (ap (λ (t : List Row). way.so_far ++ rows_text i t) (none_left rs i h)) ∙ way.whole)) way.out
   where
     none_left : (rs : List Row) (i : ℕ) → length rs ≤ i → drop i rs ≡ []
     none_left rs i h = grind (arith, common_steps)
@@ -50,15 +79,8 @@ one_more f (x ∷ xs) (suc k) d lt =
     ap (λ (n : ℕ). flat_map f (take n (x ∷ xs))) e
     ∙ (ap (λ (t : List ℕ). f x ++ t) (one_more f xs k d (omega arith)) ∙ sym (append_assoc (f x) (flat_map f (take k xs)) (f (get_or xs k d))))
 
--- ---- what stood before still stands first
-
-pub front_same : (old : List ℕ) → IsFrontOf old old
-front_same old = ([], sym (append-nil old))
-
-pub front_then : (old mid new : List ℕ) → IsFrontOf old mid → IsFrontOf mid new → IsFrontOf old new
-front_then old mid new a b = (a.0 ++ b.0, b.1 ∙ (ap (λ (t : List ℕ). t ++ b.0) a.1 ∙ append_assoc old a.0 b.0))
-
--- a line was appended, or nothing
-pub front_line : {X E : Type 0} (r : Result X E) (old new text : List ℕ) → OnOk r (new ≡ old ++ text) → OnErr r (new ≡ old) → IsFrontOf old new
-front_line (Ok x) old new text is same = (text, is)
-front_line (Err e) old new text is same = ([], same ∙ sym (append-nil old))
+-- the lines of the kinds from one on
+pub others : {X : Type 0} (f : X → List ℕ) (xs : List X) (k : ℕ) → flat_map f (take k xs) ++ flat_map f (drop k xs) ≡ flat_map f xs
+others f xs zero = refl
+others f [] (suc k) = refl
+others f (x ∷ xs) (suc k) = append_assoc (f x) (flat_map f (take k xs)) (flat_map f (drop k xs)) ∙ ap (λ (t : List ℕ). f x ++ t) (others f xs k)

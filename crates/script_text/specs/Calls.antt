@@ -26,7 +26,7 @@ use Rattle.script_text.specs.declared.name.Name.{Name}
 use Rattle.script_text.specs.declared.name.Name.TheVariants as names
 use Rattle.script_text.specs.declared.name.Head.{Head}
 use Rattle.script_text.specs.declared.name.Head.TheVariants as heads
-use Rattle.script_text.specs.declared.line.TheConstants.{LINE_LIMIT}
+use Rattle.script_text.specs.Lines.{line_limit}
 use Rattle.script_text.specs.Words.{◌>>=◌, words_of, word_at, none_left, value_or}
 use Rattle.script_text.specs.Values.{field_of, of_row, in_row, value_text, values_of, Fits, AllFit, number_at}
 
@@ -311,4 +311,4 @@ spoken_words text = if length text == 0 then [] else words_of text
 
 -- the call that a text is; place 0 is the whole text
 abbrev pub spoken_call : List ℕ → Result CallOf (ℕ × Fault)
-spoken_call text = if nat_lt LINE_LIMIT (length text) then Err (0, LineTooLong) else call_of 0 (spoken_words text)
+spoken_call text = if nat_lt line_limit (length text) then Err (0, LineTooLong) else call_of 0 (spoken_words text)

@@ -1,25 +1,24 @@
 -- The order in which the reasons against a call are checked, out of memory apart (own).
 use Rattle.std.specs.Prelude.{ℕ, ◌+◌, ◌≤◌, ◌==◌, Bool, not, nat_eq, nat_lt, List, [], ◌∷◌, ◌++◌, length, map}
 use Rattle.std.specs.Prelude.{position, unwrap_or}
-use Rattle.undo_log.specs.declared.history.TheConstants.{LIMIT}
 use Rattle.desk_rows.specs.Desk.{Desk}
 use Rattle.desk_edit.specs.declared.command.Command.{Command}
-use Rattle.desk_edit.specs.declared.grouping.TheConstants.{MAX_GROUP}
 use Rattle.desk_edit.specs.Asked.{CallOf}
 use Rattle.desk_edit.specs.Asked.CallOf.{Apply, Group, Undo, Redo}
 use Rattle.desk_edit.specs.declared.refusal.Reason.{Reason}
 use Rattle.desk_edit.specs.declared.refusal.Refusal.{Refusal}
 use Rattle.desk_edit.specs.declared.refusal.Refusal.TheVariants.{NewerCommand, NothingToUndo, NothingToRedo, LogFull}
 use Rattle.desk_edit.specs.declared.refusal.Refusal.TheVariants.{EmptyGroup, GroupTooLong, PartRefused}
+use Rattle.desk_edit.specs.Calls.{call_limit}
 use Rattle.desk_edit.specs.Commands.{desk_after}
 use Rattle.desk_edit.specs.Forms.{form_of}
-use Rattle.desk_edit.specs.Reasons.{refusal_for}
+use Rattle.desk_edit.specs.Reasons.{group_limit, refusal_for}
 use Rattle.desk_edit.specs.Refusals.{cases_of}
 use Rattle.desk_edit.specs.Told.{told_of}
 
 -- as many calls were accepted as the log holds
 abbrev pub log_case : ℕ → Bool × Refusal
-log_case version = (nat_eq version LIMIT, LogFull)
+log_case version = (nat_eq version call_limit, LogFull)
 
 -- the reasons against a command, each as a refusal
 abbrev pub told_as : (Reason → Refusal) → List (Bool × Reason) → List (Bool × Refusal)
@@ -27,7 +26,7 @@ told_as refusal cases = map (λ c. (c.0, refusal c.1)) cases
 
 -- a group has no command, or too many
 abbrev pub size_cases : ℕ → List (Bool × Refusal)
-size_cases count = (nat_eq count 0, EmptyGroup) ∷ (nat_lt MAX_GROUP count, GroupTooLong MAX_GROUP) ∷ []
+size_cases count = (nat_eq count 0, EmptyGroup) ∷ (nat_lt group_limit count, GroupTooLong group_limit) ∷ []
 
 -- the reasons against commands, the first of which has this number in its group: all against one, and then those against
 -- the next on the desk that it leaves

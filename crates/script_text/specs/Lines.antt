@@ -3,6 +3,10 @@ use Rattle.std.specs.Prelude.{ℕ, ◌==◌, List, [], ◌∷◌}
 use Rattle.std.specs.List.{slice_split}
 use Rattle.std.specs.Str.Lines.{strip_carriage_return}
 
+-- how many octets a line has at most, its CR and LF not counted
+abbrev pub line_limit : ℕ
+line_limit = 65536
+
 -- what stands between the LFs (10) of a text; the last part is behind the last LF, and may be empty
 abbrev pub parts_of : List ℕ → List (List ℕ)
 parts_of text = slice_split (λ b. b == 10) text

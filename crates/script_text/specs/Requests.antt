@@ -21,7 +21,7 @@ use Rattle.script_text.specs.declared.value.Value.{Value}
 use Rattle.script_text.specs.declared.value.Value.TheVariants.{U32, U64, Operator, Address}
 use Rattle.script_text.specs.declared.name.LineKind.{LineKind}
 use Rattle.script_text.specs.declared.name.LineKind.TheVariants as kinds
-use Rattle.script_text.specs.declared.line.TheConstants.{LINE_LIMIT}
+use Rattle.script_text.specs.Lines.{line_limit}
 use Rattle.script_text.specs.Words.{◌>>=◌, words_of, word_at, none_left, value_or}
 use Rattle.script_text.specs.Values.{value_text, values_of, number_at, address_at, AllFit}
 use Rattle.script_text.specs.Packets.{packet_text, octets_or, source_packets_of, AllReadable}
@@ -149,7 +149,7 @@ is_printable octet = nat_le 32 octet && nat_le octet 126
 -- what a line asks for, or its first fault and the place of its word; place 0 is the whole line, and 35 is `#`
 unfoldable pub request_of : List ℕ → Result Request (ℕ × Fault)
 request_of line =
-    if nat_lt LINE_LIMIT (length line) then Err (0, LineTooLong)
+    if nat_lt line_limit (length line) then Err (0, LineTooLong)
     else if not (list_all is_printable line) then Err (0, BadByte)
     else if length line == 0 || slice_index line 0 == 35 then Ok Nothing
     else words_request (words_of line)

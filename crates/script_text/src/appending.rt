@@ -176,7 +176,7 @@ fn append_next<A: Allocator>(word: Word<'_>, out: &mut Vec<u8, A>) -> Result<(),
 }
 
 /// Appends words behind a first one, each with a space before it, and an LF.
-fn append_line<A: Allocator>(
+pub(crate) fn append_line<A: Allocator>(
     first: &[u8],
     words: &[Word<'_>],
     out: &mut Vec<u8, A>,

@@ -23,7 +23,7 @@ use rtp_codec::Address;
 use std::alloc::{Allocator, Global};
 
 /// How many octets a line may have, its CR and LF not counted.
-pub const LINE_LIMIT: usize = 65_536;
+pub(crate) const LINE_LIMIT: usize = 65_536;
 
 /// What a line asks for.
 #[derive(Drop)]

@@ -1,14 +1,14 @@
 //! What is printed for the rows of a desk.
 
-ghost use Rattle.std.specs.Prelude.{◌≡◌, ◌≤◌, ◌+◌, ◌++◌, length, map, OnOk, OnErr};
+ghost use Rattle.std.specs.Prelude.{◌≡◌, ◌<◌, ◌≤◌, ◌+◌, ◌++◌, length, map, OnOk, OnErr, vec_len, vec_capacity};
 ghost use Rattle.std.specs.List.{flat_map};
 ghost use Rattle.script_text.specs.Text.{line_text};
 ghost use Rattle.script_text.specs.inner.Shown.{said};
-ghost use Rattle.script_text.specs.Output.{IsFrontOf};
+ghost use Rattle.script_text.specs.inner.Growing.{buffer_of, Grows};
 ghost use Rattle.script_text.specs.RowLines.{kind_word, shown_values, place_words, row_word, row_words};
 ghost use Rattle.script_text.specs.RowLines.{kind_lines, all_kinds, show_text};
 
-use crate::appending::{Word, print_line};
+use crate::appending::{Word, append_line};
 use crate::value::Value;
 use arrayvec::ArrayVec;
 use desk_rows::{DEFAULT_RATE, Kind, MOST_VALUES, Row, RowValue, RowValues, Rows};
@@ -70,12 +70,11 @@ fn push_values(values: &[RowValue], words: &mut ArrayVec<Word<'_>, MOST_WORDS>)
 
 /// Appends the line of a row that stands at this place among those of its kind.
 fn print_row<A: Allocator>(place: usize, row: &Row, out: &mut Vec<u8, A>) -> Result<(), AllocError>
-    ensures ok { OnOk result (out.new.items ≡ out.old.items ++ line_text (row_words place row.now)) }
-    ensures err { OnErr result (out.new.items ≡ out.old.items) }
+    ensures { Grows (buffer_of out.old) (buffer_of out.new) (line_text (row_words place row.now)) result }
 {
     let mut words = front(place, row);
     push_values(shown(row).as_slice(), &mut words);
-    print_line(kind_word(row.key().kind()), words.as_slice(), out)
+    append_line(kind_word(row.key().kind()), words.as_slice(), out)
 }
 
 /// Appends the lines of the rows of a kind.
@@ -84,8 +83,7 @@ fn print_kind<A: Allocator + Copy>(
     kind: Kind,
     out: &mut Vec<u8, A>,
 ) -> Result<(), AllocError>
-    ensures ok { OnOk result (out.new.items ≡ out.old.items ++ kind_lines rows.now kind) }
-    ensures grows { IsFrontOf out.old.items out.new.items }
+    ensures { Grows (buffer_of out.old) (buffer_of out.new) (kind_lines rows.now kind) result }
 {
     for place in 0..rows.count(kind) {
         if let Some(row) = rows.at(kind, place) {
@@ -110,8 +108,7 @@ const KINDS: [Kind; 9] = [
 
 /// Appends the lines of the rows of all kinds.
 fn print_kinds<A: Allocator + Copy>(rows: &Rows<A>, out: &mut Vec<u8, A>) -> Result<(), AllocError>
-    ensures ok { OnOk result (out.new.items ≡ out.old.items ++ flat_map (kind_lines rows.now) all_kinds) }
-    ensures grows { IsFrontOf out.old.items out.new.items }
+    ensures { Grows (buffer_of out.old) (buffer_of out.new) (flat_map (kind_lines rows.now) all_kinds) result }
 {
     for kind in &KINDS {
         print_kind(rows, *kind, out)?;
@@ -125,14 +122,13 @@ fn print_shown<A: Allocator + Copy>(
     version: u64,
     out: &mut Vec<u8, A>,
 ) -> Result<(), AllocError>
-    ensures ok { OnOk result (out.new.items ≡ out.old.items ++ show_text rows.now version) }
-    ensures grows { IsFrontOf out.old.items out.new.items }
+    ensures { Grows (buffer_of out.old) (buffer_of out.new) (show_text rows.now version) result }
 {
     print_kinds(rows, out)?;
-    print_line(b"end", &[Word::Value(Value::U64(version))], out)
+    append_line(b"end", &[Word::Value(Value::U64(version))], out)
 }
 
-/// Appends a line for each row, and the version. An `Err` changes nothing.
+/// Appends a line for each row, and the version. On out of memory, the only error, nothing changes.
 pub fn print_rows<A: Allocator + Copy>(
     rows: &Rows<A>,
     version: u64,
@@ -140,6 +136,7 @@ pub fn print_rows<A: Allocator + Copy>(
 ) -> Result<(), AllocError>
     ensures ok { OnOk result (out.new.items ≡ out.old.items ++ show_text rows.now version) }
     ensures err { OnErr result (out.new.items ≡ out.old.items) }
+    ensures full { OnErr result (vec_capacity out.old < vec_len out.old + length (show_text rows.now version)) }
 {
     let before = out.len();
     let answer = print_shown(rows, version, out);
