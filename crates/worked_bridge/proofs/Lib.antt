@@ -3,3 +3,4 @@ pub mod Answered
 pub mod Spoken
 pub mod SliceOctets
 pub mod Given
+pub mod Playing

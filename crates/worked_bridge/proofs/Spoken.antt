@@ -8,7 +8,7 @@ use Rattle.desk_edit.specs.declared.command.Command.TheVariants.{AddMember}
 use Rattle.desk_edit.specs.Asked.{CallOf}
 use Rattle.script_text.specs.declared.fault.Fault.{Fault}
 use Rattle.script_text.specs.declared.fault.Fault.TheVariants.{LineTooLong}
-use Rattle.script_text.specs.declared.line.TheConstants.{LINE_LIMIT}
+use Rattle.script_text.specs.Lines.{line_limit}
 use Rattle.script_text.specs.Words.{words_of}
 use Rattle.script_text.specs.Calls.{command_words, SpellCommand, call_of, spoken_words, spoken_call}
 
@@ -31,7 +31,7 @@ within true read call is = absurd (subst Fails is tt)
 
 -- a text that spells a call has words
 pub spoken : (text : List ℕ) (call : CallOf) → spoken_call text ≡ Ok call → call_of 0 (words_of text) ≡ Ok call
-spoken text call is = in_words text call (within (nat_lt LINE_LIMIT (length text)) (call_of 0 (spoken_words text)) call is)
+spoken text call is = in_words text call (within (nat_lt line_limit (length text)) (call_of 0 (spoken_words text)) call is)
 
 -- texts of the same words are one
 pub same_words : (first second : List ℕ) → words_of first ≡ words_of second → first ≡ second

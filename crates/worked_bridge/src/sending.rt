@@ -1,9 +1,10 @@
 //! What is sent for one item, by the laws of all that is sent.
 
 ghost use Rattle.std.specs.Prelude.{◌≡◌, ◌<◌, ℕ, true, List, length, map, filter, Some, IfOk};
-ghost use Rattle.std.specs.List.{AllByRecursion};
+ghost use Rattle.std.specs.List.{AllByRecursion, Contains};
 ghost use Rattle.desk_rows.specs.declared.row.Member.{Member};
 ghost use Rattle.desk_rows.specs.Desk.{Desk, good};
+ghost use Rattle.retransmit.specs.SentPacket.{SentPacket};
 ghost use Rattle.topology.specs.declared.receivers.Receiver.{Receiver};
 ghost use Rattle.topology.specs.Receivers.{receiver_on};
 ghost use Rattle.topology.specs.Mixes.{mix_member};
@@ -13,10 +14,10 @@ ghost use Rattle.media_items.specs.OwnStreams.{is_mine};
 ghost use Rattle.mixer.specs.Hearing.{sound_for, voices_of};
 ghost use Rattle.media_items.specs.Inputs.{Input, Request, Told, Loss, input_of, is_sized};
 ghost use Rattle.bridge_core.specs.Sent.{sent_of};
-ghost use Rattle.bridge_core.specs.Lanes.{given_of, routed_to};
+ghost use Rattle.bridge_core.specs.Lanes.{given_of, goes, routed_to};
 ghost use Rattle.bridge_core.specs.Steps.{Step, HasTaken, desk_of, visit_after, visits};
 ghost use Rattle.bridge_core.specs.Named.{is_on};
-ghost use Rattle.bridge_core.specs.Headline.{AreGood, IsChosenOf, GoesWhole, IsMixOf, GoesOnce, LeadsBack};
+ghost use Rattle.bridge_core.specs.Headline.{AreGood, IsChosenOf, GoesWhole, IsMixOf, GoesOnce, IsOwed, LeadsBack};
 ghost use Rattle.bridge_core.specs.Telling.{IsSenderReportOf, IsNoteOf, IsPassedUpOf};
 
 use bridge_core::{
@@ -78,7 +79,7 @@ pub fn a_tick_goes_to_all_who_hear(
     core.item(alloc, lane, item)
 }
 
-/// What is sent again leads back to what was sent before.
+/// What is sent again leads back to what was sent before, and all that is owed is sent again.
 pub fn a_nack_leads_back(
     alloc: Global,
     core: &mut Core,
@@ -87,10 +88,16 @@ pub fn a_nack_leads_back(
 ) -> Result<Vec<Egress>, LaneFault>
     requires lane { lane < length core.old.lanes }
     requires sized { is_sized (input_of item.now) ≡ true }
-    ensures { IfOk result (λ sent. (start : Desk) (before : List Step) (request : Request)
+    ensures back { IfOk result (λ sent. (start : Desk) (before : List Step) (request : Request)
         → HasTaken core.old start before → good start ≡ true → AreGood before → input_of item.now ≡ Input.nack request
         → AllByRecursion (LeadsBack core.old.intake.asker (length core.old.lanes) start before lane
         (visit_after start before lane (Input.nack request)) request) (map sent_of sent.items)) }
+    ensures owed { IfOk result (λ sent. (start : Desk) (before : List Step) (request : Request) (p : SentPacket)
+        → HasTaken core.old start before → good start ≡ true → AreGood before → input_of item.now ≡ Input.nack request
+        → is_mine lane (length core.old.lanes) request.out_ssrc ≡ true
+        → IsOwed start before lane (visit_after start before lane (Input.nack request)) request p
+        → Contains (map sent_of sent.items)
+        (goes request.out_ssrc (Some (visit_after start before lane (Input.nack request)).version) p)) }
 {
     resends_lead_back();
     core.item(alloc, lane, item)

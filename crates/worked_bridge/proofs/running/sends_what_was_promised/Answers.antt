@@ -8,6 +8,7 @@ use Rattle.intake.specs.inner.Holding.{IntakeOf}
 use Rattle.bridge_core.specs.Sent.{sent_of}
 use Rattle.bridge_core.specs.Events.{Event, Accepts, Sends, Plays, steps_of}
 use Rattle.bridge_core.specs.WholeRuns.{Holds}
+use Rattle.worked_bridge.proofs.Playing.{at_rest}
 use Rattle.worked_bridge.proofs.running.sends_what_was_promised.Goals as goal
 
 pub returns-in-Ok-item : goal.returns-in-Ok-item
@@ -37,7 +38,7 @@ returns-in-Ok-item c =
       lanes = c.in-Ok-item.ensures.lanes;
       who = ap (λ (i : IntakeOf). i.asker) c.in-Ok-item.ensures.intake;
     } in
-    let plays : Plays first events (sent ∷ []) last = (middle, accepts, (last, sent, [], refl, sends, (refl, refl))) in
+    let plays : Plays first events (sent ∷ []) last = (first, middle, at_rest first, accepts, (middle, last, sent, [], refl, at_rest middle, sends, (refl, at_rest last))) in
     subst (λ (who : Asker). Holds who 3 start (steps_of (no_calls start) events) (sent ∷ [])) c.in-Ok.ensures.asker
     (subst (λ (n : ℕ). Holds first.intake.asker n start (steps_of (no_calls start) events) (sent ∷ [])) c.in-Ok.ensures.lanes
     (c.the_headline.ensures.holds start events (sent ∷ []) first last begins c.in-Ok.ensures.fresh c.in-Ok.ensures.history plays))
