@@ -1,4 +1,5 @@
 pub mod CutLemmas
+pub mod ForeignLemmas
 pub mod SettingsLemmas
 pub mod WholeLemmas
 pub mod WireLemmas

@@ -2,6 +2,8 @@ pub mod Attempts
 pub mod Cut
 pub mod Ended
 pub mod Fed
+pub mod Foreign
+pub mod Openings
 pub mod Operators
 pub mod Outbound
 pub mod Pacing

@@ -5,7 +5,8 @@ use Rattle.std.specs.List.{list_all, ends_with}
 use Rattle.std.specs.Str.{bytes_eq}
 use Rattle.desk_edit.specs.Asked.{CallOf, asked_by}
 use Rattle.script_text.specs.declared.fault.Fault.{Fault}
-use Rattle.script_text.specs.declared.fault.Fault.TheVariants.{BadByte, ExtraWord}
+use Rattle.script_text.specs.declared.fault.Fault.TheVariants.{LineTooLong, BadByte, UnknownWord, MissingWord}
+use Rattle.script_text.specs.declared.fault.Fault.TheVariants.{ExtraWord, BadNumber, BadAddress, BadHex, BadFrame}
 use Rattle.script_text.specs.Words.{cut_of}
 use Rattle.script_text.specs.Calls.{spoken_call, spoken_words}
 use Rattle.script_text.specs.Requests.{is_printable}
@@ -83,6 +84,19 @@ fault_line word fault = codes "fault " ++ decimal word ++ codes " " ++ fault_tex
 abbrev pub busy_line : List ℕ
 busy_line = codes "busy\n"
 
+-- What happens to a connection behind a faulty line. One that is too long, or has an octet that no line may hold,
+-- closes it.
+abbrev pub after_fault : Fault → Next
+after_fault LineTooLong = next.Quit
+after_fault BadByte = next.Quit
+after_fault UnknownWord = next.Stay
+after_fault MissingWord = next.Stay
+after_fault ExtraWord = next.Stay
+after_fault BadNumber = next.Stay
+after_fault BadAddress = next.Stay
+after_fault BadHex = next.Stay
+after_fault BadFrame = next.Stay
+
 -- how a desk may reply: the desk before and after a call, the call, and the text that is told
 abbrev pub Replying : Type 0 → Type 1
 Replying D = D → D → CallOf → List ℕ → Type 0
@@ -104,7 +118,7 @@ AppendsShown shows desk before after = (text : List ℕ) × (after ≡ before ++
 abbrev pub AnswersAsk :
     {D : Type 0} → Replying D → Showing D → D → Result AskOf (ℕ × Fault) → D → List ℕ → Next → Type 0
 AnswersAsk replies shows old (Err fault) new text becomes =
-    (new ≡ old) × (text ≡ fault_line fault.0 fault.1) × (becomes ≡ next.Stay)
+    (new ≡ old) × (text ≡ fault_line fault.0 fault.1) × (becomes ≡ after_fault fault.1)
 AnswersAsk replies shows old (Ok (spoken call)) new text becomes =
     replies old new call text × (becomes ≡ next.Stay)
 AnswersAsk replies shows old (Ok (alone Show)) new text becomes =

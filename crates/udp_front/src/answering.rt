@@ -2,7 +2,7 @@
 
 ghost use Rattle.std.specs.Prelude.{◌≡◌, ◌++◌, Ok, IfOk, OnOk, OnErr};
 ghost use Rattle.script_text.specs.declared.fault.Fault.TheVariants.{LineTooLong};
-ghost use Rattle.udp_front.specs.Operators.{fault_line, busy_line, alone, AppendsAnswer, AnswersLine};
+ghost use Rattle.udp_front.specs.Operators.{fault_line, after_fault, busy_line, alone, AppendsAnswer, AnswersLine};
 
 use crate::asking::{LineAsk, Verb, parse_line};
 use crate::line_desk::LineDesk;
@@ -28,7 +28,7 @@ pub fn busy() -> &'static [u8]
 }
 
 /// Appends the line of a fault of a word, counted from 1; word 0 is the whole line. An `Err` appends nothing.
-fn print_fault<A: Allocator + Copy>(
+pub(crate) fn print_fault<A: Allocator + Copy>(
     alloc: A,
     word: u32,
     fault: Fault,
@@ -39,6 +39,23 @@ fn print_fault<A: Allocator + Copy>(
 {
     let line = format!(in alloc; "fault {word} {fault}\n")?;
     out.extend_from_slice(line.as_bytes())
+}
+
+/// What happens to a connection behind a faulty line. Who sends an octet that no line may hold speaks another protocol,
+/// and what follows may be lines that somebody else chose.
+pub(crate) fn after_fault(fault: Fault) -> Next
+    ensures { result ≡ after_fault fault }
+{
+    match fault {
+        Fault::LineTooLong | Fault::BadByte => Next::Quit,
+        Fault::UnknownWord
+        | Fault::MissingWord
+        | Fault::ExtraWord
+        | Fault::BadNumber
+        | Fault::BadAddress
+        | Fault::BadHex
+        | Fault::BadFrame => Next::Stay,
+    }
 }
 
 /// Appends the answer to a line of more octets than a line may have. An `Err` appends nothing.
@@ -91,7 +108,7 @@ pub fn answer<D: LineDesk>(
         Ok(LineAsk::Verb(verb)) => answer_verb(alloc, desk, verb, out),
         Err(ParseFault::Line { word, fault }) => {
             print_fault(alloc, word, fault, out)?;
-            Ok(Next::Stay)
+            Ok(after_fault(fault))
         }
         Err(ParseFault::OutOfMemory) => Err(AllocError),
     }

@@ -38,7 +38,7 @@ pub(crate) enum Verb {
 }
 
 /// Whether each octet is one that a line may hold.
-fn is_printed(line: &[u8]) -> bool
+pub(crate) fn is_printed(line: &[u8]) -> bool
     ensures { result ≡ is_printed line.now }
 {
     line.iter().all(|octet| 32 <= *octet && *octet <= 126)

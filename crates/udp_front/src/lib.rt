@@ -1,7 +1,8 @@
 //! What a bridge on sockets is made of, beside its threads: its settings, operators' lines and their answers, datagrams
 //! on a wire, what waits for an operator, and when ticks and reports are due.
 //!
-//! Begin with [`settings`]. [`Lines::feed`] cuts what an operator sends into lines, and [`answer`] asks a [`LineDesk`].
+//! Begin with [`settings`]. [`Lines::feed`] cuts what an operator sends into lines. [`greet`] deals with those before
+//! the first good one, which takes a seat, and [`answer`] asks a [`LineDesk`].
 //! [`send_all`] sends egresses over a [`Wire`], such as a [`UdpWire`].
 //!
 //! Contracts see a stream as its lines, a wire as the datagrams that were tried, and what waits for an operator as
@@ -28,6 +29,8 @@ mod asking;
 mod ending;
 mod fault;
 mod feeding;
+mod foreign;
+mod greeting;
 mod laws;
 mod line_desk;
 mod listening;
@@ -44,6 +47,7 @@ pub use answering::{Next, answer, busy, print_too_long};
 pub use ending::{FrontFault, front_status};
 pub use fault::SettingsFault;
 pub use feeding::{Fed, Lines};
+pub use greeting::{Opening, greet};
 pub use laws::{cuts_are_whole, too_long_for_good};
 pub use line_desk::LineDesk;
 pub use listening::Listening;
