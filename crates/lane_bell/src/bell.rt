@@ -1,24 +1,9 @@
 //! The bell of a lane, and its pace.
 
+use crate::rings::Rings;
 use media_workers::Pace;
 use std::alloc::Global;
 use std::sync::{Arc, Condvar, Mutex, MutexGuard, Wait};
-
-/// What a bell knows.
-#[derive(Clone, Copy)]
-struct Rings {
-    /// How many parcels it was rung for.
-    parcels: u64,
-    /// While it is open, the lane doesn't wait for it.
-    is_open: bool,
-}
-
-impl Rings {
-    /// Whether the lane may take so many parcels.
-    fn let_pass(&self, parcels: u64) -> bool {
-        self.parcels >= parcels || self.is_open
-    }
-}
 
 /// Wakes a lane. Ring it for each parcel that the lane is given, so that the lane can sleep until then.
 ///
@@ -34,10 +19,7 @@ impl Bell {
     /// An open bell that has not rung.
     pub fn new() -> Self {
         Self {
-            rings: Mutex::new(Rings {
-                parcels: 0,
-                is_open: true,
-            }),
+            rings: Mutex::new(Rings::new()),
             rung: Condvar::new(),
         }
     }
@@ -45,7 +27,7 @@ impl Bell {
     /// Rings for this many parcels that the lane was given.
     pub fn ring<R: Wait>(&self, rt: &R, parcels: u64) {
         let mut rings = self.rings.lock(rt);
-        rings.parcels = rings.parcels.saturating_add(parcels);
+        rings.ring(parcels);
         MutexGuard::unlock(rings);
         self.rung.notify_one();
     }
@@ -53,14 +35,14 @@ impl Bell {
     /// Lets the lane sleep from its next parcel on. Call it once all lanes have started.
     pub fn close<R: Wait>(&self, rt: &R) {
         let mut rings = self.rings.lock(rt);
-        rings.is_open = false;
+        rings.close();
         MutexGuard::unlock(rings);
     }
 
     /// Lets the lane sleep no more. Call it before the lane's `End`.
     pub fn open<R: Wait>(&self, rt: &R) {
         let mut rings = self.rings.lock(rt);
-        rings.is_open = true;
+        rings.open();
         MutexGuard::unlock(rings);
         self.rung.notify_one();
     }

@@ -5,7 +5,8 @@
 //! is closed and silent takes no processor time. Before a lane sleeps, it calls [`Rouse::rouse`], so that the caller
 //! takes what it sent.
 //!
-//! Contracts say nothing of bells: a lane promises the same at any pace.
+//! What a ring, a close and an open make of a bell is proved. A bell stands under a lock, so no contract speaks of its
+//! calls: a lane promises the same at any pace.
 //!
 //! ```rust
 //! // lanes: one `Lane` of media_workers; parcel: what it is to handle
@@ -27,5 +28,6 @@
 #![tactic(auto)]
 
 mod bell;
+mod rings;
 
 pub use self::bell::{Bell, Rouse, Rung};
