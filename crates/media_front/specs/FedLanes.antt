@@ -63,6 +63,10 @@ AreGiven old input new = AllZip (IsFed input) old new
 abbrev pub AllAreGiven : {P : Type 0} → List Input → List (FedLane P) → List (FedLane P) → Type 0
 AllAreGiven inputs old new = FoldsTo AreGiven old inputs new
 
+-- the most egresses that one call sends
+abbrev pub most_egresses : ℕ
+most_egresses = 4096
+
 -- This egress was popped of the lane of this number, which still gave some.
 abbrev pub IsPopped : {P : Type 0} → List (FedLane P) → ℕ × Egress Global → List (FedLane P) → Type 0
 IsPopped {P} old e new =

@@ -60,16 +60,6 @@ impl<N: PublisherName, P: Pace> LaneFeed<N, P> {
         self.tallies[lane as usize].dropped
     }
 
-    /// Whether a lane has ended. No contract speaks of the answer.
-    pub fn has_ended(&self) -> bool {
-        for lane in 0..self.count() {
-            if self.bridge.ended(lane) {
-                return true;
-            }
-        }
-        false
-    }
-
     /// Each lane's next parcel carries this notice, in place of one that the lane was owed.
     pub fn tell(&mut self, notice: Notice)
         requires publisher { notice.publisher ≡ N.publisher }

@@ -12,6 +12,7 @@ ghost use Rattle.udp_front.specs.Attempts.{datagrams_of};
 ghost use Rattle.udp_front.specs.Pacing.{most_ticks, report_due, after_report};
 ghost use Rattle.udp_front.specs.declared.ending.FrontFault.TheVariants.{OutOfMemory as MemoryFault};
 ghost use Rattle.media_front.specs.FedLanes.{FedLane, ports_in, owing_notice, rung, AllAreGiven, ArePopped};
+ghost use Rattle.media_front.specs.FedLanes.{most_egresses};
 ghost use Rattle.media_front.specs.Prices.{pli_octets};
 ghost use Rattle.media_front.specs.Tries.{WereTried};
 ghost use Rattle.media_front.specs.Fronts.{HasTaken, MayHaveTaken, HasReported, ticks_due, after_ticks};
@@ -225,18 +226,18 @@ impl<N: PublisherName, P: Pace> MediaFront<N, P> {
         self.feed.ring(rt);
     }
 
-    /// Sends what the lanes gave, as [`LaneFeed::send`] does. Returns how many egresses it popped, 4,096 at most.
+    /// Sends what the lanes gave, 4,096 egresses at most, as [`LaneFeed::send`] does. Returns how many it popped.
     pub fn send<W: Wire>(&mut self, wire: &mut W) -> u32
         ensures sent { (popped : List (ℕ × AnEgress Heap)) × (length popped ≡ result)
             × ArePopped popped self.old.feed self.new.feed
             × WereTried (flat_map datagrams_of (map (λ e. e.1) popped)) (W.attempts wire.old) (W.attempts wire.new) }
-        ensures few { result ≤ 4096 }
+        ensures few { result ≤ most_egresses }
         ensures same { self.new ≡ record self.old { feed = self.new.feed } }
     {
         self.feed.send(wire)
     }
 
-    /// Whether a lane has ended. No contract speaks of the answer.
+    /// Whether any lane has ended. No contract speaks of the answer for lanes on threads.
     pub fn has_ended(&self) -> bool {
         self.feed.has_ended()
     }

@@ -13,8 +13,9 @@ ghost use Rattle.media_front.specs.inner.Copies.{AreCopies};
 
 use crate::beat::Beat;
 use crate::feed::LaneFeed;
+use crate::offering::offer_item;
 use bridge_core::Item;
-use media_workers::{Pace, Parcel, PublisherName};
+use media_workers::{Pace, PublisherName};
 use std::alloc::{AllocError, Global};
 
 /// `count` copies of an item.
@@ -44,22 +45,6 @@ pub(crate) fn copies_of_all(
     Ok(all)
 }
 
-/// How many of the 1,024 places of a lane's ring a NACK, a report block or a PLI leaves free.
-const LEFT_BY_REQUESTS: usize = 512;
-
-/// How many a frame or sound leaves free: more than the 50 ticks and the report that one round gives at most.
-const LEFT_BY_MEDIA: usize = 64;
-
-/// How many places of a lane's ring an item leaves free. What members ask for and report leaves places for frames and
-/// sound, and these leave places for ticks. The mixes of a lane that misses a tick are 20 ms late from then on.
-fn places_left(item: &Item) -> usize {
-    match item {
-        Item::Nack { .. } | Item::Block { .. } | Item::Pli { .. } => LEFT_BY_REQUESTS,
-        Item::Frame(_) | Item::Audio { .. } => LEFT_BY_MEDIA,
-        Item::Tick { .. } | Item::Report { .. } => 0,
-    }
-}
-
 impl<N: PublisherName, P: Pace> LaneFeed<N, P> {
     /// Gives a lane an item, in a parcel with the notice that it is owed. A parcel that the lane hands back is dropped
     /// and counted.
@@ -70,9 +55,7 @@ impl<N: PublisherName, P: Pace> LaneFeed<N, P> {
             (y : FedLane P) × IsFed (input_of item) x y × (self.new ≡ slice_set self.old lane y) }
     {
         let notice = self.tallies[lane].notice();
-        let free = places_left(&item);
-        let parcel = Parcel::Work { item, notice };
-        let accepted = self.bridge.push_leaving(lane as u32, parcel, free).is_ok();
+        let accepted = offer_item(&mut self.bridge, lane as u32, item, notice).is_ok();
         self.tallies[lane].count(accepted);
     }
 

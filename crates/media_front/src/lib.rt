@@ -7,7 +7,8 @@
 //! [`MediaFront::send`] sends what they gave. The crate has no socket and no clock.
 //!
 //! Contracts see a feed as its lanes: for each one its port of `media_workers`, the notice that it is owed, how many
-//! parcels it accepted since its bell was rung, and how many were dropped. They don't say when a parcel is dropped.
+//! parcels it accepted since its bell was rung, and how many were dropped. They don't say when a parcel is dropped:
+//! [`places_left`] says how many places of a ring each kind of item leaves free for others.
 //!
 //! ```rust
 //! // readers, notice and rows: of a shared desk of the hall H; waker: a `Rouse`; wire: a `Wire`
@@ -30,6 +31,7 @@
 //! calls on sockets.
 #![tactic(auto)]
 
+mod asking;
 mod beat;
 mod ends;
 mod feed;
@@ -38,6 +40,7 @@ mod giving;
 mod granting;
 mod laws;
 mod naming;
+mod offering;
 mod paying;
 mod planning;
 mod popping;
@@ -46,13 +49,15 @@ mod starting;
 mod tally;
 mod trying;
 
+pub use self::asking::MOST_EGRESSES;
 pub use self::ends::fault_of;
 pub use self::feed::LaneFeed;
 pub use self::front::MediaFront;
 pub use self::laws::{
-    control_up_is_bounded, items_given_are_bounded, numbers_given_are_bounded,
+    control_up_is_bounded, items_given_are_bounded, last_places_suffice, numbers_given_are_bounded,
     owed_notices_are_carried, passed_plis_have_their_cost,
 };
 pub use self::naming::PublisherOf;
-pub use self::popping::MOST_EGRESSES;
+pub use self::offering::places_left;
+pub use self::paying::credit;
 pub use self::pricing::pli_octets;

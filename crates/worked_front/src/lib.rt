@@ -2,8 +2,10 @@
 #![tactic(auto)]
 
 pub mod attempts;
+pub mod earning;
 pub mod feeding;
 pub mod flooding;
 pub mod lane_ends;
+pub mod leaving;
 pub mod pacing;
 pub mod unread;
