@@ -1,4 +1,6 @@
 pub mod Free
-pub mod Places
+pub mod Greeting
+pub mod Lobby
+pub mod Readiness
 pub mod Talking
 pub mod Told

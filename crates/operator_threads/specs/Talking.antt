@@ -1,6 +1,6 @@
 -- The state of an operator's connection, step by step (own).
-use Rattle.std.specs.Prelude.{◌≡◌, ◌⊎◌, ◌++◌, ℕ, zero, suc, Bool, true, false, not, ◌&&◌, if◌then◌else◌, nat_eq, List}
-use Rattle.std.specs.Prelude.{[], ◌∷◌, length, take, drop, Result, Ok, Err}
+use Rattle.std.specs.Prelude.{◌≡◌, ◌⊎◌, ◌++◌, ℕ, zero, suc, Bool, true, false, not, ◌&&◌, ◌||◌, nat_eq, nat_le}
+use Rattle.std.specs.Prelude.{if◌then◌else◌, List, [], ◌∷◌, length, take, drop, Result, Ok, Err}
 use Rattle.std.specs.IoError.{error_kind}
 use Rattle.std.specs.declared.io.Error.{Error}
 use Rattle.std.specs.declared.io.ErrorKind.{ErrorKind}
@@ -23,12 +23,38 @@ is_open Ending = false
 is_open Lost = false
 is_open Stopping = false
 
--- it is to be closed, while these octets wait to be written
-abbrev pub is_over : Standing → List ℕ → Bool
-is_over Open waiting = false
-is_over Ending waiting = nat_eq (length waiting) 0
-is_over Lost waiting = true
-is_over Stopping waiting = true
+-- how many nanoseconds a connection without a seat may be silent: 30 s
+abbrev pub longest_silence : ℕ
+longest_silence = 30000000000
+
+-- how many nanoseconds a connection that ends has to take what waits for it: 5 s, anew with each octet that it takes
+abbrev pub ending_time : ℕ
+ending_time = 5000000000
+
+-- how many it has when the bridge is stopped: 1 s
+abbrev pub stopping_time : ℕ
+stopping_time = 1000000000
+
+-- it is to be closed, while these octets wait to be written, this many nanoseconds after its last change
+abbrev pub is_over : Standing → (seated : Bool) → (waiting : List ℕ) → (passed : ℕ) → Bool
+is_over Open seated waiting passed = not seated && nat_le longest_silence passed
+is_over Ending seated waiting passed = nat_eq (length waiting) 0 || nat_le ending_time passed
+is_over Lost seated waiting passed = true
+is_over Stopping seated waiting passed = nat_eq (length waiting) 0 || nat_le stopping_time passed
+
+-- its state when the bridge is stopped
+abbrev pub after_stop : Standing → Standing
+after_stop Open = Stopping
+after_stop Ending = Stopping
+after_stop Lost = Lost
+after_stop Stopping = Stopping
+
+-- the moment of its last change then
+abbrev pub since_stop : Standing → (now since : ℕ) → ℕ
+since_stop Open now since = now
+since_stop Ending now since = now
+since_stop Lost now since = since
+since_stop Stopping now since = since
 
 -- lost if more waits than an operator may leave unread
 abbrev pub unless_too_much : List ℕ → Standing → Standing
@@ -68,15 +94,23 @@ abbrev pub Refuses : Bool → (before after : List ℕ) → (from to : Standing)
 Refuses true before after from to = (after ≡ before ++ fault_line 0 LineTooLong) × (to ≡ Ending)
 Refuses false before after from to = (after ≡ before) × (to ≡ from)
 
+-- these lines are answered, and then one that is too long is refused
+abbrev pub AnswersAll :
+    {D : Type 0} → Replying D → Showing D → List (List ℕ) → (is_too_long : Bool) → D → D → (before after : List ℕ)
+    → Standing → Bool → Type 0
+AnswersAll replies shows lines is_too_long old new before after to stopped =
+    (between : List ℕ) × (standing : Standing)
+    × AnswersFirst replies shows lines old new before between standing stopped
+    × Refuses (refuses is_too_long stopped standing) between after standing to
+
 -- octets follow a stream: the lines that they end are answered, and then one that is too long is refused
 abbrev pub AnswersOctets :
     {D : Type 0} → Replying D → Showing D → (stream octets : List ℕ) → D → D → (before after : List ℕ) → Standing → Bool
     → Type 0
 AnswersOctets replies shows stream octets old new before after to stopped =
-    (lines : List (List ℕ)) × (is_too_long : Bool) × (between : List ℕ) × (standing : Standing)
+    (lines : List (List ℕ)) × (is_too_long : Bool)
     × Brings stream octets lines is_too_long
-    × AnswersFirst replies shows lines old new before between standing stopped
-    × Refuses (refuses is_too_long stopped standing) between after standing to
+    × AnswersAll replies shows lines is_too_long old new before after to stopped
 
 -- what an error of a socket means: nothing yet, nothing this time, or the end
 abbrev pub came_by : ErrorKind → Came
@@ -98,6 +132,14 @@ after_read came.Later standing = standing
 after_read came.Again standing = standing
 after_read came.Failed standing = Lost
 
+-- the moment of its last change after a read that brought no octets
+abbrev pub since_read : Came → (now since : ℕ) → ℕ
+since_read (came.Octets n) now since = since
+since_read came.End now since = now
+since_read came.Later now since = since
+since_read came.Again now since = since
+since_read came.Failed now since = since
+
 -- its state after a write: a socket that takes nothing is lost
 abbrev pub after_write : Came → Standing → Standing
 after_write (came.Octets n) standing = standing
@@ -105,6 +147,17 @@ after_write came.End standing = Lost
 after_write came.Later standing = standing
 after_write came.Again standing = standing
 after_write came.Failed standing = Lost
+
+-- the moment of its last change after a write: one that ends, and takes octets, has its time anew
+abbrev pub since_write : Came → Standing → (now since : ℕ) → ℕ
+since_write (came.Octets n) Open now since = since
+since_write (came.Octets n) Ending now since = now
+since_write (came.Octets n) Lost now since = since
+since_write (came.Octets n) Stopping now since = since
+since_write came.End standing now since = since
+since_write came.Later standing now since = since
+since_write came.Again standing now since = since
+since_write came.Failed standing now since = since
 
 -- what still waits after a write
 abbrev pub left_after : Came → List ℕ → List ℕ

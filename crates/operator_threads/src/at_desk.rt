@@ -32,7 +32,7 @@ pub struct AtDesk<'b, 'a, H: Hall, R: Wait, F: Rouse> {
 }
 
 impl<'b, 'a, H: Hall, R: Wait, F: Rouse> AtDesk<'b, 'a, H, R, F> {
-    /// Gives the seat and the place back.
+    /// Gives the seat back.
     pub fn leave(self) {
         let AtDesk {
             operators,

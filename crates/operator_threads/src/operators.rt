@@ -1,20 +1,21 @@
 //! The operators of a bridge.
 
-ghost use Rattle.std.specs.Prelude.{◌≡◌, IfSome};
+ghost use Rattle.std.specs.Prelude.{◌≡◌};
 ghost use mathlib.Core.List.{IsPrefix};
 ghost use Rattle.operator_desk.specs.Answers.{IsNotice};
 
 use crate::at_desk::AtDesk;
-use crate::caller::Caller;
+use crate::caller::{Caller, Heed};
 use crate::latest::Latest;
-use crate::places::Places;
+use crate::lobby::Lobby;
 use crate::printed::Printed;
 use crate::seats::{FreeSeats, TakenSeat};
 use lane_bell::Rouse;
-use operator_desk::{Hall, MAX_OPERATORS, Seat, SharedDesk};
-use std::alloc::Global;
+use operator_desk::{Hall, Seat, SharedDesk};
+use std::alloc::{AllocError, Global};
 use std::sync::atomic::{AtomicBool, Ordering};
 use std::sync::{Mutex, MutexGuard, Wait};
+use std::time::Clock;
 use versions::Notice;
 
 /// The operators of a bridge, at one desk. It is not `Drop`: end it by [`Operators::end`].
@@ -22,8 +23,8 @@ use versions::Notice;
 /// One reference to it is all that a connection's thread borrows.
 pub struct Operators<'a, H: Hall> {
     pub(crate) desk: SharedDesk<'a, H>,
-    places: Mutex<Places>,
     seats: Mutex<FreeSeats<'a, H>>,
+    lobby: Mutex<Lobby>,
     latest: Mutex<Latest<H>>,
     /// Held while the rows are printed, which takes milliseconds for a full desk, or copied as they were printed last.
     /// Operators who keep asking take one processor together, and the others' calls have the rest.
@@ -32,7 +33,7 @@ pub struct Operators<'a, H: Hall> {
 }
 
 impl<'a, H: Hall> Operators<'a, H> {
-    /// The operators of a desk with these seats, all of them free. There are as many places as seats, 16 at most.
+    /// The operators of a desk with these seats, all of them free.
     pub fn new<R: Wait>(
         rt: &R,
         alloc: Global,
@@ -40,72 +41,80 @@ impl<'a, H: Hall> Operators<'a, H> {
         seats: Vec<Seat<'a, H>>,
     ) -> Self {
         let latest = Latest::new(desk.notice(rt));
-        let places = seats.len().min(MAX_OPERATORS as usize);
         Self {
             desk,
-            places: Mutex::new(Places::new(places)),
             seats: Mutex::new(FreeSeats { seats }),
+            lobby: Mutex::new(Lobby::new(alloc)),
             latest: Mutex::new(latest),
             printed: Mutex::new(Printed::nothing(alloc)),
             stopped: AtomicBool::new(false),
         }
     }
 
-    /// Takes the lowest free place, which is its operator's number. `None`: no place is free, and the caller is to be
-    /// turned away.
-    pub fn reserve<R: Wait>(&self, rt: &R) -> Option<u32> {
-        let mut places = self.places.lock(rt);
-        let place = places.reserve();
-        MutexGuard::unlock(places);
-        u32::try_from(place?).ok()
+    /// Whether a seat is free. Without one a new connection is to be turned away.
+    pub fn has_seat<R: Wait>(&self, rt: &R) -> bool {
+        let seats = self.seats.lock(rt);
+        let is_empty = seats.is_empty();
+        MutexGuard::unlock(seats);
+        !is_empty
     }
 
-    /// Gives a reserved place back: its connection got no thread, or has ended.
-    pub fn release<R: Wait>(&self, rt: &R, op: u32) {
-        let mut places = self.places.lock(rt);
-        places.release(op as usize);
-        MutexGuard::unlock(places);
+    /// Enters a new connection among those that have no seat, and returns its number there. Of more than 16 the oldest
+    /// makes way: its thread closes it within a round. An `Err` is out of memory, and closes the new one.
+    pub fn enter<R: Wait>(&self, rt: &R) -> Result<u64, AllocError> {
+        let mut lobby = self.lobby.lock(rt);
+        let number = lobby.enter();
+        MutexGuard::unlock(lobby);
+        number
     }
 
-    /// Takes the seat of an operator whose place was reserved, if it is free. End it by [`AtDesk::leave`].
-    ///
-    /// `front` is roused after each accepted call.
-    pub fn sit<'b, R: Wait, F: Rouse>(
+    /// Whether a connection without a seat is there, and has not made way for a newer one.
+    fn is_there<R: Wait>(&self, rt: &R, number: u64) -> bool {
+        let lobby = self.lobby.lock(rt);
+        let is_there = lobby.has(number);
+        MutexGuard::unlock(lobby);
+        is_there
+    }
+
+    /// Takes a connection out of those that have no seat.
+    fn leave<R: Wait>(&self, rt: &R, number: u64) {
+        let mut lobby = self.lobby.lock(rt);
+        lobby.leave(number);
+        MutexGuard::unlock(lobby);
+    }
+
+    /// Takes the lowest free seat.
+    fn take<R: Wait>(&self, rt: &R) -> Option<TakenSeat<'a, H>> {
+        let mut seats = self.seats.lock(rt);
+        let taken = seats.take();
+        MutexGuard::unlock(seats);
+        taken
+    }
+
+    /// Gives a seat back.
+    pub(crate) fn give<R: Wait>(&self, rt: &R, taken: TakenSeat<'a, H>) {
+        let mut seats = self.seats.lock(rt);
+        seats.give(taken);
+        MutexGuard::unlock(seats);
+    }
+
+    /// The operator of a taken seat. End it by [`AtDesk::leave`].
+    fn at_desk<'b, R: Wait, F: Rouse>(
         &'b self,
         rt: &'b R,
         front: &'b F,
-        op: u32,
-    ) -> Option<AtDesk<'b, 'a, H, R, F>>
-        ensures { IfSome result (λ desk. desk.taken.seat.op ≡ op) }
+        taken: TakenSeat<'a, H>,
+    ) -> AtDesk<'b, 'a, H, R, F>
+        ensures { result.taken ≡ taken.entry }
     {
-        let taken = self.take(rt, op)?;
         let known = self.latest(rt);
-        Some(AtDesk {
+        AtDesk {
             operators: self,
             rt,
             front,
             taken,
             known,
-        })
-    }
-
-    /// Takes the seat of an operator, if it is free.
-    fn take<R: Wait>(&self, rt: &R, op: u32) -> Option<TakenSeat<'a, H>>
-        ensures { IfSome result (λ taken. taken.seat.op ≡ op) }
-    {
-        let mut seats = self.seats.lock(rt);
-        let taken = seats.take(op);
-        MutexGuard::unlock(seats);
-        taken
-    }
-
-    /// Gives a seat back, and then its place.
-    pub(crate) fn give<R: Wait>(&self, rt: &R, taken: TakenSeat<'a, H>) {
-        let op = taken.seat.op();
-        let mut seats = self.seats.lock(rt);
-        seats.give(taken);
-        MutexGuard::unlock(seats);
-        self.release(rt, op);
+        }
     }
 
     /// Learns the notice of an accepted call, and returns the latest one.
@@ -130,34 +139,62 @@ impl<'a, H: Hall> Operators<'a, H> {
         notice
     }
 
-    /// Talks with the operator of a reserved place: the body of a connection's thread. It ends when the connection
-    /// does, after `quit`, or within a second of any `stop`. The seat and the place are given back then.
+    /// Talks with the operator of a connection: the body of its thread. The first good line takes the lowest free seat,
+    /// which is given back at the end. It ends when the connection does, or within two seconds of any `stop`.
     ///
     /// `front` is roused after each accepted call, and after `stop`.
-    pub fn talk<R: Wait, F: Rouse>(
+    pub fn talk<R: Wait + Clock, F: Rouse>(
         &self,
         rt: &R,
         alloc: Global,
-        op: u32,
         mut caller: Caller,
         front: &F,
     ) {
-        let Some(mut desk) = self.sit(rt, front, op) else {
-            return self.release(rt, op);
+        let taken = self.seated(rt, alloc, &mut caller);
+        self.leave(rt, caller.number());
+        let Some(taken) = taken else {
+            return;
         };
+        let mut desk = self.at_desk(rt, front, taken);
+        caller.answer_heard(rt, alloc, &mut desk, &self.stopped);
         for _ in rt.forever() {
-            if !caller.round(alloc, &mut desk, &self.stopped) {
+            if caller.stops() && !self.has_stopped() {
+                self.stop();
+                front.rouse();
+            }
+            if caller.is_over(rt) {
                 break;
             }
+            caller.round(rt, alloc, &mut desk, &self.stopped);
         }
         desk.leave();
-        if caller.stops() {
-            self.stop();
-            front.rouse();
-        }
     }
 
-    /// Stops the bridge: each connection's thread ends within a second.
+    /// Deals with a connection's lines up to its first good one, and takes a seat for it. `None`: the connection is
+    /// over, and had none.
+    fn seated<R: Wait + Clock>(
+        &self,
+        rt: &R,
+        alloc: Global,
+        caller: &mut Caller,
+    ) -> Option<TakenSeat<'a, H>> {
+        for _ in rt.forever() {
+            if !self.is_there(rt, caller.number()) {
+                return None;
+            }
+            match caller.round_without_seat(rt, alloc, &self.stopped) {
+                Heed::Over => return None,
+                Heed::Waits => {}
+                Heed::Good => match self.take(rt) {
+                    Some(taken) => return Some(taken),
+                    None => caller.refuse_seat(rt),
+                },
+            }
+        }
+        None
+    }
+
+    /// Stops the bridge: each connection's thread ends within two seconds.
     pub fn stop(&self) {
         self.stopped.store(true, Ordering::SeqCst);
     }
@@ -172,7 +209,7 @@ impl<'a, H: Hall> Operators<'a, H> {
         let Operators {
             desk,
             seats,
-            places: _,
+            lobby: _,
             latest: _,
             printed: _,
             stopped: _,

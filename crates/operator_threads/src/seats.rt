@@ -1,10 +1,11 @@
 //! The free seats.
 
-ghost use Rattle.std.specs.Prelude.{◌≡◌, ◌<◌, ◌++◌, ◌∷◌, [], None, IfSome, IfNone, vec_len, vec_capacity};
+ghost use Rattle.std.specs.Prelude.{◌≡◌, ◌<◌, ◌++◌, ◌∷◌, ℕ, [], None, IfSome, IfNone, nat_eq, vec_len, vec_capacity};
 ghost use Rattle.std.specs.Prelude.{slice_index_or, swap_remove};
-ghost use Rattle.operator_threads.specs.Free.{seat_at, IsTakenFrom};
+ghost use Rattle.operator_desk.specs.Opening.{most_operators};
+ghost use Rattle.operator_threads.specs.Free.{seat_at, IsLowest, IsLowestAt, IsTakenFrom};
 
-use operator_desk::{Hall, Seat};
+use operator_desk::{Hall, MAX_OPERATORS, Seat};
 
 /// Seats that are free.
 #[derive(Drop)]
@@ -25,14 +26,37 @@ impl<'a, H: Hall> FreeSeats<'a, H> {
         self.seats.iter().position(|seat| seat.op() == op)
     }
 
-    /// Takes the seat of an operator.
-    pub fn take(&mut self, op: u32) -> Option<TakenSeat<'a, H>>
-        ensures op { IfSome result (λ taken. taken.seat.op ≡ op) }
-        ensures taken { IfSome result (λ taken. IsTakenFrom op taken.seat self.old.seats.items self.new.seats.items) }
-        ensures none { IfNone result (seat_at op self.old.seats.items ≡ None) }
+    /// Whether no seat is free.
+    pub fn is_empty(&self) -> bool
+        ensures { result ≡ nat_eq (vec_len self.now.seats) 0 }
+    {
+        self.seats.is_empty()
+    }
+
+    /// Where the free seat of the lowest operator is.
+    fn lowest(&self) -> Option<usize>
+        ensures lowest { IfSome result (λ at. IsLowestAt at self.now.seats.items) }
+        ensures none { IfNone result ((op : ℕ) → op < most_operators → seat_at op self.now.seats.items ≡ None) }
+    {
+        for op in 0..MAX_OPERATORS {
+            let at = self.seat_at(op);
+            if at.is_some() {
+                return at;
+            }
+        }
+        None
+    }
+
+    /// Takes the free seat of the lowest operator.
+    #[tactic(auto, using(crate::proofs::FreeLemmas::seat_of))]
+    pub fn take(&mut self) -> Option<TakenSeat<'a, H>>
+        ensures lowest { IfSome result (λ taken. IsLowest taken.seat.op self.old.seats.items) }
+        ensures taken { IfSome result (λ taken. IsTakenFrom taken.seat.op taken.seat
+            self.old.seats.items self.new.seats.items) }
+        ensures none { IfNone result ((op : ℕ) → op < most_operators → seat_at op self.old.seats.items ≡ None) }
         ensures capacity { vec_capacity self.new.seats ≡ vec_capacity self.old.seats }
     {
-        match self.seat_at(op) {
+        match self.lowest() {
             None => None,
             Some(at) => Some(self.take_at(at)),
         }

@@ -1,0 +1,177 @@
+//! What a connection with a seat is answered.
+
+ghost use Rattle.std.specs.Prelude.{◌≡◌, ◌≤◌, ◌++◌, ℕ, List, drop, IfOk, OnOk, OnErr, vec_len};
+ghost use Rattle.script_text.specs.declared.fault.Fault.TheVariants.{LineTooLong};
+ghost use Rattle.udp_front.specs.Fed.{StandsFor, texts};
+ghost use Rattle.udp_front.specs.Operators.{AnswersLine, fault_line};
+ghost use Rattle.operator_threads.specs.Talking.{after_line, refuses, Refuses};
+ghost use Rattle.operator_threads.specs.Talking.{AnswersFirst, AnswersAll, AnswersOctets};
+
+use crate::talking::{Standing, Talk};
+use std::alloc::{AllocError, Global};
+use std::sync::atomic::{AtomicBool, Ordering};
+use udp_front::{Fed, LineDesk, Next, answer, print_too_long};
+
+impl Talk {
+    /// Answers a line. An `Err` appends nothing, but a call may be carried out.
+    fn answer_line<D: LineDesk>(
+        &mut self,
+        alloc: Global,
+        desk: &mut D,
+        line: &[u8],
+        text: &mut Vec<u8>,
+    ) -> Result<Next, AllocError>
+        ensures answer { IfOk result (λ next.
+            AnswersLine D.replies D.shows desk.old desk.new line.now self.old.outgoing self.new.outgoing next) }
+        ensures standing { IfOk result (λ next. self.new.standing ≡ after_line next self.new.outgoing) }
+        ensures err { OnErr result (self.new.outgoing ≡ self.old.outgoing) }
+        ensures lines { self.new.lines ≡ self.old.lines }
+    {
+        text.clear();
+        let next = answer(alloc, desk, line, text)?;
+        self.outgoing.append(text)?;
+        self.standing = self.after(next);
+        Ok(next)
+    }
+
+    /// Answers these lines, until one of them ends the connection, or the bridge is stopped. Returns whether it was
+    /// found to be stopped. After an `Err` the connection is of no use.
+    fn answer_lines<D: LineDesk>(
+        &mut self,
+        alloc: Global,
+        desk: &mut D,
+        lines: &[Vec<u8>],
+        text: &mut Vec<u8>,
+        stopped: &AtomicBool,
+    ) -> Result<bool, AllocError>
+        requires open { self.old.standing ≡ Standing.Open }
+        ensures first { IfOk result (λ stops. AnswersFirst D.replies D.shows (texts lines.now)
+            desk.old desk.new self.old.outgoing self.new.outgoing self.new.standing stops) }
+        ensures lines { self.new.lines ≡ self.old.lines }
+    {
+        for line in lines {
+            if stopped.load(Ordering::SeqCst) {
+                return Ok(true);
+            }
+            self.answer_line(alloc, desk, line, text)?;
+            if !self.is_open() {
+                return Ok(false);
+            }
+        }
+        Ok(false)
+    }
+
+    /// Answers that a line is too long, and ends. An `Err` changes nothing.
+    fn refuse_line(&mut self, alloc: Global, text: &mut Vec<u8>) -> Result<(), AllocError>
+        ensures told { OnOk result (self.new.outgoing ≡ self.old.outgoing ++ fault_line 0 LineTooLong) }
+        ensures ends { OnOk result (self.new.standing ≡ Standing.Ending) }
+        ensures lines { self.new.lines ≡ self.old.lines }
+        ensures err { OnErr result (self.new ≡ self.old) }
+    {
+        text.clear();
+        print_too_long(alloc, text)?;
+        self.outgoing.append(text)?;
+        self.standing = Standing::Ending;
+        Ok(())
+    }
+
+    /// Whether a line that is too long is refused: behind all other lines, while the connection is open.
+    pub fn refuses(&self, is_too_long: bool, stops: bool) -> bool
+        ensures { result ≡ refuses is_too_long stops self.now.standing }
+    {
+        is_too_long && !stops && self.is_open()
+    }
+
+    /// Refuses a line that is too long, if there is one.
+    pub fn refuse_if(
+        &mut self,
+        alloc: Global,
+        refuses: bool,
+        text: &mut Vec<u8>,
+    ) -> Result<(), AllocError>
+        ensures refused { OnOk result
+            (Refuses refuses self.old.outgoing self.new.outgoing self.old.standing self.new.standing) }
+        ensures lines { self.new.lines ≡ self.old.lines }
+    {
+        if refuses {
+            self.refuse_line(alloc, text)
+        } else {
+            Ok(())
+        }
+    }
+
+    /// Answers these lines, and then refuses one that is too long, if there is one. Returns whether the bridge was
+    /// found to be stopped. After an `Err` the connection is of no use, and a call may have been carried out.
+    fn answer_all<D: LineDesk>(
+        &mut self,
+        alloc: Global,
+        desk: &mut D,
+        lines: &[Vec<u8>],
+        is_too_long: bool,
+        text: &mut Vec<u8>,
+        stopped: &AtomicBool,
+    ) -> Result<bool, AllocError>
+        requires stands { self.old.standing ≡ Standing.Open }
+        ensures all { IfOk result (λ stops. AnswersAll D.replies D.shows (texts lines.now) is_too_long
+            desk.old desk.new self.old.outgoing self.new.outgoing self.new.standing stops) }
+        ensures lines { self.new.lines ≡ self.old.lines }
+    {
+        let stops = self.answer_lines(alloc, desk, lines, text, stopped)?;
+        let refuses = self.refuses(is_too_long, stops);
+        self.refuse_if(alloc, refuses, text)?;
+        Ok(stops)
+    }
+
+    /// Takes the next octets of the stream, and answers the lines that they end. Returns whether the bridge was found
+    /// to be stopped. An `Err` loses the connection, and a call may have been carried out.
+    pub fn hear<D: LineDesk>(
+        &mut self,
+        alloc: Global,
+        desk: &mut D,
+        octets: &[u8],
+        text: &mut Vec<u8>,
+        now: u64,
+        stopped: &AtomicBool,
+    ) -> Result<bool, AllocError>
+        requires stands { self.old.standing ≡ Standing.Open }
+        ensures heard { IfOk result (λ stops. (before : List ℕ) → StandsFor self.old.lines before
+            → AnswersOctets D.replies D.shows before octets.now desk.old desk.new self.old.outgoing self.new.outgoing
+            self.new.standing stops) }
+        ensures kept { IfOk result (λ stops. (before : List ℕ) → StandsFor self.old.lines before
+            → StandsFor self.new.lines (before ++ octets.now)) }
+        ensures since { IfOk result (λ stops. self.new.since ≡ now) }
+        ensures lost { OnErr result (self.new.standing ≡ Standing.Lost) }
+    {
+        match self.lines.feed(alloc, octets) {
+            Ok(fed) => {
+                let said = self.answer_all(alloc, desk, &fed.lines, fed.too_long, text, stopped);
+                self.since = now;
+                self.or_lost(said)
+            }
+            Err(error) => self.or_lost(Err(error)),
+        }
+    }
+
+    /// Answers what was heard before the connection had its seat, from the good line at this place on. Returns whether
+    /// the bridge was found to be stopped. An `Err` loses the connection, and a call may have been carried out.
+    pub fn answer_from<D: LineDesk>(
+        &mut self,
+        alloc: Global,
+        desk: &mut D,
+        fed: &Fed,
+        at: usize,
+        text: &mut Vec<u8>,
+        stopped: &AtomicBool,
+    ) -> Result<bool, AllocError>
+        requires stands { self.old.standing ≡ Standing.Open }
+        requires within { at ≤ vec_len fed.now.lines }
+        ensures rest { IfOk result (λ stops. AnswersAll D.replies D.shows (texts (drop at fed.now.lines.items))
+            fed.now.too_long desk.old desk.new self.old.outgoing self.new.outgoing self.new.standing stops) }
+        ensures lines { self.new.lines ≡ self.old.lines }
+        ensures lost { OnErr result (self.new.standing ≡ Standing.Lost) }
+    {
+        let rest = &fed.lines[at..];
+        let said = self.answer_all(alloc, desk, rest, fed.too_long, text, stopped);
+        self.or_lost(said)
+    }
+}
