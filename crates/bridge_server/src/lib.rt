@@ -29,3 +29,4 @@ mod waking;
 pub use self::calls::calls_of;
 pub use self::front::Front;
 pub use self::stopped::Stopped;
+pub use self::wakes::sleeping_lanes_have_places;

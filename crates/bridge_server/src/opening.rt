@@ -255,8 +255,8 @@ fn gather<'a, H: Hall, R: Wait>(
 {
     let (desk, seats) = operators.end();
     match desk.gather(rt, alloc, seats) {
-        Ok(log) => Ok(calls_of(alloc, count, &log)?),
-        Err((desk, _seats, fault)) => {
+        Ok((log, _)) => Ok(calls_of(alloc, count, &log)?),
+        Err((desk, _seats, fault, _behind)) => {
             desk.end(rt);
             Err(gather_fault(fault))
         }
