@@ -5,6 +5,7 @@ use crate::stage::{Stage, turns};
 use crate::text::{digits, numbered, spoken};
 use std::alloc::Global;
 use std::net::{Net, TcpStream};
+use std::sync::Wait;
 use std::time::Clock;
 
 /// A text in which `@N` is the address of member N.
@@ -28,9 +29,9 @@ fn octets_of(stage: &Stage, text: &str) -> Option<Vec<u8>> {
 }
 
 /// What a line says of an operator who sends: whether it came out so.
-fn of_speaker(
+fn of_speaker<R: Net<Stream = TcpStream> + Clock>(
     stage: &mut Stage,
-    rt: &impl Clock,
+    rt: &R,
     verb: &str,
     at: usize,
     text: &str,
@@ -39,6 +40,14 @@ fn of_speaker(
         "says" => {
             let octets = octets_of(stage, text)?;
             stage.says(rt, at, &octets)
+        }
+        "octets" => {
+            let octets = octets_in(stage.alloc, text)?;
+            stage.says(rt, at, &octets)
+        }
+        "seats" => {
+            let octets = octets_of(stage, text)?;
+            stage.seats(rt, at, &octets)
         }
         "drips" => {
             let octets = octets_of(stage, text)?;
@@ -66,8 +75,10 @@ fn of_operator<R: Net<Stream = TcpStream> + Clock>(
         "opens" => stage.opens(rt, at),
         "told" => stage.told(rt, at, text),
         "closed" => stage.closed(rt, at),
+        "ends" => stage.let_go(rt, at),
         "hears" => stage.hears(rt, at, text.parse().ok()?),
-        "closes" => stage.closes(rt, at),
+        "closes" => stage.closes(at),
+        "cut" => stage.cut(rt, at),
         "shuts" => stage.shuts(at),
         _ => of_speaker(stage, rt, verb, at, text),
     }
@@ -100,6 +111,10 @@ fn of_member<R: Net + Clock>(
             let digits = digits(stage.alloc, text)?;
             stage.gets(rt, at, digits.as_str())
         }
+        "paces" => {
+            let (to, ssrc) = numbered(text)?;
+            stage.paces(rt, at, to, ssrc.parse().ok()?)
+        }
         _ => None,
     }
 }
@@ -124,7 +139,8 @@ fn of_number<R: Net<Stream = TcpStream> + Clock>(
             turns(rt, at);
             Some(true)
         }
-        "member" | "returns" | "sends" | "gets" | "leaves" => {
+        "crowds" => stage.crowds(rt, at),
+        "member" | "returns" | "sends" | "gets" | "leaves" | "paces" => {
             of_member(stage, rt, verb, at, text)
         }
         _ => of_operator(stage, rt, verb, at, text),
@@ -132,7 +148,7 @@ fn of_number<R: Net<Stream = TcpStream> + Clock>(
 }
 
 /// Carries out a line, and tells whether it came out as the line says. `None` is a line that says nothing.
-pub fn carry_out<R: Net<Stream = TcpStream> + Clock>(
+pub fn carry_out<R: Net<Stream = TcpStream> + Clock + Wait>(
     stage: &mut Stage,
     rt: &R,
     line: &str,
@@ -140,6 +156,7 @@ pub fn carry_out<R: Net<Stream = TcpStream> + Clock>(
     let (verb, rest) = line.split_once(" ").unwrap_or((line, ""));
     match verb {
         "stopped" => stage.stopped(rt),
+        "left" => stage.left(rt, rest),
         "settings" => of_settings(stage.alloc, rest),
         _ => of_number(stage, rt, verb, rest),
     }

@@ -6,39 +6,48 @@
 //! - `** TEXT`: what the lines behind it show.
 //! - `settings TEXT > ANSWER`: the settings of a text, where `\n` is an LF, or their fault. Settings are
 //!   `udp ADDRESS and tcp ADDRESS LANES OPERATORS SSRC CNAME`.
-//! - `bridge SEATS [LANES]`: a new bridge with so many seats for operators, and so many lanes. All sockets
-//!   around the one before are closed, and it is stopped.
+//! - `bridge SEATS [LANES [SETTINGS]]`: a new bridge with so many seats for operators, so many lanes, and these further
+//!   settings. All sockets around the one before are closed, and it is stopped.
 //! - `opens N`: operator N connects.
-//! - `says N TEXT`, `drips N TEXT`: it sends a line, at once or an octet a turn. `@M` and a space stand for member M's
-//!   address, `\r` for a CR, and a `\` at the end leaves out the LF.
+//! - `seats N TEXT`: it connects and sends a line, and does so again as long as it is told that all seats are taken.
+//! - `crowds COUNT`: so many connections come that say nothing.
+//! - `says N TEXT`, `drips N TEXT`: operator N sends a line, at once or an octet a turn. `@M` and a space stand for
+//!   member M's address, `\r` for a CR, `\n` for an LF, and a `\` at the end leaves out the last LF.
+//! - `octets N HEX`: it sends these octets.
 //! - `repeats N TIMES TEXT`: it sends a line so many times and reads nothing, until the bridge takes no more.
 //! - `floods N TIMES`: it sends so many times 8,192 octets without an LF.
 //! - `told N TEXT`: the next line that it is told.
 //! - `closed N`: it is told nothing more, and the bridge closes its connection.
+//! - `ends N`: it is told nothing more, and the bridge, which is stopped, closes its connection within 2 s.
+//! - `cut N`: it goes on sending and reads nothing, until the bridge closes its connection.
 //! - `shuts N`: it sends nothing more.
 //! - `hears N LINES`: it is told so many lines, and then the bridge closes its connection.
 //! - `closes N`: it leaves.
 //! - `member M`, `leaves M`, `returns M`: member M has a socket, has none any more, has one again at the same port.
 //! - `sends M HEX`: it sends the bridge a datagram of these octets. A space stands for nothing, and `WORD*TIMES` for a
 //!   word so many times.
-//! - `gets M HEX`: the next datagram that comes to it, where a dot stands for any digit. With several lanes it may be
-//!   any later one.
+//! - `gets M HEX`: the next datagram that comes to it, where a dot stands for any digit, and a `~` for one from 1 to 4.
+//!   With several lanes it may be any later one.
+//! - `paces M L SSRC`: sound of this SSRC that member M sends comes to member L when it is due, by the program's clock.
 //! - `rounds COUNT`: the bridge goes on for so many turns of 5 ms.
 //! - `stopped`: an operator stops the bridge.
+//! - `left LANES CALLS..`: the bridge that was stopped had so many lanes, and accepted so many calls of each operator.
 #![tactic(auto)]
 
+mod left;
 mod lines;
 mod member;
 mod operator;
+mod pace;
 mod running;
 mod setting;
 mod stage;
+mod talking;
 mod text;
 
 use crate::lines::carry_out;
 use crate::running::Start;
 use crate::stage::Stage;
-use std::sync::atomic::Ordering;
 use std::{env, io, thread};
 
 /// How many lanes a bridge has where its line does not say: the program's argument, or one.
@@ -66,11 +75,8 @@ fn main(rt: HostRuntime) -> io::Result<()> {
         tried = tried.saturating_add(1);
         let is_well = match line.strip_prefix("bridge ") {
             Some(rest) => match stage.begins(&rt, rest) {
-                Some(Start { front, has_stopped }) => {
-                    let run = move || {
-                        let is_well = front.run(&rt).is_ok();
-                        has_stopped.store(is_well, Ordering::SeqCst);
-                    };
+                Some(Start { front, left }) => {
+                    let run = move || left.note(&rt, front.run(&rt).ok());
                     thread::spawn(&rt, run).is_ok()
                 }
                 None => false,

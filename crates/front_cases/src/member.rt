@@ -2,10 +2,11 @@
 
 use crate::text::are_like;
 use std::alloc::Global;
+use std::mem;
 use std::net::{IpAddr, Ipv4Addr, Net, SocketAddr, UdpSocket};
 
 /// How many members there are.
-const MEMBERS: usize = 4;
+const MEMBERS: usize = 6;
 /// More octets than a datagram has that the bridge sends.
 const CHUNK: usize = 9_000;
 
@@ -106,6 +107,13 @@ impl Members {
             member.came.push(octets).ok()?;
         }
         Some(())
+    }
+
+    /// The datagrams that have come to a member, which takes them off.
+    pub fn takes(&mut self, at: usize) -> Option<Vec<Vec<u8>>> {
+        self.receive(at)?;
+        let member = self.members.get_mut(at)?;
+        Some(mem::replace(&mut member.came, Vec::new(self.alloc)))
     }
 
     /// The place of the first datagram that has come with these digits.

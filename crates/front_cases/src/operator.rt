@@ -1,14 +1,19 @@
 //! A connection of an operator.
 
 use std::alloc::Global;
-use std::io::{Read, Write};
+use std::io::{ErrorKind, Read, Write};
 use std::net::{Net, Shutdown, SocketAddr, TcpStream};
+
+/// How many octets are read at a time.
+const CHUNK: usize = 65_536;
 
 /// A connection that never waits, and what it was told that no line of the case has asked for yet.
 #[derive(Drop)]
 pub struct Operator {
     stream: TcpStream,
     got: Vec<u8>,
+    /// What was read last.
+    chunk: Vec<u8>,
     is_closed: bool,
 }
 
@@ -21,16 +26,23 @@ impl Operator {
     ) -> Option<Self> {
         let stream = TcpStream::connect(rt, to).ok()?;
         stream.set_nonblocking(true).ok()?;
+        let mut chunk = Vec::new(alloc);
+        chunk.resize(CHUNK, 0).ok()?;
         Some(Self {
             stream,
             got: Vec::new(alloc),
+            chunk,
             is_closed: false,
         })
     }
 
-    /// Sends octets, and tells how many were taken: none where the connection has ended or is full.
-    pub fn say(&mut self, octets: &[u8]) -> usize {
-        (&self.stream).write(octets).unwrap_or(0)
+    /// Sends octets, and tells how many were taken: none where the connection is full. `None`: it has ended.
+    pub fn say(&mut self, octets: &[u8]) -> Option<usize> {
+        match (&self.stream).write(octets) {
+            Ok(taken) => Some(taken),
+            Err(error) if error.kind() == ErrorKind::WouldBlock => Some(0),
+            Err(_) => None,
+        }
     }
 
     /// Sends nothing more.
@@ -40,10 +52,9 @@ impl Operator {
 
     /// Takes what has come.
     pub fn listen(&mut self) -> Option<()> {
-        let mut chunk = [0u8; 4_096];
-        if let Ok(count) = (&self.stream).read(&mut chunk) {
+        if let Ok(count) = (&self.stream).read(&mut self.chunk) {
             self.is_closed = self.is_closed || count == 0;
-            self.got.extend_from_slice(&chunk[..count]).ok()?;
+            self.got.extend_from_slice(self.chunk.get(..count)?).ok()?;
         }
         Some(())
     }
@@ -51,6 +62,11 @@ impl Operator {
     /// Whether a whole line has come.
     pub fn has_line(&self) -> bool {
         self.got.contains(&b'\n')
+    }
+
+    /// Whether the bridge has told that all seats are taken.
+    pub fn is_busy(&self) -> bool {
+        self.got.starts_with(b"busy\n")
     }
 
     /// Whether the next line that has come is this one, which is taken off.

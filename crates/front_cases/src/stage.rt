@@ -2,20 +2,23 @@
 
 use crate::member::Members;
 use crate::operator::Operator;
+use crate::pace::Pace;
 use crate::running::{Running, Start};
-use crate::text::numbered;
+use crate::text::{numbered, spoken};
 use std::alloc::{AllocGlobal, Global};
 use std::net::{Net, SocketAddr, TcpStream};
+use std::sync::Wait;
 use std::thread;
 use std::time::{Clock, Duration};
 use udp_front::socket_address;
 
-/// How many turns an answer or a datagram may take: 6 s, where a report is due every 5 s.
-const TURNS: u32 = 1_200;
-/// How many turns a connection that takes no more is waited for.
-const FULL_TURNS: u32 = 100;
+/// How many turns an answer or a datagram may take: 15 s, where a report is due every 5 s. On a busy machine a turn is
+/// longer, so that the bridge has more time, too.
+pub const TURNS: u32 = 3_000;
 /// How many milliseconds a turn takes.
 const TURN: u64 = 5;
+/// How many packets of sound are sent in a turn at most.
+const OPENING: u32 = 4;
 /// How many operators there are at most.
 const OPERATORS: usize = 20;
 
@@ -27,7 +30,10 @@ pub struct Stage {
     /// How many lanes a bridge has where its line does not say.
     lanes: usize,
     bridge: Option<Running>,
-    operators: [Option<Operator>; OPERATORS],
+    /// The connections of operators.
+    pub operators: [Option<Operator>; OPERATORS],
+    /// Connections that say nothing.
+    pub silent: Vec<Operator>,
     /// The sockets of members, once there is one.
     pub members: Option<Members>,
 }
@@ -47,6 +53,7 @@ impl Stage {
             lanes,
             bridge: None,
             operators: [const { None }; OPERATORS],
+            silent: Vec::new(alloc),
             members: None,
         }
     }
@@ -57,158 +64,48 @@ impl Stage {
     }
 
     /// Where operators connect.
-    fn tcp(&self) -> Option<SocketAddr> {
+    pub fn tcp(&self) -> Option<SocketAddr> {
         Some(socket_address(self.bridge.as_ref()?.listening.tcp))
     }
 
-    /// An operator sends nothing more.
-    pub fn shuts(&mut self, at: usize) -> Option<bool> {
-        self.operators.get_mut(at)?.as_mut()?.shut()?;
-        Some(true)
-    }
-
     /// Closes all sockets and stops the bridge, if there is one that runs.
-    pub fn ends<R: Net<Stream = TcpStream> + Clock>(&mut self, rt: &R) -> Option<()> {
+    pub fn ends<R: Net<Stream = TcpStream> + Clock + Wait>(&mut self, rt: &R) -> Option<()> {
         let alloc = self.alloc;
         let bridge = self.bridge.take();
         *self = Self::new(alloc, self.lanes);
         let bridge = bridge?;
         let to = socket_address(bridge.listening.tcp);
         for _ in 0..TURNS {
-            if bridge.has_stopped() {
+            if bridge.left.is_there(rt) {
                 return Some(());
             }
             // A seat may not be free at once.
             if let Some(mut operator) = Operator::connect(rt, alloc, to) {
-                operator.say(b"stop\n");
+                let _ = operator.say(b"stop\n");
                 turns(rt, 2);
             }
         }
         None
     }
 
-    /// A new bridge with the seats and lanes of a text, and what its thread runs. All sockets of the one before are
-    /// closed.
+    /// A new bridge with the seats, lanes and further settings of a text, and what its thread runs. All sockets of the
+    /// one before are closed.
     pub fn begins<R>(&mut self, rt: &R, text: &str) -> Option<Start>
     where
-        R: Clock + Net<Stream = TcpStream> + AllocGlobal,
+        R: Clock + Net<Stream = TcpStream> + AllocGlobal + Wait,
     {
-        let (seats, lanes) = numbered(text)?;
-        let lanes: usize = if lanes.is_empty() {
-            self.lanes
+        let (seats, rest) = numbered(text)?;
+        let (lanes, more) = if rest.is_empty() {
+            (self.lanes, "")
         } else {
-            lanes.parse().ok()?
+            numbered(rest)?
         };
+        let more = spoken(self.alloc, more).ok()?;
         self.ends(rt);
         self.members = Some(Members::new(self.alloc, lanes > 1)?);
-        let (running, start) = Running::bind(rt, seats, lanes)?;
+        let (running, start) = Running::bind(rt, seats, lanes, str::from_utf8(&more).ok()?)?;
         self.bridge = Some(running);
         Some(start)
-    }
-
-    /// A new connection to the bridge.
-    pub fn opens<R: Net<Stream = TcpStream>>(&mut self, rt: &R, at: usize) -> Option<bool> {
-        let to = self.tcp()?;
-        *self.operators.get_mut(at)? = Some(Operator::connect(rt, self.alloc, to)?);
-        Some(true)
-    }
-
-    /// An operator leaves.
-    pub fn closes(&mut self, rt: &impl Clock, at: usize) -> Option<bool> {
-        *self.operators.get_mut(at)? = None;
-        turns(rt, 20);
-        Some(true)
-    }
-
-    /// An operator sends octets, which the bridge takes meanwhile, or doesn't.
-    pub fn says(&mut self, rt: &impl Clock, at: usize, octets: &[u8]) -> Option<bool> {
-        let mut left = octets;
-        for _ in 0..FULL_TURNS {
-            let taken = self.operators.get_mut(at)?.as_mut()?.say(left);
-            left = left.get(taken..)?;
-            if left.is_empty() {
-                return Some(true);
-            }
-            turns(rt, 1);
-        }
-        Some(false)
-    }
-
-    /// An operator sends octets, one a turn.
-    pub fn drips(&mut self, rt: &impl Clock, at: usize, octets: &[u8]) -> Option<bool> {
-        for octet in octets {
-            let octet = [*octet];
-            self.says(rt, at, &octet)?;
-            turns(rt, 1);
-        }
-        Some(true)
-    }
-
-    /// An operator sends octets so many times, or until its connection ends or takes no more.
-    pub fn repeats(
-        &mut self,
-        rt: &impl Clock,
-        at: usize,
-        times: usize,
-        octets: &[u8],
-    ) -> Option<bool> {
-        for _ in 0..times {
-            if !self.says(rt, at, octets)? {
-                return Some(true);
-            }
-        }
-        Some(true)
-    }
-
-    /// An operator sends so many times 8,192 octets without an LF, and reads what it is told.
-    pub fn floods(&mut self, rt: &impl Clock, at: usize, times: usize) -> Option<bool> {
-        for _ in 0..times {
-            let operator = self.operators.get_mut(at)?.as_mut()?;
-            operator.say(&[b'a'; 8_192]);
-            operator.listen()?;
-            turns(rt, 1);
-        }
-        Some(true)
-    }
-
-    /// Whether the next line that an operator is told is this one.
-    pub fn told(&mut self, rt: &impl Clock, at: usize, line: &str) -> Option<bool> {
-        let alloc = self.alloc;
-        for _ in 0..TURNS {
-            let operator = self.operators.get_mut(at)?.as_mut()?;
-            operator.listen()?;
-            if operator.has_line() {
-                return operator.takes_line(alloc, line);
-            }
-            turns(rt, 1);
-        }
-        Some(false)
-    }
-
-    /// Whether the bridge closes a connection and tells nothing more.
-    pub fn closed(&mut self, rt: &impl Clock, at: usize) -> Option<bool> {
-        for _ in 0..TURNS {
-            let operator = self.operators.get_mut(at)?.as_mut()?;
-            operator.listen()?;
-            if operator.has_ended() {
-                return Some(true);
-            }
-            turns(rt, 1);
-        }
-        Some(false)
-    }
-
-    /// Whether an operator is told so many lines, and then its connection is closed.
-    pub fn hears(&mut self, rt: &impl Clock, at: usize, lines: usize) -> Option<bool> {
-        for _ in 0..TURNS {
-            let operator = self.operators.get_mut(at)?.as_mut()?;
-            operator.listen()?;
-            if operator.is_closed() {
-                return Some(operator.lines() == lines);
-            }
-            turns(rt, 1);
-        }
-        Some(false)
     }
 
     /// Whether the next datagram that comes to a member has these digits.
@@ -222,14 +119,47 @@ impl Stage {
         Some(false)
     }
 
-    /// Whether an operator stops the bridge.
-    pub fn stopped(&mut self, rt: &impl Clock) -> Option<bool> {
-        for _ in 0..TURNS {
-            if self.bridge.as_ref()?.has_stopped() {
+    /// Whether sound that one member sends comes to another in time.
+    pub fn paces<R: Net + Clock>(
+        &mut self,
+        rt: &R,
+        from: usize,
+        to: usize,
+        ssrc: u32,
+    ) -> Option<bool> {
+        let bridge = self.udp()?;
+        let mut pace = Pace::begin(rt, self.alloc, ssrc)?;
+        for _ in 0..TURNS.saturating_mul(2) {
+            let members = self.members.as_mut()?;
+            for _ in 0..OPENING {
+                let Some(octets) = pace.next() else {
+                    break;
+                };
+                members.sends(from, &octets, bridge)?;
+            }
+            let came = members.takes(to)?;
+            if pace.hears(rt, &came)? {
                 return Some(true);
             }
             turns(rt, 1);
         }
         Some(false)
+    }
+
+    /// Whether an operator stops the bridge.
+    pub fn stopped<R: Clock + Wait>(&mut self, rt: &R) -> Option<bool> {
+        for _ in 0..TURNS {
+            if self.bridge.as_ref()?.left.is_there(rt) {
+                return Some(true);
+            }
+            turns(rt, 1);
+        }
+        Some(false)
+    }
+
+    /// Whether the bridge that was stopped had so many lanes, and accepted so many calls of each operator.
+    pub fn left(&self, rt: &impl Wait, counts: &str) -> Option<bool> {
+        let left = self.bridge.as_ref()?.left.counts(rt, self.alloc)?;
+        Some(left.as_str() == counts)
     }
 }

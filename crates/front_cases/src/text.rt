@@ -45,9 +45,18 @@ pub fn digits(alloc: Global, text: &str) -> Option<String> {
     Some(whole)
 }
 
-/// Whether octets have these digits, where a dot stands for any digit.
+/// Whether a digit is what a character stands for: a dot for any digit, a `~` for one from 1 to 4.
+fn is_like(is: u8, like: u8) -> bool {
+    match like {
+        b'.' => true,
+        b'~' => matches!(is, b'1'..=b'4'),
+        like => is == like,
+    }
+}
+
+/// Whether octets have these digits, where a dot stands for any digit, and a `~` for one from 1 to 4.
 pub fn are_like(alloc: Global, octets: &[u8], wanted: &str) -> Option<bool> {
     let had = hex::encode(alloc, octets).ok()?;
     let mut pairs = had.bytes().zip(wanted.bytes());
-    Some(had.len() == wanted.len() && pairs.all(|(is, like)| like == b'.' || is == like))
+    Some(had.len() == wanted.len() && pairs.all(|(is, like)| is_like(is, like)))
 }
