@@ -23,11 +23,12 @@ abbrev pub policy : List ℕ
 policy =
     codes "default-src 'none'; script-src 'self'; style-src 'self'; connect-src 'self'; base-uri 'none'; form-action 'none'; frame-ancestors 'none'"
 
--- the fields of all replies: each is the last one of its connection
+-- the fields of all replies: each is the last one of its connection, and other sites' pages can't load it
 abbrev pub guards : List Header
 guards =
     (codes "connection", codes "close") ∷ (codes "cache-control", codes "no-store") ∷ (codes "content-security-policy", policy)
-    ∷ (codes "x-content-type-options", codes "nosniff") ∷ (codes "referrer-policy", codes "no-referrer") ∷ []
+    ∷ (codes "x-content-type-options", codes "nosniff") ∷ (codes "referrer-policy", codes "no-referrer")
+    ∷ (codes "cross-origin-resource-policy", codes "same-origin") ∷ []
 
 -- the response is this reply
 abbrev pub IsReply : Reply → Response → Type 0

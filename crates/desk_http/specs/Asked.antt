@@ -1,5 +1,5 @@
 -- What a request asks for (own).
-use Rattle.std.specs.Prelude.{ℕ, Bool, true, false, not, ◌&&◌, ◌||◌, if◌then◌else◌, List, length, take, drop, nat_le, codes, Option, Some, None}
+use Rattle.std.specs.Prelude.{ℕ, Bool, true, false, not, ◌&&◌, ◌||◌, if◌then◌else◌, List, ◌-◌, length, take, drop, nat_le, codes, Option, Some, None}
 use Rattle.std.specs.Str.{bytes_eq}
 use Rattle.http.specs.declared.request.Request.{Request}
 use Rattle.http.specs.Request.{head_of, body_of}
@@ -14,9 +14,17 @@ use Rattle.desk_http.specs.declared.asking.SitePlace.{SitePlace}
 use Rattle.desk_http.specs.declared.asking.SitePlace.TheVariants as places
 use Rattle.desk_http.specs.Lines.{is_line, is_reserved}
 
+-- the name ends with port 80
+abbrev pub has_port_80 : List ℕ → Bool
+has_port_80 name = nat_le 3 (length name) && bytes_eq (drop (length name - 3) name) (codes ":80")
+
+-- the host is this name, or this name without port 80, which browsers leave out (RFC 9110 section 4.2.1)
+abbrev pub is_named : List ℕ → List ℕ → Bool
+is_named name host = bytes_eq host name || (has_port_80 name && bytes_eq host (take (length name - 3) name))
+
 -- the page's own host, by its address or by name
 abbrev pub is_host_of : Site → List ℕ → Bool
-is_host_of site host = bytes_eq host site.host.items || bytes_eq host site.local.items
+is_host_of site host = is_named site.host.items host || is_named site.local.items host
 
 -- the page's own origin (RFC 6454 section 6.2)
 abbrev pub is_origin_of : Site → List ℕ → Bool

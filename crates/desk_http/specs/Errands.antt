@@ -1,5 +1,6 @@
 -- The way of a request's line to the bridge (own).
-use Rattle.std.specs.Prelude.{ℕ, ◌≤◌, List, [], ◌∷◌, ◌++◌, length, Option, Some, None}
+use Rattle.std.specs.Prelude.{ℕ, ◌≤◌, Bool, false, not, if◌then◌else◌, List, [], ◌∷◌, ◌++◌, length, codes, Option, Some, None}
+use Rattle.std.specs.Str.{bytes_eq}
 use Rattle.desk_http.specs.declared.errand.Errand.{Errand}
 use Rattle.desk_http.specs.declared.errand.Errand.TheVariants as errands
 
@@ -33,13 +34,40 @@ after_take hearing = hearing
 after_take (waiting line) = handed
 after_take handed = handed
 
--- what happens to a request's line: the line is wanted, or the bridge is free for one
+-- the line is the question for the desk
+abbrev pub is_show : List ℕ → Bool
+is_show line = bytes_eq line (codes "show")
+
+-- the question for the desk waits
+abbrev pub has_show : Stage → Bool
+has_show hearing = false
+has_show (waiting line) = is_show line
+has_show handed = false
+
+-- a call waits
+abbrev pub has_call : Stage → Bool
+has_call hearing = false
+has_call (waiting line) = not (is_show line)
+has_call handed = false
+
+-- what happens to a request's line: it is wanted, or the bridge is asked for the desk, for a call, or for any line
 pub data Event : Type 0 where
   wants : List ℕ → Event
+  takes_show : Event
+  takes_call : Event
   takes : Event
+
+-- what is taken where it is such a line, and how far it is then
+abbrev pub line_if : Bool → Stage → Option (List ℕ)
+line_if fits stage = if fits then line_at stage else None
+
+abbrev pub after_take_if : Bool → Stage → Stage
+after_take_if fits stage = if fits then after_take stage else stage
 
 abbrev pub after_event : Event → Stage → Stage
 after_event (wants line) stage = after_want line stage
+after_event takes_show stage = after_take_if (has_show stage) stage
+after_event takes_call stage = after_take_if (has_call stage) stage
 after_event takes stage = after_take stage
 
 -- the lines that an event hands to the bridge
@@ -49,6 +77,8 @@ listed (Some line) = line ∷ []
 
 abbrev pub given_by : Event → Stage → List (List ℕ)
 given_by (wants line) stage = []
+given_by takes_show stage = listed (line_if (has_show stage) stage)
+given_by takes_call stage = listed (line_if (has_call stage) stage)
 given_by takes stage = listed (line_at stage)
 
 -- the lines that events hand to the bridge, one after another

@@ -39,10 +39,14 @@ abbrev pub call_progress : List ℕ → Option (List ℕ) → Progress
 call_progress got None = if has_end got then Broken else More
 call_progress got (Some text) = if has_end text then Broken else Whole
 
--- how far the answer to a line has come, 16 MiB at most
+-- the most octets of an answer: 16 MiB, six times the rows of a full desk
+abbrev pub longest_answer : ℕ
+longest_answer = 16777216
+
+-- how far the answer to a line has come
 abbrev pub progress_of : List ℕ → List ℕ → Progress
 progress_of line got =
     if bytes_eq got (codes "busy\n") then Busy
-    else if nat_lt 16777216 (length got) then Broken
+    else if nat_lt longest_answer (length got) then Broken
     else if bytes_eq line (codes "show") then show_progress (before_last_lf got)
     else call_progress got (before_last_lf got)

@@ -6,3 +6,6 @@ pub mod Served
 pub mod Exchanges
 pub mod Errands
 pub mod Made
+pub mod Talks
+pub mod Visits
+pub mod Starts

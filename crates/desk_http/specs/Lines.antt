@@ -7,9 +7,13 @@ use Rattle.std.specs.Str.{bytes_eq}
 abbrev pub is_printed : ℕ → Bool
 is_printed octet = nat_le 32 octet && nat_le octet 126
 
+-- the most octets of a line, as the bridge takes them
+abbrev pub longest_line : ℕ
+longest_line = 4096
+
 -- one line of 1 to 4,096 printed octets
 abbrev pub is_line : List ℕ → Bool
-is_line body = nat_lt 0 (length body) && nat_le (length body) 4096 && list_all is_printed body
+is_line body = nat_lt 0 (length body) && nat_le (length body) longest_line && list_all is_printed body
 
 -- an octet that isn't a space
 abbrev pub is_no_space : ℕ → Bool

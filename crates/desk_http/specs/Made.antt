@@ -2,9 +2,13 @@
 use Rattle.std.specs.Prelude.{ℕ, if◌then◌else◌, nat_lt, List, ◌++◌, length, drop, flat_map, codes}
 use Rattle.std.specs.declared.vec.Vec.{Vec}
 
+-- how many calls the page keeps
+abbrev pub kept_calls : ℕ
+kept_calls = 256
+
 -- the calls beside which another one is kept: 255 at most, once they were no more than 256
 abbrev pub newest : {X : Type 0} → List X → List X
-newest calls = if nat_lt (length calls) 256 then calls else drop 1 calls
+newest calls = if nat_lt (length calls) kept_calls then calls else drop 1 calls
 
 -- a call in two lines: its line, and the line of its answer with its LF
 abbrev pub call_text : List ℕ → List ℕ → List ℕ

@@ -20,7 +20,7 @@ ghost use Rattle.desk_http.specs.Answered.{
 
 use crate::{Files, PageRefusal, Site, Wish};
 use bytes::{BufMut, Bytes};
-use http::{HeaderValue, StatusCode, header};
+use http::{HeaderName, HeaderValue, StatusCode, header};
 use http_server::Response;
 use std::alloc::AllocError;
 
@@ -60,6 +60,10 @@ fn guard(response: &mut Response) -> Result<(), AllocError>
     response.add_header(
         header::REFERRER_POLICY,
         HeaderValue::from_static("no-referrer"),
+    )?;
+    response.add_header(
+        HeaderName::from_static("cross-origin-resource-policy"),
+        HeaderValue::from_static("same-origin"),
     )
 }
 

@@ -1,13 +1,23 @@
 //! The way of a request's line to the bridge.
 
 ghost use Rattle.std.specs.Prelude.{◌≡◌, option_map};
-ghost use Rattle.desk_http.specs.Errands.{stage_of, after_want, after_take, line_at};
+ghost use Rattle.desk_http.specs.Errands.{
+  stage_of,
+  after_want,
+  after_take,
+  after_take_if,
+  has_show,
+  has_call,
+  line_at,
+  line_if,
+};
 
 use std::mem;
 
 /// How far the line of a connection has come. A connection has one request, and so at most one line.
 ///
-/// Call [`want`](Self::want) once a request is whole, then [`take`](Self::take).
+/// Call [`want`](Self::want) once a request is whole. Then [`take_show`](Self::take_show) or
+/// [`take_call`](Self::take_call) hands the line to the bridge.
 #[derive(Drop)]
 pub enum Errand {
     /// No request is whole yet.
@@ -28,6 +38,26 @@ impl Errand {
         }
     }
 
+    /// Whether the question for the desk waits.
+    fn has_show(&self) -> bool
+        ensures { result ≡ has_show (stage_of self.now) }
+    {
+        match self {
+            Errand::Waiting(line) => line.as_slice() == b"show".as_slice(),
+            Errand::Hearing | Errand::Handed => false,
+        }
+    }
+
+    /// Whether a call waits.
+    fn has_call(&self) -> bool
+        ensures { result ≡ has_call (stage_of self.now) }
+    {
+        match self {
+            Errand::Waiting(line) => line.as_slice() != b"show".as_slice(),
+            Errand::Hearing | Errand::Handed => false,
+        }
+    }
+
     /// The line that waits, if there is one, to be handed to the bridge now.
     pub fn take(&mut self) -> Option<Vec<u8>>
         ensures line { option_map (λ v. v.items) result ≡ line_at (stage_of self.old) }
@@ -41,5 +71,21 @@ impl Errand {
             }
             Errand::Handed => None,
         }
+    }
+
+    /// The question for the desk, if it waits, to be handed to the bridge now. A call goes on waiting.
+    pub fn take_show(&mut self) -> Option<Vec<u8>>
+        ensures line { option_map (λ v. v.items) result ≡ line_if (has_show (stage_of self.old)) (stage_of self.old) }
+        ensures stage { stage_of self.new ≡ after_take_if (has_show (stage_of self.old)) (stage_of self.old) }
+    {
+        if self.has_show() { self.take() } else { None }
+    }
+
+    /// The call that waits, if there is one, to be handed to the bridge now. The question for the desk goes on waiting.
+    pub fn take_call(&mut self) -> Option<Vec<u8>>
+        ensures line { option_map (λ v. v.items) result ≡ line_if (has_call (stage_of self.old)) (stage_of self.old) }
+        ensures stage { stage_of self.new ≡ after_take_if (has_call (stage_of self.old)) (stage_of self.old) }
+    {
+        if self.has_call() { self.take() } else { None }
     }
 }

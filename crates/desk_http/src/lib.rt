@@ -23,6 +23,9 @@ mod exchange;
 mod laws;
 mod serving;
 mod site;
+mod starting;
+mod talk;
+mod visit;
 
 pub use answering::Told;
 pub use asking::{MAX_LINE, PageRefusal, Wish, asked_for};
@@ -32,3 +35,6 @@ pub use exchange::{Exchange, Progress};
 pub use laws::{calls_are_guarded, lines_go_once};
 pub use serving::{Hearing, Telling};
 pub use site::{Files, Site};
+pub use starting::{Addresses, addresses_of, limits, token};
+pub use talk::BridgeTalk;
+pub use visit::{Placing, Visit, VisitStage, admit};

@@ -1,7 +1,13 @@
 //! What is the page's own: its names, its token and its files.
 
-ghost use Rattle.std.specs.Prelude.{◌≡◌};
-ghost use Rattle.desk_http.specs.Asked.{is_host_of, is_origin_of};
+ghost use Rattle.std.specs.Prelude.{◌≡◌, ◌++◌, codes, IfOk};
+ghost use Rattle.std.specs.Fmt.{decimal};
+ghost use Rattle.std.specs.Net.Socket.{socket_port};
+ghost use Rattle.std.specs.Net.Text.{socket_text};
+ghost use Rattle.desk_http.specs.Asked.{has_port_80, is_named, is_host_of, is_origin_of};
+
+use std::alloc::{AllocError, Global};
+use std::net::SocketAddr;
 
 /// How browsers name the page, and the token that a call has to carry.
 #[derive(Drop)]
@@ -31,12 +37,38 @@ pub struct Files {
     pub style: &'static [u8],
 }
 
+/// Whether a name ends with port 80.
+fn has_port_80(name: &[u8]) -> bool
+    ensures { result ≡ has_port_80 name.now }
+{
+    name.len() >= 3 && &name[name.len() - 3..] == b":80".as_slice()
+}
+
+/// Whether a host is this name, from which port 80 may be left out.
+fn is_named(name: &[u8], host: &[u8]) -> bool
+    ensures { result ≡ is_named name.now host.now }
+{
+    host == name || has_port_80(name) && host == &name[..name.len() - 3]
+}
+
 impl Site {
+    /// The page's own at this address, with this token.
+    pub fn at(alloc: Global, address: SocketAddr, token: Vec<u8>) -> Result<Self, AllocError>
+        ensures host { IfOk result (λ site. site.host.items ≡ socket_text address) }
+        ensures local { IfOk result (λ site. site.local.items ≡ codes "localhost:" ++ decimal (socket_port address)) }
+        ensures token { IfOk result (λ site. site.token ≡ token) }
+    {
+        let port = address.port();
+        let host = format!(in alloc; "{address}")?.into_bytes();
+        let local = format!(in alloc; "localhost:{port}")?.into_bytes();
+        Ok(Self { host, local, token })
+    }
+
     /// Whether this is the page's own host.
     pub(crate) fn is_host(&self, host: &[u8]) -> bool
         ensures { result ≡ is_host_of self.now host.now }
     {
-        host == self.host.as_slice() || host == self.local.as_slice()
+        is_named(&self.host, host) || is_named(&self.local, host)
     }
 
     /// Whether a page of this origin is the page itself.

@@ -1,6 +1,7 @@
-//! The operator's connection to the bridge. One line is under way at a time.
+//! The socket of the operator's connection to the bridge. What is to be sent over it, and what an answer says, a
+//! [`BridgeTalk`] knows.
 
-use desk_http::{Exchange, Progress, Told};
+use desk_http::{BridgeTalk, Told};
 use mio::net::TcpStream;
 use mio::{Interest, Registry, Token};
 use std::alloc::{AllocError, Global};
@@ -8,60 +9,39 @@ use std::io;
 use std::io::{ErrorKind, Read, Write};
 use std::net::{Net, SocketAddr};
 
-/// How many milliseconds the bridge has for a connection and an answer.
-const PATIENCE: u64 = 2_000;
 /// How many pieces are written at a time.
 const PIECES: u32 = 64;
 
-/// What a look at the socket brought.
-#[derive(Clone, Copy, PartialEq, Eq)]
-enum Step {
-    /// The bridge is still asked.
-    More,
-    /// All of the answer.
-    Whole,
-    /// That the bridge has no seat.
-    Busy,
-    /// The end of the connection, or what is no answer.
-    Ended,
-}
-
-/// Reads what has come of the answer, all of it: the system tells of it once.
+/// Reads what has come, until no more is wanted: the system tells of it once.
 fn read_answer(
     stream: &mut TcpStream,
-    exchange: &mut Exchange,
+    talk: &mut BridgeTalk,
     chunk: &mut [u8],
-) -> Result<Step, AllocError> {
+) -> Result<(), AllocError> {
     for _ in 0..u64::MAX {
+        if !talk.wants_read() {
+            return Ok(());
+        }
         match stream.read(chunk) {
-            Ok(0) => return Ok(Step::Ended),
-            Ok(count) => match exchange.feed(&chunk[..count])? {
-                Progress::More => {}
-                Progress::Whole => return Ok(Step::Whole),
-                Progress::Busy => return Ok(Step::Busy),
-                Progress::Broken => return Ok(Step::Ended),
-            },
+            Ok(count) => talk.hear(&chunk[..count])?,
             Err(error) => match error.kind() {
-                ErrorKind::WouldBlock | ErrorKind::NotConnected => return Ok(Step::More),
+                ErrorKind::WouldBlock | ErrorKind::NotConnected => return Ok(()),
                 ErrorKind::Interrupted => {}
-                _ => return Ok(Step::Ended),
+                _ => talk.usable = false,
             },
         }
     }
-    Ok(Step::More)
+    Ok(())
 }
 
-/// Writes what the socket takes. Tells whether the connection still takes octets.
-fn write_line(stream: &mut TcpStream, out: &[u8], sent: &mut usize) -> bool {
+/// Writes what the socket takes of the line. Tells whether the connection still takes octets.
+fn write_line(stream: &mut TcpStream, talk: &mut BridgeTalk) -> bool {
     for _ in 0..PIECES {
-        let Some(rest) = out.get(*sent..) else {
-            return true;
-        };
-        if rest.is_empty() {
+        if talk.rest().is_empty() {
             return true;
         }
-        match stream.write(rest) {
-            Ok(count) => *sent = sent.saturating_add(count),
+        match stream.write(talk.rest()) {
+            Ok(count) => talk.wrote(count),
             Err(error) => match error.kind() {
                 ErrorKind::WouldBlock | ErrorKind::NotConnected => return true,
                 ErrorKind::Interrupted => {}
@@ -70,6 +50,20 @@ fn write_line(stream: &mut TcpStream, out: &[u8], sent: &mut usize) -> bool {
         }
     }
     true
+}
+
+/// Reads, and sends what is left of the line. Where no more can be sent, what had come before is still read.
+fn exchange(
+    stream: &mut TcpStream,
+    talk: &mut BridgeTalk,
+    chunk: &mut [u8],
+) -> Result<(), AllocError> {
+    read_answer(stream, talk, chunk)?;
+    if talk.wants_read() && !write_line(stream, talk) {
+        read_answer(stream, talk, chunk)?;
+        talk.usable = false;
+    }
+    Ok(())
 }
 
 /// A connection that begins now.
@@ -88,12 +82,7 @@ fn connection<N: Net>(
 #[derive(Drop)]
 pub(crate) struct Link {
     stream: Option<TcpStream>,
-    exchange: Option<Exchange>,
-    /// The octets of the line, and how many of them were sent.
-    out: Vec<u8>,
-    sent: usize,
-    /// When the exchange is given up.
-    until: u64,
+    talk: BridgeTalk,
     /// The socket may have something.
     ready: bool,
 }
@@ -103,17 +92,14 @@ impl Link {
     pub(crate) fn new(alloc: Global) -> Self {
         Self {
             stream: None,
-            exchange: None,
-            out: Vec::new(alloc),
-            sent: 0,
-            until: 0,
+            talk: BridgeTalk::new(alloc),
             ready: false,
         }
     }
 
     /// Whether no line is under way.
     pub(crate) fn is_free(&self) -> bool {
-        self.exchange.is_none()
+        self.talk.is_free()
     }
 
     /// The system has told of the socket.
@@ -131,6 +117,7 @@ impl Link {
     ) -> io::Result<()> {
         if self.stream.is_none() {
             self.stream = Some(connection(rt, registry, token, address)?);
+            self.talk.usable = true;
         }
         Ok(())
     }
@@ -146,84 +133,28 @@ impl Link {
         line: Vec<u8>,
         now: u64,
     ) -> io::Result<()> {
-        let exchange = Exchange::new(alloc, line);
-        self.out = exchange.sent(alloc)?;
-        self.sent = 0;
-        self.exchange = Some(exchange);
+        self.talk.ask(alloc, line, now)?;
         self.ready = true;
-        self.until = match self.connect(rt, registry, token, address) {
-            Ok(()) => now.saturating_add(PATIENCE),
-            Err(_) => 0,
-        };
+        let _ = self.connect(rt, registry, token, address);
         Ok(())
     }
 
-    /// Closes a connection on which something comes unasked.
-    fn look(&mut self, chunk: &mut [u8]) {
-        if let Some(stream) = &mut self.stream {
-            let stays = match stream.read(chunk) {
-                Ok(_) => false,
-                Err(error) => error.kind() == ErrorKind::WouldBlock,
-            };
-            if !stays {
-                self.stream = None;
-            }
-        }
-    }
-
-    /// Reads, and sends what is left of the line. Where no more can be sent, what had come before is still read.
-    fn step(&mut self, chunk: &mut [u8]) -> Result<Step, AllocError> {
-        let (Some(stream), Some(exchange)) = (&mut self.stream, &mut self.exchange) else {
-            return Ok(Step::Ended);
-        };
-        let step = read_answer(stream, exchange, chunk)?;
-        if step != Step::More || write_line(stream, &self.out, &mut self.sent) {
-            return Ok(step);
-        }
-        match read_answer(stream, exchange, chunk)? {
-            Step::More => Ok(Step::Ended),
-            step => Ok(step),
-        }
-    }
-
-    /// The line that was under way, and what the bridge said to it.
-    fn over(&mut self, step: Step) -> Option<(Vec<u8>, Told)> {
-        if step == Step::More {
-            return None;
-        }
-        if step != Step::Whole {
-            self.stream = None;
-        }
-        let Exchange { line, got } = self.exchange.take()?;
-        let told = match step {
-            Step::Whole => Told::Said(got),
-            Step::Busy => Told::Busy,
-            _ if self.sent > 0 => Told::Lost,
-            _ => Told::Gone,
-        };
-        Some((line, told))
-    }
-
-    /// Does what the socket allows now. Tells the end of an exchange: its line, and what the bridge said.
+    /// Does what the socket allows now. Tells the end of a line: the line, and what the bridge said.
     pub(crate) fn turn(
         &mut self,
         chunk: &mut [u8],
         now: u64,
     ) -> Result<Option<(Vec<u8>, Told)>, AllocError> {
-        let was_ready = self.ready;
-        self.ready = false;
-        if self.exchange.is_none() {
-            if was_ready {
-                self.look(chunk);
+        if self.ready {
+            self.ready = false;
+            if let Some(stream) = &mut self.stream {
+                exchange(stream, &mut self.talk, chunk)?;
             }
-            return Ok(None);
         }
-        let step = if was_ready {
-            self.step(chunk)?
-        } else {
-            Step::More
-        };
-        let is_late = step == Step::More && now >= self.until;
-        Ok(self.over(if is_late { Step::Ended } else { step }))
+        let ending = self.talk.ending(now);
+        if !self.talk.usable {
+            self.stream = None;
+        }
+        Ok(ending)
     }
 }

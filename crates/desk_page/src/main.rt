@@ -17,14 +17,15 @@ mod spelling;
 mod style;
 mod terms;
 
-use crate::options::{Ends, Options, options_in};
+use crate::options::{Ends, options_in};
 use crate::server::Server;
+use desk_http::Addresses;
 use std::io::ErrorKind;
 use std::process::ExitCode;
 use std::{env, io};
 
 /// What the arguments ask for.
-fn asked(rt: &HostRuntime) -> Result<Options, Ends> {
+fn asked(rt: &HostRuntime) -> Result<Addresses, Ends> {
     let words = match env::args(rt) {
         Ok(words) => words,
         Err(error) => return Err(Ends::of_kind(error.kind())),
@@ -44,7 +45,7 @@ fn ended(rt: &HostRuntime, error: &io::Error) -> Ends {
 
 fn main(rt: HostRuntime) -> ExitCode {
     let ends = match asked(&rt) {
-        Ok(options) => match Server::serve(&rt, options) {
+        Ok(addresses) => match Server::serve(&rt, addresses) {
             Ok(()) => Ends::Served,
             Err(error) => ended(&rt, &error),
         },

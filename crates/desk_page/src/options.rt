@@ -1,18 +1,10 @@
 //! What the arguments say.
 
 use clap::{Arg, Command, Error};
+use desk_http::{Addresses, addresses_of};
 use std::alloc::{AllocError, AllocGlobal, Global};
 use std::io::{Eprint, ErrorKind, Print};
-use std::net::{SocketAddr, SocketAddrV4};
-
-/// Where the bridge takes operators, and where browsers connect.
-#[derive(Clone, Copy)]
-pub(crate) struct Options {
-    /// The bridge's address for operators.
-    pub(crate) bridge: SocketAddr,
-    /// The page's address.
-    pub(crate) listen: SocketAddrV4,
-}
+use std::net::SocketAddrV4;
 
 /// How the program ends.
 #[derive(Clone, Copy)]
@@ -67,16 +59,6 @@ fn command<'a>(alloc: Global) -> Result<Command<'a>, AllocError> {
         .arg(address_option(alloc, "listen", listen, "127.0.0.1:7080"))
 }
 
-/// An address of loopback.
-fn loopback(text: Option<&str>) -> Option<SocketAddrV4> {
-    let address = text?.parse::<SocketAddrV4>().ok()?;
-    if address.ip().is_loopback() {
-        Some(address)
-    } else {
-        None
-    }
-}
-
 /// The end where the words are no command line. It prints why, or the help that they ask for.
 fn refused<R: Print + Eprint>(rt: &R, error: &Error) -> Ends {
     let _ = error.print(rt);
@@ -87,13 +69,20 @@ fn refused<R: Print + Eprint>(rt: &R, error: &Error) -> Ends {
     }
 }
 
-/// The options of these addresses.
-fn chosen<R: Eprint>(rt: &R, bridge: Option<&str>, listen: Option<&str>) -> Result<Options, Ends> {
-    match loopback(bridge).zip(loopback(listen)) {
-        Some((bridge, listen)) => Ok(Options {
-            bridge: SocketAddr::V4(bridge),
-            listen,
-        }),
+/// The address that a text spells.
+fn address_in(text: Option<&str>) -> Option<SocketAddrV4> {
+    text?.parse::<SocketAddrV4>().ok()
+}
+
+/// The addresses that these texts spell, both of loopback.
+fn chosen<R: Eprint>(
+    rt: &R,
+    bridge: Option<&str>,
+    listen: Option<&str>,
+) -> Result<Addresses, Ends> {
+    let both = address_in(bridge).zip(address_in(listen));
+    match both.and_then(|(bridge, listen)| addresses_of(bridge, listen)) {
+        Some(addresses) => Ok(addresses),
         None => {
             let _ = eprintln!(rt;
                 "desk_page: --bridge and --listen are addresses of loopback, such as 127.0.0.1:7080"
@@ -107,7 +96,7 @@ fn chosen<R: Eprint>(rt: &R, bridge: Option<&str>, listen: Option<&str>) -> Resu
 pub(crate) fn options_in<R: AllocGlobal + Print + Eprint>(
     rt: &R,
     words: &[String],
-) -> Result<Options, Ends> {
+) -> Result<Addresses, Ends> {
     let command = match command(rt.alloc()) {
         Ok(command) => command,
         Err(_) => return Err(Ends::OutOfMemory),

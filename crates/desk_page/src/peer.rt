@@ -1,7 +1,7 @@
 //! A browser's connection. It has one request.
 
 use crate::terms::Terms;
-use desk_http::{Errand, Hearing, Site, Telling, Told};
+use desk_http::{Errand, Hearing, Site, Telling, Told, Visit, VisitStage};
 use http_server::Connection;
 use mio::net::TcpStream;
 use std::alloc::{AllocError, Global};
@@ -41,11 +41,13 @@ pub(crate) struct Peer {
     /// All octets of the request.
     request: Vec<u8>,
     errand: Errand,
-    /// The line that was handed over and has no answer yet.
-    line: Option<Vec<u8>>,
+    /// Its line was handed to the bridge and has no answer yet.
+    asks: bool,
     stage: Stage,
     /// The connections are numbered in order.
     number: usize,
+    /// When it came.
+    begun: u64,
     /// When the stage is given up.
     until: u64,
     /// When octets last went over it, or its stage began.
@@ -73,9 +75,10 @@ impl Peer {
             connection: terms.connection(),
             request: Vec::new(terms.alloc),
             errand: Errand::Hearing,
-            line: None,
+            asks: false,
             stage: Stage::Reading,
             number,
+            begun: now,
             until: now.saturating_add(PATIENCE),
             moved: now,
             ready: true,
@@ -92,17 +95,23 @@ impl Peer {
         self.stage == Stage::Done || (self.stage != Stage::Asking && now >= self.until)
     }
 
-    /// Whether nothing of its request has come.
-    pub(crate) fn is_silent(&self) -> bool {
-        self.stage == Stage::Reading && self.request.is_empty()
-    }
-
-    /// Since when nothing has gone over it, unless it waits for the bridge.
-    pub(crate) fn still_since(&self) -> Option<u64> {
-        if self.stage == Stage::Asking {
-            None
-        } else {
-            Some(self.moved)
+    /// How far it has come, as far as that counts where a place is needed.
+    pub(crate) fn visit(&self) -> Visit {
+        let stage = match self.stage {
+            Stage::Reading => {
+                if self.request.is_empty() {
+                    VisitStage::Silent
+                } else {
+                    VisitStage::Sending
+                }
+            }
+            Stage::Asking => VisitStage::Waiting,
+            Stage::Writing | Stage::Draining | Stage::Done => VisitStage::Answered,
+        };
+        Visit {
+            stage,
+            begun: self.begun,
+            moved: self.moved,
         }
     }
 
@@ -111,32 +120,32 @@ impl Peer {
         self.number
     }
 
-    /// Whether the question for the desk waits.
-    pub(crate) fn has_show(&self) -> bool {
-        match &self.errand {
-            Errand::Waiting(line) => line.as_slice() == b"show".as_slice(),
-            Errand::Hearing | Errand::Handed => false,
-        }
+    /// Notes that a line is handed to the bridge, if one is.
+    fn hand(&mut self, line: Option<Vec<u8>>) -> Option<Vec<u8>> {
+        self.asks = self.asks || line.is_some();
+        line
     }
 
-    /// Whether a call waits.
-    pub(crate) fn has_call(&self) -> bool {
-        match &self.errand {
-            Errand::Waiting(line) => line.as_slice() != b"show".as_slice(),
-            Errand::Hearing | Errand::Handed => false,
-        }
+    /// The question for the desk, if it waits, which is handed to the bridge.
+    pub(crate) fn hand_show(&mut self) -> Option<Vec<u8>> {
+        let line = self.errand.take_show();
+        self.hand(line)
     }
 
-    /// Hands the line over, if one waits.
-    pub(crate) fn hand(&mut self) {
-        if let Some(line) = self.errand.take() {
-            self.line = Some(line);
-        }
+    /// The call that waits, if there is one, which is handed to the bridge.
+    pub(crate) fn hand_call(&mut self) -> Option<Vec<u8>> {
+        let line = self.errand.take_call();
+        self.hand(line)
     }
 
-    /// Whether its line was handed over and has no answer yet.
-    pub(crate) fn is_asking(&self) -> bool {
-        self.line.is_some()
+    /// The line that waits, if there is one, which the bridge isn't asked.
+    pub(crate) fn drop_line(&mut self) -> Option<Vec<u8>> {
+        self.errand.take()
+    }
+
+    /// Whether its line was handed to the bridge and has no answer yet.
+    pub(crate) fn asks(&self) -> bool {
+        self.asks
     }
 
     /// Enters a stage.
@@ -147,37 +156,28 @@ impl Peer {
         self.ready = true;
     }
 
-    /// A copy of its line that was handed over.
-    pub(crate) fn copy_of_line(&self, alloc: Global) -> Result<Option<Vec<u8>>, AllocError> {
-        match &self.line {
-            Some(line) => Ok(Some(Vec::from_slice(alloc, line)?)),
-            None => Ok(None),
-        }
-    }
-
     /// Hears the request once more, over a connection of which nothing has come.
     fn hear_again(&mut self, terms: Terms) -> io::Result<()> {
         drop(mem::replace(&mut self.connection, terms.connection()));
         feed(&mut self.connection, &self.request)
     }
 
-    /// Answers the request by what the bridge said to its line.
-    fn answer(&mut self, terms: Terms, site: &Site, told: &Told) -> io::Result<()> {
+    /// Answers the request by what the bridge said to this line.
+    fn answer(&mut self, terms: Terms, site: &Site, line: &[u8], told: &Told) -> io::Result<()> {
         self.hear_again(terms)?;
-        if let Some(line) = &self.line {
-            self.connection.advance(&mut Telling { site, line, told });
-        }
+        self.connection.advance(&mut Telling { site, line, told });
         Ok(())
     }
 
-    /// Answers the request by what the bridge said to its line, or closes the connection where memory runs out.
-    pub(crate) fn tell(&mut self, terms: Terms, site: &Site, told: &Told, now: u64) {
-        if self.answer(terms, site, told).is_ok() {
+    /// Answers the request by what the bridge said to this line, or closes the connection where memory runs out. A
+    /// request that asks another line is told so.
+    pub(crate) fn tell(&mut self, terms: Terms, site: &Site, line: &[u8], told: &Told, now: u64) {
+        if self.answer(terms, site, line, told).is_ok() {
             self.enter(Stage::Writing, now, PATIENCE);
         } else {
             self.stage = Stage::Done;
         }
-        drop(self.line.take());
+        self.asks = false;
     }
 
     /// Does what the socket allows now.

@@ -2,15 +2,9 @@
 
 use crate::peer::Peer;
 use crate::terms::Terms;
-use desk_http::{Hearing, Site, Told};
+use desk_http::{Hearing, Placing, Site, Told, Visit, admit};
 use mio::net::TcpStream;
 use std::alloc::{AllocError, Global};
-
-/// How many browsers' connections there are at most.
-pub(crate) const PEERS: usize = 32;
-
-/// For how many milliseconds a connection has to be still before a new one may take its place.
-const STILLNESS: u64 = 1_000;
 
 /// The browsers' connections.
 #[derive(Drop)]
@@ -44,50 +38,31 @@ impl Peers {
         }
     }
 
-    /// The connection over which nothing has gone for longest, a second at least. One that waits for the bridge isn't
-    /// looked at.
-    fn stillest(&self, now: u64) -> Option<usize> {
-        let mut stillest = None;
-        let mut least = u64::MAX;
-        for (at, peer) in self.connected.iter().enumerate() {
-            if let Some(since) = peer.still_since() {
-                if since < least && since.saturating_add(STILLNESS) <= now {
-                    least = since;
-                    stillest = Some(at);
-                }
-            }
+    /// How far each connection has come, the oldest first.
+    fn visits(&self, alloc: Global) -> Result<Vec<Visit>, AllocError> {
+        let mut visits = Vec::new(alloc);
+        for peer in &self.connected {
+            visits.push(peer.visit())?;
         }
-        stillest
-    }
-
-    /// The connection whose place a new one takes where there are 32: the oldest of which nothing has come, or else the
-    /// one over which nothing has gone for longest, a second at least.
-    fn leaver(&self, now: u64) -> Option<usize> {
-        for (at, peer) in self.connected.iter().enumerate() {
-            if peer.is_silent() {
-                return Some(at);
-            }
-        }
-        self.stillest(now)
+        Ok(visits)
     }
 
     /// Makes a place for a new connection. Tells whether there is one.
-    fn make_place(&mut self, now: u64) -> bool {
-        if self.connected.len() < PEERS {
-            return true;
-        }
-        match self.leaver(now) {
-            Some(at) if at < self.connected.len() => {
+    fn make_place(&mut self, alloc: Global, now: u64) -> Result<bool, AllocError> {
+        let visits = self.visits(alloc)?;
+        Ok(match admit(&visits, now) {
+            Placing::Free => true,
+            Placing::InPlaceOf(at) if at < self.connected.len() => {
                 drop(self.connected.remove(at));
                 true
             }
-            _ => false,
-        }
+            Placing::InPlaceOf(_) | Placing::Refused => false,
+        })
     }
 
     /// Adds a connection. Where it has no place it is closed.
     pub(crate) fn put(&mut self, terms: Terms, stream: TcpStream, now: u64) {
-        if self.make_place(now) {
+        if self.make_place(terms.alloc, now).unwrap_or(false) {
             let peer = Peer::new(terms, stream, self.next, now);
             self.next = self.next.saturating_add(1);
             drop(self.connected.push(peer));
@@ -101,41 +76,41 @@ impl Peers {
         }
     }
 
-    /// The line of the call that waits longest, which is handed over.
-    pub(crate) fn next_call(&mut self, alloc: Global) -> Result<Option<Vec<u8>>, AllocError> {
+    /// The call that waits longest, which is handed to the bridge.
+    pub(crate) fn next_call(&mut self) -> Option<Vec<u8>> {
         for peer in &mut self.connected {
-            if peer.has_call() {
-                peer.hand();
-                return peer.copy_of_line(alloc);
+            if let Some(line) = peer.hand_call() {
+                return Some(line);
             }
         }
-        Ok(None)
+        None
     }
 
-    /// Hands over all questions for the desk. Tells whether there was one.
-    pub(crate) fn hand_shows(&mut self) -> bool {
-        let mut any = false;
+    /// The question for the desk, if it waits, which is handed to the bridge for all who ask it.
+    pub(crate) fn next_show(&mut self) -> Option<Vec<u8>> {
+        let mut show = None;
         for peer in &mut self.connected {
-            if peer.has_show() {
-                peer.hand();
-                any = true;
+            if let Some(line) = peer.hand_show() {
+                show = Some(line);
             }
         }
-        any
+        show
     }
 
-    /// Hands over all lines that wait.
-    pub(crate) fn hand_all(&mut self) {
+    /// Tells what the bridge said to a line to all whose lines were handed to it.
+    pub(crate) fn tell(&mut self, terms: Terms, site: &Site, line: &[u8], told: &Told, now: u64) {
         for peer in &mut self.connected {
-            peer.hand();
+            if peer.asks() {
+                peer.tell(terms, site, line, told, now);
+            }
         }
     }
 
-    /// Tells what the bridge said to all whose lines were handed over.
-    pub(crate) fn tell(&mut self, terms: Terms, site: &Site, told: &Told, now: u64) {
+    /// Tells all whose lines still wait that the bridge isn't there for them.
+    pub(crate) fn tell_waiting(&mut self, terms: Terms, site: &Site, told: &Told, now: u64) {
         for peer in &mut self.connected {
-            if peer.is_asking() {
-                peer.tell(terms, site, told, now);
+            if let Some(line) = peer.drop_line() {
+                peer.tell(terms, site, &line, told, now);
             }
         }
     }

@@ -1,11 +1,10 @@
 //! The page on one thread: its browsers and its link to the bridge.
 
 use crate::link::Link;
-use crate::options::Options;
-use crate::peers::{PEERS, Peers};
+use crate::peers::Peers;
 use crate::setup::{hearing_at, terms};
 use crate::terms::Terms;
-use desk_http::{Calls, Hearing, Told};
+use desk_http::{Addresses, Calls, Hearing, Told};
 use mio::net::{TcpListener, TcpStream};
 use mio::{Events, Interest, Poll, Registry, Token};
 use std::alloc::{AllocError, AllocGlobal, Global};
@@ -27,6 +26,10 @@ const FIRST: usize = 2;
 const PACE: u64 = 100;
 /// How many milliseconds a round waits at most.
 const LONGEST_WAIT: u64 = 25;
+/// How many of the system's events are taken at a time.
+const EVENTS: usize = 32;
+/// How many connections are taken in a round at most.
+const COMERS: u32 = 1_024;
 /// How many octets are read at a time.
 const CHUNK: usize = 16_384;
 
@@ -36,6 +39,8 @@ struct PageSockets {
     poll: Poll,
     events: Events,
     listener: TcpListener,
+    /// Connections may wait. The system tells of them once.
+    has_comers: bool,
 }
 
 /// Opens the socket for browsers.
@@ -53,18 +58,33 @@ impl PageSockets {
     /// Opens the socket for browsers at this address.
     fn open<R: Net>(rt: &R, alloc: Global, address: SocketAddrV4) -> io::Result<Self> {
         let poll = Poll::new(rt)?;
-        let events = Events::with_capacity(alloc, PEERS)?;
+        let events = Events::with_capacity(alloc, EVENTS)?;
         let listener = listener_at(rt, poll.registry(), address)?;
         Ok(Self {
             poll,
             events,
             listener,
+            has_comers: true,
         })
     }
 
     /// Waits until something has come, for a round at most.
     fn wait(&mut self) -> io::Result<()> {
         self.poll.poll(&mut self.events, Some(Duration::from_millis(LONGEST_WAIT)))
+    }
+
+    /// The next connection, if one waits. Where the system has no descriptor for it, the next round tries again.
+    fn next_comer(&mut self) -> Option<TcpStream> {
+        if !self.has_comers {
+            return None;
+        }
+        match self.listener.accept() {
+            Ok((stream, _)) => Some(stream),
+            Err(error) => {
+                self.has_comers = error.kind() != ErrorKind::WouldBlock;
+                None
+            }
+        }
     }
 }
 
@@ -100,18 +120,18 @@ impl Server {
     /// chooses one.
     pub(crate) fn serve<R: Runtime + AllocGlobal + Net + RandomSource + Wait>(
         rt: &R,
-        options: Options,
+        addresses: Addresses,
     ) -> io::Result<()> {
         let alloc = rt.alloc();
         let terms = terms(rt, alloc)?;
         let begun = Instant::now(rt)?;
-        let sockets = PageSockets::open(rt, alloc, options.listen)?;
+        let sockets = PageSockets::open(rt, alloc, addresses.listen)?;
         let address = sockets.listener.local_addr()?;
         let hearing = hearing_at(rt, alloc, address)?;
         let mut server = Self {
             terms,
             sockets,
-            bridge: options.bridge,
+            bridge: SocketAddr::V4(addresses.bridge),
             begun,
             hearing,
             calls: Calls::new(alloc),
@@ -139,9 +159,8 @@ impl Server {
     fn round<R: Net + Clock>(&mut self, rt: &R) -> io::Result<()> {
         self.sockets.wait()?;
         let now = millis_since(rt, self.begun)?;
-        if self.wake() {
-            self.accept(now);
-        }
+        self.wake();
+        self.accept(now);
         self.turn(now);
         // The second time sends what the first time has put to the link.
         self.ask_bridge(rt, now)?;
@@ -151,17 +170,15 @@ impl Server {
         Ok(())
     }
 
-    /// Notes what has come. Tells whether connections wait.
-    fn wake(&mut self) -> bool {
-        let mut comes = false;
+    /// Notes what has come.
+    fn wake(&mut self) {
         for event in &self.sockets.events {
             match event.token() {
-                LISTENER => comes = true,
+                LISTENER => self.sockets.has_comers = true,
                 LINK => self.link.wake(),
                 Token(number) => self.peers.wake(number),
             }
         }
-        comes
     }
 
     /// Lets the browsers' connections do what their sockets allow.
@@ -171,14 +188,10 @@ impl Server {
 
     /// Takes the connections that wait. Where no place is free they are closed.
     fn accept(&mut self, now: u64) {
-        for _ in 0..1_024 {
-            match self.sockets.listener.accept() {
-                Ok((stream, _)) => self.place(stream, now),
-                Err(error) => {
-                    if error.kind() == ErrorKind::WouldBlock {
-                        return;
-                    }
-                }
+        for _ in 0..COMERS {
+            match self.sockets.next_comer() {
+                Some(stream) => self.place(stream, now),
+                None => return,
             }
         }
     }
@@ -205,60 +218,63 @@ impl Server {
     }
 
     /// The next line for the bridge: the call that waits longest, or else the question for the desk.
-    fn next_line(&mut self, now: u64) -> Result<Option<Vec<u8>>, AllocError> {
-        if let Some(line) = self.peers.next_call(self.terms.alloc)? {
-            return Ok(Some(line));
+    fn next_line(&mut self, now: u64) -> Option<Vec<u8>> {
+        if let Some(line) = self.peers.next_call() {
+            return Some(line);
         }
-        if now >= self.next_show && self.peers.hand_shows() {
-            self.next_show = now.saturating_add(PACE);
-            return Ok(Some(Vec::from_slice(self.terms.alloc, b"show")?));
+        if now < self.next_show {
+            return None;
         }
-        Ok(None)
+        let line = self.peers.next_show()?;
+        self.next_show = now.saturating_add(PACE);
+        Some(line)
     }
 
     /// Hands the next line to the bridge.
     fn ask<R: Net>(&mut self, rt: &R, now: u64) -> io::Result<()> {
-        if let Some(line) = self.next_line(now)? {
+        if let Some(line) = self.next_line(now) {
             let registry = self.sockets.poll.registry();
             self.link.ask(rt, self.terms.alloc, registry, LINK, self.bridge, line, now)?;
         }
         Ok(())
     }
 
-    /// Tells what the bridge said to all whose lines were handed over.
-    fn tell(&mut self, told: &Told, now: u64) {
-        self.peers.tell(self.terms, &self.hearing.site, told, now);
+    /// Tells what the bridge said to a line to all whose lines were handed to it.
+    fn tell(&mut self, line: &[u8], told: &Told, now: u64) {
+        self.peers
+            .tell(self.terms, &self.hearing.site, line, told, now);
+    }
+
+    /// Tells all whose lines still wait that the bridge isn't there for them.
+    fn tell_waiting(&mut self, told: &Told, now: u64) {
+        self.peers
+            .tell_waiting(self.terms, &self.hearing.site, told, now);
     }
 
     /// Notes an answer, and tells it to those who asked. Where the bridge isn't there for them, neither is it for those
     /// who still wait.
     fn settle(&mut self, line: Vec<u8>, told: Told, now: u64) -> io::Result<()> {
         let mut told = told;
-        self.note(line, &mut told)?;
-        self.tell(&told, now);
+        self.note(&line, &mut told)?;
+        self.tell(&line, &told, now);
         match told {
             Told::Said(_) => {}
-            Told::Busy => {
-                self.peers.hand_all();
-                self.tell(&Told::Busy, now);
-            }
-            Told::Gone | Told::Lost => {
-                self.peers.hand_all();
-                self.tell(&Told::Gone, now);
-            }
+            Told::Busy => self.tell_waiting(&Told::Busy, now),
+            Told::Gone | Told::Lost => self.tell_waiting(&Told::Gone, now),
         }
         Ok(())
     }
 
     /// Keeps a call with its answer.
-    fn keep(&mut self, line: Vec<u8>, said: &[u8]) -> Result<(), AllocError> {
+    fn keep(&mut self, line: &[u8], said: &[u8]) -> Result<(), AllocError> {
+        let line = Vec::from_slice(self.terms.alloc, line)?;
         let said = Vec::from_slice(self.terms.alloc, said)?;
         self.calls.push(line, said)
     }
 
     /// Keeps a call with its answer, and adds the calls to the desk.
-    fn note(&mut self, line: Vec<u8>, told: &mut Told) -> Result<(), AllocError> {
-        let is_show = line.as_slice() == b"show".as_slice();
+    fn note(&mut self, line: &[u8], told: &mut Told) -> Result<(), AllocError> {
+        let is_show = line == b"show".as_slice();
         match told {
             Told::Said(text) if is_show => self.calls.append_to(text),
             Told::Said(text) => {

@@ -6,37 +6,18 @@ use crate::script::SCRIPT;
 use crate::spelling::LINES;
 use crate::style::STYLE;
 use crate::terms::Terms;
-use desk_http::{Files, Hearing, MAX_LINE, Site};
-use http_server::Config;
+use desk_http::{Files, Hearing, Site, limits, token};
 use std::alloc::Global;
 use std::hash::RandomState;
 use std::io;
 use std::net::SocketAddr;
 use std::random::RandomSource;
 
-/// A digit of base 16.
-fn digit(value: u8) -> u8 {
-    b"0123456789abcdef"[(value % 16) as usize]
-}
-
-/// A secret of 32 digits.
-fn token<R: RandomSource>(rt: &R, alloc: Global) -> io::Result<Vec<u8>> {
+/// What is the page's own at this address, with a secret of this run.
+fn site<R: RandomSource>(rt: &R, alloc: Global, address: SocketAddr) -> io::Result<Site> {
     let mut octets = [0u8; 16];
     rt.fill_bytes(&mut octets)?;
-    let mut digits = Vec::new(alloc);
-    for octet in octets {
-        digits.extend_from_slice(&[digit(octet / 16), digit(octet % 16)])?;
-    }
-    Ok(digits)
-}
-
-/// What is the page's own at this address.
-fn site<R: RandomSource>(rt: &R, alloc: Global, address: SocketAddr) -> io::Result<Site> {
-    let port = address.port();
-    let token = token(rt, alloc)?;
-    let host = format!(in alloc; "{address}")?.into_bytes();
-    let local = format!(in alloc; "localhost:{port}")?.into_bytes();
-    Ok(Site { host, local, token })
+    Ok(Site::at(alloc, address, token(alloc, octets)?)?)
 }
 
 /// The page's files.
@@ -49,13 +30,6 @@ fn files() -> Files {
         script: SCRIPT,
         style: STYLE,
     }
-}
-
-/// The limits of a request. A body of one octet more than a line is still heard, and refused as no line.
-fn limits() -> Config {
-    let mut config = Config::default();
-    config.max_body_len = MAX_LINE + 1;
-    config
 }
 
 /// Hears the requests to the page at this address.

@@ -1,20 +1,37 @@
-//! The page of all cases.
+//! The pages of all cases.
 
-use crate::request::{request_of, spoken};
-use desk_http::{Exchange, Files, Hearing, MAX_LINE, Progress, Site, Telling, Told};
+use crate::places::placing_is;
+use crate::request::{octets_of, request_of, spoken};
+use crate::talks::said_of;
+use desk_http::{
+    Calls, Exchange, Files, Hearing, Progress, Site, Telling, Told, addresses_of, limits,
+};
 use http_server::{Config, Connection, Service};
 use std::alloc::{AllocError, Global};
 use std::hash::RandomState;
+use std::net::{SocketAddr, SocketAddrV4};
 use std::str::Split;
 
-/// A page, and what each connection to it begins with.
+/// Two pages, and what each connection to them begins with.
 #[derive(Drop)]
 pub struct Page {
     alloc: Global,
     keys: RandomState,
     config: Config,
     hearing: Hearing,
+    /// The same page at port 80.
+    hearing_80: Hearing,
 }
+
+/// The files of the page.
+const FILES: Files = Files {
+    front: b"<front ",
+    back: b" back>",
+    lines: b"lines ",
+    past: b"past ",
+    script: b"script",
+    style: b"style",
+};
 
 /// What a progress is called.
 fn progress_name(progress: Progress) -> &'static str {
@@ -64,12 +81,15 @@ fn respond<S: Service>(
     Some(())
 }
 
-/// What is the page's own.
-fn site(alloc: Global) -> Result<Site, AllocError> {
-    let host = Vec::from_slice(alloc, b"127.0.0.1:7080")?;
-    let local = Vec::from_slice(alloc, b"localhost:7080")?;
-    let token = Vec::from_slice(alloc, b"secret")?;
-    Ok(Site { host, local, token })
+/// What hears requests to a page at this port.
+fn hearing_at(alloc: Global, port: u16) -> Result<Hearing, AllocError> {
+    let address = SocketAddr::from(([127, 0, 0, 1], port));
+    Ok(Hearing {
+        alloc,
+        site: Site::at(alloc, address, Vec::from_slice(alloc, b"secret")?)?,
+        files: FILES,
+        wanted: None,
+    })
 }
 
 /// Whether a request asked the bridge this line, or was answered so.
@@ -93,7 +113,7 @@ fn told_of(alloc: Global, text: &str) -> Option<Told> {
 
 /// Gives a piece of an answer to an exchange.
 fn feed(alloc: Global, exchange: &mut Exchange, piece: &str) -> Option<Progress> {
-    let octets = spoken(alloc, piece)?;
+    let octets = octets_of(alloc, piece)?;
     exchange.feed(&octets).ok()
 }
 
@@ -106,31 +126,45 @@ fn feed_all(alloc: Global, exchange: &mut Exchange, pieces: Split<'_, &str>) -> 
     Some(progress)
 }
 
+/// Adds so many calls: `line 1`, which is answered `ok 1`, and so on.
+fn add_calls(alloc: Global, calls: &mut Calls, count: u32) -> Option<()> {
+    for number in 1..=count {
+        let line = format!(in alloc; "line {number}").ok()?.into_bytes();
+        let said = format!(in alloc; "ok {number}\n").ok()?.into_bytes();
+        calls.push(line, said).ok()?;
+    }
+    Some(())
+}
+
+/// Whether the text of so many calls has so many lines, and begins with this one: `LINES FIRST`.
+fn keeps(alloc: Global, count: &str, wanted: &str) -> Option<bool> {
+    let (lines, first) = wanted.split_once(" ")?;
+    let lines: usize = lines.parse().ok()?;
+    let mut calls = Calls::new(alloc);
+    let mut text = Vec::new(alloc);
+    add_calls(alloc, &mut calls, count.parse().ok()?)?;
+    calls.append_to(&mut text).ok()?;
+    let text = str::from_utf8(&text).ok()?;
+    Some(text.lines().count() == lines && text.lines().next()? == first)
+}
+
+/// Whether a page may start with these addresses: `BRIDGE LISTEN`.
+fn starts(text: &str, wanted: &str) -> Option<bool> {
+    let (bridge, listen) = text.split_once(" ")?;
+    let bridge: SocketAddrV4 = bridge.parse().ok()?;
+    let listen: SocketAddrV4 = listen.parse().ok()?;
+    Some(addresses_of(bridge, listen).is_some() == (wanted == "yes"))
+}
+
 impl Page {
-    /// The page of all cases.
+    /// The pages of all cases.
     pub fn new(alloc: Global, keys: RandomState) -> Result<Self, AllocError> {
-        let mut config = Config::default();
-        config.max_body_len = MAX_LINE + 1;
-        let site = site(alloc)?;
-        let files = Files {
-            front: b"<front ",
-            back: b" back>",
-            lines: b"lines ",
-            past: b"past ",
-            script: b"script",
-            style: b"style",
-        };
-        let hearing = Hearing {
-            alloc,
-            site,
-            files,
-            wanted: None,
-        };
         Ok(Self {
             alloc,
             keys,
-            config,
-            hearing,
+            config: limits(),
+            hearing: hearing_at(alloc, 7080)?,
+            hearing_80: hearing_at(alloc, 80)?,
         })
     }
 
@@ -151,12 +185,28 @@ impl Page {
         Some(written)
     }
 
-    /// Whether a request asks the bridge this line, or is answered so.
-    fn hears(&mut self, request: &str, wanted: &str) -> Option<bool> {
-        let hearing = &mut self.hearing;
+    /// Whether a request asks the bridge this line, or is answered so, by this page.
+    fn heard_by(
+        alloc: Global,
+        keys: RandomState,
+        config: Config,
+        hearing: &mut Hearing,
+        request: &str,
+        wanted: &str,
+    ) -> Option<bool> {
         drop(hearing.wanted.take());
-        let response = Self::exchanged(self.alloc, self.keys, self.config, hearing, request)?;
-        is_heard(&self.hearing, &response, wanted)
+        let response = Self::exchanged(alloc, keys, config, hearing, request)?;
+        is_heard(hearing, &response, wanted)
+    }
+
+    /// Whether a request asks the bridge this line, or is answered so, by the page at this port.
+    fn hears(&mut self, port: u16, request: &str, wanted: &str) -> Option<bool> {
+        let (alloc, keys, config) = (self.alloc, self.keys, self.config);
+        if port == 80 {
+            Self::heard_by(alloc, keys, config, &mut self.hearing_80, request, wanted)
+        } else {
+            Self::heard_by(alloc, keys, config, &mut self.hearing, request, wanted)
+        }
     }
 
     /// Whether a request is answered so, once the bridge was asked a line and said this.
@@ -190,7 +240,12 @@ impl Page {
         let (case, wanted) = line.split_once(" > ")?;
         let (verb, text) = case.split_once(" ")?;
         match verb {
-            "hears" => self.hears(text, wanted),
+            "hears" => self.hears(7080, text, wanted),
+            "hears-80" => self.hears(80, text, wanted),
+            "keeps" => keeps(self.alloc, text, wanted),
+            "starts" => starts(text, wanted),
+            "talks" => said_of(self.alloc, text, wanted),
+            "places" => placing_is(self.alloc, text, wanted),
             "tells" => self.tells(text, wanted),
             "comes" => self.pieces(text, wanted),
             _ => None,

@@ -9,11 +9,24 @@
 //! - `comes LINE ; PIECE ; PIECE .. > PROGRESS`: pieces of an answer to a line come, and this is said of the last:
 //!   `more`, `whole`, `busy` or `broken`.
 //!
-//! A REQUEST is `METHOD PATH FIELD=VALUE ..`, and behind ` | ` its body. In all texts `\n` is an LF.
+//! - `hears-80`: the same of a page at 127.0.0.1:80.
+//! - `talks MS ; LINE ; STEP ; STEP .. > stays TOLD`, or `closes TOLD`: a line is begun at 0 ms over an open
+//!   connection, STEP is `sent N` octets, `came TEXT` or `ended`, and TOLD is as above, or `waits`. `stays` says that
+//!   the connection is used again.
+//! - `places MS ; COUNT STAGE BEGUN MOVED ; .. > free`, `refused` or `place N`: a connection comes beside these, each
+//!   of them `silent`, `sending`, `waiting` or `answered`, and it gets a free place, none, or the place of the
+//!   connection with this number, from 0.
+//! - `keeps COUNT > LINES FIRST`: so many calls were made, and their text has so many lines, and this is the first.
+//! - `starts BRIDGE LISTEN > yes`, or `no`: the page may start with these addresses.
+//!
+//! A REQUEST is `METHOD PATH FIELD=VALUE ..`, and behind ` | ` its body. In all texts `\n` is an LF, and `TEXT*N` is a
+//! PIECE or a body that has a text N times.
 #![tactic(auto)]
 
 mod case;
+mod places;
 mod request;
+mod talks;
 
 use crate::case::Page;
 use std::hash::RandomState;

@@ -24,20 +24,24 @@ pub fn spoken(alloc: Global, text: &str) -> Option<Vec<u8>> {
     Some(octets)
 }
 
-/// So many times an `a`.
-fn many(alloc: Global, times: &str) -> Option<Vec<u8>> {
-    let times: usize = times.parse().ok()?;
+/// A text so many times.
+fn repeated(alloc: Global, text: &str, times: usize) -> Option<Vec<u8>> {
+    let once = spoken(alloc, text)?;
     let mut octets = Vec::new(alloc);
-    octets.resize(times, b'a').ok()?;
+    for _ in 0..times {
+        octets.extend_from_slice(&once).ok()?;
+    }
     Some(octets)
 }
 
-/// A body of a case: `a*5000` is so many times an `a`, and any other text stands for itself.
-fn body_of(alloc: Global, text: &str) -> Option<Vec<u8>> {
-    match text.strip_prefix("a*") {
-        Some(times) => many(alloc, times),
-        None => spoken(alloc, text),
+/// The octets of a text: `a*5000` is so many times an `a`, and a text that ends in no such number stands for itself.
+pub fn octets_of(alloc: Global, text: &str) -> Option<Vec<u8>> {
+    if let Some((once, times)) = text.rsplit_once("*") {
+        if let Ok(times) = times.parse::<usize>() {
+            return repeated(alloc, once, times);
+        }
     }
+    spoken(alloc, text)
 }
 
 /// Appends texts to octets.
@@ -79,7 +83,7 @@ fn push_body(alloc: Global, octets: &mut Vec<u8>, body: &[u8]) -> Option<()> {
 fn push_request(alloc: Global, octets: &mut Vec<u8>, text: &str) -> Option<()> {
     let (head, body) = text.split_once(" | ").unwrap_or((text, ""));
     push_head(octets, head)?;
-    push_body(alloc, octets, &body_of(alloc, body)?)
+    push_body(alloc, octets, &octets_of(alloc, body)?)
 }
 
 /// The octets of a request: `METHOD PATH FIELD=VALUE ..`, and behind ` | ` its body.
