@@ -46,6 +46,12 @@ class Pair(threading.Thread):
                         self.heard[number].append(one.recv(65536))
         self.sent = at
 
+    def wait_until_heard(self):
+        """Waits until each has heard something, a minute at most."""
+        end = time.monotonic() + 60
+        while min(map(len, self.heard)) < 10 and time.monotonic() < end:
+            time.sleep(0.01)
+
     def end(self):
         """Ends the talk. How many packets each heard, or None where one heard a gap or next to nothing."""
         self.is_done.set()

@@ -93,7 +93,8 @@ class Call:
         def is_shown():
             (packet,) = self.frame(b"frame %d" % self.seq)
             self.send(10, packet)
-            end, shown = time.monotonic() + 0.05, False
+            # The first ones are on probation. On a busy machine the others take longer.
+            end, shown = time.monotonic() + 0.05 * self.seq, False
             while not shown and time.monotonic() < end:
                 self.take()
                 shown = all(len(self.got[it]) > 1 and payload_of(self.got[it][-1]) == payload_of(packet) for it in (11, 12))

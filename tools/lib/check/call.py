@@ -17,6 +17,9 @@ from lib.shared import CRATES, add_program_or_build, fail, found_program, try_co
 
 NEEDS = "a program, ten seconds"
 
+# How many seconds the bridge may take for what has to come. It takes none; a busy machine may.
+PATIENCE = 60
+
 # Tones of one sample each, mu-law (ITU-T G.711): 988 and -988.
 TONES = {201: 0xCE, 202: 0x4E}
 SETUP = [
@@ -60,7 +63,7 @@ def connected(bridge, port, folder):
     """An operator's connection, once the bridge listens."""
     while bridge.poll() is None:
         try:
-            return socket.create_connection(("127.0.0.1", port), timeout=10)
+            return socket.create_connection(("127.0.0.1", port), timeout=PATIENCE)
         except ConnectionRefusedError:
             time.sleep(0.1)
     return fail(f"the bridge ended with status {bridge.returncode} before it listened\n{said_in(folder).read_text()[-2000:]}")
@@ -89,7 +92,7 @@ class Call:
         self.desk = Operator(connection)
         self.members = {201: member(), 202: member()}
         self.got = {201: [], 202: []}
-        self.seq = 0
+        self.begun, self.seq = None, 0
 
     def ask(self, line, answer):
         told = self.desk.ask(line)
@@ -98,19 +101,41 @@ class Call:
     def send(self, ssrc, octets):
         self.members[ssrc].sendto(octets, self.udp)
 
-    def talk(self, seconds):
-        """Each member sends a packet each 20 ms, and the first one a frame of one packet too, but for each tenth."""
-        end = time.monotonic() + seconds
-        while time.monotonic() < end:
-            for ssrc, one in self.members.items():
+    def turn(self):
+        """Each member sends a packet for each 20 ms that have passed, and the first one a frame of one packet too, but for each tenth."""
+        self.begun = self.begun or time.monotonic()
+        # By the clock, or the bridge drops what comes as late.
+        while time.monotonic() - self.begun >= self.seq * 0.02:
+            for ssrc in self.members:
                 self.send(ssrc, rtp(self.seq, self.seq * 160, ssrc, bytes([TONES[ssrc]]) * 160, pt=0))
-                drain(one, self.got[ssrc])
             if self.seq % 10 != 9:
                 self.send(201, rtp(self.seq, self.seq * 3000, 101, b"picture", marker=1))
             self.seq += 1
-            time.sleep(0.02)
         for ssrc, one in self.members.items():
             drain(one, self.got[ssrc])
+        time.sleep(0.005)
+
+    def talk(self, seconds):
+        end = time.monotonic() + seconds
+        while time.monotonic() < end:
+            self.turn()
+
+    def talk_until(self, holds, text):
+        """Talks until something holds."""
+        end = time.monotonic() + PATIENCE
+        while not holds():
+            check(time.monotonic() < end, text)
+            self.turn()
+
+    def asks(self, octets, holds, text):
+        """The second member asks until something holds: once, but where a lane is behind, since it drops what it is asked then."""
+        end = time.monotonic() + PATIENCE
+        while not holds():
+            check(time.monotonic() < end, text)
+            self.send(202, octets)
+            later = time.monotonic() + 1
+            while not holds() and time.monotonic() < later:
+                self.turn()
 
     def stream(self, member, ssrc):
         """What came to a member of a stream."""
@@ -121,22 +146,31 @@ class Call:
         return [packet for packet in self.got[member] if packet[1] == kind]
 
 
+def has_more(call, member, ssrc, text):
+    """Talks until more of a stream has come to a member."""
+    before = len(call.stream(member, ssrc))
+    call.talk_until(lambda: len(call.stream(member, ssrc)) > before + 1, text)
+
+
 def use_desk(call):
     """Sets the desk, mutes a source and unsubscribes a slot in mid-call, and undoes both."""
     ports = {"p": port_of(call.members[201]), "q": port_of(call.members[202])}
     for version, line in enumerate(SETUP, 1):
         call.ask(line.format(**ports), f"ok {version}")
-    call.talk(2)
+    call.talk(1)
+    has_more(call, 202, 9002, "a member hears nothing")
+    has_more(call, 202, 501, "a member sees nothing")
     call.ask("mute 201", "ok 9")
     call.talk(1)
     before = len(call.stream(202, 9002))
     call.talk(1)
     check(len(call.stream(202, 9002)) <= before + 2, "a muted source is heard")
     call.ask("undo 9", "ok 10")
+    has_more(call, 202, 9002, "behind an undo a source stays muted")
     call.ask("unsubscribe 501", "ok 11")
     call.talk(0.5)
     call.ask("undo 11", "ok 12")
-    call.talk(2)
+    has_more(call, 202, 501, "behind an undo a slot stays unsubscribed")
 
 
 def check_mixes(call):
@@ -152,15 +186,18 @@ def check_video(call):
     shown = call.stream(202, 501)
     check(has_no_gap(shown), f"the video has a gap: {[seq_of(packet) for packet in shown[:20]]}")
     last = shown[-1]
-    call.send(202, nack(501, seq_of(last)))
-    call.talk(0.2)
-    again = [packet for packet in call.stream(202, 501) if seq_of(packet) == seq_of(last)]
-    check(again == [last, last], "a NACK isn't answered with the same octets")
-    call.send(202, pli(501))
-    call.talk(0.2)
-    passed = [packet for packet in call.control(201, 201) if packet[-12:-8] == bytes.fromhex("81ce0002")]
-    check(passed != [], "a PLI isn't passed on")
-    check(any(b"\x81\xcd" in packet for packet in call.control(201, 201)), "lost packets aren't asked for")
+
+    def again():
+        return [packet for packet in call.stream(202, 501) if seq_of(packet) == seq_of(last)]
+
+    def passed():
+        return [packet for packet in call.control(201, 201) if packet[-12:-8] == bytes.fromhex("81ce0002")]
+
+    call.asks(nack(501, seq_of(last)), lambda: len(again()) > 1, "a NACK isn't answered")
+    check(all(packet == last for packet in again()), "a NACK isn't answered with the same octets")
+    before = len(passed())
+    call.asks(pli(501), lambda: len(passed()) > before, "a PLI isn't passed on")
+    call.talk_until(lambda: any(b"\x81\xcd" in packet for packet in call.control(201, 201)), "lost packets aren't asked for")
     return len(shown)
 
 
@@ -168,8 +205,9 @@ def hold(call):
     use_desk(call)
     check_mixes(call)
     shown = check_video(call)
-    check(call.control(202, 200) != [], "no sender report comes")
-    check(call.control(201, 201) != [], "no receiver report comes")
+    call.talk_until(lambda: call.control(202, 200), "no sender report comes")
+    # One without a block stands before what is asked for.
+    call.talk_until(lambda: any(packet[0] > 0x80 for packet in call.control(201, 201)), "no receiver report comes")
     mixes = len(call.stream(201, 9001)) + len(call.stream(202, 9002))
     print(f"a call of {call.seq * 0.02:.1f} s: {mixes} mixes, {shown} video packets, no fault")
 
@@ -181,7 +219,8 @@ def run(args):
             call = Call(connected(bridge, tcp, folder), udp)
             hold(call)
             call.desk.tell("stop")
-            bridge.wait(timeout=30)
+            status = bridge.wait(timeout=PATIENCE)
+            check(status == 0, f"the bridge ended with status {status}")
         finally:
             bridge.kill()
     return 0

@@ -14,7 +14,7 @@ import subprocess
 
 from lib.shared import CRATES, add_program, found_program, release_program, tried
 
-NEEDS = "`rt`, three minutes; with BINARY that program, half a minute"
+NEEDS = "`rt`, three minutes; with BINARY that program, a minute"
 
 # Sections of crates/script_cases/stdin that take too long.
 LONG = {"no desk", "many datagrams", "large requests and reports", "random calls"}

@@ -239,7 +239,7 @@ def is_closed(connection):
 
 
 def takes_others(page, operator, version):
-    """Connections that say nothing keep nobody out, and those that say little keep others out for a second."""
+    """Connections that say nothing keep nobody out, and those that say little keep others out for half a second."""
     silent = [socket.create_connection(("127.0.0.1", page.port), timeout=10) for _ in range(200)]
     check(page.ask("GET", "/")[0] == 200, "200 connections that say nothing keep others out")
     # The page has 32 places, and the oldest silent connection gives its place to a new one.
@@ -251,7 +251,7 @@ def takes_others(page, operator, version):
     slow = [socket.create_connection(("127.0.0.1", page.port), timeout=10) for _ in range(32)]
     for one in slow:
         one.sendall(b"G")
-    time.sleep(1.5)
+    time.sleep(0.7)
     check(page.ask("GET", "/")[0] == 200, "32 connections that have sent one octet keep others out")
     for one in slow:
         one.close()

@@ -13,6 +13,8 @@ status 2 and `confbridge: out of memory`. Until then it sends packets of the ste
 Starts: request 1, 2, .. of all threads of a starting bridge is refused. It ends with status 2, or with 3 where a thread can't be started.
 Ends: request 1, 2, .. of the front is refused behind `stop`. The bridge ends with status 2.
 
+Fault, alone: while an operator is connected, request 1, 2, .. of a lane for a frame is refused, until one ends the bridge.
+
 Memory that an attempt took and kept is asked for no more. The requests for that line are then refused from the first one on again.
 """
 
@@ -32,13 +34,17 @@ from lib.steps import STEPS, Call
 
 NEEDS = "the program, `cc`, two minutes"
 
+# The step whose frame begins a stream in the last lane.
+FRAME = next(iter(STEPS))
+
 OUT_OF_MEMORY, FAILED = "confbridge: out of memory\n", "confbridge: input or output failed\n"
 
 
 def options(parser):
     parser.add_argument("--lanes", type=int, default=2, help="how many lanes a bridge has (%(default)s)")
     parser.add_argument("--jobs", type=int, default=4, help="how many bridges run side by side, but for calls (%(default)s)")
-    parser.add_argument("--only", choices=PARTS, metavar="PART", help=f"{', '.join(PARTS)}: this one alone; all if none is given")
+    names = [*PARTS, *ALONE]
+    parser.add_argument("--only", choices=names, metavar="PART", help=f"{', '.join(names)}: this one alone; the first four if none is given")
     add_program(parser)
 
 
@@ -338,6 +344,48 @@ def check_media(bridges):
     return total
 
 
+def try_fault(bridges, nth):
+    """Sends a frame to a new bridge, and a request of a lane for it is refused. What came of it, as of a step."""
+    heap, what = bridges.heap(), f"request {nth} of a lane for a frame"
+    call = Call(bridges.program, bridges.path, heap)
+    try:
+        call.begin(bridges.lanes)
+        packets, may, least = STEPS[FRAME](call)
+        call.got = {it: [] for it in call.got}
+        heap.refuse(call.threads[f"lane {bridges.lanes - 1}"], nth)
+        for member, octets in packets:
+            call.send(member, octets)
+        # Where the packets come all the same, the bridge may be about to end.
+        late = time.monotonic() + 1
+
+        def is_over():
+            call.take()
+            has_come = all(len(call.got[it]) >= least for it in may)
+            return call.bridge.poll() is not None or has_come and time.monotonic() > late
+
+        until(is_over, f"{what}: an operator is connected, and the bridge neither sends the frame nor ends")
+        if not heap.release()[1]:
+            return None
+        if call.bridge.poll() is None:
+            return "done"
+        status_of(call.bridge, {2: OUT_OF_MEMORY}, what)
+        check(not call.operator.lines.readline(), f"{what}: the bridge ended, and its operator is told something")
+        return "ended"
+    finally:
+        call.close()
+
+
+def check_fault(bridges):
+    """Refuses requests of a lane until one ends the bridge. How many were refused."""
+    nth, came = 0, "done"
+    while came == "done":
+        nth += 1
+        came = try_fault(bridges, nth)
+    check(came == "ended", "no request of a lane for a frame ends the bridge")
+    print(f"request {nth} of a lane for a frame: the bridge ended with status 2, beside an operator who says nothing", flush=True)
+    return nth
+
+
 # Starts and ends
 
 
@@ -401,11 +449,12 @@ def check_ends(bridges):
 
 
 PARTS = {"calls": check_calls, "media": check_media, "starts": check_starts, "ends": check_ends}
+ALONE = {"fault": check_fault}
 
 
 def run(args):
     with tempfile.TemporaryDirectory() as folder:
         bridges = Bridges(args, folder)
-        refused = {name: PARTS[name](bridges) for name in ([args.only] if args.only else PARTS)}
+        refused = {name: (PARTS | ALONE)[name](bridges) for name in ([args.only] if args.only else PARTS)}
     print(f"requests refused: {', '.join(f'{count} of {name}' for name, count in refused.items())}; nothing was lost")
     return 0
