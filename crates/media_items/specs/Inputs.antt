@@ -4,7 +4,7 @@ use Rattle.rtp_codec.specs.declared.address.Address.{Address}
 use Rattle.rtcp_codec.specs.declared.report.ReportBlock.{ReportBlock}
 use Rattle.media_items.specs.Frame.{SourceFrame}
 use Rattle.media_items.specs.declared.item.Item.{Item}
-use Rattle.media_items.specs.declared.item.Item.TheVariants.{Frame, Audio, Tick, Nack, Block, Pli, Report}
+use Rattle.media_items.specs.declared.item.Item.TheVariants.{Frame, Audio, Tick, Nack, Block, Pli, Report, Renew}
 
 -- the sound of an audio packet: its source and the address it came from, its clock rate in Hz, the timestamp of its first sample, and its samples
 pub record Sound : Type 0 where
@@ -39,6 +39,7 @@ pub data Input : Type 0 where
   block : Told → Input
   pli : Loss → Input
   report : (moment : ℕ) → Input
+  renew : Input
 
 -- what a lane is given, without where its octets lie
 abbrev pub input_of : {A : Type 0} → Item A → Input
@@ -49,6 +50,7 @@ input_of (Nack from out_ssrc numbers) = Input.nack record { from = from; out_ssr
 input_of (Block from b) = Input.block record { from = from; block = b }
 input_of (Pli from out_ssrc) = Input.pli record { from = from; out_ssrc = out_ssrc }
 input_of (Report moment) = Input.report moment
+input_of Renew = Input.renew
 
 -- the clock rates of audio, in Hz (RFC 3551 sections 4.5.11 and 4.5.14)
 abbrev pub is_audio_rate : ℕ → Bool
@@ -67,3 +69,4 @@ is_sized (nack request) = true
 is_sized (block told) = true
 is_sized (pli loss) = true
 is_sized (report moment) = true
+is_sized renew = true

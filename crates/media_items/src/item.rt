@@ -59,6 +59,8 @@ pub enum Item<A: Allocator + Copy = Global> {
         /// The moment, in nanoseconds since 1970.
         moment: u64,
     },
+    /// From here on, jitter buffers begin anew after late or full sound. The intake makes none.
+    Renew,
 }
 
 impl<A: Allocator + Copy> Item<A> {
@@ -96,6 +98,7 @@ impl<A: Allocator + Copy> Item<A> {
             &Item::Block { from, block } => Ok(Item::Block { from, block }),
             &Item::Pli { from, out_ssrc } => Ok(Item::Pli { from, out_ssrc }),
             &Item::Report { moment } => Ok(Item::Report { moment }),
+            &Item::Renew => Ok(Item::Renew),
         }
     }
 }
