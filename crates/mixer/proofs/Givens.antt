@@ -1,27 +1,26 @@
 -- What a mixer was given, once it is given more.
-use Rattle.std.proofs.Common.{◌≡◌, ℕ, ◌≤◌, ℤ, Bool, true, false, cond, List, [], ◌∷◌, ◌++◌, length, map, filter, ap, sym, subst, ◌∙◌, arith, refl}
+use Rattle.std.proofs.Common.{◌≡◌, ℕ, ◌≤◌, Bool, true, false, cond, List, [], ◌∷◌, ◌++◌, length, map, filter, ap, sym, subst, ◌∙◌, arith}
 use Rattle.std.proofs.lemmas.List.{map_push, length-map}
-use Rattle.rtp_codec.specs.declared.address.Address.{Address}
 use Rattle.desk_rows.specs.declared.row.Member.{Member as MemberRow}
 use Rattle.desk_rows.specs.Desk.{Desk}
 use Rattle.playout.specs.Playouts.{PlayoutsOf, AudioEvent, Has, HasAlso}
 use Rattle.media_items.specs.OwnStreams.{is_mine}
-use Rattle.mixer.specs.Hearing.{Given, Voice, put, to_playouts}
-use Rattle.mixer.specs.Mixes.{stream_of}
+use Rattle.mixer.specs.Hearing.{Given, Voice, to_playouts}
+use Rattle.mixer.specs.Mixes.{turns_after, stream_of}
 use Rattle.mixer.specs.Mixers.{MixerOf, WasGiven}
 use Rattle.mixer.specs.inner.Ready.{ReadyOf, hears_any, of_lane, hearers, members_of}
-use Rattle.mixer.proofs.Turns.{turns_put}
+use Rattle.mixer.proofs.Turns.{turns_between}
 
 -- the playouts have one event more
 pub has_more : (old new : PlayoutsOf) (next : Given) (given : List Given) → HasAlso old new (to_playouts next) → Has old (map to_playouts given) → Has new (map to_playouts (given ++ next ∷ []))
 has_more old new next given also has = subst (λ (es : List AudioEvent). Has new es) (sym (map_push to_playouts given next)) (also (map to_playouts given) has)
 
--- a put leaves the streams
-pub given_put : (old : MixerOf) (new : PlayoutsOf) (source : ℕ) (address : Address) (rate ts : ℕ) (samples : List ℤ) → HasAlso old.playouts new (to_playouts (put source address rate ts samples))
-    → (lane lanes : ℕ) (before : List Given) → WasGiven lane lanes old before → WasGiven lane lanes (record { playouts = new; streams = old.streams }) (before ++ put source address rate ts samples ∷ [])
-given_put old new source address rate ts samples also lane lanes before w = record {
-  playouts = has_more old.playouts new (put source address rate ts samples) before also w.playouts;
-  streams = λ ssrc mine. w.streams ssrc mine ∙ ap (stream_of ssrc) (sym (turns_put ssrc before (put source address rate ts samples) refl));
+-- what is no turn leaves the streams
+pub given_between : (old : MixerOf) (new : PlayoutsOf) (next : Given) → ((ssrc : ℕ) (before : List Given) → turns_after ssrc before (next ∷ []) ≡ []) → HasAlso old.playouts new (to_playouts next)
+    → (lane lanes : ℕ) (before : List Given) → WasGiven lane lanes old before → WasGiven lane lanes (record { playouts = new; streams = old.streams }) (before ++ next ∷ [])
+given_between old new next none also lane lanes before w = record {
+  playouts = has_more old.playouts new next before also w.playouts;
+  streams = λ ssrc mine. w.streams ssrc mine ∙ ap (stream_of ssrc) (sym (turns_between ssrc before next (none ssrc before)));
 }
 
 fewer : {X : Type 0} (p : X → Bool) (xs : List X) → length (filter p xs) ≤ length xs

@@ -8,7 +8,7 @@ use Rattle.desk_rows.specs.Desk.{Desk}
 use Rattle.forward_rewrite.specs.Sending.{Numbered}
 use Rattle.media_items.specs.Formats.{tick_at}
 use Rattle.forward_rewrite.specs.Mixes.{Sound, MixTick, mix_packet, packets_in, mixed, mixed_from, begun, mix_list}
-use Rattle.mixer.specs.Hearing.{Given, put, tick}
+use Rattle.mixer.specs.Hearing.{Given, put, tick, renew}
 use Rattle.mixer.specs.Mixes.{Hears, Turn, turn_of, turns_after, turns, tick_of, ticks_of, packets_of, mixes, mixes_at}
 use Rattle.mixer.specs.MixLists.{GoOn, AreInARow, Carries}
 use Rattle.mixer.proofs.Ticks.{rate_behind, ticks_push}
@@ -98,6 +98,10 @@ turns_after-more ssrc before (tick d moment ∷ given) next =
     ap (λ ts. turn_of ssrc before d moment ∷ ts)
     (turns_after-more ssrc after given next
     ∙ ap (λ b. turns_after ssrc after given ++ turns_after ssrc b (next ∷ [])) (append_assoc before (tick d moment ∷ []) given))
+turns_after-more ssrc before (renew ∷ given) next =
+    let after = before ++ renew ∷ [] in
+    turns_after-more ssrc after given next
+    ∙ ap (λ b. turns_after ssrc after given ++ turns_after ssrc b (next ∷ [])) (append_assoc before (renew ∷ []) given)
 
 tick_adds : (ssrc : ℕ) (before : List Given) (d : Desk) (moment : ℕ) → IsMore ssrc (turn_of ssrc before d moment).heard (mixes ssrc before) (mixes ssrc (before ++ tick d moment ∷ []))
 tick_adds ssrc before d moment =
@@ -118,6 +122,9 @@ tick_heard ssrc before d moment = subst (Carries ssrc (turn_of ssrc before d mom
 
 pub put_adds_nothing : (ssrc : ℕ) (before : List Given) (source : ℕ) (address : Address) (rate ts : ℕ) (samples : List ℤ) → mixes ssrc (before ++ put source address rate ts samples ∷ []) ≡ mixes ssrc before
 put_adds_nothing ssrc before source address rate ts samples = ap (packets_of ssrc) (turns_after-more ssrc [] before (put source address rate ts samples) ∙ append-nil (turns ssrc before))
+
+pub renew_adds_nothing : (ssrc : ℕ) (before : List Given) → mixes ssrc (before ++ renew ∷ []) ≡ mixes ssrc before
+renew_adds_nothing ssrc before = ap (packets_of ssrc) (turns_after-more ssrc [] before renew ∙ append-nil (turns ssrc before))
 
 -- ---- numbers
 

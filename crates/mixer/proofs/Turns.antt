@@ -5,7 +5,7 @@ use Rattle.desk_rows.specs.declared.row.Member.{Member as MemberRow}
 use Rattle.desk_rows.specs.Desk.{Desk}
 use Rattle.forward_rewrite.specs.Sending.{Numbered}
 use Rattle.forward_rewrite.specs.Mixes.{Sound, MixTick, MixOf, mix_list, mix_state, sounding, silent, GivesTick}
-use Rattle.mixer.specs.Hearing.{Given, put, tick, member_rate}
+use Rattle.mixer.specs.Hearing.{Given, put, tick, renew, member_rate}
 use Rattle.topology.specs.Mixes.{mix_member}
 use Rattle.mixer.specs.Mixes.{Hears, Turn, turn_of, turns_after, turns, tick_of, ticks_of, packets_of, stream_of}
 use Rattle.mixer.specs.inner.Ready.{Passes, current, last_rate}
@@ -24,14 +24,17 @@ turns_join ssrc before (tick d moment ∷ xs) y =
     ap (λ ts. turn_of ssrc before d moment ∷ ts)
     (turns_join ssrc (before ++ x ∷ []) xs y
     ∙ ap (λ b. turns_after ssrc (before ++ x ∷ []) xs ++ turns_after ssrc b (y ∷ [])) (append_assoc before (x ∷ []) xs))
+turns_join ssrc before (renew ∷ xs) y =
+    turns_join ssrc (before ++ renew ∷ []) xs y
+    ∙ ap (λ b. turns_after ssrc (before ++ renew ∷ []) xs ++ turns_after ssrc b (y ∷ [])) (append_assoc before (renew ∷ []) xs)
 
 -- a tick is one turn more
 pub turns_tick : (ssrc : ℕ) (given : List Given) (d : Desk) (moment : ℕ) → turns ssrc (given ++ tick d moment ∷ []) ≡ turns ssrc given ++ turn_of ssrc given d moment ∷ []
 turns_tick ssrc given d moment = turns_join ssrc [] given (tick d moment)
 
--- a put is none
-pub turns_put : (ssrc : ℕ) (given : List Given) (next : Given) → turns_after ssrc given (next ∷ []) ≡ [] → turns ssrc (given ++ next ∷ []) ≡ turns ssrc given
-turns_put ssrc given next none = turns_join ssrc [] given next ∙ ap (λ ts. turns ssrc given ++ ts) none ∙ append-nil (turns ssrc given)
+-- what comes between ticks is none
+pub turns_between : (ssrc : ℕ) (given : List Given) (next : Given) → turns_after ssrc given (next ∷ []) ≡ [] → turns ssrc (given ++ next ∷ []) ≡ turns ssrc given
+turns_between ssrc given next none = turns_join ssrc [] given next ∙ ap (λ ts. turns ssrc given ++ ts) none ∙ append-nil (turns ssrc given)
 
 -- ---- one turn more
 

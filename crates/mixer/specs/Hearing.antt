@@ -11,22 +11,26 @@ use Rattle.topology.specs.declared.hearing.AudioSource.{AudioSource}
 use Rattle.topology.specs.Looking.{room_rate}
 use Rattle.topology.specs.Mixes.{audio_sources, in_room, gain_of}
 use Rattle.playout.specs.Playout.{Play, sample_at, present}
-use Rattle.playout.specs.Playouts.{AudioEvent, PutOf, TakeAll, play_on}
+use Rattle.playout.specs.Playouts.{AudioEvent, PutOf, TakeAll, Renewing, play_on}
 use Rattle.playout.specs.Calls.{at_rate}
 use Rattle.mix_minus.specs.Mix.{scaled, clamped}
 use Rattle.forward_rewrite.specs.Mixes.{Sound, format_of}
 
 -- ---- what came in
 
--- what a mixer is given: samples of a source with their clock rate and timestamp, or a tick under a desk at a moment
+-- what a mixer is given: samples of a source with their clock rate and timestamp, a tick under a desk at a moment, or
+-- that buffers begin anew after late or full sound from here on
 pub data Given : Type 0 where
   put : (source : ℕ) (address : Address) (rate ts : ℕ) (samples : List ℤ) → Given
   tick : (desk : Desk) (moment : ℕ) → Given
+  renew : Given
 
--- what the playouts have of it: the samples, and a take from each of them at every tick, whatever the desk says
+-- what the playouts have of it: the samples, a take from each of them at every tick, whatever the desk says, and that
+-- they begin anew
 abbrev pub to_playouts : Given → AudioEvent
 to_playouts (put source address rate ts samples) = PutOf source address rate ts samples
 to_playouts (tick desk moment) = TakeAll
+to_playouts renew = Renewing
 
 -- the playout of a source after all this
 abbrev pub play_after : List Given → ℕ → Address → Option Play

@@ -11,7 +11,7 @@ use Rattle.forward_rewrite.specs.Sending.{Numbered}
 use Rattle.media_items.specs.Formats.{rate_of as format_rate}
 use Rattle.forward_rewrite.specs.Mixes.{Sound, MixTick, MixOf, mix_list, mix_state, mix_counts}
 use Rattle.media_items.specs.OwnStreams.{is_mine}
-use Rattle.mixer.specs.Hearing.{Given, put, tick, member_rate, voices_of, sound_for}
+use Rattle.mixer.specs.Hearing.{Given, put, tick, renew, member_rate, voices_of, sound_for}
 
 -- ---- one stream
 
@@ -43,6 +43,7 @@ abbrev pub turns_after : ℕ → List Given → List Given → List Turn
 turns_after ssrc before [] = []
 turns_after ssrc before (put source address rate ts samples ∷ given) = turns_after ssrc (before ++ put source address rate ts samples ∷ []) given
 turns_after ssrc before (tick d moment ∷ given) = turn_of ssrc before d moment ∷ turns_after ssrc (before ++ tick d moment ∷ []) given
+turns_after ssrc before (renew ∷ given) = turns_after ssrc (before ++ renew ∷ []) given
 
 -- all ticks of a stream
 abbrev pub turns : ℕ → List Given → List Turn

@@ -70,6 +70,13 @@ impl<A: Allocator + Copy> Mixer<A> {
         self.playouts.put(alloc, source, address, block)
     }
 
+    /// From here on, jitter buffers begin anew after late or full sound, as [`Playouts::renew`] says.
+    pub fn renew(&mut self)
+        ensures { IsGiven self.old self.new Given.renew }
+    {
+        self.playouts.renew();
+    }
+
     /// Runs a tick of 20 ms, and returns the packets of the lane's mix streams, by place of the member.
     ///
     /// It takes 20 ms of each source, whatever the desk says. `moment` is in nanoseconds since 1970. On out of
