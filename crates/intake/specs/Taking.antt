@@ -1,5 +1,5 @@
 -- The answer to a datagram, and what is known of sources after it: the first outcome that holds (own).
-use Rattle.std.specs.Prelude.{ℕ, ℤ, ◌+◌, ◌-◌, ◌<◌, ◌^◌, Bool, not, ◌&&◌, nat_eq, if◌then◌else◌, List, [], ◌∷◌, length, map, Option, None, Some, unwrap_or}
+use Rattle.std.specs.Prelude.{ℕ, ℤ, ◌+◌, ◌-◌, ◌<◌, ◌^◌, Bool, true, not, ◌&&◌, nat_eq, if◌then◌else◌, List, [], ◌∷◌, length, map, Option, None, Some, unwrap_or}
 use Rattle.std.specs.List.{flat_map, AllByRecursion}
 use Rattle.rtp_codec.specs.declared.address.Address.{Address}
 use Rattle.rtcp_codec.specs.declared.nack.NackWord.{NackWord}
@@ -53,6 +53,10 @@ asking voice source nacks pli = written (upstream_packets voice.asker source (vo
 -- what is sent to a source whose packets are missing, or whose picture is lost
 abbrev pub asked_of : Voice → Origin → List ℤ → Bool → List (Address × List ℕ)
 asked_of voice o nacks pli = if nat_eq (length nacks) 0 && not pli then [] else (o.address, asking voice o.ssrc nacks pli) ∷ []
+
+-- the datagram that asks a source for a picture, and for nothing else (RFC 4585 section 6.3.1)
+abbrev pub picture_request : Asker → Origin → Address × List ℕ
+picture_request who o = (o.address, written (upstream_packets who o.ssrc [] true))
 
 -- the answer to a packet that does this for its source
 abbrev pub answer_of : Voice → Coming → Course → Ingested

@@ -73,6 +73,13 @@ impl<A: Allocator + Copy> Intake<A> {
         })
     }
 
+    /// How many epochs have begun: each initialisation of a source begins one (RFC 3550 section A.1).
+    pub fn epochs(&self) -> u64
+        ensures { result ≡ self.now.epochs }
+    {
+        self.epochs
+    }
+
     /// Takes in a datagram. The rows say whose it is.
     ///
     /// `from` is the address that it came from, and `moment` is in nanoseconds since 1970. On out of memory, the only

@@ -4,7 +4,7 @@ ghost use Rattle.std.specs.Prelude.{◌≡◌, ◌≤◌, [], ◌∷◌, length,
 ghost use Rattle.upward.specs.Upstream.{most_words};
 ghost use Rattle.intake.specs.Ingested.{datagram_of};
 ghost use Rattle.intake.specs.inner.Comings.{origin_in};
-ghost use Rattle.intake.specs.Taking.{Voice, IsVoice, asking, asked_of};
+ghost use Rattle.intake.specs.Taking.{Voice, IsVoice, asking, asked_of, picture_request};
 
 use crate::coming::Origin;
 use crate::intake::Intake;
@@ -62,5 +62,21 @@ impl<A: Allocator + Copy> Intake<A> {
         }
         let octets = self.asking(alloc, origin.ssrc, nacks, pli)?;
         one_datagram(alloc, &origin.address, octets)
+    }
+
+    /// The datagram that asks a source for a picture, by a PLI (RFC 4585 section 6.3.1), with the address that it goes
+    /// to. The intake need not know the source. The only error is out of memory.
+    pub fn picture_request(
+        &self,
+        alloc: A,
+        to: &Address,
+        ssrc: u32,
+    ) -> Result<(Address, Vec<u8, A>), AllocError>
+        ensures { IfOk result (λ up.
+            datagram_of up ≡ picture_request self.now.asker (record { address = to.now; ssrc = ssrc })) }
+    {
+        let Settings { bridge_ssrc, cname } = &self.settings;
+        let octets = upstream(alloc, *bridge_ssrc, cname, ssrc, &[], true)?;
+        Ok((*to, octets))
     }
 }
