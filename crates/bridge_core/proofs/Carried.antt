@@ -51,6 +51,7 @@ module _ (k : ℕ) (visits : List Visit) where
   by_input v there r (Input.block told) is e = absurd (cc)
   by_input v there r (Input.pli loss) is e = absurd (cc)
   by_input v there r (Input.report moment) is e = absurd (cc)
+  by_input v there r Input.renew is e = absurd (cc)
 
   -- what the visits bring to the stream is frames that were given
   all_given : (vs : List Visit) → ((v : Visit) → Contains vs v → Contains visits v) → AllByRecursion IsGiven (sendings (routed k vs))

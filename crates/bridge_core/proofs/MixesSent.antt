@@ -32,6 +32,7 @@ pub record MixBelow : Type 0 where
   pub behind : (ssrc : ℕ) (before : List Given) (d : Desk) (moment : ℕ) → mixes ssrc (before ++ Given.tick d moment ∷ []) ≡ mixes ssrc before ++ mixes_at ssrc before d moment
   pub heard : (ssrc : ℕ) (before : List Given) (d : Desk) (moment : ℕ) → Carries ssrc (turn_of ssrc before d moment).heard (mixes_at ssrc before d moment)
   pub samples : (ssrc : ℕ) (before : List Given) (source : ℕ) (address : Address) (rate ts : ℕ) (samples : List ℤ) → mixes ssrc (before ++ Given.put source address rate ts samples ∷ []) ≡ mixes ssrc before
+  pub renewing : (ssrc : ℕ) (before : List Given) → mixes ssrc (before ++ Given.renew ∷ []) ≡ mixes ssrc before
   pub once : (ssrc : ℕ) (before : List Given) (d : Desk) (moment : ℕ) → good d ≡ true → on_stream ssrc (sent_by before d moment) ≡ to_its_member (mix_member d ssrc) (mixes_at ssrc before d moment)
 
 -- the packets of mixes on one stream
@@ -98,6 +99,10 @@ module _ (below : MixBelow) (who : Asker) (count k : ℕ) (start : Desk) where
       let here = visits lane start before in
       told-still before lane (Input.audio sound)
       (ap (mixes k) (is_given here (visit_after start before lane (Input.audio sound)) (Given.put sound.source sound.address sound.rate sound.ts sound.samples) refl) ∙ below.samples k (given_of here) sound.source sound.address sound.rate sound.ts sound.samples)
+  told-item before lane Input.renew h =
+      let here = visits lane start before in
+      told-still before lane Input.renew
+      (ap (mixes k) (is_given here (visit_after start before lane Input.renew) Given.renew refl) ∙ below.renewing k (given_of here))
   told-item before lane (Input.tick moment) h =
       let input = Input.tick moment in
       let here = visits lane start before in

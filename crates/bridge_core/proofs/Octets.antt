@@ -18,7 +18,7 @@ use Rattle.forward_rewrite.specs.Streams.{payload_octets}
 use Rattle.media_items.specs.declared.format.Format.{Format}
 use Rattle.media_items.specs.Formats.{pt_of, tick_at}
 use Rattle.forward_rewrite.specs.Mixes.{Sound, MixTick, format_of, payload_of, mix_packet, packets_in, mixed, mixed_from, begun, mix_list, sounds}
-use Rattle.mixer.specs.Hearing.{Given, put, tick, member_rate, voices_of, sound_by, sound_for, contributors}
+use Rattle.mixer.specs.Hearing.{Given, put, tick, renew, member_rate, voices_of, sound_by, sound_for, contributors}
 use Rattle.mixer.specs.Mixes.{Hears, Turn, hears, turn_of, turns_after, turns, tick_of, ticks_behind}
 use Rattle.bridge_core.specs.Lanes.{goes}
 use Rattle.bridge_core.specs.Headline.{numbered_of}
@@ -132,6 +132,7 @@ few_at k before d moment = by (mix_member d k)
 few_after : (k : ℕ) (before given : List Given) → HearFew (turns_after k before given)
 few_after k before [] = tt
 few_after k before (put source address rate ts samples ∷ given) = few_after k (before ++ put source address rate ts samples ∷ []) given
+few_after k before (renew ∷ given) = few_after k (before ++ renew ∷ []) given
 few_after k before (tick d moment ∷ given) = (few_at k before d moment, few_after k (before ++ tick d moment ∷ []) given)
 
 pub few_turns : (k : ℕ) (given : List Given) → HearFew (turns k given)

@@ -59,6 +59,17 @@ by_sound at old new sound is same before left =
       ),
     )
 
+-- from here on buffers begin anew, and the video streams stay
+pub by_renewing : {A : Type 0} → (at : LaneVisit A) (old new : LaneParts A) → IsGiven old.audio new.audio Given.renew → new.video ≡ old.video → PartsAnswer at old new Input.renew []
+by_renewing at old new is same before left =
+    let v = visit_on at Input.renew in (
+      refl,
+      (
+        subst (λ (s : StreamList). AreLeft at.place.lane at.place.lanes s (before ++ v ∷ [])) (sym same) (stay at.place.lane at.place.lanes old.video before v (λ k. refl) left.0),
+        subst (WasGiven at.place.lane at.place.lanes new.audio) (sym (is_given before v Given.renew refl)) (is at.place.lane at.place.lanes (given_of before) left.1),
+      ),
+    )
+
 -- a lane's share of what goes to all members is what goes to its members
 pub share_of_mixes : (lane lanes : ℕ) (v : Visit) (mixes : List MixSent) → filter (is_lanes lane lanes) (map (mix_goes v) mixes) ≡ map (mix_goes v) (lanes_own lane lanes mixes)
 share_of_mixes lane lanes v [] = refl

@@ -89,6 +89,7 @@ module _ (below : Below) (who : Asker) (count k : ℕ) (start : Desk) where
   told-item before lane (Input.block told) h = told-still before lane (Input.block told) refl
   told-item before lane (Input.pli loss) h = told-still before lane (Input.pli loss) refl
   told-item before lane (Input.report moment) h = told-still before lane (Input.report moment) refl
+  told-item before lane Input.renew h = told-still before lane Input.renew refl
   told-item before lane (Input.frame f) h =
       let input = Input.frame f in
       let v = visit_after start before lane input in

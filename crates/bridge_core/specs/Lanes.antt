@@ -32,7 +32,7 @@ use Rattle.feedback.specs.PassedUp.{pli_up}
 use Rattle.reports.specs.SenderReports.{sender_packets}
 use Rattle.reports.specs.LossNotes.{note_of}
 use Rattle.media_items.specs.Inputs.{Told, Loss}
-use Rattle.media_items.specs.Inputs.Input.{frame, audio, tick, nack, block, pli, report}
+use Rattle.media_items.specs.Inputs.Input.{frame, audio, tick, nack, block, pli, report, renew}
 use Rattle.bridge_core.specs.Sent.{Sent, about}
 use Rattle.bridge_core.specs.Sent.Sent.{media, control, note}
 
@@ -69,6 +69,7 @@ routed_of ssrc visit (nack request) = None
 routed_of ssrc visit (block told) = None
 routed_of ssrc visit (pli loss) = None
 routed_of ssrc visit (report moment) = None
+routed_of ssrc visit renew = None
 
 -- what a visit brings to a stream
 abbrev pub routed_at : ℕ → Visit → Option Routed
@@ -113,7 +114,8 @@ goes ssrc resent_by p = media record {
   resent_by = resent_by;
 }
 
--- what an input gives the mixer: sound its samples, whatever the desk says, and a tick the desk of its version
+-- what an input gives the mixer: sound its samples, whatever the desk says, a tick the desk of its version, and that
+-- buffers begin anew from here on
 abbrev pub given_by : Desk → Input → Option Given
 given_by desk (frame f) = None
 given_by desk (audio sound) = Some (Given.put sound.source sound.address sound.rate sound.ts sound.samples)
@@ -122,6 +124,7 @@ given_by desk (nack request) = None
 given_by desk (block told) = None
 given_by desk (pli loss) = None
 given_by desk (report moment) = None
+given_by desk renew = Some Given.renew
 
 -- what a visit gives the mixer
 abbrev pub given_at : Visit → Option Given
@@ -209,6 +212,8 @@ sent_of_input who before visit (block told) =
 sent_of_input who before visit (pli loss) = passed_up who visit loss (pli_up visit.desk loss.from loss.out_ssrc)
 -- a report: to each member the sender reports of its streams, by place
 sent_of_input who before visit (report moment) = flat_map (reports_to who before visit moment) visit.desk.members
+-- that buffers begin anew from here on: nothing
+sent_of_input who before visit renew = []
 
 -- it is about one of the lane's streams
 abbrev pub is_lanes : ℕ → ℕ → Sent → Bool

@@ -6,7 +6,7 @@ use Rattle.desk_rows.specs.Desk.{Desk}
 use Rattle.media_items.specs.Inputs.{Input}
 use Rattle.bridge_core.specs.Sent.{Sent, about}
 use Rattle.upward.specs.Upstream.{Asker}
-use Rattle.media_items.specs.Inputs.Input.{frame, audio, tick, nack, block, pli, report}
+use Rattle.media_items.specs.Inputs.Input.{frame, audio, tick, nack, block, pli, report, renew}
 use Rattle.bridge_core.specs.Lanes.{sends_at}
 use Rattle.bridge_core.specs.Steps.{Step, along, visits, visit_after}
 
@@ -38,6 +38,7 @@ begins StreamKind.video (nack request) = false
 begins StreamKind.video (block told) = false
 begins StreamKind.video (pli loss) = false
 begins StreamKind.video (report moment) = false
+begins StreamKind.video renew = false
 begins StreamKind.mix (frame f) = false
 begins StreamKind.mix (audio sound) = false
 begins StreamKind.mix (tick moment) = true
@@ -45,6 +46,7 @@ begins StreamKind.mix (nack request) = false
 begins StreamKind.mix (block told) = false
 begins StreamKind.mix (pli loss) = false
 begins StreamKind.mix (report moment) = false
+begins StreamKind.mix renew = false
 
 -- what is sent on a stream for the first time at a step
 abbrev pub firsts_at : Asker → ℕ → Desk → Name → List Step → Step → List Sent

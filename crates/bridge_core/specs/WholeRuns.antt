@@ -16,7 +16,7 @@ use Rattle.mixer.specs.Mixes.{mixes}
 use Rattle.upward.specs.Upstream.{Asker}
 use Rattle.media_items.specs.Inputs.{Input, Request, Told, Loss}
 use Rattle.bridge_core.specs.Sent.{Sent}
-use Rattle.media_items.specs.Inputs.Input.{frame, audio, tick, nack, block, pli, report}
+use Rattle.media_items.specs.Inputs.Input.{frame, audio, tick, nack, block, pli, report, renew}
 use Rattle.topology.specs.Looking.{member_from}
 use Rattle.feedback.specs.PassedUp.{pli_up}
 use Rattle.feedback.specs.Resends.{resends}
@@ -107,7 +107,8 @@ pub record IsReported (who : Asker) (lanes : ℕ) (start : Desk) (before : List 
 
 -- An input is answered by what was promised of its kind: a frame goes to all who chose it, sound sends nothing, and at
 -- a tick all hear their mixes. A NACK is answered by all that is owed and nothing else, and notes lead back. Lost
--- pictures go to the chosen sources, and reports count what was sent for the first time.
+-- pictures go to the chosen sources, and reports count what was sent for the first time. That buffers begin anew from
+-- here on sends nothing.
 abbrev pub IsKept : Asker → ℕ → Desk → List Step → ℕ → Input → Type 0
 IsKept who lanes start before lane (frame f) = IsShared who lanes start before lane f
 IsKept who lanes start before lane (audio sound) = sent_after who lanes start before lane (audio sound) ≡ []
@@ -116,6 +117,7 @@ IsKept who lanes start before lane (nack request) = IsAskedAgain who lanes start
 IsKept who lanes start before lane (block told) = IsNoted who lanes start before lane told
 IsKept who lanes start before lane (pli loss) = IsAskedFor who lanes start before lane loss
 IsKept who lanes start before lane (report moment) = IsReported who lanes start before lane moment
+IsKept who lanes start before lane renew = sent_after who lanes start before lane renew ≡ []
 
 -- What holds of all that is sent over these steps, on this many lanes and from this desk on. It is what the definition
 -- gives. Each stream's first sendings are its routed list or its mix list, numbered without a gap. Each item is answered

@@ -39,6 +39,15 @@ pub fn put_sound<A: Allocator + Copy>(
     Ok(Vec::new(alloc))
 }
 
+/// From here on, the lane's jitter buffers begin anew after late or full sound. Nothing is sent.
+pub fn renew_sound<A: Allocator + Copy>(alloc: A, mixer: &mut Mixer<A>) -> Vec<Egress<A>, A>
+    ensures given { IsGiven mixer.old mixer.new Given.renew }
+    ensures nothing { map sent_of result.items ≡ [] }
+{
+    mixer.renew();
+    Vec::new(alloc)
+}
+
 /// A packet of a mix as it goes to its member.
 fn mixed<A: Allocator + Copy>(stamp: Stamp, mix: MixPacket<A>) -> Egress<A>
     ensures { sent_of result ≡ mix_to stamp mix }

@@ -7,9 +7,9 @@ ghost use Rattle.desk_edit.specs.Asked.{asked_by};
 ghost use Rattle.desk_edit.specs.Calls.{CallHistory, no_calls};
 ghost use Rattle.media_items.specs.Inputs.{input_of, is_sized};
 ghost use Rattle.intake.specs.Sources.{no_sources};
-ghost use Rattle.intake.specs.Ingested.{ingested_of, datagram_of};
+ghost use Rattle.intake.specs.Ingested.{ingested_of, answered_of, datagram_of};
 ghost use Rattle.intake.specs.Names.{is_name};
-ghost use Rattle.intake.specs.Intakes.{Knows, TakesIn, TellsSenders};
+ghost use Rattle.intake.specs.Intakes.{Knows, TakesIn, WaitsFor, TellsSenders};
 ghost use Rattle.bridge_core.specs.Sent.{sent_of};
 ghost use Rattle.bridge_core.specs.Sound.{AreFresh};
 ghost use Rattle.bridge_core.specs.Steps.{CoreOf, HasTaken, Takes, Step, IsSpent};
@@ -23,7 +23,7 @@ use crate::reply::Reply;
 use desk_calls::Desk;
 use desk_edit::Call;
 use desk_rows::Rows;
-use intake::{Ingest, Intake, Settings};
+use intake::{Ingest, Intake, Settings, WaitAnswer};
 use media_items::Item;
 use rtp_codec::Address;
 use std::alloc::{AllocError, Allocator, Global};
@@ -34,8 +34,8 @@ use std::marker::Model;
 /// There are three kinds of calls, and they may come in any order.
 ///
 /// - [`desk`](Self::desk) changes the desk: version n is the desk after n accepted calls.
-/// - [`datagram`](Self::datagram) and [`reports`](Self::reports) ask the intake. They change neither desk nor lanes.
-///   Give each item of a datagram to every lane, in order.
+/// - [`datagram`](Self::datagram), [`wait`](Self::wait) and [`reports`](Self::reports) ask the intake. They change
+///   neither desk nor lanes. Give each item of a datagram or a wait to every lane, in order.
 /// - [`item`](Self::item) lets a lane handle an item, and returns what it sends.
 #[derive(Drop)]
 pub struct Core<A: Allocator + Copy = Global> {
@@ -187,6 +187,30 @@ impl<A: Allocator + Copy> Core<A> {
     {
         let rows = self.desk.rows();
         self.intake.datagram(alloc, rows, from, moment, octets)
+    }
+
+    /// Tells the gate of a video source that time has passed, as [`Intake::wait`] says. Call it every 20 ms for each
+    /// video source of the desk.
+    ///
+    /// Returns the datagrams to send back, and the frames to give to every lane, in order. `moment` is in nanoseconds
+    /// since 1970. On out of memory, the only error, nothing changes.
+    pub fn wait(
+        &mut self,
+        alloc: A,
+        from: &Address,
+        ssrc: u32,
+        moment: u64,
+    ) -> Result<WaitAnswer<A>, AllocError>
+        ensures waits { IfOk result (λ answer. WaitsFor self.old.intake self.new.intake (answered_of answer)
+            self.old.desk (record { address = from.now; ssrc = ssrc }) moment) }
+        ensures others { (self.new.version ≡ self.old.version) × (self.new.desk ≡ self.old.desk)
+            × (self.new.done ≡ self.old.done) × (self.new.undone ≡ self.old.undone)
+            × (self.new.lanes ≡ self.old.lanes) }
+        ensures asker { self.new.intake.asker ≡ self.old.intake.asker }
+        ensures err { OnErr result (self.new ≡ self.old) }
+    {
+        let rows = self.desk.rows();
+        self.intake.wait(alloc, rows, from, ssrc, moment)
     }
 
     /// The bridge's receiver reports (RFC 3550 section 6.4.2) at a moment, in nanoseconds since 1970.

@@ -11,6 +11,7 @@
 //! let reply = core.desk(alloc, 1, call); // the version that the call led to, or why it is refused
 //! let ingest = core.datagram(alloc, &from, moment, &octets)?; // its outcome, items, and datagrams to send
 //! let sent = core.item(alloc, 0, &item)?; // what lane 0 sends for one of the items
+//! let answer = core.wait(alloc, &from, 1001, moment)?; // every 20 ms: items, and datagrams to send
 //! let reports = core.reports(alloc, moment)?; // receiver reports, with the addresses that they go to
 //! ```
 //!
@@ -45,7 +46,7 @@ pub use self::laws::{
 };
 pub use self::reply::Reply;
 pub use frame_gate::{Frame, FrameFault, FramePacket};
-pub use intake::{Ingest, Intake, Outcome, Settings};
+pub use intake::{Ingest, Intake, Outcome, Settings, WaitAnswer};
 pub use media_items::{Item, MediaFrame};
 pub use reports::LossNote;
 pub use retransmit::PacketBytes;

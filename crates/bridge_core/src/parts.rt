@@ -8,7 +8,7 @@ ghost use Rattle.mixer.specs.Mixers.{WasGiven};
 ghost use Rattle.bridge_core.specs.Sent.{sent_of};
 ghost use Rattle.bridge_core.specs.inner.Parts.{PartsAnswer};
 
-use crate::audio::{put_sound, send_mixes};
+use crate::audio::{put_sound, renew_sound, send_mixes};
 use crate::control::{note_block, pass_up};
 use crate::egress::Egress;
 use crate::reporting::Reporting;
@@ -76,6 +76,7 @@ impl<A: Allocator + Copy> LaneParts<A> {
             Item::Block { from, block } => note_block(alloc, &self.video, visit, from, block),
             Item::Pli { from, out_ssrc } => pass_up(alloc, visit, from, *out_ssrc),
             Item::Report { moment } => self.report(alloc, visit, *moment),
+            Item::Renew => Ok(renew_sound(alloc, &mut self.audio)),
         }
     }
 

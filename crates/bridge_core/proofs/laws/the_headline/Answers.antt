@@ -40,6 +40,7 @@ returns-clause-holds c start events sent first last h taken called plays =
             | Input.block told ↦ record { given = note_share who lanes lane start before told; each = (c.notes_lead_back.ensures who lanes lane start before told h all).0 }
             | Input.pli loss ↦ record { given = loss_share who lanes lane start before loss; each = (c.picture_losses_go_to_the_chosen.ensures who lanes lane start before loss).0 }
             | Input.report moment ↦ record { given = refl; each = (c.reports_count_first_sendings.ensures who lanes lane start before moment h all).0 }
+            | Input.renew ↦ refl
           ];
     }
 

@@ -5,7 +5,7 @@ use Rattle.media_items.specs.Inputs.{Input, input_of}
 use Rattle.bridge_core.specs.declared.parts.LaneParts.{LaneParts}
 use Rattle.bridge_core.specs.Sent.{sent_of}
 use Rattle.bridge_core.specs.inner.Parts.{PartsAnswer}
-use Rattle.bridge_core.proofs.PartsLaws.{ok_by_video, ok_by_sound, ok_by_tick, by_note, by_loss}
+use Rattle.bridge_core.proofs.PartsLaws.{ok_by_video, ok_by_sound, ok_by_tick, by_note, by_loss, by_renewing}
 use Rattle.bridge_core.proofs.parts.LaneParts.answer.Goals as goal
 
 pub returns-in-Frame-clause-sends : goal.returns-in-Frame-clause-sends
@@ -61,3 +61,11 @@ returns-in-Report-clause-sends g c =
     let at = c.args.visit.now in
     let old = c.args.self.now in
     subst (λ (input : Input). IfOk c.report.result (λ sent. PartsAnswer at old old input (map sent_of sent.items))) (sym (ap input_of c.in-Report.is)) c.report.ensures
+
+pub returns-in-Renew-clause-sends : goal.returns-in-Renew-clause-sends
+returns-in-Renew-clause-sends g c =
+    let at = c.args.visit.now in
+    let old = c.args.self.now in
+    let new : LaneParts _ = record { video = old.video; audio = c.renew_sound.new.mixer } in
+    subst (λ (input : Input). PartsAnswer at old new input (map sent_of c.renew_sound.result.items)) (sym (ap input_of c.in-Renew.is))
+    (subst (PartsAnswer at old new Input.renew) (sym c.renew_sound.ensures.nothing) (by_renewing at old new c.renew_sound.ensures.given refl))
