@@ -27,14 +27,15 @@ use Rattle.rtp_codec.specs.declared.address.Address.{Address}
 use Rattle.intake.specs.Ingested.{Ingested}
 use Rattle.intake.specs.Sources.{Sources, no_sources}
 use Rattle.intake.specs.Taking.{taken_in}
-use Rattle.intake.specs.Intakes.{Knows, TakesIn, TellsSenders}
+use Rattle.intake.specs.Waiting.{waited_for}
+use Rattle.intake.specs.Intakes.{Knows, TakesIn, WaitsFor, TellsSenders}
 use Rattle.intake.specs.Reported.{reported}
-use Rattle.script_text.specs.Wire.{Wire, script_asker, voice_of}
-use Rattle.script_text.specs.Requests.{Desk as DeskRequest, Rx, Report, Show}
+use Rattle.script_text.specs.Wire.{Wire, voice_of}
+use Rattle.script_text.specs.Requests.{Desk as DeskRequest, Rx, Wait, Report, Show}
 use Rattle.script_text.specs.Datagrams.{outcome_text, up_text}
 use Rattle.script_text.specs.Text.{reply_text, sent_text}
 use Rattle.script_text.specs.RowLines.{show_text}
-use Rattle.script_text.specs.Bridge.{answer_call, Bridge, first_desk, answer_text, bridge_after, text_of, opening_bridge, item_sent, after_item, items_sent, items_text, after_items, knowing, taken_at, reported_at}
+use Rattle.script_text.specs.Bridge.{answer_call, Bridge, first_desk, answer_text, bridge_after, text_of, begun_bridge, item_sent, after_item, items_sent, items_text, after_items, knowing, taken_at, waited_at, origin_at, reported_at}
 use Rattle.script_text.specs.inner.Steps.{wants_memory, Stands, AnswersRequest, HandsItem, HandsItems}
 
 not_memory : (at : ℕ) (why : Refusal) → wants_memory (Refused at why) ≡ false → why ≡ OutOfMemory → ⊥
@@ -53,7 +54,7 @@ told_why bridge (Redo last) at why by told = by
 accepted : (old new : CoreOf) (bridge : Bridge) (call : CallOf) → Stands old bridge → HasCalled new (history_after bridge.calls call) → length new.lanes ≡ length old.lanes → new.intake ≡ old.intake → Takes old new (Step.publish new.desk) []
     → Stands new (answer_call bridge (history_after bridge.calls call) None).1
 accepted old new bridge call s called lanes intake takes = record {
-  taken = subst (λ (d : Desk). HasTaken new first_desk (bridge.steps ++ Step.publish d ∷ [])) called.desk (takes first_desk bridge.steps s.taken).1;
+  taken = subst (λ (d : Desk). HasTaken new (first_desk bridge.who) (bridge.steps ++ Step.publish d ∷ [])) called.desk (takes (first_desk bridge.who) bridge.steps s.taken).1;
   called = called;
   lanes = lanes ∙ s.lanes;
   knows = rw intake s.knows;
@@ -82,9 +83,10 @@ first_same x y e = cc
 pub item_answered : (old new : CoreOf) (bridge : Bridge) (item : Input) (out : List Sent) → Stands old bridge → Takes old new (Step.item 0 item) (out ∷ []) → new.version ≡ old.version → new.desk ≡ old.desk → new.done ≡ old.done → new.undone ≡ old.undone → length new.lanes ≡ length old.lanes → new.intake ≡ old.intake
     → Stands new (after_item bridge item) × (out ≡ item_sent bridge item)
 item_answered old new bridge item out s takes version desk done undone lanes intake =
-    let t = takes first_desk bridge.steps s.taken in
-    let sends : List Sent = sends_at script_asker 0 1 (visits 0 first_desk bridge.steps) (visit_after first_desk bridge.steps 0 item) in
-    let same : out ≡ sends = first_same out sends (subst (λ (n : ℕ). out ∷ [] ≡ sent_at script_asker n first_desk bridge.steps (Step.item 0 item)) s.lanes (subst (λ (who : Asker). out ∷ [] ≡ sent_at who (length old.lanes) first_desk bridge.steps (Step.item 0 item)) s.speaks t.0)) in (
+    let start = first_desk bridge.who in
+    let t = takes start bridge.steps s.taken in
+    let sends : List Sent = sends_at bridge.who 0 1 (visits 0 start bridge.steps) (visit_after start bridge.steps 0 item) in
+    let same : out ≡ sends = first_same out sends (subst (λ (n : ℕ). out ∷ [] ≡ sent_at bridge.who n start bridge.steps (Step.item 0 item)) s.lanes (subst (λ (who : Asker). out ∷ [] ≡ sent_at who (length old.lanes) start bridge.steps (Step.item 0 item)) s.speaks t.0)) in (
       record {
         taken = t.1;
         called = record { version = version ∙ s.called.version; desk = desk ∙ s.called.desk; follows = rw done s.called.follows; ahead = rw undone s.called.ahead };
@@ -153,13 +155,28 @@ pub datagram_answered : (old mid new : CoreOf) (moment : ℕ) (from : Address) (
     → before ≡ outcome_text ingested.outcome ++ flat_map up_text ingested.up → HandsItems mid ingested.items new before now → AnswersRequest old (Rx moment from octets) new now
 datagram_answered old mid new moment from octets ingested before now takes others asker text hands bridge heard s =
     let desk : old.desk ≡ desk_now bridge.calls = s.called.desk in
-    let took = takes (bridge.wire.reading octets) heard.reads (voice_of bridge.wire) bridge.sources heard.names (sym s.speaks) s.knows in
+    let took = takes (bridge.wire.reading octets) heard.reads (voice_of bridge.who bridge.wire) bridge.sources (heard.names bridge.who) (sym s.speaks) s.knows in
     let here = taken_at bridge moment from octets in
-    let same : ingested ≡ here.0 = took.0 ∙ ap (λ (d : Desk). (taken_in (voice_of bridge.wire) bridge.sources (record { desk = d; from = from; moment = moment; reading = bridge.wire.reading octets })).0) desk in
-    let knows : Knows mid.intake here.1 = subst (λ (d : Desk). Knows mid.intake (taken_in (voice_of bridge.wire) bridge.sources (record { desk = d; from = from; moment = moment; reading = bridge.wire.reading octets })).1) desk took.1 in
+    let same : ingested ≡ here.0 = took.0 ∙ ap (λ (d : Desk). (taken_in (voice_of bridge.who bridge.wire) bridge.sources (record { desk = d; from = from; moment = moment; reading = bridge.wire.reading octets })).0) desk in
+    let knows : Knows mid.intake here.1 = subst (λ (d : Desk). Knows mid.intake (taken_in (voice_of bridge.who bridge.wire) bridge.sources (record { desk = d; from = from; moment = moment; reading = bridge.wire.reading octets })).1) desk took.1 in
     let h = hands (knowing here.1 bridge) (now_knows old mid bridge here.1 others asker knows s) in
     subst (λ (i : Ingested). Stands new (after_items (knowing here.1 bridge) i.items) × (now ≡ outcome_text i.outcome ++ flat_map up_text i.up ++ items_text (items_sent (knowing here.1 bridge) i.items))) same
     (h.0, h.1 ∙ ap (λ (t : List ℕ). t ++ items_text (items_sent (knowing here.1 bridge) ingested.items)) text)
+
+-- ---- waits
+
+pub wait_answered : (old mid new : CoreOf) (moment : ℕ) (from : Address) (ssrc : ℕ) (freed : Ingested) (before now : List ℕ)
+    → WaitsFor old.intake mid.intake freed old.desk (origin_at from ssrc) moment → IsElse old mid → mid.intake.asker ≡ old.intake.asker
+    → before ≡ flat_map up_text freed.up → HandsItems mid freed.items new before now → AnswersRequest old (Wait moment from ssrc) new now
+wait_answered old mid new moment from ssrc freed before now goes_by others asker text hands bridge heard s =
+    let desk : old.desk ≡ desk_now bridge.calls = s.called.desk in
+    let went = goes_by (voice_of bridge.who bridge.wire) bridge.sources (heard bridge.who) (sym s.speaks) s.knows in
+    let here = waited_at bridge moment (origin_at from ssrc) in
+    let same : freed ≡ here.0 = went.0 ∙ ap (λ (d : Desk). (waited_for (voice_of bridge.who bridge.wire) d (origin_at from ssrc) moment bridge.sources).0) desk in
+    let knows : Knows mid.intake here.1 = subst (λ (d : Desk). Knows mid.intake (waited_for (voice_of bridge.who bridge.wire) d (origin_at from ssrc) moment bridge.sources).1) desk went.1 in
+    let h = hands (knowing here.1 bridge) (now_knows old mid bridge here.1 others asker knows s) in
+    subst (λ (i : Ingested). Stands new (after_items (knowing here.1 bridge) i.items) × (now ≡ flat_map up_text i.up ++ items_text (items_sent (knowing here.1 bridge) i.items))) same
+    (h.0, h.1 ∙ ap (λ (t : List ℕ). t ++ items_text (items_sent (knowing here.1 bridge) freed.items)) text)
 
 -- ---- reports
 
@@ -170,7 +187,7 @@ report_answered old mid new moment up before now tells others asker text hands b
     let here = reported_at bridge moment in
     let desk : old.desk ≡ desk_now bridge.calls = s.called.desk in
     let told = tells bridge.sources s.knows in
-    let is : reported old.intake.asker old.desk moment bridge.sources ≡ here = ap (λ (who : Asker). reported who old.desk moment bridge.sources) s.speaks ∙ ap (λ (d : Desk). reported script_asker d moment bridge.sources) desk in
+    let is : reported old.intake.asker old.desk moment bridge.sources ≡ here = ap (λ (who : Asker). reported who old.desk moment bridge.sources) s.speaks ∙ ap (λ (d : Desk). reported bridge.who d moment bridge.sources) desk in
     let same : up ≡ here.0 = told.0 ∙ ap (λ (r : List (Address × List ℕ) × Sources). r.0) is in
     let knows : Knows mid.intake here.1 = subst (λ (r : List (Address × List ℕ) × Sources). Knows mid.intake r.1) is told.1 in
     let h = hands (knowing here.1 bridge) (now_knows old mid bridge here.1 others asker knows s) in
@@ -183,8 +200,8 @@ rows_shown core bridge s = ap (λ (d : Desk). show_text d core.version) s.called
 
 -- ---- the first line
 
-pub opens : (core : CoreOf) (wire : Wire) → HasTaken core first_desk [] → HasCalled core (no_calls first_desk) → length core.lanes ≡ 1 → Knows core.intake no_sources → core.intake.asker ≡ script_asker → Stands core (opening_bridge wire)
-opens core wire taken called lanes knows speaks = record { taken = taken; called = called; lanes = lanes; knows = knows; speaks = speaks }
+pub opens : (core : CoreOf) (wire : Wire) (who : Asker) → HasTaken core (first_desk who) [] → HasCalled core (no_calls (first_desk who)) → length core.lanes ≡ 1 → Knows core.intake no_sources → core.intake.asker ≡ who → Stands core (begun_bridge wire who)
+opens core wire who taken called lanes knows speaks = record { taken = taken; called = called; lanes = lanes; knows = knows; speaks = speaks }
 
 -- what follows from what holds of a success
 pub on_ok : {X E : Type 0} (r : Result X E) (P Q : Type 0) → OnOk r P → (P → Q) → OnOk r Q

@@ -181,6 +181,7 @@ desk_by kinds.Desk vs words op c e =
     (refl, cc, r.1 ∙ ap Ok same)
 desk_by kinds.Frame vs words op c e = frame_is_none words vs op c e
 desk_by kinds.Rx vs words op c e = rx_is_none (number_at 0 vs) (address_at 1 vs) words op c e
+desk_by kinds.Wait vs words op c e = let none = bind_ok (none_left 5 words) _ (Desk op c) e in absurd cc
 desk_by kinds.Tick vs words op c e = let none = bind_ok (none_left 3 words) _ (Desk op c) e in absurd cc
 desk_by kinds.Report vs words op c e = let none = bind_ok (none_left 3 words) _ (Desk op c) e in absurd cc
 desk_by kinds.Show vs words op c e = let none = bind_ok (none_left 2 words) _ (Desk op c) e in absurd cc

@@ -122,6 +122,7 @@ frame_by kinds.Rx vs words f e =
     let o = bind_ok (some_octets 4 w.0.0) _ (Item (frame f)) w.2 in
     let n = bind_ok (none_left 5 w.0.1) _ (Item (frame f)) o.2 in
     absurd cc
+frame_by kinds.Wait vs words f e = let none = bind_ok (none_left 5 words) _ (Item (frame f)) e in absurd cc
 frame_by kinds.Tick vs words f e = let none = bind_ok (none_left 3 words) _ (Item (frame f)) e in absurd cc
 frame_by kinds.Report vs words f e = let none = bind_ok (none_left 3 words) _ (Item (frame f)) e in absurd cc
 frame_by kinds.Show vs words f e = let none = bind_ok (none_left 2 words) _ (Item (frame f)) e in absurd cc

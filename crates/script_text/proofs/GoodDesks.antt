@@ -19,11 +19,12 @@ use Rattle.desk_edit.specs.Calls.{CallHistory, desk_now, call_limit, front, fina
 use Rattle.bridge_core.specs.Steps.{Step}
 use Rattle.bridge_core.specs.Headline.{IsGood, AreGood}
 use Rattle.media_items.specs.Inputs.{Input}
-use Rattle.media_items.specs.Inputs.Input.{report}
-use Rattle.script_text.specs.Requests.{Request, Nothing, Desk, Item, Rx, Report, Show}
-use Rattle.script_text.specs.Wire.{Wire}
+use Rattle.media_items.specs.Inputs.Input.{report, renew}
+use Rattle.upward.specs.Upstream.{Asker}
+use Rattle.script_text.specs.Requests.{Request, Nothing, Begin, Desk, Item, Rx, Wait, Report, Show}
+use Rattle.script_text.specs.Wire.{Wire, script_asker}
 use Rattle.script_text.specs.Lines.{lines_of}
-use Rattle.script_text.specs.Bridge.{Bridge, first_desk, opening_bridge, answer_call, after_item, after_items, knowing, taken_at, reported_at, bridge_after}
+use Rattle.script_text.specs.Bridge.{Bridge, first_desk, begun_bridge, opening_bridge, answer_begin, answer_call, after_item, after_items, knowing, taken_at, waited_at, origin_at, reported_at, bridge_after}
 use Rattle.script_text.specs.Scripts.{requests_of, after_all, steps_of}
 
 -- a command that is not refused leaves a good desk
@@ -125,6 +126,10 @@ step_good : (steps : List Step) (step : Step) → AreGood steps → IsGood step 
 step_good [] step h g = (g, h)
 step_good (s ∷ steps) step (gs, h) g = (gs, step_good steps step h g)
 
+pub first_good : (who : Asker) → good (first_desk who) ≡ true
+unfolding good
+first_good who = refl
+
 -- its desks so far are good, and so are those to which what was undone leads on
 record Fine (b : Bridge) : Type 0 where
   calls : GoodAlong b.calls.start (whole b.calls)
@@ -137,8 +142,16 @@ items_good : (b : Bridge) (items : List Input) → Fine b → Fine (after_items 
 items_good b [] fine = fine
 items_good b (item ∷ items) fine = items_good (after_item b item) items (item_good b item fine)
 
+begun_fine : (wire : Wire) (who : Asker) → Fine (begun_bridge wire who)
+begun_fine wire who = record { calls = first_good who; steps = tt }
+
+begun_good : (wire : Wire) (who : Asker) (renews : Bool) → Fine (answer_begin (begun_bridge wire who) renews).1
+begun_good wire who true = item_good (begun_bridge wire who) renew (begun_fine wire who)
+begun_good wire who false = begun_fine wire who
+
 after_good : Keeps → (b : Bridge) (request : Request) → Fine b → Fine (bridge_after b request)
 after_good keeps b Nothing fine = fine
+after_good keeps b (Begin who renews) fine = begun_good b.wire who renews
 after_good keeps b Show fine = fine
 after_good keeps b (Desk op call) fine = by (refusal_of b.calls call) refl
   where
@@ -152,15 +165,14 @@ after_good keeps b (Item item) fine = item_good b item fine
 after_good keeps b (Rx moment from octets) fine =
     let took = taken_at b moment from octets in
     items_good (knowing took.1 b) took.0.items (record { calls = fine.calls; steps = fine.steps })
+after_good keeps b (Wait moment from ssrc) fine =
+    let went = waited_at b moment (origin_at from ssrc) in
+    items_good (knowing went.1 b) went.0.items (record { calls = fine.calls; steps = fine.steps })
 after_good keeps b (Report moment) fine = item_good (knowing (reported_at b moment).1 b) (report moment) (record { calls = fine.calls; steps = fine.steps })
 
 all_good : Keeps → (b : Bridge) (requests : List Request) → Fine b → Fine (after_all b requests)
 all_good keeps b [] fine = fine
 all_good keeps b (request ∷ requests) fine = all_good keeps (bridge_after b request) requests (after_good keeps b request fine)
 
-pub first_good : good first_desk ≡ true
-unfolding good
-first_good = refl
-
 pub steps_good : Keeps → (wire : Wire) (input : List ℕ) → AreGood (steps_of wire input)
-steps_good keeps wire input = (all_good keeps (opening_bridge wire) (requests_of (lines_of input)) (record { calls = first_good; steps = tt })).steps
+steps_good keeps wire input = (all_good keeps (opening_bridge wire) (requests_of (lines_of input)) (begun_fine wire script_asker)).steps

@@ -10,12 +10,12 @@ use Rattle.upward.specs.Upstream.{Asker}
 use Rattle.intake.specs.Readings.{Reading, too_long, IsReading}
 use Rattle.intake.specs.Taking.{Voice, IsVoice}
 use Rattle.script_text.specs.declared.fault.Fault.{Fault}
-use Rattle.script_text.specs.declared.fault.Fault.TheVariants.{LineTooLong, BadByte}
 use Rattle.script_text.specs.Lines.{line_limit}
 use Rattle.script_text.specs.Words.{words_of}
-use Rattle.script_text.specs.Requests.{Request, Nothing, Desk, Item, Rx, Report, Show, is_printable, words_request, request_of}
+use Rattle.script_text.specs.Requests.{Request, Nothing, Begin, Desk, Item, Rx, Wait, Report, Show, is_printable, words_request, line_request, request_of}
 use Rattle.script_text.specs.Wire.{Wire, script_asker, IsHeard, Hears, HearsAll, OnWires}
 use Rattle.script_text.specs.Lines.{lines_of}
+use Rattle.script_text.proofs.FirstLineLemmas.{read_by}
 use Rattle.script_text.proofs.RxLaws.{rx_back}
 
 -- ---- all datagrams
@@ -55,14 +55,10 @@ pub datagrams_heard : HaveVoices → HaveReadings → (wire : Wire) × HearsEach
 datagrams_heard voices readings =
     let voice = voices script_asker in (
       record { reading = λ numbers. read readings numbers (octets_or_not numbers); words = voice.0.words },
-      λ octets small. record { reads = reads readings octets (octets_or_not octets) small; names = voice.1 },
+      λ octets small. record { reads = reads readings octets (octets_or_not octets) small; names = λ who. voice.1 },
     )
 
 -- ---- all lines
-
--- what is read of a line that is too long, has a bad octet, or asks for nothing
-abbrev read_by : (long bad empty : Bool) → Result Request (ℕ × Fault) → Result Request (ℕ × Fault)
-read_by long bad empty read = if long then Err (0, LineTooLong) else if bad then Err (0, BadByte) else if empty then Ok Nothing else read
 
 words_read : (long bad empty : Bool) (read : Result Request (ℕ × Fault)) (moment : ℕ) (from : Address) (octets : List ℕ) → read_by long bad empty read ≡ Ok (Rx moment from octets) → read ≡ Ok (Rx moment from octets)
 words_read true bad empty read moment from octets e = absurd cc
@@ -76,15 +72,17 @@ by_recursion (x ∷ xs) h = (h 0, by_recursion xs (λ i. h (suc i)))
 
 -- a datagram of a line is of octets
 line_octets : (line : List ℕ) (moment : ℕ) (from : Address) (octets : List ℕ) → request_of line ≡ Ok (Rx moment from octets) → AreOctets octets
-unfolding request_of
+unfolding line_request
 line_octets line moment from octets e =
     by_recursion octets (rx_back line moment from octets (words_read (nat_lt line_limit (length line)) (not (list_all is_printable line)) (length line == 0 || slice_index line 0 == 35) (words_request (words_of line)) moment from octets e)).3.bytes
 
 line_heard : (wire : Wire) → HearsEach wire → (line : List ℕ) (asked : Result Request (ℕ × Fault)) → request_of line ≡ asked → Hears wire asked
 line_heard wire each line (Ok Nothing) e = tt
+line_heard wire each line (Ok (Begin who renews)) e = tt
 line_heard wire each line (Ok (Desk op call)) e = tt
 line_heard wire each line (Ok (Item item)) e = tt
 line_heard wire each line (Ok (Rx moment from octets)) e = each octets (line_octets line moment from octets e)
+line_heard wire each line (Ok (Wait moment from ssrc)) e = (each [] tt).names
 line_heard wire each line (Ok (Report moment)) e = tt
 line_heard wire each line (Ok Show) e = tt
 line_heard wire each line (Err fault) e = tt

@@ -63,7 +63,7 @@ parts_joined c w (y ∷ ys) h k = split_first c w (join_with_byte c (y ∷ ys)) 
 
 -- ---- the same, in the words of the law
 
-all_free : (c : ℕ) (xs : List ℕ) → Lacks c xs → Free c xs
+pub all_free : (c : ℕ) (xs : List ℕ) → Lacks c xs → Free c xs
 all_free c [] h = tt
 all_free c (x ∷ xs) h = (ne_eqb x c (h 0 x (omega arith)), all_free c xs (λ k d lt. h (suc k) d (omega arith)))
 

@@ -6,6 +6,7 @@ pub mod RateLemmas
 pub mod NumberLemmas
 pub mod PacketLemmas
 pub mod Known
+pub mod FirstLineLemmas
 pub mod StepLemmas
 pub mod RunLemmas
 pub mod AddressLemmas
@@ -18,6 +19,7 @@ pub mod ExtLemmas
 pub mod PacketLaws
 pub mod FrameLaws
 pub mod RxLaws
+pub mod WaitLaws
 pub mod TickLaws
 pub mod ReportLaws
 pub mod GoodDesks
@@ -25,5 +27,6 @@ pub mod BridgeLemmas
 pub mod ScriptLaws
 pub mod JudgedLaws
 pub mod HeardLaws
+pub mod FirstLineLaws
 pub mod GrowLemmas
 pub mod RowLemmas

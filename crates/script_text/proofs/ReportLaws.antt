@@ -7,11 +7,10 @@ use Rattle.frame_gate.specs.Frame.{fault_of}
 use Rattle.media_items.specs.Frame.{SourceFrame}
 use Rattle.script_text.specs.declared.fault.Fault.TheVariants.{UnknownWord}
 use Rattle.script_text.specs.declared.value.Value.{Value}
-use Rattle.script_text.specs.declared.value.Value.TheVariants as values
 use Rattle.script_text.specs.declared.name.LineKind.{LineKind}
 use Rattle.script_text.specs.declared.name.LineKind.TheVariants as kinds
 use Rattle.script_text.specs.Words.{words_of, word_at, none_left, value_or}
-use Rattle.script_text.specs.Values.{field_of, value_text, AllFit, values_of, number_at}
+use Rattle.script_text.specs.Values.{value_text, AllFit, values_of, number_at}
 use Rattle.script_text.specs.Calls.{call_of}
 use Rattle.script_text.specs.Requests.{Report, kind_text, line_kind_of, line_kinds, front_of, some_packets, sighted, framed, frame_of, some_octets, rx_of, request_with, words_request, report_words, report_line}
 use Rattle.script_text.proofs.Joined.{free_test, parts_joined}
@@ -33,6 +32,7 @@ report_again moment small =
 report_by : (kind : LineKind) (vs : List Value) (words : List (List ℕ)) (moment : ℕ) → request_with kind vs words ≡ Ok (Report moment) → (kind ≡ kinds.Report) × (words ≡ []) × (number_at 0 vs ≡ moment)
 unfolding frame_of rx_of
 report_by kinds.Desk vs words moment e = let c = bind_ok (call_of 2 words) _ (Report moment) e in absurd cc
+report_by kinds.Wait vs words moment e = let none = bind_ok (none_left 5 words) _ (Report moment) e in absurd cc
 report_by kinds.Tick vs words moment e = let none = bind_ok (none_left 3 words) _ (Report moment) e in absurd cc
 report_by kinds.Show vs words moment e = let none = bind_ok (none_left 2 words) _ (Report moment) e in absurd cc
 report_by kinds.Rx vs words moment e =

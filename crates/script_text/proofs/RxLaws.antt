@@ -58,7 +58,7 @@ some_back : (word octets : List ℕ) → some_octets 4 word ≡ Ok octets → (d
 some_back [] octets e = absurd cc
 some_back (x ∷ xs) octets e = let read = octets_back 4 (decode_of (x ∷ xs)) octets (sym (some_is x xs) ∙ e) in (read, λ none. not_none x xs (subst (λ (o : List ℕ). SpellsHex (x ∷ xs) o) none (hex_spelled (x ∷ xs) octets read).0))
 
-none_back : (words : List (List ℕ)) (u : Unit {0}) → none_left 5 words ≡ Ok u → words ≡ []
+pub none_back : (words : List (List ℕ)) (u : Unit {0}) → none_left 5 words ≡ Ok u → words ≡ []
 none_back [] u e = refl
 none_back (w ∷ ws) u e = absurd cc
 
@@ -66,6 +66,7 @@ rx_by : (kind : LineKind) (vs : List Value) (words : List (List ℕ)) (moment : 
     → (kind ≡ kinds.Rx) × (word : List ℕ) × (words ≡ word ∷ []) × (some_octets 4 word ≡ Ok octets) × (number_at 0 vs ≡ moment) × (address_at 1 vs ≡ from)
 unfolding frame_of rx_of
 rx_by kinds.Desk vs words moment from octets e = let c = bind_ok (call_of 2 words) _ (Rx moment from octets) e in absurd cc
+rx_by kinds.Wait vs words moment from octets e = let none = bind_ok (none_left 5 words) _ (Rx moment from octets) e in absurd cc
 rx_by kinds.Tick vs words moment from octets e = let none = bind_ok (none_left 3 words) _ (Rx moment from octets) e in absurd cc
 rx_by kinds.Report vs words moment from octets e = let none = bind_ok (none_left 3 words) _ (Rx moment from octets) e in absurd cc
 rx_by kinds.Show vs words moment from octets e = let none = bind_ok (none_left 2 words) _ (Rx moment from octets) e in absurd cc

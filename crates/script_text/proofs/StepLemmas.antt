@@ -14,9 +14,11 @@ use Rattle.desk_edit.specs.declared.refusal.Refusal.{Refusal}
 use Rattle.desk_edit.specs.Calls.{CallHistory, refusal_of, after_call as history_after}
 use Rattle.media_items.specs.Inputs.{Input}
 use Rattle.script_text.specs.Wire.{Wire, Hears, HearsAll}
-use Rattle.script_text.specs.Bridge.{Bridge, answer_call, after_item, after_items, knowing, taken_at, answer_text, bridge_after}
+use Rattle.script_text.specs.Bridge.{Bridge, begun_bridge, answer_begin, answer_call, after_item, after_items, knowing, taken_at, waited_at, origin_at, answer_text, bridge_after}
 use Rattle.bridge_core.specs.Steps.{CoreOf}
-use Rattle.script_text.specs.Requests.{Request, Nothing, Desk, Item, Rx, Report, Show, request_of}
+use Rattle.script_text.proofs.FirstLineLemmas.{hears_at}
+use Rattle.script_text.specs.Requests.{Request, Nothing, Begin, Desk, Item, Rx, Wait, Report, Show, line_request, request_of}
+use Rattle.script_text.specs.FirstLine.{request_at}
 use Rattle.script_text.specs.Lines.{parts_of, lines_by, whole, ended}
 use Rattle.script_text.specs.Output.{RunOutput, nothing, told, stopped, continues, outcome_of}
 use Rattle.script_text.specs.inner.Steps.{Held, place_of, Place, to_come, Goes, StepFails, HearsComing, StepEnds, LineEnds, FinishEnds}
@@ -57,7 +59,7 @@ pub none_ended : (place : Place) → NoLf place.pending → to_come ended place 
 unfolding outcome_of
 none_ended place nolf = rw (lines_none ended place.pending nolf) refl
 
-pub lf_comes : (place : Place) (last : List ℕ → List (List ℕ)) (tail : List ℕ) → NoLf place.pending → to_come last place (10 ∷ tail) ≡ continues place.line place.bridge (request_of (strip_carriage_return place.pending)) (λ d. outcome_of d (place.line + 1) (lines_by last (parts_of tail)))
+pub lf_comes : (place : Place) (last : List ℕ → List (List ℕ)) (tail : List ℕ) → NoLf place.pending → to_come last place (10 ∷ tail) ≡ continues place.line place.bridge (request_at place.line (strip_carriage_return place.pending)) (λ d. outcome_of d (place.line + 1) (lines_by last (parts_of tail)))
 unfolding outcome_of
 lf_comes place last tail nolf = rw (lines_lf last place.pending tail nolf) refl
 
@@ -76,24 +78,32 @@ call_wire : (bridge : Bridge) (next : CallHistory) (why : Option Refusal) → (a
 call_wire bridge next None = refl
 call_wire bridge next (Some why) = refl
 
+begin_wire : (bridge : Bridge) (renews : Bool) → (answer_begin bridge renews).1.wire ≡ bridge.wire
+begin_wire bridge true = refl
+begin_wire bridge false = refl
+
 same_wire : (bridge : Bridge) (request : Request) → (bridge_after bridge request).wire ≡ bridge.wire
 same_wire bridge Nothing = refl
+same_wire bridge (Begin who renews) = begin_wire (begun_bridge bridge.wire who) renews
 same_wire bridge Show = refl
 same_wire bridge (Desk op call) = call_wire bridge (history_after bridge.calls call) (refusal_of bridge.calls call)
 same_wire bridge (Item item) = refl
 same_wire bridge (Report moment) = refl
+same_wire bridge (Wait moment from ssrc) =
+    let here = waited_at bridge moment (origin_at from ssrc) in
+    items_wire (knowing here.1 bridge) here.0.items
 same_wire bridge (Rx moment from octets) = items_wire (knowing (taken_at bridge moment from octets).1 bridge) (taken_at bridge moment from octets).0.items
 
 -- the line that an LF ends, and those behind it
-pub first_heard : (wire : Wire) (pending tail line : List ℕ) → NoLf pending → line ≡ strip_carriage_return pending → HearsAll wire (lines_by whole (parts_of (pending ++ 10 ∷ tail))) → Hears wire (request_of line)
-first_heard wire pending tail line nolf is h = rw is (subst (HearsAll wire) (lines_lf whole pending tail nolf) h).0
+pub first_heard : (wire : Wire) (number : ℕ) (pending tail line : List ℕ) → NoLf pending → line ≡ strip_carriage_return pending → HearsAll wire (lines_by whole (parts_of (pending ++ 10 ∷ tail))) → Hears wire (request_at number line)
+first_heard wire number pending tail line nolf is h = hears_at wire number line (rw is (subst (HearsAll wire) (lines_lf whole pending tail nolf) h).0)
 
 others_heard : (wire : Wire) (pending tail : List ℕ) → NoLf pending → HearsAll wire (lines_by whole (parts_of (pending ++ 10 ∷ tail))) → HearsAll wire (lines_by whole (parts_of tail))
 others_heard wire pending tail nolf h = (subst (HearsAll wire) (lines_lf whole pending tail nolf) h).1
 
 -- the line that the end of the input ends
-pub last_heard : (wire : Wire) (pending line : List ℕ) → NoLf pending → line ≡ pending → HearsAll wire (lines_by whole (parts_of (pending ++ []))) → Hears wire (request_of line)
-last_heard wire pending line nolf is h = rw is (subst (HearsAll wire) (lines_none whole pending nolf) h).0
+pub last_heard : (wire : Wire) (number : ℕ) (pending line : List ℕ) → NoLf pending → line ≡ pending → HearsAll wire (lines_by whole (parts_of (pending ++ []))) → Hears wire (request_at number line)
+last_heard wire number pending line nolf is h = hears_at wire number line (rw is (subst (HearsAll wire) (lines_none whole pending nolf) h).0)
 
 -- with one more octet
 pub kept_heard : (wire : Wire) (pending tail : List ℕ) (x : ℕ) → HearsAll wire (lines_by whole (parts_of (pending ++ x ∷ tail))) → HearsAll wire (lines_by whole (parts_of ((pending ++ x ∷ []) ++ tail)))
@@ -125,7 +135,7 @@ pushed (Err x) a b c e h = absurd cc
 
 -- ---- the end of the input
 
-last_comes : (place : Place) → NoLf place.pending → to_come whole place [] ≡ continues place.line place.bridge (request_of place.pending) (λ d. nothing)
+last_comes : (place : Place) → NoLf place.pending → to_come whole place [] ≡ continues place.line place.bridge (request_at place.line place.pending) (λ d. nothing)
 unfolding outcome_of
 last_comes place nolf = rw (lines_none whole place.pending nolf) refl
 
@@ -166,15 +176,15 @@ long_first (x ∷ xs) pending nolf long =
           (h.0, h.1, ap (λ (t : List ℕ). lines_by whole (parts_of t)) (sym (append_assoc pending (x ∷ []) xs)) ∙ h.2, h.3)
     ]
 
-long_request : (line : List ℕ) → 65536 < length line → request_of line ≡ Err (0, LineTooLong)
-unfolding request_of
-long_request line long = rw (lt-ltb 65536 (length line) long) refl
+long_request : (number : ℕ) (line : List ℕ) → 65536 < length line → request_at number line ≡ Err (0, LineTooLong)
+unfolding line_request
+long_request number line long = rw (lt-ltb 65536 (length line) long) refl
 
 pub too_long : (place : Place) (text : List ℕ) → NoLf place.pending → 65537 < length place.pending → to_come whole place text ≡ stopped place.line 0 LineTooLong
 unfolding outcome_of
 too_long place text nolf long =
     let h = long_first text place.pending nolf long in
-    rw (h.2, long_request h.0 h.3) refl
+    rw (h.2, long_request place.line h.0 h.3) refl
 
 -- ---- one stretch of octets, and then another
 

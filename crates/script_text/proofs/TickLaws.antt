@@ -42,6 +42,7 @@ none_back (w ∷ ws) e = absurd cc
 tick_by : (kind : LineKind) (vs : List Value) (words : List (List ℕ)) (moment : ℕ) → request_with kind vs words ≡ Ok (Item (tick moment)) → (kind ≡ kinds.Tick) × (words ≡ []) × (number_at 0 vs ≡ moment)
 unfolding frame_of rx_of
 tick_by kinds.Desk vs words moment e = let c = bind_ok (call_of 2 words) _ (Item (tick moment)) e in absurd cc
+tick_by kinds.Wait vs words moment e = let none = bind_ok (none_left 5 words) _ (Item (tick moment)) e in absurd cc
 tick_by kinds.Report vs words moment e = let none = bind_ok (none_left 3 words) _ (Item (tick moment)) e in absurd cc
 tick_by kinds.Show vs words moment e = let none = bind_ok (none_left 2 words) _ (Item (tick moment)) e in absurd cc
 tick_by kinds.Rx vs words moment e =

@@ -4,7 +4,8 @@ use Rattle.std.specs.Io.KnownBytes.{Appends, Consumes, IsAtEnd}
 use Rattle.script_text.specs.declared.fault.Fault.{Fault}
 use Rattle.script_text.specs.declared.fault.RunFault.{RunFault}
 use Rattle.script_text.specs.declared.fault.RunFault.TheVariants as errors
-use Rattle.script_text.specs.Requests.{Request, request_of}
+use Rattle.script_text.specs.Requests.{Request}
+use Rattle.script_text.specs.FirstLine.{request_at}
 use Rattle.script_text.specs.Lines.{lines_of, ended_lines}
 use Rattle.script_text.specs.Wire.{Wire}
 use Rattle.script_text.specs.Bridge.{Bridge, opening_bridge, answer_text, bridge_after}
@@ -35,7 +36,7 @@ continues number bridge (Ok request) others = told (answer_text bridge request) 
 unfoldable pub outcome_of : Bridge → ℕ → List (List ℕ) → RunOutput
 outcome_of bridge number [] = nothing
 outcome_of bridge number (line ∷ lines) =
-    continues number bridge (request_of line) (λ b. outcome_of b (number + 1) lines)
+    continues number bridge (request_at number line) (λ b. outcome_of b (number + 1) lines)
 
 -- what a script gives
 abbrev pub output_of : Wire → List ℕ → RunOutput

@@ -9,6 +9,7 @@ use Rattle.hex.specs.Hex.{IsBytes, decode_of, encode_lower}
 use Rattle.rtp_codec.specs.declared.address.Address.{Address as Endpoint}
 use Rattle.frame_gate.specs.declared.frame.FrameFault.{FrameFault}
 use Rattle.frame_gate.specs.Frame.{SourcePacket, fault_of}
+use Rattle.upward.specs.Upstream.{Asker}
 use Rattle.media_items.specs.Frame.{SourceFrame}
 use Rattle.media_items.specs.Inputs.{Input}
 use Rattle.media_items.specs.Inputs.Input.{frame, tick}
@@ -27,13 +28,16 @@ use Rattle.script_text.specs.Values.{value_text, values_of, number_at, address_a
 use Rattle.script_text.specs.Packets.{packet_text, octets_or, source_packets_of, AllReadable}
 use Rattle.script_text.specs.Calls.{call_of, call_words}
 
--- nothing, an operator's call, an item for the lane, a datagram from an address at a moment, the reports of a moment,
--- or the desk's rows
+-- nothing, who the bridge is and whether its jitter buffers begin anew after late or full sound, an operator's call, an
+-- item for the lane, a datagram from an address at a moment, a wait for a source until a moment, the reports of a
+-- moment, or the desk's rows
 pub data Request : Type 0 where
   Nothing : Request
+  Begin : (who : Asker) (renews : Bool) → Request
   Desk : (op : ℕ) (call : CallOf) → Request
   Item : (item : Input) → Request
   Rx : (moment : ℕ) (from : Endpoint) (octets : List ℕ) → Request
+  Wait : (moment : ℕ) (from : Endpoint) (ssrc : ℕ) → Request
   Report : (moment : ℕ) → Request
   Show : Request
 
@@ -42,23 +46,26 @@ abbrev pub kind_text : LineKind → List ℕ
 kind_text kinds.Desk = codes "desk"
 kind_text kinds.Frame = codes "frame"
 kind_text kinds.Rx = codes "rx"
+kind_text kinds.Wait = codes "wait"
 kind_text kinds.Tick = codes "tick"
 kind_text kinds.Report = codes "report"
 kind_text kinds.Show = codes "show"
 
 -- the kinds of lines
 abbrev pub line_kinds : List LineKind
-line_kinds = kinds.Desk ∷ kinds.Frame ∷ kinds.Rx ∷ kinds.Tick ∷ kinds.Report ∷ kinds.Show ∷ []
+line_kinds = kinds.Desk ∷ kinds.Frame ∷ kinds.Rx ∷ kinds.Wait ∷ kinds.Tick ∷ kinds.Report ∷ kinds.Show ∷ []
 
 -- the kind of line that a word begins
 abbrev pub line_kind_of : List ℕ → Option LineKind
 line_kind_of word = find (λ kind. bytes_eq word (kind_text kind)) line_kinds
 
--- the fields that stand first behind it: OP; MOMENT ADDRESS SSRC EPOCH TS; MOMENT ADDRESS; MOMENT; MOMENT
+-- the fields that stand first behind it: OP; MOMENT ADDRESS SSRC EPOCH TS; MOMENT ADDRESS; MOMENT ADDRESS SSRC; MOMENT;
+-- MOMENT
 abbrev pub front_of : LineKind → List Field
 front_of kinds.Desk = fields.Operator ∷ []
 front_of kinds.Frame = fields.U64 ∷ fields.Address ∷ fields.U32 ∷ fields.U64 ∷ fields.U32 ∷ []
 front_of kinds.Rx = fields.U64 ∷ fields.Address ∷ []
+front_of kinds.Wait = fields.U64 ∷ fields.Address ∷ fields.U32 ∷ []
 front_of kinds.Tick = fields.U64 ∷ []
 front_of kinds.Report = fields.U64 ∷ []
 front_of kinds.Show = []
@@ -107,6 +114,12 @@ rx_of moment from words = do
   end ← none_left 5 word.1
   Ok (Rx moment from octets)
 
+-- a wait for the source of an SSRC at an address, where no word is left
+abbrev pub wait_of : ℕ → Endpoint → ℕ → List (List ℕ) → Result Request (ℕ × Fault)
+wait_of moment from ssrc words = do
+  end ← none_left 5 words
+  Ok (Wait moment from ssrc)
+
 -- a tick at a moment, where no word is left
 abbrev pub tick_item : ℕ → List (List ℕ) → Result Request (ℕ × Fault)
 tick_item moment words = do
@@ -130,6 +143,7 @@ abbrev pub request_with : LineKind → List Value → List (List ℕ) → Result
 request_with kinds.Desk vs words = desk_of (number_at 0 vs) words
 request_with kinds.Frame vs words = frame_of (sighted vs) words
 request_with kinds.Rx vs words = rx_of (number_at 0 vs) (address_at 1 vs) words
+request_with kinds.Wait vs words = wait_of (number_at 0 vs) (address_at 1 vs) (number_at 2 vs) words
 request_with kinds.Tick vs words = tick_item (number_at 0 vs) words
 request_with kinds.Report vs words = report_of (number_at 0 vs) words
 request_with kinds.Show vs words = show_of words
@@ -146,13 +160,18 @@ words_request words = do
 abbrev pub is_printable : ℕ → Bool
 is_printable octet = nat_le 32 octet && nat_le octet 126
 
--- what a line asks for, or its first fault and the place of its word; place 0 is the whole line, and 35 is `#`
-unfoldable pub request_of : List ℕ → Result Request (ℕ × Fault)
-request_of line =
+-- what a line asks for whose words ask for this, or its first fault and the place of its word; place 0 is the whole
+-- line, and 35 is `#`
+unfoldable pub line_request : Result Request (ℕ × Fault) → List ℕ → Result Request (ℕ × Fault)
+line_request asked line =
     if nat_lt line_limit (length line) then Err (0, LineTooLong)
     else if not (list_all is_printable line) then Err (0, BadByte)
     else if length line == 0 || slice_index line 0 == 35 then Ok Nothing
-    else words_request (words_of line)
+    else asked
+
+-- what a line behind the first asks for
+abbrev pub request_of : List ℕ → Result Request (ℕ × Fault)
+request_of line = line_request (words_request (words_of line)) line
 
 -- the words of an operator's line, with these of its call
 abbrev pub desk_words : ℕ → (words : List (List ℕ)) → List (List ℕ)
@@ -169,6 +188,18 @@ rx_words moment from octets = kind_text kinds.Rx ∷ map value_text (U64 moment 
 -- the line of a datagram
 abbrev pub rx_line : (moment : ℕ) → Endpoint → List ℕ → List ℕ
 rx_line moment from octets = join_with_byte 32 (rx_words moment from (encode_lower octets))
+
+-- the values on the line of a wait
+abbrev pub wait_values : (moment : ℕ) → Endpoint → (ssrc : ℕ) → List Value
+wait_values moment from ssrc = U64 moment ∷ Address from ∷ U32 ssrc ∷ []
+
+-- the words of a wait's line
+abbrev pub wait_words : (moment : ℕ) → Endpoint → (ssrc : ℕ) → List (List ℕ)
+wait_words moment from ssrc = kind_text kinds.Wait ∷ map value_text (wait_values moment from ssrc)
+
+-- the line of a wait
+abbrev pub wait_line : (moment : ℕ) → Endpoint → (ssrc : ℕ) → List ℕ
+wait_line moment from ssrc = join_with_byte 32 (wait_words moment from ssrc)
 
 -- the words of a tick's line
 abbrev pub tick_words : (moment : ℕ) → List (List ℕ)

@@ -6,11 +6,13 @@ ghost use Rattle.desk_edit.specs.Asked.{asked_by};
 ghost use Rattle.media_items.specs.Inputs.{input_of, is_sized};
 ghost use Rattle.bridge_core.specs.Sent.{sent_of};
 ghost use Rattle.script_text.specs.Text.{sent_text};
-ghost use Rattle.script_text.specs.Requests.{Desk, Rx, Report as ReportRequest, Show as ShowRequest};
+ghost use Rattle.script_text.specs.Requests.{Desk, Rx, Wait as WaitRequest};
+ghost use Rattle.script_text.specs.Requests.{Report as ReportRequest, Show as ShowRequest};
 ghost use Rattle.script_text.specs.inner.Cursor.{view};
 ghost use Rattle.script_text.specs.inner.Steps.{HasLane, wants_memory, HandsItem};
 ghost use Rattle.script_text.specs.inner.Steps.{HandsItems, AnswersRequest, AnswersLine};
 
+use crate::beginning::answer_begin;
 use crate::fault::{ParseFault, RunFault};
 use crate::line::{Line, parse_line};
 use crate::outcomes::{print_all_up, print_outcome};
@@ -72,7 +74,7 @@ fn print_all<A: Allocator + Copy>(
 }
 
 /// Hands an item to the lane and appends the lines of what is sent.
-fn answer_item<A: Allocator + Copy>(
+pub(crate) fn answer_item<A: Allocator + Copy>(
     alloc: A,
     core: &mut Core<A>,
     item: &Item<A>,
@@ -129,6 +131,26 @@ fn answer_datagram<A: Allocator + Copy>(
     answer_items(alloc, core, &ingest.items, out)
 }
 
+/// Lets time pass for a source, and appends the lines of the datagrams sent back, and of what is sent for the frames
+/// that the wait freed.
+fn answer_wait<A: Allocator + Copy>(
+    alloc: A,
+    core: &mut Core<A>,
+    moment: u64,
+    from: Address,
+    ssrc: u32,
+    out: &mut Vec<u8, A>,
+) -> Result<(), AllocError>
+    requires lane { HasLane core.old }
+    requires empty { out.old.items ≡ [] }
+    ensures answer { OnOk result (AnswersRequest core.old (WaitRequest moment from ssrc) core.new out.new.items) }
+    ensures lane { HasLane core.new }
+{
+    let answer = core.wait(alloc, &from, ssrc, moment)?;
+    print_all_up(&answer.up, out)?;
+    answer_items(alloc, core, &answer.items, out)
+}
+
 /// Appends the lines of the receiver reports of a moment, and then of what goes out for the sender reports.
 fn answer_report<A: Allocator + Copy>(
     alloc: A,
@@ -168,6 +190,7 @@ fn answer_request<A: Allocator + Copy>(
 {
     match line {
         Line::Nothing => Ok(()),
+        Line::Begin(named) => answer_begin(alloc, core, named, out),
         Line::Desk { op, call } => answer_call(alloc, core, op, call, out),
         Line::Frame(frame) => answer_item(alloc, core, &Item::Frame(frame), out),
         Line::Rx {
@@ -175,6 +198,7 @@ fn answer_request<A: Allocator + Copy>(
             from,
             octets,
         } => answer_datagram(alloc, core, moment, from, &octets, out),
+        Line::Wait { moment, from, ssrc } => answer_wait(alloc, core, moment, from, ssrc, out),
         Line::Tick { moment } => answer_item(alloc, core, &Item::Tick { moment }, out),
         Line::Report { moment } => answer_report(alloc, core, moment, out),
         Line::Show => answer_show(core, out),
@@ -196,7 +220,7 @@ pub(crate) fn answer<T: TextSink, A: Allocator + Copy>(
     ensures write { result ≡ Err RunFault.Write →
         T.may_fail ⊎ (T.may_starve × T.may_split) ⊎ ((first : T) × T.goes_on (2 ^ 32) first writer.new) }
 {
-    let line = match parse_line(alloc, line) {
+    let line = match parse_line(alloc, number, line) {
         Err(ParseFault::OutOfMemory) => return Err(RunFault::OutOfMemory),
         Err(ParseFault::Line { word, fault }) => {
             return Err(RunFault::Script {

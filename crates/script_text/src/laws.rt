@@ -1,16 +1,17 @@
 //! Laws of the definitions, in the words of a script's grammar.
 
-ghost use Rattle.std.specs.Prelude.{◌≡◌, ℕ, ℤ, pos, ◌^◌, ◌<◌, ◌≤◌, List, ◌∷◌, map, Some, Ok, codes};
+ghost use Rattle.std.specs.Prelude.{◌≡◌, ℕ, ℤ, Bool, pos, ◌^◌, ◌<◌, ◌≤◌, List, ◌∷◌, map, Some, Ok, codes};
 ghost use Rattle.std.specs.Fmt.{decimal, signed_decimal};
 ghost use Rattle.std.specs.List.{join_with_byte, flat_map, All};
 ghost use Rattle.hex.specs.Hex.{IsBytes, decode_of, encode_lower};
 ghost use Rattle.rtp_codec.specs.declared.address.Address.{Address};
 ghost use Rattle.rtp_codec.specs.Octets.{AreOctets};
 ghost use Rattle.desk_rows.specs.Desk.{Desk as Rows, blank};
+ghost use Rattle.upward.specs.Upstream.{Asker};
 ghost use Rattle.script_text.specs.Wire.{Wire, script_asker, IsHeard, HearsAll};
 ghost use Rattle.script_text.specs.Bridge.{first_desk, text_of};
 ghost use Rattle.script_text.specs.Output.{output_of};
-ghost use Rattle.script_text.specs.Scripts.{answers_of, sent_in, steps_of};
+ghost use Rattle.script_text.specs.Scripts.{answers_of, sent_in, speaker_of, steps_of};
 ghost use Rattle.bridge_core.specs.Headline.{AreGood, HaveNoGap, numbers};
 ghost use Rattle.bridge_core.specs.Named.{Name, firsts};
 ghost use Rattle.bridge_core.specs.Steps.{sends};
@@ -21,7 +22,7 @@ ghost use Rattle.desk_edit.specs.Refusals.{first_case};
 ghost use Rattle.desk_edit.specs.Calls.{refusal_at};
 ghost use Rattle.script_text.specs.Judged.{part_cases, call_cases, case_numbers, turn_of, Rises, IsSingle};
 ghost use Rattle.script_text.specs.Text.{told_words, reason_words};
-ghost use Rattle.script_text.specs.Values.{last_operator};
+ghost use Rattle.script_text.specs.Values.{last_operator, AllFit};
 ghost use Rattle.script_text.specs.Words.{words_of, Lacks};
 ghost use Rattle.script_text.specs.Numbers.{decimal_of, ext_of, FitsExt};
 ghost use Rattle.script_text.specs.Addresses.{address_of, address_text, IsAddress};
@@ -34,7 +35,10 @@ ghost use Rattle.desk_edit.specs.declared.command.Command.{Command};
 ghost use Rattle.script_text.specs.Calls.{call_of, call_line, SpellCall, IsCall};
 ghost use Rattle.script_text.specs.Requests.{words_request, Desk, desk_words, desk_line};
 ghost use Rattle.script_text.specs.Requests.{Item, frame_words, frame_line, IsFrame};
-ghost use Rattle.script_text.specs.Requests.{Rx, rx_words, rx_line, IsDatagram, tick_line, Report, report_line};
+ghost use Rattle.script_text.specs.Requests.{Rx, rx_words, rx_line, IsDatagram};
+ghost use Rattle.script_text.specs.Requests.{Wait, wait_values, wait_line, tick_line, Report, report_line};
+ghost use Rattle.script_text.specs.Requests.{Begin};
+ghost use Rattle.script_text.specs.FirstLine.{first_request, request_at, bridge_line, IsNamed};
 ghost use Rattle.script_text.specs.Packets.{SpellPackets, packet_of, packet_text, SpellsExt};
 ghost use Rattle.script_text.specs.Packets.{SpellsHex, SpellsPacket, IsReadable};
 ghost use Rattle.script_text.specs.Lines.{parts_of};
@@ -124,6 +128,26 @@ pub fn datagram_lines()
         × IsDatagram moment from octets }
 {}
 
+/// The words of a wait's line are that wait, and what is read as a wait is spelled by its line.
+pub fn wait_lines()
+    ensures read { (moment : ℕ) (from : Address) (ssrc : ℕ) → AllFit (wait_values moment from ssrc)
+        → words_request (words_of (wait_line moment from ssrc)) ≡ Ok (Wait moment from ssrc) }
+    ensures spelled { (line : List ℕ) (moment : ℕ) (from : Address) (ssrc : ℕ)
+        → words_request (words_of line) ≡ Ok (Wait moment from ssrc)
+        → (line ≡ wait_line moment from ssrc) × AllFit (wait_values moment from ssrc) }
+{}
+
+/// The words of a line that says who the bridge is say that, and what is read so is spelled by its line.
+pub fn bridge_lines()
+    ensures read { (who : Asker) (renews : Bool) → IsNamed who
+        → first_request (words_of (bridge_line who renews)) ≡ Ok (Begin who renews) }
+    ensures spelled { (line : List ℕ) (who : Asker) (renews : Bool)
+        → first_request (words_of line) ≡ Ok (Begin who renews)
+        → (line ≡ bridge_line who renews) × IsNamed who }
+    ensures first { (number : ℕ) (line : List ℕ) (who : Asker) (renews : Bool)
+        → request_at number line ≡ Ok (Begin who renews) → number ≡ 1 }
+{}
+
 /// The words of a tick's line are that tick, and what is read as a tick is spelled by its line.
 pub fn tick_lines()
     ensures read { (moment : ℕ) → moment < 2 ^ 64
@@ -140,11 +164,13 @@ pub fn report_lines()
         → (line ≡ report_line moment) × (moment < 2 ^ 64) }
 {}
 
-/// The bridge of a script speaks as SSRC 1, under the canonical name `bridge`.
+/// The bridge of a script speaks as SSRC 1, under the canonical name `bridge`, where its first line doesn't say it. The
+/// first desk is blank, and the SSRC of the bridge is its own.
 pub fn script_bridge()
     ensures ssrc { BRIDGE_SSRC ≡ 1 }
     ensures name { CNAME.now ≡ codes "bridge" }
-    ensures desk { first_desk ≡ blank BRIDGE_SSRC }
+    ensures asker { script_asker ≡ record { ssrc = BRIDGE_SSRC; cname = CNAME.now } }
+    ensures desk { (who : Asker) → first_desk who ≡ blank who.ssrc }
 {}
 
 /// A call is refused for the first reason that holds. Reasons are checked in the order of the refusals' numbers, but
@@ -169,7 +195,7 @@ pub fn datagrams_are_heard()
     datagrams_are_read();
 }
 
-/// One wire hears all lines of every script: only datagrams have to be heard.
+/// One wire hears all lines of every script: only datagrams and waits have to be heard.
 pub fn scripts_are_heard()
     ensures { (wire : Wire) × ((lines : List (List ℕ)) → HearsAll wire lines) }
 {
@@ -183,7 +209,8 @@ pub fn script_sends()
     ensures text { (wire : Wire) (input : List ℕ)
         → (output_of wire input).text ≡ flat_map text_of (answers_of wire input) }
     ensures sends { (wire : Wire) (input : List ℕ)
-        → sent_in (answers_of wire input) ≡ sends script_asker 1 first_desk (steps_of wire input) }
+        → sent_in (answers_of wire input)
+        ≡ sends (speaker_of input) 1 (first_desk (speaker_of input)) (steps_of wire input) }
 {}
 
 /// Each desk that a script publishes is good, so the core's laws on good desks speak of scripts: each
@@ -191,7 +218,7 @@ pub fn script_sends()
 pub fn script_streams_have_no_gap()
     ensures good { (wire : Wire) (input : List ℕ) → AreGood (steps_of wire input) }
     ensures no_gap { (wire : Wire) (input : List ℕ) (name : Name)
-        → HaveNoGap (numbers (firsts script_asker 1 first_desk name (steps_of wire input))) }
+        → HaveNoGap (numbers (firsts (speaker_of input) 1 (first_desk (speaker_of input)) name (steps_of wire input))) }
 {
     good_desks_stay_good();
     streams_have_no_gap();

@@ -18,10 +18,13 @@
 
 mod answer;
 mod appending;
+mod beginning;
+mod bridge_line;
 mod building;
 mod calling;
 mod exits;
 mod fault;
+mod first_line;
 mod laws;
 mod line;
 mod name;
@@ -46,9 +49,10 @@ pub use self::calling::parse_desk;
 pub use self::exits::{Ask, Exit, asked, exit_status, status, unread};
 pub use self::fault::{Fault, ParseFault, RunFault};
 pub use self::laws::{
-    address_words, call_lines, datagram_lines, datagrams_are_heard, ext_words, frame_lines,
-    hex_words, number_words, packet_words, pieces_join, refusal_words, report_lines, script_bridge,
-    script_sends, script_streams_have_no_gap, scripts_are_heard, tick_lines,
+    address_words, bridge_lines, call_lines, datagram_lines, datagrams_are_heard, ext_words,
+    frame_lines, hex_words, number_words, packet_words, pieces_join, refusal_words, report_lines,
+    script_bridge, script_sends, script_streams_have_no_gap, scripts_are_heard, tick_lines,
+    wait_lines,
 };
 pub use self::print::{print_egress, print_refused, print_reply};
 pub use self::running::{output, run};

@@ -1,22 +1,25 @@
 //! What lines ask for.
 
-ghost use Rattle.std.specs.Prelude.{◌≡◌, ◌≤◌, ◌+◌, map};
-ghost use Rattle.std.specs.List.{list_all};
+ghost use Rattle.std.specs.Prelude.{◌≡◌, ◌≤◌, ◌+◌, length, map};
 ghost use Rattle.frame_gate.specs.Frame.{fault_of};
 ghost use Rattle.script_text.specs.Words.{Gives};
 ghost use Rattle.script_text.specs.inner.Cursor.{words_in, size_of, view, sighting};
 ghost use Rattle.script_text.specs.Values.{field_of};
-ghost use Rattle.script_text.specs.Requests.{is_printable, some_packets, framed, frame_of, desk_of};
-ghost use Rattle.script_text.specs.Requests.{some_octets, rx_of, tick_item, report_of, show_of};
-ghost use Rattle.script_text.specs.Requests.{front_of, request_with, words_request, request_of};
+ghost use Rattle.script_text.specs.Requests.{some_packets, framed, frame_of, desk_of};
+ghost use Rattle.script_text.specs.Requests.{some_octets, rx_of, wait_of, tick_item, report_of, show_of};
+ghost use Rattle.script_text.specs.Requests.{front_of, request_with, words_request};
+ghost use Rattle.script_text.specs.Words.{words_of};
+ghost use Rattle.script_text.specs.FirstLine.{first_request, words_request_at, request_at};
 
+use crate::bridge_line::BridgeLine;
 use crate::calling::call;
 use crate::fault::{Fault, ParseFault};
+use crate::first_line::read_bridge_line;
 use crate::name::{LineKind, front, parse_kind};
 use crate::packet::{octets, packets};
 use crate::reading::read_values;
 use crate::value::{Value, address_at, operator_at, u32_at, u64_at};
-use crate::words::{end_of_words, next_word};
+use crate::words::{end_of_words, first_word, is_printable, next_word};
 use bridge_core::{Frame, FramePacket, MediaFrame};
 use desk_edit::Call;
 use rtp_codec::Address;
@@ -29,6 +32,7 @@ pub(crate) const LINE_LIMIT: usize = 65_536;
 #[derive(Drop)]
 pub(crate) enum Line<A: Allocator + Copy = Global> {
     Nothing,
+    Begin(BridgeLine<A>),
     Desk {
         op: u8,
         call: Call<A>,
@@ -38,6 +42,11 @@ pub(crate) enum Line<A: Allocator + Copy = Global> {
         moment: u64,
         from: Address,
         octets: Vec<u8, A>,
+    },
+    Wait {
+        moment: u64,
+        from: Address,
+        ssrc: u32,
     },
     Tick {
         moment: u64,
@@ -163,6 +172,19 @@ fn rx<A: Allocator + Copy>(
     })
 }
 
+/// A wait for the source of this SSRC at an address, until a moment.
+fn wait<A: Allocator + Copy>(
+    moment: u64,
+    from: Address,
+    ssrc: u32,
+    words: Option<&[u8]>,
+) -> Result<Line<A>, ParseFault>
+    ensures { Gives view result (wait_of moment from ssrc (words_in words.entry)) }
+{
+    end_of_words(words, 5)?;
+    Ok(Line::Wait { moment, from, ssrc })
+}
+
 /// A tick at a moment.
 fn tick<A: Allocator + Copy>(moment: u64, words: Option<&[u8]>) -> Result<Line<A>, ParseFault>
     ensures { Gives view result (tick_item moment (words_in words.entry)) }
@@ -203,6 +225,10 @@ fn line_with<A: Allocator + Copy>(
             frame(alloc, head, words)
         }
         LineKind::Rx => rx(alloc, u64_at(values, 0), address_at(values, 1), words),
+        LineKind::Wait => {
+            let moment = u64_at(values, 0);
+            wait(moment, address_at(values, 1), u32_at(values, 2), words)
+        }
         LineKind::Tick => tick(u64_at(values, 0), words),
         LineKind::Report => report(u64_at(values, 0), words),
         LineKind::Show => show(words),
@@ -222,17 +248,40 @@ fn words_line<A: Allocator + Copy>(alloc: A, words: Option<&[u8]>) -> Result<Lin
     line_with(alloc, kind, values.as_slice(), rest)
 }
 
-/// Whether each octet is one that a line may hold.
-fn is_printable(line: &[u8]) -> bool
-    ensures { result ≡ list_all is_printable line.now }
+/// What the words of the first line ask for.
+#[tactic(auto, unfolding(crate::specs::FirstLine::first_request))]
+fn first_line<A: Allocator + Copy>(alloc: A, line: &[u8]) -> Result<Line<A>, ParseFault>
+    requires { length line.now ≤ LINE_LIMIT }
+    ensures { Gives view result (first_request (words_of line.now)) }
 {
-    line.iter().all(|b| 32 <= *b && *b <= 126)
+    let (word, rest) = first_word(line);
+    if word == b"bridge".as_slice() {
+        let named = read_bridge_line(alloc, rest)?;
+        return Ok(Line::Begin(named));
+    }
+    words_line(alloc, Some(line))
 }
 
-/// What a line asks for, or its first fault.
-#[tactic(auto, unfolding(crate::specs::Requests::request_of))]
-pub(crate) fn parse_line<A: Allocator + Copy>(alloc: A, line: &[u8]) -> Result<Line<A>, ParseFault>
-    ensures { Gives view result (request_of line.now) }
+/// What the words of the line of this number ask for.
+fn line_at<A: Allocator + Copy>(alloc: A, number: u64, line: &[u8]) -> Result<Line<A>, ParseFault>
+    requires { length line.now ≤ LINE_LIMIT }
+    ensures { Gives view result (words_request_at number (words_of line.now)) }
+{
+    if number == 1 {
+        first_line(alloc, line)
+    } else {
+        words_line(alloc, Some(line))
+    }
+}
+
+/// What the line of this number asks for, or its first fault. The first line has the number 1.
+#[tactic(auto, unfolding(crate::specs::Requests::line_request))]
+pub(crate) fn parse_line<A: Allocator + Copy>(
+    alloc: A,
+    number: u64,
+    line: &[u8],
+) -> Result<Line<A>, ParseFault>
+    ensures { Gives view result (request_at number line.now) }
 {
     if line.len() > LINE_LIMIT {
         return Err(Fault::LineTooLong.at(0));
@@ -243,5 +292,5 @@ pub(crate) fn parse_line<A: Allocator + Copy>(alloc: A, line: &[u8]) -> Result<L
     if line.is_empty() || line[0] == b'#' {
         return Ok(Line::Nothing);
     }
-    words_line(alloc, Some(line))
+    line_at(alloc, number, line)
 }

@@ -13,6 +13,7 @@ pub(crate) enum LineKind {
     Desk,
     Frame,
     Rx,
+    Wait,
     Tick,
     Report,
     Show,
@@ -28,6 +29,8 @@ pub(crate) fn parse_kind(word: &[u8]) -> Option<LineKind>
         Some(LineKind::Frame)
     } else if word == b"rx".as_slice() {
         Some(LineKind::Rx)
+    } else if word == b"wait".as_slice() {
+        Some(LineKind::Wait)
     } else if word == b"tick".as_slice() {
         Some(LineKind::Tick)
     } else if word == b"report".as_slice() {
@@ -54,6 +57,7 @@ pub(crate) fn front(kind: LineKind) -> &'static [Field]
             Field::U32,
         ],
         LineKind::Rx => &[Field::U64, Field::Address],
+        LineKind::Wait => &[Field::U64, Field::Address, Field::U32],
         LineKind::Tick | LineKind::Report => &[Field::U64],
         LineKind::Show => &[],
     }

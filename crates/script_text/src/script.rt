@@ -4,18 +4,19 @@ ghost use Rattle.std.specs.Prelude.{◌≡◌, ◌≢◌, ◌⊎◌, ◌+◌, �
 ghost use Rattle.std.specs.Str.Lines.{strip_carriage_return};
 
 use crate::answer::answer;
+use crate::beginning::begun;
 use crate::fault::{Fault, RunFault};
 use crate::line::LINE_LIMIT;
 use crate::sink::TextSink;
-use bridge_core::{Core, CoreFault, Settings};
+use bridge_core::{Core, Settings};
 use bytes::Bytes;
 use std::alloc::{AllocError, Allocator, Global};
 use std::marker::Model;
 
-/// The SSRC under which the bridge of a script speaks.
+/// The SSRC under which the bridge of a script speaks, where its first line doesn't say it.
 pub(crate) const BRIDGE_SSRC: u32 = 1;
 
-/// The canonical name of the bridge of a script.
+/// The canonical name of the bridge of a script, where its first line doesn't say it.
 pub(crate) const CNAME: &[u8] = b"bridge";
 
 /// The bridge, the number of the line that is being read, and the part of it that has come.
@@ -60,15 +61,12 @@ impl<A: Allocator + Copy> Script<A> {
             bridge_ssrc: BRIDGE_SSRC,
             cname: Bytes::copy_from_slice(alloc, CNAME)?,
         };
-        match Core::new(alloc, 1, settings) {
-            Err(CoreFault::OutOfMemory) => Err(AllocError),
-            Err(_) => unreachable!(),
-            Ok(core) => Ok(Script {
-                core,
-                line: 1,
-                pending: Vec::new(alloc),
-            }),
-        }
+        let core = begun(alloc, settings)?;
+        Ok(Script {
+            core,
+            line: 1,
+            pending: Vec::new(alloc),
+        })
     }
 
     /// Takes an octet that isn't an LF.

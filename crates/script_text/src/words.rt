@@ -1,8 +1,10 @@
 //! The words of a line, one after another.
 
 ghost use Rattle.std.specs.Prelude.{◌≡◌, ◌≢◌, ◌==◌, ◌≤◌, ◌∷◌, length, position, IfOk};
+ghost use Rattle.std.specs.List.{list_all};
 ghost use Rattle.std.specs.Option.{option_map};
 ghost use Rattle.script_text.specs.Words.{Gives, cut_of, words_of, word_at, none_left};
+ghost use Rattle.script_text.specs.Requests.{is_printable};
 ghost use Rattle.script_text.specs.inner.Cursor.{words_in, size_of};
 
 use crate::fault::{Fault, ParseFault};
@@ -72,4 +74,11 @@ pub(crate) fn end_of_words(words: Option<&[u8]>, place: u32) -> Result<(), Parse
         None => Ok(()),
         Some(_) => Err(Fault::ExtraWord.at(place)),
     }
+}
+
+/// Whether each octet is one that a line may hold.
+pub(crate) fn is_printable(line: &[u8]) -> bool
+    ensures { result ≡ list_all is_printable line.now }
+{
+    line.iter().all(|b| 32 <= *b && *b <= 126)
 }

@@ -4,29 +4,42 @@ use Rattle.std.specs.Borrow.{Bor}
 use Rattle.frame_gate.specs.Frame.{SourcePacket}
 use Rattle.media_items.specs.Frame.{SourceFrame}
 use Rattle.desk_edit.specs.Asked.{asked_by}
+use Rattle.upward.specs.Upstream.{Asker}
+use Rattle.intake.specs.declared.settings.Settings.{Settings}
 use Rattle.media_items.specs.Inputs.Input.{frame, tick}
 use Rattle.script_text.specs.declared.fault.ParseFault.{ParseFault}
 use Rattle.script_text.specs.declared.packet.Parts.{Parts}
 use Rattle.script_text.specs.declared.line.FrameHead.{FrameHead}
+use Rattle.script_text.specs.declared.bridge_line.BridgeLine.{BridgeLine}
 use Rattle.script_text.specs.declared.line.Line.{Line}
 use Rattle.script_text.specs.declared.line.Line.TheVariants as lines
 use Rattle.script_text.specs.Words.{Fails, words_of}
 use Rattle.script_text.specs.Packets.{packet_of}
-use Rattle.script_text.specs.Requests.{Request, Nothing, Desk, Item, Rx, Report, Show}
+use Rattle.script_text.specs.Requests.{Request, Nothing, Begin, Desk, Item, Rx, Wait, Report, Show}
 
 -- the words that are left of a line, where nothing is left once the last was taken
 abbrev pub words_in : Option (Bor (List ℕ)) → List (List ℕ)
 words_in None = []
 words_in (Some text) = words_of text.now
 
+-- who speaks by these settings
+abbrev pub asker_in : {A : Type 0} → Settings A → Asker
+asker_in settings = record { ssrc = settings.bridge_ssrc; cname = settings.cname }
+
+-- who the bridge is and how it begins, as it was read
+abbrev pub begin_of : {A : Type 0} → BridgeLine A → Request
+begin_of named = Begin (asker_in named.settings) named.renews
+
 -- a line as it was read, without where it lies in memory
 abbrev pub view : {A : Type 0} → Line A → Request
 view lines.Nothing = Nothing
+view (lines.Begin named) = begin_of named
 view (lines.Desk op call) = Desk op (asked_by call)
 view (lines.Frame f) = Item (frame f)
 view (lines.Tick moment) = Item (tick moment)
 view (lines.Report moment) = Report moment
 view (lines.Rx moment from octets) = Rx moment from octets.items
+view (lines.Wait moment from ssrc) = Wait moment from ssrc
 view lines.Show = Show
 
 -- the frame of these packets, with what stands before them

@@ -12,8 +12,9 @@ use Rattle.bridge_core.specs.Following.{HasCalled}
 use Rattle.bridge_core.specs.Steps.{CoreOf, HasTaken}
 use Rattle.script_text.specs.declared.fault.RunFault.{RunFault}
 use Rattle.script_text.specs.declared.fault.RunFault.TheVariants as errors
-use Rattle.script_text.specs.Requests.{Request, request_of}
-use Rattle.script_text.specs.Wire.{Wire, Hears, HearsAll, script_asker}
+use Rattle.script_text.specs.Requests.{Request}
+use Rattle.script_text.specs.FirstLine.{request_at}
+use Rattle.script_text.specs.Wire.{Wire, Hears, HearsAll}
 use Rattle.script_text.specs.Lines.{lines_by, whole, ended, parts_of}
 use Rattle.script_text.specs.Text.{sent_text}
 use Rattle.script_text.specs.Bridge.{Bridge, first_desk, opening_bridge, answer_text, bridge_after}
@@ -27,11 +28,11 @@ wants_memory reply = false
 
 -- the core is this bridge
 pub record Stands (core : CoreOf) (bridge : Bridge) : Type 0 where
-  pub taken : HasTaken core first_desk bridge.steps
+  pub taken : HasTaken core (first_desk bridge.who) bridge.steps
   pub called : HasCalled core bridge.calls
   pub lanes : length core.lanes ≡ 1
   pub knows : Knows core.intake bridge.sources
-  pub speaks : core.intake.asker ≡ script_asker
+  pub speaks : core.intake.asker ≡ bridge.who
 
 -- the core has the lane that a script's items go to
 abbrev pub HasLane : CoreOf → Type 0
@@ -128,12 +129,12 @@ HandsItems old items new before now =
 -- how the answer to one line ended, of which no other is known
 abbrev pub LineEnds : Bridge → ℕ → List ℕ → CoreOf → List ℕ → Result (Unit {0}) RunFault → Type 0
 LineEnds old number line new sent (Ok u) =
-    (request : Request) × (request_of line ≡ Ok request) × Stands new (bridge_after old request)
+    (request : Request) × (request_at number line ≡ Ok request) × Stands new (bridge_after old request)
     × (sent ≡ answer_text old request)
 LineEnds old number line new sent (Err (errors.Script n word fault)) =
-    (n ≡ number) × (request_of line ≡ Err (word, fault)) × (sent ≡ [])
+    (n ≡ number) × (request_at number line ≡ Err (word, fault)) × (sent ≡ [])
 LineEnds old number line new sent (Err errors.Write) =
-    (request : Request) × (request_of line ≡ Ok request) × IsCutOf sent (answer_text old request)
+    (request : Request) × (request_at number line ≡ Ok request) × IsCutOf sent (answer_text old request)
 LineEnds old number line new sent (Err errors.Read) = ⊥
 LineEnds old number line new sent (Err errors.OutOfMemory) = sent ≡ []
 
@@ -141,7 +142,7 @@ LineEnds old number line new sent (Err errors.OutOfMemory) = sent ≡ []
 abbrev pub AnswersLine : CoreOf → ℕ → List ℕ → CoreOf → Option (List ℕ) → Option (List ℕ) → Result (Unit {0}) RunFault
     → Type 0
 AnswersLine old number line new before now result =
-    (bridge : Bridge) → Hears bridge.wire (request_of line) → Stands old bridge
+    (bridge : Bridge) → Hears bridge.wire (request_at number line) → Stands old bridge
     → (sent : List ℕ) × Appends before now sent × LineEnds bridge number line new sent result
 
 -- all was sent, or a front and not all, or nothing on out of memory

@@ -1,6 +1,5 @@
 use Rattle.script_text.specs.Bridge.{first_desk}
-use Rattle.script_text.specs.Scripts.{steps_of}
-use Rattle.script_text.specs.Wire.{script_asker}
+use Rattle.script_text.specs.Scripts.{speaker_of, steps_of}
 use Rattle.script_text.proofs.GoodDesks.{first_good, steps_good}
 use Rattle.script_text.proofs.laws.script_streams_have_no_gap.Goals as goal
 
@@ -9,4 +8,5 @@ returns-clause-good c = steps_good c.good_desks_stay_good.ensures
 
 pub returns-clause-no_gap : goal.returns-clause-no_gap
 returns-clause-no_gap c wire input name =
-    c.streams_have_no_gap.ensures script_asker 1 first_desk (steps_of wire input) name first_good (steps_good c.good_desks_stay_good.ensures wire input)
+    let who = speaker_of input in
+    c.streams_have_no_gap.ensures who 1 (first_desk who) (steps_of wire input) name (first_good who) (steps_good c.good_desks_stay_good.ensures wire input)

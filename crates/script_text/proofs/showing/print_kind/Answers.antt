@@ -1,4 +1,4 @@
-use Rattle.std.proofs.Common.{◌≤◌, length, Ok, ◌∙◌, sym, arith}
+use Rattle.std.proofs.Common.{◌≤◌, length, ◌∙◌, sym, arith}
 use Rattle.std.proofs.lemmas.List.Sums.{length-filter}
 use Rattle.desk_rows.specs.Kinds.{is_of}
 use Rattle.desk_rows.specs.Desk.{rows_of, rows_of_kind}

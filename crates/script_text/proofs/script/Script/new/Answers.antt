@@ -1,6 +1,12 @@
-use Rattle.std.proofs.Common.{ℕ, List, ◌∙◌, refl, ap}
-use Rattle.script_text.proofs.BridgeLemmas.{opens}
+use Rattle.std.proofs.Common.{ℕ, List, ◌∙◌, refl, ap, subst}
+use Rattle.upward.specs.Upstream.{Asker}
+use Rattle.script_text.specs.Bridge.{begun_bridge}
+use Rattle.script_text.specs.inner.Steps.{Stands}
 use Rattle.script_text.proofs.script.Script.new.Goals as goal
 
-pub returns-in-Ok-clause-opening : goal.returns-in-Ok-clause-opening
-returns-in-Ok-clause-opening g c = (λ wire. opens c.in-Ok.core wire c.in-Ok.ensures.fresh c.in-Ok.ensures.history c.in-Ok.ensures.lanes c.in-Ok.ensures.sources (c.in-Ok.ensures.asker ∙ ap (λ (cname : List ℕ). record { ssrc = 1; cname = cname }) c.in_ok-copy_from_slice.ensures), refl, c.new-in-Ok.ensures.items)
+pub returns-clause-opening : goal.returns-clause-opening
+returns-clause-opening g c = (
+  λ wire. subst (λ (cname : List ℕ). Stands c.in_ok-core.core (begun_bridge wire (record { ssrc = 1; cname = cname }))) c.in_ok-copy_from_slice.ensures (c.in_ok-core.ensures.stands wire),
+  refl,
+  c.new.ensures.items,
+)
