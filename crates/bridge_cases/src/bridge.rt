@@ -7,7 +7,7 @@ ghost use Rattle.media_items.specs.Inputs.{input_of, is_sized};
 use crate::calling::{call, redo_all, show, undo_all};
 use crate::direct::Parts;
 use crate::halves::Besides;
-use crate::lines::{Answer, arrival_of, first_word, nack, unread};
+use crate::lines::{Answer, arrival_of, first_word, nack, passing_of, unread};
 use crate::saying::{say_egress, say_outcome, say_up};
 use bridge_core::{Core, Item, Settings};
 use bytes::Bytes;
@@ -32,6 +32,7 @@ enum Verb {
     Nothing,
     Desk,
     Datagram,
+    Wait,
     Reports,
     Next,
     Copy,
@@ -49,6 +50,7 @@ fn verb_of(word: &str) -> Verb {
         "" | "#" => Verb::Nothing,
         "desk" => Verb::Desk,
         "rx" => Verb::Datagram,
+        "wait" => Verb::Wait,
         "reports" => Verb::Reports,
         "item" => Verb::Next,
         "copy" => Verb::Copy,
@@ -104,6 +106,7 @@ impl<'a> Bridge<'a> {
             Verb::Nothing => Ok(Answer::Whole),
             Verb::Desk => call(self.heap, &mut self.core, nth, words, out),
             Verb::Datagram => self.datagram(nth, words, out),
+            Verb::Wait => self.wait(nth, words, out),
             Verb::Reports => self.reports(nth, words, out),
             Verb::Next => self.next_item(nth, out),
             Verb::Copy => self.copy(nth),
@@ -151,6 +154,7 @@ impl<'a> Bridge<'a> {
                 moment: words.parse().ok()?,
             }),
             "nack" => nack(self.heap, words),
+            "renew" => Some(Item::Renew),
             _ => None,
         }
     }
@@ -173,6 +177,28 @@ impl<'a> Bridge<'a> {
             say_up(self.alloc, to, octets, out)?;
         }
         for item in ingest.items {
+            self.waiting.push_back(item)?;
+        }
+        Ok(Answer::after(met))
+    }
+
+    /// Time passes for a source. The frames that this frees wait.
+    fn wait(&mut self, nth: u64, words: &str, out: &mut String) -> io::Result<Answer> {
+        let Some(passing) = passing_of(words) else {
+            return unread(out);
+        };
+        self.heap.refuse(nth);
+        let answered = self
+            .core
+            .wait(self.heap, &passing.from, passing.ssrc, passing.moment);
+        let met = self.heap.end(nth);
+        let Ok(answer) = answered else {
+            return Ok(Answer::Refused);
+        };
+        for (to, octets) in &answer.up {
+            say_up(self.alloc, to, octets, out)?;
+        }
+        for item in answer.items {
             self.waiting.push_back(item)?;
         }
         Ok(Answer::after(met))

@@ -65,6 +65,28 @@ pub fn arrival_of(alloc: Global, words: &str) -> Option<Arrival> {
     })
 }
 
+/// Time that passes for a source.
+#[derive(Clone, Copy)]
+pub struct Passing {
+    /// When it has passed, in nanoseconds since 1970.
+    pub moment: u64,
+    /// The address of the source.
+    pub from: Address,
+    /// The SSRC of the source.
+    pub ssrc: u32,
+}
+
+/// The wait of `MOMENT ADDRESS SSRC`.
+pub fn passing_of(words: &str) -> Option<Passing> {
+    let (moment, words) = words.split_once(" ")?;
+    let (from, ssrc) = words.split_once(" ")?;
+    Some(Passing {
+        moment: moment.parse().ok()?,
+        from: parse_address(from.as_bytes())?,
+        ssrc: ssrc.parse().ok()?,
+    })
+}
+
 /// The item of `ADDRESS OUT_SSRC NUMBER ..`: a NACK of these numbers.
 pub fn nack<'a>(heap: &'a Refusing, words: &str) -> Option<Item<&'a Refusing>> {
     let (from, words) = words.split_once(" ")?;
