@@ -31,14 +31,18 @@ tick_due ticks now = if is_behind ticks now then Some (ticks.start + next_tick t
 abbrev pub after_tick : Ticks → (now : ℕ) → Ticks
 after_tick ticks now = if is_behind ticks now then record { start = ticks.start; had = next_tick ticks now } else ticks
 
--- how many nanoseconds lie between two reports: 5 s
-abbrev pub report_gap : ℕ
-report_gap = 5000000000
+-- how many nanoseconds a millisecond has
+abbrev pub millisecond : ℕ
+millisecond = 1000000
 
--- whether a report is due
+-- the reports from a start on, with so many milliseconds between two of them
+abbrev pub reports_from : (report_ms start : ℕ) → ReportTimer
+reports_from report_ms start = record { every = report_ms * millisecond; last = start }
+
+-- whether a report is due: the interval has passed since the last one
 abbrev pub report_due : ReportTimer → (now : ℕ) → Bool
-report_due timer now = nat_le report_gap (now - timer.last)
+report_due timer now = nat_le timer.every (now - timer.last)
 
 -- the reports behind it
 abbrev pub after_report : ReportTimer → (now : ℕ) → ReportTimer
-after_report timer now = if report_due timer now then record { last = now } else timer
+after_report timer now = if report_due timer now then record timer { last = now } else timer

@@ -9,7 +9,8 @@ use Rattle.toml.specs.Data.{Data, Members, no_members, member, get_member}
 use Rattle.bridge_core.specs.Calls.{most_lanes}
 use Rattle.udp_front.specs.declared.setup.FrontSettings.{FrontSettings}
 use Rattle.udp_front.specs.declared.setup.SettingKey.{SettingKey}
-use Rattle.udp_front.specs.declared.setup.SettingKey.TheVariants.{Udp, Tcp, Lanes, Operators, BridgeSsrc, Cname}
+use Rattle.udp_front.specs.declared.setup.SettingKey.TheVariants.{Udp, Tcp, Lanes, Operators}
+use Rattle.udp_front.specs.declared.setup.SettingKey.TheVariants.{ReportMs, BridgeSsrc, Cname}
 use Rattle.udp_front.specs.SettingValues.{address_in, loopback_in, number_in, cname_in}
 
 -- what is wrong with settings; an unknown key is named by its octets
@@ -25,6 +26,7 @@ key_text Udp = codes "udp"
 key_text Tcp = codes "tcp"
 key_text Lanes = codes "lanes"
 key_text Operators = codes "operators"
+key_text ReportMs = codes "report_ms"
 key_text BridgeSsrc = codes "bridge_ssrc"
 key_text Cname = codes "cname"
 
@@ -56,7 +58,8 @@ keys_in (member key value rest) = key ∷ keys_in rest
 
 -- the text is how a setting's key is written
 unfoldable pub is_known : List ℕ → Bool
-is_known text = list_any (λ key. bytes_eq text (key_text key)) (Udp ∷ Tcp ∷ Lanes ∷ Operators ∷ BridgeSsrc ∷ Cname ∷ [])
+is_known text =
+    list_any (λ key. bytes_eq text (key_text key)) (Udp ∷ Tcp ∷ Lanes ∷ Operators ∷ ReportMs ∷ BridgeSsrc ∷ Cname ∷ [])
 
 -- the lesser of two texts, octet by octet
 abbrev pub lesser : List ℕ → List ℕ → List ℕ
@@ -80,6 +83,15 @@ none_unknown (Some text) = Err (unknown_key text)
 abbrev pub most_operators : ℕ
 most_operators = 16
 
+-- the fewest milliseconds between two reports: the least interval of a session of 360 kbit/s (RFC 3550 section 6.2)
+abbrev pub least_report_ms : ℕ
+least_report_ms = 1000
+
+-- the most milliseconds between two reports, also where none are given: the least interval of any session (RFC 3550
+-- section 6.2)
+abbrev pub most_report_ms : ℕ
+most_report_ms = 5000
+
 -- the settings of a table, or its first trouble: key by key, and then the keys that are left
 unfoldable pub settings_of : Members → Result FrontSettings Trouble
 settings_of table = do
@@ -88,6 +100,7 @@ settings_of table = do
   tcp ← needed Tcp loopback_in (value Tcp)
   lanes ← given Lanes (number_in 1 most_lanes) 1 (value Lanes)
   operators ← given Operators (number_in 1 most_operators) 1 (value Operators)
+  report_ms ← given ReportMs (number_in least_report_ms most_report_ms) most_report_ms (value ReportMs)
   bridge_ssrc ← given BridgeSsrc (number_in 0 (2 ^ 32 - 1)) 1 (value BridgeSsrc)
   cname ← given Cname cname_in (codes "bridge") (value Cname)
   none_left ← none_unknown (unknown_in table)
@@ -96,6 +109,7 @@ settings_of table = do
     tcp = tcp;
     lanes = lanes;
     operators = operators;
+    report_ms = report_ms;
     bridge = record { bridge_ssrc = bridge_ssrc; cname = cname };
   })
 

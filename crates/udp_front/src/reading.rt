@@ -20,6 +20,10 @@ use toml::Table;
 const MOST_LANES: u32 = 16;
 /// How many operators there are seats for at most.
 const MOST_OPERATORS: u32 = 16;
+/// The fewest milliseconds between two reports.
+const LEAST_REPORT_MS: u32 = 1_000;
+/// The most milliseconds between two reports, and how many they are where none are given.
+const MOST_REPORT_MS: u32 = 5_000;
 
 /// Checks that each key is known.
 fn none_unknown(alloc: Global, table: &Table) -> Result<(), SettingsFault>
@@ -42,9 +46,16 @@ fn from_table(alloc: Global, table: &Table) -> Result<FrontSettings, SettingsFau
 {
     let udp = udp_of(table)?;
     let tcp = tcp_of(table)?;
-    let lanes = number_of(table, SettingKey::Lanes, 1, MOST_LANES)?;
-    let operators = number_of(table, SettingKey::Operators, 1, MOST_OPERATORS)?;
-    let bridge_ssrc = number_of(table, SettingKey::BridgeSsrc, 0, u32::MAX)?;
+    let lanes = number_of(table, SettingKey::Lanes, 1, MOST_LANES, 1)?;
+    let operators = number_of(table, SettingKey::Operators, 1, MOST_OPERATORS, 1)?;
+    let report_ms = number_of(
+        table,
+        SettingKey::ReportMs,
+        LEAST_REPORT_MS,
+        MOST_REPORT_MS,
+        MOST_REPORT_MS,
+    )?;
+    let bridge_ssrc = number_of(table, SettingKey::BridgeSsrc, 0, u32::MAX, 1)?;
     let cname = cname_of(table)?;
     none_unknown(alloc, table)?;
     let cname = Bytes::copy_from_slice(alloc, cname)?;
@@ -53,6 +64,7 @@ fn from_table(alloc: Global, table: &Table) -> Result<FrontSettings, SettingsFau
         tcp,
         lanes,
         operators,
+        report_ms,
         bridge: Settings { bridge_ssrc, cname },
     })
 }
@@ -65,6 +77,7 @@ fn from_table(alloc: Global, table: &Table) -> Result<FrontSettings, SettingsFau
 /// | `tcp` | such a text, in 127.0.0.0/8 | a fault |
 /// | `lanes` | a number from 1 to 16 | 1 |
 /// | `operators` | a number from 1 to 16 | 1 |
+/// | `report_ms` | a number from 1,000 to 5,000 | 5,000 |
 /// | `bridge_ssrc` | a number from 0 to 2^32 - 1 | 1 |
 /// | `cname` | a text of 1 to 255 octets, each from 32 to 126 | `bridge` |
 ///

@@ -18,6 +18,8 @@ pub struct FrontSettings {
     pub lanes: u32,
     /// How many operators there are seats for, 1 to 16.
     pub operators: u32,
+    /// How many milliseconds lie between two reports, 1,000 to 5,000.
+    pub report_ms: u32,
     /// How the bridge presents itself to members.
     pub bridge: Settings,
 }
@@ -29,6 +31,7 @@ pub enum SettingKey {
     Tcp,
     Lanes,
     Operators,
+    ReportMs,
     BridgeSsrc,
     Cname,
 }
@@ -43,6 +46,7 @@ impl SettingKey {
             SettingKey::Tcp => "tcp",
             SettingKey::Lanes => "lanes",
             SettingKey::Operators => "operators",
+            SettingKey::ReportMs => "report_ms",
             SettingKey::BridgeSsrc => "bridge_ssrc",
             SettingKey::Cname => "cname",
         }

@@ -102,18 +102,19 @@ pub(crate) fn tcp_of(table: &Table) -> Result<Address, SettingsFault>
     loopback(value).ok_or(SettingsFault::BadValue { key })
 }
 
-/// The number at a key, from `low` to `high`, or 1.
+/// The number at a key, from `low` to `high`, or `left_out` where there is none.
 pub(crate) fn number_of(
     table: &Table,
     key: SettingKey,
     low: u32,
     high: u32,
+    left_out: u32,
 ) -> Result<u32, SettingsFault>
     ensures { Gives (λ x. x) result
-        (given key (number_in low high) 1 (get_member (key_text key) (table_view table.now))) }
+        (given key (number_in low high) left_out (get_member (key_text key) (table_view table.now))) }
 {
     match value_at(table, key) {
-        None => Ok(1),
+        None => Ok(left_out),
         Some(value) => number(value, low, high).ok_or(SettingsFault::BadValue { key }),
     }
 }
@@ -140,6 +141,7 @@ fn is_known(text: &[u8]) -> bool
         || text == b"tcp".as_slice()
         || text == b"lanes".as_slice()
         || text == b"operators".as_slice()
+        || text == b"report_ms".as_slice()
         || text == b"bridge_ssrc".as_slice()
         || text == b"cname".as_slice()
 }
