@@ -9,9 +9,10 @@ ghost use Rattle.bridge_core.specs.Calls.{most_lanes};
 ghost use Rattle.bridge_core.specs.declared.egress.Egress.{Egress as AnEgress};
 ghost use Rattle.media_workers.specs.Bridges.{AllEnded};
 ghost use Rattle.udp_front.specs.Attempts.{datagrams_of};
-ghost use Rattle.udp_front.specs.Pacing.{most_ticks, report_due, after_report};
+ghost use Rattle.udp_front.specs.Pacing.{most_ticks, is_behind, report_due, after_report};
 ghost use Rattle.udp_front.specs.declared.ending.FrontFault.TheVariants.{OutOfMemory as MemoryFault};
-ghost use Rattle.media_front.specs.FedLanes.{FedLane, ports_in, owing_notice, rung, AllAreGiven, ArePopped};
+ghost use Rattle.media_front.specs.FedLanes.{FedLane, ports_in, owing_notice, rung, AreGiven, AllAreGiven};
+ghost use Rattle.media_front.specs.FedLanes.{ArePopped};
 ghost use Rattle.media_front.specs.FedLanes.{most_egresses};
 ghost use Rattle.media_front.specs.Prices.{pli_octets};
 ghost use Rattle.media_front.specs.Tries.{WereTried};
@@ -19,9 +20,6 @@ ghost use Rattle.media_front.specs.Fronts.{HasTaken, MayHaveTaken, HasReported, 
 
 use crate::beat::Beat;
 use crate::feed::LaneFeed;
-use crate::giving::copies_of_all;
-use crate::paying::{credit, try_paid};
-use crate::planning::{Plan, Received, plan_for, settle};
 use crate::trying::try_all;
 use bridge_core::{Egress, Intake, Outcome};
 use desk_rows::Rows;
@@ -44,11 +42,11 @@ const MOST_TICKS: u32 = 50;
 ///
 /// Contracts see these five. Moments are nanoseconds since 1970.
 pub struct MediaFront<N: PublisherName, P: Pace> {
-    intake: Intake,
-    feed: LaneFeed<N, P>,
-    guard: FloodGuard,
+    pub(crate) intake: Intake,
+    pub(crate) feed: LaneFeed<N, P>,
+    pub(crate) guard: FloodGuard,
     /// How many octets a PLI costs the address that it comes from.
-    pli_cost: u64,
+    pub(crate) pli_cost: u64,
     ticks: Ticks,
     reports: ReportTimer,
 }
@@ -72,22 +70,22 @@ impl<N: PublisherName, P: Pace> Model for MediaFront<N, P> {
 }
 
 impl<N: PublisherName, P: Pace> MediaFront<N, P> {
-    /// A front whose ticks and reports are counted from `start`. `pli_cost` is how many octets pass a PLI on, as
+    /// A front whose ticks are counted from the start of these reports. `pli_cost` is how many octets pass a PLI on, as
     /// [`pli_octets`](crate::pli_octets) counts them.
     pub fn new(
         intake: Intake,
         feed: LaneFeed<N, P>,
         guard: FloodGuard,
         pli_cost: u64,
-        start: u64,
+        reports: ReportTimer,
     ) -> Self
         requires cost { pli_cost ≡ pli_octets intake.asker }
         ensures { result ≡ record {
           intake = intake;
           feed = feed;
           guard = guard;
-          ticks = record { start = start; had = 0 };
-          reports = record { last = start };
+          ticks = record { start = reports.last; had = 0 };
+          reports = reports;
         } }
     {
         Self {
@@ -95,8 +93,11 @@ impl<N: PublisherName, P: Pace> MediaFront<N, P> {
             feed,
             guard,
             pli_cost,
-            ticks: Ticks { start, had: 0 },
-            reports: ReportTimer { last: start },
+            ticks: Ticks {
+                start: reports.last,
+                had: 0,
+            },
+            reports,
         }
     }
 
@@ -140,36 +141,24 @@ impl<N: PublisherName, P: Pace> MediaFront<N, P> {
             ≡ record self.old { intake = self.new.intake; feed = self.new.feed; guard = self.new.guard } }
         ensures asker { self.new.intake.asker ≡ self.old.intake.asker }
     {
-        let received = Received {
-            from: *from,
-            moment,
-            octets: octets.len() as u64,
-        };
         let ingest = self.intake.datagram(alloc, rows, from, moment, octets)?;
-        let planned = plan_for(alloc, &self.guard, self.pli_cost, received, ingest)?;
-        let copies = copies_of_all(alloc, &planned.ingest.items, self.feed.count())?;
-        credit(
-            &mut self.guard,
-            planned.ingest.outcome,
-            from,
-            received.octets,
-        );
-        try_paid(&mut self.guard, &planned.ingest.up, wire);
-        let Plan { ingest, accounts } = planned;
-        settle(&mut self.guard, accounts);
-        self.feed.hand_out_all(&ingest.items, copies);
-        Ok(ingest.outcome)
+        let outcome = ingest.outcome;
+        self.handle(alloc, from, moment, octets, ingest, wire)?;
+        Ok(outcome)
     }
 
     /// Gives every lane the ticks that are due: one for each whole 20 ms since the start, oldest first, and of more
-    /// than 50 the last 50. It takes no memory.
-    pub fn tick(&mut self, now: u64)
+    /// than 50 the last 50. It takes no memory. Returns whether any was due.
+    pub fn tick(&mut self, now: u64) -> bool
+        ensures due { result ≡ is_behind self.old.ticks now }
         ensures given { AllAreGiven (map Input.tick (ticks_due most_ticks self.old.ticks now))
             self.old.feed self.new.feed }
         ensures ticks { self.new.ticks ≡ after_ticks most_ticks self.old.ticks now }
         ensures same { self.new ≡ record self.old { feed = self.new.feed; ticks = self.new.ticks } }
     {
+        let is_due = self.ticks.is_due(now);
         self.tick_most(MOST_TICKS, now);
+        is_due
     }
 
     /// Gives every lane the ticks that are due, at most `most` of them.
@@ -186,8 +175,8 @@ impl<N: PublisherName, P: Pace> MediaFront<N, P> {
         }
     }
 
-    /// Once 5 s have passed since the last report or the start, tries to send the receiver reports, in order, and then
-    /// gives every lane a report. Returns whether a report was due.
+    /// Once the interval has passed since the last report or the start, tries to send the receiver reports, in order,
+    /// and then gives every lane a report. Returns whether a report was due.
     ///
     /// Reports cost no credit. They answer no datagram, and time bounds them.
     ///
@@ -217,6 +206,15 @@ impl<N: PublisherName, P: Pace> MediaFront<N, P> {
         try_all(&up, wire);
         self.feed.give_beat(Beat::Report { moment: now });
         Ok(true)
+    }
+
+    /// Has every lane begin its jitter buffers anew after late or full sound, from here on. It takes no memory. Call it
+    /// once, before anything else is given: then each ring has a place for it.
+    pub fn renew(&mut self)
+        ensures given { AreGiven self.old.feed Input.renew self.new.feed }
+        ensures same { self.new ≡ record self.old { feed = self.new.feed } }
+    {
+        self.feed.give_beat(Beat::Renew);
     }
 
     /// Rings the bell of each lane that accepted parcels since the last call. No contract speaks of bells.

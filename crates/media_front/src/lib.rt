@@ -18,10 +18,14 @@
 //! let Ok(feed) = LaneFeed::<PublisherOf<H>, _>::start(rt, alloc, readers, &settings, &waker) else {
 //!     return println!(rt; "no lanes");
 //! };
-//! let mut media = MediaFront::new(intake, feed, guard, cost, start);
+//! let mut media = MediaFront::new(intake, feed, guard, cost, ReportTimer::begin(5_000, start)); // reports every 5 s
+//! media.renew(); // once, before anything else is given
 //! media.tell(notice);
 //! let outcome = media.datagram(alloc, rows, &from, moment, octets, &mut wire); // from, at this moment
-//! media.tick(moment);
+//! if media.tick(moment) {
+//!     media.wait_all(alloc, rows, moment, &mut wire)?; // once for each whole 20 ms
+//! }
+//! let sent = media.ask_picture(alloc, &from, 101, &mut wire)?; // where a slot was given source 101
 //! media.ring(rt);
 //! let popped = media.send(&mut wire);
 //! let fault = fault_of(&media.close(rt)); // None, unless a lane had a fault
@@ -38,16 +42,20 @@ mod feed;
 mod front;
 mod giving;
 mod granting;
+mod handling;
 mod laws;
 mod naming;
 mod offering;
+mod origins;
 mod paying;
+mod picturing;
 mod planning;
 mod popping;
 mod pricing;
 mod starting;
 mod tally;
 mod trying;
+mod waiting;
 
 pub use self::asking::MOST_EGRESSES;
 pub use self::ends::fault_of;

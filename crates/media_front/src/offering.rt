@@ -23,7 +23,7 @@ pub fn places_left(item: &Item) -> usize
     match item {
         Item::Nack { .. } | Item::Block { .. } | Item::Pli { .. } => LEFT_BY_REQUESTS,
         Item::Frame(_) | Item::Audio { .. } => LEFT_BY_MEDIA,
-        Item::Tick { .. } | Item::Report { .. } => 0,
+        Item::Tick { .. } | Item::Report { .. } | Item::Renew => 0,
     }
 }
 

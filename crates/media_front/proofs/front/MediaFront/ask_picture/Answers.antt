@@ -1,0 +1,37 @@
+use Rattle.std.proofs.Common.{◌≡◌, ℕ, List, [], ◌∷◌, refl, ap, sym, subst, ◌∙◌}
+use Rattle.std.proofs.lemmas.List.{append-nil}
+use Rattle.rtp_codec.specs.declared.address.Address.{Address}
+use Rattle.flood_guard.specs.declared.account.Account.{Account}
+use Rattle.desk_rows.specs.Desk.{Desk}
+use Rattle.intake.specs.Sources.{Origin}
+use Rattle.intake.specs.Ingested.{datagram_of}
+use Rattle.intake.specs.Taking.{picture_request}
+use Rattle.media_front.specs.Tries.{WereTried}
+use Rattle.media_front.specs.Paid.{paid_one, after_one, is_paid_for}
+use Rattle.media_front.specs.Fronts.{FrontOf}
+use Rattle.media_front.specs.Pictures.{HasAsked}
+use Rattle.media_front.proofs.front.MediaFront.ask_picture.Goals as goal
+
+pub returns-clause-asked : goal.returns-clause-asked
+returns-clause-asked g c =
+    let here = c.self.inside in
+    let o : Origin = record { address = c.args.to.now; ssrc = c.args.ssrc } in
+    let d = datagram_of c.in_ok-request.request in
+    let p = picture_request here.intake.asker o in
+    let is : d ≡ p = c.in_ok-request.ensures in
+    let before = g.W.Wire.attempts c.args.wire.now in
+    let after = g.W.Wire.attempts c.try_one.new.wire in
+    let guard = c.try_one.new.guard in
+    let old : FrontOf g.row.P.Denot = record { intake = here.intake; feed = here.feed; guard = here.guard; ticks = here.ticks; reports = here.reports } in
+    let new : FrontOf g.row.P.Denot = record old { guard = guard } in
+    let one : WereTried (paid_one p here.guard) before after = subst (λ (x : Address × List ℕ). WereTried (paid_one x here.guard) before after) is c.try_one.ensures.tried in
+    subst (λ (f : FrontOf g.row.P.Denot). HasAsked o c.try_one.result f new before after) c.self.view_is
+    (record {
+      handled = λ desk moment. record {
+        up = subst (λ (ds : List (Address × List ℕ)). WereTried ds before after) (sym (append-nil (paid_one p here.guard))) one;
+        items = refl;
+        guard = c.try_one.ensures.guard ∙ ap (λ (x : Address × List ℕ). after_one x here.guard) is;
+      };
+      answer = c.try_one.ensures.answer ∙ ap (λ (x : Address × List ℕ). is_paid_for x here.guard) is;
+      same = refl;
+    })

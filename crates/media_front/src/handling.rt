@@ -1,0 +1,57 @@
+//! What is done with the intake's answer to a datagram or to a wait.
+
+ghost use Rattle.std.specs.Prelude.{◌≡◌, OnOk, OnErr};
+ghost use Rattle.desk_rows.specs.Desk.{Desk};
+ghost use Rattle.intake.specs.Ingested.{ingested_of};
+ghost use Rattle.media_front.specs.Fronts.{HasHandled};
+
+use crate::front::MediaFront;
+use crate::giving::copies_of_all;
+use crate::paying::{credit, try_paid};
+use crate::planning::{Plan, Received, plan_for, settle};
+use bridge_core::Ingest;
+use media_workers::{Pace, PublisherName};
+use rtp_codec::Address;
+use std::alloc::{AllocError, Global};
+use udp_front::Wire;
+
+impl<N: PublisherName, P: Pace> MediaFront<N, P> {
+    /// Does what the intake answered to these octets, which came from an address at a moment: earns their credit, tries
+    /// to send what is paid for, and gives every lane what is granted of the items.
+    ///
+    /// On out of memory, the only error, nothing changes and nothing is sent.
+    pub(crate) fn handle<W: Wire>(
+        &mut self,
+        alloc: Global,
+        from: &Address,
+        moment: u64,
+        octets: &[u8],
+        ingest: Ingest,
+        wire: &mut W,
+    ) -> Result<(), AllocError>
+        ensures handled { OnOk result ((desk : Desk) → HasHandled
+            (record { desk = desk; from = from.now; moment = moment; octets = octets.now }) (ingested_of ingest)
+            self.old self.new (W.attempts wire.old) (W.attempts wire.new)) }
+        ensures err { OnErr result ((self.new ≡ self.old) × (W.attempts wire.new ≡ W.attempts wire.old)) }
+        ensures same { self.new ≡ record self.old { feed = self.new.feed; guard = self.new.guard } }
+    {
+        let received = Received {
+            from: *from,
+            moment,
+            octets: octets.len() as u64,
+        };
+        let planned = plan_for(alloc, &self.guard, self.pli_cost, received, ingest)?;
+        let copies = copies_of_all(alloc, &planned.ingest.items, self.feed.count())?;
+        credit(
+            &mut self.guard,
+            planned.ingest.outcome,
+            from,
+            received.octets,
+        );
+        try_paid(&mut self.guard, &planned.ingest.up, wire);
+        let Plan { ingest, accounts } = planned;
+        settle(&mut self.guard, accounts);
+        self.feed.hand_out_all(&ingest.items, copies);
+        Ok(())
+    }
+}
