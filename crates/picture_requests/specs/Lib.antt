@@ -1,0 +1,4 @@
+pub mod Sources
+pub mod Choices
+pub mod Requests
+pub mod Steps
