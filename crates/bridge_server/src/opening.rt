@@ -1,15 +1,17 @@
-//! How a bridge begins and ends.
+//! How a bridge begins, and the way to its end.
 
-ghost use Rattle.std.specs.Prelude.{◌≡◌, ◌↔◌, ◌≤◌, ◌+◌, true, map, vec_len, IfOk};
-ghost use Rattle.std.specs.List.{All};
+ghost use Rattle.std.specs.Prelude.{◌≡◌, ◌↔◌, ◌≤◌, ◌+◌, true, vec_len, All, IfOk};
 ghost use Rattle.intake.specs.Names.{is_name};
-ghost use Rattle.desk_rows.specs.Desk.{blank as no_rows};
-ghost use Rattle.versions.specs.Published.{ReaderOf};
+ghost use Rattle.desk_rows.specs.Desk.{blank as no_rows, good};
+ghost use Rattle.versions.specs.Published.{ReaderOf, new_reader};
 ghost use Rattle.bridge_core.specs.Calls.{most_lanes};
+ghost use Rattle.operator_desk.specs.LegalLogs.{IsLegal, calls_of as calls_in};
 ghost use Rattle.operator_desk.specs.Opening.{most_operators};
-ghost use Rattle.media_front.specs.FedLanes.{FedLane};
+ghost use Rattle.media_front.specs.FedLanes.{lanes_in};
+ghost use Rattle.bridge_server.specs.Counts.{counts_by};
+ghost use Rattle.bridge_server.specs.OneRun.{HaveBegun, IsOneRun, sent_into};
 
-use crate::calls::calls_of;
+use crate::ending::{close, gather, give_up};
 use crate::front::{Front, WAKER};
 use crate::rounds::{Rounds, ServerMedia};
 use crate::serving::serve;
@@ -19,27 +21,30 @@ use crate::wakes::Wakes;
 use crate::waking::{FrontWaker, LaneWaker};
 use bridge_core::{Intake, Settings};
 use flood_guard::FloodGuard;
-use media_front::{LaneFeed, MediaFront, fault_of, pli_octets};
+use media_front::{LaneFeed, MediaFront, pli_octets};
 use media_workers::StartFault;
 use mio::Waker;
-use operator_desk::{
-    DeskFault, DeskNames, GatherFault, Hall, Log, MAX_OPERATORS, Seat, SharedDesk,
-};
+use operator_desk::{DeskFault, DeskNames, Hall, Log, MAX_OPERATORS, Seat, SharedDesk};
 use operator_threads::Operators;
-use std::alloc::{AllocError, Global};
+use picture_requests::PictureRequests;
+use std::alloc::Global;
 use std::marker::Brand;
 use std::net::Net;
 use std::sync::atomic::AtomicBool;
 use std::sync::{Arc, Wait};
 use std::thread::Threads;
 use std::time::Clock;
-use udp_front::{FrontFault, FrontSettings, Moments};
+use udp_front::{FrontFault, FrontSettings, Moments, ReportTimer};
 use versions::LaneReader;
 
 /// Runs a bridge until an operator stops it.
 pub(crate) fn open<R>(rt: &R, alloc: Global, front: Front) -> Result<Stopped, FrontFault>
 where
     R: Threads + Clock + Wait + Net + Copy + Send + Sync + Drop + 'static,
+    ensures legal { IfOk result (λ s. IsLegal (no_rows front.settings.bridge.bridge_ssrc) s.log.items) }
+    ensures accepted { IfOk result (λ s. s.accepted.items ≡ counts_by s.log.items front.settings.operators) }
+    ensures one { IfOk result (λ s. IsOneRun
+        (no_rows front.settings.bridge.bridge_ssrc) (calls_in s.log.items) (sent_into s.sinks.items)) }
 {
     let log = Log::new(alloc)?;
     let ssrc = front.settings.bridge.bridge_ssrc;
@@ -73,6 +78,9 @@ where
     requires publisher { names.publisher ≡ H.publisher }
     requires start { no_rows ssrc ≡ H.start }
     requires seats { (operators ≡ H.seats) × (H.seats ≡ H.parts) }
+    ensures legal { IfOk result (λ s. IsLegal H.start s.log.items) }
+    ensures accepted { IfOk result (λ s. s.accepted.items ≡ counts_by s.log.items front.settings.operators) }
+    ensures one { IfOk result (λ s. IsOneRun H.start (calls_in s.log.items) (sent_into s.sinks.items)) }
 {
     // One reader for each lane, and one for the front.
     let readers = front.settings.lanes as usize + 1;
@@ -139,7 +147,7 @@ fn begin<H, R>(
 where
     H: Hall + Send + Sync + 'static,
     R: Threads + Clock + Wait + Copy + Send + Drop + 'static,
-    requires publisher { All (λ (reader : ReaderOf). reader.publisher ≡ H.publisher) readers.items }
+    requires readers { All (λ (reader : ReaderOf). reader ≡ new_reader H.publisher H.start) readers.items }
     requires few { vec_len readers ≤ most_lanes + 1 }
 {
     let mut readers = readers;
@@ -152,7 +160,9 @@ where
         front: waker.clone()?,
         has_members: Arc::try_clone(&has_members)?,
     };
-    let media = media_of(rt, alloc, readers, settings.bridge, &lane_waker, start)?;
+    let reports = ReportTimer::begin(settings.report_ms, start);
+    let mut media = media_of(rt, alloc, readers, settings.bridge, &lane_waker, reports)?;
+    media.renew();
     let rounds = Rounds {
         alloc,
         sockets,
@@ -160,6 +170,8 @@ where
         reader: own,
         media,
         ticked: start,
+        seen: 0,
+        pictures: PictureRequests::new(alloc),
         is_behind: false,
         has_members,
         wakes: Wakes::begin(start),
@@ -174,13 +186,14 @@ fn media_of<H, R>(
     readers: Vec<LaneReader>,
     settings: Settings,
     waker: &LaneWaker,
-    start: u64,
+    reports: ReportTimer,
 ) -> Result<ServerMedia<H, R>, FrontFault>
 where
     H: Hall + Send + Sync + 'static,
     R: Threads + Wait + Copy + Send + Drop + 'static,
-    requires publisher { All (λ (reader : ReaderOf). reader.publisher ≡ H.publisher) readers.items }
+    requires readers { All (λ (reader : ReaderOf). reader ≡ new_reader H.publisher H.start) readers.items }
     requires few { vec_len readers ≤ most_lanes }
+    ensures { IfOk result (λ media. HaveBegun H.start H.publisher (lanes_in media.feed)) }
 {
     if !settings.is_good() {
         // Settings that were read always are.
@@ -190,76 +203,8 @@ where
     let guard = FloodGuard::new(alloc)?;
     let cost = pli_octets(alloc, &settings)?;
     match LaneFeed::start(rt, alloc, readers, &settings, waker) {
-        Ok(feed) => Ok(MediaFront::new(intake, feed, guard, cost, start)),
+        Ok(feed) => Ok(MediaFront::new(intake, feed, guard, cost, reports)),
         Err(fault) => Err(start_fault(fault)),
-    }
-}
-
-/// Ends the lanes, and returns how many items were dropped for each.
-fn close<H, R>(rt: &R, alloc: Global, rounds: Rounds<H, R>) -> Result<Vec<u64>, FrontFault>
-where
-    H: Hall + Send + Sync + 'static,
-    R: Threads + Wait + Copy + Send + Drop + 'static,
-{
-    let Rounds {
-        alloc: _,
-        sockets: _,
-        moments: _,
-        reader: _,
-        media,
-        ticked: _,
-        is_behind: _,
-        has_members: _,
-        wakes: _,
-    } = rounds;
-    let dropped = dropped_of(alloc, &media);
-    let ends = media.close(rt);
-    match fault_of(&ends) {
-        None => Ok(dropped?),
-        Some(fault) => Err(fault),
-    }
-}
-
-/// How many items were dropped for each lane.
-fn dropped_of<H, R>(alloc: Global, media: &ServerMedia<H, R>) -> Result<Vec<u64>, AllocError>
-where
-    H: Hall,
-    R: Wait + Drop,
-    ensures { IfOk result (λ dropped. dropped.items ≡ map (λ (x : FedLane _). x.dropped) media.now.feed) }
-{
-    let mut dropped = Vec::new(alloc);
-    for lane in 0..media.lanes() {
-        dropped.push(media.dropped(lane))?;
-    }
-    Ok(dropped)
-}
-
-/// The bridge's fault, if the log can't be gathered.
-fn gather_fault(fault: GatherFault) -> FrontFault
-    ensures { (result ≡ FrontFault.OutOfMemory) ↔ (fault ≡ GatherFault.OutOfMemory) }
-{
-    match fault {
-        GatherFault::OutOfMemory => FrontFault::OutOfMemory,
-        GatherFault::SeatMissing { .. } | GatherFault::LogTaken => FrontFault::Io,
-    }
-}
-
-/// Ends the desk, and returns how many calls of each operator were accepted.
-fn gather<'a, H: Hall, R: Wait>(
-    rt: &R,
-    alloc: Global,
-    operators: Operators<'a, H>,
-    count: u32,
-) -> Result<Vec<usize>, FrontFault>
-    requires parts { H.seats ≡ H.parts }
-{
-    let (desk, seats) = operators.end();
-    match desk.gather(rt, alloc, seats) {
-        Ok((log, _)) => Ok(calls_of(alloc, count, &log)?),
-        Err((desk, _seats, fault, _behind)) => {
-            desk.end(rt);
-            Err(gather_fault(fault))
-        }
     }
 }
 
@@ -275,10 +220,14 @@ fn run<'a, H, R>(
 where
     H: Hall + Send + Sync + 'static,
     R: Threads + Clock + Wait + Net + Copy + Send + Sync + Drop + 'static,
-    requires publisher { All (λ (reader : ReaderOf). reader.publisher ≡ H.publisher) readers.items }
+    requires readers { All (λ (reader : ReaderOf). reader ≡ new_reader H.publisher H.start) readers.items }
     requires few { vec_len readers ≤ most_lanes + 1 }
     requires seats { vec_len seats ≤ most_operators }
     requires parts { H.seats ≡ H.parts }
+    requires first { good H.start ≡ true }
+    ensures legal { IfOk result (λ s. IsLegal H.start s.log.items) }
+    ensures accepted { IfOk result (λ s. s.accepted.items ≡ counts_by s.log.items front.settings.operators) }
+    ensures one { IfOk result (λ s. IsOneRun H.start (calls_in s.log.items) (sent_into s.sinks.items)) }
 {
     let count = front.settings.operators;
     match begin(rt, alloc, readers, front) {
@@ -287,9 +236,16 @@ where
             let mut rounds = rounds;
             let done = serve(rt, alloc, &operators, &waker, &mut rounds);
             // The desk ends first: a lane then ends at its next item, and what is left in its ring is dropped.
-            let log = gather(rt, alloc, operators, count);
-            let lanes = close(rt, alloc, rounds);
-            Stopped::told(done, lanes, log)
+            match gather(rt, alloc, operators, count) {
+                Ok((desk, last)) => {
+                    let lanes = close(rt, alloc, rounds, &last);
+                    Stopped::told(done, lanes, Ok(desk))
+                }
+                Err(fault) => {
+                    let lanes = give_up(rt, rounds);
+                    Stopped::told(done, Err(lanes), Err(fault))
+                }
+            }
         }
         Err(fault) => {
             desk.end(rt);

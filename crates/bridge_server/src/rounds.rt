@@ -10,7 +10,10 @@ use lane_bell::Rung;
 use media_front::{MOST_EGRESSES, MediaFront, PublisherOf};
 use mio::net::TcpStream;
 use operator_desk::Hall;
+use picture_requests::PictureRequests;
+use rtp_codec::Address;
 use std::alloc::Global;
+use std::marker::Model;
 use std::sync::atomic::{AtomicBool, Ordering};
 use std::sync::{Arc, Wait};
 use std::time::Clock;
@@ -31,6 +34,8 @@ const STOOD_STILL: u64 = 1_000_000_000;
 pub(crate) type ServerMedia<H, R> = MediaFront<PublisherOf<H>, Rung<R, LaneWaker>>;
 
 /// The front: its sockets, its clock, its own reader of the published desk, and the lanes.
+///
+/// Contracts see the lanes as they were handed in. Nothing that a round does changes which they are.
 pub(crate) struct Rounds<H: Hall, R: Wait + Drop> {
     pub(crate) alloc: Global,
     pub(crate) sockets: Sockets,
@@ -40,11 +45,28 @@ pub(crate) struct Rounds<H: Hall, R: Wait + Drop> {
     pub(crate) media: ServerMedia<H, R>,
     /// When the ticks that were due were given last, in nanoseconds since 1970.
     pub(crate) ticked: u64,
+    /// The version of the desk that `pictures` has seen.
+    pub(crate) seen: u64,
+    /// The senders that are to be asked for a picture.
+    pub(crate) pictures: PictureRequests,
     /// The last round sent as much as a round may, so that more may wait.
     pub(crate) is_behind: bool,
     /// Lanes wake the front while it is set.
     pub(crate) has_members: Arc<AtomicBool, Global>,
     pub(crate) wakes: Wakes,
+}
+
+impl<H: Hall, R: Wait + Drop> Model for Rounds<H, R> {
+    ghost use Rattle.std.specs.Prelude.{List};
+    ghost use Rattle.media_workers.specs.LaneRuns.{LaneNow};
+    ghost use Rattle.media_front.specs.FedLanes.{lanes_in};
+    ghost use Rattle.bridge_server.specs.OneRun.{HaveBegun};
+
+    ghost Value = { List LaneNow };
+
+    ghost view = { λ r. lanes_in r.media.feed };
+
+    ghost invariant = { λ r. HaveBegun H.start H.publisher (lanes_in r.media.feed) };
 }
 
 impl<H: Hall + Send + Sync + 'static, R: Wait + Clock + Copy + Send + Drop + 'static> Rounds<H, R> {
@@ -66,13 +88,13 @@ impl<H: Hall + Send + Sync + 'static, R: Wait + Clock + Copy + Send + Drop + 'st
     pub(crate) fn round(&mut self, rt: &R, notice: Notice) -> Result<(), FrontFault>
         requires { notice.publisher ≡ H.publisher }
     {
-        self.media.tell(notice);
+        self.tell(notice);
         let Some(reader) = self.reader.take() else {
             return Err(FrontFault::Io);
         };
         let done = match reader.enter() {
             Ok(entered) => {
-                let done = self.take(rt, entered.rows());
+                let done = self.take(rt, entered.version(), entered.rows());
                 self.reader = Some(entered.leave());
                 done
             }
@@ -86,12 +108,20 @@ impl<H: Hall + Send + Sync + 'static, R: Wait + Clock + Copy + Send + Drop + 'st
         let woken = self.wake(rt);
         done?;
         woken?;
-        self.is_behind = self.media.send(&mut self.sockets.wire()) >= MOST_EGRESSES;
+        self.is_behind = self.send() >= MOST_EGRESSES;
         Ok(())
     }
 
-    /// Takes in the datagrams that wait, the ticks that are due and the reports.
-    fn take(&mut self, rt: &R, rows: &Rows) -> Result<(), FrontFault> {
+    /// Owes each lane this notice.
+    fn tell(&mut self, notice: Notice)
+        requires { notice.publisher ≡ H.publisher }
+    {
+        self.media.tell(notice);
+    }
+
+    /// Takes in the datagrams that wait, the ticks that are due and the reports. Where a tick was due, time has passed
+    /// for the video sources. Senders are asked for the pictures that slots were given.
+    fn take(&mut self, rt: &R, version: u64, rows: &Rows) -> Result<(), FrontFault> {
         self.has_members
             .store(!rows.members().is_empty(), Ordering::SeqCst);
         for _ in 0..DATAGRAMS {
@@ -100,8 +130,23 @@ impl<H: Hall + Send + Sync + 'static, R: Wait + Clock + Copy + Send + Drop + 'st
             }
             self.take_datagram(rt, rows)?;
         }
-        self.tick(rt)?;
         let now = self.moments.now(rt)?;
+        if self.tick_at(now) {
+            self.wait_all(rows, now)?;
+        }
+        self.see(version, rows, now)?;
+        self.ask_pictures(now)?;
+        self.report(rows, now)
+    }
+
+    /// Tells the intake that time has passed for each video source.
+    fn wait_all(&mut self, rows: &Rows, now: u64) -> Result<(), FrontFault> {
+        let mut wire = self.sockets.wire();
+        self.media.wait_all(self.alloc, rows, now, &mut wire)
+    }
+
+    /// Sends the reports that are due.
+    fn report(&mut self, rows: &Rows, now: u64) -> Result<(), FrontFault> {
         let mut wire = self.sockets.wire();
         self.media.report(self.alloc, rows, now, &mut wire)?;
         Ok(())
@@ -128,9 +173,20 @@ impl<H: Hall + Send + Sync + 'static, R: Wait + Clock + Copy + Send + Drop + 'st
         if moment.saturating_sub(self.ticked) > STOOD_STILL {
             self.tick_at(moment);
         }
+        self.give(rows, &from, moment, octets)
+    }
+
+    /// Takes in what was read last.
+    fn give(
+        &mut self,
+        rows: &Rows,
+        from: &Address,
+        moment: u64,
+        octets: usize,
+    ) -> Result<(), FrontFault> {
         let (octets, mut wire) = self.sockets.parts(octets);
         self.media
-            .datagram(self.alloc, rows, &from, moment, octets, &mut wire)?;
+            .datagram(self.alloc, rows, from, moment, octets, &mut wire)?;
         Ok(())
     }
 
@@ -138,9 +194,19 @@ impl<H: Hall + Send + Sync + 'static, R: Wait + Clock + Copy + Send + Drop + 'st
     fn wake(&mut self, rt: &R) -> Result<(), FrontFault> {
         let has_members = self.has_members.load(Ordering::SeqCst);
         if self.wakes.is_due(self.moments.now(rt)?, has_members) {
-            self.media.ring(rt);
+            self.ring(rt);
         }
         Ok(())
+    }
+
+    /// Rings the bell of each lane that was given something.
+    fn ring(&mut self, rt: &R) {
+        self.media.ring(rt);
+    }
+
+    /// Sends what the lanes gave. Returns how much that was.
+    fn send(&mut self) -> u32 {
+        self.media.send(&mut self.sockets.wire())
     }
 
     /// Gives each lane the ticks that are due.
@@ -150,9 +216,9 @@ impl<H: Hall + Send + Sync + 'static, R: Wait + Clock + Copy + Send + Drop + 'st
         Ok(())
     }
 
-    /// Gives each lane the ticks that are due at this moment.
-    fn tick_at(&mut self, now: u64) {
-        self.media.tick(now);
+    /// Gives each lane the ticks that are due at this moment. Returns whether any was due.
+    fn tick_at(&mut self, now: u64) -> bool {
         self.ticked = now;
+        self.media.tick(now)
     }
 }

@@ -1,0 +1,26 @@
+use Rattle.std.proofs.Common.{sym, subst}
+use Rattle.operator_desk.specs.LegalLogs.{calls_of}
+use Rattle.media_front.specs.FedLanes.{ports_in}
+use Rattle.bridge_server.specs.OneRun.{IsOneRun, sent_into}
+use Rattle.bridge_server.proofs.RunLemmas.{have_ended, one_run}
+use Rattle.bridge_server.proofs.ending.close.Goals as goal
+
+pub compare-requires : goal.compare-requires
+compare-requires g c = record {
+  ended = have_ended _ g.H.Hall.start g.H.Hall.publisher _ c.media_in-media.result.feed c.close-ends.result.items c.media_in-media.ensures c.close-ends.ensures.ended c.requires.publisher;
+}
+
+pub returns : goal.returns
+returns g c = record {
+  one = λ log legal tells.
+      let start = g.H.Hall.start in
+      let feed = c.media_in-media.result.feed in
+      let ends = c.close-ends.result.items in
+      let ended = c.close-ends.ensures.ended in
+      let last = c.args.last.now in
+      subst (λ sinks. IsOneRun start (calls_of log) (sent_into sinks)) (sym c.in_ok-sinks.ensures)
+      (one_run _ start g.H.Hall.publisher log last feed ends c.media_in-media.ensures c.requires.first legal tells ended
+      (c.lanes_saw_what_they_know.ensures (ports_in feed) ends ended last.lists c.in_ok-compare.ensures)
+      (c.the_running_headline.ensures.holds start log (ports_in feed) ends)
+      (c.the_running_headline.ensures.sent start log (ports_in feed) ends));
+}

@@ -1,0 +1,170 @@
+//! How a bridge ends: its desk first, and then its lanes.
+
+ghost use Rattle.std.specs.Prelude.{◌≡◌, ◌↔◌, true, List, map, IfOk, OnOk};
+ghost use Rattle.desk_rows.specs.Desk.{good};
+ghost use Rattle.operator_desk.specs.Answers.{Tells};
+ghost use Rattle.operator_desk.specs.Entry.{EntryOf};
+ghost use Rattle.operator_desk.specs.LegalLogs.{IsLegal, calls_of as calls_in};
+ghost use Rattle.media_workers.specs.Bridges.{EndOf};
+ghost use Rattle.lane_laws.specs.Learnt.{HaveEnded, HaveKnown};
+ghost use Rattle.media_front.specs.FedLanes.{FedLane, lanes_in};
+ghost use Rattle.bridge_server.specs.Counts.{counts_by};
+ghost use Rattle.bridge_server.specs.OneRun.{HaveBegun, IsOneRun, sent_into};
+
+use crate::calls::calls_of;
+use crate::rounds::{Rounds, ServerMedia};
+use crate::stopped::{DeskEnd, MediaEnd};
+use crate::waking::LaneWaker;
+use bridge_core::Egress;
+use lane_bell::Rung;
+use lane_laws::{lanes_saw_what_they_know, none_knew_more, the_running_headline};
+use media_front::{PublisherOf, fault_of};
+use media_workers::{LaneEnd, Pace, PublisherName};
+use operator_desk::{GatherFault, Hall};
+use operator_threads::Operators;
+use rtrb::Producer;
+use std::alloc::{AllocError, Global};
+use std::sync::Wait;
+use std::thread::Threads;
+use udp_front::FrontFault;
+use versions::Notice;
+
+/// The bridge's fault, if the log can't be gathered.
+fn gather_fault(fault: GatherFault) -> FrontFault
+    ensures { (result ≡ FrontFault.OutOfMemory) ↔ (fault ≡ GatherFault.OutOfMemory) }
+{
+    match fault {
+        GatherFault::OutOfMemory => FrontFault::OutOfMemory,
+        GatherFault::SeatMissing { .. } | GatherFault::LogTaken => FrontFault::Io,
+    }
+}
+
+/// Ends the desk. Returns its log, with how many calls of each operator it has, and the notice of its last version.
+pub(crate) fn gather<'a, H: Hall, R: Wait>(
+    rt: &R,
+    alloc: Global,
+    operators: Operators<'a, H>,
+    count: u32,
+) -> Result<(DeskEnd, Notice), FrontFault>
+    requires parts { H.seats ≡ H.parts }
+    ensures legal { IfOk result (λ r. IsLegal H.start (r.0).log.items) }
+    ensures tells { IfOk result (λ r. Tells H.start H.publisher (r.0).log.items r.1) }
+    ensures accepted { IfOk result (λ r. (r.0).accepted.items ≡ counts_by (r.0).log.items count) }
+{
+    let (desk, seats) = operators.end();
+    match desk.gather(rt, alloc, seats) {
+        Ok((log, last)) => {
+            let accepted = calls_of(alloc, count, &log)?;
+            Ok((DeskEnd { log, accepted }, last))
+        }
+        Err((desk, _seats, fault, _behind)) => {
+            desk.end(rt);
+            Err(gather_fault(fault))
+        }
+    }
+}
+
+/// The media of a bridge whose rounds are over.
+fn media_in<H: Hall, R: Wait + Drop>(rounds: Rounds<H, R>) -> ServerMedia<H, R>
+    ensures { HaveBegun H.start H.publisher (lanes_in result.feed) }
+{
+    let Rounds {
+        alloc: _,
+        sockets: _,
+        moments: _,
+        reader: _,
+        media,
+        ticked: _,
+        seen: _,
+        pictures: _,
+        is_behind: _,
+        has_members: _,
+        wakes: _,
+    } = rounds;
+    media
+}
+
+/// The fault `Io` if a lane knew of a later version than this notice when it ended. None does, if the notice is of the
+/// last version of a desk that had ended before.
+fn compare<N: PublisherName, P: Pace>(
+    ends: &Vec<LaneEnd<N, Producer<Egress>>>,
+    last: &Notice,
+) -> Result<(), FrontFault>
+    requires ended { HaveEnded P.answers last.now.publisher ends.now.items }
+    ensures { OnOk result (HaveKnown last.now.lists ends.now.items) }
+{
+    if none_knew_more::<N, P>(ends, last) {
+        Ok(())
+    } else {
+        Err(FrontFault::Io)
+    }
+}
+
+/// Ends the lanes of a desk that has ended, by the notice of its last version. Returns how many items were dropped for
+/// each lane, and where each put what it sent.
+pub(crate) fn close<H, R>(
+    rt: &R,
+    alloc: Global,
+    rounds: Rounds<H, R>,
+    last: &Notice,
+) -> Result<MediaEnd, FrontFault>
+where
+    H: Hall + Send + Sync + 'static,
+    R: Threads + Wait + Copy + Send + Drop + 'static,
+    requires first { good H.start ≡ true }
+    requires publisher { last.now.publisher ≡ H.publisher }
+    ensures one { IfOk result (λ end. (log : List EntryOf) →
+        IsLegal H.start log → Tells H.start H.publisher log last.now →
+        IsOneRun H.start (calls_in log) (sent_into end.sinks.items)) }
+{
+    let media = media_in(rounds);
+    let dropped = dropped_of(alloc, &media);
+    let ends = media.close(rt);
+    lanes_saw_what_they_know::<PublisherOf<H>, Rung<R, LaneWaker>>();
+    the_running_headline::<PublisherOf<H>, Rung<R, LaneWaker>>();
+    if let Some(fault) = fault_of(&ends) {
+        return Err(fault);
+    }
+    compare::<PublisherOf<H>, Rung<R, LaneWaker>>(&ends, last)?;
+    let dropped = dropped?;
+    let sinks = sinks_of(alloc, ends)?;
+    Ok(MediaEnd { dropped, sinks })
+}
+
+/// Ends the lanes of a bridge whose log is lost. Returns their fault, or `Io`.
+pub(crate) fn give_up<H, R>(rt: &R, rounds: Rounds<H, R>) -> FrontFault
+where
+    H: Hall + Send + Sync + 'static,
+    R: Threads + Wait + Copy + Send + Drop + 'static,
+{
+    let ends = media_in(rounds).close(rt);
+    fault_of(&ends).unwrap_or(FrontFault::Io)
+}
+
+/// How many items were dropped for each lane.
+fn dropped_of<H, R>(alloc: Global, media: &ServerMedia<H, R>) -> Result<Vec<u64>, AllocError>
+where
+    H: Hall,
+    R: Wait + Drop,
+    ensures { IfOk result (λ dropped. dropped.items ≡ map (λ (x : FedLane _). x.dropped) media.now.feed) }
+{
+    let mut dropped = Vec::new(alloc);
+    for lane in 0..media.lanes() {
+        dropped.push(media.dropped(lane))?;
+    }
+    Ok(dropped)
+}
+
+/// Where each lane put what it sent.
+fn sinks_of<N: PublisherName>(
+    alloc: Global,
+    ends: Vec<LaneEnd<N, Producer<Egress>>>,
+) -> Result<Vec<Producer<Egress>>, AllocError>
+    ensures { IfOk result (λ sinks. sinks.items ≡ map (λ (end : EndOf N). end.sink) ends.items) }
+{
+    let mut sinks = Vec::new(alloc);
+    for end in ends {
+        sinks.push(end.sink)?;
+    }
+    Ok(sinks)
+}
