@@ -29,6 +29,14 @@ pub fn a_script_adds_a_room(alloc: Global) -> Result<Vec<u8>, RunFault>
     Ok(out)
 }
 
+/// A script says who its bridge is, and adds a room.
+pub fn a_script_names_its_bridge(alloc: Global) -> Result<Vec<u8>, RunFault>
+    ensures { IfOk result (λ out. out.items ≡ codes "ok 1\n") }
+{
+    let out = output(alloc, b"bridge 7 conf renew\ndesk 0 add-room 1\n")?;
+    Ok(out)
+}
+
 /// The usual setup.
 pub fn a_script_sets_up(alloc: Global) -> Result<Vec<u8>, RunFault>
     ensures { IfOk result (λ out. out.items ≡ codes "ok 1\nok 2\nok 3\nok 4\nok 5\nok 6\n") }

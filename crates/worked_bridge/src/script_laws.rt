@@ -1,8 +1,9 @@
 //! What the laws of scripts tell a caller, whatever the words are.
 
 ghost use Rattle.std.specs.Prelude.{◌≡◌, ◌≢◌, ◌≤◌, ◌<◌, ◌+◌, ◌%◌, ◌^◌, ◌++◌, ◌∷◌};
-ghost use Rattle.std.specs.Prelude.{ℕ, ℤ, pos, true, List, [], codes, length, Some, IfSome, IfOk, OnOk};
+ghost use Rattle.std.specs.Prelude.{ℕ, ℤ, Bool, pos, true, List, [], codes, length, Some, Ok, IfSome, IfOk, OnOk};
 ghost use Rattle.rtp_codec.specs.declared.address.Address.{Address};
+ghost use Rattle.upward.specs.Upstream.{Asker};
 ghost use Rattle.desk_rows.specs.Desk.{Desk, blank, good};
 ghost use Rattle.frame_gate.specs.Frame.{SourcePacket};
 ghost use Rattle.media_items.specs.Frame.{SourceFrame};
@@ -18,10 +19,14 @@ ghost use Rattle.script_text.specs.Words.{words_of};
 ghost use Rattle.script_text.specs.Lines.{lines_of, parts_of};
 ghost use Rattle.script_text.specs.Numbers.{decimal_of, ext_of, FitsExt};
 ghost use Rattle.script_text.specs.Packets.{IsReadable, packet_text};
+ghost use Rattle.script_text.specs.Values.{AllFit};
 ghost use Rattle.script_text.specs.Requests.{IsFrame, IsDatagram, frame_line, report_line, rx_line, tick_line};
+ghost use Rattle.script_text.specs.Requests.{wait_line, wait_values};
+ghost use Rattle.script_text.specs.Requests.{Begin};
+ghost use Rattle.script_text.specs.FirstLine.{IsNamed, bridge_line, request_at};
 ghost use Rattle.script_text.specs.Judged.{call_cases};
-ghost use Rattle.script_text.specs.Wire.{Wire, IsHeard, HearsAll, script_asker};
-ghost use Rattle.script_text.specs.Scripts.{answers_of, sent_in, steps_of};
+ghost use Rattle.script_text.specs.Wire.{Wire, IsHeard, HearsAll};
+ghost use Rattle.script_text.specs.Scripts.{answers_of, sent_in, speaker_of, steps_of};
 ghost use Rattle.script_text.specs.Output.{output_of};
 
 use bridge_core::{Core, Egress, Reply};
@@ -29,10 +34,10 @@ use desk_edit::{Call, Command};
 use hex::{decode, encode};
 use rtp_codec::Address;
 use script_text::{
-    RunFault, address_words, call_lines, datagram_lines, datagrams_are_heard, ext_words,
-    frame_lines, hex_words, number_words, output, packet_words, parse_address, parse_desk,
-    pieces_join, print_egress, print_reply, refusal_words, report_lines, script_bridge,
-    script_sends, script_streams_have_no_gap, scripts_are_heard, tick_lines,
+    RunFault, address_words, bridge_lines, call_lines, datagram_lines, datagrams_are_heard,
+    ext_words, frame_lines, hex_words, number_words, output, packet_words, parse_address,
+    parse_desk, pieces_join, print_egress, print_reply, refusal_words, report_lines, script_bridge,
+    script_sends, script_streams_have_no_gap, scripts_are_heard, tick_lines, wait_lines,
 };
 use std::alloc::{AllocError, Global};
 
@@ -121,19 +126,23 @@ pub fn reads_back_octets(alloc: Global, octets: &[u8]) -> Option<Vec<u8>>
     Some(back)
 }
 
-/// What is printed of packets, frames, datagrams, ticks and reports is another where they are others.
+/// What is printed of packets, frames, datagrams, waits, ticks and reports is another where they are others.
 pub fn others_are_printed_otherwise()
     ensures packets { (p q : SourcePacket) → IsReadable p → IsReadable q → packet_text p ≡ packet_text q → p ≡ q }
     ensures frames { (f g : SourceFrame) → IsFrame f → IsFrame g → frame_line f ≡ frame_line g → f ≡ g }
     ensures datagrams { (m n : ℕ) (from to : Address) (octets bytes : List ℕ)
         → IsDatagram m from octets → IsDatagram n to bytes
         → rx_line m from octets ≡ rx_line n to bytes → octets ≡ bytes }
+    ensures waits { (m n : ℕ) (from to : Address) (source other : ℕ)
+        → AllFit (wait_values m from source) → AllFit (wait_values n to other)
+        → wait_line m from source ≡ wait_line n to other → source ≡ other }
     ensures ticks { (m n : ℕ) → m < 2 ^ 64 → n < 2 ^ 64 → tick_line m ≡ tick_line n → m ≡ n }
     ensures reports { (m n : ℕ) → m < 2 ^ 64 → n < 2 ^ 64 → report_line m ≡ report_line n → m ≡ n }
 {
     packet_words();
     frame_lines();
     datagram_lines();
+    wait_lines();
     tick_lines();
     report_lines();
 }
@@ -178,21 +187,32 @@ pub fn two_scripts_have_one_wire(
     Ok((one, other))
 }
 
-/// What a script sends is what the core sends over its steps. The desk is blank at first and of SSRC 1; the name is
-/// `bridge`.
+/// What a script sends is what the core sends over its steps, under the name that the script gives its bridge. The desk
+/// is blank at first. A script that gives none, as one that adds a room, has SSRC 1 and the name `bridge`.
 pub fn a_script_sends_as_the_core_does()
-    ensures { (wire : Wire) (input : List ℕ) → sent_in (answers_of wire input)
-        ≡ sends (record { ssrc = 1; cname = codes "bridge" }) 1 (blank 1) (steps_of wire input) }
+    ensures sends { (wire : Wire) (input : List ℕ) → sent_in (answers_of wire input)
+        ≡ sends (speaker_of input) 1 (blank (speaker_of input).ssrc) (steps_of wire input) }
+    ensures unnamed { speaker_of (codes "desk 0 add-room 1\n") ≡ record { ssrc = 1; cname = codes "bridge" } }
+    ensures named { speaker_of (codes "bridge 7 conf renew\n") ≡ record { ssrc = 7; cname = codes "conf" } }
 {
     script_bridge();
     script_sends();
+}
+
+/// A line that says who the bridge is is spelt in one way, and it is the first of its script.
+pub fn a_bridge_is_named_once()
+    ensures spelt { (who other : Asker) (renews goes_on : Bool) → IsNamed who → IsNamed other
+        → bridge_line who renews ≡ bridge_line other goes_on → who ≡ other }
+    ensures first { (line : List ℕ) (who : Asker) (renews : Bool) → request_at 2 line ≢ Ok (Begin who renews) }
+{
+    bridge_lines();
 }
 
 /// The second packet that a script sends for the first time on a stream is numbered one more than the first, and the
 /// first desk that it publishes is good.
 pub fn a_script_numbers_without_a_gap()
     ensures second { (wire : Wire) (input : List ℕ) (name : Name) (m n : ℕ) (ns : List ℕ)
-        → numbers (firsts script_asker 1 (blank 1) name (steps_of wire input)) ≡ m ∷ n ∷ ns
+        → numbers (firsts (speaker_of input) 1 (blank (speaker_of input).ssrc) name (steps_of wire input)) ≡ m ∷ n ∷ ns
         → n ≡ (m + 1) % 2 ^ 16 }
     ensures good { (wire : Wire) (input : List ℕ) (desk : Desk) (steps : List Step)
         → steps_of wire input ≡ Step.publish desk ∷ steps → good desk ≡ true }

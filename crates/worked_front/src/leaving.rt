@@ -7,7 +7,8 @@ ghost use Rattle.media_items.specs.Inputs.{Input, Sound, Request, Told, Loss, in
 use bridge_core::Item;
 use media_front::places_left;
 
-/// NACKs, report blocks and PLIs leave half of the ring, frames and sound 64 places. Ticks and reports take the last.
+/// NACKs, report blocks and PLIs leave half of the ring, frames and sound 64 places. Ticks, reports and renewals take
+/// the last.
 pub fn leaves_for_others(item: &Item) -> usize
     ensures nack { (request : Request) → input_of item.now ≡ Input.nack request → result ≡ 512 }
     ensures block { (told : Told) → input_of item.now ≡ Input.block told → result ≡ 512 }
@@ -16,6 +17,7 @@ pub fn leaves_for_others(item: &Item) -> usize
     ensures audio { (sound : Sound) → input_of item.now ≡ Input.audio sound → result ≡ 64 }
     ensures tick { (moment : ℕ) → input_of item.now ≡ Input.tick moment → result ≡ 0 }
     ensures report { (moment : ℕ) → input_of item.now ≡ Input.report moment → result ≡ 0 }
+    ensures renew { input_of item.now ≡ Input.renew → result ≡ 0 }
 {
     places_left(item)
 }

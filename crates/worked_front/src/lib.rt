@@ -9,3 +9,4 @@ pub mod lane_ends;
 pub mod leaving;
 pub mod pacing;
 pub mod unread;
+pub mod waits;

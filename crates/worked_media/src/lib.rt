@@ -7,6 +7,7 @@ pub mod formats;
 pub mod jitter_buffers;
 pub mod mixed_ticks;
 pub mod mixes;
+pub mod pictures;
 pub mod reporting;
 pub mod resends;
 pub mod sample_laws;

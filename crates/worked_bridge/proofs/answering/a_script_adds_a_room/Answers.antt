@@ -3,12 +3,13 @@ use Rattle.desk_edit.specs.Commands.{desk_after}
 use Rattle.desk_edit.specs.Calls.{after_call}
 use Rattle.desk_edit.specs.Refusals.{refused}
 use Rattle.script_text.specs.Output.{outcome_of}
-use Rattle.script_text.specs.Requests.{request_of, words_request}
+use Rattle.script_text.specs.Requests.{line_request, words_request}
+use Rattle.script_text.specs.FirstLine.{first_request}
 use Rattle.script_text.specs.Calls.{call_of, command_of, single}
 use Rattle.script_text.specs.Values.{values_of}
 use Rattle.worked_bridge.proofs.Wires.{no_wire}
 use Rattle.worked_bridge.proofs.answering.a_script_adds_a_room.Goals as goal
 
 pub returns : goal.returns
-unfolding digits desk_after after_call refused outcome_of request_of words_request call_of single command_of values_of
+unfolding digits desk_after after_call refused outcome_of line_request first_request words_request call_of single command_of values_of
 returns c = (c.in_ok-out.ensures.ok.each no_wire (tt, (tt, tt))).1

@@ -4,7 +4,8 @@ use Rattle.desk_edit.specs.Commands.{desk_after}
 use Rattle.desk_edit.specs.Calls.{after_call}
 use Rattle.desk_edit.specs.Refusals.{refused}
 use Rattle.script_text.specs.Output.{outcome_of}
-use Rattle.script_text.specs.Requests.{request_of, words_request, frame_of}
+use Rattle.script_text.specs.Requests.{line_request, words_request, frame_of}
+use Rattle.script_text.specs.FirstLine.{first_request}
 use Rattle.script_text.specs.Calls.{call_of, command_of, single}
 use Rattle.script_text.specs.Values.{values_of}
 use Rattle.script_text.specs.Addresses.{address_of, field_of}
@@ -16,5 +17,5 @@ use Rattle.worked_bridge.proofs.Wires.{no_wire}
 use Rattle.worked_bridge.proofs.answering.a_script_sends_a_frame.Goals as goal
 
 pub returns : goal.returns
-unfolding digits encode_with decode_pairs desk_after after_call refused outcome_of request_of words_request call_of single command_of values_of address_of field_of ext_of packet_from source_packets_of fault_of by_index receivers frame_of
+unfolding digits encode_with decode_pairs desk_after after_call refused outcome_of line_request first_request words_request call_of single command_of values_of address_of field_of ext_of packet_from source_packets_of fault_of by_index receivers frame_of
 returns c = (c.in_ok-out.ensures.ok.each no_wire (tt, (tt, (tt, (tt, (tt, (tt, (tt, (tt, tt))))))))).1
