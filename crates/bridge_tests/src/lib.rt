@@ -1,8 +1,10 @@
-//! Readers, writers and wires that fail, and packets that are missing. Tests alone.
+//! Readers, writers and wires that fail, packets that are missing, and pictures that are wanted. Tests alone.
 #![tactic(auto)]
 
 #[cfg(test)]
 mod gating;
+#[cfg(test)]
+mod picturing;
 #[cfg(test)]
 mod reading;
 #[cfg(test)]

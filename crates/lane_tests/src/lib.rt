@@ -15,6 +15,8 @@ mod counts;
 #[cfg(test)]
 mod feed;
 #[cfg(test)]
+mod full_rings;
+#[cfg(test)]
 mod full_sink;
 #[cfg(test)]
 mod gathering;
@@ -52,5 +54,7 @@ mod streams;
 mod together;
 #[cfg(test)]
 mod told;
+#[cfg(test)]
+mod turns;
 #[cfg(test)]
 mod unrung;
