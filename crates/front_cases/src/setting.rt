@@ -3,7 +3,8 @@
 use std::alloc::Global;
 use udp_front::{FrontSettings, Listening, settings};
 
-/// Settings as a line of a case has them: where the bridge listens, its lanes, its operators, its SSRC and its name.
+/// Settings as a line of a case has them: where the bridge listens, its lanes, its operators, the milliseconds between
+/// its reports, its SSRC and its name.
 fn shown(alloc: Global, settings: &FrontSettings) -> Option<String> {
     let listening = Listening {
         udp: settings.udp,
@@ -11,9 +12,10 @@ fn shown(alloc: Global, settings: &FrontSettings) -> Option<String> {
     };
     let lanes = settings.lanes;
     let operators = settings.operators;
+    let report_ms = settings.report_ms;
     let ssrc = settings.bridge.bridge_ssrc;
     let cname = str::from_utf8(&settings.bridge.cname).ok()?;
-    format!(in alloc; "{listening} {lanes} {operators} {ssrc} {cname}").ok()
+    format!(in alloc; "{listening} {lanes} {operators} {report_ms} {ssrc} {cname}").ok()
 }
 
 /// What the settings of a text are, or their fault.
