@@ -4,15 +4,23 @@ The programs of script_cases, bridge_cases and codec_cases are built without pro
 that fill the desk's tables and its log, and those of many datagrams and random calls. A program that doesn't answer within
 the toolchain's time, as on a busy machine, says nothing of its cases: this is printed, and is no failure.
 
+Cases by sums are scripts too long to be kept. Each is a line of sums.txt beside this tool, as `tools/bridge make script --sum` prints
+it: the SHA-256 of the output, its octets, and the arguments with which `make script` makes the script. They are tried where there is
+a program, since one without proofs prints too little.
+
 The program of front_cases is one that `rt ci` built. It runs the same cases on bridges of 1, 2, 4 and 16 lanes and has to print the same
 each time. Where it is named, its cases alone are tried.
 """
 
+import argparse
 import concurrent.futures
 import functools
+import hashlib
+import pathlib
 import subprocess
 
-from lib.shared import CRATES, add_program, found_program, release_program, tried
+from lib.make import script
+from lib.shared import CRATES, add_program, found_program, release_program, replay, tried
 
 NEEDS = "`rt`, three minutes; with BINARY that program, a minute"
 
@@ -20,6 +28,8 @@ NEEDS = "`rt`, three minutes; with BINARY that program, a minute"
 LONG = {"no desk", "many datagrams", "large requests and reports", "random calls"}
 # The lanes of the bridges of front_cases whose case doesn't say how many. All are tried side by side.
 LANES = [1, 2, 4, 16]
+# The cases by sums.
+SUMS = pathlib.Path(__file__).with_name("sums.txt")
 # After this many seconds a program has not answered, as in the gate.
 SECONDS = 120
 
@@ -82,8 +92,29 @@ def are_good_without_proofs():
         are_good("script_cases", scripts),
         are_good("bridge_cases", (CRATES / "bridge_cases" / "stdin").read_text()),
         are_good("codec_cases", "".join(f"{path}\n" for path in paths)),
+        have_their_sums(found_program(None)),
     ]
     return all(good)
+
+
+def has_its_sum(program, case):
+    """Whether the output of a script has the sum that its case says. Prints what it has."""
+    wanted, size, *words = case.split(" ")
+    parser = argparse.ArgumentParser()
+    script.options(parser)
+    lines = replay(script.lines_of(parser.parse_args(words)), program)
+    printed = "".join(f"{line}\n" for line in lines).encode()
+    got = hashlib.sha256(printed).hexdigest()
+    print(f"make script {' '.join(words)}: {'its sum' if got == wanted else f'{got} {len(printed)}, wanted {wanted} {size}'}")
+    return got == wanted
+
+
+def have_their_sums(program):
+    """Whether all cases by sums have their sums."""
+    if program:
+        return all([has_its_sum(program, case) for case in SUMS.read_text().splitlines()])
+    print("cases by sums: not tried, since there is no program that is newer than the sources")
+    return True
 
 
 def run(args):

@@ -1,9 +1,10 @@
 """Compares what the bridge says of mutated input with readers of its own.
 
 INPUT is one of
-  datagrams   RTP packets and RTCP compounds, by `rx` lines of `replay`: whether each is read, or its first fault
+  datagrams   RTP packets and RTCP compounds, by `rx` lines of `replay`, with waits between them: whether each is read, or its first fault
   fields      these, by the program of crates/codec_cases: each field that is read, and what compounds are written as
   lines       operators' lines, over a connection to a served bridge
+  scripts     lines of scripts, besides frames, each by a `replay` of its own: some hundred a second
   settings    TOML texts, by the program of crates/front_cases
 
 Each input is a case of the repository that is changed at one to four places, or joined with another. The readers are plain: those
@@ -18,7 +19,7 @@ import subprocess
 import tempfile
 
 from lib.models.codec import Dropped, read_rtcp, read_rtp
-from lib.models.lines import fault_of_line, settings_of
+from lib.models.lines import fault_of_line, fault_of_script_line, settings_of
 from lib.models.told import told_of
 from lib.serving import settings, started
 from lib.shared import CRATES, add_program, fail, release_program
@@ -35,7 +36,7 @@ TOML = b' \t\n\r"\'=.[]{},#_+-:\\0123456789abcdefxounitrlsTZ\xc3\xa9'
 
 
 def options(parser):
-    parser.add_argument("input", choices=["datagrams", "fields", "lines", "settings"], metavar="INPUT")
+    parser.add_argument("input", choices=["datagrams", "fields", "lines", "scripts", "settings"], metavar="INPUT")
     parser.add_argument("--count", type=int, default=1_000_000, help="how many inputs (%(default)s)")
     parser.add_argument("--seed", type=int, default=1)
     parser.add_argument("--jobs", type=int, default=1, help="on how many processors at once (%(default)s)")
@@ -115,7 +116,9 @@ def fields(draw, count, program):
 
 def datagrams(draw, count, program):
     for data in datagrams_like(draw, count):
-        script = "".join(f"rx 0 9.9.9.9:9 {it.hex()}\n" for it in data)
+        # Nothing comes of the waits.
+        waits = ["", "", "", "wait 0 9.9.9.9:9 1\n"]
+        script = "".join(f"{draw.choice(waits)}rx 0 9.9.9.9:9 {it.hex()}\n" for it in data)
         run = subprocess.run([program, "replay"], input=script, capture_output=True, text=True, check=False)
         yield [it.hex() for it in data], [said_of_datagram(it) for it in data], run.stdout.splitlines()
 
@@ -155,12 +158,42 @@ def lines(draw, count, program):
         bridge.wait(10)
 
 
+# Lines of scripts
+
+
+def said_of_script(program, line):
+    """The fault that `replay` tells of a line, if it tells one."""
+    run = subprocess.run([program, "replay"], input=line + b"\n", capture_output=True, check=False)
+    if (run.returncode == 0) == (run.stderr == b"") and run.returncode in (0, 1):
+        return run.stderr.decode().strip().removeprefix("confbridge: ") or None
+    return f"status {run.returncode}, {run.stderr!r}"
+
+
+def scripts(draw, count, program):
+    texts = [it.removeprefix("-- ") for it in (CRATES / "script_cases" / "stdin").read_text().splitlines()]
+    words = ("desk ", "rx ", "wait ", "tick ", "report ", "show", "#")
+    corpus = list({it.encode() for it in texts if it.startswith(words) and len(it) < 200 and it.isascii() and "{" not in it})
+    corpus += len(corpus) // 6 * [
+        b"wait 18446744073709551615 255.255.255.255:65535 4294967295", b"wait 0 10.0.0.1:5000 101",
+        b"bridge 4294967295 " + 255 * b"c" + b" renew", b"bridge 0 a", b"bridge 7 conf renew",
+    ]  # fmt: skip
+
+    def line():
+        while True:
+            found = mutant(draw, corpus, PRINTED).replace(b"\n", b"")
+            if not found.startswith(b"frame"):
+                return found
+
+    for data in batches(count, line, 500):
+        yield [repr(it) for it in data], [fault_of_script_line(it) for it in data], [said_of_script(program, it) for it in data]
+
+
 # Settings
 
 ADDRESSES = 'udp = "127.0.0.1:5004"\ntcp = "127.0.0.1:7000"\n'
 # Forms of TOML that no case has.
 FORMS = [
-    "lanes = 0x1_0", "lanes = +2", "lanes = 0b10", "operators = 0o17", "operators = 1_6", "lanes = 1e1", "lanes = -inf", "lanes = nan",
+    "lanes = 0x1_0", "lanes = +2", "lanes = 0b10", "operators = 0o17", "operators = 1_6", "report_ms = 1_000", "lanes = 1e1", "lanes = -inf", "lanes = nan",
     "cname = 'a b'", 'cname = """\na\\\n  b"""', "cname = '''\na'b'''", 'cname = "\\u0061\\U00000062\\t"', '"cname" = "a"', "'lanes' = 2",
     "lanes = true", "lanes = [1, 2,]", "lanes = { a = 1 }", "more.lanes = 1", "[more]\nlanes = 1", "[[more]]\n[[more]]", "[a.b]\n[a]", "\tlanes\t=\t2 # two",
 ]  # fmt: skip
@@ -220,7 +253,7 @@ def batches(count, made, size=BATCH):
 
 def tried(kind, seed, count, program):
     """Tries so many inputs. The first differences, and how many there are."""
-    kinds = {"datagrams": datagrams, "fields": fields, "lines": lines, "settings": texts}
+    kinds = {"datagrams": datagrams, "fields": fields, "lines": lines, "scripts": scripts, "settings": texts}
     told, differ = [], 0
     for data, wanted, got in kinds[kind](random.Random(seed), count, program):
         if len(got) != len(data):

@@ -1,14 +1,14 @@
 """Compares sender and receiver reports with a model of them.
 
 Senders of video and audio send as in `check rx`, one of them in a room for music, and sender reports too. Receivers send report
-blocks, NACKs and PLIs. Ticks, reports and operators' calls come in between, with --groups mostly in groups.
+blocks, NACKs and PLIs. Waits, ticks, reports and operators' calls come in between, with --groups mostly in groups.
 
 With --cases nothing is compared. The lines are printed with the model's answers, in the form of script_cases.
 """
 
 import random
 
-from lib.check.rx import SETUP, P, Q, R, S, add_script, compare_script, draw_call, senders_of
+from lib.check.rx import SETUP, P, Q, R, S, add_script, compare_script, draw_call, draw_first, draw_waits, senders_of
 from lib.models.reports import ReportBridge
 
 NEEDS = "a program, a minute"
@@ -52,33 +52,34 @@ def compound_of(r, bridge):
     return octets
 
 
-def draw_line(r, bridge, senders, moment, groups):
-    """A line of any kind."""
+def draw_lines(r, bridge, senders, moment, groups):
+    """A line of any kind, or some waits."""
     kind = r.random()
     if kind < 0.02:
-        return draw_call(r, bridge, groups)
+        return [draw_call(r, bridge, groups)]
     if kind < 0.05:
-        return f"tick {moment}"
+        return [f"tick {moment}"]
     if kind < 0.10:
-        return f"report {max(0, moment - r.choice([0, 0, 0, 10**9]))}"
+        return [f"report {max(0, moment - r.choice([0, 0, 0, 10**9]))}"]
     if kind < 0.20:
-        return f"rx {moment} {r.choice([P, P, Q, Q, R, S, '10.0.0.9:5000'])} {compound_of(r, bridge).hex()}"
+        return [f"rx {moment} {r.choice([P, P, Q, Q, R, S, '10.0.0.9:5000'])} {compound_of(r, bridge).hex()}"]
+    if kind < 0.26:
+        return draw_waits(r, moment)
     sender = r.choice(senders)
     octets = sender.arriving()
-    return f"rx {moment} {sender.address if r.random() < 0.99 else R} {octets.hex()}"
+    return [f"rx {moment} {sender.address if r.random() < 0.99 else R} {octets.hex()}"]
 
 
 def draw_script(r, count, groups):
-    """A random script as (line, its answers)."""
+    """A random script as (line, its answers), and what happens in it."""
     bridge = ReportBridge()
-    script, senders = [(line, bridge.answer(line)) for line in SETUP], senders_of(r)
+    script, senders = [(line, bridge.answer(line)) for line in [*draw_first(r), *SETUP]], senders_of(r)
     moment = r.choice([0, 10**18, 2085978495 * 10**9])
     while len(script) < count:
         moment += r.choice([0, 999, 1000, 10**6, 33_333_333])
-        line = draw_line(r, bridge, senders, moment, groups)
-        script.append((line, bridge.answer(line)))
-    return script
+        script += [(line, bridge.answer(line)) for line in draw_lines(r, bridge, senders, moment, groups)]
+    return script, bridge.seen
 
 
 def run(args):
-    return compare_script(args, draw_script(random.Random(args.seed), args.lines, args.groups))
+    return compare_script(args, *draw_script(random.Random(args.seed), args.lines, args.groups))

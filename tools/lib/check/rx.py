@@ -1,8 +1,9 @@
 """Compares random datagrams with a model of the bridge.
 
 Two video senders and two audio senders, one of them in a room for music, send packets that are reordered, lost, doubled, cut short
-and changed, with wraps and restarts. Receivers send NACKs. Operators mute, unsubscribe, remove and undo in between, with --groups
-mostly in groups. They also have the second audio sender come back in the other room, or as a source of video.
+and changed, with wraps and restarts. Lost packets may come after all. Time passes for sources, mostly for those of video. Receivers
+send NACKs. Operators mute, unsubscribe, remove and undo in between, with --groups mostly in groups. They also have the second audio
+sender come back in the other room, or as a source of video. Every second script names its bridge.
 
 With --cases nothing is compared. The lines are printed with the model's answers, in the form of script_cases.
 """
@@ -65,7 +66,9 @@ class Sender:
 
     def __init__(self, r, address, ssrc, types, steps=(3000, 3000, 160, 1)):
         self.r, self.address, self.ssrc, self.types, self.steps = r, address, ssrc, types, steps
-        self.seq, self.ts, self.way = r.choice([0, 65500, 65300, r.randrange(65536)]), r.randrange(2**32), []
+        self.seq, self.ts, self.way = r.choice([0, 65500, 65300, 65450, r.randrange(65536)]), r.randrange(2**32), []
+        # The last packets that were lost.
+        self.lost = []
 
     def more(self):
         """Sends a frame on its way."""
@@ -86,9 +89,12 @@ class Sender:
         return self.way[at] if self.r.random() < 0.04 else self.way.pop(at)
 
     def arriving(self):
-        """The next packet that isn't lost."""
+        """The next packet that isn't lost, or one that was lost before."""
+        if self.lost and self.r.random() < 0.04:
+            return self.lost.pop(self.r.randrange(len(self.lost)))
         octets = self.next()
         while self.r.random() < 0.06:
+            self.lost = [*self.lost[-7:], octets]
             octets = self.next()
         return octets
 
@@ -120,6 +126,20 @@ def draw_nacks(r, bridge):
     return r.choice([P, Q, Q, R, R, "10.0.0.9:5000"]), octets
 
 
+def draw_first(r):
+    """The first line of every second script, which names its bridge. A bridge's name has no space there."""
+    if r.random() < 0.5:
+        return []
+    name = "".join(chr(r.randrange(33, 127)) for _ in range(r.choice([1, 2, 3, 4, 5, 254, 255])))
+    return [f"bridge {r.choice([0, 1, 7, 2**32 - 1, r.randrange(2**32)])} {name}" + r.choice(["", " renew"])]
+
+
+def draw_waits(r, moment):
+    """The lines of some waits for a source, which may be one of audio, or none."""
+    address, ssrc = r.choice([(P, 101), (P, 101), (P, 101), (Q, 102), (Q, 102), (S, 301), (P, 201), r.choice([(R, 101), (P, 102), (P, 9)])])
+    return [f"wait {max(0, moment - r.choice([0, 0, 0, 10**9]))} {address} {ssrc}"] * r.choice([1, 1, 1, 1, 1, 2, 3, 4, 30])
+
+
 def draw_packet(r, senders):
     """The octets of a media packet, some of which are damaged, and where it comes from."""
     sender = r.choice(senders)
@@ -133,20 +153,22 @@ def draw_packet(r, senders):
 
 
 def draw_script(r, count, groups):
-    """A random script as (line, its answers)."""
+    """A random script as (line, its answers), and what happens in it."""
     bridge = Bridge()
-    script = [(line, bridge.answer(line)) for line in SETUP]
+    script = [(line, bridge.answer(line)) for line in [*draw_first(r), *SETUP]]
     senders, moment = senders_of(r), 10**18
-    for _ in range(count):
+    while len(script) < count:
         moment += r.choice([0, 999, 1000, 10**6, 33_333_333])
         kind = r.random()
         if kind < 0.02:
-            line = draw_call(r, bridge, groups)
+            lines = [draw_call(r, bridge, groups)]
+        elif kind < 0.14:
+            lines = draw_waits(r, moment)
         else:
-            address, octets = draw_nacks(r, bridge) if kind < 0.07 else draw_packet(r, senders)
-            line = f"rx {moment} {address} {octets.hex()}"
-        script.append((line, bridge.answer(line)))
-    return script
+            address, octets = draw_nacks(r, bridge) if kind < 0.19 else draw_packet(r, senders)
+            lines = [f"rx {moment} {address} {octets.hex()}"]
+        script += [(line, bridge.answer(line)) for line in lines]
+    return script, bridge.seen
 
 
 # For all checks of random lines
@@ -167,14 +189,15 @@ def kind_of(answer):
     return " ".join(words[: 4 if " dropped " in answer else 2 if answer.startswith("rx") else 1])
 
 
-def compare_script(args, script):
-    """Compares the program's answers with those of a script, or prints the script as cases. The exit status."""
+def compare_script(args, script, seen):
+    """Compares the program's answers with those of a script, or prints the script as cases. Tells what happens in it. The exit status."""
     if args.cases:
         print("\n".join(text for line, answers in script for text in [line, *("> " + answer for answer in answers)]))
         return 0
     counts = collections.Counter(kind_of(answer) for _, answers in script for answer in answers)
     count = first_difference(script, replay([line for line, _ in script], args.binary, args.seconds))
     print(", ".join(f"{name} {often}" for name, often in sorted(counts.items())))
+    print(", ".join(f"{often} {name}" for name, often in sorted(seen.items()) if often))
     if count is None:
         return 1
     print(f"{len(script)} lines, {count} lines of answers, no difference")
@@ -182,4 +205,4 @@ def compare_script(args, script):
 
 
 def run(args):
-    return compare_script(args, draw_script(random.Random(args.seed), args.lines, args.groups))
+    return compare_script(args, *draw_script(random.Random(args.seed), args.lines, args.groups))

@@ -37,6 +37,8 @@ BAD = [
     (BOTH + b"lanes = -1\noperators = 0\n", "3 BadValue lanes"),
     (BOTH + b"operators = 0\n", "3 BadValue operators"),
     (BOTH + b"operators = 17\n", "3 BadValue operators"),
+    (BOTH + b"report_ms = 999\n", "3 BadValue report_ms"),
+    (BOTH + b"report_ms = 5001\n", "3 BadValue report_ms"),
     (BOTH + b"bridge_ssrc = 4294967296\n", "3 BadValue bridge_ssrc"),
     (BOTH + b'cname = ""\n', "3 BadValue cname"),
     (BOTH + b'cname = "a\\tb"\n', "3 BadValue cname"),
@@ -49,7 +51,7 @@ BAD = [
 # Good settings.
 GOOD = [
     BOTH,
-    BOTH + b'lanes = 16\noperators = 16\nbridge_ssrc = 4294967295\ncname = "' + 255 * b"a" + b'"\n',
+    BOTH + b'lanes = 16\noperators = 16\nreport_ms = 1000\nbridge_ssrc = 4294967295\ncname = "' + 255 * b"a" + b'"\n',
 ]
 USAGE = "usage: confbridge replay | confbridge serve FILE\n"
 FAILED = "confbridge: input or output failed\n"

@@ -14,8 +14,6 @@ KEPT = 4096
 # The clock rate of video, in Hz, and the octets of a sample by a room's clock rate and the payload type.
 VIDEO_RATE = 90000
 WIDTHS = {USUAL: {0: 1, 97: 2}, MUSIC: {11: 2}}
-# A receiver report without blocks, and the bridge's name.
-FRONT = "80c9000100000001" + "81ca000400000001010662726964676500000000"
 
 
 class Bridge:
@@ -23,6 +21,14 @@ class Bridge:
 
     def __init__(self):
         self.log, self.kept, self.epoch, self.items, self.streams = Log(), collections.OrderedDict(), 0, 0, {}
+        self.ssrc, self.cname = 1, "bridge"
+        # How often each thing happened that the first words of an answer don't tell.
+        self.seen = collections.Counter()
+
+    def opened(self, ssrc, cname, renews):
+        """What is the first line of a script: who its bridge is, and whether its first item is that buffers begin anew."""
+        self.ssrc, self.cname, self.items = ssrc, cname, int(renews)
+        self.log.desk.bridge = ssrc
 
     @property
     def desk(self):
@@ -116,7 +122,19 @@ class Bridge:
         if ssrc is None:
             return []
         to = self.desk.one("members", member=self.desk.source(ssrc)["member"])["address"]
-        return [f"ct {self.version} {self.items} {to} {FRONT}81ce000200000001{ssrc:08x}"]
+        return [f"ct {self.version} {self.items} {to} {self.front()}81ce0002{self.ssrc:08x}{ssrc:08x}"]
+
+    # How the bridge speaks
+
+    def named(self, ssrc):
+        """An SDES packet with the bridge's name (RFC 3550 section 6.5)."""
+        item = bytes([1, len(self.cname)]) + self.cname.encode()
+        item += bytes(4 - len(item) % 4)
+        return f"81ca{1 + len(item) // 4:04x}{ssrc:08x}{item.hex()}"
+
+    def front(self):
+        """A receiver report without blocks, and the bridge's name."""
+        return f"80c90001{self.ssrc:08x}{self.named(self.ssrc)}"
 
     # For models that know more
 
@@ -138,12 +156,12 @@ class Bridge:
         """The line of what the bridge asks a source for."""
         if not nacks and not pli:
             return []
-        octets = FRONT
+        octets = self.front()
         if nacks:
             words = nack_words(nacks)
-            octets += f"81cd{2 + len(words):04x}00000001{ssrc:08x}" + "".join(f"{pid:04x}{blp:04x}" for pid, blp in words)
+            octets += f"81cd{2 + len(words):04x}{self.ssrc:08x}{ssrc:08x}" + "".join(f"{pid:04x}{blp:04x}" for pid, blp in words)
         if pli:
-            octets += f"81ce000200000001{ssrc:08x}"
+            octets += f"81ce0002{self.ssrc:08x}{ssrc:08x}"
         return [f"up {address} {octets}"]
 
     def rx(self, moment, address, d):
@@ -214,19 +232,57 @@ class Bridge:
     def video(self, moment, address, p, source, verdict, ext):
         name = "restarted" if verdict == "restarted" else "accepted"
         place, frames, nacks, gave_up = source.gate.admit(ext, p)
+        self.seen["packets that come after they were given up at a wait"] += place == "late" and ext in source.gate.lost
         lines = [f"rx {name if place == 'accepted' else place} {ext}"]
         lines += self.asked(address, p["ssrc"], nacks, gave_up or verdict == "restarted")
         for packets in frames:
             lines += self.frame(moment, address, p["ssrc"], source.epoch, packets)
         return lines
 
+    # Waits
+
+    def wait(self, moment, address, ssrc):
+        """The lines of a wait: time has passed for a source of video."""
+        row, member, source = self.desk.source(ssrc), self.member_at(address), self.kept.get((address, ssrc))
+        is_there = row and member and row["member"] == member["member"]
+        if not is_there or row["media"] != "video" or not source or not source.gate:
+            why = "of unknown sources" if not is_there else "of audio" if row["media"] == "audio" else "before a packet"
+            self.seen[f"waits {why}"] += 1
+            return []
+        ages = {n: source.gate.age(n) for n in source.gate.missing()}
+        frames, again, gave_up = source.gate.wait()
+        self.count_wait(ages, again, gave_up, frames)
+        lines = self.asked(address, ssrc, again, gave_up)
+        for packets in frames:
+            lines += self.frame(moment, address, ssrc, source.epoch, packets)
+        return lines
+
+    def count_wait(self, ages, again, gave_up, frames):
+        """Counts what a wait does."""
+        happened = {
+            "without a hole": not ages,
+            "that ask": any(ages[n] == 2 for n in again),
+            "that ask a second time": any(ages[n] == 5 for n in again),
+            "that ask once more": any(ages[n] > 5 for n in again),
+            "that give up": gave_up,
+            "that give up early": gave_up and max(ages.values()) < 25,
+            "that free frames": frames,
+            "at the wrap of numbers": ages and min(ages) // 65536 != max(ages) // 65536,
+        }
+        self.seen.update(f"waits {what}" for what, holds in happened.items() if holds)
+
     # Lines
 
     def answer(self, line):
         """The lines that answer a line without a fault."""
         words = line.split(" ")
+        if words[0] == "bridge":
+            self.opened(int(words[1]), words[2], words[3:] == ["renew"])
+            return []
         if words[0] == "desk":
             return [self.log.call(words[2:])]
+        if words[0] == "wait":
+            return self.wait(int(words[1]), words[2], int(words[3]))
         if words[0] == "rx":
             return self.rx(int(words[1]), words[2], bytes.fromhex(words[3]))
         packets = [part.split("/") for part in words[6:]]

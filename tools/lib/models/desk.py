@@ -18,6 +18,8 @@ class Desk:
     def __init__(self):
         self.rooms, self.members, self.sources, self.slots = [], [], [], []
         self.subs, self.mutes, self.gains, self.pins, self.floors = [], [], [], [], []
+        # The SSRC of the bridge itself.
+        self.bridge = 1
 
     def one(self, table, **fields):
         """The first row with these fields, or None."""
@@ -42,7 +44,7 @@ class Desk:
 
     def ssrcs(self):
         """All SSRCs in use, the bridge's own included."""
-        return [1] + [s["ssrc"] for s in self.sources] + [s["out"] for s in self.slots] + [m["out_audio"] for m in self.members]
+        return [self.bridge] + [s["ssrc"] for s in self.sources] + [s["out"] for s in self.slots] + [m["out_audio"] for m in self.members]
 
     def audio_in(self, room):
         return sum(s["media"] == "audio" and self.room_of(s["member"]) == room for s in self.sources)

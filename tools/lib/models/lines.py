@@ -4,10 +4,10 @@ import re
 import tomllib
 
 NUMBER, NAMES = "number", ("pcmu", "l16", "audio", "video")
-FAULTS = {1: "LineTooLong", 2: "BadByte", 3: "UnknownWord", 4: "MissingWord", 5: "ExtraWord", 6: "BadNumber", 7: "BadAddress"}
+FAULTS = {1: "LineTooLong", 2: "BadByte", 3: "UnknownWord", 4: "MissingWord", 5: "ExtraWord", 6: "BadNumber", 7: "BadAddress", 8: "BadHex"}
 # What each word behind a command's name is: the greatest number, an address, or one of some words.
 U32, U16, U64 = 2**32 - 1, 2**16 - 1, 2**64 - 1
-CODEC, KIND, ADDRESS = ("pcmu", "l16"), ("audio", "video"), "address"
+CODEC, KIND, ADDRESS, HEX, CNAME = ("pcmu", "l16"), ("audio", "video"), "address", "hex", "cname"
 COMMANDS = {
     "add-room": [U32, U32],
     "remove-room": [U32],
@@ -29,8 +29,17 @@ COMMANDS = {
     "take-floor": [U32],
 }
 TURNS = {"undo": [U64], "redo": [U64]}
+# The first line of a script, without calls and frames.
+SCRIPT = {
+    "bridge": [U32, CNAME, ("renew",)],
+    "rx": [U64, ADDRESS, HEX],
+    "wait": [U64, ADDRESS, U32],
+    "tick": [U64],
+    "report": [U64],
+    "show": [],
+}
 # How many of a command's last words may be left out.
-LEFT_OUT = {"add-room": 1}
+LEFT_OUT = {"add-room": 1, "bridge": 1}
 
 
 class Fault(Exception):
@@ -56,6 +65,12 @@ def judge(word, kind, place):
     if kind == ADDRESS:
         if address_of(word) is None:
             raise Fault(place, 7)
+    elif kind == HEX:
+        if not re.fullmatch("([0-9a-fA-F]{2})+", word, re.A):
+            raise Fault(place, 8)
+    elif kind == CNAME:
+        if not 1 <= len(word) <= 255:
+            raise Fault(place, 3)
     elif isinstance(kind, tuple):
         if word not in kind:
             raise Fault(place, 3)
@@ -91,6 +106,35 @@ def read_call(words):
             place, part = place + len(part) + 1, []
         else:
             part.append(word)
+    return None
+
+
+def read_script_line(words):
+    """Raises the first fault of the words of a script's first line."""
+    if words[0] != "desk":
+        read_part(words, 1, SCRIPT)
+        return
+    if len(words) < 2:
+        raise Fault(2, 4)
+    judge(words[1], 15, 2)
+    try:
+        read_call(words[2:])
+    except Fault as fault:
+        raise Fault(fault.args[0] + 2, fault.args[1]) from None
+
+
+def fault_of_script_line(line):
+    """What a script tells of its first line (bytes, without LF), where that has a fault. Frames aren't judged."""
+    line = line.removesuffix(b"\r")
+    if any(not 32 <= octet <= 126 for octet in line):
+        return "line 1 word 0: 2 BadByte"
+    if not line or line.startswith(b"#"):
+        return None
+    try:
+        read_script_line(line.decode().split(" "))
+    except Fault as fault:
+        place, number = fault.args
+        return f"line 1 word {place}: {number} {FAULTS[number]}"
     return None
 
 
@@ -139,6 +183,7 @@ KEYS = {
     "tcp": (None, lambda value: good_address(value, True)),
     "lanes": (1, lambda value: good_number(value, 1, 16)),
     "operators": (1, lambda value: good_number(value, 1, 16)),
+    "report_ms": (5_000, lambda value: good_number(value, 1_000, 5_000)),
     "bridge_ssrc": (1, lambda value: good_number(value, 0, U32)),
     "cname": ("bridge", good_name),
 }
@@ -162,4 +207,4 @@ def settings_of(text):
     others = sorted((key.encode(), key) for key in table if key not in KEYS)
     if others:
         return f"4 UnknownKey {others[0][1]}"
-    return "udp {udp} and tcp {tcp} {lanes} {operators} {bridge_ssrc} {cname}".format(**found)
+    return "udp {udp} and tcp {tcp} {lanes} {operators} {report_ms} {bridge_ssrc} {cname}".format(**found)

@@ -1,10 +1,16 @@
 """A plain mixer: samples at places that never wrap, sums over lists, and the formula of G.711."""
 
+import functools
+import struct
+
 from lib.models.bridge import Bridge
 from lib.models.desk import MUSIC
 
 # A tick is this part of a second. Samples wait three ticks before they are heard.
 TICKS, DELAY = 50, 3
+# A buffer may begin anew once 300 ms of sound were late, where so many samples in time make up for a late one, or once 20 s of sound
+# came while over 120 ms waited.
+WEIGHT, LATE, FULL, DEEP = 1000, 300, 20_000, 120
 
 
 def expanded(octet):
@@ -14,6 +20,7 @@ def expanded(octet):
     return -size if u & 128 else size
 
 
+@functools.cache
 def compressed(sample):
     """The mu-law octet whose interval and sign hold the sample."""
     size = min(abs(sample), 32635) + 132
@@ -28,13 +35,13 @@ def samples_of(pt, octets):
     """The samples of a payload of type 0 (PCMU), 97 (L16 at 8000 Hz) or 11 (L16 at 44100 Hz)."""
     if pt == 0:
         return [expanded(octet) for octet in octets]
-    return [int.from_bytes(octets[i : i + 2], "big", signed=True) for i in range(0, len(octets), 2)]
+    return list(struct.unpack(f">{len(octets) // 2}h", octets))
 
 
 def octets_of(codec, samples):
     if codec == "pcmu":
         return bytes(compressed(s) for s in samples)
-    return b"".join(s.to_bytes(2, "big", signed=True) for s in samples)
+    return struct.pack(f">{len(samples)}h", *samples)
 
 
 def type_of(codec, rate):
@@ -49,16 +56,39 @@ class Playout:
 
     def __init__(self, rate):
         self.rate, self.tick, self.position = rate, rate // TICKS, None
+        # What late samples weigh, less the samples in time; and how many came one after another while too much waited.
+        self.late = self.full = 0
 
-    def put(self, ts, samples):
+    def samples_in(self, milliseconds):
+        return self.rate * milliseconds // 1000
+
+    def ahead(self, ts):
+        """How far a timestamp is from the next sample."""
+        return (ts - self.position + 2**31) % 2**32 - 2**31
+
+    def tally(self, far, count):
+        """Counts samples that come so far ahead. Whether sound was late for too long, and whether it was full for too long."""
+        late = max(0, min(count, -far))
+        self.late = max(0, self.late + WEIGHT * late - (count - late))
+        self.full = self.full + count if far > self.samples_in(DEEP) else 0
+        return self.late >= WEIGHT * self.samples_in(LATE), self.full >= self.samples_in(FULL)
+
+    def put(self, ts, samples, renews=False):
+        """Puts samples at a timestamp, where the buffer may begin anew after late or full sound. Why it began anew by them."""
+        why = "begins"
         if self.position is not None:
-            far = (ts - self.position + 2**31) % 2**32 - 2**31
+            far = self.ahead(ts)
             if -self.rate <= far and far + len(samples) <= self.rate:
-                for place, sample in enumerate(samples, self.position + far):
-                    if place >= self.position:
-                        self.there.setdefault(place, sample)
-                return
+                is_late, is_full = self.tally(far, len(samples)) if renews else (False, False)
+                if not is_late and not is_full:
+                    for place, sample in enumerate(samples, self.position + far):
+                        if place >= self.position:
+                            self.there.setdefault(place, sample)
+                    return "goes on"
+                why = "late" if is_late else "full"
         self.position, self.there = ts - DELAY * self.tick, dict(enumerate(samples, ts))
+        self.late = self.full = 0
+        return why
 
     def take(self):
         """The samples of the next tick, None where there is none."""
@@ -90,13 +120,18 @@ class MixBridge(Bridge):
 
     def __init__(self):
         super().__init__()
-        self.playouts, self.mixes = {}, {}
+        self.playouts, self.mixes, self.renews = {}, {}, False
+
+    def opened(self, ssrc, cname, renews):
+        super().opened(ssrc, cname, renews)
+        self.renews = renews
 
     def sound(self, address, packet, rate):
         key = packet["ssrc"], address
         if key not in self.playouts or self.playouts[key].rate != rate:
             self.playouts[key] = Playout(rate)
-        self.playouts[key].put(packet["ts"], samples_of(packet["pt"], packet["payload"]))
+        why = self.playouts[key].put(packet["ts"], samples_of(packet["pt"], packet["payload"]), self.renews)
+        self.seen[f"buffers that begin anew after {why} sound at {rate} Hz"] += why in ("late", "full")
 
     def sources_for(self, member):
         """The unmuted audio sources of the other members of a room, as (SSRC, address, gain)."""

@@ -5,11 +5,6 @@ import collections
 from lib.models.mix import MixBridge
 
 
-def named(ssrc):
-    """An SDES packet with the bridge's name (RFC 3550 section 6.5)."""
-    return f"81ca0004{ssrc:08x}010662726964676500000000"
-
-
 class Came:
     """What came of a source: its numbers since it began, and what its last block told."""
 
@@ -76,15 +71,15 @@ class ReportBridge(MixBridge):
         octets = ""
         for at in range(0, len(blocks), 31):
             part = blocks[at : at + 31]
-            octets += f"{128 + len(part):02x}c9{1 + 6 * len(part):04x}00000001" + "".join(part)
-        return [f"up {member['address']} {octets}{named(1)}"]
+            octets += f"{128 + len(part):02x}c9{1 + 6 * len(part):04x}{self.ssrc:08x}" + "".join(part)
+        return [f"up {member['address']} {octets}{self.named(self.ssrc)}"]
 
     def sender_report(self, member, kind, ssrc, ts, moment):
         """The line of a stream's sender report (RFC 3550 section 6.4.1)."""
         seconds, rest = divmod(moment, 10**9)
         packets, octets = self.went[kind, ssrc]
         numbers = ssrc, (seconds + 2208988800) % 2**32, rest * 2**32 // 10**9, ts % 2**32, packets % 2**32, octets % 2**32
-        return f"ct {self.version} {self.items} {member['address']} 80c80006{''.join(f'{n:08x}' for n in numbers)}{named(ssrc)}"
+        return f"ct {self.version} {self.items} {member['address']} 80c80006{''.join(f'{n:08x}' for n in numbers)}{self.named(ssrc)}"
 
     def sender_reports(self, member, moment):
         """The lines of all sender reports to a member."""

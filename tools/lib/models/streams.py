@@ -30,11 +30,18 @@ class Source:
         return "jump", None
 
 
+# A missing number is asked for again when it was missing at so many waits, and given up when at so many, or at so few where the
+# source answers nobody.
+ASKED_AT, PATIENCE, LITTLE_PATIENCE = (2, 5, 11, 21), 25, 5
+
+
 class Gate:
-    """The packets of a source from which whole frames are made, and the number at which that began anew."""
+    """The packets of a source from which whole frames are made, the number at which that began anew, and the waits."""
 
     def __init__(self):
         self.taken, self.cut, self.greatest, self.given = {}, None, None, 0
+        # The greatest number that had come at each wait, whether the source is thought to answer, and what waits gave up.
+        self.waits, self.answers, self.lost = [], True, set()
 
     def pieces(self):
         """The closed pieces since the cut, and the number after them."""
@@ -70,8 +77,39 @@ class Gate:
                 break
         return frames, gave_up
 
+    def age(self, n):
+        """At how many waits a number that is missing now was missing."""
+        return sum(greatest > n for greatest in self.waits[-PATIENCE:])
+
+    def missing(self):
+        """The numbers that are missing, which no frame was made without."""
+        if self.cut is None:
+            return []
+        return [n for n in range(self.pieces()[1], self.greatest) if n not in self.taken]
+
+    def wait(self):
+        """What comes of a wait: the frames that it frees, the numbers to ask for again, and whether one was given up."""
+        if self.cut is None:
+            # A gate begins with its first packet.
+            return [], [], False
+        missing = self.missing()
+        again = [n for n in missing if self.age(n) in ASKED_AT]
+        lost = [n for n in missing if self.age(n) >= (PATIENCE if self.answers else LITTLE_PATIENCE)]
+        self.waits.append(self.greatest)
+        self.lost |= set(lost)
+        frames, gave_up = self.skip(lost[-1] + 256) if lost else ([], False)
+        self.answers = self.answers and not gave_up
+        return frames, again, gave_up
+
     def admit(self, n, p):
         """What becomes of a packet, the frames that it closes, the numbers to ask for, and whether a frame was given up."""
+        self.answers = self.answers or self.age(n) > 0
+        place, frames, nacks, gave_up = self.placed(n, p)
+        self.answers = self.answers and not gave_up
+        return place, frames, nacks, gave_up
+
+    def placed(self, n, p):
+        """The same, whatever was missing at waits."""
         frames, gave_up = [], False
         if self.cut is None:
             self.cut = n
