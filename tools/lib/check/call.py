@@ -1,10 +1,11 @@
 """Holds a call over sockets, with members and an operator of its own.
 
-Two members send PCMU tones, and one of them video, which is lost in part. An operator mutes a source, unsubscribes a slot and
+While nobody is there the bridge sleeps. Then two members send PCMU tones, and one of them video, which is lost in part. An operator mutes a source, unsubscribes a slot and
 undoes both. The checks: each stream's numbers have no gap; each member hears the other's tone and not its own; a NACK is
 answered; lost packets are asked for; a PLI is passed on; and reports come.
 """
 
+import os
 import pathlib
 import socket
 import subprocess
@@ -15,10 +16,13 @@ from lib.packets import has_no_gap, is_rtp_of, nack, pli, rtp, seq_of
 from lib.serving import Operator, free_port, port_of, settings, udp_socket
 from lib.shared import CRATES, add_program_or_build, fail, found_program, try_command
 
-NEEDS = "a program, ten seconds"
+NEEDS = "a program, twelve seconds"
 
 # How many seconds the bridge may take for what has to come. It takes none; a busy machine may.
 PATIENCE = 60
+
+# The share of a processor that a bridge without members takes at most. It takes under a hundredth; a lane that doesn't sleep takes all.
+IDLE = 0.4
 
 # Tones of one sample each, mu-law (ITU-T G.711): 988 and -988.
 TONES = {201: 0xCE, 202: 0x4E}
@@ -152,6 +156,21 @@ def has_more(call, member, ssrc, text):
     call.talk_until(lambda: len(call.stream(member, ssrc)) > before + 1, text)
 
 
+def spent(bridge):
+    """The seconds of processor time that a process and its threads have taken."""
+    words = pathlib.Path(f"/proc/{bridge.pid}/stat").read_text().rpartition(")")[2].split()
+    # User and system time are the 14th and 15th field (proc(5)); the first two stand before what is split.
+    return (int(words[11]) + int(words[12])) / os.sysconf("SC_CLK_TCK")
+
+
+def check_idle(bridge):
+    """A bridge without members sleeps, its lanes as well."""
+    begun, before = time.monotonic(), spent(bridge)
+    time.sleep(1.5)
+    share = (spent(bridge) - before) / (time.monotonic() - begun)
+    check(share <= IDLE, f"a bridge without members takes {share:.2f} of a processor")
+
+
 def use_desk(call):
     """Sets the desk, mutes a source and unsubscribes a slot in mid-call, and undoes both."""
     ports = {"p": port_of(call.members[201]), "q": port_of(call.members[202])}
@@ -217,6 +236,7 @@ def run(args):
         bridge, udp, tcp = start(args, folder)
         try:
             call = Call(connected(bridge, tcp, folder), udp)
+            check_idle(bridge)
             hold(call)
             call.desk.tell("stop")
             status = bridge.wait(timeout=PATIENCE)
