@@ -14,8 +14,8 @@ DOCUMENT = ROOT / "docs" / "DEFINITIONS.md"
 
 HEAD = """# Definitions
 
-`tools/bridge make definitions` makes this page from the comment lines in `specs/`. Don't edit it by hand. Each line is one file: what it says,
-the section of the standard that it states, and its words.
+`tools/bridge make definitions` makes this page from the comment lines in `specs/`. Don't edit it by hand. Each line is
+one file: what it says, the section of the standard that it states, and its words.
 
 A reader of the contracts has to believe these files. The proofs of laws (`laws/`) and the words of private contracts
 (`inner/`) stand beside them. "own" means that no standard says it. [FORMATS.md](FORMATS.md) has such rules, and
