@@ -1,8 +1,8 @@
 """Checks how documents and sources are written.
 
 Documents are README.md, CONTRIBUTING.md and docs/. The status is 1 where one has a median sentence of over 16 words, a sentence
-of over 38, or a link that leads nowhere. Code, tables, headings and lists of names are no sentences, and a piece of code within
-a sentence counts as one word.
+of over 38, a line over 120 columns, or a link that leads nowhere. Code, tables, headings and lists of names are no sentences, and
+a piece of code within a sentence counts as one word. Tables and code may be wider. How many lines a document has doesn't matter.
 
 Of sources the status is 1 where a function of crates/*/src has over 30 lines or over five parameters beside `self`, `rt` and `alloc`,
 a line over 120 columns, or a file over 300 lines, and where a name of the bridge's crates is doubled: a type with two homes, a word
@@ -43,15 +43,15 @@ def documents():
 
 
 def without_fences(text):
-    """The text without what stands between fences, which code and diagrams do."""
+    """The text without what stands between fences, which code and diagrams do: such lines are empty."""
     kept = []
     fenced = False
     for line in text.split("\n"):
         if line.lstrip().startswith("```"):
             fenced = not fenced
             kept.append("")
-        elif not fenced:
-            kept.append(line)
+        else:
+            kept.append("" if fenced else line)
     return "\n".join(kept)
 
 
@@ -112,23 +112,31 @@ def anchors(path):
             yield name.replace(" ", "-")
 
 
+def wide_lines(text):
+    """The lines over 120 columns, with their numbers. A row of a table, code and a diagram may be wider."""
+    for number, line in enumerate(without_fences(text).split("\n"), 1):
+        if len(line) > MOST_COLUMNS and not line.lstrip().startswith("|"):
+            yield number, line
+
+
 def faults_of(path, text, found):
     """What is wrong with a document whose sentences were found."""
     median = statistics.median([count for count, _ in found] or [0])
     faults = [f"the median is over {MOST_MEDIAN}"] if median > MOST_MEDIAN else []
     faults += [f"{count} words: {sentence}" for count, sentence in found if count > MOST_WORDS]
+    faults += [f"line {number}: {len(line)} columns" for number, line in wide_lines(text)]
     return faults + [f"a link leads nowhere: {target}" for target in broken_links(path, text)]
 
 
 def check_documents():
     """Prints a line for each document, and what is wrong with it. Whether nothing is."""
     good = True
-    print(f"{'document':24}{'lines':>6}{'sentences':>11}{'median':>8}{'longest':>9}")
+    print(f"{'document':24}{'sentences':>10}{'median':>8}{'longest':>9}")
     for path in documents():
         text = path.read_text() if path.exists() else ""
         found = list(sentences(text))
         lengths = [count for count, _ in found] or [0]
-        print(f"{path.name:24}{text.count(chr(10)):>6}{len(found):>11}{statistics.median(lengths):>8g}{max(lengths):>9}")
+        print(f"{path.name:24}{len(found):>10}{statistics.median(lengths):>8g}{max(lengths):>9}")
         faults = faults_of(path, text, found) if path.exists() else ["is missing"]
         good = good and not faults
         print("".join(f"  {fault}\n" for fault in faults), end="")
