@@ -1,0 +1,73 @@
+"""The desk of the bridge: the agent's seat, the desk's rows, and its refusals in words."""
+
+import contextlib
+import socket
+import threading
+
+from refused import Refused
+
+GONE = "The bridge doesn't answer. Try again in a minute."
+BUSY = "The bridge is busy: all seats at its desk are taken. Ask its operators to leave one to the gateway."
+SAME_SSRC = "Another member sends under your SSRC, a number that a program draws. Join again: yours draws a new one."
+REFUSALS = {
+    "Exists": SAME_SSRC,
+    "SsrcTaken": SAME_SSRC,
+    "Full": "The bridge is full: it has {1} {0} already. Try again when somebody has left.",
+    "RateMismatch": "This room is for music at 44100 Hz. Browsers and phones can join a room for speech.",
+}
+
+
+def in_words(refusal):
+    """A line `no AT NUMBER NAME ..` in words. In a group, the reason of its part counts."""
+    words = refusal.replace("room-audio", "voices").split()
+    name, *more = words[6:] if words[3:4] == ["PartRefused"] else words[3:]
+    return REFUSALS[name].format(*more) if name in REFUSALS else f"The bridge refuses: {refusal}"
+
+
+class Rows:
+    """The desk at one version."""
+
+    def __init__(self, lines):
+        rows = [line.split() for line in lines]
+        self.version = int(rows[-1][1])
+        self.rooms = {int(row[1]) for row in rows if row[0] == "room"}
+        self.members = {int(row[2]): int(row[3]) for row in rows if row[0] == "member"}
+        self.subs = {int(row[1]): int(row[2]) for row in rows if row[0] == "sub"}
+        self.mutes = {int(row[1]) for row in rows if row[0] == "mute"}
+
+
+class Desk:
+    """The agent's seat. It connects where it has to."""
+
+    def __init__(self, address):
+        self.address, self.lock, self.lines = address, threading.Lock(), None
+
+    def ask(self, line, is_last=lambda said: True):
+        """The lines that answer a line, up to the last one."""
+        with self.lock:
+            try:
+                if self.lines is None:
+                    with socket.create_connection(self.address, 10) as stream:
+                        self.lines = stream.makefile("rw", newline="\n")
+                self.lines.write(line + "\n")
+                self.lines.flush()
+                answer = []
+                while not answer or not is_last(answer[-1]):
+                    answer.append(self.lines.readline().strip())
+                    if answer[-1] in ("", "busy"):
+                        raise OSError(answer[-1])
+                return answer
+            except OSError as why:
+                # A connection that is left open would keep its seat.
+                with contextlib.suppress(OSError, AttributeError):
+                    self.lines.close()
+                self.lines = None
+                raise Refused(BUSY if str(why) == "busy" else GONE) from why
+
+    def rows(self):
+        return Rows(self.ask("show", lambda said: said.startswith("end ")))
+
+    def group(self, commands):
+        """Gives commands as one change. The refusal, or None where it was accepted."""
+        said = self.ask("group " + " / ".join(commands))[0]
+        return None if said.startswith("ok ") else said

@@ -1,0 +1,50 @@
+"""rtpengine, asked by its control protocol "ng", in JSON: a datagram asks, another one with its cookie answers."""
+
+import json
+import secrets
+import socket
+
+from refused import Refused
+
+
+class UnknownCall(Refused):
+    """rtpengine doesn't have the call: it has been restarted since, or has given the call up."""
+
+
+class Rtpengine:
+    def __init__(self, address):
+        self.address = address
+
+    def ask(self, command, **words):
+        """The answer to a command. Words of the protocol have `-` where Python has `_`."""
+        cookie = secrets.token_hex(8).encode()
+        asked = json.dumps({"command": command, **{key.replace("_", "-"): value for key, value in words.items()}})
+        with socket.socket(socket.AF_INET, socket.SOCK_DGRAM) as one:
+            one.connect(self.address)
+            one.settimeout(1)
+            # A command that comes again with its cookie is answered again, and not carried out again.
+            for _ in range(3):
+                try:
+                    one.send(cookie + b" " + asked.encode())
+                    said = one.recv(65536)
+                except OSError:
+                    continue
+                if said.startswith(cookie + b" "):
+                    return checked(command, json.loads(said[len(cookie) :]))
+        raise Refused("The media server (rtpengine) doesn't answer. Try again in a minute.")
+
+    def received(self, call, side):
+        """How many packets came from one side of a call, and the SSRC of the last one where there is one."""
+        medias = self.ask("query", call_id=call)["tags"].get(side, {}).get("medias", [])
+        streams = [stream for media in medias for stream in media["streams"]]
+        ssrcs = [stream["SSRC"] for stream in streams if "SSRC" in stream]
+        return sum(stream["stats"]["packets"] for stream in streams), ssrcs[0] if ssrcs else None
+
+
+def checked(command, answer):
+    why = answer.get("error-reason", "")
+    if "Unknown call" in why:
+        raise UnknownCall("The media server (rtpengine) has lost the call. Press Join to come back.", 410)
+    if answer["result"] == "error":
+        raise Refused(f"The media server (rtpengine) refuses the call ({command}: {why}).")
+    return answer

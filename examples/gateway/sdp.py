@@ -1,0 +1,92 @@
+"""Session descriptions (RFC 8866) of browsers, phones, rtpengine and the bridge."""
+
+import secrets
+
+from refused import Refused
+
+PCMU, VP8 = 0, 96
+NAMES = {PCMU: "PCMU/8000", VP8: "VP8/90000"}
+TRANSPORT = ("ice-ufrag:", "ice-pwd:", "ice-options:", "fingerprint:", "setup:", "candidate:", "end-of-candidates")
+
+
+class Section:
+    """An m-section: its kind, port and payload types, and its attributes behind those of the whole session."""
+
+    def __init__(self, text, shared):
+        lines = text.split("\n")
+        self.kind, self.port, self.protocol, *self.types = lines[0].split()
+        self.attributes = [line[2:] for line in [*shared, *lines] if line.startswith("a=")]
+
+    def ssrc(self):
+        """The SSRC that is sent under, where the section names it."""
+        return next((int(one[5:].split()[0]) for one in self.attributes if one.startswith("ssrc:")), None)
+
+    def transport(self):
+        """What it says of ICE and DTLS, each line once."""
+        return list(dict.fromkeys(one for one in self.attributes if one.startswith(TRANSPORT)))
+
+
+def sections(text):
+    head, *parts = text.replace("\r", "").split("\nm=")
+    return [Section(part, head.split("\n")) for part in parts]
+
+
+def demand(text, from_browser):
+    """The sections of a browser's answer or a phone's offer, which has what the bridge and rtpengine need."""
+    found = sections(text)
+    audio = found[0] if found else None
+    if audio is None or audio.kind != "audio" or audio.port == "0":
+        raise Refused("This call needs audio, and your program offers none as the first of its media.", 406)
+    if str(PCMU) not in audio.types:
+        raise Refused("This call's audio is PCMU (G.711 mu-law), which your program doesn't offer.", 406)
+    if from_browser and "rtcp-mux" not in audio.attributes:
+        raise Refused("This call needs RTP and RTCP on one port (rtcp-mux), which your browser refuses.", 406)
+    if from_browser and not any(one.startswith("fingerprint:") for one in audio.attributes):
+        raise Refused("This call needs encryption (DTLS-SRTP), which your browser doesn't offer.", 406)
+    return found
+
+
+def described(lines):
+    return "".join(line + "\r\n" for line in lines)
+
+
+def session(ip):
+    return ["v=0", f"o=- {secrets.randbits(31)} 1 IN IP4 {ip}", "s=-", f"c=IN IP4 {ip}", "t=0 0"]
+
+
+def plain(address, protocol, attributes=(), types=(PCMU, VP8)):
+    """A description of one stream that carries all types, for rtpengine. It passes on what it doesn't transcode."""
+    ip, port = address
+    lines = [*session(ip), f"m=audio {port} {protocol} " + " ".join(map(str, types))]
+    lines += [f"a=rtpmap:{one} {NAMES[one]}" for one in types]
+    return described([*lines, "a=rtcp-mux", "a=sendrecv", *(f"a={one}" for one in attributes)])
+
+
+def refusing_others(answer, offer):
+    """An answer of one section, with a refusal of each further section of the offer (RFC 3264 section 6)."""
+    return answer + described(f"m={one.kind} 0 {one.protocol} {' '.join(one.types)}" for one in offer[1:])
+
+
+def bundled(text, streams):
+    """The offer for a browser: its voice and the mix, its camera and slot 0, and a section for each further slot.
+
+    It has no header extension, no RTX and no reduced-size RTCP, and of the feedback NACK and PLI alone, as the bridge
+    has no more.
+    """
+    first = sections(text)[0]
+    shared = ["c=IN IP4 0.0.0.0", *(f"a={one}" for one in first.transport()), "a=rtcp-mux"]
+    voice = [f"a=rtpmap:{PCMU} PCMU/8000", "a=ptime:20"]
+    camera = [f"a=rtpmap:{VP8} VP8/90000", f"a=rtcp-fb:{VP8} nack", f"a=rtcp-fb:{VP8} nack pli"]
+    lines = [*session("127.0.0.1"), "a=group:BUNDLE " + " ".join(str(mid) for mid in range(len(streams)))]
+    for mid, ssrc in enumerate(streams):
+        kind, type_, own = ("video", VP8, camera) if mid else ("audio", PCMU, voice)
+        lines += [f"m={kind} {first.port} UDP/TLS/RTP/SAVPF {type_}", *shared, f"a=mid:{mid}", *own]
+        lines += ["a=sendrecv" if mid < 2 else "a=sendonly", f"a=ssrc:{ssrc} cname:bridge"]
+        lines.append(f"a=ssrc:{ssrc} msid:stream{mid} {kind}{mid}")
+    return described(lines)
+
+
+def plain_address(text):
+    """Where rtpengine takes and sends plain RTP."""
+    ip = next(line for line in text.replace("\r", "").split("\n") if line.startswith("c=")).split()[2]
+    return f"{ip}:{sections(text)[0].port}"

@@ -1,0 +1,119 @@
+"""The watch: whether the bridge, rtpengine and who calls are still there, and what a page shows of it."""
+
+import contextlib
+import itertools
+import threading
+import time
+
+from calls import log
+from desk import in_words
+from refused import Refused
+from rtpengine import UnknownCall
+
+# The agent's members have as many numbers, from `first_member` of the settings on.
+NUMBERS = 100_000
+
+
+class Watch:
+    def __init__(self, calls):
+        self.calls, self.settings = calls, calls.settings
+        # The desk as it was last seen, what is wrong in words, and since when rtpengine doesn't answer.
+        self.rows, self.trouble, self.engine_lost, self.closed = None, "", None, threading.Event()
+
+    def run(self):
+        """Looks at all calls each second, and more often at phones whose SSRC isn't known yet."""
+        for turn in itertools.count():
+            if self.closed.wait(0.2):
+                break
+            if turn % 5:
+                with contextlib.suppress(Refused):
+                    for call in list(self.calls.calls.values()):
+                        if call.side == "phone" and call.member is not None and call.voice is None:
+                            self.look_at(call)
+                continue
+            try:
+                self.look()
+                trouble = ""
+            except Refused as why:
+                trouble = str(why)
+            if trouble != self.trouble:
+                log(trouble or "All is well again.")
+            self.trouble = trouble
+
+    def look(self):
+        """Ends the calls that the bridge, rtpengine or the caller has left."""
+        rows = self.calls.desk.rows()
+        if self.rows is None:
+            self.tidy(rows)
+        elif rows.version < self.rows.version:
+            self.end_all("The bridge has been restarted. Press Join to come back.")
+        self.rows = rows
+        self.calls.clear()
+        try:
+            self.calls.engine.ask("ping")
+            self.engine_lost = None
+        except Refused as why:
+            self.engine_lost = self.engine_lost or time.monotonic()
+            if time.monotonic() - self.engine_lost > self.settings["silence"]:
+                self.end_all(str(why))
+            raise
+        for call in list(self.calls.calls.values()):
+            self.look_at(call)
+
+    def tidy(self, rows):
+        """Takes away the members that an agent before this one left behind, where it was killed."""
+        own = range(self.settings["first_member"], self.settings["first_member"] + NUMBERS)
+        with self.calls.lock:
+            taken = {call.member for call in self.calls.calls.values()}
+            self.calls.leaving += [(one, None) for one in rows.members if one in own and one not in taken]
+
+    def end_all(self, why):
+        for call in list(self.calls.calls.values()):
+            self.calls.end(call, why)
+
+    def look_at(self, call):
+        """Asks rtpengine what comes from who calls. A page that asks how things stand is a sign of life too."""
+        try:
+            packets, ssrc = self.calls.engine.received(call.id, call.side)
+        except UnknownCall as why:
+            self.calls.end(call, str(why))
+            return
+        if packets != call.packets:
+            call.packets, call.alive = packets, time.monotonic()
+        silence = self.settings["phone_silence" if call.side == "phone" else "silence"]
+        if time.monotonic() - call.alive > silence:
+            self.calls.end(call, f"Nothing has come from your {call.side} for {silence} s. Press Join to come back.")
+        elif call.side == "phone" and ssrc not in (None, call.voice):
+            self.learn(call, ssrc)
+
+    def learn(self, call, ssrc):
+        """Gives the desk the SSRC under which a phone sends, and a new one where the phone changes it."""
+        with self.calls.lock:
+            rows = self.calls.desk.rows()
+            if call.id not in self.calls.calls or call.member not in rows.members:
+                return
+            group = [] if call.voice is None else [f"remove-source {call.voice}"]
+            group.append(f"add-source {ssrc} {call.member} audio")
+            group += [f"mute {ssrc}"] if call.voice in rows.mutes else []
+            refusal = self.calls.desk.group(group)
+            if refusal is None:
+                call.voice = ssrc
+            elif call.refused != ssrc:
+                # Another member has the SSRC. Once that one leaves, this one is heard.
+                call.refused = ssrc
+                log(f"phone {call.name!r} isn't heard: {in_words(refusal)}")
+
+    def state(self, call):
+        """What a page shows: whose voices and pictures come, and what operators did to its own."""
+        call.alive = time.monotonic()
+        calls = list(self.calls.calls.values())
+        names = {str(ssrc): one.name for one in calls for ssrc in (one.voice, one.camera) if ssrc is not None}
+        told = {"names": names, "trouble": self.trouble, "room": call.room, "muted": []}
+        if self.rows:
+            told["room"] = self.rows.members.get(call.member)
+            told["muted"] = [ssrc for ssrc in (call.voice, call.camera) if ssrc in self.rows.mutes]
+        return told
+
+    def close(self):
+        self.closed.set()
+        self.end_all("The gateway has been stopped.")
