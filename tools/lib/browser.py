@@ -19,9 +19,9 @@ FLAGS = ["--headless=new", "--disable-gpu", "--no-sandbox", "--disable-dev-shm-u
 class Browser:
     """Chromium with a profile of its own, and one tab."""
 
-    def __init__(self, command, folder):
+    def __init__(self, command, folder, flags=()):
         profile = pathlib.Path(folder) / f"profile{time.monotonic_ns()}"
-        words = [command, *FLAGS, f"--user-data-dir={profile}", "about:blank"]
+        words = [command, *FLAGS, *flags, f"--user-data-dir={profile}", "about:blank"]
         self.process = subprocess.Popen(words, stdin=subprocess.DEVNULL, stdout=subprocess.DEVNULL, stderr=subprocess.DEVNULL)
         self.stream = self.connected(profile / "DevToolsActivePort")
         self.count = 0

@@ -1,0 +1,1 @@
+"""What `tools/bridge check gateway` is made of."""

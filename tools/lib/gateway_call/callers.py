@@ -1,0 +1,168 @@
+"""Callers of a gateway: browsers and phones that each send a tone of their own, and hear which tones come."""
+
+import glob
+import math
+import struct
+import subprocess
+import time
+import wave
+
+from lib.browser import Browser
+from lib.shared import fail
+
+# The tone of each caller in Hz. A browser's picture has a colour of its own besides.
+TONES = {"A": 440, "B": 1000, "C": 1500, "D": 700, "E": 2200}
+COLOURS = {"A": "red", "B": "blue", "C": "green"}
+# The share of full sound that each sends. All together are no full sound, which would be clamped.
+LEVEL = 0.15
+WIDTH, HEIGHT, RATE = 320, 240, 15
+
+
+def write_tone(path, hertz, rate, seconds):
+    """Writes a file with a tone."""
+    turn = 2 * math.pi * hertz / rate
+    second = b"".join(struct.pack("<h", round(LEVEL * 32767 * math.sin(turn * at))) for at in range(rate))
+    with wave.open(str(path), "wb") as file:
+        file.setparams((1, 2, rate, 0, "NONE", ""))
+        file.writeframes(second * seconds)
+
+
+def level(sound, hertz, rate):
+    """The level of a tone among samples, by Goertzel's way: 1 is full."""
+    w, a, b = 2 * math.cos(2 * math.pi * hertz / rate), 0.0, 0.0
+    for v in sound:
+        a, b = v + w * a - b, a
+    return 2 * math.sqrt(max(0.0, a * a + b * b - w * a * b)) / max(1, len(sound)) / 32767
+
+
+class Caller:
+    """Who hears."""
+
+    def heard(self):
+        """The names of the callers whose tones are heard at half to double their level, and all levels."""
+        levels = self.levels()
+        return "".join(name for name, one in levels.items() if LEVEL / 2 < one < LEVEL * 2), levels
+
+    def hears(self, names, seconds=15):
+        """Whether these callers' tones and no others are heard before long, and the last levels."""
+        end = time.monotonic() + seconds
+        while True:
+            heard, levels = self.heard()
+            quiet = all(one < LEVEL / 20 for name, one in levels.items() if name not in names)
+            if (heard == names and quiet) or time.monotonic() > end:
+                return heard == names and quiet, levels
+
+
+class BrowserCaller(Caller, Browser):
+    """Chromium at the gateway's page, whose camera and microphone are files."""
+
+    def __init__(self, name, command, folder, probe):
+        self.name, self.colour, self.joined = name, COLOURS[name], None
+        voice, camera = folder / f"{name}.wav", folder / f"{name}.mjpeg"
+        write_tone(voice, TONES[name], 48000, 2)
+        source = f"testsrc2=size={WIDTH}x{HEIGHT}:rate={RATE}:duration=4"
+        paint = f"drawbox=0:0:iw:{HEIGHT // 2}:{self.colour}:fill"
+        made = ["-f", "lavfi", "-i", source, "-vf", paint, "-c:v", "mjpeg", "-q:v", "5", "-pix_fmt", "yuvj420p", camera]
+        subprocess.run(["ffmpeg", "-v", "error", "-y", *made], check=True)
+        flags = [
+            "--use-fake-ui-for-media-stream",
+            "--use-fake-device-for-media-stream",
+            "--autoplay-policy=no-user-gesture-required",
+        ]
+        flags += [f"--use-file-for-fake-audio-capture={voice}", f"--use-file-for-fake-video-capture={camera}"]
+        # A machine may have no address but loopback.
+        super().__init__(command, folder, [*flags, "--allow-loopback-in-peer-connection"])
+        self.probe = probe
+
+    def at_page(self, page, room=1):
+        self.open(f"{page}/?room={room}&plain&name={self.name}")
+        self.wait("document.readyState === 'complete' && !!document.getElementById('join')", 60)
+        self.run(self.probe)
+
+    def join(self):
+        """Presses Join once no call is left, and waits until the page is a member or says why it isn't."""
+        self.wait("!document.getElementById('join').disabled")
+        self.run("document.getElementById('join').click()")
+        self.wait("!!(call && call.told) || document.getElementById('state').classList.contains('wrong')", 60)
+        self.joined = self.run("call && call.told")
+        if not self.joined:
+            fail(f"{self.name} can't join: {self.says()}")
+        self.run("shown = {}; watchFrames()")
+        return self
+
+    def leave(self):
+        self.run("document.getElementById('leave').click()")
+
+    def says(self):
+        return self.run("document.getElementById('state').textContent")
+
+    def levels(self):
+        told = self.run(f"levels({list(TONES.values())})")
+        return {name: round(one, 4) for name, one in zip(TONES, told)}
+
+    def sees(self, wanted, seconds=15):
+        """Whether the slots show these callers' pictures before long, and what they show: names, a `-` for none."""
+        names = {colour: name for name, colour in COLOURS.items()}
+        end = time.monotonic() + seconds
+        while True:
+            shown = self.run("colours()")
+            told = "".join(names[shown[str(slot)]] if str(slot) in shown else "-" for slot in range(len(wanted)))
+            if told == wanted or time.monotonic() > end:
+                return told == wanted, told
+
+    def shown_since(self, slot, name, moment):
+        """How many ms after a moment (of time.time) a slot had its first decoded frame of a picture, or None."""
+        changes = self.run(f"shown[{slot}].changes")
+        return next(
+            (round(at - moment * 1000) for at, colour in changes if colour == COLOURS[name] and at > moment * 1000),
+            None,
+        )
+
+    def counts(self, kind, mid):
+        return self.run(f"counts('{kind}', '{mid}')")
+
+
+class PhoneCaller(Caller):
+    """baresip, which plays a file and writes what it hears to another."""
+
+    RATE = 8000
+
+    def __init__(self, name, folder, port, sip):
+        self.name, self.folder = name, folder / name
+        self.folder.mkdir()
+        write_tone(self.folder / "tone.wav", TONES[name], self.RATE, 900)
+        found = [
+            path for at in ("/usr/lib", "/usr/lib/*", "/usr/local/lib") for path in glob.glob(f"{at}/baresip/modules")
+        ]
+        modules = [f"module_path {found[0]}" if found else ""] + [
+            f"module {one}.so" for one in ("g711", "aufile", "aubridge", "sndfile")
+        ]
+        modules += ["module_app account.so", "module_app menu.so"]
+        config = [
+            f"sip_listen 127.0.0.1:{port}",
+            f"audio_source aufile,{self.folder}/tone.wav",
+            "audio_player aubridge,one",
+            *modules,
+        ]
+        config += ["audio_alert aubridge,two", f"snd_path {self.folder}", f"rtp_ports {port + 10}-{port + 30}"]
+        (self.folder / "config").write_text("".join(f"{line}\n" for line in config))
+        (self.folder / "accounts").write_text(f"<sip:{name}@127.0.0.1>;regint=0\n")
+        (self.folder / "contacts").write_text("")
+        self.log = self.folder / "log"
+        words = ["baresip", "-f", self.folder, "-e", f"/dial sip:1@{sip}"]
+        self.process = subprocess.Popen(
+            words, stdin=subprocess.DEVNULL, stdout=self.log.open("w"), stderr=subprocess.STDOUT
+        )
+
+    def levels(self):
+        """Of the last half second that it wrote."""
+        time.sleep(0.6)
+        files = sorted(self.folder.glob("dump*dec.wav"))
+        octets = files[-1].read_bytes()[44:] if files else b""
+        sound = [sample for sample, in struct.iter_unpack("<h", octets[: len(octets) // 2 * 2][-self.RATE :])]
+        return {name: round(level(sound, hertz, self.RATE), 4) for name, hertz in TONES.items()}
+
+    def close(self):
+        """Hangs up."""
+        self.process.terminate()
+        self.process.wait()

@@ -1,0 +1,147 @@
+"""The parts of examples/gateway, started for a test beside a bridge."""
+
+import contextlib
+import json
+import signal
+import socket
+import subprocess
+import sys
+import time
+import urllib.error
+import urllib.request
+
+from lib.serving import free_port, udp_socket
+from lib.shared import ROOT, fail
+
+sys.path.insert(0, str(ROOT / "examples/gateway"))
+
+from rtpengine import Rtpengine  # noqa: E402
+
+GATEWAY = ROOT / "examples/gateway/gateway.py"
+
+
+def until(condition, seconds=10):
+    """How many seconds it takes until something holds, None where it doesn't."""
+    begun = time.monotonic()
+    while not condition():
+        if time.monotonic() - begun > seconds:
+            return None
+        time.sleep(0.05)
+    return time.monotonic() - begun
+
+
+class Parts:
+    """rtpengine, Kamailio and an agent, on ports of their own."""
+
+    def __init__(self, folder, udp, tcp, control=None, first_member=1000):
+        self.folder, self.running = folder, {}
+        stream, datagram = socket.SOCK_STREAM, socket.SOCK_DGRAM
+        self.page_port, self.phones_port, self.sip_port = free_port(stream), free_port(stream), free_port(datagram)
+        self.control = control or free_port(datagram)
+        self.engine = Rtpengine(("127.0.0.1", self.control))
+        self.page, self.path = f"http://127.0.0.1:{self.page_port}", folder / f"gateway{first_member}.toml"
+        low = 30000 + self.control % 25 * 100
+        tables = {
+            "bridge": {"udp": f"127.0.0.1:{udp}", "tcp": f"127.0.0.1:{tcp}"},
+            "rtpengine": {
+                "control": f"127.0.0.1:{self.control}",
+                "bridge": "127.0.0.1",
+                "outside": "127.0.0.1",
+                "ports": [low, low + 99],
+            },
+            "page": {"listen": f"127.0.0.1:{self.page_port}", "sites": [self.page]},
+            "phones": {"listen": f"127.0.0.1:{self.sip_port}", "agent": f"127.0.0.1:{self.phones_port}"},
+            "calls": {
+                "pictures": 3,
+                "open_rooms": True,
+                "first_member": first_member,
+                "silence": 6,
+                "phone_silence": 30,
+                "most": 20,
+            },
+        }
+        # A value of JSON is one of TOML too, as far as texts, numbers, truth and lists go.
+        lines = [
+            f"[{name}]\n" + "".join(f"{key} = {json.dumps(value)}\n" for key, value in table.items())
+            for name, table in tables.items()
+        ]
+        self.path.write_text("".join(lines))
+
+    def start(self, part):
+        log = (self.folder / f"{part}{self.page_port}.log").open("a")
+        words = [sys.executable, "-B", GATEWAY, part, self.path]
+        self.running[part] = subprocess.Popen(words, stdin=subprocess.DEVNULL, stdout=log, stderr=log)
+        if part == "agent" and until(self.serves, 60) is None:
+            fail("the agent serves no page")
+        if part == "rtpengine" and until(self.pings, 60) is None:
+            fail("rtpengine doesn't answer")
+
+    def stop(self, part, by=signal.SIGTERM):
+        one = self.running.pop(part)
+        one.send_signal(by)
+        one.wait(timeout=30)
+
+    def close(self):
+        for part in list(self.running):
+            self.stop(part, signal.SIGKILL if part == "rtpengine" else signal.SIGTERM)
+
+    def serves(self):
+        """Whether the agent's two ports take connections."""
+        for port in self.page_port, self.phones_port:
+            try:
+                socket.create_connection(("127.0.0.1", port), 1).close()
+            except OSError:
+                return False
+        return True
+
+    def pings(self):
+        with contextlib.suppress(Exception):
+            return self.engine.ask("ping")
+        return False
+
+    def calls(self):
+        """How many calls rtpengine has."""
+        return len(self.engine.ask("list")["calls"])
+
+    def ask(self, path, origin=None, for_phones=False, **words):
+        """The status of a request, and what it is answered."""
+        port = self.phones_port if for_phones else self.page_port
+        request = urllib.request.Request(f"http://127.0.0.1:{port}/{path}", json.dumps(words).encode(), method="POST")
+        if not for_phones:
+            request.add_header("Origin", origin or self.page)
+        try:
+            with urllib.request.urlopen(request, timeout=30) as said:
+                return said.status, json.load(said)
+        except urllib.error.HTTPError as why:
+            return why.code, why.read().decode()
+
+    def invite(self, body, id, room="1"):
+        """The first line of the final answer to a phone's INVITE."""
+        with udp_socket() as one:
+            port = one.getsockname()[1]
+            head = [
+                f"INVITE sip:{room}@127.0.0.1:{self.sip_port} SIP/2.0",
+                f"Via: SIP/2.0/UDP 127.0.0.1:{port};branch=z9hG4bK{id}",
+            ]
+            head += [
+                "From: <sip:test@127.0.0.1>;tag=1",
+                f"To: <sip:{room}@127.0.0.1>",
+                f"Call-ID: {id}",
+                "CSeq: 1 INVITE",
+                "Max-Forwards: 70",
+            ]
+            head += [
+                f"Contact: <sip:test@127.0.0.1:{port}>",
+                "Content-Type: application/sdp",
+                f"Content-Length: {len(body)}",
+                "",
+                body,
+            ]
+            one.settimeout(20)
+            one.sendto("\r\n".join(head).encode(), ("127.0.0.1", self.sip_port))
+            try:
+                while (first := one.recv(65536).decode().splitlines()[0]).startswith("SIP/2.0 1"):
+                    pass
+            except TimeoutError:
+                first = "SIP/2.0 408 Kamailio doesn't answer"
+            return first

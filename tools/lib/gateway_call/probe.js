@@ -1,0 +1,70 @@
+// What `tools/bridge check gateway` measures in a page that has joined a call.
+"use strict";
+
+// A camera of 15 frames a second: three browsers and the bridge may share a small machine.
+const camera = navigator.mediaDevices.getUserMedia.bind(navigator.mediaDevices);
+const small = { width: 320, height: 240, frameRate: 15 };
+navigator.mediaDevices.getUserMedia = ({ audio }) => camera({ audio, video: small });
+
+// Each decoded frame of a slot, before it is drawn: when the last one came, how many came, when the picture changed.
+window.shown = {};
+window.watchFrames = () => {
+  for (const { mid, receiver } of call.peer.getTransceivers()) {
+    if (mid === "0" || shown[mid - 1]) continue;
+    const slot = shown[mid - 1] = { frames: 0, last: 0, colour: "", changes: [] };
+    const reader = new MediaStreamTrackProcessor({ track: receiver.track.clone() }).readable.getReader();
+    const canvas = new OffscreenCanvas(16, 12).getContext("2d", { willReadFrequently: true });
+    const next = ({ value: frame, done }) => {
+      if (done) return;
+      const at = performance.timeOrigin + performance.now();
+      canvas.drawImage(frame, 0, 0, 16, 12);
+      frame.close();
+      const [r, g, b] = canvas.getImageData(8, 2, 1, 1).data;
+      const colour = r > g && r > b ? "red" : b > g ? "blue" : "green";
+      // After half a second without a frame the same picture is a new one.
+      if (colour !== slot.colour || at - slot.last > 500) slot.changes.push([at, colour]);
+      Object.assign(slot, { colour, last: at, frames: slot.frames + 1 });
+      reader.read().then(next);
+    };
+    reader.read().then(next);
+  }
+};
+
+// The colours of the slots that show something now, by slot.
+window.colours = () => {
+  const now = performance.timeOrigin + performance.now();
+  const showing = Object.entries(shown).filter(([, slot]) => now - slot.last < 700);
+  return Object.fromEntries(showing.map(([at, slot]) => [at, slot.colour]));
+};
+
+// The levels of tones in what the page plays, by Goertzel's way: 1 is full.
+let analyser = null;
+window.levels = async tones => {
+  if (!analyser) {
+    const context = new AudioContext();
+    analyser = context.createAnalyser();
+    analyser.fftSize = 16384;
+  }
+  // A page that joins again gets another stream.
+  const stream = document.getElementById("mix").srcObject;
+  if (analyser.heard !== stream) {
+    if (analyser.source) analyser.source.disconnect();
+    analyser.source = analyser.context.createMediaStreamSource(analyser.heard = stream);
+    analyser.source.connect(analyser);
+  }
+  await new Promise(done => setTimeout(done, 450));
+  const data = new Float32Array(analyser.fftSize);
+  analyser.getFloatTimeDomainData(data);
+  return tones.map(tone => {
+    const c = 2 * Math.cos(2 * Math.PI * tone / analyser.context.sampleRate);
+    let a = 0, b = 0;
+    for (const x of data) [a, b] = [x + c * a - b, a];
+    return 2 * Math.sqrt(Math.max(0, a * a + b * b - c * a * b)) / data.length;
+  });
+};
+
+// What the connection counts of one m-section and direction.
+window.counts = async (type, mid) => {
+  for (const one of (await call.peer.getStats()).values()) if (one.type === type && one.mid === mid) return one;
+  return {};
+};

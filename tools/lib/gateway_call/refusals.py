@@ -1,0 +1,186 @@
+"""What can't be had of the gateway: it is told in words, and leaves nothing behind. Neither browser nor phone is needed."""
+
+import re
+import signal
+import time
+
+from lib.gateway_call.parts import Parts, until
+from lib.gateway_call.trial import Trial
+from lib.packets import rtp
+from lib.serving import udp_socket
+from lib.shared import fail
+
+
+def offer_of(media):
+    """A phone's offer of these media."""
+    return "\r\n".join(["v=0", "o=- 1 1 IN IP4 127.0.0.1", "s=-", "c=IN IP4 127.0.0.1", "t=0 0", *media, ""])
+
+
+def answer_of(types="0", port=9, mux=True, ssrc=777, kind="audio"):
+    """A browser's answer that names what matters, but for the candidates."""
+    print_ = ":".join(["AB"] * 32)
+    own = [
+        "a=ice-ufrag:abcd",
+        "a=ice-pwd:abcdefghijklmnopqrstuvwx",
+        f"a=fingerprint:sha-256 {print_}",
+        "a=setup:active",
+        "a=mid:0",
+        "a=sendrecv",
+    ]
+    return offer_of(
+        [f"m={kind} {port} UDP/TLS/RTP/SAVPF {types}", *own, *(["a=rtcp-mux"] if mux else []), f"a=ssrc:{ssrc} cname:x"]
+    )
+
+
+class RawPhone:
+    """A phone without SIP: it asks the agent as Kamailio does, and sends silence under an SSRC."""
+
+    def __init__(self, parts, id, offer, ssrc):
+        status, told = parts.ask("phone", for_phones=True, id=id, room="1", name=id, sdp=offer)
+        if status != 200:
+            fail(f"a phone can't join: {told}")
+        self.parts, self.id, self.ssrc, self.member, self.socket = parts, id, ssrc, told["member"], udp_socket()
+        self.port = int(re.search(r"m=audio (\d+)", told["sdp"])[1])
+
+    def send(self, at):
+        self.socket.sendto(rtp(at, at * 160, self.ssrc, b"\xff" * 160, pt=0), ("127.0.0.1", self.port))
+
+    def hang_up(self):
+        self.parts.ask("hang-up", for_phones=True, id=self.id)
+
+
+class Refusals(Trial):
+    def refused(self, text, wanted, said):
+        """Whether words come, and nothing stays behind at the desk and at rtpengine."""
+        status, words = said
+        good = status >= 400 and wanted in words
+        print(f"      {status}: {words}")
+        self.check(good, f"{text} is told in words", said)
+        left = until(lambda: self.parts.calls() == 0 and not self.rows(), 5)
+        self.check(left is not None, f"{text} leaves nothing behind", self.rows())
+
+    def joins(self, parts=None, room="1", **answer):
+        """What a browser is answered that answers so."""
+        parts = parts or self.parts
+        status, told = parts.ask("offer", room=room, name="test")
+        return parts.ask("answer", id=told["id"], sdp=answer_of(**answer)) if status == 200 else (status, told)
+
+    def try_bad_answers(self):
+        self.refused("an answer without audio", "needs audio", self.joins(port=0))
+        self.refused("an answer with a camera alone", "needs audio", self.joins(kind="video", types="96"))
+        self.refused("an answer with PCMA alone", "PCMU", self.joins(types="8"))
+        self.refused("an answer without rtcp-mux", "rtcp-mux", self.joins(mux=False))
+        self.refused("a room that is no number", "number", self.joins(room="one"))
+        self.refused(
+            "a page of another site",
+            "another site",
+            self.parts.ask("offer", origin="http://evil.example", room="1", name="x"),
+        )
+        status, _ = self.parts.ask("offer", room="1", name="x")
+        self.check(
+            status == 200 and until(lambda: self.parts.calls() == 0, 12) is not None,
+            "an offer that nobody answers goes again",
+        )
+
+    def try_two_with_one_ssrc(self):
+        status, told = self.parts.ask("offer", room="1", name="first")
+        self.check(self.parts.ask("answer", id=told["id"], sdp=answer_of())[0] == 200, "a browser joins under an SSRC")
+        before = self.rows()
+        for status, words, wanted, text in (
+            (*self.joins(), "SSRC", "a second browser under this SSRC is told so"),
+            (
+                *self.parts.ask("answer", id=told["id"], sdp=answer_of()),
+                "already",
+                "a browser that answers twice is told so",
+            ),
+            (
+                *self.parts.ask("answer", id="none", sdp=answer_of()),
+                "Press Join",
+                "a call that the agent doesn't know is told so",
+            ),
+            (
+                *self.parts.ask("answer", id=told["id"], sdp=7),
+                "can't be read",
+                "a request that can't be read is told so",
+            ),
+        ):
+            print(f"      {status}: {words}")
+            self.check(status >= 400 and wanted in words, text, words)
+            self.check(self.rows() == before and self.parts.calls() == 1, "and leaves nothing behind", self.rows())
+        self.parts.ask("leave", id=told["id"])
+        self.check(self.rows() == [] and self.parts.calls() == 0, "the first one leaves nothing behind", self.rows())
+
+    def try_full_and_busy(self):
+        voices = [f"add-source {5000 + at} 1 audio" for at in range(64)]
+        self.do("group add-room 1 / add-member 1 1 127.0.0.1:9 pcmu 1001 0 0")
+        numbers = [self.do("group " + " / ".join(voices[at : at + 32])) for at in (0, 32)]
+        before, said = self.rows(), self.joins()
+        print("      {}: {}".format(*said))
+        self.check(said[0] == 503 and "64 voices" in said[1], "a bridge that is full is told in words", said)
+        self.check(self.rows() == before and self.parts.calls() == 0, "and the refused leaves nothing behind")
+        self.check(len(numbers) == 2 and self.do("remove-room 1") and not self.rows(), "the operator's room goes")
+        # The seats are four: the agent's, this operator's, and two more.
+        taken = [self.seated() for _ in range(2)]
+        for one in taken:
+            one.show()
+        late = Parts(self.folder, self.udp, self.tcp, self.parts.control, first_member=200_000)
+        self.others.append(late)
+        late.start("agent")
+        self.refused("a bridge that is busy", "busy", self.joins(late))
+        for one in taken:
+            one.tell("quit")
+        self.check(until(lambda: self.joins(late)[0] == 200, 10) is not None, "it is joined once a seat is free")
+        late.stop("agent")
+        self.check(
+            not self.rows() and self.parts.calls() == 0, "an agent that is stopped leaves nothing behind", self.rows()
+        )
+
+    def try_bad_phones(self):
+        voice = "m=audio 5000 RTP/AVP 0 8"
+        for text, wanted, media in (
+            ("a phone without audio", "488 This call needs audio", ["m=video 5000 RTP/AVP 96"]),
+            ("a phone with PCMA alone", "488 This call's audio is PCMU", ["m=audio 5000 RTP/AVP 8"]),
+            ("a phone with video before audio", "488", ["m=video 5002 RTP/AVP 96", voice]),
+        ):
+            said = self.parts.invite(offer_of(media), text.replace(" ", ""))
+            self.refused(text, wanted, (int(said.split()[1]), said.partition(" ")[2]))
+        said = self.parts.invite(offer_of([voice]), "room", room="hall")
+        self.refused(
+            "a phone that calls no number", "404 A room is a number", (int(said.split()[1]), said.partition(" ")[2])
+        )
+        said = self.parts.invite(offer_of([voice]), "good")
+        self.check(said.startswith("SIP/2.0 200") and self.members() == 1, "a phone without rtcp-mux joins", said)
+        self.parts.ask("hang-up", for_phones=True, id="good")
+        self.check(not self.rows() and self.parts.calls() == 0, "and hangs up", self.rows())
+
+    def try_phones_with_one_ssrc(self):
+        """Phones whose offers name no SSRC: each is learnt from the packets that come."""
+        offer = offer_of(["m=audio 5000 RTP/AVP 0"])
+        phones = [RawPhone(self.parts, id, offer, 4242) for id in ("first", "second")]
+        sources = lambda: [row.split()[2] for row in self.rows() if row.startswith("source 4242 ")]
+        for at in range(100):
+            for one in phones[: 1 + (at > 40)]:
+                one.send(at)
+            time.sleep(0.02)
+        self.check(sources() == [str(phones[0].member)], "a phone's SSRC is learnt from its packets", self.rows())
+        self.check(self.members() == 2, "a second phone under this SSRC is a member, and isn't heard", self.rows())
+        told = self.parts.ask("phone", for_phones=True, id="first", room="1", name="x", sdp=offer)
+        self.check(told[0] == 200 and self.members() == 2, "a phone that offers again stays the member that it is")
+        phones[0].hang_up()
+        for at in range(100, 250):
+            phones[1].send(at)
+            time.sleep(0.02)
+        self.check(sources() == [str(phones[1].member)], "once the first one leaves, it is heard", self.rows())
+        phones[1].hang_up()
+        self.check(not self.rows() and self.parts.calls() == 0, "both leave nothing behind", self.rows())
+
+    def try_without_rtpengine(self):
+        self.parts.stop("rtpengine", signal.SIGKILL)
+        status, words = self.joins()
+        print(f"      {status}: {words}")
+        self.check(
+            status == 503 and "doesn't answer" in words and not self.rows(),
+            "rtpengine that is gone is told in words",
+            words,
+        )
+        self.parts.start("rtpengine")
