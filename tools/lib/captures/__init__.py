@@ -1,0 +1,1 @@
+"""Captures of a network: files of pcap and pcapng, live ones, and the datagrams and lines in them."""

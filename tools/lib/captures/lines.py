@@ -1,0 +1,108 @@
+"""Lines in TCP connections: segments put in order, and what is missing of them."""
+
+import dataclasses
+
+FIN, SYN, RST = 1, 2, 4
+# A hole that so many octets lie behind was never captured. So it is, where later segments have come for so many nanoseconds.
+MOST_BEHIND, LONGEST = 1 << 20, 3 * 10**9
+
+
+@dataclasses.dataclass(frozen=True)
+class Line:
+    """A line of a connection: when its end came, who sent it to whom, and its text. Behind a hole it isn't whole."""
+
+    moment: int
+    source: str
+    target: str
+    text: str
+    is_whole: bool = True
+
+
+class Direction:
+    """What one end of a connection sends."""
+
+    def __init__(self, source, target, notes):
+        self.source, self.target, self.notes = source, target, notes
+        self.next, self.behind, self.text = None, {}, b""
+        # A line isn't whole that stands behind a hole. A connection that was there before is taken to begin with a whole line.
+        self.is_whole, self.waits_since = True, None
+
+    def take(self, packet):
+        """The lines that a segment ends."""
+        seq, octets = packet.seq, packet.octets
+        if packet.flags & SYN:
+            self.next, self.is_whole, self.behind, self.text = (seq + 1) % 2**32, True, {}, b""
+            return
+        if not octets:
+            return
+        if self.next is None:
+            self.next = seq
+            self.notes.add(f"the connection {self.source} to {self.target} was there before the capture", packet.moment)
+        ahead = (seq - self.next + 2**31) % 2**32 - 2**31
+        if ahead > 0:
+            self.notes.add(f"TCP segments of {self.source} are out of order, and are put in order", packet.moment)
+            self.waits_since = self.waits_since or packet.moment
+            self.behind[seq] = octets
+            if sum(map(len, self.behind.values())) < MOST_BEHIND and packet.moment < self.waits_since + LONGEST:
+                return
+            yield from self.skip(packet.moment)
+        elif -ahead < len(octets):
+            yield from self.join(packet.moment, octets[-ahead:])
+        yield from self.follow(packet.moment)
+
+    def follow(self, moment):
+        """The lines of what waited behind a hole that is filled."""
+        while True:
+            due = [seq for seq in self.behind if (seq - self.next + 2**31) % 2**32 <= 2**31]
+            if not due:
+                break
+            octets = self.behind.pop(due[0])
+            yield from self.join(moment, octets[(self.next - due[0]) % 2**32 :])
+        if not self.behind:
+            self.waits_since = None
+
+    def skip(self, moment):
+        """Goes on behind a hole that isn't filled. The rest of the line is lost."""
+        first = min(self.behind, key=lambda seq: (seq - self.next) % 2**32)
+        lost = (first - self.next) % 2**32
+        self.notes.add(f"{lost} octets of TCP from {self.source} to {self.target} are missing: calls or answers are lost", moment)
+        self.next, self.text, self.is_whole = first, b"", False
+        yield from self.follow(moment)
+
+    def join(self, moment, octets):
+        """The lines that more octets end."""
+        self.next = (self.next + len(octets)) % 2**32
+        self.text += octets
+        while b"\n" in self.text:
+            line, _, self.text = self.text.partition(b"\n")
+            yield Line(moment, self.source, self.target, line.decode("latin-1").removesuffix("\r"), self.is_whole)
+            self.is_whole = True
+
+    def end(self, moment):
+        """The lines that the end of the capture leaves behind holes."""
+        while self.behind:
+            yield from self.skip(moment)
+
+
+class Connections:
+    """The lines of all connections."""
+
+    def __init__(self, notes):
+        # By their ends: what each sends, and when it said that it ends.
+        self.notes, self.directions, self.ends, self.last = notes, {}, {}, 0
+
+    def take(self, packet):
+        """The lines that a segment ends."""
+        key = packet.source, packet.target
+        if key not in self.directions:
+            self.directions[key] = Direction(*key, self.notes)
+        self.last = packet.moment
+        if packet.flags & (FIN | RST):
+            self.ends.setdefault(key, packet.moment)
+        elif packet.flags & SYN:
+            self.ends.pop(key, None)
+        yield from self.directions[key].take(packet)
+
+    def end(self):
+        for direction in self.directions.values():
+            yield from direction.end(self.last)

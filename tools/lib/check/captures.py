@@ -1,0 +1,174 @@
+"""Reads and explains captures that it makes, good ones and bad ones.
+
+A model of the bridge holds a call, whose packets are written in each form that `explain` reads: pcap of microseconds and of
+nanoseconds, pcapng, both orders of octets, each link type, in fragments, behind a VLAN's tag, packed by gzip. All have to be read
+alike, and explained without a difference. Then it writes captures that are cut, short, out of order, incomplete, of two bridges or
+of another link type. Each fault has to be named, and the rest be explained.
+"""
+
+import gzip
+import io
+
+from lib.captures.files import frames_of
+from lib.captures.links import COOKED, COOKED_2, ETHERNET, IPV4, LOOP, NULL, RAW, Packets
+from lib.captures.notes import BadCapture, Notes
+from lib.captures.writing import VLAN, pcap, pcapng, tcp_packet, udp_packets
+from lib.explain.explaining import explained, rows_in
+from lib.explain.made import BRIDGE, DESK, ONE, OPERATOR, OTHER, Made
+from lib.explain.telling import telling
+from lib.packets import number
+from lib.shared import fail
+
+NEEDS = "nothing, some seconds"
+
+LINKS = [NULL, ETHERNET, RAW, COOKED, LOOP, IPV4, COOKED_2, 12]
+ALL = (0, float("inf"))
+
+
+def options(_parser):
+    pass
+
+
+def check(holds, text):
+    if not holds:
+        fail(text)
+
+
+def packets_in(octets):
+    """What is read of a capture, without moments, and the first moment to the microsecond."""
+    found = list(Packets(Notes()).of(frames_of(io.BytesIO(octets), Notes())))
+    return [(p.protocol, p.source, p.target, p.octets, p.seq, p.flags) for p in found], found[0].moment // 1000
+
+
+def forms(packets):
+    """The captures of some packets in each form, by a name."""
+    for link in LINKS:
+        for order in "<", ">":
+            yield f"pcap, link type {link}, {order}", pcap(packets, link, order, 10**9)
+            yield f"pcapng, link type {link}, {order}", pcapng(packets, link, order)
+    yield "pcap of microseconds", pcap(packets)
+    yield "pcapng of microseconds", pcapng(packets, digits=6)
+    yield "a VLAN", pcap(packets, head=VLAN)
+    yield "gzip", gzip.compress(pcap(packets))
+
+
+def check_forms():
+    """Each form is read alike, and so is a datagram in fragments that come in any order."""
+    packets = Made(6).packets
+    wanted, count = packets_in(pcap(packets, units=10**9)), 0
+    for name, octets in forms(packets):
+        check(packets_in(octets) == wanted, f"{name} isn't read as the others are")
+        count += 1
+    whole = list(udp_packets(BRIDGE, ONE, bytes(range(256)) * 8, 9))
+    parts = list(udp_packets(BRIDGE, ONE, bytes(range(256)) * 8, 9, 800))
+    check(len(parts) == 3, "there are no fragments")
+    for order in (0, 1, 2), (2, 0, 1), (1, 2, 0):
+        octets = pcap([(n, parts[at]) for n, at in enumerate(order)])
+        check(packets_in(octets)[0] == packets_in(pcap([(0, whole[0])]))[0], f"fragments in the order {order} aren't joined")
+    print(f"{count} forms of a capture are read alike, and fragments in each order")
+
+
+def told(octets, **named):
+    """What is told of a capture, and how many media packets differ, or None without a desk."""
+    it = explained(io.BytesIO(octets), **named)
+    return "\n".join(telling(it, "it", None, ALL)), len(it.run.cursor.found) if it.run else None, it
+
+
+def check_call(packets):
+    """The whole call is explained without a difference, and its wrong senders are named."""
+    text, found, it = told(pcap(packets, units=10**9))
+    check(found == 0, f"of a whole call {found} media packets differ\n{text}")
+    for sentence in [
+        "127.0.0.1:6002 sends SSRC 202 as type 8 (PCMA): 10 packets dropped BadPayload",
+        "127.0.0.1:6004 sends SSRC 77 as type 8 (PCMA): 10 packets dropped Unknown. No member has this address",
+        "202 was muted since call 9 of operator 0",
+        "202 is muted since call 13 of operator 0",
+        "call 11: group set-gain 10 202 128 / mute 101",
+    ]:
+        check(sentence in text, f"of a whole call it isn't told: {sentence}\n{text}")
+    print(f"a call of {it.run.cursor.equal} media packets is explained without a difference")
+
+
+def swapped(packets, text):
+    """The capture with the line of a text in two segments, the second of which comes first."""
+    at = next(n for n, (_, packet) in enumerate(packets) if text in packet)
+    moment, packet = packets[at]
+    seq, octets = number(packet[24:28]), packet[40:]
+    halves = [tcp_packet(OPERATOR, DESK, seq + first, 24, octets[first:last]) for first, last in ((4, None), (0, 4))]
+    return packets[:at] + [(moment + n * 10_000, half) for n, half in enumerate(halves)] + packets[at + 1 :]
+
+
+def without_segment(packets, text):
+    return [(moment, packet) for moment, packet in packets if text not in packet]
+
+
+def check_bad(packets):
+    """What is wrong with a capture is named, and what can be explained is."""
+    whole, text = pcap(packets, units=10**9), "\n{}"
+    other_link = pcapng(packets[:3], 0).replace(b"\x01\0\0\0\x20\0\0\0\0\0", b"\x01\0\0\0\x20\0\0\0\x7f\0")
+    is_swapped, is_lost = (pcap(some, units=10**9) for some in (swapped(packets, b"undo 9\n"), without_segment(packets, b"mute 202\n")))
+    cases = [
+        ("cut in mid-packet", whole[:-30], "the capture ends in the middle of a packet", 0),
+        ("of two link types", pcapng(packets) + other_link, "link type 127 (802.11 with radiotap) isn't read", 0),
+        ("with segments out of order", is_swapped, "TCP segments of 127.0.0.1:40000 are out of order", 0),
+        ("with a segment lost", is_lost, "octets of TCP from 127.0.0.1:40000 to 127.0.0.1:7000 are missing", None),
+        ("cut by a snap length", pcap(packets, units=10**9, most=120), "packets are cut short", None),
+    ]
+    for name, octets, wanted, most in cases:
+        said, found, _ = told(octets)
+        check(wanted in said, f"a capture {name}: it isn't told that {wanted}{text.format(said)}")
+        check(most is None or found == most, f"a capture {name}: {found} media packets differ{text.format(said)}")
+    for name, octets, wanted in [
+        ("without a packet", pcap([]), "it has no UDP or TCP over IPv4"),
+        ("of another link type alone", pcap(packets, 127), "link type 127 (802.11 with radiotap) isn't read"),
+        ("of nothing", b"", "the capture is empty"),
+        ("of something else", b"<html>", "it begins with 3c68746d"),
+    ]:
+        try:
+            told(octets)
+            fail(f"a capture {name} is explained")
+        except BadCapture as why:
+            check(wanted in str(why), f"a capture {name}: it is told that {why}, not that {wanted}")
+    print("captures that are cut, short, out of order, incomplete, empty or of another kind are named")
+
+
+def check_two(packets):
+    """Two bridges in one capture are named, and each can be chosen."""
+    others = Made(20, bridge=("127.0.0.1:5104", "127.0.0.1:7100"), members=("127.0.0.1:6100", "127.0.0.1:6102")).packets
+    both = pcap(sorted(packets + others, key=lambda one: one[0]), units=10**9)
+    try:
+        told(both)
+        fail("a capture of two bridges is explained as if there were one")
+    except BadCapture as why:
+        check("several bridges" in str(why) and "7100" in str(why), f"of two bridges it is told: {why}")
+    for named in {"tcp": "7000"}, {"tcp": "127.0.0.1:7100"}, {"udp": "5104"}:
+        said, found, _ = told(both, **named)
+        check(found == 0, f"one of two bridges, {named}: {found} media packets differ\n{said}")
+    print("two bridges in one capture are named, and each can be chosen")
+
+
+def check_middle():
+    """A capture that begins in mid-call is explained from a `show` on, or with the desk's rows; without them it is named."""
+    call = Made(80, shows=40)
+    middle = [(moment, packet) for moment, packet in call.packets if moment >= call.packets[0][0] + 790_000_000]
+    said, found, it = told(pcap(middle, units=10**9))
+    check("begins in mid-call" in said, f"a capture that begins in mid-call isn't named\n{said}")
+    kinds = {one.kind for one in it.run.cursor.found}
+    check(found <= 12 and it.run.cursor.equal > 80, f"in mid-call {found} media packets differ, {kinds}\n{said}")
+    datagrams = pcap([(moment, packet) for moment, packet in middle if packet[9] == 17], units=10**9)
+    said, _, it = told(datagrams)
+    check(it.run is None and "the desk isn't in it" in said and f"{OTHER}" in said, f"without the desk it is told:\n{said}")
+    rows = rows_in("\n".join(Made(1).bridge.desk.shown(8)))
+    said, found, it = told(datagrams, rows=rows)
+    check(it.run and it.run.cursor.equal > 20, f"with the desk's rows it is told:\n{said}")
+    print("a capture that begins in mid-call is explained from `show` on")
+
+
+def run(_args):
+    packets = Made().packets
+    check_forms()
+    check_call(packets)
+    check_bad(packets)
+    check_two(packets)
+    check_middle()
+    return 0

@@ -1,0 +1,218 @@
+"""Explains a call that it holds over sockets: no media packet on the wire may differ from the models'.
+
+Two members send sound and one of them video, with packets lost, overtaken and doubled. The second one asks again for packets and for
+pictures. Wrong senders send beside them. An operator mutes, gives groups, removes a slot and undoes. The call is captured by a packet
+socket, and explained: each media packet is the model's, octet by octet, the program answers the script as the models do, and each
+wrong sender is named. From its middle on the capture is explained by a `show`. Where this process may not capture, it is skipped.
+"""
+
+import io
+import pathlib
+import random
+import socket
+import sys
+import tempfile
+import time
+
+from lib.captures.live import may_capture
+from lib.captures.notes import BadCapture
+from lib.captures.recorder import Recorder
+from lib.demo import picture, tone
+from lib.explain import compared
+from lib.explain.explaining import explained
+from lib.explain.telling import telling
+from lib.network.camera import asked_numbers
+from lib.packets import nack, number, pli, rtp, seq_of
+from lib.serving import Operator, port_of, settings, started, udp_socket
+from lib.shared import add_program, fail, release_program
+
+NEEDS = "the program, leave to capture on `lo`"
+
+EACH = 0.02
+# What the operator says, by the second at which it does. A `V` is the number of the last call.
+CALLS = {
+    1.5: "mute 202", 2: "undo V", 2.5: "group set-gain 10 202 128 / mute 101", 3: "undo V", 3.5: "remove-slot 501", 3.7: "undo V",
+    4: "show", 4.4: "unsubscribe 501", 4.6: "undo V", 4.8: "redo V", 5: "subscribe 501 101", 5.5: "remove-member 11", 5.7: "undo V",
+}  # fmt: skip
+# The capture is cut at the `show`, and explained from there on.
+MIDDLE = 4
+ALL = (0, float("inf"))
+
+
+def options(parser):
+    parser.add_argument("--seconds", type=float, default=7, help="how long the call lasts (%(default)s)")
+    parser.add_argument("--lanes", type=int, default=1, help="how many lanes the bridge has (%(default)s)")
+    parser.add_argument("--tries", type=int, default=3, help="how many calls are tried where the machine is busy (%(default)s)")
+    parser.add_argument("--seed", type=int, default=1, help="what is lost and overtaken (%(default)s)")
+    parser.add_argument("--keep", metavar="FILE", help="leave the capture there")
+    add_program(parser)
+
+
+def check(holds, text):
+    if not holds:
+        fail(text)
+
+
+class Member:
+    """A member, whose packets take a bad path."""
+
+    def __init__(self, to, seed):
+        self.socket, self.to, self.random, self.later = udp_socket(), to, random.Random(seed), []
+        self.socket.setblocking(False)
+        self.got = []
+
+    def address(self):
+        return f"127.0.0.1:{port_of(self.socket)}"
+
+    def send(self, octets, now):
+        """Sends a packet: 3 % are lost, 3 % come later, 1 % twice."""
+        fate = self.random.random()
+        if fate < 0.03:
+            return
+        if fate < 0.06:
+            self.later.append((now + self.random.choice([0.005, 0.025, 0.05]), octets))
+            return
+        self.socket.sendto(octets, self.to)
+        if fate > 0.99:
+            self.socket.sendto(octets, self.to)
+
+    def turn(self, now):
+        """Sends what was to come later, and reads what has come."""
+        for due in [one for one in self.later if one[0] <= now]:
+            self.later.remove(due)
+            self.socket.sendto(due[1], self.to)
+        new = []
+        try:
+            while True:
+                new.append(self.socket.recv(65536))
+        except BlockingIOError:
+            self.got += new
+            return new
+
+
+class Call:
+    """A call of two members and a stranger."""
+
+    def __init__(self, port, operator, seed):
+        self.one, self.other, self.stranger = (Member(("127.0.0.1", port), seed + n) for n in range(3))
+        self.operator, self.version, self.tick, self.sent = operator, 0, 0, {}
+
+    def setup(self):
+        yield from ("add-room 1", f"add-member 10 1 {self.one.address()} pcmu 9001 0 0")
+        yield from (f"add-member 11 1 {self.other.address()} l16 9002 65530 4294967000", "add-source 201 10 audio")
+        yield from ("add-source 202 11 audio", "add-source 101 10 video", "add-slot 501 11 0 65500 1000", "subscribe 501 101")
+
+    def say(self, line):
+        """Says a line, and counts the call."""
+        line = line.replace("V", str(self.version))
+        said = self.operator.shown()[-1] if line == "show" else self.operator.ask(line)
+        check(said.split(" ")[0] in ("ok", "end"), f"`{line}` is answered `{said}`")
+        self.version = int(said.split(" ")[1])
+
+    def turn(self, now):
+        """What is sent in 20 ms."""
+        tick = self.tick
+        self.one.send(rtp(tick, tick * 160, 201, tone(440, tick), pt=0), now)
+        self.other.send(rtp(tick, tick * 160, 202, tone(1000, tick), pt=0), now)
+        for part, payload in enumerate(picture(tick)):
+            seq = tick * 2 + part
+            self.sent[seq % 65536] = rtp(seq, tick * 1800, 101, payload, marker=part)
+            self.one.send(self.sent[seq % 65536], now)
+        if tick % 10 == 0:
+            self.stranger.send(rtp(tick // 10, tick * 160, 77, bytes(160), pt=0), now)
+            self.one.socket.sendto(rtp(tick // 10, tick * 160, 201, bytes(160), pt=8), self.one.to)
+        if tick % 25 == 24 and self.other.got:
+            last = [octets for octets in self.other.got if number(octets[8:12]) == 501]
+            self.other.send(nack(501, seq_of(last[-1])) if tick % 50 == 24 and last else pli(501), now)
+        self.tick += 1
+
+    def hold(self, seconds):
+        """Holds the call. Of packets that the bridge asks for, every second one is sent again."""
+        begun, calls = time.monotonic(), dict(CALLS)
+        while time.monotonic() - begun < seconds:
+            now = time.monotonic()
+            if calls and now - begun >= min(calls):
+                self.say(calls.pop(min(calls)))
+            if now - begun >= self.tick * EACH:
+                self.turn(now)
+            self.other.turn(now)
+            self.stranger.turn(now)
+            for octets in self.one.turn(now):
+                numbers = asked_numbers(octets)[0] if 192 <= octets[1] <= 223 else []
+                for seq in (seq for seq in numbers if seq % 2 and seq in self.sent):
+                    self.one.send(self.sent[seq], now)
+            time.sleep(0.002)
+
+
+def captured(program, args, folder):
+    """The capture of a call, and the call."""
+    bridge, udp, tcp = started(program, settings(folder, lanes=args.lanes))
+    recorder = Recorder([udp, tcp], pathlib.Path(args.keep or f"{folder}/call.pcap").resolve())
+    recorder.begin()
+    with socket.create_connection(("127.0.0.1", tcp), timeout=60) as connection:
+        call = Call(udp, Operator(connection), args.seed)
+        for line in call.setup():
+            call.say(line)
+        call.hold(args.seconds)
+        time.sleep(0.2)
+        call.operator.tell("stop")
+        bridge.wait(20)
+    check(recorder.end(), "the capture lost packets")
+    return recorder.path.read_bytes(), call
+
+
+def told(octets):
+    it = explained(io.BytesIO(octets))
+    return it, "\n".join(telling(it, "the call", None, ALL))
+
+
+def check_whole(octets, call, program):
+    """The whole call has no difference, and names the wrong senders. Returns what is explained, or None where media differ."""
+    it, text = told(octets)
+    if it.run.cursor.found or not it.run.cursor.equal:
+        slowest = max(one.until - one.moment for one in it.calls) / 1e6
+        found = len(it.run.cursor.found)
+        print(f"{found} media packets differ, in a call whose slowest answer took {slowest:.0f} ms\n{text}", file=sys.stderr)
+        return None
+    for sentence in [
+        f"{call.stranger.address()} sends SSRC 77 as type 0 (PCMU): ",
+        f"{call.one.address()} sends SSRC 201 as type 8 (PCMA): ",
+        "dropped BadPayload",
+        "dropped Unknown. No member has this address",
+        "202 was muted since call 9 of operator 0",
+    ]:
+        check(sentence in text, f"it isn't told: {sentence}\n{text}")
+    check(compared(it.run, program), "the program answers the script in another way")
+    print(f"{it.run.cursor.equal} of {it.run.cursor.equal} media packets are the models', octet by octet")
+    return it
+
+
+def check_parts(octets, it):
+    """A capture that is cut, and one that begins in mid-call."""
+    _, text = told(octets[:-10])
+    check("the capture ends in the middle of a packet" in text, f"a capture that is cut isn't named\n{text}")
+    begin, at = it.wire.begin + int(MIDDLE * 0.95e9), 24
+    while int.from_bytes(octets[at : at + 4], "little") * 10**9 + int.from_bytes(octets[at + 4 : at + 8], "little") < begin:
+        at += 16 + int.from_bytes(octets[at + 8 : at + 12], "little")
+    middle, text = told(octets[:24] + octets[at:])
+    equal, total = middle.run.cursor.equal, sum(map(len, middle.streams.firsts.values()))
+    check("begins in mid-call" in text and equal > 0.8 * total, f"in mid-call {equal} of {total} media packets are the models'\n{text}")
+    print(f"from its middle on {equal} of {total} media packets are the models'")
+
+
+def run(args):
+    if not may_capture():
+        print("skipped: this process may not capture on lo (it takes root or CAP_NET_RAW)")
+        return 0
+    program = release_program(args.binary)
+    try:
+        for _ in range(args.tries):
+            with tempfile.TemporaryDirectory() as folder:
+                octets, call = captured(program, args, folder)
+            it = check_whole(octets, call, program)
+            if it:
+                check_parts(octets, it)
+                return 0
+    except BadCapture as why:
+        fail(f"the capture can't be read: {why}")
+    return fail("media packets differ from the models'")

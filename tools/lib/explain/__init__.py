@@ -1,0 +1,96 @@
+"""Explains a capture of a bridge's call: who was dropped, muted or late, and which packet differs from the rules.
+
+CAPTURE is a file of tcpdump or Wireshark, pcap or pcapng, or `-` for standard input. It has to hold the datagrams of the bridge
+and the lines of its operators:
+
+    tcpdump -i any -w call.pcap 'udp port 5004 or tcp port 7000'
+
+From these it makes a script for `confbridge replay`, and answers it by the models in tools/lib/models, which answer as the program
+does. A capture that begins in mid-call needs the desk: a `show` while it was made, or --desk. The status is 1 where a media packet
+differs from the model's, and 2 where nothing can be read.
+"""
+
+import contextlib
+import pathlib
+import sys
+import textwrap
+
+from lib.captures.notes import BadCapture
+from lib.explain.explaining import explained, rows_in
+from lib.explain.telling import telling
+from lib.shared import first_difference, replay
+
+NEEDS = "nothing"
+
+COLUMNS = 118
+
+
+def options(parser):
+    parser.add_argument("capture", metavar="CAPTURE", help="a pcap or pcapng file, or - for standard input")
+    parser.add_argument("--of", metavar="MEMBER", help="tell of this member alone: its number, its address, or an SSRC of it")
+    parser.add_argument("--between", nargs=2, type=float, metavar=("A", "B"), help="tell of these seconds of the capture alone")
+    parser.add_argument("--script", metavar="FILE", help="write the script to a file, or with - to standard output, and tell nothing else")
+    parser.add_argument("--udp", metavar="ADDRESS", help="the bridge's `udp`, as an address or a port, where there are several")
+    parser.add_argument("--tcp", metavar="ADDRESS", help="the bridge's `tcp`, as an address or a port")
+    parser.add_argument("--desk", metavar="FILE", help="the lines that `show` told when the capture began")
+    parser.add_argument("--program", metavar="PROGRAM", help="compare the models' answers with those of this program")
+
+
+@contextlib.contextmanager
+def opened(name):
+    """The octets of a capture."""
+    if name == "-":
+        yield sys.stdin.buffer
+        return
+    with open(name, "rb") as stream:
+        yield stream
+
+
+def compared(run, program):
+    """Whether the program answers the script as the models do."""
+    script = [(line, list(done.said)) for line, done in zip(run.script(), run.done)]
+    count = first_difference(script, replay([line for line, _ in script], program))
+    if count is not None:
+        print(f"the program answers the script as the models do: {count:,} lines")
+    return count is not None
+
+
+def moments(wire, between):
+    """Two moments of a capture, by its seconds."""
+    a, b = between or (0, (wire.end - wire.begin) / 1e9 + 1)
+    return wire.begin + int(a * 1e9), wire.begin + int(b * 1e9)
+
+
+def folded(line):
+    """A line in as many as its columns take, but for one that has an empty line before it."""
+    indent = " " * (len(line) - len(line.lstrip(" ")) + 4)
+    return line if line.startswith("\n") else textwrap.fill(line, COLUMNS, subsequent_indent=indent, replace_whitespace=False)
+
+
+def write_script(run, name):
+    """Writes the script of a run."""
+    text = "".join(f"{line}\n" for line in run.script())
+    if name == "-":
+        sys.stdout.write(text)
+    else:
+        pathlib.Path(name).write_text(text)
+
+
+def run(args):
+    try:
+        rows = rows_in(pathlib.Path(args.desk).read_text()) if args.desk else None
+        with opened(args.capture) as stream:
+            it = explained(stream, args.udp, args.tcp, rows)
+    except (BadCapture, OSError) as why:
+        print(f"tools/bridge explain: {args.capture}: {why}", file=sys.stderr)
+        return 2
+    if args.script:
+        if not it.run:
+            print(f"tools/bridge explain: {args.capture}: without the desk there is no script", file=sys.stderr)
+            return 2
+        write_script(it.run, args.script)
+        return 0
+    for line in telling(it, args.capture, args.of, moments(it.wire, args.between)):
+        print(folded(line))
+    is_same = not (args.program and it.run) or compared(it.run, args.program)
+    return 0 if is_same and it.run and not it.run.cursor.found else 1

@@ -1,0 +1,163 @@
+"""Looks for the order of what happened that explains the wire.
+
+A capture has the moments at which datagrams and lines came, not those at which the bridge took them. Where what the model sends
+differs from the wire, a tick or a call nearby may have been taken before or behind its neighbours.
+"""
+
+import dataclasses
+
+from lib.explain.events import CALL, RX, TICK, Event
+from lib.explain.ticks import ANSWERED
+from lib.packets import is_rtcp
+
+# An order is looked for among so many ticks back, and among neighbours that are so near, in nanoseconds.
+BACK, NEAR = 12, 3_000_000
+# A lane may come to a tick so long after it was given, and follows the desk of that time, in nanoseconds.
+LAG = 250_000_000
+# One lane may be so far behind another one, in nanoseconds.
+BEHIND = 60_000_000
+# So many orders are tried for one difference, and so many in vain in all.
+TRIES, VAIN = 40, 200
+# Units of 90 kHz by which a moment may be mended, 20 ms, and of how many of the last differences.
+MOST_UNITS, AT_ONCE = 1800, 8
+
+
+class Search:
+    """A run over events, whose order is changed where that explains more of the wire."""
+
+    def __init__(self, run, events):
+        self.run, self.events, self.vain, self.mended = run, events, 0, 0
+        # The places behind the last ticks with the states of the run there, and the place that it has come to.
+        self.states, self.end = [], 0
+
+    def go(self):
+        """Goes through all events."""
+        at = 0
+        while at < len(self.events):
+            end = self.behind_tick(at)
+            self.states = [*self.states[-BACK:], (at, self.run.state())]
+            found = len(self.run.cursor.found)
+            self.run.go(self.events[at:end])
+            if len(self.run.cursor.found) > found and self.vain < VAIN and self.events[end - 1].place > self.run.settled:
+                end = self.mend(end, found)
+            at = end
+
+    def behind_tick(self, at):
+        """The place behind the next tick, or the end."""
+        return next((n + 1 for n in range(at, len(self.events)) if self.events[n].kind == TICK), len(self.events))
+
+    def mend(self, end, goal):
+        """Tries other orders until no more than so many differences are left, and keeps the best. The place behind the last tick."""
+        least, best, last = len(self.run.cursor.found), None, self.events[end - 1]
+        first, states = self.states[0][0], self.states
+        usual = self.events[first:end]
+        for tried, order in enumerate(self.orders(first, end)):
+            if tried == TRIES:
+                break
+            self.vain += 1
+            count = self.again(states, usual, order, last)
+            if count < least:
+                least, best = count, order
+            if count <= goal:
+                break
+        if best:
+            self.vain, self.mended = 0, self.mended + 1
+            self.events[first : first + len(best)] = best
+        self.again(states, usual, best or usual, last)
+        return self.end
+
+    def again(self, states, usual, order, last):
+        """Goes through events again in another order than the usual one, of which there are states, up to a tick. How many differences
+        there are then."""
+        first = states[0][0]
+        same = next((n for n, (one, other) in enumerate(zip(usual, order)) if one is not other), len(usual) - 1)
+        self.states = [state for state in states if state[0] <= first + same]
+        at, state = self.states.pop()
+        self.run.go_back(state)
+        begun = at - first
+        for n, event in enumerate(order[begun:], begun + 1):
+            is_last = event.kind == last.kind and event.what is last.what
+            if event.kind == TICK or is_last or n == len(order):
+                self.states.append((first + begun, self.run.state()))
+                self.run.go(order[begun:n])
+                begun = n
+            if is_last:
+                break
+        self.end = first + begun
+        return len(self.run.cursor.found)
+
+    # Orders
+
+    def orders(self, first, end):
+        """Other orders of the events from a place on, the likeliest first."""
+        yield from self.other_moments(first, end)
+        moves, last = [], self.events[end - 1]
+        for at in range(end - 1, first - 1, -1):
+            if self.events[at].kind in (TICK, CALL):
+                moves += self.moves(at, first)
+        for at in range(end, len(self.events)):
+            if self.events[at].place > last.latest + BEHIND:
+                break
+            if self.events[at].kind == CALL:
+                # A lane follows the desk of the time at which it comes to a tick.
+                moves.append((0, at, last.place - 1))
+        for _, at, place in sorted(moves, key=lambda move: move[0]):
+            yield self.order_with(first, end, at, place)
+
+    def moves(self, at, first):
+        """Places to which an event may move: how far it moves, its number, and the place."""
+        event = self.events[at]
+        for step, stop in ((-1, first - 1), (1, len(self.events))):
+            for to in range(at + step, stop, step):
+                other = self.events[to]
+                if event.kind == other.kind and step < 0 or not self.may_pass(event, other):
+                    break
+                if event.kind != other.kind and counts(event, other):
+                    far = abs(other.place - event.place)
+                    yield far if far < NEAR else far + 2 * NEAR, at, other.place + step
+        if event.kind == TICK and event.latest - event.place > NEAR:
+            # It was given late, behind all that came until its mixes left.
+            yield NEAR + len(self.events) - at, at, event.latest - ANSWERED
+
+    @staticmethod
+    def may_pass(event, other):
+        """Whether a tick or a call may have been taken on the other side of another event."""
+        if event.kind == CALL and other.kind == TICK and other.place < event.place:
+            return event.what.moment <= other.latest + BEHIND
+        early = event.what.moment - LAG if event.kind == CALL else event.moment - NEAR
+        return early <= other.place <= event.latest + NEAR
+
+    def order_with(self, first, end, at, place):
+        """The events from a place on where one of them moves. Those of its kind behind it stay behind it."""
+        last = max(end, at + 1)
+        while last < len(self.events) and self.events[last].place <= place:
+            last += 1
+        order = self.events[first:last]
+        moved = order[at - first]
+        for n in range(at - first, len(order)):
+            if order[n].kind == moved.kind and (order[n] is moved or order[n].place < place):
+                order[n] = dataclasses.replace(order[n], place=place)
+        return sorted(order, key=Event.key)
+
+    def other_moments(self, first, end):
+        """Orders in which a datagram or a tick that a run of a stream begins with has the moment that its timestamp tells."""
+        for difference in self.run.cursor.found[-AT_ONCE:]:
+            if difference.kind not in ("numbers", "octets") or not 0 < abs(difference.ahead) <= MOST_UNITS:
+                continue
+            at = next((n for n in range(first, end) if self.events[n] is difference.cause), None)
+            if at is None:
+                continue
+            for more in (1000, 5000, -3000):
+                event, shift = self.events[at], difference.ahead * 100_000 // 9 + more
+                if event.kind == TICK:
+                    event = dataclasses.replace(event, place=event.place + shift)
+                else:
+                    event = dataclasses.replace(event, moment=event.moment + shift)
+                yield [*self.events[first:at], event, *self.events[at + 1 : end]]
+
+
+def counts(event, other):
+    """Whether the order of two events may change what is sent."""
+    if other.kind == RX:
+        return event.kind == CALL or not is_rtcp(other.what.octets[:2].ljust(2, b"\0"))
+    return other.kind in (CALL, TICK)

@@ -1,0 +1,198 @@
+"""Tells what a capture explains."""
+
+import datetime
+
+from lib.explain import compounds
+from lib.explain.changes import Desks, grouped
+from lib.explain.findings import Findings, counted
+from lib.explain.receivers import MIX_GAP, VIDEO_GAP, Causes, outgoing_of
+from lib.explain.senders import AUDIO, senders_of, type_name
+
+# So many differences are told one by one.
+MOST_TOLD = 20
+REASONS = {
+    "unsent": "a lane that was behind followed a later call, or a full ring dropped its item",
+    "uncaptured": "the capture lost it",
+    "extra": "the capture lacks a datagram, or began in a gap",
+    "marker": "the packet before it differs",
+    "numbers": "the bridge had sent another number of packets before",
+    "octets": "another order within a round, or a datagram that the bridge or the capture lost",
+}
+
+
+def telling(explained, name, wanted, between):
+    """The lines that tell of a capture. `wanted` is a member, an SSRC or an address, or None for all; `between` two moments."""
+    return Telling(explained, wanted, between).lines(name)
+
+
+class Telling:
+    """What is told of a capture, to whom it may concern."""
+
+    def __init__(self, explained, wanted, between):
+        self.it, self.wire, self.between = explained, explained.wire, between
+        self.senders = senders_of(explained, between)
+        self.desks = Desks(explained.run) if explained.run else None
+        self.outgoing = outgoing_of(explained.streams, self.is_mix, between)
+        self.members = self.members_of(wanted)
+
+    def is_mix(self, out):
+        return not self.desks or self.desks.outs.get(out, ("mix",))[0] == "mix"
+
+    def members_of(self, wanted):
+        """The members that are asked for, or None for all."""
+        if wanted is None or not self.desks:
+            return None
+        found = {number for number, member in self.desks.members.items() if wanted in (str(number), member["address"])}
+        found |= {row["member"] for ssrc, row in self.desks.sources.items() if wanted == str(ssrc)}
+        return found | {member for out, (_, member) in self.desks.outs.items() if wanted == str(out)}
+
+    def concerns(self, *members):
+        return self.members is None or bool(self.members & set(members))
+
+    def seconds(self, moment):
+        return (moment - self.wire.begin) / 1e9
+
+    def is_within(self, moment):
+        return self.between[0] <= moment <= self.between[1]
+
+    def lines(self, name):
+        yield from self.head(name)
+        if self.it.run:
+            yield from self.findings()
+        yield from self.of_senders()
+        yield from self.of_receivers()
+        if self.it.run:
+            yield from self.calls()
+            yield from self.differences()
+
+    def head(self, name):
+        begin = datetime.datetime.fromtimestamp(self.wire.begin / 1e9, datetime.timezone.utc)
+        seconds = self.seconds(self.wire.end)
+        counts = f"{len(self.wire.into):,} datagrams in, {len(self.wire.out):,} out"
+        yield f"{name}: {seconds:.1f} s from {begin:%Y-%m-%d %H:%M:%S}.{begin.microsecond // 1000:03} UTC, {counts}"
+        yield f"bridge: udp {self.wire.udp or 'not in it'}, tcp {self.wire.tcp or 'not in it'}"
+        for line in self.wire.notes.lines(self.wire.begin):
+            yield f"note: {line}"
+        if not self.it.run:
+            yield "note: the desk isn't in it, so nobody knows what the bridge did with a datagram. Capture from the bridge's start"
+            yield "      on, give `show` while you capture, or name a file with the lines of `show` by --desk"
+
+    # Parts
+
+    def findings(self):
+        found = Findings(self.it, self.desks, self.senders, self.outgoing, self.seconds).all()
+        texts = [text for text, members in found if self.concerns(*members) or (self.members is None)]
+        yield "\nwhat stands out"
+        for text in texts or ["nothing"]:
+            yield f"  {text}"
+
+    def of_senders(self):
+        yield "\nsenders"
+        last = None
+        for source in sorted(self.senders.sources.values(), key=lambda one: (one.address, one.ssrc, one.pt)):
+            member = self.desks.member_at(source.address) if self.desks else None
+            if not self.concerns(member):
+                continue
+            if source.address != last:
+                last = source.address
+                who = f"member {member}" if member is not None else "no member's address" if self.desks else ""
+                yield f"  {source.address}  {who}".rstrip()
+            yield f"    {source.ssrc}, {type_name(source.pt)}: {self.counts(source)}"
+            if source.outcomes:
+                yield "      " + ", ".join(f"{count:,} {outcome}" for outcome, count in source.outcomes.most_common())
+        for (address, kind, outcome), count in sorted(self.senders.others.items(), key=str):
+            if self.concerns(self.desks.member_at(address) if self.desks else None):
+                yield f"  {address}  {counted(count, 'datagram')} of {kind}{f': {outcome}' if outcome else ''}"
+
+    @staticmethod
+    def counts(source):
+        parts = [counted(source.packets)]
+        if not any(outcome.startswith("dropped") for outcome in source.outcomes):
+            parts += [f"{max(0, source.lost()):,} lost"]
+            parts += [f"{source.swapped:,} out of order"] if source.swapped else []
+            parts += [f"jitter {source.jitter_ms():.1f} ms"]
+        if source.pt in AUDIO and source.samples:
+            parts += [f"{source.level():.0f} dBFS", f"speaks {100 * source.speaking / source.packets:.0f} %"]
+        return ", ".join(parts)
+
+    def of_receivers(self):
+        yield "\nreceivers"
+        causes, last = Causes(self.desks, self.senders, self.wire.end) if self.desks else None, None
+        for stream in sorted(self.outgoing, key=lambda one: (one.to, one.out)):
+            kind, member = self.desks.outs.get(stream.out, ("stream", None)) if self.desks else ("stream", None)
+            spans = [span for span in stream.spans if self.concerns(member, self.owner(span.ssrc))]
+            if not spans and not self.concerns(member):
+                continue
+            if stream.to != last:
+                last = stream.to
+                yield f"  {stream.to}  {f'member {member}' if member is not None else ''}".rstrip()
+            gaps = f"{stream.lost:,} numbers missing" if stream.lost else "no number missing"
+            yield f"    {stream.out}, {kind}: {counted(stream.packets)}, {gaps}, longest pause {stream.pause / 1e6:.0f} ms"
+            for span in spans:
+                yield f"      {self.span(causes, stream, span)}"
+
+    def span(self, causes, stream, span):
+        """When a source was in a stream, and why it began and ended."""
+        verb, begin, end = "hears" if self.is_mix(stream.out) else "sees", self.seconds(span.begin), self.seconds(span.end)
+        text = f"{verb} {span.ssrc} from {begin:.3f} to {end:.3f} s"
+        if not causes:
+            return text
+        longest = MIX_GAP if self.is_mix(stream.out) else VIDEO_GAP
+        text += "".join(f", {why}" for why in (causes.of_begin(stream.out, span), causes.of_end(stream.out, span, longest)) if why)
+        return text + (f" ({span.pauses} short pauses, {span.missing / 1e6:.0f} ms)" if span.pauses else "")
+
+    def calls(self):
+        yield "\ncalls"
+        for call in self.it.calls:
+            changes = [change for change in self.desks.changes_by(call) if self.concerns(change.member, self.owner(change.ssrc))]
+            if not call.is_call() or not self.is_within(call.moment) or (self.members is not None and not changes):
+                continue
+            name = f"call {call.number}" if call.number else "refused" if call.answer.startswith("no ") else "a call"
+            answer = "" if call.number else f" > {call.answer or 'no answer in the capture'}"
+            yield f"  {self.seconds(call.moment):8.3f} s  operator {call.seat}, {name}: {call.text}{answer}"
+            for member, out, is_there, ssrcs in grouped(changes):
+                verb = ("hears" if is_there else "no longer hears") if self.is_mix(out) else ("sees" if is_there else "no longer sees")
+                where = "" if self.is_mix(out) else f" in {out}"
+                yield f"              {member} {verb} {', '.join(map(str, ssrcs))}{where}"
+
+    def owner(self, ssrc):
+        return self.desks.sources.get(ssrc, {}).get("member") if self.desks else None
+
+    def differences(self):
+        """How the wire compares with the model."""
+        cursor, compared = self.it.run.cursor, compounds.compare(self.it, self.desks)
+        total = sum(map(len, cursor.streams.firsts.values()))
+        found = [one for one in cursor.found if self.is_within(one.moment) and self.concerns(self.desks.outs.get(one.stream, (0, None))[1])]
+        yield "\nthe wire beside the model"
+        yield f"  media: {cursor.equal:,} of {total:,} packets are the model's, octet by octet"
+        for one in found[:MOST_TOLD]:
+            yield f"    {self.seconds(one.moment):8.3f} s  stream {one.stream}, {one.text} ({self.reason(one)})"
+        if len(found) > MOST_TOLD:
+            yield f"    and {len(found) - MOST_TOLD:,} more"
+        count = len([d for d in self.it.streams.control if d.moment >= self.it.begin]) - len(compared.pictures)
+        but = "what was counted before the capture" if self.it.run.shown else "the moment at which the bridge read its clock"
+        near = f", {compared.near:,} but for {but}" if compared.near else ""
+        pictures = f", and {len(compared.pictures):,} for pictures that no script has" if compared.pictures else ""
+        yield f"  control: {compared.equal:,} of {count:,} compounds are the model's{near}{pictures}"
+        for moment, text in sorted(compared.pictures + compared.others):
+            if self.is_within(moment):
+                yield f"    {self.seconds(moment):8.3f} s  {text}"
+        if self.it.streams.again:
+            yield f"  sent again for NACKs: {counted(len(self.it.streams.again))}, of which the model sends {self.resent():,}"
+
+    def reason(self, one):
+        """Why a packet differs, as far as that is known."""
+        if self.it.run.shown:
+            is_early = one.moment < self.it.run.settled
+            return "the capture begins in mid-call" if is_early else f"{REASONS[one.kind]}, or what came before the capture"
+        return REASONS[one.kind]
+
+    def resent(self):
+        """How many of the packets on the wire that were sent again the model sends again."""
+        left = [line.split(" ")[-1] for done in self.it.run.done for line in done.said if line.startswith("re ")]
+        count = 0
+        for datagram in self.it.streams.again:
+            if datagram.octets.hex() in left:
+                left.remove(datagram.octets.hex())
+                count += 1
+        return count
