@@ -1,8 +1,7 @@
 -- A lane's ring ends, and what was given and accepted.
-use Rattle.std.proofs.Common.{◌≡◌, ℕ, Bool, true, false, List, [], ◌∷◌, ◌++◌, map, Option, Some, None, refl, ap, sym, subst, ◌∙◌, append_assoc}
+use Rattle.std.proofs.Common.{◌≡◌, ℕ, Bool, true, false, List, [], ◌∷◌, ◌++◌, map, refl, ap, sym, subst, ◌∙◌, append_assoc}
 use Rattle.std.proofs.lemmas.List.{append-nil}
 use Rattle.std.specs.declared.alloc.Global.{Global}
-use mathlib.Core.List.{IsPrefix}
 use Rattle.rtrb.specs.Ring.{IsPair, SameProducer}
 use Rattle.rtrb.specs.declared.producer.Producer.{Producer}
 use Rattle.rtrb.specs.declared.consumer.Consumer.{Consumer}
@@ -13,8 +12,7 @@ use Rattle.media_workers.specs.declared.parcel.Parcel.TheVariants.{Work, End}
 use Rattle.media_workers.specs.Parcels.{works}
 use Rattle.media_workers.specs.LaneRuns.{Ran, RunEnd, Traffic}
 use Rattle.media_workers.specs.Ports.{PortOf, accept, Ended}
-use Rattle.media_workers.specs.inner.Threads.{is_end, ending, IsTied, popped_by}
-use Rattle.media_workers.proofs.Prefixes.{IsPrefix-refl, IsPrefix-trans}
+use Rattle.media_workers.specs.inner.Threads.{is_end, ending, IsWhole}
 
 -- ---- rings
 
@@ -54,25 +52,18 @@ end_is_last [] after (w ∷ ws) closed clean e =
     absurd (cc (clean.0, last))
 end_is_last (p ∷ front) after (w ∷ ws) closed clean e = end_is_last front after ws closed clean.1 (cc (e))
 
-pub tied_pushed : (pushed : List Parcel) (p : Parcel) (got : List (Egress Global)) (given : Option (List (Egress Global))) (closed : Bool)
-    → closed ≡ is_end p → IsTied pushed false got given → IsTied (pushed ++ p ∷ []) closed got given
-tied_pushed pushed (Work item notice) got given closed is tied =
-    let none : pushed ≡ works pushed = tied.whole ∙ append-nil _ in
-    record {
-      whole = rw (is, works-append pushed (Work item notice ∷ [])) (ap (λ w. w ++ Work item notice ∷ []) none ∙ sym (append-nil _));
-      before = tied.before;
-    }
-tied_pushed pushed End got given closed is tied =
-    let none : pushed ≡ works pushed = tied.whole ∙ append-nil _ in
-    record {
-      whole = rw (is, works-append pushed (End ∷ [])) (ap (λ w. w ++ End ∷ []) (none ∙ sym (append-nil _)));
-      before = tied.before;
-    }
+pub whole_pushed : (pushed : List Parcel) (p : Parcel) (closed : Bool) → closed ≡ is_end p → IsWhole pushed false → IsWhole (pushed ++ p ∷ []) closed
+whole_pushed pushed (Work item notice) closed is whole =
+    let none : pushed ≡ works pushed = whole ∙ append-nil _ in
+    rw (is, works-append pushed (Work item notice ∷ [])) (ap (λ w. w ++ Work item notice ∷ []) none ∙ sym (append-nil _))
+whole_pushed pushed End closed is whole =
+    let none : pushed ≡ works pushed = whole ∙ append-nil _ in
+    rw (is, works-append pushed (End ∷ [])) (ap (λ w. w ++ End ∷ []) (none ∙ sym (append-nil _)))
 
 -- what was pushed is accepted
-pub accepts : {P : Type 0} (old : PortOf P) (pushed now : List Parcel) (p : Parcel) (closed : Bool)
+pub accepts : {P S : Type 0} (old : PortOf P S) (pushed now : List Parcel) (p : Parcel) (closed : Bool)
     → old.accepted ≡ works pushed → old.closed ≡ false → closed ≡ is_end p → now ≡ pushed ++ p ∷ []
-    → record { lane = old.lane; pace = old.pace; accepted = works now; closed = closed; popped = old.popped; quiet = old.quiet } ≡ accept p old
+    → record { lane = old.lane; pace = old.pace; sink = old.sink; accepted = works now; closed = closed } ≡ accept p old
 accepts old pushed now (Work item notice) closed acc was is now_is =
     let w : works now ≡ old.accepted ++ Work item notice ∷ [] = ap works now_is ∙ (works-append pushed (Work item notice ∷ []) ∙ ap (λ w. w ++ Work item notice ∷ []) (sym acc)) in
     let c : closed ≡ old.closed = is ∙ sym was in
@@ -83,17 +74,12 @@ accepts old pushed now End closed acc was is now_is =
 
 -- ---- the end
 
-given_before : (pushed : List Parcel) (closed : Bool) (got : List (Egress Global)) (given : Option (List (Egress Global))) → IsTied pushed closed got given → IsPrefix (popped_by given got) got
-given_before pushed closed got None tied = IsPrefix-refl got
-given_before pushed closed got (Some front) tied = tied.before front refl
-
-pub port_ended : {P : Type 0} (port : PortOf P) (answers : ℕ → Bool → Type 0) (ran : Traffic) (shown : Traffic) (ks pushed : List Parcel) (known got : List (Egress Global))
-    (closed : Bool) (given : Option (List (Egress Global))) (told : RunEnd)
+pub port_ended : {P S : Type 0} (port : PortOf P S) (answers : ℕ → Bool → Type 0) (ran : Traffic) (shown : Traffic) (ks pushed : List Parcel)
+    (closed : Bool) (told : RunEnd)
     → Ran port.lane answers ran.parcels (map sent_of ran.egress) told → shown.parcels ≡ ran.parcels → shown.egress ≡ ran.egress
-    → shown.parcels ++ ks ≡ pushed → got ++ known ≡ shown.egress → IsTied pushed closed got given
-    → port.accepted ≡ works pushed → port.popped ≡ popped_by given got
+    → shown.parcels ++ ks ≡ pushed → IsWhole pushed closed → port.accepted ≡ works pushed
     → Ended port answers shown told
-port_ended port answers ran shown ks pushed known got closed given told run parcels_are egress_is down back tied accepted popped =
+port_ended port answers ran shown ks pushed closed told run parcels_are egress_is down whole accepted =
     let run' : Ran port.lane answers shown.parcels (map sent_of shown.egress) told =
     subst (λ (w : List Parcel). Ran port.lane answers w (map sent_of shown.egress) told) (sym parcels_are)
     (subst (λ (w : List (Egress Global)). Ran port.lane answers ran.parcels (map sent_of w) told) (sym egress_is) run) in
@@ -102,8 +88,7 @@ port_ended port answers ran shown ks pushed known got closed given told run parc
       ran = run';
       some = (works ks, all);
       all = λ (front : List Parcel) (e : shown.parcels ≡ front ++ End ∷ []).
-          let last : front ++ End ∷ ks ≡ works pushed ++ ending closed = sym (append_assoc front (End ∷ []) ks) ∙ (ap (λ w. w ++ ks) (sym e) ∙ (down ∙ tied.whole)) in
+          let last : front ++ End ∷ ks ≡ works pushed ++ ending closed = sym (append_assoc front (End ∷ []) ks) ∙ (ap (λ w. w ++ ks) (sym e) ∙ (down ∙ whole)) in
           let none : ks ≡ [] = end_is_last front ks (works pushed) closed (works_have_no_end pushed) last in
           sym (append-nil _) ∙ (ap (λ w. works shown.parcels ++ works w) (sym none) ∙ all);
-      given = subst (λ (w : List (Egress Global)). IsPrefix w shown.egress) (sym popped) (IsPrefix-trans _ _ _ (given_before pushed closed got given tied) (known, back));
     }

@@ -1,13 +1,14 @@
 //! A bridge's lanes, each on a thread of its own.
 
-ghost use Rattle.std.specs.Prelude.{◌≡◌, ◌≢◌, ◌⊎◌, ◌↔◌, ◌<◌, ◌^◌, false, [], Some, length, map, All};
-ghost use Rattle.std.specs.Prelude.{IfOk, OnOk, IfErr, IfSome, IfNone, slice_get, slice_set, vec_len};
+ghost use Rattle.std.specs.Prelude.{◌≡◌, ◌≢◌, ◌⊎◌, ◌↔◌, ◌<◌, ◌^◌, false, [], Some, length, All};
+ghost use Rattle.std.specs.Prelude.{IfOk, OnOk, IfErr, slice_get, slice_set, vec_len};
 ghost use Rattle.media_workers.specs.Parcels.{IsFit};
 ghost use Rattle.media_workers.specs.LaneRuns.{LaneNow};
-ghost use Rattle.media_workers.specs.Ports.{PortOf, accept, give, quieten};
-ghost use Rattle.media_workers.specs.Bridges.{AreNew, AllEnded, ports_of, finally};
+ghost use Rattle.media_workers.specs.Ports.{PortOf, accept};
+ghost use Rattle.media_workers.specs.Bridges.{AreNew, AllEnded, AllFeed, ports_of};
+ghost use Rattle.media_workers.specs.declared.parcel.Parcel.TheVariants.{End};
 
-use crate::every_port::{close_all, end_one, pop_from};
+use crate::every_port::{close_all, end_at};
 use crate::fault::StartFault;
 use crate::lane::Lane;
 use crate::lane_end::LaneEnd;
@@ -15,8 +16,7 @@ use crate::pace::Pace;
 use crate::parcel::Parcel;
 use crate::port::Port;
 use crate::publisher_name::PublisherName;
-use bridge_core::Egress;
-use rtrb::Producer;
+use crate::sink::Sink;
 use std::alloc::Global;
 use std::marker::Model;
 use std::sync::Wait;
@@ -24,21 +24,18 @@ use std::thread::Threads;
 
 /// Lanes that run, each on a thread of its own. It is not `Drop`: end it by [`Bridge::close`].
 ///
-/// Contracts see the lanes as they were handed in, each with its pace, with what `push` accepted for it and what `pop`
-/// gave of it.
-pub struct Bridge<N: PublisherName, P: Pace> {
-    ports: Vec<Port<N, P>>,
-    // The lane that is asked for egress first.
-    next: usize,
+/// Contracts see the lanes as they were handed in, each with its pace, its sink, and what `push` accepted for it.
+pub struct Bridge<N: PublisherName, P: Pace, S: Sink> {
+    ports: Vec<Port<N, P, S>>,
     // Capacity for how the lanes end.
-    ends: Vec<LaneEnd<N, Producer<Egress>>>,
+    ends: Vec<LaneEnd<N, S>>,
 }
 
-impl<N: PublisherName, P: Pace> Model for Bridge<N, P> {
+impl<N: PublisherName, P: Pace, S: Sink> Model for Bridge<N, P, S> {
     ghost use Rattle.std.specs.Prelude.{◌≡◌, ◌<◌, ◌≤◌, ◌^◌, List, [], vec_len, vec_capacity};
     ghost use Rattle.media_workers.specs.Ports.{PortOf};
 
-    ghost Value = { List (PortOf P) };
+    ghost Value = { List (PortOf P S) };
 
     ghost view = { λ b. b.ports.items };
 
@@ -46,29 +43,36 @@ impl<N: PublisherName, P: Pace> Model for Bridge<N, P> {
         (b.ends.items ≡ []) × (vec_len b.ports ≤ vec_capacity b.ends) × (vec_len b.ports < 2 ^ 32) };
 }
 
-impl<N: PublisherName + Send + Sync + 'static, P: Pace + Send + Drop + 'static> Bridge<N, P> {
-    /// Starts the lanes, each on a thread of its own with its pace. They are all lanes of one bridge, in the order of
-    /// their numbers. Their readers are of this publisher, and none has handled an item.
+impl<N, P, S> Bridge<N, P, S>
+where
+    N: PublisherName + Send + Sync + 'static,
+    P: Pace + Send + Drop + 'static,
+    S: Sink + Send + Drop + 'static,
+{
+    /// Starts the lanes, each on a thread of its own with its outfit: its pace, and its sink, which has taken nothing
+    /// yet. They are all lanes of one bridge, in the order of their numbers. Their readers are of this publisher, and
+    /// none has handled an item.
     ///
     /// On the fault `Count` the lanes come back. On any other fault all lanes have been ended and dropped.
     pub fn start<R: Threads + Wait + Copy + Send + 'static>(
         rt: &R,
         alloc: Global,
         lanes: Vec<Lane>,
-        paces: Vec<P>,
-    ) -> Result<Bridge<N, P>, (Vec<Lane>, StartFault)>
+        outfits: Vec<(P, S)>,
+    ) -> Result<Bridge<N, P, S>, (Vec<Lane>, StartFault)>
         requires new { AreNew lanes.items }
         requires publisher { All (λ (lane : LaneNow). lane.reader.publisher ≡ N.publisher) lanes.items }
+        requires untaken { All (λ (x : P × S). S.taken x.1 ≡ []) outfits.items }
         requires many { vec_len lanes < 2 ^ 32 }
-        ensures started { IfOk result (λ bridge. bridge ≡ ports_of lanes.items paces.items) }
+        ensures started { IfOk result (λ bridge. bridge ≡ ports_of lanes.items outfits.items) }
         ensures len { IfOk result (λ bridge. length bridge ≡ vec_len lanes) }
-        ensures good { OnOk result ((0 < vec_len lanes) × (vec_len lanes ≡ vec_len paces)) }
+        ensures good { OnOk result ((0 < vec_len lanes) × (vec_len lanes ≡ vec_len outfits)) }
         ensures count { IfErr result (λ e.
-            (e.1 ≡ StartFault.Count) ↔ ((vec_len lanes ≡ 0) ⊎ (vec_len lanes ≢ vec_len paces))) }
+            (e.1 ≡ StartFault.Count) ↔ ((vec_len lanes ≡ 0) ⊎ (vec_len lanes ≢ vec_len outfits))) }
         ensures back { IfErr result (λ e. e.1 ≡ StartFault.Count → e.0 ≡ lanes) }
         ensures none { IfErr result (λ e. e.1 ≢ StartFault.Count → e.0.items ≡ []) }
     {
-        if lanes.is_empty() || lanes.len() != paces.len() {
+        if lanes.is_empty() || lanes.len() != outfits.len() {
             return Err((lanes, StartFault::Count));
         }
         let count = lanes.len();
@@ -78,8 +82,8 @@ impl<N: PublisherName + Send + Sync + 'static, P: Pace + Send + Drop + 'static> 
         let Ok(ends) = Vec::with_capacity(alloc, count) else {
             return Err((Vec::new(alloc), StartFault::OutOfMemory));
         };
-        for (lane, pace) in lanes.into_iter().zip(paces) {
-            match Port::start(rt, alloc, lane, pace) {
+        for (lane, (pace, sink)) in lanes.into_iter().zip(outfits) {
+            match Port::start(rt, alloc, lane, pace, sink) {
                 Ok(port) => ports.push_reserved(port),
                 Err(fault) => {
                     close_all(rt, ports, ends);
@@ -87,21 +91,17 @@ impl<N: PublisherName + Send + Sync + 'static, P: Pace + Send + Drop + 'static> 
                 }
             }
         }
-        Ok(Bridge {
-            ports,
-            next: 0,
-            ends,
-        })
+        Ok(Bridge { ports, ends })
     }
 }
 
-impl<N: PublisherName, P: Pace> Bridge<N, P> {
+impl<N: PublisherName, P: Pace, S: Sink> Bridge<N, P, S> {
     /// Gives a lane a parcel, or hands it back if the lane's ring is full or the lane has had its `End`. A ring holds
     /// 1,024 parcels.
     pub fn push(&mut self, lane: u32, parcel: Parcel) -> Result<(), Parcel>
         requires lane { lane < length self.old }
         requires fit { IsFit N.publisher parcel }
-        ensures ok { OnOk result ((port : PortOf _) → slice_get self.old lane ≡ Some port →
+        ensures ok { OnOk result ((port : PortOf _ _) → slice_get self.old lane ≡ Some port →
             (port.closed ≡ false) × (self.new ≡ slice_set self.old lane (accept parcel port))) }
         ensures err { IfErr result (λ back. (back ≡ parcel) × (self.new ≡ self.old)) }
     {
@@ -113,23 +113,11 @@ impl<N: PublisherName, P: Pace> Bridge<N, P> {
     pub fn push_leaving(&mut self, lane: u32, parcel: Parcel, free: usize) -> Result<(), Parcel>
         requires lane { lane < length self.old }
         requires fit { IsFit N.publisher parcel }
-        ensures ok { OnOk result ((port : PortOf _) → slice_get self.old lane ≡ Some port →
+        ensures ok { OnOk result ((port : PortOf _ _) → slice_get self.old lane ≡ Some port →
             (port.closed ≡ false) × (self.new ≡ slice_set self.old lane (accept parcel port))) }
         ensures err { IfErr result (λ back. (back ≡ parcel) × (self.new ≡ self.old)) }
     {
         self.ports[lane as usize].push_leaving(parcel, free)
-    }
-
-    /// The next egress of any lane, with the lane's number. After the first `push_end` there is none.
-    pub fn pop(&mut self) -> Option<(u32, Egress)>
-        ensures lane { IfSome result (λ r. r.0 < length self.old) }
-        ensures some { IfSome result (λ r. (port : PortOf _) → slice_get self.old r.0 ≡ Some port →
-            (port.quiet ≡ false) × (self.new ≡ slice_set self.old r.0 (give r.1 port))) }
-        ensures none { IfNone result (self.new ≡ self.old) }
-    {
-        let (at, egress) = pop_from(&mut self.ports, self.next)?;
-        self.next = at + 1;
-        Some((at as u32, egress))
     }
 
     /// Whether a lane has ended. No contract speaks of the answer.
@@ -139,28 +127,25 @@ impl<N: PublisherName, P: Pace> Bridge<N, P> {
         self.ports[lane as usize].has_ended()
     }
 
-    /// Gives a lane its `End`, unless it has had it or has ended. It drops egresses while it waits, and from then on
-    /// `pop` gives none.
+    /// Gives a lane its `End`, unless it has had it or has ended. It waits while the lane's ring is full, and so for a
+    /// lane whose sink waits.
     pub fn push_end<R: Wait>(&mut self, rt: &R, lane: u32)
         requires lane { lane < length self.old }
-        ensures ended { (port : PortOf _) → slice_get self.old lane ≡ Some port →
-            (self.new ≡ map quieten self.old) ⊎ (self.new ≡ slice_set (map quieten self.old) lane (finally port)) }
+        ensures ended { (port : PortOf _ _) → slice_get self.old lane ≡ Some port →
+            (self.new ≡ self.old) ⊎ (self.new ≡ slice_set self.old lane (accept End port)) }
     {
-        end_one(rt, &mut self.ports, lane as usize);
+        end_at(rt, &mut self.ports, lane as usize);
     }
 
-    /// Gives an `End` to each lane that has had none, and waits for the lanes' threads. It drops egresses meanwhile.
+    /// Gives an `End` to each lane that has had none, and waits for the lanes' threads. It hands back the sinks.
     ///
-    /// A lane received the first parcels that were accepted for it: all of them if it ended by its `End`. What `pop`
-    /// gave of a lane are the first egresses that it sent.
-    pub fn close<R: Threads + Wait>(self, rt: &R) -> Vec<LaneEnd<N, Producer<Egress>>>
-        ensures ended { AllEnded P.answers self result.items }
+    /// A lane received the first parcels that were accepted for it: all of them if it ended by its `End`. A lane whose
+    /// sink waits ends when the sink has taken all that the lane sends.
+    pub fn close<R: Threads + Wait>(self, rt: &R) -> Vec<LaneEnd<N, S>>
+        ensures ended { AllEnded P.answers S.taken self result.items }
+        ensures fed { AllFeed S.feeds self result.items }
     {
-        let Bridge {
-            ports,
-            next: _,
-            ends,
-        } = self;
+        let Bridge { ports, ends } = self;
         close_all(rt, ports, ends)
     }
 }

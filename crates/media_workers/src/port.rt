@@ -1,10 +1,10 @@
-//! A lane's thread, with the rings to it and from it.
+//! A lane's thread, with the ring to it.
 
-ghost use Rattle.std.specs.Prelude.{◌≡◌, ◌≢◌, true, false, [], Err, IfOk, OnOk, IfErr, IfSome, IfNone};
+ghost use Rattle.std.specs.Prelude.{◌≡◌, ◌≢◌, false, [], Err, IfOk, OnOk, IfErr};
 ghost use Rattle.rtrb.specs.Ring.{sent, received, IsPair};
 ghost use Rattle.media_workers.specs.Parcels.{IsFit};
-ghost use Rattle.media_workers.specs.Ports.{port_of, accept, give, quieten};
-ghost use Rattle.media_workers.specs.Bridges.{EndsAs};
+ghost use Rattle.media_workers.specs.Ports.{port_of, accept};
+ghost use Rattle.media_workers.specs.Bridges.{EndsAs, StillFeeds};
 ghost use Rattle.media_workers.specs.inner.Threads.{IsRunOf, is_end};
 
 use crate::fault::StartFault;
@@ -14,11 +14,10 @@ use crate::pace::Pace;
 use crate::parcel::{FitParcels, Parcel};
 use crate::promise::RunOf;
 use crate::publisher_name::PublisherName;
-use bridge_core::Egress;
-use rtrb::{Consumer, Producer, PushError, RingBuffer};
+use crate::sink::Sink;
+use rtrb::{Producer, PushError, RingBuffer};
 use std::alloc::{AllocError, Global};
 use std::marker::Model;
-use std::snapshot::Snapshot;
 use std::sync::atomic::{AtomicBool, Ordering};
 use std::sync::{Arc, Wait};
 use std::thread;
@@ -27,71 +26,43 @@ use std::thread::{PromisedHandle, Threads};
 /// How many parcels a lane's ring holds.
 const PARCELS: usize = 1_024;
 
-/// How many egresses the ring back holds.
-const EGRESSES: usize = 4_096;
-
-/// A lane's thread, with the rings to it and from it.
+/// A lane's thread, with the ring to it.
 #[derive(Drop)]
-pub struct Port<N: PublisherName, P: Pace> {
+pub struct Port<N: PublisherName, P: Pace, S: Sink> {
     parcels: Producer<Parcel, Global, FitParcels<N>>,
-    egresses: Consumer<Egress>,
-    thread: PromisedHandle<LaneEnd<N, Producer<Egress>>, RunOf<N, P>>,
+    thread: PromisedHandle<LaneEnd<N, S>, RunOf<N, P, S>>,
     // The lane sets it last.
     has_ended: Arc<AtomicBool, Global>,
     closed: bool,
-    // Where the egresses stood when the last of them was given.
-    given: Option<Snapshot<Consumer<Egress>>>,
 }
 
-impl<N: PublisherName, P: Pace> Model for Port<N, P> {
-    ghost use Rattle.std.specs.Prelude.{◌≡◌, [], option_map, is_some};
+impl<N: PublisherName, P: Pace, S: Sink> Model for Port<N, P, S> {
+    ghost use Rattle.std.specs.Prelude.{◌≡◌, []};
     ghost use Rattle.rtrb.specs.Ring.{sent, received, IsPair};
     ghost use Rattle.media_workers.specs.Parcels.{works};
     ghost use Rattle.media_workers.specs.Ports.{PortOf};
-    ghost use Rattle.media_workers.specs.inner.Threads.{popped_by, IsTied};
+    ghost use Rattle.media_workers.specs.inner.Threads.{IsWhole};
 
-    ghost Value = { PortOf P };
+    ghost Value = { PortOf P S };
 
     ghost view = { λ p. record {
       lane = p.thread.promise.lane.value;
       pace = p.thread.promise.pace.value;
+      sink = p.thread.promise.sink.value;
       accepted = works (sent p.parcels);
       closed = p.closed;
-      popped = popped_by (option_map (λ c. received c.value) p.given) (received p.egresses);
-      quiet = is_some p.given;
     } };
 
     ghost invariant = { λ p. IsPair p.parcels p.thread.promise.consumer.value
-        × IsPair p.thread.promise.sink.value p.egresses
         × (received p.thread.promise.consumer.value ≡ [])
-        × (sent p.thread.promise.sink.value ≡ [])
-        × IsTied (sent p.parcels) p.closed (received p.egresses) (option_map (λ c. received c.value) p.given) };
+        × (S.taken p.thread.promise.sink.value ≡ [])
+        × IsWhole (sent p.parcels) p.closed };
 }
 
 fn ends(parcel: &Parcel) -> bool
     ensures { result ≡ is_end parcel.now }
 {
     matches!(parcel, Parcel::End)
-}
-
-/// The ring to a lane, and the ring from it.
-fn rings<N: PublisherName>(
-    alloc: Global,
-) -> Result<
-    (
-        Producer<Parcel, Global, FitParcels<N>>,
-        Consumer<Parcel, Global, FitParcels<N>>,
-        Producer<Egress>,
-        Consumer<Egress>,
-    ),
-    AllocError,
->
-    ensures parcels { IfOk result (λ r. IsPair r.0 r.1 × (sent r.0 ≡ []) × (received r.1 ≡ [])) }
-    ensures egresses { IfOk result (λ r. IsPair r.2 r.3 × (sent r.2 ≡ []) × (received r.3 ≡ [])) }
-{
-    let (parcels, consumer) = RingBuffer::with_protocol::<Global, FitParcels<N>>(alloc, PARCELS)?;
-    let (sink, egresses) = RingBuffer::new(alloc, EGRESSES)?;
-    Ok((parcels, consumer, sink, egresses))
 }
 
 /// A flag that isn't set, and a second handle of it.
@@ -101,19 +72,28 @@ fn flags(alloc: Global) -> Result<(Arc<AtomicBool, Global>, Arc<AtomicBool, Glob
     Ok((flag, other))
 }
 
-impl<N: PublisherName + Send + Sync + 'static, P: Pace + Send + Drop + 'static> Port<N, P> {
+impl<N, P, S> Port<N, P, S>
+where
+    N: PublisherName + Send + Sync + 'static,
+    P: Pace + Send + Drop + 'static,
+    S: Sink + Send + Drop + 'static,
+{
     /// Starts a lane's thread.
     pub fn start<R: Threads + Wait + Copy + Send + 'static>(
         rt: &R,
         alloc: Global,
         lane: Lane,
         pace: P,
-    ) -> Result<Port<N, P>, StartFault>
+        sink: S,
+    ) -> Result<Port<N, P, S>, StartFault>
         requires publisher { lane.reader.publisher ≡ N.publisher }
-        ensures started { IfOk result (λ port. port ≡ port_of lane pace) }
+        requires untaken { S.taken sink ≡ [] }
+        ensures started { IfOk result (λ port. port ≡ port_of lane pace sink) }
         ensures fault { result ≢ Err StartFault.Count }
     {
-        let Ok((parcels, consumer, sink, egresses)) = rings::<N>(alloc) else {
+        let Ok((parcels, consumer)) = RingBuffer::with_protocol::<Global, FitParcels<N>>(
+            alloc, PARCELS,
+        ) else {
             return Err(StartFault::OutOfMemory);
         };
         let Ok((has_ended, flag)) = flags(alloc) else {
@@ -121,9 +101,9 @@ impl<N: PublisherName + Send + Sync + 'static, P: Pace + Send + Drop + 'static> 
         };
         let promise = RunOf::new(&lane, &consumer, &sink, &pace);
         let own = *rt;
-        let run = move || -> LaneEnd<N, Producer<Egress>>
+        let run = move || -> LaneEnd<N, S>
             requires { lane.reader.publisher ≡ N.publisher }
-            ensures { IsRunOf P.answers lane consumer sink pace result }
+            ensures { IsRunOf P.answers S.taken S.feeds lane consumer sink pace result }
         {
             let end = lane.run(&own, alloc, consumer, sink, pace);
             flag.store(true, Ordering::SeqCst);
@@ -132,18 +112,16 @@ impl<N: PublisherName + Send + Sync + 'static, P: Pace + Send + Drop + 'static> 
         match thread::spawn_with(rt, promise, run) {
             Ok(thread) => Ok(Port {
                 parcels,
-                egresses,
                 thread,
                 has_ended,
                 closed: false,
-                given: None,
             }),
             Err(_) => Err(StartFault::Spawn),
         }
     }
 }
 
-impl<N: PublisherName, P: Pace> Port<N, P> {
+impl<N: PublisherName, P: Pace, S: Sink> Port<N, P, S> {
     /// Gives the lane a parcel, or hands it back if the ring is full or the lane has had its `End`.
     pub fn push(&mut self, parcel: Parcel) -> Result<(), Parcel>
         requires { IsFit N.publisher parcel }
@@ -183,46 +161,6 @@ impl<N: PublisherName, P: Pace> Port<N, P> {
         }
     }
 
-    /// The next egress of the lane, if there is one and it still gives any.
-    pub fn pop(&mut self) -> Option<Egress>
-        ensures some { IfSome result (λ e. (self.old.quiet ≡ false) × (self.new ≡ give e self.old)) }
-        ensures none { IfNone result (self.new ≡ self.old) }
-    {
-        if self.given.is_some() {
-            return None;
-        }
-        self.egresses.pop().ok()
-    }
-
-    /// From now on it gives no more.
-    pub fn quit(&mut self)
-        ensures { self.new ≡ quieten self.old }
-    {
-        if self.given.is_none() {
-            self.given = Some(Snapshot::of(&self.egresses));
-        }
-    }
-
-    /// Drops an egress, and returns whether there was one.
-    fn drop_one(&mut self) -> bool
-        requires { self.old.quiet ≡ true }
-        ensures { self.new ≡ self.old }
-    {
-        self.egresses.pop().is_ok()
-    }
-
-    /// Drops the egresses that are there.
-    pub fn drain(&mut self)
-        requires { self.old.quiet ≡ true }
-        ensures { self.new ≡ self.old }
-    {
-        for _ in 0..EGRESSES {
-            if !self.drop_one() {
-                return;
-            }
-        }
-    }
-
     /// Whether the lane has ended. No contract speaks of the answer.
     pub fn has_ended(&self) -> bool {
         self.has_ended.load(Ordering::SeqCst)
@@ -236,20 +174,18 @@ impl<N: PublisherName, P: Pace> Port<N, P> {
     }
 
     /// Waits for the lane's thread, and shows what it received and sent.
-    pub fn finish<R: Threads>(self, rt: &R) -> LaneEnd<N, Producer<Egress>>
-        ensures { EndsAs P.answers self result }
+    pub fn finish<R: Threads>(self, rt: &R) -> LaneEnd<N, S>
+        ensures ended { EndsAs P.answers S.taken self result }
+        ensures fed { StillFeeds S.feeds self result }
     {
         let Port {
             mut parcels,
-            mut egresses,
             thread,
             has_ended: _,
             closed: _,
-            given: _,
         } = self;
         let mut end = thread.join(rt);
         end.consumer.slots_beside(&mut parcels);
-        egresses.slots_beside(&mut end.sink);
         end
     }
 }

@@ -8,33 +8,33 @@ use crate::lane_end::LaneEnd;
 use crate::pace::Pace;
 use crate::parcel::{FitParcels, Parcel};
 use crate::publisher_name::PublisherName;
-use bridge_core::Egress;
-use rtrb::{Consumer, Producer};
+use crate::sink::Sink;
+use rtrb::Consumer;
 use std::alloc::Global;
 use std::snapshot::Snapshot;
 use std::thread::Promise;
 
 /// What a lane's run began with.
 #[derive(Drop)]
-pub struct RunOf<N: PublisherName, P: Pace> {
+pub struct RunOf<N: PublisherName, P: Pace, S: Sink> {
     /// The lane.
     pub lane: Snapshot<Lane>,
     /// Where its parcels came from.
     pub consumer: Snapshot<Consumer<Parcel, Global, FitParcels<N>>>,
     /// Where its egress went.
-    pub sink: Snapshot<Producer<Egress>>,
+    pub sink: Snapshot<S>,
     /// Its pace.
     pub pace: Snapshot<P>,
 }
 
-impl<N: PublisherName, P: Pace> RunOf<N, P> {
+impl<N: PublisherName, P: Pace, S: Sink> RunOf<N, P, S> {
     /// The beginning of a run over these four.
     pub fn new(
         lane: &Lane,
         consumer: &Consumer<Parcel, Global, FitParcels<N>>,
-        sink: &Producer<Egress>,
+        sink: &S,
         pace: &P,
-    ) -> RunOf<N, P>
+    ) -> RunOf<N, P, S>
         ensures lane { result.lane.value ≡ lane.now }
         ensures consumer { result.consumer.value ≡ consumer.now }
         ensures sink { result.sink.value ≡ sink.now }
@@ -49,6 +49,7 @@ impl<N: PublisherName, P: Pace> RunOf<N, P> {
     }
 }
 
-impl<N: PublisherName, P: Pace> Promise<LaneEnd<N, Producer<Egress>>> for RunOf<N, P> {
-    ghost kept_by = { λ p r. IsRunOf P.answers p.lane.value p.consumer.value p.sink.value p.pace.value r };
+impl<N: PublisherName, P: Pace, S: Sink> Promise<LaneEnd<N, S>> for RunOf<N, P, S> {
+    ghost kept_by = { λ p r.
+        IsRunOf P.answers S.taken S.feeds p.lane.value p.consumer.value p.sink.value p.pace.value r };
 }
