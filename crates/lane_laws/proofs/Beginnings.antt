@@ -7,7 +7,6 @@ use Rattle.std.proofs.lemmas.List.{length-map}
 use Rattle.std.proofs.lemmas.Option.{slice_get_within}
 use Rattle.std.proofs.Math.Seq.{take-append_seam}
 use mathlib.Core.List.{IsPrefix}
-use Rattle.rtrb.specs.Ring.{sent}
 use Rattle.desk_rows.specs.Desk.{Desk}
 use Rattle.desk_rows.specs.Edit.{EditOf}
 use Rattle.desk_edit.specs.Asked.{CallOf as Call}
@@ -23,15 +22,15 @@ use Rattle.bridge_core.specs.LaneState.{visit_of}
 use Rattle.operator_desk.specs.Entry.{EntryOf}
 use Rattle.operator_desk.specs.LegalLogs.{calls_of}
 use Rattle.operator_desk.specs.Published.{AreDesks}
+use Rattle.media_workers.specs.declared.lane_end.LaneEnd.{LaneEnd}
 use Rattle.media_workers.specs.declared.parcel.Parcel.{Parcel}
 use Rattle.media_workers.specs.declared.parcel.Parcel.TheVariants.{Work, End}
 use Rattle.media_workers.specs.Parcels.{works}
 use Rattle.media_workers.specs.LaneRuns.{LaneNow, Served, AreServed, visits_from, all_sent}
 use Rattle.media_workers.specs.Ports.{PortOf}
-use Rattle.media_workers.specs.Bridges.{EndOf, EndsAs, AllEnded, AreNew}
+use Rattle.media_workers.specs.Bridges.{Taking, EndsAs, AllEnded, AreNew}
 use Rattle.lane_laws.specs.Merges.{Versioned, InOrder, UpTo}
 use Rattle.lane_laws.specs.Visits.{desk_at, visits_by}
-use Rattle.lane_laws.specs.NamedVersions.{IsGiven, AreGiven}
 use Rattle.lane_laws.specs.OneList.{sent_by}
 use Rattle.lane_laws.specs.Learnt.{HasNotice, HasSeen, AllSeen, HaveKnown, AllBegin, lanes_of, versioned, handled}
 use Rattle.lane_laws.proofs.Merging.{lower}
@@ -48,14 +47,14 @@ later_all now lists [] begins all = tt
 later_all now lists (s ∷ ss) begins all = (prefix_trans s.lists now lists all.0 begins, later_all now lists ss begins all.1)
 
 -- what lanes saw whose readers knew a beginning of the lists at the end
-pub known_seen : {N P : Type 0} (lists : List (List EditOf)) (answers : P → ℕ → Bool → Type 0) (ports : List (PortOf P)) (ends : List (EndOf N)) (ended : AllEnded answers ports ends)
-    → HaveKnown lists ends → AllSeen lists answers ports ends ended
-known_seen lists answers [] [] ended known = tt
-known_seen lists answers [] (e ∷ es) ended known = absurd ended
-known_seen lists answers (p ∷ ps) [] ended known = absurd ended
-known_seen lists answers (p ∷ ps) (e ∷ es) ended known = (
+pub known_seen : {N P S : Type 0} (lists : List (List EditOf)) (answers : P → ℕ → Bool → Type 0) (taken : Taking S) (ports : List (PortOf P S)) (ends : List (LaneEnd N S)) (ended : AllEnded answers taken ports ends)
+    → HaveKnown lists ends → AllSeen lists answers taken ports ends ended
+known_seen lists answers taken [] [] ended known = tt
+known_seen lists answers taken [] (e ∷ es) ended known = absurd ended
+known_seen lists answers taken (p ∷ ps) [] ended known = absurd ended
+known_seen lists answers taken (p ∷ ps) (e ∷ es) ended known = (
   later_all e.known.lists lists ended.0.ran.served known.0 ended.0.ran.known.entries,
-  known_seen lists answers ps es ended.1 known.1,
+  known_seen lists answers taken ps es ended.1 known.1,
 )
 
 -- what was handled is a beginning of the parcels with items
@@ -69,9 +68,9 @@ handled_first known (Work item notice ∷ ps) last (s ∷ ss) served =
 handled_first known (End ∷ ps) last (s ∷ ss) served = absurd served.0
 
 -- a lane that handled all that it was given learnt what it was told
-pub all_told : {N P : Type 0} (answers : P → ℕ → Bool → Type 0) (port : PortOf P) (end : EndOf N) (ended : EndsAs answers port end) (lists : List (List EditOf))
+pub all_told : {N P S : Type 0} (answers : P → ℕ → Bool → Type 0) (taken : Taking S) (port : PortOf P S) (end : LaneEnd N S) (ended : EndsAs answers taken port end) (lists : List (List EditOf))
     → HasNotice lists port.accepted → end.handled ≡ length port.accepted → HasNotice lists ended.ran.done
-all_told answers port end ended lists told all =
+all_told answers taken port end ended lists told all =
     let ran = ended.ran in
     let first = handled_first port.lane.reader.lists ran.done ran.last ran.served ran.in_order in
     let begins : IsPrefix ran.done port.accepted =
@@ -128,36 +127,25 @@ begins_there start lanes k lane begin at =
     subst (λ (l : LaneNow). l.reader.start ≡ start) (at_index lanes k lane lane at) (begin k lane (slice_get_within lanes k lane at))
 
 -- the lane of this place, and how it ended
-pub record AtPlace {N P : Type 0} (lists : List (List EditOf)) (answers : P → ℕ → Bool → Type 0) (ports : List (PortOf P)) (lanes : List (List Versioned)) (lane : ℕ) (end : EndOf N) : Type 0 where
-  pub port : PortOf P
+pub record AtPlace {N P S : Type 0} (lists : List (List EditOf)) (answers : P → ℕ → Bool → Type 0) (taken : Taking S) (ports : List (PortOf P S)) (lanes : List (List Versioned)) (lane : ℕ) (end : LaneEnd N S) : Type 0 where
+  pub port : PortOf P S
   pub its_lane : slice_get (lanes_of ports) lane ≡ Some port.lane
-  pub ended : EndsAs answers port end
-  pub seen : HasSeen lists answers port end ended
+  pub ended : EndsAs answers taken port end
+  pub seen : HasSeen lists answers taken port end ended
   pub items : slice_get lanes lane ≡ Some (map versioned ended.ran.served)
 
-pub at_end : {N P : Type 0} (lists : List (List EditOf)) (answers : P → ℕ → Bool → Type 0) (ports : List (PortOf P)) (ends : List (EndOf N)) (ended : AllEnded answers ports ends) (lane : ℕ) (end : EndOf N)
-    → AllSeen lists answers ports ends ended → slice_get ends lane ≡ Some end → AtPlace lists answers ports (handled answers ports ends ended) lane end
-at_end lists answers [] [] ended lane end seen at = absurd (cc (at))
-at_end lists answers [] (e ∷ es) ended lane end seen at = absurd seen
-at_end lists answers (p ∷ ps) [] ended lane end seen at = absurd seen
-at_end {N} {P} lists answers (p ∷ ps) (e ∷ es) ended zero end seen at =
+pub at_end : {N P S : Type 0} (lists : List (List EditOf)) (answers : P → ℕ → Bool → Type 0) (taken : Taking S) (ports : List (PortOf P S)) (ends : List (LaneEnd N S)) (ended : AllEnded answers taken ports ends) (lane : ℕ) (end : LaneEnd N S)
+    → AllSeen lists answers taken ports ends ended → slice_get ends lane ≡ Some end → AtPlace lists answers taken ports (handled answers taken ports ends ended) lane end
+at_end lists answers taken [] [] ended lane end seen at = absurd (cc (at))
+at_end lists answers taken [] (e ∷ es) ended lane end seen at = absurd seen
+at_end lists answers taken (p ∷ ps) [] ended lane end seen at = absurd seen
+at_end {N} {P} {S} lists answers taken (p ∷ ps) (e ∷ es) ended zero end seen at =
     let same : e ≡ end = cc (at) in
-    subst (λ (x : EndOf N). AtPlace lists answers (p ∷ ps) (handled answers (p ∷ ps) (e ∷ es) ended) zero x) same
+    subst (λ (x : LaneEnd N S). AtPlace lists answers taken (p ∷ ps) (handled answers taken (p ∷ ps) (e ∷ es) ended) zero x) same
     record { port = p; its_lane = refl; ended = ended.0; seen = seen.0; items = refl }
-at_end lists answers (p ∷ ps) (e ∷ es) ended (suc lane) end seen at =
-    let rest = at_end lists answers ps es ended.1 lane end seen.1 at in
+at_end lists answers taken (p ∷ ps) (e ∷ es) ended (suc lane) end seen at =
+    let rest = at_end lists answers taken ps es ended.1 lane end seen.1 at in
     record { port = rest.port; its_lane = rest.its_lane; ended = rest.ended; seen = rest.seen; items = rest.items }
-
--- for each lane there is how it ended
-pub end_of : {N P : Type 0} (lists : List (List EditOf)) (answers : P → ℕ → Bool → Type 0) (ports : List (PortOf P)) (ends : List (EndOf N)) (ended : AllEnded answers ports ends) (lane : ℕ) (port : PortOf P)
-    → AllSeen lists answers ports ends ended → slice_get ports lane ≡ Some port → (end : EndOf N) × (slice_get ends lane ≡ Some end) × EndsAs answers port end
-end_of lists answers [] [] ended lane port seen at = absurd (cc (at))
-end_of lists answers [] (e ∷ es) ended lane port seen at = absurd seen
-end_of lists answers (p ∷ ps) [] ended lane port seen at = absurd seen
-end_of {N} {P} lists answers (p ∷ ps) (e ∷ es) ended zero port seen at =
-    let same : p ≡ port = cc (at) in
-    (e, refl, subst (λ (x : PortOf P). EndsAs answers x e) same ended.0)
-end_of lists answers (p ∷ ps) (e ∷ es) ended (suc lane) port seen at = end_of lists answers ps es ended.1 lane port seen.1 at
 
 -- what is wanted of a merged list: a lane whose items are in order and not later than the last call sends by it what it sends by itself
 abbrev pub SendsBy : Asker → ℕ → Desk → List Call → List (List Versioned) → (ℕ → List Sent) → Type 0
@@ -165,9 +153,9 @@ SendsBy who many start calls lanes shares =
     (lane : ℕ) (items : List Versioned) → slice_get lanes lane ≡ Some items → InOrder 0 items → UpTo (length calls) items
     → shares lane ≡ all_sent who lane many [] (visits_by (desk_at start calls) 0 items)
 
-pub sent_share : {N P : Type 0} (lists : List (List EditOf)) (start : Desk) (log : List EntryOf) (answers : P → ℕ → Bool → Type 0) (ports : List (PortOf P)) (lanes : List (List Versioned)) (lane : ℕ) (end : EndOf N) (new : AreNew (lanes_of ports)) (shares : ℕ → List Sent)
-    → AreDesks start log lists → AllBegin start (lanes_of ports) → SendsBy new.0 (length ports) start (calls_of log) lanes shares → AtPlace lists answers ports lanes lane end → map sent_of (sent end.sink) ≡ shares lane
-sent_share {N} {P} lists start log answers ports lanes lane end new shares desks begin merged here =
+pub sent_share : {N P S : Type 0} (lists : List (List EditOf)) (start : Desk) (log : List EntryOf) (answers : P → ℕ → Bool → Type 0) (taken : Taking S) (ports : List (PortOf P S)) (lanes : List (List Versioned)) (lane : ℕ) (end : LaneEnd N S) (new : AreNew (lanes_of ports)) (shares : ℕ → List Sent)
+    → AreDesks start log lists → AllBegin start (lanes_of ports) → SendsBy new.0 (length ports) start (calls_of log) lanes shares → AtPlace lists answers taken ports lanes lane end → map sent_of (taken end.sink) ≡ shares lane
+sent_share {N} {P} {S} lists start log answers taken ports lanes lane end new shares desks begin merged here =
     let ran = here.ended.ran in
     let state = here.port.lane.state in
     let is = new.1 lane here.port.lane here.its_lane in
@@ -181,23 +169,14 @@ sent_share {N} {P} lists start log answers ports lanes lane end new shares desks
     ran.sends [] is.none
     ∙ (ap (λ (w : Asker). all_sent w state.lane state.lanes [] visits) is.who
     ∙ (ap (λ (k : ℕ). all_sent new.0 k state.lanes [] visits) is.number
-    ∙ (ap (λ (k : ℕ). all_sent new.0 lane k [] visits) (is.lanes ∙ length-map ports (λ (p : PortOf P). p.lane))
+    ∙ (ap (λ (k : ℕ). all_sent new.0 lane k [] visits) (is.lanes ∙ length-map ports (λ (p : PortOf P S). p.lane))
     ∙ (ap (λ (d : Desk). all_sent new.0 lane (length ports) [] (visits_from d 0 ran.served)) (begins_there start (lanes_of ports) lane here.port.lane begin here.its_lane)
     ∙ (ap (all_sent new.0 lane (length ports) []) (visits_are start log lists 0 ran.served desks seen)
     ∙ sym (merged lane items here.items order few))))))
 
 -- what a lane sent is what its end's sink took
-pub own_end : {N : Type 0} (ends : List (EndOf N)) (lane : ℕ) (own : List Sent) → slice_get (sent_by ends) lane ≡ Some own
-    → (end : EndOf N) × (slice_get ends lane ≡ Some end) × (map sent_of (sent end.sink) ≡ own)
-own_end [] lane own at = absurd (cc (at))
-own_end (e ∷ es) zero own at = (e, refl, cc (at))
-own_end (e ∷ es) (suc lane) own at = own_end es lane own at
-
--- of what all is given, so is a beginning
-pub first_given : {X : Type 0} (start : Desk) (calls : List Call) (f : X → Sent) (xs ys : List X) → IsPrefix xs ys → AreGiven start calls (map f ys) → AreGiven start calls (map f xs)
-first_given start calls f [] ys p all = tt
-first_given start calls f (x ∷ xs) [] p all = absurd (cc (p.1))
-first_given {X} start calls f (x ∷ xs) (y ∷ ys) p all =
-    let heads : x ≡ y = cc (p.1) in
-    let tails : xs ++ p.0 ≡ ys = cc (p.1) in
-    (subst (λ (z : X). IsGiven start calls (f z)) (sym heads) all.0, first_given start calls f xs ys (p.0, tails) all.1)
+pub own_end : {N S : Type 0} (taken : Taking S) (ends : List (LaneEnd N S)) (lane : ℕ) (own : List Sent) → slice_get (sent_by taken ends) lane ≡ Some own
+    → (end : LaneEnd N S) × (slice_get ends lane ≡ Some end) × (map sent_of (taken end.sink) ≡ own)
+own_end taken [] lane own at = absurd (cc (at))
+own_end taken (e ∷ es) zero own at = (e, refl, cc (at))
+own_end taken (e ∷ es) (suc lane) own at = own_end taken es lane own at

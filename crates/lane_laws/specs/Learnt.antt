@@ -12,11 +12,12 @@ use Rattle.bridge_core.specs.Events.{Event}
 use Rattle.operator_desk.specs.Entry.{EntryOf}
 use Rattle.operator_desk.specs.LegalLogs.{calls_of, IsLegal}
 use Rattle.operator_desk.specs.Published.{AreDesks}
+use Rattle.media_workers.specs.declared.lane_end.LaneEnd.{LaneEnd}
 use Rattle.media_workers.specs.declared.parcel.Parcel.{Parcel}
 use Rattle.media_workers.specs.declared.parcel.Parcel.TheVariants.{Work}
 use Rattle.media_workers.specs.LaneRuns.{LaneNow, Served}
 use Rattle.media_workers.specs.Ports.{PortOf}
-use Rattle.media_workers.specs.Bridges.{EndOf, EndsAs, AreNew, AllEnded}
+use Rattle.media_workers.specs.Bridges.{Taking, EndsAs, AreNew, AllEnded}
 use Rattle.lane_laws.specs.Merges.{Versioned, merge}
 
 -- one of these parcels has a notice of these lists
@@ -25,25 +26,25 @@ HasNotice lists parcels =
     (item : Item Global) × (notice : NoticeOf) × Contains parcels (Work item (Some notice)) × (notice.lists ≡ lists)
 
 -- Each item of the lane was handled at a version of these lists: what its entry saw is a beginning of them.
-abbrev pub HasSeen : {N P : Type 0} (lists : List (List EditOf)) (answers : P → ℕ → Bool → Type 0) (port : PortOf P)
-    (end : EndOf N) → EndsAs answers port end → Type 0
-HasSeen lists answers port end ended = AllByRecursion (λ (s : Served). IsPrefix s.lists lists) ended.ran.served
+abbrev pub HasSeen : {N P S : Type 0} (lists : List (List EditOf)) (answers : P → ℕ → Bool → Type 0) (taken : Taking S)
+    (port : PortOf P S) (end : LaneEnd N S) → EndsAs answers taken port end → Type 0
+HasSeen lists answers taken port end ended = AllByRecursion (λ (s : Served). IsPrefix s.lists lists) ended.ran.served
 
 -- The same of each lane.
-abbrev pub AllSeen : {N P : Type 0} (lists : List (List EditOf)) (answers : P → ℕ → Bool → Type 0)
-    (ports : List (PortOf P)) (ends : List (EndOf N)) → AllEnded answers ports ends → Type 0
-AllSeen lists answers [] [] ended = Unit {0}
-AllSeen lists answers [] (e ∷ es) ended = ⊥
-AllSeen lists answers (p ∷ ps) [] ended = ⊥
-AllSeen lists answers (p ∷ ps) (e ∷ es) ended =
-    HasSeen lists answers p e ended.0 × AllSeen lists answers ps es ended.1
+abbrev pub AllSeen : {N P S : Type 0} (lists : List (List EditOf)) (answers : P → ℕ → Bool → Type 0) (taken : Taking S)
+    (ports : List (PortOf P S)) (ends : List (LaneEnd N S)) → AllEnded answers taken ports ends → Type 0
+AllSeen lists answers taken [] [] ended = Unit {0}
+AllSeen lists answers taken [] (e ∷ es) ended = ⊥
+AllSeen lists answers taken (p ∷ ps) [] ended = ⊥
+AllSeen lists answers taken (p ∷ ps) (e ∷ es) ended =
+    HasSeen lists answers taken p e ended.0 × AllSeen lists answers taken ps es ended.1
 
 -- What each lane's reader knew at the end is a beginning of these lists.
-abbrev pub HaveKnown : {N : Type 0} → List (List EditOf) → List (EndOf N) → Type 0
-HaveKnown {N} lists ends = AllByRecursion (λ (end : EndOf N). IsPrefix end.known.lists lists) ends
+abbrev pub HaveKnown : {N S : Type 0} → List (List EditOf) → List (LaneEnd N S) → Type 0
+HaveKnown {N} {S} lists ends = AllByRecursion (λ (end : LaneEnd N S). IsPrefix end.known.lists lists) ends
 
 -- the lanes as they were handed in
-abbrev pub lanes_of : {P : Type 0} → List (PortOf P) → List LaneNow
+abbrev pub lanes_of : {P S : Type 0} → List (PortOf P S) → List LaneNow
 lanes_of ports = map (λ p. p.lane) ports
 
 -- The readers of all these lanes begin with this desk.
@@ -55,36 +56,38 @@ abbrev pub AllRead : Book → List LaneNow → Type 0
 AllRead publisher lanes = All (λ (lane : LaneNow). lane.reader.publisher ≡ publisher) lanes
 
 -- Lanes whose readers are of this publisher have ended so.
-abbrev pub HaveEnded : {N P : Type 0} → (P → ℕ → Bool → Type 0) → Book → List (EndOf N) → Type 0
-HaveEnded {N} {P} answers publisher ends =
-    (ports : List (PortOf P)) × AllEnded answers ports ends × AllRead publisher (lanes_of ports)
+abbrev pub HaveEnded : {N P S : Type 0} → (P → ℕ → Bool → Type 0) → Taking S → Book → List (LaneEnd N S) → Type 0
+HaveEnded {N} {P} {S} answers taken publisher ends =
+    (ports : List (PortOf P S)) × AllEnded answers taken ports ends × AllRead publisher (lanes_of ports)
 
 -- an item that was handled, with its version: how many lists its entry had
 abbrev pub versioned : Served → Versioned
 versioned s = record { version = length s.lists; input = s.input }
 
 -- the items that each lane handled, with their versions
-abbrev pub handled : {N P : Type 0} (answers : P → ℕ → Bool → Type 0) (ports : List (PortOf P)) (ends : List (EndOf N))
-    → AllEnded answers ports ends → List (List Versioned)
-handled answers [] [] ended = []
-handled answers [] (e ∷ es) ended = []
-handled answers (p ∷ ps) [] ended = []
-handled answers (p ∷ ps) (e ∷ es) ended = map versioned ended.0.ran.served ∷ handled answers ps es ended.1
+abbrev pub handled : {N P S : Type 0} (answers : P → ℕ → Bool → Type 0) (taken : Taking S) (ports : List (PortOf P S))
+    (ends : List (LaneEnd N S)) → AllEnded answers taken ports ends → List (List Versioned)
+handled answers taken [] [] ended = []
+handled answers taken [] (e ∷ es) ended = []
+handled answers taken (p ∷ ps) [] ended = []
+handled answers taken (p ∷ ps) (e ∷ es) ended = map versioned ended.0.ran.served ∷ handled answers taken ps es ended.1
 
 -- The lanes of one bridge have ended beside this log: the log is legal, some lists lead to its desks, and what each entry
 -- of a lane saw is a beginning of these lists.
-pub record EndedAfter {N P : Type 0} (answers : P → ℕ → Bool → Type 0) (start : Desk) (log : List EntryOf)
-    (ports : List (PortOf P)) (ends : List (EndOf N)) : Type 0 where
+pub record EndedAfter {N P S : Type 0} (answers : P → ℕ → Bool → Type 0) (taken : Taking S) (start : Desk)
+    (log : List EntryOf) (ports : List (PortOf P S)) (ends : List (LaneEnd N S)) : Type 0 where
   pub first : good start ≡ true
   pub legal : IsLegal start log
   pub lists : List (List EditOf)
   pub desks : AreDesks start log lists
   pub new : AreNew (lanes_of ports)
   pub begin : AllBegin start (lanes_of ports)
-  pub ended : AllEnded answers ports ends
-  pub seen : AllSeen lists answers ports ends ended
+  pub ended : AllEnded answers taken ports ends
+  pub seen : AllSeen lists answers taken ports ends ended
 
 -- the calls of the log and the items that the lanes handled, in one list
-abbrev pub merged : {N P : Type 0} {answers : P → ℕ → Bool → Type 0} {start : Desk} {log : List EntryOf}
-    {ports : List (PortOf P)} {ends : List (EndOf N)} → EndedAfter answers start log ports ends → List Event
-merged {N} {P} {answers} {start} {log} {ports} {ends} h = merge (calls_of log) (handled answers ports ends h.ended)
+abbrev pub merged : {N P S : Type 0} {answers : P → ℕ → Bool → Type 0} {taken : Taking S} {start : Desk}
+    {log : List EntryOf} {ports : List (PortOf P S)} {ends : List (LaneEnd N S)} →
+    EndedAfter answers taken start log ports ends → List Event
+merged {N} {P} {S} {answers} {taken} {start} {log} {ports} {ends} h =
+    merge (calls_of log) (handled answers taken ports ends h.ended)

@@ -1,6 +1,5 @@
 -- Lanes that sent what one list of calls and items sends (own).
 use Rattle.std.specs.Prelude.{◌≡◌, ℕ, List, map, slice_get, Some}
-use Rattle.rtrb.specs.Ring.{sent}
 use Rattle.desk_rows.specs.Desk.{Desk}
 use Rattle.desk_edit.specs.Asked.{CallOf as Call}
 use Rattle.desk_edit.specs.Calls.{no_calls}
@@ -9,14 +8,14 @@ use Rattle.bridge_core.specs.Sent.{Sent, sent_of}
 use Rattle.bridge_core.specs.Steps.{Step, sends}
 use Rattle.bridge_core.specs.Events.{Event, steps_of, calls_among}
 use Rattle.bridge_core.specs.WholeRuns.{Holds}
-use Rattle.media_workers.specs.Ports.{PortOf}
-use Rattle.media_workers.specs.Bridges.{EndOf}
+use Rattle.media_workers.specs.declared.lane_end.LaneEnd.{LaneEnd}
+use Rattle.media_workers.specs.Bridges.{Taking}
 use Rattle.lane_laws.specs.Shares.{of_lane}
 use Rattle.lane_laws.specs.NamedVersions.{AreGiven}
 
--- what each of these lanes sent
-abbrev pub sent_by : {N : Type 0} → List (EndOf N) → List (List Sent)
-sent_by {N} ends = map (λ (end : EndOf N). map sent_of (sent end.sink)) ends
+-- what each of these lanes sent: what its sink took
+abbrev pub sent_by : {N S : Type 0} → Taking S → List (LaneEnd N S) → List (List Sent)
+sent_by {N} {S} taken ends = map (λ (end : LaneEnd N S). map sent_of (taken end.sink)) ends
 
 -- Each lane, by its place, sent just its share of what is sent for the items of these steps.
 abbrev pub AreShares : List Step → List (List Sent) → List (List Sent) → Type 0
@@ -35,8 +34,3 @@ pub record IsOneList (who : Asker) (many : ℕ) (start : Desk) (calls : List Cal
 abbrev pub SendByVersions : Desk → List Call → List (List Sent) → Type 0
 SendByVersions start calls sent =
     (lane : ℕ) (own : List Sent) → slice_get sent lane ≡ Some own → AreGiven start calls own
-
--- Each packet that `pop` gave of a lane goes where the desk of its version has it go.
-abbrev pub GaveByVersions : {P : Type 0} → Desk → List Call → List (PortOf P) → Type 0
-GaveByVersions {P} start calls ports =
-    (lane : ℕ) (port : PortOf P) → slice_get ports lane ≡ Some port → AreGiven start calls (map sent_of port.popped)

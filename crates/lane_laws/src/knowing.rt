@@ -6,20 +6,18 @@ ghost use mathlib.Core.List.{IsPrefix};
 ghost use Rattle.std.specs.Prelude.{◌≡◌};
 ghost use Rattle.lane_laws.specs.Learnt.{HaveKnown, HaveEnded};
 
-use bridge_core::Egress;
-use media_workers::{LaneEnd, Pace, PublisherName};
-use rtrb::Producer;
+use media_workers::{LaneEnd, Pace, PublisherName, Sink};
 use versions::Notice;
 
 /// Whether no lane knew of a later version than this notice when it ended. If so, what each lane knew is a beginning of
 /// the notice's lists.
 ///
 /// A notice of the desk's last version always has all that the lanes knew.
-pub fn none_knew_more<N: PublisherName, P: Pace>(
-    ends: &Vec<LaneEnd<N, Producer<Egress>>>,
+pub fn none_knew_more<N: PublisherName, P: Pace, S: Sink>(
+    ends: &Vec<LaneEnd<N, S>>,
     last: &Notice,
 ) -> bool
-    requires ended { HaveEnded P.answers last.now.publisher ends.now.items }
+    requires ended { HaveEnded P.answers S.taken last.now.publisher ends.now.items }
     ensures known { OnTrue result (HaveKnown last.now.lists ends.now.items) }
     ensures more { OnFalse result (¬ HaveKnown last.now.lists ends.now.items) }
 {
@@ -32,7 +30,7 @@ pub fn none_knew_more<N: PublisherName, P: Pace>(
 }
 
 /// The same of one lane.
-fn knew_no_more<N: PublisherName>(end: &LaneEnd<N, Producer<Egress>>, last: &Notice) -> bool
+fn knew_no_more<N: PublisherName, S: Sink>(end: &LaneEnd<N, S>, last: &Notice) -> bool
     requires publisher { end.now.known.publisher ≡ last.now.publisher }
     ensures known { OnTrue result (IsPrefix end.now.known.lists last.now.lists) }
     ensures more { OnFalse result (length last.now.lists < length end.now.known.lists) }

@@ -13,37 +13,39 @@ ghost use Rattle.bridge_core.specs.EveryLane.{to_every};
 ghost use Rattle.operator_desk.specs.Entry.{EntryOf};
 ghost use Rattle.operator_desk.specs.LegalLogs.{calls_of, after_log};
 ghost use Rattle.media_workers.specs.Ports.{PortOf};
-ghost use Rattle.media_workers.specs.Bridges.{EndOf, EndsAs, AllEnded};
+ghost use Rattle.media_workers.specs.Bridges.{EndsAs, AllEnded};
+ghost use Rattle.media_workers.specs.declared.lane_end.LaneEnd.{LaneEnd as End};
 ghost use Rattle.lane_laws.specs.Undone.{HaveCommands, with_undos};
 ghost use Rattle.lane_laws.specs.Learnt.{HasNotice, AllSeen, HaveKnown, EndedAfter, merged};
-ghost use Rattle.lane_laws.specs.OneList.{AreShares, IsOneList, SendByVersions, GaveByVersions, sent_by};
+ghost use Rattle.lane_laws.specs.OneList.{AreShares, IsOneList, SendByVersions, sent_by};
 
 use crate::laws::{
     calls_keep_their_order, lanes_send_by_one_list, legal_lists_hold, packets_go_by_their_versions,
     undos_give_the_desk_back,
 };
 use bridge_core::lane_count_does_not_matter;
-use media_workers::{Pace, PublisherName};
+use media_workers::{Pace, PublisherName, Sink};
 
 /// A lane that handled as many items as were accepted for it learnt each notice that came with them.
-pub fn lanes_learn_what_they_handled<N: PublisherName, P: Pace>()
-    ensures { (port : PortOf P) (end : EndOf N) (ended : EndsAs P.answers port end) (lists : List (List EditOf)) →
-        HasNotice lists port.accepted → end.handled ≡ length port.accepted → HasNotice lists ended.ran.done }
+pub fn lanes_learn_what_they_handled<N: PublisherName, P: Pace, S: Sink>()
+    ensures { (port : PortOf P S) (end : End N S) (ended : EndsAs P.answers S.taken port end)
+        (lists : List (List EditOf)) → HasNotice lists port.accepted → end.handled ≡ length port.accepted →
+        HasNotice lists ended.ran.done }
 {}
 
 /// If what each lane's reader knew at the end is a beginning of some lists, so is what each of its entries saw.
-pub fn lanes_saw_what_they_know<N: PublisherName, P: Pace>()
-    ensures { (ports : List (PortOf P)) (ends : List (EndOf N)) (ended : AllEnded P.answers ports ends)
-        (lists : List (List EditOf)) → HaveKnown lists ends → AllSeen lists P.answers ports ends ended }
+pub fn lanes_saw_what_they_know<N: PublisherName, P: Pace, S: Sink>()
+    ensures { (ports : List (PortOf P S)) (ends : List (End N S)) (ended : AllEnded P.answers S.taken ports ends)
+        (lists : List (List EditOf)) → HaveKnown lists ends → AllSeen lists P.answers S.taken ports ends ended }
 {}
 
 /// If what each lane's entries saw are beginnings of what was published, one list of the calls that were published and
 /// of the items that the lanes handled gives all that each lane sent.
-pub fn lanes_send_their_shares<N: PublisherName, P: Pace>()
-    ensures { (start : Desk) (log : List EntryOf) (ports : List (PortOf P)) (ends : List (EndOf N)) →
-        (h : EndedAfter P.answers start log ports ends) →
+pub fn lanes_send_their_shares<N: PublisherName, P: Pace, S: Sink>()
+    ensures { (start : Desk) (log : List EntryOf) (ports : List (PortOf P S)) (ends : List (End N S)) →
+        (h : EndedAfter P.answers S.taken start log ports ends) →
         (let steps = steps_of (no_calls start) (merged h) in
-        AreShares steps (sends (h.new).0 (length ports) start steps) (sent_by ends)) }
+        AreShares steps (sends (h.new).0 (length ports) start steps) (sent_by S.taken ends)) }
 {
     lanes_send_by_one_list();
 }
@@ -57,29 +59,27 @@ pub fn lanes_send_their_shares<N: PublisherName, P: Pace>()
 /// - each lane sent its share of what is sent over this list, and nothing else;
 /// - the headline's clauses on packets hold of all that is sent over it: each packet is what the desk of its version
 ///   says, each stream numbers without a gap, and what is asked for again leads back;
-/// - each packet that a lane sent, and so each that `pop` gave of it, goes where the desk of its version has it go;
+/// - each packet that a lane sent goes where the desk of its version has it go;
 /// - had any other number of lanes been given all of it, each stream would send the same as on one lane.
-pub fn the_running_headline<N: PublisherName, P: Pace>()
-    ensures undone { (start : Desk) (log : List EntryOf) (ports : List (PortOf P)) (ends : List (EndOf N)) →
-        (h : EndedAfter P.answers start log ports ends) (before rest : List EntryOf) (commands : List CallOf) →
+pub fn the_running_headline<N: PublisherName, P: Pace, S: Sink>()
+    ensures undone { (start : Desk) (log : List EntryOf) (ports : List (PortOf P S)) (ends : List (End N S)) →
+        (h : EndedAfter P.answers S.taken start log ports ends) (before rest : List EntryOf) (commands : List CallOf) →
         log ≡ before ++ rest → calls_of rest ≡ with_undos (after_log start before) commands → HaveCommands commands →
         after_lists start h.lists ≡ after_lists start (take (length before) h.lists) }
-    ensures holds { (start : Desk) (log : List EntryOf) (ports : List (PortOf P)) (ends : List (EndOf N)) →
-        (h : EndedAfter P.answers start log ports ends) →
-        IsOneList (h.new).0 (length ports) start (calls_of log) (sent_by ends) (merged h) }
-    ensures sent { (start : Desk) (log : List EntryOf) (ports : List (PortOf P)) (ends : List (EndOf N)) →
-        EndedAfter P.answers start log ports ends → SendByVersions start (calls_of log) (sent_by ends) }
-    ensures popped { (start : Desk) (log : List EntryOf) (ports : List (PortOf P)) (ends : List (EndOf N)) →
-        EndedAfter P.answers start log ports ends → GaveByVersions start (calls_of log) ports }
-    ensures lanes { (start : Desk) (log : List EntryOf) (ports : List (PortOf P)) (ends : List (EndOf N)) →
-        (h : EndedAfter P.answers start log ports ends) (few many ssrc : ℕ) → 0 < few → 0 < many →
+    ensures holds { (start : Desk) (log : List EntryOf) (ports : List (PortOf P S)) (ends : List (End N S)) →
+        (h : EndedAfter P.answers S.taken start log ports ends) →
+        IsOneList (h.new).0 (length ports) start (calls_of log) (sent_by S.taken ends) (merged h) }
+    ensures sent { (start : Desk) (log : List EntryOf) (ports : List (PortOf P S)) (ends : List (End N S)) →
+        EndedAfter P.answers S.taken start log ports ends → SendByVersions start (calls_of log) (sent_by S.taken ends) }
+    ensures lanes { (start : Desk) (log : List EntryOf) (ports : List (PortOf P S)) (ends : List (End N S)) →
+        (h : EndedAfter P.answers S.taken start log ports ends) (few many ssrc : ℕ) → 0 < few → 0 < many →
         (let steps = steps_of (no_calls start) (merged h) in
         sent_on ssrc (sends (h.new).0 few start (to_every few steps))
         ≡ sent_on ssrc (sends (h.new).0 many start (to_every many steps))) }
 {
     undos_give_the_desk_back();
     calls_keep_their_order();
-    lanes_send_their_shares::<N, P>();
+    lanes_send_their_shares::<N, P, S>();
     legal_lists_hold();
     packets_go_by_their_versions();
     lane_count_does_not_matter();

@@ -11,16 +11,16 @@ use Rattle.media_workers.specs.Ports.{PortOf, accept}
 use Rattle.lane_laws.specs.Learnt.{lanes_of}
 
 -- the lane is given a tick with this notice
-abbrev pub given : {P : Type 0} → NoticeOf → ℕ → PortOf P → PortOf P
+abbrev pub given : {P S : Type 0} → NoticeOf → ℕ → PortOf P S → PortOf P S
 given notice moment port = accept (Work (Tick moment) (Some notice)) port
 
 -- a lane that is given a tick stays the same lane
-pub lanes_kept : {P : Type 0} (ports : List (PortOf P)) (lane : ℕ) (port : PortOf P) (notice : NoticeOf) (moment : ℕ) → slice_get ports lane ≡ Some port
+pub lanes_kept : {P S : Type 0} (ports : List (PortOf P S)) (lane : ℕ) (port : PortOf P S) (notice : NoticeOf) (moment : ℕ) → slice_get ports lane ≡ Some port
     → lanes_of (slice_set ports lane (given notice moment port)) ≡ lanes_of ports
 lanes_kept [] lane port notice moment at = refl
-lanes_kept {P} (p ∷ ps) zero port notice moment at =
+lanes_kept {P} {S} (p ∷ ps) zero port notice moment at =
     let same : p ≡ port = cc (at) in
-    ap (λ (x : PortOf P). x.lane ∷ lanes_of ps) (sym same)
+    ap (λ (x : PortOf P S). x.lane ∷ lanes_of ps) (sym same)
 lanes_kept (p ∷ ps) (suc lane) port notice moment at = ap (λ (ls : List LaneNow). p.lane ∷ ls) (lanes_kept ps lane port notice moment at)
 
 -- there is a lane at each place
@@ -30,8 +30,8 @@ found (x ∷ xs) zero low = (x, refl)
 found (x ∷ xs) (suc k) low = found xs k (omega (arith, low))
 
 -- whether the tick is accepted or not
-pub lanes_still : {P A : Type 0} (result : Result A Parcel) (old new : List (PortOf P)) (lane : ℕ) (notice : NoticeOf) (moment : ℕ) → lane < length old
-    → OnOk result ((port : PortOf P) → slice_get old lane ≡ Some port → (port.closed ≡ false) × (new ≡ slice_set old lane (given notice moment port)))
+pub lanes_still : {P S A : Type 0} (result : Result A Parcel) (old new : List (PortOf P S)) (lane : ℕ) (notice : NoticeOf) (moment : ℕ) → lane < length old
+    → OnOk result ((port : PortOf P S) → slice_get old lane ≡ Some port → (port.closed ≡ false) × (new ≡ slice_set old lane (given notice moment port)))
     → IfErr result (λ (back : Parcel). (back ≡ Work (Tick moment) (Some notice)) × (new ≡ old))
     → lanes_of new ≡ lanes_of old
 lanes_still (Ok x) old new lane notice moment low ok err =
@@ -40,5 +40,5 @@ lanes_still (Ok x) old new lane notice moment low ok err =
 lanes_still (Err e) old new lane notice moment low ok err = ap lanes_of err.1
 
 -- as many lanes as before
-pub as_many : {P : Type 0} (old new : List (PortOf P)) → lanes_of new ≡ lanes_of old → length new ≡ length old
+pub as_many : {P S : Type 0} (old new : List (PortOf P S)) → lanes_of new ≡ lanes_of old → length new ≡ length old
 as_many old new same = sym (length-map new (λ p. p.lane)) ∙ (ap length same ∙ length-map old (λ p. p.lane))

@@ -7,12 +7,11 @@ ghost use Rattle.media_workers.specs.Bridges.{AreNew};
 ghost use Rattle.lane_laws.specs.Learnt.{AllBegin, AllRead, lanes_of};
 ghost use Rattle.lane_laws.specs.OneList.{SendByVersions, sent_by};
 
-use bridge_core::{Egress, Item};
+use bridge_core::Item;
 use desk_edit::Call;
 use lane_laws::{lanes_saw_what_they_know, none_knew_more, the_running_headline};
-use media_workers::{Bridge, LaneEnd, Pace, Parcel, PublisherName};
+use media_workers::{Bridge, LaneEnd, Pace, Parcel, PublisherName, Sink};
 use operator_desk::{Answer, Hall, Seat, SharedDesk};
-use rtrb::Producer;
 use std::alloc::Global;
 use std::sync::Wait;
 use std::thread::Threads;
@@ -23,22 +22,22 @@ use versions::Notice;
 ///
 /// Each packet that a lane sent goes where the desk of the version that it names has it go, by the log that the seat
 /// has seen.
-pub fn call_and_close<'a, H: Hall, N: PublisherName, P: Pace, R: Threads + Wait>(
+pub fn call_and_close<'a, H: Hall, N: PublisherName, P: Pace, S: Sink, R: Threads + Wait>(
     rt: &R,
     alloc: Global,
     desk: &SharedDesk<'a, H>,
     seat: &mut Seat<'a, H>,
     call: Call,
     moment: u64,
-    bridge: Bridge<N, P>,
-) -> Option<Vec<LaneEnd<N, Producer<Egress>>>>
+    bridge: Bridge<N, P, S>,
+) -> Option<Vec<LaneEnd<N, S>>>
     requires publisher { N.publisher ≡ H.publisher }
     requires first { good H.start ≡ true }
     requires two { length bridge ≡ 2 }
     requires new { AreNew (lanes_of bridge) }
     requires begin { AllBegin H.start (lanes_of bridge) }
     requires read { AllRead H.publisher (lanes_of bridge) }
-    ensures { IfSome result (λ ends. SendByVersions H.start (calls_of seat.new.seen) (sent_by ends.items)) }
+    ensures { IfSome result (λ ends. SendByVersions H.start (calls_of seat.new.seen) (sent_by S.taken ends.items)) }
 {
     let mut bridge = bridge;
     match desk.call(rt, alloc, seat, call) {
@@ -46,9 +45,9 @@ pub fn call_and_close<'a, H: Hall, N: PublisherName, P: Pace, R: Threads + Wait>
             tell(&mut bridge, 0, notice.again(), moment);
             tell(&mut bridge, 1, notice.again(), moment);
             let ends = bridge.close(rt);
-            lanes_saw_what_they_know::<N, P>();
-            the_running_headline::<N, P>();
-            if none_knew_more::<N, P>(&ends, &notice) {
+            lanes_saw_what_they_know::<N, P, S>();
+            the_running_headline::<N, P, S>();
+            if none_knew_more::<N, P, S>(&ends, &notice) {
                 Some(ends)
             } else {
                 None
@@ -62,8 +61,8 @@ pub fn call_and_close<'a, H: Hall, N: PublisherName, P: Pace, R: Threads + Wait>
 }
 
 /// Gives a lane a tick with the notice, if its ring has a place.
-fn tell<N: PublisherName, P: Pace>(
-    bridge: &mut Bridge<N, P>,
+fn tell<N: PublisherName, P: Pace, S: Sink>(
+    bridge: &mut Bridge<N, P, S>,
     lane: u32,
     notice: Notice,
     moment: u64,

@@ -6,7 +6,7 @@ pub knew_no_more-requires : goal.knew_no_more-requires
 knew_no_more-requires g c =
     let ends = c.args.ends.now.items in
     let few : c.loop-at.at < length ends = search rules in
-    record { publisher = its_publisher g.P.Pace.answers c.args.last.now.publisher ends c.requires.ended c.loop-at.at c.index.result.now few c.index.ensures }
+    record { publisher = its_publisher g.P.Pace.answers g.S.Sink.taken c.args.last.now.publisher ends c.requires.ended c.loop-at.at c.index.result.now few c.index.ensures }
 
 pub loop-at-preserved : goal.loop-at-preserved
 loop-at-preserved g c =

@@ -1,18 +1,12 @@
-use Rattle.std.proofs.Common.{◌≡◌, ◌∙◌, List, Some, length, map, option_map, slice_get, ap, sym, subst}
-use Rattle.std.proofs.lemmas.Option.{slice_get-map}
-use Rattle.rtrb.specs.Ring.{sent}
+use Rattle.std.proofs.Common.{◌≡◌, length, sym, subst}
 use Rattle.desk_edit.specs.Calls.{no_calls}
 use Rattle.desk_calls.specs.Accepted.{AreAccepted}
-use Rattle.bridge_core.specs.Sent.{Sent, sent_of}
 use Rattle.bridge_core.specs.Steps.{sends}
 use Rattle.bridge_core.specs.Events.{steps_of, calls_among}
 use Rattle.operator_desk.specs.LegalLogs.{calls_of}
-use Rattle.media_workers.specs.Bridges.{EndOf}
 use Rattle.lane_laws.specs.Shares.{of_lane}
 use Rattle.lane_laws.specs.NamedVersions.{AreGiven}
-use Rattle.lane_laws.specs.OneList.{sent_by}
 use Rattle.lane_laws.specs.Learnt.{handled, merged}
-use Rattle.lane_laws.proofs.Beginnings.{end_of, first_given}
 use Rattle.lane_laws.proofs.UndoneCalls.{desk_back}
 use Rattle.lane_laws.proofs.running.the_running_headline.Goals as goal
 
@@ -25,7 +19,7 @@ returns-clause-lanes g c start log ports ends h few many ssrc some others =
 
 pub returns-clause-holds : goal.returns-clause-holds
 returns-clause-holds g c start log ports ends h =
-    let calls = c.calls_keep_their_order.ensures (calls_of log) (handled g.P.Pace.answers ports ends h.ended) in
+    let calls = c.calls_keep_their_order.ensures (calls_of log) (handled g.P.Pace.answers g.S.Sink.taken ports ends h.ended) in
     record {
       calls_are = calls;
       shares = c.lanes_send_their_shares.ensures start log ports ends h;
@@ -34,18 +28,10 @@ returns-clause-holds g c start log ports ends h =
 
 pub returns-clause-sent : goal.returns-clause-sent
 returns-clause-sent g c start log ports ends h lane own at =
-    let calls = c.calls_keep_their_order.ensures (calls_of log) (handled g.P.Pace.answers ports ends h.ended) in
+    let calls = c.calls_keep_their_order.ensures (calls_of log) (handled g.P.Pace.answers g.S.Sink.taken ports ends h.ended) in
     let steps = steps_of (no_calls start) (merged h) in
     let mine = of_lane lane steps (sends (h.new).0 (length ports) start steps) in
     let share : own ≡ mine = c.lanes_send_their_shares.ensures start log ports ends h lane own at in
     let given : AreGiven start (calls_among (merged h)) mine =
     c.packets_go_by_their_versions.ensures (h.new).0 (length ports) lane start (merged h) h.first (subst (AreAccepted (no_calls start)) (sym calls) h.legal) in
     subst (AreGiven start (calls_of log)) (sym share) (subst (λ cs. AreGiven start cs mine) calls given)
-
-pub returns-clause-popped : goal.returns-clause-popped
-returns-clause-popped g c start log ports ends h lane port at =
-    let here = end_of h.lists g.P.Pace.answers ports ends h.ended lane port h.seen at in
-    let own : EndOf g.row.N.Denot → List Sent = λ end. map sent_of (sent end.sink) in
-    let there : slice_get (sent_by ends) lane ≡ Some (own here.0) = slice_get-map own ends lane ∙ ap (option_map own) here.1 in
-    let all = returns-clause-sent g c start log ports ends h lane (own here.0) there in
-    first_given start (calls_of log) sent_of port.popped (sent here.0.sink) here.2.given all
