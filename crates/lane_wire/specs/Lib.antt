@@ -1,0 +1,4 @@
+pub mod Tries
+pub mod Logs
+pub mod Counted
+pub mod Sendings

@@ -1,0 +1,35 @@
+//! A lane's sink that sends over a wire, and waits where the wire isn't ready.
+//!
+//! Begin with [`WireSink::new`], of a [`LaneWire`] such as a socket, and hand it to `Bridge::start` of media_workers.
+//! When the lane has ended, [`WireSink::into_sent`] tells what it took and how much of that was sent. Meanwhile
+//! [`SharedCounts::read`] tells the latter.
+//!
+//! Contracts see a sink as the list of what it took, and a wire as the list of what was done on it: each try to send a
+//! datagram, with its answer, and each pause. Of a socket both lists exist in proofs alone: [`Taken`] and [`WireLog`]
+//! keep them without memory.
+//!
+//! ```rust
+//! // wire: a `LaneWire`; egress: what a lane sends
+//! let counts = Arc::new(alloc, SharedCounts::new())?;
+//! let mut sink = WireSink::new(wire, Arc::try_clone(&counts)?);
+//! sink.put(&rt, egress);
+//! let packets = counts.read().packets; // 1, if the datagram was sent
+//! let sent = sink.into_sent();
+//! ```
+#![tactic(auto)]
+
+mod counts;
+mod fault;
+mod sending;
+mod shared_counts;
+mod taken;
+mod wire_log;
+mod wire_sink;
+
+pub use self::counts::SendCounts;
+pub use self::fault::SendFault;
+pub use self::sending::LaneWire;
+pub use self::shared_counts::SharedCounts;
+pub use self::taken::Taken;
+pub use self::wire_log::WireLog;
+pub use self::wire_sink::{LaneSent, WireSink};

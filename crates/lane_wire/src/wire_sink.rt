@@ -1,0 +1,126 @@
+//! A sink that sends over a wire.
+
+ghost use Rattle.std.specs.Prelude.{◌≡◌, ◌∷◌, ◌++◌, [], length, map, false};
+ghost use Rattle.std.specs.declared.alloc.Global.{Global as Heap};
+ghost use Rattle.rtrb.specs.declared.consumer.Consumer.{Consumer};
+ghost use Rattle.rtrb.specs.declared.AnyItems.{AnyItems};
+ghost use Rattle.bridge_core.specs.declared.egress.Egress.{Egress as AnEgress};
+ghost use Rattle.udp_front.specs.Attempts.{datagrams_of};
+ghost use Rattle.lane_wire.specs.Logs.{taken_list};
+ghost use Rattle.lane_wire.specs.Counted.{no_counts};
+ghost use Rattle.lane_wire.specs.Sendings.{octets_together, so_far, WereSent};
+
+use crate::counts::SendCounts;
+use crate::sending::{LaneWire, Trial, is_unready, patience, send_patiently};
+use crate::shared_counts::SharedCounts;
+use crate::taken::Taken;
+use bridge_core::Egress;
+use media_workers::Sink;
+use std::alloc::Global;
+use std::sync::{Arc, Wait};
+
+/// What a sink took, and how much of that was sent.
+#[derive(Drop)]
+pub struct LaneSent {
+    /// What it took, in proofs alone.
+    pub taken: Taken,
+    /// How many datagrams of that were sent, and how many were not.
+    pub counts: SendCounts,
+}
+
+/// A sink that sends each datagram, in the order in which they are put. Notes are dropped.
+///
+/// Where the wire isn't ready, it makes a pause and tries the same datagram again, for 20 ms at most. A datagram that
+/// is given up, or fails otherwise, is counted by its cause, and the next one is sent. After one that was given up it
+/// makes no pauses until the wire is ready again, so that a lane isn't held up by a wire that never is.
+#[derive(Drop)]
+pub struct WireSink<W: LaneWire + Drop> {
+    /// Where it sends.
+    pub wire: W,
+    /// What it took, and how much of that was sent.
+    pub sent: LaneSent,
+    /// Whether the last datagram was given up since the wire wasn't ready.
+    pub is_stuck: bool,
+    /// Where others read the counts.
+    shown: Arc<SharedCounts, Global>,
+}
+
+/// How many octets the datagram of an egress has; a note has none.
+fn octets_in(egress: &Egress) -> u64
+    ensures { result ≡ octets_together (datagrams_of egress.now) }
+{
+    match egress {
+        Egress::Media { bytes, .. } => {
+            let (first, rest) = bytes.parts();
+            first.len() as u64 + rest.len() as u64
+        }
+        Egress::Control { bytes, .. } => bytes.len() as u64,
+        Egress::Note { .. } => 0,
+    }
+}
+
+impl<W: LaneWire + Drop> WireSink<W> {
+    /// A sink that took nothing. It shows its counts.
+    pub fn new(wire: W, shown: Arc<SharedCounts, Global>) -> Self
+        ensures wire { result.wire ≡ wire }
+        ensures taken { taken_list result.sent.taken ≡ [] }
+        ensures counts { result.sent.counts ≡ no_counts }
+        ensures ready { result.is_stuck ≡ false }
+    {
+        Self {
+            wire,
+            is_stuck: false,
+            sent: LaneSent {
+                taken: Taken::new(),
+                counts: SendCounts::new(),
+            },
+            shown,
+        }
+    }
+
+    /// What it took, and how much of that was sent.
+    pub fn into_sent(self) -> LaneSent
+        ensures { result ≡ self.sent }
+    {
+        self.sent
+    }
+
+    /// Sends the datagram of an egress that is no note, and counts what came of it.
+    fn send<R: Wait>(&mut self, rt: &R, egress: &Egress)
+        requires { length (datagrams_of egress.now) ≡ 1 }
+        ensures sent { WereSent (datagrams_of egress.now)
+            (so_far (W.steps self.old.wire) self.old.sent.counts self.old.is_stuck)
+            (so_far (W.steps self.new.wire) self.new.sent.counts self.new.is_stuck) }
+        ensures taken { self.new.sent.taken ≡ self.old.sent.taken }
+    {
+        let most = patience(self.is_stuck);
+        let Trial { pauses, answer } = send_patiently(rt, &mut self.wire, egress, most);
+        self.is_stuck = is_unready(answer);
+        let counts = &mut self.sent.counts;
+        counts.count_pauses(pauses);
+        counts.count_answer(octets_in(egress), answer);
+        self.shown
+            .show(&self.sent.counts, pauses > 0 || answer.is_err());
+    }
+}
+
+impl<W: LaneWire + Drop> Sink for WireSink<W> {
+    ghost taken = { λ s. taken_list s.sent.taken };
+
+    ghost feeds = { λ s c. ⊥ };
+
+    #[tactic(auto, using(crate::proofs::SentLemmas::sent_none))]
+    fn put<R: Wait>(&mut self, rt: &R, egress: Egress)
+        ensures taken { taken_list self.new.sent.taken ≡ taken_list self.old.sent.taken ++ egress ∷ [] }
+        ensures feeds { (c : Consumer (AnEgress Heap) Heap AnyItems) → ⊥ → ⊥ }
+        ensures sent { WereSent (datagrams_of egress)
+            (so_far (W.steps self.old.wire) self.old.sent.counts self.old.is_stuck)
+            (so_far (W.steps self.new.wire) self.new.sent.counts self.new.is_stuck) }
+    {
+        match &egress {
+            Egress::Media { .. } | Egress::Control { .. } => self.send(rt, &egress),
+            Egress::Note { .. } => {}
+        }
+        self.sent.taken.note(&egress);
+    }
+}
