@@ -28,12 +28,12 @@ on_err (Ok a) k = tt {0}
 on_err (Err b) k = k
 
 -- what was done for a front is done for one with the same accounts, the same lanes and the same name
-pub handled_at : {P : Type 0} (arrival : Arrival) (ingested : Ingested) (mid old new : FrontOf P) (before after : Option (List Attempt))
+pub handled_at : {P S : Type 0} (arrival : Arrival) (ingested : Ingested) (mid old new : FrontOf P S) (before after : Option (List Attempt))
     → mid.guard ≡ old.guard → mid.feed ≡ old.feed → mid.intake.asker ≡ old.intake.asker
     → HasHandled arrival ingested mid new before after → HasHandled arrival ingested old new before after
-handled_at {P} arrival ingested mid old new before after guard feed asker h = record {
+handled_at {P} {S} arrival ingested mid old new before after guard feed asker h = record {
   up = subst (λ (a : List Account). WereTried (paid_of ingested.up (once_earned arrival ingested a)) before after) guard h.up;
-  items = subst (λ (f : List (FedLane P)). AllAreGiven (granted_of (pli_octets old.intake.asker) arrival.moment ingested.items (once_paid arrival ingested old.guard)) f new.feed) feed
+  items = subst (λ (f : List (FedLane P S)). AllAreGiven (granted_of (pli_octets old.intake.asker) arrival.moment ingested.items (once_paid arrival ingested old.guard)) f new.feed) feed
       (subst (λ (a : List Account). AllAreGiven (granted_of (pli_octets old.intake.asker) arrival.moment ingested.items (once_paid arrival ingested a)) mid.feed new.feed) guard
       (subst (λ (who : Asker). AllAreGiven (granted_of (pli_octets who) arrival.moment ingested.items (once_paid arrival ingested mid.guard)) mid.feed new.feed) asker h.items));
   guard = h.guard
@@ -47,7 +47,7 @@ origins_by_rows desk =
     sym (read_of_part source_in (video_origin desk) (filter (is_of kinds.Source) desk.others)) ∙ ap (filter_map (video_origin desk)) (source_rows desk)
 
 -- one row more, of rows that hold it
-pub waits_more : {P : Type 0} (desk : Desk) (now : ℕ) (f : Row → Option Origin) (rows : List Row) (i : ℕ) (d : Row) (a b c : FrontOf P) (wa wb wc : Option (List Attempt))
+pub waits_more : {P S : Type 0} (desk : Desk) (now : ℕ) (f : Row → Option Origin) (rows : List Row) (i : ℕ) (d : Row) (a b c : FrontOf P S) (wa wb wc : Option (List Attempt))
     → i < length rows → HaveWaited desk now (filter_map f (take i rows)) a b wa wb → HaveWaited desk now (option_to_list (f (get_or rows i d))) b c wb wc
     → HaveWaited desk now (filter_map f (take (i + 1) rows)) a c wa wc
 waits_more desk now f rows i d a b c wa wb wc low far one =
@@ -55,7 +55,7 @@ waits_more desk now f rows i d a b c wa wb wc low far one =
     (folds_both (HasWaitedOnce desk now) (a, wa) (filter_map f (take i rows)) (b, wb) (option_to_list (f (get_or rows i d))) (c, wc) far one)
 
 -- a row at which memory ran out
-pub waits_in_part : {P : Type 0} (desk : Desk) (now : ℕ) (f : Row → Option Origin) (rows : List Row) (i : ℕ) (d : Row) (a b c : FrontOf P) (wa wb wc : Option (List Attempt))
+pub waits_in_part : {P S : Type 0} (desk : Desk) (now : ℕ) (f : Row → Option Origin) (rows : List Row) (i : ℕ) (d : Row) (a b c : FrontOf P S) (wa wb wc : Option (List Attempt))
     → i < length rows → HaveWaited desk now (filter_map f (take i rows)) a b wa wb → HaveWaitedInPart desk now (option_to_list (f (get_or rows i d))) b c wb wc
     → HaveWaitedInPart desk now (filter_map f rows) a c wa wc
 waits_in_part desk now f rows i d a b c wa wb wc low far part =

@@ -18,7 +18,7 @@ request_for who o = record { outcome = Unknown; up = picture_request who o ∷ [
 
 -- The source of this origin was asked for a picture, or the request was not sent since its address had too little credit.
 -- It is handled as an arrival of no octets that is no member's: it earns nothing, and costs its octets where it is sent.
-pub record HasAsked {P : Type 0} (o : Origin) (sent : Bool) (old new : FrontOf P)
+pub record HasAsked {P S : Type 0} (o : Origin) (sent : Bool) (old new : FrontOf P S)
     (before after : Option (List Attempt)) : Type 0 where
   pub handled : (desk : Desk) (moment : ℕ)
       → HasHandled (silence desk o.address moment) (request_for old.intake.asker o) old new before after

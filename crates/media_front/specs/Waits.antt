@@ -22,7 +22,7 @@ silence desk from moment = record { desk = desk; from = from; moment = moment; o
 
 -- The intake had a wait of the source of this origin. It is handled as an arrival of no octets that is no member's: it
 -- earns nothing, and what is sent costs its octets.
-pub record HasWaited {P : Type 0} (desk : Desk) (o : Origin) (moment : ℕ) (old new : FrontOf P)
+pub record HasWaited {P S : Type 0} (desk : Desk) (o : Origin) (moment : ℕ) (old new : FrontOf P S)
     (before after : Option (List Attempt)) : Type 0 where
   pub ingested : Ingested
   pub became : ingested.outcome ≡ Unknown
@@ -44,31 +44,31 @@ abbrev pub video_origins : Desk → List Origin
 video_origins desk = filter_map (video_origin desk) (sources_of desk)
 
 -- a front, and what was tried on its wire
-abbrev pub OnWire : Type 0 → Type 0
-OnWire P = FrontOf P × Option (List Attempt)
+abbrev pub OnWire : (P S : Type 0) → Type 0
+OnWire P S = FrontOf P S × Option (List Attempt)
 
 -- The source of this origin has waited once, at this moment. Nothing else happened.
-pub record HasWaitedOnce {P : Type 0} (desk : Desk) (moment : ℕ) (old : OnWire P) (o : Origin) (new : OnWire P)
+pub record HasWaitedOnce {P S : Type 0} (desk : Desk) (moment : ℕ) (old : OnWire P S) (o : Origin) (new : OnWire P S)
     : Type 0 where
   pub waited : HasWaited desk o moment old.0 new.0 old.1 new.1
   pub same : new.0 ≡ record old.0 { intake = new.0.intake; feed = new.0.feed; guard = new.0.guard }
   pub asker : new.0.intake.asker ≡ old.0.intake.asker
 
 -- The sources of these origins have waited, each once and in this order, at this moment.
-abbrev pub HaveWaited : {P : Type 0} → Desk → (moment : ℕ) → List Origin → (old new : FrontOf P)
+abbrev pub HaveWaited : {P S : Type 0} → Desk → (moment : ℕ) → List Origin → (old new : FrontOf P S)
     → (before after : Option (List Attempt)) → Type 0
 HaveWaited desk moment origins old new before after =
     FoldsTo (HasWaitedOnce desk moment) (old, before) origins (new, after)
 
 -- Of these origins the first sources have waited. For the next one nothing was sent or given, though its wait may have
 -- come to the intake.
-pub record HaveWaitedInPart {P : Type 0} (desk : Desk) (moment : ℕ) (origins : List Origin) (old new : FrontOf P)
+pub record HaveWaitedInPart {P S : Type 0} (desk : Desk) (moment : ℕ) (origins : List Origin) (old new : FrontOf P S)
     (before after : Option (List Attempt)) : Type 0 where
   pub first : List Origin
   pub next : Origin
   pub rest : List Origin
   pub order : origins ≡ first ++ next ∷ rest
-  pub behind : FrontOf P
+  pub behind : FrontOf P S
   pub waited : HaveWaited desk moment first old behind before after
   pub unfed : new ≡ record behind { intake = new.intake }
   pub intake : MayHaveWaited desk next moment behind.intake new.intake

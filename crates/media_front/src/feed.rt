@@ -7,10 +7,8 @@ ghost use Rattle.media_workers.specs.Bridges.{AllEnded};
 ghost use Rattle.media_front.specs.FedLanes.{FedLane, ports_in, owing_notice, rung};
 
 use crate::tally::{Tally, owe_all, ring_all};
-use bridge_core::Egress;
 use lane_bell::Bell;
-use media_workers::{Bridge, LaneEnd, Pace, PublisherName};
-use rtrb::Producer;
+use media_workers::{Bridge, LaneEnd, Pace, PublisherName, Sink};
 use std::alloc::Global;
 use std::marker::Model;
 use std::sync::{Arc, Wait};
@@ -21,21 +19,21 @@ use versions::Notice;
 /// for it. It is not `Drop`: end it by [`LaneFeed::close`].
 ///
 /// Contracts see it as its lanes.
-pub struct LaneFeed<N: PublisherName, P: Pace> {
-    pub(crate) bridge: Bridge<N, P>,
+pub struct LaneFeed<N: PublisherName, P: Pace, S: Sink> {
+    pub(crate) bridge: Bridge<N, P, S>,
     /// One for each lane.
     pub(crate) tallies: Vec<Tally>,
     /// One for each lane.
     pub(crate) bells: Vec<Arc<Bell, Global>>,
 }
 
-impl<N: PublisherName, P: Pace> Model for LaneFeed<N, P> {
+impl<N: PublisherName, P: Pace, S: Sink> Model for LaneFeed<N, P, S> {
     ghost use Rattle.std.specs.Prelude.{◌≡◌, ◌<◌, ◌≤◌, List, length, vec_len};
     ghost use Rattle.bridge_core.specs.Calls.{most_lanes};
     ghost use Rattle.media_front.specs.FedLanes.{FedLane};
     ghost use Rattle.media_front.specs.inner.Tallies.{lanes_by, AreOf};
 
-    ghost Value = { List (FedLane P) };
+    ghost Value = { List (FedLane P S) };
 
     ghost view = { λ f. lanes_by f.bridge f.tallies.items };
 
@@ -43,7 +41,7 @@ impl<N: PublisherName, P: Pace> Model for LaneFeed<N, P> {
         × (length f.bridge ≤ most_lanes) × AreOf N.publisher f.tallies.items };
 }
 
-impl<N: PublisherName, P: Pace> LaneFeed<N, P> {
+impl<N: PublisherName, P: Pace, S: Sink> LaneFeed<N, P, S> {
     /// How many lanes there are.
     pub fn count(&self) -> u32
         ensures count { result ≡ length self.now }
@@ -55,7 +53,7 @@ impl<N: PublisherName, P: Pace> LaneFeed<N, P> {
     /// How many parcels were dropped for a lane, since its ring had too few free places for them.
     pub fn dropped(&self, lane: u32) -> u64
         requires lane { lane < length self.now }
-        ensures { (x : FedLane _) → slice_get self.now lane ≡ Some x → result ≡ x.dropped }
+        ensures { (x : FedLane _ _) → slice_get self.now lane ≡ Some x → result ≡ x.dropped }
     {
         self.tallies[lane as usize].dropped
     }
@@ -68,7 +66,8 @@ impl<N: PublisherName, P: Pace> LaneFeed<N, P> {
         owe_all(&mut self.tallies, &notice);
     }
 
-    /// Rings the bell of each lane that accepted parcels since the last call. No contract speaks of bells.
+    /// Rings the bell of each lane that accepted something other than sound since it was rung, or 256 parcels: for all
+    /// that it accepted. So sound alone waits for the next tick.
     pub fn ring<R: Wait>(&mut self, rt: &R)
         ensures { self.new ≡ map rung self.old }
     {
@@ -76,8 +75,8 @@ impl<N: PublisherName, P: Pace> LaneFeed<N, P> {
     }
 
     /// Opens each bell, gives each lane its `End`, and waits for the lanes' threads.
-    pub fn close<R: Threads + Wait>(self, rt: &R) -> Vec<LaneEnd<N, Producer<Egress>>>
-        ensures ended { AllEnded P.answers (ports_in self) result.items }
+    pub fn close<R: Threads + Wait>(self, rt: &R) -> Vec<LaneEnd<N, S>>
+        ensures ended { AllEnded P.answers S.taken (ports_in self) result.items }
     {
         let LaneFeed {
             bridge,

@@ -1,38 +1,34 @@
 //! The front of a bridge whose lanes run on threads.
 
-ghost use Rattle.std.specs.Prelude.{◌≡◌, ◌<◌, ◌≤◌, ℕ, true, false, List, length, map, Some, OnErr, IfOk, slice_get};
+ghost use Rattle.std.specs.Prelude.{◌≡◌, ◌↔◌, ◌<◌, ◌≤◌, true, length, map, Some, OnErr, IfOk, slice_get};
 ghost use Rattle.std.specs.Bool.{MatchBool};
-ghost use Rattle.std.specs.List.{flat_map};
-ghost use Rattle.std.specs.declared.alloc.Global.{Global as Heap};
 ghost use Rattle.media_items.specs.Inputs.{Input};
 ghost use Rattle.bridge_core.specs.Calls.{most_lanes};
-ghost use Rattle.bridge_core.specs.declared.egress.Egress.{Egress as AnEgress};
 ghost use Rattle.media_workers.specs.Bridges.{AllEnded};
-ghost use Rattle.udp_front.specs.Attempts.{datagrams_of};
-ghost use Rattle.udp_front.specs.Pacing.{most_ticks, is_behind, report_due, after_report};
+ghost use Rattle.udp_front.specs.Pacing.{tick_gap, most_ticks, is_behind, report_due, after_report};
 ghost use Rattle.udp_front.specs.declared.ending.FrontFault.TheVariants.{OutOfMemory as MemoryFault};
 ghost use Rattle.media_front.specs.FedLanes.{FedLane, ports_in, owing_notice, rung, AreGiven, AllAreGiven};
-ghost use Rattle.media_front.specs.FedLanes.{ArePopped};
-ghost use Rattle.media_front.specs.FedLanes.{most_egresses};
 ghost use Rattle.media_front.specs.Prices.{pli_octets};
 ghost use Rattle.media_front.specs.Tries.{WereTried};
-ghost use Rattle.media_front.specs.Fronts.{HasTaken, MayHaveTaken, HasReported, ticks_due, after_ticks};
+ghost use Rattle.media_front.specs.Fronts.{HasTaken, MayHaveTaken, HasReported, ticks_due, after_ticks, until_tick};
 
 use crate::beat::Beat;
 use crate::feed::LaneFeed;
 use crate::trying::try_all;
-use bridge_core::{Egress, Intake, Outcome};
+use bridge_core::{Intake, Outcome};
 use desk_rows::Rows;
 use flood_guard::FloodGuard;
-use media_workers::{LaneEnd, Pace, PublisherName};
+use media_workers::{LaneEnd, Pace, PublisherName, Sink};
 use rtp_codec::Address;
-use rtrb::Producer;
 use std::alloc::Global;
 use std::marker::Model;
 use std::sync::Wait;
 use std::thread::Threads;
 use udp_front::{FrontFault, ReportTimer, Ticks, Wire};
 use versions::Notice;
+
+/// How many nanoseconds lie between two ticks.
+const TICK_GAP: u64 = 20_000_000;
 
 /// The most ticks that are made up for.
 const MOST_TICKS: u32 = 50;
@@ -41,9 +37,9 @@ const MOST_TICKS: u32 = 50;
 /// reports are due. It is not `Drop`: end it by [`MediaFront::close`].
 ///
 /// Contracts see these five. Moments are nanoseconds since 1970.
-pub struct MediaFront<N: PublisherName, P: Pace> {
+pub struct MediaFront<N: PublisherName, P: Pace, S: Sink> {
     pub(crate) intake: Intake,
-    pub(crate) feed: LaneFeed<N, P>,
+    pub(crate) feed: LaneFeed<N, P, S>,
     pub(crate) guard: FloodGuard,
     /// How many octets a PLI costs the address that it comes from.
     pub(crate) pli_cost: u64,
@@ -51,12 +47,12 @@ pub struct MediaFront<N: PublisherName, P: Pace> {
     reports: ReportTimer,
 }
 
-impl<N: PublisherName, P: Pace> Model for MediaFront<N, P> {
+impl<N: PublisherName, P: Pace, S: Sink> Model for MediaFront<N, P, S> {
     ghost use Rattle.std.specs.Prelude.{◌≡◌};
     ghost use Rattle.media_front.specs.Prices.{pli_octets};
     ghost use Rattle.media_front.specs.Fronts.{FrontOf};
 
-    ghost Value = { FrontOf P };
+    ghost Value = { FrontOf P S };
 
     ghost view = { λ f. record {
       intake = f.intake;
@@ -69,12 +65,12 @@ impl<N: PublisherName, P: Pace> Model for MediaFront<N, P> {
     ghost invariant = { λ f. f.pli_cost ≡ pli_octets f.intake.asker };
 }
 
-impl<N: PublisherName, P: Pace> MediaFront<N, P> {
+impl<N: PublisherName, P: Pace, S: Sink> MediaFront<N, P, S> {
     /// A front whose ticks are counted from the start of these reports. `pli_cost` is how many octets pass a PLI on, as
     /// [`pli_octets`](crate::pli_octets) counts them.
     pub fn new(
         intake: Intake,
-        feed: LaneFeed<N, P>,
+        feed: LaneFeed<N, P, S>,
         guard: FloodGuard,
         pli_cost: u64,
         reports: ReportTimer,
@@ -161,6 +157,18 @@ impl<N: PublisherName, P: Pace> MediaFront<N, P> {
         is_due
     }
 
+    /// How many nanoseconds pass until the next tick is due, at most 20 ms: 0 if one is due now.
+    pub fn until_tick(&self, now: u64) -> u64
+        ensures until { result ≡ until_tick self.now.ticks now }
+        ensures due { result ≡ 0 ↔ is_behind self.now.ticks now ≡ true }
+        ensures few { result ≤ tick_gap }
+    {
+        if self.ticks.is_due(now) {
+            return 0;
+        }
+        TICK_GAP - now.saturating_sub(self.ticks.start) % TICK_GAP
+    }
+
     /// Gives every lane the ticks that are due, at most `most` of them.
     fn tick_most(&mut self, most: u32, now: u64)
         ensures given { AllAreGiven (map Input.tick (ticks_due most self.old.ticks now)) self.old.feed self.new.feed }
@@ -217,22 +225,12 @@ impl<N: PublisherName, P: Pace> MediaFront<N, P> {
         self.feed.give_beat(Beat::Renew);
     }
 
-    /// Rings the bell of each lane that accepted parcels since the last call. No contract speaks of bells.
+    /// Rings the bell of each lane that accepted something other than sound since it was rung, or 256 parcels: for all
+    /// that it accepted. So sound alone waits for the next tick.
     pub fn ring<R: Wait>(&mut self, rt: &R)
         ensures { self.new ≡ record self.old { feed = map rung self.old.feed } }
     {
         self.feed.ring(rt);
-    }
-
-    /// Sends what the lanes gave, 4,096 egresses at most, as [`LaneFeed::send`] does. Returns how many it popped.
-    pub fn send<W: Wire>(&mut self, wire: &mut W) -> u32
-        ensures sent { (popped : List (ℕ × AnEgress Heap)) × (length popped ≡ result)
-            × ArePopped popped self.old.feed self.new.feed
-            × WereTried (flat_map datagrams_of (map (λ e. e.1) popped)) (W.attempts wire.old) (W.attempts wire.new) }
-        ensures few { result ≤ most_egresses }
-        ensures same { self.new ≡ record self.old { feed = self.new.feed } }
-    {
-        self.feed.send(wire)
     }
 
     /// Whether any lane has ended. No contract speaks of the answer for lanes on threads.
@@ -251,14 +249,14 @@ impl<N: PublisherName, P: Pace> MediaFront<N, P> {
     /// How many parcels were dropped for a lane, since its ring had too few free places for them.
     pub fn dropped(&self, lane: u32) -> u64
         requires lane { lane < length self.now.feed }
-        ensures { (x : FedLane _) → slice_get self.now.feed lane ≡ Some x → result ≡ x.dropped }
+        ensures { (x : FedLane _ _) → slice_get self.now.feed lane ≡ Some x → result ≡ x.dropped }
     {
         self.feed.dropped(lane)
     }
 
     /// Opens each bell, gives each lane its `End`, and waits for the lanes' threads.
-    pub fn close<R: Threads + Wait>(self, rt: &R) -> Vec<LaneEnd<N, Producer<Egress>>>
-        ensures ended { AllEnded P.answers (ports_in self.feed) result.items }
+    pub fn close<R: Threads + Wait>(self, rt: &R) -> Vec<LaneEnd<N, S>>
+        ensures ended { AllEnded P.answers S.taken (ports_in self.feed) result.items }
     {
         let MediaFront {
             intake: _,

@@ -14,8 +14,9 @@ ghost use Rattle.media_front.specs.inner.Copies.{AreCopies};
 use crate::beat::Beat;
 use crate::feed::LaneFeed;
 use crate::offering::offer_item;
+use crate::pressing::is_pressing;
 use bridge_core::Item;
-use media_workers::{Pace, PublisherName};
+use media_workers::{Pace, PublisherName, Sink};
 use std::alloc::{AllocError, Global};
 
 /// `count` copies of an item.
@@ -45,18 +46,19 @@ pub(crate) fn copies_of_all(
     Ok(all)
 }
 
-impl<N: PublisherName, P: Pace> LaneFeed<N, P> {
+impl<N: PublisherName, P: Pace, S: Sink> LaneFeed<N, P, S> {
     /// Gives a lane an item, in a parcel with the notice that it is owed. A parcel that the lane hands back is dropped
     /// and counted.
     fn give_one(&mut self, lane: usize, item: Item)
         requires lane { lane < length self.old }
         requires sized { is_sized (input_of item) ≡ true }
-        ensures { (x : FedLane P) → slice_get self.old lane ≡ Some x →
-            (y : FedLane P) × IsFed (input_of item) x y × (self.new ≡ slice_set self.old lane y) }
+        ensures { (x : FedLane P S) → slice_get self.old lane ≡ Some x →
+            (y : FedLane P S) × IsFed (input_of item) x y × (self.new ≡ slice_set self.old lane y) }
     {
         let notice = self.tallies[lane].notice();
+        let presses = is_pressing(&item);
         let accepted = offer_item(&mut self.bridge, lane as u32, item, notice).is_ok();
-        self.tallies[lane].count(accepted);
+        self.tallies[lane].count(accepted, presses);
     }
 
     /// Gives every lane one of these copies of an item.

@@ -10,12 +10,12 @@ use crate::giving::copies_of_all;
 use crate::paying::{credit, try_paid};
 use crate::planning::{Plan, Received, plan_for, settle};
 use bridge_core::Ingest;
-use media_workers::{Pace, PublisherName};
+use media_workers::{Pace, PublisherName, Sink};
 use rtp_codec::Address;
 use std::alloc::{AllocError, Global};
 use udp_front::Wire;
 
-impl<N: PublisherName, P: Pace> MediaFront<N, P> {
+impl<N: PublisherName, P: Pace, S: Sink> MediaFront<N, P, S> {
     /// Does what the intake answered to these octets, which came from an address at a moment: earns their credit, tries
     /// to send what is paid for, and gives every lane what is granted of the items.
     ///

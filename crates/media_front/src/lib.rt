@@ -1,21 +1,23 @@
-//! The front of a bridge whose lanes run on threads: it turns datagrams and moments into items, gives each lane a copy
-//! of every item, and sends what the lanes give back.
+//! The front of a bridge whose lanes run on threads: it turns datagrams and moments into items, and gives each lane a
+//! copy of every item. The lanes send by sinks of their own.
 //!
 //! Begin with [`LaneFeed::start`], which starts a lane for each reader of the published desk, and with
 //! [`MediaFront::new`]. In each round, [`MediaFront::tell`] takes the latest notice, [`MediaFront::datagram`] a
-//! datagram, [`MediaFront::tick`] and [`MediaFront::report`] the moment. Then [`MediaFront::ring`] wakes the lanes, and
-//! [`MediaFront::send`] sends what they gave. The crate has no socket and no clock.
+//! datagram, [`MediaFront::tick`] and [`MediaFront::report`] the moment. Then [`MediaFront::ring`] wakes the lanes for
+//! what presses. [`MediaFront::until_tick`] says how long the next round may wait. The crate has no socket and no
+//! clock.
 //!
 //! Contracts see a feed as its lanes: for each one its port of `media_workers`, the notice that it is owed, how many
-//! parcels it accepted since its bell was rung, and how many were dropped. They don't say when a parcel is dropped:
+//! parcels it accepted since its bell was rung, whether one presses, and how many were dropped. They don't say when a
+//! parcel is dropped:
 //! [`places_left`] says how many places of a ring each kind of item leaves free for others.
 //!
 //! ```rust
-//! // readers, notice and rows: of a shared desk of the hall H; waker: a `Rouse`; wire: a `Wire`
+//! // readers, notice and rows: of a shared desk of the hall H; sinks: a `Sink` for each lane; wire: a `Wire`
 //! let intake = Intake::new(alloc, settings.try_clone()?)?;
 //! let guard = FloodGuard::new(alloc)?;
 //! let cost = pli_octets(alloc, &settings)?;
-//! let Ok(feed) = LaneFeed::<PublisherOf<H>, _>::start(rt, alloc, readers, &settings, &waker) else {
+//! let Ok(feed) = LaneFeed::<PublisherOf<H>, _, _>::start(rt, alloc, readers, &settings, sinks) else {
 //!     return println!(rt; "no lanes");
 //! };
 //! let mut media = MediaFront::new(intake, feed, guard, cost, ReportTimer::begin(5_000, start)); // reports every 5 s
@@ -27,7 +29,7 @@
 //! }
 //! let sent = media.ask_picture(alloc, &from, 101, &mut wire)?; // where a slot was given source 101
 //! media.ring(rt);
-//! let popped = media.send(&mut wire);
+//! let longest = media.until_tick(moment); // nanoseconds
 //! let fault = fault_of(&media.close(rt)); // None, unless a lane had a fault
 //! ```
 //!
@@ -50,14 +52,14 @@ mod origins;
 mod paying;
 mod picturing;
 mod planning;
-mod popping;
+mod pressing;
 mod pricing;
 mod starting;
 mod tally;
 mod trying;
 mod waiting;
+mod watching;
 
-pub use self::asking::MOST_EGRESSES;
 pub use self::ends::fault_of;
 pub use self::feed::LaneFeed;
 pub use self::front::MediaFront;

@@ -6,7 +6,7 @@ ghost use Rattle.media_workers.specs.declared.parcel.Parcel.TheVariants.{Work};
 ghost use Rattle.media_front.specs.PlacesLeft.{places_left};
 
 use bridge_core::Item;
-use media_workers::{Bridge, Pace, Parcel, PublisherName};
+use media_workers::{Bridge, Pace, Parcel, PublisherName, Sink};
 use versions::Notice;
 
 /// How many of the 1,024 places of a lane's ring a NACK, a report block or a PLI leaves free.
@@ -45,7 +45,7 @@ pub(crate) trait OfferedLanes {
         ensures { was_offered self.old lane parcel free result self.new };
 }
 
-impl<N: PublisherName, P: Pace> OfferedLanes for Bridge<N, P> {
+impl<N: PublisherName, P: Pace, S: Sink> OfferedLanes for Bridge<N, P, S> {
     ghost use Rattle.std.specs.Prelude.{◌<◌, length};
     ghost use Rattle.media_workers.specs.Parcels.{IsFit};
     ghost use Rattle.media_front.specs.inner.Offers.{IsOffered};

@@ -13,8 +13,8 @@ ghost use Rattle.media_front.specs.inner.Tallies.{fresh_tally};
 use crate::feed::LaneFeed;
 use crate::tally::Tally;
 use bridge_core::{LaneState, Settings};
-use lane_bell::{Bell, Rouse, Rung};
-use media_workers::{Bridge, Lane, PublisherName, StartFault};
+use lane_bell::{Bell, Rung};
+use media_workers::{Bridge, Lane, PublisherName, Sink, StartFault};
 use std::alloc::{AllocError, Global};
 use std::sync::{Arc, Wait};
 use std::thread::Threads;
@@ -50,20 +50,26 @@ fn close_all<R: Wait>(rt: &R, bells: &Vec<Arc<Bell, Global>>) {
     }
 }
 
-/// A pace by each bell.
-fn paces_for<R: Wait + Copy + Drop, F: Rouse + Clone>(
+/// What each lane is started with beside itself: a pace by its bell, and its sink.
+fn outfits_for<R: Wait + Copy + Drop, S: Sink>(
     rt: &R,
     alloc: Global,
     bells: &[Arc<Bell, Global>],
-    front: &F,
-) -> Result<Vec<Rung<R, F>>, AllocError>
-    ensures { IfOk result (λ paces. vec_len paces ≡ length bells.now) }
+    sinks: Vec<S>,
+) -> Result<Vec<(Rung<R, ()>, S)>, AllocError>
+    requires many { length bells.now ≡ vec_len sinks }
+    requires untaken { All (λ (sink : S). S.taken sink ≡ []) sinks.items }
+    ensures len { IfOk result (λ outfits. vec_len outfits ≡ vec_len sinks) }
+    ensures untaken { IfOk result (λ outfits. All (λ x. S.taken x.1 ≡ []) outfits.items) }
 {
-    let mut paces = Vec::with_capacity(alloc, bells.len())?;
-    for bell in bells {
-        paces.push_reserved(Rung::by(*rt, Arc::try_clone(bell)?, front.clone()?));
+    let mut outfits = Vec::with_capacity(alloc, bells.len())?;
+    let mut at = 0;
+    for sink in sinks {
+        let bell = Arc::try_clone(&bells[at])?;
+        outfits.push_reserved((Rung::by(*rt, bell, ()), sink));
+        at += 1;
     }
-    Ok(paces)
+    Ok(outfits)
 }
 
 /// A lane for each reader.
@@ -88,14 +94,14 @@ fn lanes_for(
     Ok(lanes)
 }
 
-impl<N, R, F> LaneFeed<N, Rung<R, F>>
+impl<N, R, S> LaneFeed<N, Rung<R, ()>, S>
 where
     N: PublisherName + Send + Sync + 'static,
     R: Threads + Wait + Copy + Send + Drop + 'static,
-    F: Rouse + Clone + Send + Drop + 'static,
+    S: Sink + Send + Drop + 'static,
 {
-    /// Starts a lane for each of 1 to 16 readers, on a thread of its own. From its first parcel on, a lane sleeps while
-    /// it has none, and rouses `front` before it does. Until then it takes processor time.
+    /// Starts a lane for each of 1 to 16 readers, on a thread of its own, which sends by a sink of its own. From its
+    /// first parcel on, a lane sleeps while it has none. Until then it takes processor time.
     ///
     /// The fault is `Count` if there is no reader. All lanes have been ended and dropped after any fault.
     pub fn start(
@@ -103,11 +109,13 @@ where
         alloc: Global,
         readers: Vec<LaneReader>,
         settings: &Settings,
-        front: &F,
+        sinks: Vec<S>,
     ) -> Result<Self, StartFault>
         requires name { is_name settings.now.cname ≡ true }
         requires publisher { All (λ (reader : ReaderOf). reader.publisher ≡ N.publisher) readers.items }
         requires few { vec_len readers ≤ most_lanes }
+        requires many { vec_len sinks ≡ vec_len readers }
+        requires untaken { All (λ (sink : S). S.taken sink ≡ []) sinks.items }
         ensures new { IfOk result (λ feed. AreNew (lanes_in feed)) }
         ensures readers { IfOk result (λ feed. map (λ (lane : LaneNow). lane.reader) (lanes_in feed) ≡ readers.items) }
         ensures fresh { IfOk result (λ feed. AllByRecursion IsFresh feed) }
@@ -123,13 +131,13 @@ where
         let Ok(bells) = bells_for(alloc, count) else {
             return Err(StartFault::OutOfMemory);
         };
-        let Ok(paces) = paces_for(rt, alloc, &bells, front) else {
+        let Ok(outfits) = outfits_for(rt, alloc, &bells, sinks) else {
             return Err(StartFault::OutOfMemory);
         };
         let Ok(lanes) = lanes_for(alloc, readers, settings) else {
             return Err(StartFault::OutOfMemory);
         };
-        match Bridge::start(rt, alloc, lanes, paces) {
+        match Bridge::start(rt, alloc, lanes, outfits) {
             Ok(bridge) => {
                 close_all(rt, &bells);
                 Ok(LaneFeed {

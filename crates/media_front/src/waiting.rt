@@ -8,12 +8,12 @@ use crate::front::MediaFront;
 use crate::origins::origin_in;
 use bridge_core::{Ingest, Outcome, WaitAnswer};
 use desk_rows::{Kind, Row, Rows};
-use media_workers::{Pace, PublisherName};
+use media_workers::{Pace, PublisherName, Sink};
 use rtp_codec::Address;
 use std::alloc::Global;
 use udp_front::{FrontFault, Wire};
 
-impl<N: PublisherName, P: Pace> MediaFront<N, P> {
+impl<N: PublisherName, P: Pace, S: Sink> MediaFront<N, P, S> {
     /// Tells the intake that time has passed for a video source of a member at an address: call it every 20 ms for each
     /// video source of the desk, or [`MediaFront::wait_all`]. A wait asks for packets that are still missing, and gives
     /// up those that have been missing for long.

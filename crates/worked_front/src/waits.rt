@@ -5,15 +5,15 @@ ghost use Rattle.media_front.specs.Tries.{WereTried};
 
 use desk_rows::Rows;
 use media_front::MediaFront;
-use media_workers::{Pace, PublisherName};
+use media_workers::{Pace, PublisherName, Sink};
 use rtp_codec::Address;
 use std::alloc::Global;
 use udp_front::{FrontFault, Wire};
 
 /// A wait of source 101 at 20 ms earns nothing: where no member's datagram has come, nothing is asked for, whatever is
 /// missing.
-pub fn a_wait_pays_by_what_came<N: PublisherName, P: Pace, W: Wire>(
-    media: &mut MediaFront<N, P>,
+pub fn a_wait_pays_by_what_came<N: PublisherName, P: Pace, S: Sink, W: Wire>(
+    media: &mut MediaFront<N, P, S>,
     alloc: Global,
     rows: &Rows,
     member: &Address,

@@ -4,8 +4,8 @@ use Rattle.media_workers.specs.declared.parcel.Parcel.{Parcel}
 use Rattle.media_workers.specs.Ports.{PortOf, accept}
 
 -- The lane of this number accepted the parcel, or handed it back, and then nothing changed.
-pub record IsOffered {P : Type 0} (old : List (PortOf P)) (lane : ℕ) (parcel : Parcel)
-    (answer : Result (Unit {0}) Parcel) (new : List (PortOf P)) : Type 0 where
-  pub ok : OnOk answer ((port : PortOf P) → slice_get old lane ≡ Some port →
+pub record IsOffered {P S : Type 0} (old : List (PortOf P S)) (lane : ℕ) (parcel : Parcel)
+    (answer : Result (Unit {0}) Parcel) (new : List (PortOf P S)) : Type 0 where
+  pub ok : OnOk answer ((port : PortOf P S) → slice_get old lane ≡ Some port →
       (port.closed ≡ false) × (new ≡ slice_set old lane (accept parcel port)))
   pub err : IfErr answer (λ (back : Parcel). (back ≡ parcel) × (new ≡ old))

@@ -1,8 +1,6 @@
-use Rattle.std.proofs.Common.{◌≡◌, ℕ, List, [], ◌∷◌, refl, ap, sym, subst, ◌∙◌}
+use Rattle.std.proofs.Common.{◌≡◌, ℕ, List, refl, ap, sym, subst, ◌∙◌}
 use Rattle.std.proofs.lemmas.List.{append-nil}
 use Rattle.rtp_codec.specs.declared.address.Address.{Address}
-use Rattle.flood_guard.specs.declared.account.Account.{Account}
-use Rattle.desk_rows.specs.Desk.{Desk}
 use Rattle.intake.specs.Sources.{Origin}
 use Rattle.intake.specs.Ingested.{datagram_of}
 use Rattle.intake.specs.Taking.{picture_request}
@@ -22,10 +20,10 @@ returns-clause-asked g c =
     let before = g.W.Wire.attempts c.args.wire.now in
     let after = g.W.Wire.attempts c.try_one.new.wire in
     let guard = c.try_one.new.guard in
-    let old : FrontOf g.row.P.Denot = record { intake = here.intake; feed = here.feed; guard = here.guard; ticks = here.ticks; reports = here.reports } in
-    let new : FrontOf g.row.P.Denot = record old { guard = guard } in
+    let old : FrontOf g.row.P.Denot g.row.S.Denot = record { intake = here.intake; feed = here.feed; guard = here.guard; ticks = here.ticks; reports = here.reports } in
+    let new : FrontOf g.row.P.Denot g.row.S.Denot = record old { guard = guard } in
     let one : WereTried (paid_one p here.guard) before after = subst (λ (x : Address × List ℕ). WereTried (paid_one x here.guard) before after) is c.try_one.ensures.tried in
-    subst (λ (f : FrontOf g.row.P.Denot). HasAsked o c.try_one.result f new before after) c.self.view_is
+    subst (λ (f : FrontOf g.row.P.Denot g.row.S.Denot). HasAsked o c.try_one.result f new before after) c.self.view_is
     (record {
       handled = λ desk moment. record {
         up = subst (λ (ds : List (Address × List ℕ)). WereTried ds before after) (sym (append-nil (paid_one p here.guard))) one;

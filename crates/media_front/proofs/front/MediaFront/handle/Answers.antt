@@ -31,7 +31,7 @@ returns-clause-handled g c desk =
     let ingest = c.args.ingest in
     let plan = c.in_ok-planned.planned in
     let is = c.in_ok-planned.ensures in
-    let new : FrontOf g.row.P.Denot = record { intake = here.intake; feed = c.hand_out_all.new.self; guard = c.settle.new.guard; ticks = here.ticks; reports = here.reports } in
+    let new : FrontOf g.row.P.Denot g.row.S.Denot = record { intake = here.intake; feed = c.hand_out_all.new.self; guard = c.settle.new.guard; ticks = here.ticks; reports = here.reports } in
     let before = g.W.Wire.attempts c.args.wire.now in
     let after = g.W.Wire.attempts c.try_paid.new.wire in
     let once : List Account = once_earned arrival (ingested_of ingest) here.guard in
@@ -43,7 +43,7 @@ returns-clause-handled g c desk =
     let paid : c.try_paid.new.guard ≡ sent =
     subst (λ (xs : List (Address × Vec ℕ Global)). c.try_paid.new.guard ≡ after_paying (map datagram_of xs) c.credit.new.guard) c.deref-2.ensures.value c.try_paid.ensures.guard
     ∙ (ap (λ (l : List (Address × List ℕ)). after_paying l c.credit.new.guard) up ∙ ap (after_paying (map datagram_of ingest.up.items)) earned) in
-    subst (λ (f : FrontOf g.row.P.Denot). HasHandled arrival (ingested_of ingest) f new before after) c.self.view_is
+    subst (λ (f : FrontOf g.row.P.Denot g.row.S.Denot). HasHandled arrival (ingested_of ingest) f new before after) c.self.view_is
     (record {
       up = subst (λ (l : List (Address × List ℕ)). WereTried (paid_of l once) before after) up
           (subst (λ (a : List Account). WereTried (paid_of (map datagram_of plan.ingest.up.items) a) before after) earned

@@ -1,4 +1,6 @@
-use Rattle.std.proofs.Common.{◌≡◌, ◌∙◌, List, length, map, All, ap, sym, subst, arith}
+use Rattle.std.proofs.Common.{◌≡◌, ◌≢◌, ⊎_elim, ◌∙◌, List, length, vec_len, map, All, ap, sym, subst, arith}
+use Rattle.std.proofs.lemmas.Grind.{common_steps}
+use Rattle.media_workers.specs.declared.fault.StartFault.{StartFault}
 use Rattle.std.specs.List.{AllByRecursion}
 use Rattle.std.proofs.lemmas.List.{length-map}
 use Rattle.versions.specs.Published.{ReaderOf}
@@ -7,7 +9,7 @@ use Rattle.media_workers.specs.Bridges.{AreNew}
 use Rattle.media_front.specs.FedLanes.{IsFresh, lanes_in}
 use Rattle.media_front.specs.inner.Tallies.{lanes_by}
 use Rattle.media_front.proofs.StartLemmas.{lanes_started, fresh_started, All_mapped, fresh_of}
-use Rattle.media_front.proofs.starting.LaneFeed+N+Rung+R+F.start.Goals as goal
+use Rattle.media_front.proofs.starting.LaneFeed+N+Rung+R+unit+S.start.Goals as goal
 
 pub start-requires-clause-publisher : goal.start-requires-clause-publisher
 start-requires-clause-publisher g c κs within =
@@ -25,10 +27,10 @@ invariant_of-result g c =
 pub returns-in-Ok-start-clause-new : goal.returns-in-Ok-start-clause-new
 returns-in-Ok-start-clause-new g c =
     let lanes = c.in-Ok-lanes_for.lanes in
-    let paces = c.in-Ok-paces_for.paces in
+    let paces = c.in-Ok-outfits_for.outfits in
     let ts = c.in-Ok.tallies.items in
     let same : length lanes.items ≡ length c.args.readers.items = sym (length-map lanes.items (λ (l : LaneNow). l.reader)) ∙ ap length c.in-Ok-lanes_for.ensures.readers in
-    let one : length paces.items ≡ length lanes.items = omega (arith, paces.ok, c.in-Ok-paces_for.ensures, c.deref.ensures.len, c.in-Ok-bells_for.ensures, c.len-count.ensures, same, c.args.readers.ok) in
+    let one : length paces.items ≡ length lanes.items = omega (arith, paces.ok, c.in-Ok-outfits_for.ensures.len, c.requires.many, c.args.readers.ok, c.args.sinks.ok, c.in-Ok-bells_for.ensures, c.len-count.ensures, same, c.args.readers.ok) in
     let two : length ts ≡ length lanes.items = omega (arith, c.in-Ok.tallies.ok, c.in-Ok.ensures.len, c.len-count.ensures, same, c.args.readers.ok) in
     let started : lanes_in (lanes_by c.in-Ok-start.bridge ts) ≡ lanes.items = ap (λ b. lanes_in (lanes_by b ts)) c.in-Ok-start.ensures.started ∙ lanes_started lanes.items paces.items ts one two in
     subst AreNew (sym started) c.in-Ok-lanes_for.ensures.new
@@ -36,10 +38,10 @@ returns-in-Ok-start-clause-new g c =
 pub returns-in-Ok-start-clause-readers : goal.returns-in-Ok-start-clause-readers
 returns-in-Ok-start-clause-readers g c =
     let lanes = c.in-Ok-lanes_for.lanes in
-    let paces = c.in-Ok-paces_for.paces in
+    let paces = c.in-Ok-outfits_for.outfits in
     let ts = c.in-Ok.tallies.items in
     let same : length lanes.items ≡ length c.args.readers.items = sym (length-map lanes.items (λ (l : LaneNow). l.reader)) ∙ ap length c.in-Ok-lanes_for.ensures.readers in
-    let one : length paces.items ≡ length lanes.items = omega (arith, paces.ok, c.in-Ok-paces_for.ensures, c.deref.ensures.len, c.in-Ok-bells_for.ensures, c.len-count.ensures, same, c.args.readers.ok) in
+    let one : length paces.items ≡ length lanes.items = omega (arith, paces.ok, c.in-Ok-outfits_for.ensures.len, c.requires.many, c.args.readers.ok, c.args.sinks.ok, c.in-Ok-bells_for.ensures, c.len-count.ensures, same, c.args.readers.ok) in
     let two : length ts ≡ length lanes.items = omega (arith, c.in-Ok.tallies.ok, c.in-Ok.ensures.len, c.len-count.ensures, same, c.args.readers.ok) in
     let started : lanes_in (lanes_by c.in-Ok-start.bridge ts) ≡ lanes.items = ap (λ b. lanes_in (lanes_by b ts)) c.in-Ok-start.ensures.started ∙ lanes_started lanes.items paces.items ts one two in
     ap (map (λ (l : LaneNow). l.reader)) started ∙ c.in-Ok-lanes_for.ensures.readers
@@ -47,6 +49,18 @@ returns-in-Ok-start-clause-readers g c =
 pub returns-in-Ok-start-clause-fresh : goal.returns-in-Ok-start-clause-fresh
 returns-in-Ok-start-clause-fresh g c =
     let lanes = c.in-Ok-lanes_for.lanes.items in
-    let paces = c.in-Ok-paces_for.paces.items in
+    let paces = c.in-Ok-outfits_for.outfits.items in
     let ts = c.in-Ok.tallies.items in
     subst (λ b. AllByRecursion IsFresh (lanes_by b ts)) (sym c.in-Ok-start.ensures.started) (fresh_started lanes paces ts c.in-Ok.ensures.fresh)
+
+pub returns-in-Err-clause-count : goal.returns-in-Err-clause-count
+returns-in-Err-clause-count g c =
+    let lanes = c.in-Ok-lanes_for.lanes in
+    let outfits = c.in-Ok-outfits_for.outfits in
+    let same : length lanes.items ≡ length c.args.readers.items = sym (length-map lanes.items (λ (l : LaneNow). l.reader)) ∙ ap length c.in-Ok-lanes_for.ensures.readers in
+    let many : vec_len lanes ≡ vec_len outfits = omega (arith, lanes.ok, same, c.args.readers.ok, c.requires.many, c.in-Ok-outfits_for.ensures.len) in
+    let none : c.in-Err.fault ≡ StartFault.Count → ⊥ = λ e. ⊎_elim
+    (λ (z : vec_len lanes ≡ 0). grind (arith, common_steps, z, lanes.ok, same, c.args.readers.ok, c.if-is_empty.false, c.is_empty.ensures))
+    (λ (ne : vec_len lanes ≢ vec_len outfits). ne many)
+    (c.in-Err.ensures.count.0 e) in
+    (λ e. absurd (none (cc (e))), λ n. absurd (grind (arith, common_steps, ap length n, c.args.readers.ok, c.if-is_empty.false, c.is_empty.ensures)))

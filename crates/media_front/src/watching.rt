@@ -1,0 +1,38 @@
+//! Whether the lanes of a feed have ended.
+
+ghost use Rattle.std.specs.Prelude.{◌<◌, length};
+ghost use Rattle.media_front.specs.FedLanes.{FedLane};
+
+use crate::asking::{AskedLanes, any_has_ended};
+use crate::feed::LaneFeed;
+use media_workers::{Pace, PublisherName, Sink};
+
+impl<N: PublisherName, P: Pace, S: Sink> AskedLanes for LaneFeed<N, P, S> {
+    ghost use Rattle.std.specs.Prelude.{length};
+
+    ghost count = { λ feed. length feed };
+
+    ghost answered = { λ feed lane answer. Unit {0} };
+
+    fn lanes(&self) -> u32 {
+        self.count()
+    }
+
+    fn lane_has_ended(&self, lane: u32) -> bool {
+        self.ended(lane)
+    }
+}
+
+impl<N: PublisherName, P: Pace, S: Sink> LaneFeed<N, P, S> {
+    /// Whether a lane has ended.
+    fn ended(&self, lane: u32) -> bool
+        requires lane { lane < length self.now }
+    {
+        self.bridge.ended(lane)
+    }
+
+    /// Whether any lane has ended. No contract speaks of the answer for lanes on threads.
+    pub fn has_ended(&self) -> bool {
+        any_has_ended(self)
+    }
+}
