@@ -1,7 +1,6 @@
 -- From a bridge's beginning to what its lanes sent.
-use Rattle.std.proofs.Common.{◌≡◌, ◌<◌, ℕ, Bool, true, suc, List, [], ◌∷◌, map, length, All, refl, ap, sym, subst}
+use Rattle.std.proofs.Common.{◌≡◌, ◌∙◌, ◌<◌, ℕ, Bool, true, suc, List, [], ◌∷◌, map, length, All, refl, ap, sym, subst}
 use Rattle.std.proofs.lemmas.List.{get_or-map, length-map}
-use Rattle.rtrb.specs.Ring.{sent}
 use Rattle.logbook.specs.Pages.{Book}
 use Rattle.desk_rows.specs.Desk.{Desk, good}
 use Rattle.versions.specs.Published.{ReaderOf, NoticeOf, new_reader}
@@ -10,11 +9,14 @@ use Rattle.operator_desk.specs.Answers.{Tells}
 use Rattle.operator_desk.specs.Entry.{EntryOf}
 use Rattle.operator_desk.specs.LegalLogs.{IsLegal, calls_of}
 use Rattle.media_workers.specs.LaneRuns.{LaneNow}
+use Rattle.media_workers.specs.declared.lane_end.LaneEnd.{LaneEnd}
 use Rattle.media_workers.specs.Ports.{PortOf}
-use Rattle.media_workers.specs.Bridges.{EndOf, AllEnded, AreNew}
+use Rattle.media_workers.specs.Bridges.{Taking, AllEnded, AreNew}
 use Rattle.lane_laws.specs.Learnt.{AllBegin, AllRead, AllSeen, HaveEnded, EndedAfter, lanes_of, merged}
 use Rattle.lane_laws.specs.OneList.{IsOneList, SendByVersions, sent_by}
 use Rattle.media_front.specs.FedLanes.{FedLane, ports_in, lanes_in}
+use Rattle.lane_wire.specs.Logs.{taken_list}
+use Rattle.lane_wire.specs.declared.wire_sink.LaneSent.{LaneSent}
 use Rattle.bridge_server.specs.OneRun.{HaveBegun, IsOneRun, sent_into}
 use Rattle.bridge_server.proofs.LaneLemmas.{lanes_of_ports}
 
@@ -41,32 +43,38 @@ lanes_begun publisher start lanes readers new are all =
 
 -- ---- ends
 
-as_many_ends : {N P : Type 0} (answers : P → ℕ → Bool → Type 0) (ports : List (PortOf P)) (ends : List (EndOf N)) → AllEnded answers ports ends → length (sent_by ends) ≡ length ports
-as_many_ends answers [] [] ended = refl
-as_many_ends answers [] (e ∷ es) ended = absurd ended
-as_many_ends answers (p ∷ ps) [] ended = absurd ended
-as_many_ends answers (p ∷ ps) (e ∷ es) ended = ap suc (as_many_ends answers ps es ended.1)
+as_many_ends : {N P S : Type 0} (answers : P → ℕ → Bool → Type 0) (taken : Taking S) (ports : List (PortOf P S)) (ends : List (LaneEnd N S)) → AllEnded answers taken ports ends
+    → length (sent_by taken ends) ≡ length ports
+as_many_ends answers taken [] [] ended = refl
+as_many_ends answers taken [] (e ∷ es) ended = absurd ended
+as_many_ends answers taken (p ∷ ps) [] ended = absurd ended
+as_many_ends answers taken (p ∷ ps) (e ∷ es) ended = ap suc (as_many_ends answers taken ps es ended.1)
 
-sinks_took : {N : Type 0} (ends : List (EndOf N)) → sent_into (map (λ (end : EndOf N). end.sink) ends) ≡ sent_by ends
-sinks_took [] = refl
-sinks_took (e ∷ es) = ap (λ (xs : List (List Sent)). map sent_of (sent e.sink) ∷ xs) (sinks_took es)
+-- what the sinks tell of themselves is what they took
+told_took : {N S : Type 0} (taken : Taking S) (told : S → LaneSent) → ((sink : S) → taken_list (told sink).taken ≡ taken sink) → (ends : List (LaneEnd N S))
+    → sent_into (map (λ (end : LaneEnd N S). told end.sink) ends) ≡ sent_by taken ends
+told_took taken told is [] = refl
+told_took {N} {S} taken told is (e ∷ es) =
+    ap (λ all. map sent_of all ∷ sent_into (map (λ (end : LaneEnd N S). told end.sink) es)) (is e.sink)
+    ∙ ap (λ (xs : List (List Sent)). map sent_of (taken e.sink) ∷ xs) (told_took taken told is es)
 
 -- lanes of this publisher have ended
-pub have_ended : {N P : Type 0} (answers : P → ℕ → Bool → Type 0) (start : Desk) (publisher other : Book) (feed : List (FedLane P)) (ends : List (EndOf N))
-    → HaveBegun start publisher (lanes_in feed) → AllEnded answers (ports_in feed) ends → other ≡ publisher → HaveEnded answers other ends
-have_ended answers start publisher other feed ends begun ended same =
+pub have_ended : {N P S : Type 0} (answers : P → ℕ → Bool → Type 0) (taken : Taking S) (start : Desk) (publisher other : Book) (feed : List (FedLane P S)) (ends : List (LaneEnd N S))
+    → HaveBegun start publisher (lanes_in feed) → AllEnded answers taken (ports_in feed) ends → other ≡ publisher → HaveEnded answers taken other ends
+have_ended answers taken start publisher other feed ends begun ended same =
     (ports_in feed, ended, subst (λ (b : Book). AllRead b (lanes_of (ports_in feed))) (sym same) (subst (AllRead publisher) (sym (lanes_of_ports feed)) begun.read))
 
 -- what the headline says of lanes that knew no more than the notice of the log
-pub one_run : {N P : Type 0} (answers : P → ℕ → Bool → Type 0) (start : Desk) (publisher : Book) (log : List EntryOf) (last : NoticeOf) (feed : List (FedLane P)) (ends : List (EndOf N))
+pub one_run : {N P S : Type 0} (answers : P → ℕ → Bool → Type 0) (taken : Taking S) (told : S → LaneSent) → ((sink : S) → taken_list (told sink).taken ≡ taken sink)
+    → (start : Desk) (publisher : Book) (log : List EntryOf) (last : NoticeOf) (feed : List (FedLane P S)) (ends : List (LaneEnd N S))
     → HaveBegun start publisher (lanes_in feed) → good start ≡ true → IsLegal start log → Tells start publisher log last
-    → (ended : AllEnded answers (ports_in feed) ends) → AllSeen last.lists answers (ports_in feed) ends ended
-    → ((h : EndedAfter answers start log (ports_in feed) ends) → IsOneList (h.new).0 (length (ports_in feed)) start (calls_of log) (sent_by ends) (merged h))
-    → (EndedAfter answers start log (ports_in feed) ends → SendByVersions start (calls_of log) (sent_by ends))
-    → IsOneRun start (calls_of log) (sent_into (map (λ (end : EndOf N). end.sink) ends))
-one_run {N} {P} answers start publisher log last feed ends begun first legal tells ended seen holds sends =
+    → (ended : AllEnded answers taken (ports_in feed) ends) → AllSeen last.lists answers taken (ports_in feed) ends ended
+    → ((h : EndedAfter answers taken start log (ports_in feed) ends) → IsOneList (h.new).0 (length (ports_in feed)) start (calls_of log) (sent_by taken ends) (merged h))
+    → (EndedAfter answers taken start log (ports_in feed) ends → SendByVersions start (calls_of log) (sent_by taken ends))
+    → IsOneRun start (calls_of log) (sent_into (map (λ (end : LaneEnd N S). told end.sink) ends))
+one_run {N} {P} {S} answers taken told is start publisher log last feed ends begun first legal tells ended seen holds sends =
     let lanes = sym (lanes_of_ports feed) in
-    let h : EndedAfter answers start log (ports_in feed) ends = record {
+    let h : EndedAfter answers taken start log (ports_in feed) ends = record {
       first = first;
       legal = legal;
       lists = last.lists;
@@ -78,12 +86,12 @@ one_run {N} {P} answers start publisher log last feed ends begun first legal tel
     } in
     let who = (h.new).0 in
     let events = merged h in
-    let took = sym (sinks_took ends) in
-    let many = sym (as_many_ends answers (ports_in feed) ends ended) in
+    let took = sym (told_took taken told is ends) in
+    let many = sym (as_many_ends answers taken (ports_in feed) ends ended) in
     record {
       who = who;
       events = events;
       one = subst (λ (all : List (List Sent)). IsOneList who (length all) start (calls_of log) all events) took
-          (subst (λ (n : ℕ). IsOneList who n start (calls_of log) (sent_by ends) events) many (holds h));
+          (subst (λ (n : ℕ). IsOneList who n start (calls_of log) (sent_by taken ends) events) many (holds h));
       by_versions = subst (SendByVersions start (calls_of log)) took (sends h);
     }

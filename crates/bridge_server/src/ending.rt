@@ -5,7 +5,6 @@ ghost use Rattle.desk_rows.specs.Desk.{good};
 ghost use Rattle.operator_desk.specs.Answers.{Tells};
 ghost use Rattle.operator_desk.specs.Entry.{EntryOf};
 ghost use Rattle.operator_desk.specs.LegalLogs.{IsLegal, calls_of as calls_in};
-ghost use Rattle.media_workers.specs.Bridges.{EndOf};
 ghost use Rattle.lane_laws.specs.Learnt.{HaveEnded, HaveKnown};
 ghost use Rattle.media_front.specs.FedLanes.{FedLane, lanes_in};
 ghost use Rattle.bridge_server.specs.Counts.{counts_by};
@@ -13,19 +12,19 @@ ghost use Rattle.bridge_server.specs.OneRun.{HaveBegun, IsOneRun, sent_into};
 
 use crate::calls::calls_of;
 use crate::rounds::{Rounds, ServerMedia};
+use crate::sinks::LaneSocket;
 use crate::stopped::{DeskEnd, MediaEnd};
-use crate::waking::LaneWaker;
-use bridge_core::Egress;
 use lane_bell::Rung;
 use lane_laws::{lanes_saw_what_they_know, none_knew_more, the_running_headline};
+use lane_wire::{LaneSent, LaneWire, WireSink};
 use media_front::{PublisherOf, fault_of};
-use media_workers::{LaneEnd, Pace, PublisherName};
+use media_workers::{LaneEnd, Pace, PublisherName, Sink};
 use operator_desk::{GatherFault, Hall};
 use operator_threads::Operators;
-use rtrb::Producer;
 use std::alloc::{AllocError, Global};
 use std::sync::Wait;
 use std::thread::Threads;
+use std::time::Clock;
 use udp_front::FrontFault;
 use versions::Notice;
 
@@ -65,7 +64,7 @@ pub(crate) fn gather<'a, H: Hall, R: Wait>(
 }
 
 /// The media of a bridge whose rounds are over.
-fn media_in<H: Hall, R: Wait + Drop>(rounds: Rounds<H, R>) -> ServerMedia<H, R>
+fn media_in<H: Hall, R: Wait + Clock + Drop>(rounds: Rounds<H, R>) -> ServerMedia<H, R>
     ensures { HaveBegun H.start H.publisher (lanes_in result.feed) }
 {
     let Rounds {
@@ -77,7 +76,7 @@ fn media_in<H: Hall, R: Wait + Drop>(rounds: Rounds<H, R>) -> ServerMedia<H, R>
         ticked: _,
         seen: _,
         pictures: _,
-        is_behind: _,
+        counts: _,
         has_members: _,
         wakes: _,
     } = rounds;
@@ -86,14 +85,14 @@ fn media_in<H: Hall, R: Wait + Drop>(rounds: Rounds<H, R>) -> ServerMedia<H, R>
 
 /// The fault `Io` if a lane knew of a later version than this notice when it ended. None does, if the notice is of the
 /// last version of a desk that had ended before.
-fn compare<N: PublisherName, P: Pace>(
-    ends: &Vec<LaneEnd<N, Producer<Egress>>>,
+fn compare<N: PublisherName, P: Pace, S: Sink>(
+    ends: &Vec<LaneEnd<N, S>>,
     last: &Notice,
 ) -> Result<(), FrontFault>
-    requires ended { HaveEnded P.answers last.now.publisher ends.now.items }
+    requires ended { HaveEnded P.answers S.taken last.now.publisher ends.now.items }
     ensures { OnOk result (HaveKnown last.now.lists ends.now.items) }
 {
-    if none_knew_more::<N, P>(ends, last) {
+    if none_knew_more::<N, P, S>(ends, last) {
         Ok(())
     } else {
         Err(FrontFault::Io)
@@ -101,7 +100,7 @@ fn compare<N: PublisherName, P: Pace>(
 }
 
 /// Ends the lanes of a desk that has ended, by the notice of its last version. Returns how many items were dropped for
-/// each lane, and where each put what it sent.
+/// each lane, and what each sent.
 pub(crate) fn close<H, R>(
     rt: &R,
     alloc: Global,
@@ -110,32 +109,32 @@ pub(crate) fn close<H, R>(
 ) -> Result<MediaEnd, FrontFault>
 where
     H: Hall + Send + Sync + 'static,
-    R: Threads + Wait + Copy + Send + Drop + 'static,
+    R: Threads + Clock + Wait + Copy + Send + Drop + 'static,
     requires first { good H.start ≡ true }
     requires publisher { last.now.publisher ≡ H.publisher }
     ensures one { IfOk result (λ end. (log : List EntryOf) →
         IsLegal H.start log → Tells H.start H.publisher log last.now →
-        IsOneRun H.start (calls_in log) (sent_into end.sinks.items)) }
+        IsOneRun H.start (calls_in log) (sent_into end.sent.items)) }
 {
     let media = media_in(rounds);
     let dropped = dropped_of(alloc, &media);
     let ends = media.close(rt);
-    lanes_saw_what_they_know::<PublisherOf<H>, Rung<R, LaneWaker>>();
-    the_running_headline::<PublisherOf<H>, Rung<R, LaneWaker>>();
+    lanes_saw_what_they_know::<PublisherOf<H>, Rung<R, ()>, WireSink<LaneSocket>>();
+    the_running_headline::<PublisherOf<H>, Rung<R, ()>, WireSink<LaneSocket>>();
     if let Some(fault) = fault_of(&ends) {
         return Err(fault);
     }
-    compare::<PublisherOf<H>, Rung<R, LaneWaker>>(&ends, last)?;
+    compare::<PublisherOf<H>, Rung<R, ()>, WireSink<LaneSocket>>(&ends, last)?;
     let dropped = dropped?;
-    let sinks = sinks_of(alloc, ends)?;
-    Ok(MediaEnd { dropped, sinks })
+    let sent = sent_of(alloc, ends)?;
+    Ok(MediaEnd { dropped, sent })
 }
 
 /// Ends the lanes of a bridge whose log is lost. Returns their fault, or `Io`.
 pub(crate) fn give_up<H, R>(rt: &R, rounds: Rounds<H, R>) -> FrontFault
 where
     H: Hall + Send + Sync + 'static,
-    R: Threads + Wait + Copy + Send + Drop + 'static,
+    R: Threads + Clock + Wait + Copy + Send + Drop + 'static,
 {
     let ends = media_in(rounds).close(rt);
     fault_of(&ends).unwrap_or(FrontFault::Io)
@@ -145,8 +144,8 @@ where
 fn dropped_of<H, R>(alloc: Global, media: &ServerMedia<H, R>) -> Result<Vec<u64>, AllocError>
 where
     H: Hall,
-    R: Wait + Drop,
-    ensures { IfOk result (λ dropped. dropped.items ≡ map (λ (x : FedLane _). x.dropped) media.now.feed) }
+    R: Wait + Clock + Drop,
+    ensures { IfOk result (λ dropped. dropped.items ≡ map (λ (x : FedLane _ _). x.dropped) media.now.feed) }
 {
     let mut dropped = Vec::new(alloc);
     for lane in 0..media.lanes() {
@@ -155,16 +154,16 @@ where
     Ok(dropped)
 }
 
-/// Where each lane put what it sent.
-fn sinks_of<N: PublisherName>(
+/// What each lane sent.
+fn sent_of<N: PublisherName, W: LaneWire + Drop>(
     alloc: Global,
-    ends: Vec<LaneEnd<N, Producer<Egress>>>,
-) -> Result<Vec<Producer<Egress>>, AllocError>
-    ensures { IfOk result (λ sinks. sinks.items ≡ map (λ (end : EndOf N). end.sink) ends.items) }
+    ends: Vec<LaneEnd<N, WireSink<W>>>,
+) -> Result<Vec<LaneSent>, AllocError>
+    ensures { IfOk result (λ sent. sent.items ≡ map (λ end. end.sink.sent) ends.items) }
 {
-    let mut sinks = Vec::new(alloc);
+    let mut sent = Vec::new(alloc);
     for end in ends {
-        sinks.push(end.sink)?;
+        sent.push(end.sink.into_sent())?;
     }
-    Ok(sinks)
+    Ok(sent)
 }

@@ -1,10 +1,10 @@
-//! A bridge that runs: a thread for each operator's connection, a thread for each lane, and a front that reads the
-//! sockets and sends what the lanes give.
+//! A bridge that runs: a thread for each operator's connection, a thread for each lane, which sends what it makes, and
+//! a front that reads the sockets.
 //!
 //! Begin with [`Front::bind`], then [`Front::run`]. It returns once an operator stops the bridge, with the log, how
-//! many calls of each operator were accepted, how many items were dropped for each lane, and where each lane put what
-//! it sent. What lines and datagrams lead to is decided in operator_threads and media_front. Here are the sockets,
-//! the loop that joins the rest, and when lanes are woken.
+//! many calls of each operator were accepted, how many items were dropped for each lane, and how much each lane sent
+//! and could not send. What lines and datagrams lead to is decided in operator_threads and media_front. Here are the
+//! sockets, the loop that joins the rest, and when lanes are woken.
 //!
 //! Contracts say that what the lanes sent is what one list of the log's calls and of items sends. They say nothing of
 //! sockets.
@@ -25,6 +25,7 @@ mod front;
 mod opening;
 mod rounds;
 mod serving;
+mod sinks;
 mod sockets;
 mod stopped;
 mod switching;

@@ -1,12 +1,13 @@
 //! How a bridge begins, and the way to its end.
 
-ghost use Rattle.std.specs.Prelude.{◌≡◌, ◌↔◌, ◌≤◌, ◌+◌, true, vec_len, All, IfOk};
+ghost use Rattle.std.specs.Prelude.{◌≡◌, ◌↔◌, ◌≤◌, ◌+◌, true, [], vec_len, All, IfOk};
 ghost use Rattle.intake.specs.Names.{is_name};
 ghost use Rattle.desk_rows.specs.Desk.{blank as no_rows, good};
 ghost use Rattle.versions.specs.Published.{ReaderOf, new_reader};
 ghost use Rattle.bridge_core.specs.Calls.{most_lanes};
 ghost use Rattle.operator_desk.specs.LegalLogs.{IsLegal, calls_of as calls_in};
 ghost use Rattle.operator_desk.specs.Opening.{most_operators};
+ghost use Rattle.lane_wire.specs.Logs.{taken_list};
 ghost use Rattle.media_front.specs.FedLanes.{lanes_in};
 ghost use Rattle.bridge_server.specs.Counts.{counts_by};
 ghost use Rattle.bridge_server.specs.OneRun.{HaveBegun, IsOneRun, sent_into};
@@ -15,12 +16,14 @@ use crate::ending::{close, gather, give_up};
 use crate::front::{Front, WAKER};
 use crate::rounds::{Rounds, ServerMedia};
 use crate::serving::serve;
+use crate::sinks::{LaneSocket, counts_for, sinks_for};
 use crate::sockets::Sockets;
 use crate::stopped::Stopped;
 use crate::wakes::Wakes;
-use crate::waking::{FrontWaker, LaneWaker};
+use crate::waking::FrontWaker;
 use bridge_core::{Intake, Settings};
 use flood_guard::FloodGuard;
+use lane_wire::WireSink;
 use media_front::{LaneFeed, MediaFront, pli_octets};
 use media_workers::StartFault;
 use mio::Waker;
@@ -30,7 +33,6 @@ use picture_requests::PictureRequests;
 use std::alloc::Global;
 use std::marker::Brand;
 use std::net::Net;
-use std::sync::atomic::AtomicBool;
 use std::sync::{Arc, Wait};
 use std::thread::Threads;
 use std::time::Clock;
@@ -44,7 +46,7 @@ where
     ensures legal { IfOk result (λ s. IsLegal (no_rows front.settings.bridge.bridge_ssrc) s.log.items) }
     ensures accepted { IfOk result (λ s. s.accepted.items ≡ counts_by s.log.items front.settings.operators) }
     ensures one { IfOk result (λ s. IsOneRun
-        (no_rows front.settings.bridge.bridge_ssrc) (calls_in s.log.items) (sent_into s.sinks.items)) }
+        (no_rows front.settings.bridge.bridge_ssrc) (calls_in s.log.items) (sent_into s.sent.items)) }
 {
     let log = Log::new(alloc)?;
     let ssrc = front.settings.bridge.bridge_ssrc;
@@ -80,7 +82,7 @@ where
     requires seats { (operators ≡ H.seats) × (H.seats ≡ H.parts) }
     ensures legal { IfOk result (λ s. IsLegal H.start s.log.items) }
     ensures accepted { IfOk result (λ s. s.accepted.items ≡ counts_by s.log.items front.settings.operators) }
-    ensures one { IfOk result (λ s. IsOneRun H.start (calls_in s.log.items) (sent_into s.sinks.items)) }
+    ensures one { IfOk result (λ s. IsOneRun H.start (calls_in s.log.items) (sent_into s.sent.items)) }
 {
     // One reader for each lane, and one for the front.
     let readers = front.settings.lanes as usize + 1;
@@ -155,13 +157,10 @@ where
     let (sockets, waker, settings) = sockets_of(alloc, front)?;
     let moments = Moments::begin(rt)?;
     let start = moments.start();
-    let has_members = Arc::new(alloc, AtomicBool::new(false))?;
-    let lane_waker = LaneWaker {
-        front: waker.clone()?,
-        has_members: Arc::try_clone(&has_members)?,
-    };
+    let counts = counts_for(alloc, readers.len())?;
+    let sinks = sinks_for(alloc, &sockets.udp()?, &counts)?;
     let reports = ReportTimer::begin(settings.report_ms, start);
-    let mut media = media_of(rt, alloc, readers, settings.bridge, &lane_waker, reports)?;
+    let mut media = media_of(rt, alloc, readers, settings.bridge, sinks, reports)?;
     media.renew();
     let rounds = Rounds {
         alloc,
@@ -172,27 +171,29 @@ where
         ticked: start,
         seen: 0,
         pictures: PictureRequests::new(alloc),
-        is_behind: false,
-        has_members,
+        counts,
+        has_members: false,
         wakes: Wakes::begin(start),
     };
     Ok((rounds, waker))
 }
 
-/// Starts the lanes, one for each reader.
+/// Starts the lanes, one for each reader, each with a sink.
 fn media_of<H, R>(
     rt: &R,
     alloc: Global,
     readers: Vec<LaneReader>,
     settings: Settings,
-    waker: &LaneWaker,
+    sinks: Vec<WireSink<LaneSocket>>,
     reports: ReportTimer,
 ) -> Result<ServerMedia<H, R>, FrontFault>
 where
     H: Hall + Send + Sync + 'static,
-    R: Threads + Wait + Copy + Send + Drop + 'static,
+    R: Threads + Clock + Wait + Copy + Send + Drop + 'static,
     requires readers { All (λ (reader : ReaderOf). reader ≡ new_reader H.publisher H.start) readers.items }
     requires few { vec_len readers ≤ most_lanes }
+    requires many { vec_len sinks ≡ vec_len readers }
+    requires untaken { All (λ sink. taken_list sink.sent.taken ≡ []) sinks.items }
     ensures { IfOk result (λ media. HaveBegun H.start H.publisher (lanes_in media.feed)) }
 {
     if !settings.is_good() {
@@ -202,7 +203,7 @@ where
     let intake = Intake::new(alloc, settings.try_clone()?)?;
     let guard = FloodGuard::new(alloc)?;
     let cost = pli_octets(alloc, &settings)?;
-    match LaneFeed::start(rt, alloc, readers, &settings, waker) {
+    match LaneFeed::start(rt, alloc, readers, &settings, sinks) {
         Ok(feed) => Ok(MediaFront::new(intake, feed, guard, cost, reports)),
         Err(fault) => Err(start_fault(fault)),
     }
@@ -227,7 +228,7 @@ where
     requires first { good H.start ≡ true }
     ensures legal { IfOk result (λ s. IsLegal H.start s.log.items) }
     ensures accepted { IfOk result (λ s. s.accepted.items ≡ counts_by s.log.items front.settings.operators) }
-    ensures one { IfOk result (λ s. IsOneRun H.start (calls_in s.log.items) (sent_into s.sinks.items)) }
+    ensures one { IfOk result (λ s. IsOneRun H.start (calls_in s.log.items) (sent_into s.sent.items)) }
 {
     let count = front.settings.operators;
     match begin(rt, alloc, readers, front) {

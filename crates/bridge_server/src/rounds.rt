@@ -2,26 +2,23 @@
 
 ghost use Rattle.std.specs.Prelude.{◌≡◌};
 
+use crate::sinks::LaneSocket;
 use crate::sockets::{Read, Sockets};
 use crate::wakes::Wakes;
-use crate::waking::LaneWaker;
 use desk_rows::Rows;
 use lane_bell::Rung;
-use media_front::{MOST_EGRESSES, MediaFront, PublisherOf};
+use lane_wire::{SharedCounts, WireSink};
+use media_front::{MediaFront, PublisherOf};
 use mio::net::TcpStream;
 use operator_desk::Hall;
 use picture_requests::PictureRequests;
 use rtp_codec::Address;
 use std::alloc::Global;
 use std::marker::Model;
-use std::sync::atomic::{AtomicBool, Ordering};
 use std::sync::{Arc, Wait};
 use std::time::Clock;
 use udp_front::{FrontFault, Moments};
 use versions::{LaneReader, Notice};
-
-/// How many milliseconds a round waits at most.
-const LONGEST_WAIT: u64 = 5;
 
 /// How many datagrams are taken in under one entry into the published desk, so that neither a tick nor an operator's
 /// call waits long for them.
@@ -31,12 +28,12 @@ const DATAGRAMS: u32 = 64;
 const STOOD_STILL: u64 = 1_000_000_000;
 
 /// The media of a bridge in hall H, on a runtime R.
-pub(crate) type ServerMedia<H, R> = MediaFront<PublisherOf<H>, Rung<R, LaneWaker>>;
+pub(crate) type ServerMedia<H, R> = MediaFront<PublisherOf<H>, Rung<R, ()>, WireSink<LaneSocket>>;
 
 /// The front: its sockets, its clock, its own reader of the published desk, and the lanes.
 ///
 /// Contracts see the lanes as they were handed in. Nothing that a round does changes which they are.
-pub(crate) struct Rounds<H: Hall, R: Wait + Drop> {
+pub(crate) struct Rounds<H: Hall, R: Wait + Clock + Drop> {
     pub(crate) alloc: Global,
     pub(crate) sockets: Sockets,
     pub(crate) moments: Moments,
@@ -49,14 +46,14 @@ pub(crate) struct Rounds<H: Hall, R: Wait + Drop> {
     pub(crate) seen: u64,
     /// The senders that are to be asked for a picture.
     pub(crate) pictures: PictureRequests,
-    /// The last round sent as much as a round may, so that more may wait.
-    pub(crate) is_behind: bool,
-    /// Lanes wake the front while it is set.
-    pub(crate) has_members: Arc<AtomicBool, Global>,
+    /// What each lane has sent so far, and what not.
+    pub(crate) counts: Vec<Arc<SharedCounts, Global>>,
+    /// Whether the desk had members in the last round.
+    pub(crate) has_members: bool,
     pub(crate) wakes: Wakes,
 }
 
-impl<H: Hall, R: Wait + Drop> Model for Rounds<H, R> {
+impl<H: Hall, R: Wait + Clock + Drop> Model for Rounds<H, R> {
     ghost use Rattle.std.specs.Prelude.{List};
     ghost use Rattle.media_workers.specs.LaneRuns.{LaneNow};
     ghost use Rattle.media_front.specs.FedLanes.{lanes_in};
@@ -70,13 +67,13 @@ impl<H: Hall, R: Wait + Drop> Model for Rounds<H, R> {
 }
 
 impl<H: Hall + Send + Sync + 'static, R: Wait + Clock + Copy + Send + Drop + 'static> Rounds<H, R> {
-    /// Waits until something has come, 5 ms at most. A lane that has ended is a fault.
-    pub(crate) fn wait(&mut self) -> Result<(), FrontFault> {
+    /// Waits until something has come, or a tick is due. A lane that has ended is a fault.
+    pub(crate) fn wait(&mut self, rt: &R) -> Result<(), FrontFault> {
         if self.media.has_ended() {
             return Err(FrontFault::Io);
         }
-        let longest = if self.is_behind { 0 } else { LONGEST_WAIT };
-        self.sockets.wait(longest)
+        let now = self.moments.now(rt)?;
+        self.sockets.wait(self.media.until_tick(now))
     }
 
     /// The next connection, if one waits.
@@ -84,7 +81,7 @@ impl<H: Hall + Send + Sync + 'static, R: Wait + Clock + Copy + Send + Drop + 'st
         self.sockets.next_caller()
     }
 
-    /// Takes in what has come and what is due by one entry into the published desk, and sends what the lanes gave.
+    /// Takes in what has come and what is due by one entry into the published desk.
     pub(crate) fn round(&mut self, rt: &R, notice: Notice) -> Result<(), FrontFault>
         requires { notice.publisher ≡ H.publisher }
     {
@@ -107,9 +104,7 @@ impl<H: Hall + Send + Sync + 'static, R: Wait + Clock + Copy + Send + Drop + 'st
         };
         let woken = self.wake(rt);
         done?;
-        woken?;
-        self.is_behind = self.send() >= MOST_EGRESSES;
-        Ok(())
+        woken
     }
 
     /// Owes each lane this notice.
@@ -122,8 +117,7 @@ impl<H: Hall + Send + Sync + 'static, R: Wait + Clock + Copy + Send + Drop + 'st
     /// Takes in the datagrams that wait, the ticks that are due and the reports. Where a tick was due, time has passed
     /// for the video sources. Senders are asked for the pictures that slots were given.
     fn take(&mut self, rt: &R, version: u64, rows: &Rows) -> Result<(), FrontFault> {
-        self.has_members
-            .store(!rows.members().is_empty(), Ordering::SeqCst);
+        self.has_members = !rows.members().is_empty();
         for _ in 0..DATAGRAMS {
             if !self.sockets.has_datagrams() {
                 break;
@@ -192,21 +186,16 @@ impl<H: Hall + Send + Sync + 'static, R: Wait + Clock + Copy + Send + Drop + 'st
 
     /// Wakes the lanes for what they were given, if they have to be woken in this round.
     fn wake(&mut self, rt: &R) -> Result<(), FrontFault> {
-        let has_members = self.has_members.load(Ordering::SeqCst);
-        if self.wakes.is_due(self.moments.now(rt)?, has_members) {
+        let now = self.moments.now(rt)?;
+        if self.wakes.is_due(now, self.has_members) {
             self.ring(rt);
         }
         Ok(())
     }
 
-    /// Rings the bell of each lane that was given something.
+    /// Rings the bell of each lane that was given something other than sound.
     fn ring(&mut self, rt: &R) {
         self.media.ring(rt);
-    }
-
-    /// Sends what the lanes gave. Returns how much that was.
-    fn send(&mut self) -> u32 {
-        self.media.send(&mut self.sockets.wire())
     }
 
     /// Gives each lane the ticks that are due.

@@ -9,6 +9,7 @@ use mio::{Events, Poll};
 use rtp_codec::Address;
 use std::alloc::{AllocError, Global};
 use std::io::ErrorKind;
+use std::sync::Arc;
 use std::time::Duration;
 use udp_front::{FrontFault, UdpWire, address_of};
 
@@ -22,7 +23,8 @@ const CHUNK: usize = 9_000;
 pub(crate) struct Sockets {
     poll: Poll,
     events: Events,
-    udp: UdpSocket,
+    /// Lanes have handles of it, too.
+    udp: Arc<UdpSocket, Global>,
     tcp: TcpListener,
     /// Datagrams may wait.
     has_datagrams: bool,
@@ -65,7 +67,7 @@ impl Sockets {
         Ok(Self {
             poll,
             events: Events::with_capacity(alloc, EVENTS)?,
-            udp,
+            udp: Arc::new(alloc, udp)?,
             tcp,
             has_datagrams: true,
             has_callers: true,
@@ -74,12 +76,12 @@ impl Sockets {
         })
     }
 
-    /// Waits until something has come, at most `longest` milliseconds, and notes what. It doesn't wait if datagrams may
+    /// Waits until something has come, at most `longest` nanoseconds, and notes what. It doesn't wait if datagrams may
     /// be there already.
     pub(crate) fn wait(&mut self, longest: u64) -> Result<(), FrontFault> {
         let longest = if self.has_datagrams { 0 } else { longest };
         self.poll
-            .poll(&mut self.events, Some(Duration::from_millis(longest)))?;
+            .poll(&mut self.events, Some(Duration::from_nanos(longest)))?;
         for event in &self.events {
             match event.token() {
                 UDP => self.has_datagrams = true,
@@ -102,6 +104,11 @@ impl Sockets {
                 None
             }
         }
+    }
+
+    /// A handle of the socket for datagrams.
+    pub(crate) fn udp(&self) -> Result<Arc<UdpSocket, Global>, AllocError> {
+        Arc::try_clone(&self.udp)
     }
 
     /// Whether datagrams may wait.
@@ -131,7 +138,7 @@ impl Sockets {
     pub(crate) fn parts(&mut self, octets: usize) -> (&[u8], UdpWire<'_>) {
         let read = self.chunk.get(..octets).unwrap_or(&[]);
         let wire = UdpWire {
-            socket: &self.udp,
+            socket: &*self.udp,
             whole: &mut self.whole,
         };
         (read, wire)
@@ -140,7 +147,7 @@ impl Sockets {
     /// The socket for datagrams as a wire.
     pub(crate) fn wire(&mut self) -> UdpWire<'_> {
         UdpWire {
-            socket: &self.udp,
+            socket: &*self.udp,
             whole: &mut self.whole,
         }
     }

@@ -1,13 +1,15 @@
-use Rattle.std.proofs.Common.{sym, subst}
+use Rattle.std.proofs.Common.{refl, sym, subst}
 use Rattle.operator_desk.specs.LegalLogs.{calls_of}
 use Rattle.media_front.specs.FedLanes.{ports_in}
+use Rattle.lane_wire.specs.Logs.{taken_list}
 use Rattle.bridge_server.specs.OneRun.{IsOneRun, sent_into}
 use Rattle.bridge_server.proofs.RunLemmas.{have_ended, one_run}
 use Rattle.bridge_server.proofs.ending.close.Goals as goal
 
 pub compare-requires : goal.compare-requires
 compare-requires g c = record {
-  ended = have_ended _ g.H.Hall.start g.H.Hall.publisher _ c.media_in-media.result.feed c.close-ends.result.items c.media_in-media.ensures c.close-ends.ensures.ended c.requires.publisher;
+  ended = have_ended _ (λ s. taken_list s.sent.taken) g.H.Hall.start g.H.Hall.publisher _ c.media_in-media.result.feed c.close-ends.result.items c.media_in-media.ensures
+      c.close-ends.ensures.ended c.requires.publisher;
 }
 
 pub returns : goal.returns
@@ -18,8 +20,8 @@ returns g c = record {
       let ends = c.close-ends.result.items in
       let ended = c.close-ends.ensures.ended in
       let last = c.args.last.now in
-      subst (λ sinks. IsOneRun start (calls_of log) (sent_into sinks)) (sym c.in_ok-sinks.ensures)
-      (one_run _ start g.H.Hall.publisher log last feed ends c.media_in-media.ensures c.requires.first legal tells ended
+      subst (λ sent. IsOneRun start (calls_of log) (sent_into sent)) (sym c.in_ok-sent.ensures)
+      (one_run _ (λ s. taken_list s.sent.taken) (λ s. s.sent) (λ s. refl) start g.H.Hall.publisher log last feed ends c.media_in-media.ensures c.requires.first legal tells ended
       (c.lanes_saw_what_they_know.ensures (ports_in feed) ends ended last.lists c.in_ok-compare.ensures)
       (c.the_running_headline.ensures.holds start log (ports_in feed) ends)
       (c.the_running_headline.ensures.sent start log (ports_in feed) ends));

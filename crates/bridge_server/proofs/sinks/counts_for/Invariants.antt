@@ -1,0 +1,9 @@
+use Rattle.std.proofs.Common.{◌≡◌, ◌≤◌, vec_len, vec_capacity}
+use Rattle.bridge_server.proofs.sinks.counts_for.Given as goal
+
+abbrev pub invariant-loop : goal.invariant-loop
+invariant-loop l = record {
+  many : vec_len l.counts ≡ l.counter;
+  capacity : l.count ≤ vec_capacity l.counts;
+  count : l.count ≡ l.fn.count;
+}

@@ -1,0 +1,146 @@
+//! The sinks of lanes, which all send from the one socket for datagrams.
+
+ghost use Rattle.std.specs.Prelude.{◌≡◌, [], length, All, IfOk, vec_len};
+ghost use Rattle.lane_wire.specs.Logs.{taken_list};
+
+use bridge_core::Egress;
+use lane_wire::{LaneWire, SendFault, SharedCounts, WireLog, WireSink};
+use mio::net::UdpSocket;
+use rtp_codec::Address;
+use std::alloc::{AllocError, Global};
+use std::io::{Error, ErrorKind};
+use std::sync::{Arc, Wait};
+use std::thread::Parker;
+use std::time::Duration;
+use udp_front::socket_address;
+
+/// How many octets of a datagram are joined without taking memory.
+const WHOLE: usize = 9_000;
+/// How many milliseconds a pause lasts.
+const PAUSE: u64 = 1;
+/// The system's number for a message that is too long (EMSGSIZE).
+const TOO_LONG: i32 = 90;
+/// The system's number for a queue that is full (ENOBUFS).
+const NO_BUFFERS: i32 = 105;
+
+/// The socket for datagrams as the wire of a lane.
+#[derive(Drop)]
+pub(crate) struct LaneSocket {
+    socket: Arc<UdpSocket, Global>,
+    /// Where a datagram's parts are joined before it is sent.
+    whole: Vec<u8>,
+    /// What a pause waits at. Nobody wakes it.
+    parker: Parker,
+    /// What was done on it, in proofs alone.
+    log: WireLog,
+}
+
+/// Why the system didn't send a datagram.
+fn send_fault(error: Error) -> SendFault {
+    match error.kind() {
+        ErrorKind::WouldBlock => SendFault::NotReady,
+        ErrorKind::PermissionDenied => SendFault::Denied,
+        ErrorKind::ConnectionRefused => SendFault::Refused,
+        ErrorKind::HostUnreachable | ErrorKind::NetworkUnreachable | ErrorKind::NetworkDown =>
+            SendFault::Unreachable,
+        _ => match error.raw_os_error() {
+            Some(NO_BUFFERS) => SendFault::NotReady,
+            Some(TOO_LONG) => SendFault::TooLong,
+            _ => SendFault::Other,
+        },
+    }
+}
+
+impl LaneSocket {
+    /// Tries to send these octets.
+    fn send_octets(&self, to: Address, octets: &[u8]) -> Result<(), SendFault> {
+        match self.socket.send_to(octets, socket_address(to)) {
+            Ok(_) => Ok(()),
+            Err(error) => Err(send_fault(error)),
+        }
+    }
+
+    /// Tries to send a datagram in two parts.
+    fn send_parts(&mut self, to: Address, first: &[u8], rest: &[u8]) -> Result<(), SendFault>
+        ensures { self.new.log ≡ self.old.log }
+    {
+        if first.is_empty() {
+            return self.send_octets(to, rest);
+        }
+        self.whole.clear();
+        if self.whole.extend_from_slice(first).is_err()
+            || self.whole.extend_from_slice(rest).is_err()
+        {
+            return Err(SendFault::Other);
+        }
+        self.send_octets(to, &self.whole)
+    }
+
+    /// Tries to send the datagram of an egress.
+    fn send_once(&mut self, egress: &Egress) -> Result<(), SendFault>
+        ensures { self.new.log ≡ self.old.log }
+    {
+        match egress {
+            Egress::Media { to, bytes, .. } => {
+                let (first, rest) = bytes.parts();
+                self.send_parts(*to, first, rest)
+            }
+            Egress::Control { to, bytes, .. } => self.send_octets(*to, bytes),
+            Egress::Note { .. } => Ok(()),
+        }
+    }
+}
+
+impl LaneWire for LaneSocket {
+    ghost use Rattle.lane_wire.specs.Logs.{step_list};
+
+    ghost steps = { λ wire. step_list wire.log };
+
+    fn send(&mut self, egress: &Egress) -> Result<(), SendFault> {
+        let answer = self.send_once(egress);
+        self.log.note_try(egress, &answer);
+        answer
+    }
+
+    fn pause<R: Wait>(&mut self, rt: &R) {
+        self.parker.park_timeout(rt, Duration::from_millis(PAUSE));
+        self.log.note_pause();
+    }
+}
+
+/// Counts of so many lanes. The only error is out of memory.
+pub(crate) fn counts_for(
+    alloc: Global,
+    count: usize,
+) -> Result<Vec<Arc<SharedCounts, Global>>, AllocError>
+    ensures { IfOk result (λ counts. vec_len counts ≡ count) }
+{
+    let mut counts = Vec::with_capacity(alloc, count)?;
+    for _ in 0..count {
+        counts.push_reserved(Arc::new(alloc, SharedCounts::new())?);
+    }
+    Ok(counts)
+}
+
+/// A sink for each of these counts, which sends from a socket. The only error is out of memory.
+pub(crate) fn sinks_for(
+    alloc: Global,
+    socket: &Arc<UdpSocket, Global>,
+    counts: &[Arc<SharedCounts, Global>],
+) -> Result<Vec<WireSink<LaneSocket>>, AllocError>
+    ensures len { IfOk result (λ sinks. vec_len sinks ≡ length counts.now) }
+    ensures untaken { IfOk result (λ sinks. All (λ sink. taken_list sink.sent.taken ≡ []) sinks.items) }
+{
+    let mut sinks = Vec::with_capacity(alloc, counts.len())?;
+    for shown in counts {
+        let wire = LaneSocket {
+            socket: Arc::try_clone(socket)?,
+            whole: Vec::with_capacity(alloc, WHOLE)?,
+            parker: Parker::new(),
+            log: WireLog::new(),
+        };
+        let sink = WireSink::new(wire, Arc::try_clone(shown)?);
+        sinks.push_reserved(sink);
+    }
+    Ok(sinks)
+}
