@@ -6,6 +6,7 @@ mod ending;
 
 use crate::ending::{ServeFault, serve_status};
 use bridge_server::{Front, Stopped};
+use lane_wire::{SendCounts, SendFault};
 use script_text::{Ask, Exit, Reader, Writer, asked, exit_status, run, unread};
 use std::alloc::AllocGlobal;
 use std::fs::Files;
@@ -99,7 +100,28 @@ where
     Ok(front.run(rt)?)
 }
 
-/// Tells of each operator how many calls were accepted, and of each lane how many items were dropped, if any were.
+/// Why a lane may not have sent a packet, in the order in which it is told.
+const CAUSES: [SendFault; 6] = [
+    SendFault::NotReady,
+    SendFault::Denied,
+    SendFault::Refused,
+    SendFault::Unreachable,
+    SendFault::TooLong,
+    SendFault::Other,
+];
+
+/// Tells how many packets a lane could not send, by cause, if there were any.
+fn tell_unsent<R: Runtime>(rt: &R, lane: u32, counts: &SendCounts) {
+    for cause in CAUSES {
+        let packets = counts.failed(cause);
+        if packets > 0 {
+            let _ = eprintln!(rt; "confbridge: lane {lane}: {packets} packets not sent: {cause}");
+        }
+    }
+}
+
+/// Tells of each operator how many calls were accepted, and of each lane how many items were dropped and how many
+/// packets were not sent, if any were.
 fn tell_counts<R: Runtime>(rt: &R, stopped: &Stopped) {
     let mut op: u32 = 0;
     for calls in &stopped.accepted {
@@ -111,6 +133,11 @@ fn tell_counts<R: Runtime>(rt: &R, stopped: &Stopped) {
         if *dropped > 0 {
             let _ = eprintln!(rt; "confbridge: lane {lane}: {dropped} items dropped");
         }
+        lane = lane.saturating_add(1);
+    }
+    let mut lane: u32 = 0;
+    for sent in &stopped.sent {
+        tell_unsent(rt, lane, &sent.counts);
         lane = lane.saturating_add(1);
     }
 }
