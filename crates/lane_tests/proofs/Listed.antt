@@ -1,6 +1,6 @@
 -- Lists that grow at their end, and lists of which one element is changed.
-use Rattle.std.proofs.Common.{◌≡◌, ◌⊎◌, ◌<◌, ℕ, zero, suc, List, [], ◌∷◌, ◌++◌, length, map, get_or, Option, Some, None, Result, Ok, Err, IfSome, IfNone, IfErr, OnOk, slice_get, slice_set, ap, subst, ◌∙◌, ⊎_elim, arith}
-use Rattle.std.proofs.lemmas.List.{length-set, length-map}
+use Rattle.std.proofs.Common.{◌≡◌, ◌⊎◌, ◌<◌, ℕ, zero, suc, List, [], ◌∷◌, ◌++◌, length, get_or, Some, Result, Ok, Err, IfErr, OnOk, slice_get, slice_set, ap, subst, ◌∙◌, ⊎_elim, arith}
+use Rattle.std.proofs.lemmas.List.{length-set}
 use Rattle.std.proofs.lemmas.Option.{slice_get-get_or}
 
 -- what holds of each element and of one more
@@ -26,21 +26,14 @@ pub kept_by_push : {X A E : Type 0} (result : Result A E) (old new : List X) (at
 kept_by_push (Ok a) old new at f Q B lt ok err = length_kept old new at f Q lt ok
 kept_by_push (Err e) old new at f Q B lt ok err = ap length err.1
 
--- one element is changed where there is an answer, and none else
-pub kept_by_pop : {X E : Type 0} (result : Option (ℕ × E)) (old new : List X) (f : E → X → X) (Q : X → Type 0)
-    → IfSome result (λ r. r.0 < length old) → IfSome result (λ r. (x : X) → slice_get old r.0 ≡ Some x → Q x × (new ≡ slice_set old r.0 (f r.1 x))) → IfNone result (new ≡ old)
-    → length new ≡ length old
-kept_by_pop (Some r) old new f Q lane some none = length_kept old new r.0 (f r.1) Q lane some
-kept_by_pop None old new f Q lane some none = ap length none
-
--- all elements are changed, and one of them perhaps once more
-pub kept_by_end : {X : Type 0} (old new : List X) (at : ℕ) (f g : X → X) → at < length old
-    → ((x : X) → slice_get old at ≡ Some x → (new ≡ map f old) ⊎ (new ≡ slice_set (map f old) at (g x))) → length new ≡ length old
-kept_by_end [] new at f g lt changed = absurd (omega (arith, lt))
-kept_by_end {X} (x ∷ xs) new at f g lt changed =
+-- one element is changed, or none is
+pub kept_by_end : {X : Type 0} (old new : List X) (at : ℕ) (f : X → X) → at < length old
+    → ((x : X) → slice_get old at ≡ Some x → (new ≡ old) ⊎ (new ≡ slice_set old at (f x))) → length new ≡ length old
+kept_by_end [] new at f lt changed = absurd (omega (arith, lt))
+kept_by_end {X} (x ∷ xs) new at f lt changed =
     let all : List X = x ∷ xs in
     let y = get_or all at x in
     ⊎_elim
-    (λ (same : new ≡ map f all). ap length same ∙ length-map all f)
-    (λ (once : new ≡ slice_set (map f all) at (g y)). ap length once ∙ (length-set (map f all) at (g y) ∙ length-map all f))
+    (λ (same : new ≡ all). ap length same)
+    (λ (once : new ≡ slice_set all at (f y)). ap length once ∙ length-set all at (f y))
     (changed y (slice_get-get_or all at x lt))

@@ -225,7 +225,7 @@ fn is_played<'a, H: Hall + Send + Sync, R: Threads + Wait + Sync>(
     let is_well = are_beside(rt, alloc, desk, &mut running, asked, &mut gathered);
     let ends = running.close(rt);
     is_well
-        && are_handled(&ends, COUNT)
+        && are_handled(&ends, LANES as usize, COUNT)
         && are_in_order(asked)
         && gathered.is_whole()
         && are_same(alloc, gathered.sent()) == Some(true)

@@ -4,17 +4,17 @@ ghost use Rattle.std.specs.Prelude.{◌≡◌, All};
 ghost use Rattle.desk_rows.specs.Desk.{blank as no_rows};
 ghost use Rattle.versions.specs.Published.{new_reader};
 
-use crate::beginning::begun;
+use crate::beginning::begun_with;
 use crate::cast::{set_up, slot, streams, video};
 use crate::feed::frame_of;
 use crate::gathering::Gathered;
 use crate::many::tell_all;
 use crate::one_thread::OneThread;
 use crate::paces::Free;
+use crate::rings::Rings;
 use crate::running::{Ends, Running};
 use crate::stage::OneDesk;
 use crate::streams::is_beginning;
-use crate::together::next;
 use crate::told::{OfHall, Told};
 use bridge_core::Egress;
 use desk_edit::Command;
@@ -23,16 +23,18 @@ use media_workers::{Pace, PublisherName};
 use operator_desk::{DeskNames, Hall, Log};
 use std::alloc::Global;
 use std::marker::Brand;
-use std::sync::Wait;
+use std::sync::atomic::{AtomicBool, Ordering};
+use std::sync::{Arc, Wait};
 use std::test::*;
-use std::thread::Threads;
+use std::thread;
+use std::thread::{JoinHandle, Threads};
 use versions::LaneReader;
 
-/// How many frames each lane is given. What they send doesn't fit a lane's ring of 4,096 egresses.
+/// How many frames each lane is given.
 const FRAMES: u64 = 1_024;
 
-/// How many egresses are taken before the end.
-const TAKEN: u64 = 100;
+/// How many egresses a lane's ring holds. A lane sends 2 or 6 for a frame.
+const PLACES: usize = 16;
 
 /// A further slot shows member 3.
 fn show_more() -> Command {
@@ -61,13 +63,13 @@ pub fn give_frames<N: PublisherName, P: Pace>(
     true
 }
 
-/// What one thread sends for the frames.
-fn wanted(alloc: Global) -> Option<Vec<Egress>> {
+/// What one thread sends for so many frames.
+fn wanted(alloc: Global, frames: u64) -> Option<Vec<Egress>> {
     let mut one = OneThread::new(alloc)?;
     if !one.does(alloc, show_more()) {
         return None;
     }
-    for number in 0..FRAMES {
+    for number in 0..frames {
         if !one.handles(alloc, &frame_of(alloc, 3, number)?) {
             return None;
         }
@@ -75,45 +77,69 @@ fn wanted(alloc: Global) -> Option<Vec<Egress>> {
     Some(one.into_sent())
 }
 
-/// Whether what was taken is a beginning of what one thread sends, on each stream.
-fn is_part(alloc: Global, taken: &Vec<Egress>) -> Option<bool> {
-    let wanted = wanted(alloc)?;
-    let mut is_part = taken.len() < wanted.len();
+/// Whether what was taken is on each stream what one thread sends for so many frames, and nothing else.
+pub fn is_all(alloc: Global, taken: &Vec<Egress>, frames: u64) -> Option<bool> {
+    let wanted = wanted(alloc, frames)?;
+    let mut is_all = taken.len() == wanted.len();
     for stream in &streams(alloc).ok()? {
-        is_part = is_part && is_beginning(*stream, taken, &wanted);
+        is_all = is_all && is_beginning(*stream, taken, &wanted);
     }
-    Some(is_part)
+    Some(is_all)
 }
 
-/// Whether two lanes handled so many frames each, and refused none.
-pub fn are_handled<N: PublisherName>(ends: &Ends<N>, frames: u64) -> bool {
-    ends.len() == 2
+/// Whether so many lanes handled so many frames each, and refused none.
+pub fn are_handled<N: PublisherName>(ends: &Ends<N>, lanes: usize, frames: u64) -> bool {
+    ends.len() == lanes
         && ends
             .iter()
             .all(|end| end.handled == frames && end.refused.is_none())
 }
 
-/// Gives the frames, takes some of what they send, and ends the lanes.
+/// All that lanes send until they have ended.
+fn all_of<R: Wait>(rt: &R, alloc: Global, rings: Rings, have_ended: &AtomicBool) -> Gathered {
+    let mut rings = rings;
+    let mut gathered = Gathered::new(alloc);
+    for _ in rt.forever() {
+        let is_over = have_ended.load(Ordering::SeqCst);
+        gathered.take_some(&mut rings, u64::MAX);
+        if is_over {
+            return gathered;
+        }
+        thread::yield_now();
+    }
+    unreachable!()
+}
+
+/// A thread that takes what lanes send until they have ended.
+fn taker<R: Threads + Wait + Copy + Send + 'static>(
+    rt: &R,
+    alloc: Global,
+    rings: Rings,
+    have_ended: &Arc<AtomicBool, Global>,
+) -> Option<JoinHandle<Gathered>> {
+    let theirs = Arc::try_clone(have_ended).ok()?;
+    let own = *rt;
+    thread::spawn(rt, move || all_of(&own, alloc, rings, &theirs)).ok()
+}
+
+/// Gives the frames, and ends the lanes while another thread takes what they send.
 fn is_ended<N: PublisherName, P: Pace, R: Threads + Wait>(
     rt: &R,
     alloc: Global,
     running: Running<N, P>,
     told: Told<N>,
+    taker: JoinHandle<Gathered>,
+    have_ended: &AtomicBool,
 ) -> bool {
     let mut running = running;
-    let mut gathered = Gathered::new(alloc);
     let is_given = give_frames(alloc, &mut running, FRAMES, &told);
-    if is_given {
-        for _ in 0..TAKEN {
-            let (_, egress) = next(rt, &mut running);
-            gathered.take(egress);
-        }
-    }
     let ends = running.close(rt);
+    have_ended.store(true, Ordering::SeqCst);
+    let gathered = taker.join(rt);
     is_given
         && gathered.is_whole()
-        && are_handled(&ends, FRAMES)
-        && is_part(alloc, gathered.sent()) == Some(true)
+        && are_handled(&ends, 2, FRAMES)
+        && is_all(alloc, gathered.sent(), FRAMES) == Some(true)
 }
 
 /// Two paces.
@@ -134,8 +160,16 @@ fn is_started<H: Hall + Send + Sync + 'static, R: Threads + Wait + Copy + Send +
     requires { All (λ reader. reader ≡ new_reader H.publisher H.start) readers.items }
 {
     let paces = paces(alloc)?;
-    let running = begun::<H, Free, R>(rt, alloc, readers, paces)?;
-    Some(is_ended(rt, alloc, running, told))
+    let have_ended = Arc::new(alloc, AtomicBool::new(false)).ok()?;
+    let mut running = begun_with::<H, Free, R>(rt, alloc, readers, paces, PLACES)?;
+    let rings = running.take_rings(alloc);
+    match taker(rt, alloc, rings, &have_ended) {
+        Some(taker) => Some(is_ended(rt, alloc, running, told, taker, &have_ended)),
+        None => {
+            running.close(rt);
+            None
+        }
+    }
 }
 
 /// Sets the desk up, so that a frame of member 3 goes to four slots. False where a command is refused.
@@ -174,8 +208,8 @@ fn scene<H: Hall + Send + Sync + 'static, R: Threads + Wait + Copy + Drop + Send
     }
 }
 
-/// Two lanes that have more to send than their rings hold are ended: each handles all that it was given, and what was
-/// taken of them before is on each stream a beginning of what one thread sends.
+/// Two lanes that have more to send than their rings hold are ended, while another thread takes what they send: each
+/// handles all that it was given, and sends on each stream what one thread sends.
 #[test]
 fn lanes_end_while_they_send(rt: HostRuntime) -> Result<(), Fail> {
     let alloc = rt.alloc();

@@ -1,4 +1,4 @@
-//! Paces that are not as many as lanes.
+//! Outfits that are not as many as lanes.
 
 ghost use Rattle.std.specs.Prelude.{◌≡◌, All};
 ghost use Rattle.desk_rows.specs.Desk.{blank as no_rows};
@@ -6,6 +6,7 @@ ghost use Rattle.versions.specs.Published.{new_reader};
 
 use crate::lanes::lanes;
 use crate::paces::Free;
+use crate::rings::outfits;
 use crate::running::Running;
 use crate::stage::OneDesk;
 use crate::told::OfHall;
@@ -26,18 +27,18 @@ fn free(alloc: Global, count: usize) -> Option<Vec<Free>> {
     Some(paces)
 }
 
-/// How many lanes come back of a start with so many paces that is refused for its counts.
+/// How many lanes come back of a start with so many outfits that is refused for its counts.
 fn back<H: Hall + Send + Sync + 'static, R: Threads + Wait + Copy + Send + 'static>(
     rt: &R,
     alloc: Global,
     readers: Vec<LaneReader>,
-    paces: usize,
+    count: usize,
 ) -> Option<usize>
     requires { All (λ reader. reader ≡ new_reader H.publisher H.start) readers.items }
 {
-    let paces = free(alloc, paces)?;
+    let (outfits, rings) = outfits(alloc, free(alloc, count)?, 1).ok()?;
     let lanes = lanes::<H>(alloc, readers).ok()?;
-    match Running::<OfHall<H>, Free>::start(rt, alloc, lanes, paces) {
+    match Running::<OfHall<H>, Free>::start(rt, alloc, lanes, outfits, rings) {
         Ok(running) => {
             running.close(rt);
             None
@@ -69,9 +70,9 @@ fn scene<H: Hall + Send + Sync + 'static, R: Threads + Wait + Copy + Drop + Send
     }
 }
 
-/// Where paces are too few, or there is no lane, no lane runs and the lanes come back.
+/// Where outfits are too few, or there is no lane, no lane runs and the lanes come back.
 #[test]
-fn too_few_paces_hand_lanes_back(rt: HostRuntime) -> Result<(), Fail> {
+fn too_few_outfits_hand_lanes_back(rt: HostRuntime) -> Result<(), Fail> {
     let alloc = rt.alloc();
     let log = Log::new(alloc)?;
     assert!(rt; scene::<Brand, _>(&rt, alloc, &log, DeskNames::new(1)));

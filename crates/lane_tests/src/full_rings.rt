@@ -5,10 +5,11 @@ ghost use Rattle.desk_rows.specs.Desk.{blank as no_rows};
 ghost use Rattle.versions.specs.Published.{new_reader};
 
 use crate::beginning::begun;
-use crate::closing::sets_up;
+use crate::closing::{are_handled, is_all, sets_up};
 use crate::feed::frame_of;
+use crate::gathering::{Gathered, end_taking};
 use crate::paces::Free;
-use crate::running::{Ends, Running};
+use crate::running::Running;
 use crate::stage::OneDesk;
 use crate::told::{OfHall, Told};
 use media_workers::{Pace, PublisherName};
@@ -60,15 +61,7 @@ fn fills<N: PublisherName, P: Pace, R: Wait>(
     true
 }
 
-/// Whether the one lane handled all frames and refused none.
-fn are_handled<N: PublisherName>(ends: &Ends<N>) -> bool {
-    match ends.first() {
-        Some(end) => ends.len() == 1 && end.handled == FRAMES && end.refused.is_none(),
-        None => false,
-    }
-}
-
-/// Fills the rings, and ends the lane.
+/// Fills the rings, and ends the lane while what it sends is taken.
 fn is_ended<N: PublisherName, P: Pace, R: Threads + Wait>(
     rt: &R,
     alloc: Global,
@@ -76,9 +69,14 @@ fn is_ended<N: PublisherName, P: Pace, R: Threads + Wait>(
     told: Told<N>,
 ) -> bool {
     let mut running = running;
+    let mut gathered = Gathered::new(alloc);
     let are_full = fills(rt, alloc, &mut running, &told);
+    end_taking(rt, &mut running, &mut gathered);
     let ends = running.close(rt);
-    are_full && are_handled(&ends)
+    are_full
+        && gathered.is_whole()
+        && are_handled(&ends, 1, FRAMES)
+        && is_all(alloc, gathered.sent(), FRAMES) == Some(true)
 }
 
 /// The same, with a lane that is started for it.
@@ -122,8 +120,8 @@ fn scene<H: Hall + Send + Sync + 'static, R: Threads + Wait + Copy + Drop + Send
     }
 }
 
-/// A lane whose ring of egresses is full, and whose ring of parcels is full behind it, is ended: it handles all that it
-/// accepted.
+/// A lane whose ring of egresses is full, and whose ring of parcels is full behind it, goes on once what it sends is
+/// taken: it handles all that it accepted, sends what one thread sends, and ends.
 #[test]
 fn a_lane_with_full_rings_is_ended(rt: HostRuntime) -> Result<(), Fail> {
     let alloc = rt.alloc();

@@ -1,54 +1,47 @@
-//! A ring of egresses that is filled.
+//! A lane whose sink waits in the middle of a frame.
 
 ghost use Rattle.std.specs.Prelude.{◌≡◌, All};
 ghost use Rattle.desk_rows.specs.Desk.{blank as no_rows};
 ghost use Rattle.versions.specs.Published.{new_reader};
 
-use crate::beginning::begun;
-use crate::closing::{give_frames, sets_up};
+use crate::beginning::begun_with;
+use crate::closing::{are_handled, give_frames, is_all, sets_up};
+use crate::gathering::Gathered;
 use crate::paces::{Asked, Counted};
 use crate::running::Running;
 use crate::stage::OneDesk;
+use crate::together::next;
 use crate::told::{OfHall, Told};
+use crate::waiting::wait_for_full;
 use media_workers::{Pace, PublisherName};
 use operator_desk::{DeskNames, Hall, Log};
 use std::alloc::Global;
 use std::marker::Brand;
 use std::sync::{Arc, Wait};
 use std::test::*;
-use std::thread;
 use std::thread::Threads;
 use versions::LaneReader;
 
-/// How many egresses a lane's ring holds.
-const RING_EGRESSES: u64 = 4_096;
+/// How many egresses the lane's ring holds: less than a frame's eight.
+const PLACES: usize = 3;
 
-/// How many frames fill it. Each goes to four slots, in two packets.
-const FRAMES: u64 = RING_EGRESSES / 8;
+/// How many frames the lane is given. Each goes to four slots, in two packets.
+const FRAMES: u64 = 2;
 
-/// Waits until the lane asks its pace for an item behind all frames.
-fn wait_for_all<R: Wait>(rt: &R, asked: &Asked) {
-    for _ in rt.forever() {
-        if asked.times() > FRAMES {
-            return;
-        }
-        thread::yield_now();
+/// Takes what the lane sends for the frames, for which it waits.
+fn take_all<N: PublisherName, P: Pace, R: Wait>(
+    rt: &R,
+    running: &mut Running<N, P>,
+    gathered: &mut Gathered,
+) {
+    for _ in 0..FRAMES * 8 {
+        let (_, egress) = next(rt, running);
+        gathered.take(egress);
     }
-    unreachable!()
 }
 
-/// How many egresses come off the ring until it is empty.
-fn count_taken<N: PublisherName, P: Pace>(running: &mut Running<N, P>) -> u64 {
-    for taken in 0..u64::MAX {
-        if running.pop().is_none() {
-            return taken;
-        }
-    }
-    u64::MAX
-}
-
-/// Whether all that the frames send is on the ring before any of it is taken.
-fn is_full<N: PublisherName, P: Pace, R: Threads + Wait>(
+/// Whether the lane waits in the first frame until its packets are taken, and then goes on where it was.
+fn goes_on<N: PublisherName, P: Pace, R: Threads + Wait>(
     rt: &R,
     alloc: Global,
     running: Running<N, P>,
@@ -56,13 +49,19 @@ fn is_full<N: PublisherName, P: Pace, R: Threads + Wait>(
     told: Told<N>,
 ) -> bool {
     let mut running = running;
-    let are_given = give_frames(alloc, &mut running, FRAMES, &told);
-    if are_given {
-        wait_for_all(rt, asked);
+    let mut gathered = Gathered::new(alloc);
+    let is_given = give_frames(alloc, &mut running, FRAMES, &told);
+    let mut waits = false;
+    if is_given {
+        wait_for_full(rt, &mut running, 0, PLACES);
+        waits = asked.times() == 1;
+        take_all(rt, &mut running, &mut gathered);
     }
-    let taken = count_taken(&mut running);
-    running.close(rt);
-    are_given && taken == RING_EGRESSES
+    let ends = running.close(rt);
+    waits
+        && gathered.is_whole()
+        && are_handled(&ends, 1, FRAMES)
+        && is_all(alloc, gathered.sent(), FRAMES) == Some(true)
 }
 
 /// The pace that counts what it is asked.
@@ -84,8 +83,8 @@ fn is_started<H: Hall + Send + Sync + 'static, R: Threads + Wait + Copy + Send +
 {
     let asked = Arc::new(alloc, Asked::new()).ok()?;
     let paces = counted(alloc, &asked)?;
-    let running = begun::<H, Counted, R>(rt, alloc, readers, paces)?;
-    Some(is_full(rt, alloc, running, &asked, told))
+    let running = begun_with::<H, Counted, R>(rt, alloc, readers, paces, PLACES)?;
+    Some(goes_on(rt, alloc, running, &asked, told))
 }
 
 /// The same, over a desk that is set up.
@@ -114,9 +113,10 @@ fn scene<H: Hall + Send + Sync + 'static, R: Threads + Wait + Copy + Drop + Send
     }
 }
 
-/// A lane's ring of egresses takes 4,096 before any is taken off it.
+/// A lane whose ring has places for three of a frame's eight packets waits in that frame, and handles no other item.
+/// As its packets are taken it goes on with the next one: on each stream it sends what one thread sends.
 #[test]
-fn a_ring_holds_4096_egresses(rt: HostRuntime) -> Result<(), Fail> {
+fn a_lane_waits_in_a_frame(rt: HostRuntime) -> Result<(), Fail> {
     let alloc = rt.alloc();
     let log = Log::new(alloc)?;
     assert!(rt; scene::<Brand, _>(&rt, alloc, &log, DeskNames::new(1)));

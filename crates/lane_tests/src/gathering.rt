@@ -1,9 +1,10 @@
 //! What lanes that run have sent, gathered.
 
 use crate::paces::{Asked, Counted};
+use crate::rings::Rings;
 use crate::running::Running;
 use bridge_core::Egress;
-use media_workers::{Pace, PublisherName};
+use media_workers::{Pace, Parcel, PublisherName};
 use std::alloc::Global;
 use std::sync::{Arc, Wait};
 use std::thread;
@@ -39,10 +40,10 @@ impl Gathered {
         }
     }
 
-    /// Takes so many egresses, or fewer where there are no more.
-    pub fn take_some<N: PublisherName, P: Pace>(&mut self, running: &mut Running<N, P>, most: u64) {
+    /// Takes so many egresses off the rings, or fewer where there are no more.
+    pub fn take_some(&mut self, rings: &mut Rings, most: u64) {
         for _ in 0..most {
-            match running.pop() {
+            match rings.pop() {
                 Some((_, egress)) => self.take(egress),
                 None => return,
             }
@@ -100,8 +101,37 @@ pub fn settle<N: PublisherName, P: Pace, R: Wait>(
 ) {
     for _ in rt.forever() {
         let are_asked = are_asked(asked, times);
-        gathered.take_some(running, u64::MAX);
+        gathered.take_some(running.rings(), u64::MAX);
         if are_asked {
+            return;
+        }
+        thread::yield_now();
+    }
+    unreachable!()
+}
+
+/// Gives each lane that has not ended its `End`, if the lane's ring has a place. Says whether all have ended.
+fn give_ends<N: PublisherName, P: Pace>(running: &mut Running<N, P>) -> bool {
+    let mut have_ended = true;
+    for lane in 0..running.lanes() {
+        if !running.ended(lane) {
+            have_ended = false;
+            let _ = running.push(lane, Parcel::End);
+        }
+    }
+    have_ended
+}
+
+/// Ends the lanes, and takes what they send until they have ended.
+pub fn end_taking<N: PublisherName, P: Pace, R: Wait>(
+    rt: &R,
+    running: &mut Running<N, P>,
+    gathered: &mut Gathered,
+) {
+    for _ in rt.forever() {
+        let have_ended = give_ends(running);
+        gathered.take_some(running.rings(), u64::MAX);
+        if have_ended {
             return;
         }
         thread::yield_now();

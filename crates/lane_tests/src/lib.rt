@@ -39,6 +39,8 @@ mod refusal;
 #[cfg(test)]
 mod ring;
 #[cfg(test)]
+mod rings;
+#[cfg(test)]
 mod rows;
 #[cfg(test)]
 mod running;
@@ -55,6 +57,6 @@ mod together;
 #[cfg(test)]
 mod told;
 #[cfg(test)]
-mod turns;
-#[cfg(test)]
 mod unrung;
+#[cfg(test)]
+mod waiting;

@@ -1,23 +1,27 @@
-//! Lanes that run, for tests.
+//! Lanes that run and send into rings, for tests.
 
-ghost use Rattle.std.specs.Prelude.{◌≡◌, ◌<◌, ◌^◌, length, vec_len, All};
+ghost use Rattle.std.specs.Prelude.{◌≡◌, ◌<◌, ◌^◌, [], length, vec_len, All};
+ghost use Rattle.rtrb.specs.Ring.{sent};
 ghost use Rattle.media_workers.specs.LaneRuns.{LaneNow};
 ghost use Rattle.media_workers.specs.Parcels.{IsFit};
 ghost use Rattle.media_workers.specs.Bridges.{AreNew};
 
+use crate::rings::{Outfits, Rings};
 use bridge_core::Egress;
 use media_workers::{Bridge, Lane, LaneEnd, Pace, Parcel, PublisherName, StartFault};
 use rtrb::Producer;
 use std::alloc::Global;
+use std::mem;
 use std::sync::Wait;
 use std::thread::Threads;
 
 /// How lanes ended.
 pub type Ends<N> = Vec<LaneEnd<N, Producer<Egress>>>;
 
-/// Lanes that run, and how many they are. It is not `Drop`: end it by [`Running::close`].
+/// Lanes that run, how many they are, and their rings. It is not `Drop`: end it by [`Running::close`].
 pub struct Running<N: PublisherName, P: Pace> {
-    bridge: Bridge<N, P>,
+    bridge: Bridge<N, P, Producer<Egress>>,
+    rings: Rings,
     lanes: u32,
     ghost many: { length bridge ≡ lanes },
 }
@@ -28,16 +32,19 @@ impl<N: PublisherName + Send + Sync + 'static, P: Pace + Send + Drop + 'static> 
         rt: &R,
         alloc: Global,
         lanes: Vec<Lane>,
-        paces: Vec<P>,
+        outfits: Outfits<P>,
+        rings: Rings,
     ) -> Result<Running<N, P>, (Vec<Lane>, StartFault)>
         requires new { AreNew lanes.items }
         requires publisher { All (λ (lane : LaneNow). lane.reader.publisher ≡ N.publisher) lanes.items }
+        requires untaken { All (λ outfit. sent outfit.1 ≡ []) outfits.items }
         requires many { vec_len lanes < 2 ^ 32 }
     {
         let many = lanes.len() as u32;
-        match Bridge::<N, P>::start(rt, alloc, lanes, paces) {
+        match Bridge::start(rt, alloc, lanes, outfits) {
             Ok(bridge) => Ok(Running {
                 bridge,
+                rings,
                 lanes: many,
             }),
             Err(refused) => Err(refused),
@@ -72,7 +79,17 @@ impl<N: PublisherName, P: Pace> Running<N, P> {
 
     /// The next egress of any lane.
     pub fn pop(&mut self) -> Option<(u32, Egress)> {
-        self.bridge.pop()
+        self.rings.pop()
+    }
+
+    /// The rings leave it.
+    pub fn take_rings(&mut self, alloc: Global) -> Rings {
+        mem::replace(&mut self.rings, Rings::none(alloc))
+    }
+
+    /// What the lanes send.
+    pub fn rings(&mut self) -> &mut Rings {
+        &mut self.rings
     }
 
     /// Whether there is such a lane and it has ended.
@@ -88,9 +105,13 @@ impl<N: PublisherName, P: Pace> Running<N, P> {
         self.bridge.push_end(rt, lane);
     }
 
-    /// Ends the lanes.
+    /// Ends the lanes, whose rings have places for all that they still send.
     pub fn close<R: Threads + Wait>(self, rt: &R) -> Ends<N> {
-        let Running { bridge, lanes: _ } = self;
+        let Running {
+            bridge,
+            rings: _,
+            lanes: _,
+        } = self;
         bridge.close(rt)
     }
 }

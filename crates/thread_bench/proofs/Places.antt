@@ -1,5 +1,5 @@
 -- Lists by their places.
-use Rattle.std.proofs.Common.{◌≡◌, ◌<◌, ℕ, zero, suc, List, [], ◌∷◌, ◌++◌, length, Some, None, Option, Result, Ok, Err, OnOk, IfErr, IfSome, IfNone, refl, ap, subst, ◌∙◌, arith}
+use Rattle.std.proofs.Common.{◌≡◌, ◌<◌, ℕ, zero, suc, List, [], ◌∷◌, ◌++◌, length, Some, Result, Ok, Err, OnOk, IfErr, refl, ap, subst, ◌∙◌, arith}
 use Rattle.std.specs.Prelude.{slice_get, slice_set}
 use Rattle.std.proofs.lemmas.List.{length-set}
 
@@ -29,13 +29,3 @@ long_if_ok (Ok a) old new at C f D low ok err =
     let here = found old at low in
     ap length (ok here.0 here.1).1 ∙ length-set old at (f here.0)
 long_if_ok (Err e) old new at C f D low ok err = ap length err.1
-
-pub long_if_some : {X A : Type 0} (result : Option A) (old new : List X) (at : A → ℕ) (C : X → Type 0) (f : A → X → X)
-    → IfSome result (λ r. at r < length old)
-    → IfSome result (λ r. (x : X) → slice_get old (at r) ≡ Some x → C x × (new ≡ slice_set old (at r) (f r x)))
-    → IfNone result (new ≡ old)
-    → length new ≡ length old
-long_if_some None old new at C f low some none = ap length none
-long_if_some (Some r) old new at C f low some none =
-    let here = found old (at r) low in
-    ap length (some here.0 here.1).1 ∙ length-set old (at r) (f r here.0)

@@ -4,13 +4,12 @@ ghost use Rattle.std.specs.Prelude.{◌≡◌, ◌<◌, length};
 
 use crate::feeding::{step_lanes, take_all};
 use crate::loads::Load;
-use crate::paces::ring_all;
-use lane_bell::{Bell, Rung};
-use media_workers::{Bridge, Pace, PublisherName};
+use crate::paces::{Bells, RingBridge, ring_all};
+use media_workers::{Pace, PublisherName};
 use std::alloc::Global;
-use std::sync::{Arc, Wait};
+use std::sync::Wait;
 
-/// The steps of a batch. The ring of egresses holds all that a lane sends for them.
+/// The steps of a batch. A lane's ring holds all that it sends for them.
 pub const BATCH: u64 = 32;
 
 /// The most egresses that are taken for a batch.
@@ -19,7 +18,7 @@ const EGRESSES: u64 = 4_096;
 /// Gives the first lane a batch of steps from this one on. False where its ring is full or memory runs out.
 fn give_batch<N: PublisherName, P: Pace>(
     alloc: Global,
-    bridge: &mut Bridge<N, P>,
+    bridge: &mut RingBridge<N, P>,
     load: &Load,
     first: u64,
 ) -> bool
@@ -39,9 +38,8 @@ fn give_batch<N: PublisherName, P: Pace>(
 pub fn feed_batches<N: PublisherName, P: Pace, R: Wait + Drop>(
     rt: &R,
     alloc: Global,
-    bridge: &mut Bridge<N, P>,
-    bells: &Vec<Arc<Bell, Global>>,
-    sleeps: &mut Rung<R, ()>,
+    bridge: &mut RingBridge<N, P>,
+    bells: &mut Bells<R>,
     load: &Load,
     batches: u64,
 ) -> u64
@@ -51,13 +49,13 @@ pub fn feed_batches<N: PublisherName, P: Pace, R: Wait + Drop>(
     let items = BATCH.saturating_mul(u64::from(load.items()));
     let mut taken = 0u64;
     for batch in 0..batches {
-        let _asleep = sleeps.pass(batch.saturating_add(1));
-        taken = taken.saturating_add(take_all(bridge, EGRESSES));
+        let _asleep = bells.sleeps.pass(batch.saturating_add(1));
+        taken = taken.saturating_add(take_all(&mut bells.rings, EGRESSES));
         if !give_batch(alloc, bridge, load, batch.saturating_mul(BATCH)) {
             return taken;
         }
-        ring_all(rt, bells, items);
+        ring_all(rt, &bells.bells, items);
     }
-    let _asleep = sleeps.pass(batches.saturating_add(1));
-    taken.saturating_add(take_all(bridge, EGRESSES))
+    let _asleep = bells.sleeps.pass(batches.saturating_add(1));
+    taken.saturating_add(take_all(&mut bells.rings, EGRESSES))
 }

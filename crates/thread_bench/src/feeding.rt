@@ -4,8 +4,10 @@ ghost use Rattle.std.specs.Prelude.{◌≡◌, ◌<◌, ◌≤◌, true, length}
 ghost use Rattle.media_items.specs.Inputs.{input_of, is_sized};
 
 use crate::loads::Load;
-use bridge_core::{Core, Item};
-use media_workers::{Bridge, Pace, Parcel, PublisherName};
+use crate::paces::RingBridge;
+use bridge_core::{Core, Egress, Item};
+use media_workers::{Pace, Parcel, PublisherName};
+use rtrb::Consumer;
 use std::alloc::Global;
 use std::io;
 
@@ -38,7 +40,11 @@ pub fn feed_core(alloc: Global, core: &mut Core, load: &Load, steps: u64) -> io:
 }
 
 /// Gives a lane an item. False where its ring is full.
-fn push_item<N: PublisherName, P: Pace>(bridge: &mut Bridge<N, P>, lane: u32, item: Item) -> bool
+fn push_item<N: PublisherName, P: Pace>(
+    bridge: &mut RingBridge<N, P>,
+    lane: u32,
+    item: Item,
+) -> bool
     requires lane { lane < length bridge.old }
     requires sized { is_sized (input_of item) ≡ true }
     ensures { length bridge.new ≡ length bridge.old }
@@ -50,7 +56,7 @@ fn push_item<N: PublisherName, P: Pace>(bridge: &mut Bridge<N, P>, lane: u32, it
 /// Gives the lanes behind the first one a copy of an item. False where a ring is full or memory runs out.
 fn push_copies<N: PublisherName, P: Pace>(
     alloc: Global,
-    bridge: &mut Bridge<N, P>,
+    bridge: &mut RingBridge<N, P>,
     lanes: u32,
     item: &Item,
 ) -> bool
@@ -72,7 +78,7 @@ fn push_copies<N: PublisherName, P: Pace>(
 /// Gives each lane a step. False where a ring is full or memory runs out.
 pub fn step_lanes<N: PublisherName, P: Pace>(
     alloc: Global,
-    bridge: &mut Bridge<N, P>,
+    bridge: &mut RingBridge<N, P>,
     lanes: u32,
     load: &Load,
     step: u64,
@@ -92,21 +98,21 @@ pub fn step_lanes<N: PublisherName, P: Pace>(
     true
 }
 
-/// Takes an egress, and says whether there was one.
-fn take_one<N: PublisherName, P: Pace>(bridge: &mut Bridge<N, P>) -> bool
-    ensures { length bridge.new ≡ length bridge.old }
-{
-    bridge.pop().is_some()
-}
-
-/// Takes the egresses that are there, so many at most. It answers how many.
-pub fn take_all<N: PublisherName, P: Pace>(bridge: &mut Bridge<N, P>, most: u64) -> u64
-    ensures { length bridge.new ≡ length bridge.old }
-{
+/// Takes the egresses that are on a ring, so many at most. It answers how many.
+fn take_from(ring: &mut Consumer<Egress>, most: u64) -> u64 {
     for taken in 0..most {
-        if !take_one(bridge) {
+        if ring.pop().is_err() {
             return taken;
         }
     }
     most
+}
+
+/// Takes the egresses that lanes sent, so many of each at most. It answers how many.
+pub fn take_all(rings: &mut Vec<Consumer<Egress>>, most: u64) -> u64 {
+    let mut taken = 0u64;
+    for at in 0..rings.len() {
+        taken = taken.saturating_add(take_from(&mut rings[at], most));
+    }
+    taken
 }

@@ -7,11 +7,11 @@ use crate::batches::{BATCH, feed_batches};
 use crate::feeding::feed_core;
 use crate::lanes::lanes_by;
 use crate::loads::Load;
-use crate::paces::{Bells, Paced, open_all, paces_for};
+use crate::paces::{Bells, Paced, RingBridge, open_all, paces_for};
 use crate::rooms::{Plan, core_with};
 use crate::streaming::{Course, feed_stream};
 use crate::timing::{Took, Watch};
-use media_workers::{Bridge, Pace, PublisherName};
+use media_workers::{Pace, PublisherName};
 use std::alloc::Global;
 use std::io;
 use std::marker::Brand;
@@ -58,7 +58,7 @@ pub fn steps_by_core<R: Clock + CpuClock>(
 fn fed<N: PublisherName, P: Pace, R: Wait + Clock + CpuClock + Drop>(
     rt: &R,
     alloc: Global,
-    bridge: &mut Bridge<N, P>,
+    bridge: &mut RingBridge<N, P>,
     bells: &mut Bells<R>,
     load: &Load,
     lanes: u32,
@@ -68,9 +68,8 @@ fn fed<N: PublisherName, P: Pace, R: Wait + Clock + CpuClock + Drop>(
     requires lanes { lanes ≤ length bridge.old }
 {
     let watch = Watch::begin(rt);
-    let Bells { bells, sleeps } = bells;
     let taken = match way {
-        Way::Batches(batches) => feed_batches(rt, alloc, bridge, bells, sleeps, load, *batches),
+        Way::Batches(batches) => feed_batches(rt, alloc, bridge, bells, load, *batches),
         Way::Stream(course) => feed_stream(rt, alloc, bridge, bells, load, lanes, course),
     };
     watch.took(rt, taken)
@@ -91,8 +90,8 @@ fn by_readers<
     requires readers { All (λ (r : ReaderOf). r.publisher ≡ N.publisher) readers.items }
 {
     let lanes = lanes_by::<N>(alloc, readers, count)?;
-    let Paced { mut bells, paces } = paces_for(rt, alloc, count)?;
-    match Bridge::<N, _>::start(rt, alloc, lanes, paces) {
+    let Paced { mut bells, outfits } = paces_for(rt, alloc, count)?;
+    match RingBridge::<N, _>::start(rt, alloc, lanes, outfits) {
         Ok(mut bridge) => {
             let took = fed(rt, alloc, &mut bridge, &mut bells, load, count, way);
             open_all(rt, &bells.bells);

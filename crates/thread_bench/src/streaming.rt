@@ -4,9 +4,11 @@ ghost use Rattle.std.specs.Prelude.{◌≡◌, ◌<◌, ◌≤◌, length};
 
 use crate::feeding::{step_lanes, take_all};
 use crate::loads::Load;
-use crate::paces::ring_all;
+use crate::paces::{Bells, RingBridge, ring_all};
+use bridge_core::Egress;
 use lane_bell::Bell;
-use media_workers::{Bridge, Pace, PublisherName};
+use media_workers::{Pace, PublisherName};
+use rtrb::Consumer;
 use std::alloc::Global;
 use std::sync::{Arc, Wait};
 use std::thread;
@@ -15,7 +17,7 @@ use std::time::{Clock, Duration};
 /// How many steps the lanes together may be behind.
 const AHEAD: u64 = 12;
 
-/// The most egresses that are taken at once.
+/// The most egresses of a lane that are taken at once.
 const EGRESSES: u64 = 1_024;
 
 /// After so many naps in a row, behind which the lanes had sent nothing, nothing more is awaited.
@@ -63,7 +65,7 @@ impl Course {
 fn give_step<N: PublisherName, P: Pace, R: Wait>(
     rt: &R,
     alloc: Global,
-    bridge: &mut Bridge<N, P>,
+    bridge: &mut RingBridge<N, P>,
     bells: &Vec<Arc<Bell, Global>>,
     load: &Load,
     lanes: u32,
@@ -79,14 +81,8 @@ fn give_step<N: PublisherName, P: Pace, R: Wait>(
 }
 
 /// Takes what the lanes sent, and naps where they sent nothing.
-fn take_some<N: PublisherName, P: Pace, R: Clock>(
-    rt: &R,
-    bridge: &mut Bridge<N, P>,
-    progress: &mut Progress,
-)
-    ensures { length bridge.new ≡ length bridge.old }
-{
-    let some = take_all(bridge, EGRESSES);
+fn take_some<R: Clock>(rt: &R, rings: &mut Vec<Consumer<Egress>>, progress: &mut Progress) {
+    let some = take_all(rings, EGRESSES);
     progress.taken = progress.taken.saturating_add(some);
     if some == 0 {
         progress.naps = progress.naps.saturating_add(1);
@@ -97,11 +93,11 @@ fn take_some<N: PublisherName, P: Pace, R: Clock>(
 }
 
 /// Gives all lanes so many steps, a few ahead, and takes what they send. It answers how many egresses there were.
-pub fn feed_stream<N: PublisherName, P: Pace, R: Wait + Clock>(
+pub fn feed_stream<N: PublisherName, P: Pace, R: Wait + Clock + Drop>(
     rt: &R,
     alloc: Global,
-    bridge: &mut Bridge<N, P>,
-    bells: &Vec<Arc<Bell, Global>>,
+    bridge: &mut RingBridge<N, P>,
+    bells: &mut Bells<R>,
     load: &Load,
     lanes: u32,
     course: &Course,
@@ -120,12 +116,12 @@ pub fn feed_stream<N: PublisherName, P: Pace, R: Wait + Clock>(
             break;
         }
         if course.is_due(progress) {
-            if !give_step(rt, alloc, bridge, bells, load, lanes, progress.given) {
+            if !give_step(rt, alloc, bridge, &bells.bells, load, lanes, progress.given) {
                 break;
             }
             progress.given = progress.given.saturating_add(1);
         } else {
-            take_some(rt, bridge, &mut progress);
+            take_some(rt, &mut bells.rings, &mut progress);
         }
     }
     progress.taken

@@ -1,5 +1,5 @@
 use Rattle.desk_rows.specs.Desk.{blank}
-use Rattle.lane_tests.proofs.turns.lanes_are_popped_in_turn.Given as goal
+use Rattle.lane_tests.proofs.counts.too_few_outfits_hand_lanes_back.Given as goal
 
 abbrev pub ghosts-scene-H-Hall : goal.ghosts-scene-H-Hall
 ghosts-scene-H-Hall g a = record { cells = a.log.now; publisher = a.names.publisher; start = blank 1; seats = a.names.ledger.parts }

@@ -1,5 +1,5 @@
 use Rattle.desk_rows.specs.Desk.{blank}
-use Rattle.lane_tests.proofs.full_sink.a_ring_holds_4096_egresses.Given as goal
+use Rattle.lane_tests.proofs.full_sink.a_lane_waits_in_a_frame.Given as goal
 
 abbrev pub ghosts-scene-H-Hall : goal.ghosts-scene-H-Hall
 ghosts-scene-H-Hall g a = record { cells = a.log.now; publisher = a.names.publisher; start = blank 1; seats = a.names.ledger.parts }
