@@ -9,6 +9,7 @@ pub mod BlocksFrom
 pub mod Renewals
 pub mod Happens
 pub mod WaitLemmas
+pub mod AboutLemmas
 pub mod AloneLemmas
 pub mod OtherSources
 pub mod Results

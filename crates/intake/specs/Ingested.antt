@@ -1,9 +1,10 @@
 -- The answer to a datagram (own).
-use Rattle.std.specs.Prelude.{ℕ, List, [], map}
+use Rattle.std.specs.Prelude.{◌≡◌, ℕ, List, [], map}
+use Rattle.std.specs.List.{AllByRecursion}
 use Rattle.rtp_codec.specs.declared.address.Address.{Address}
 use Rattle.intake.specs.declared.outcome.Outcome.{Outcome}
 use Rattle.intake.specs.declared.outcome.Outcome.TheVariants.{Unknown}
-use Rattle.media_items.specs.Inputs.{Input, input_of}
+use Rattle.media_items.specs.Inputs.{Input, frame, audio, tick, nack, block, pli, report, renew, input_of}
 use Rattle.intake.specs.declared.ingest.Ingest.{Ingest}
 use Rattle.intake.specs.declared.ingest.WaitAnswer.{WaitAnswer}
 use Rattle.std.specs.declared.vec.Vec.{Vec}
@@ -33,3 +34,19 @@ ingested_of i = record { outcome = i.outcome; up = map datagram_of i.up.items; i
 -- what the intake answers to a wait, as to a datagram of an unknown source
 abbrev pub answered_of : {A : Type 0} → WaitAnswer A → Ingested
 answered_of a = record { outcome = Unknown; up = map datagram_of a.up.items; items = map input_of a.items.items }
+
+-- If an item asks or tells of an outgoing stream, it does so for this address: a NACK, a report block and a PLI.
+abbrev pub SpeaksFor : Address → Input → Type 0
+SpeaksFor from (nack request) = request.from ≡ from
+SpeaksFor from (block told) = told.from ≡ from
+SpeaksFor from (pli loss) = loss.from ≡ from
+SpeaksFor from (frame f) = Unit {0}
+SpeaksFor from (audio sound) = Unit {0}
+SpeaksFor from (tick moment) = Unit {0}
+SpeaksFor from (report moment) = Unit {0}
+SpeaksFor from renew = Unit {0}
+
+-- The answer is about one address alone: its items speak for no other, and nothing is sent to another.
+pub record IsAbout (from : Address) (ingested : Ingested) : Type 0 where
+  pub items : AllByRecursion (SpeaksFor from) ingested.items
+  pub up : AllByRecursion (λ d. d.0 ≡ from) ingested.up

@@ -5,7 +5,7 @@ ghost use Rattle.rtp_codec.specs.declared.class.Class.TheVariants as classes;
 ghost use Rattle.rtcp_codec.specs.View.{packets_of};
 ghost use Rattle.topology.specs.Looking.{member_from};
 ghost use Rattle.intake.specs.Readings.{IsOf};
-ghost use Rattle.intake.specs.Ingested.{ingested_of, only};
+ghost use Rattle.intake.specs.Ingested.{ingested_of, only, IsAbout};
 ghost use Rattle.intake.specs.Taking.{of_member};
 ghost use Rattle.intake.specs.Intakes.{Moves, TakesIn};
 
@@ -48,6 +48,7 @@ impl<A: Allocator + Copy> Intake<A> {
             → IfOk result
             (λ ingest. Moves self.old self.new (ingested_of ingest)
             (λ voice s. of_member (Some member) from.now moment (packets_of packets.now) s)) }
+        ensures about { IfOk result (λ ingest. IsAbout from.now (ingested_of ingest)) }
         ensures err { OnErr result (self.new ≡ self.old) }
         ensures asker { self.new.asker ≡ self.old.asker }
     {
@@ -74,6 +75,7 @@ impl<A: Allocator + Copy> Intake<A> {
         ensures moves { IfOk result
             (λ ingest. Moves self.old self.new (ingested_of ingest)
             (λ voice s. of_member (member_from rows.now from.now) from.now moment (packets_of packets.now) s)) }
+        ensures about { IfOk result (λ ingest. IsAbout from.now (ingested_of ingest)) }
         ensures err { OnErr result (self.new ≡ self.old) }
         ensures asker { self.new.asker ≡ self.old.asker }
     {
@@ -96,6 +98,7 @@ impl<A: Allocator + Copy> Intake<A> {
         ensures takes { IfOk result
             (λ ingest. TakesIn self.old self.new (ingested_of ingest) octets.now
             (λ r. record { desk = rows.now; from = from.now; moment = moment; reading = r })) }
+        ensures about { IfOk result (λ ingest. IsAbout from.now (ingested_of ingest)) }
         ensures err { OnErr result (self.new ≡ self.old) }
         ensures asker { self.new.asker ≡ self.old.asker }
     {

@@ -8,7 +8,7 @@ ghost use Rattle.source_valid.specs.Histories.{restarts};
 ghost use Rattle.frame_gate.specs.Frame.{highest_pt};
 ghost use Rattle.frame_gate.specs.Packets.{IsExt, NumberedPacket, numbered};
 ghost use Rattle.media_items.specs.Inputs.{input_of};
-ghost use Rattle.intake.specs.Ingested.{ingested_of};
+ghost use Rattle.intake.specs.Ingested.{ingested_of, IsAbout};
 ghost use Rattle.intake.specs.Media.{gate_packet, frame_item, frames_from};
 ghost use Rattle.intake.specs.Taking.{most_epochs};
 ghost use Rattle.intake.specs.inner.Comings.{coming_of, origin_in};
@@ -146,6 +146,7 @@ impl<A: Allocator + Copy> Intake<A> {
             → Admits (gate_for (kept_for key judged.now.rate self.old.entries) judged.now.begins) p admission
             → IfOk result
             (λ ingest. Gates self.old self.new key judged.now (coming_of coming.entry) p (ingested_of ingest)) }
+        ensures about { IfOk result (λ ingest. IsAbout coming.entry.from.now (ingested_of ingest)) }
         ensures err { OnErr result (self.new ≡ self.old) }
         ensures asker { self.new.asker ≡ self.old.asker }
     {
@@ -179,6 +180,7 @@ impl<A: Allocator + Copy> Intake<A> {
         ensures gates { IfOk result
             (λ ingest. Gates self.old self.new key judged.now (coming_of coming.entry)
             (numbered ext (gate_packet (packet_of coming.entry.view.now))) (ingested_of ingest)) }
+        ensures about { IfOk result (λ ingest. IsAbout coming.entry.from.now (ingested_of ingest)) }
         ensures err { OnErr result (self.new ≡ self.old) }
         ensures asker { self.new.asker ≡ self.old.asker }
     {

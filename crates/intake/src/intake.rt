@@ -8,7 +8,7 @@ ghost use Rattle.std.specs.Prelude.{◌≡◌, true, map, IfOk, OnErr};
 ghost use Rattle.desk_rows.specs.Desk.{good};
 ghost use Rattle.intake.specs.Names.{is_name};
 ghost use Rattle.intake.specs.Sources.{no_sources};
-ghost use Rattle.intake.specs.Ingested.{ingested_of, answered_of, datagram_of};
+ghost use Rattle.intake.specs.Ingested.{ingested_of, answered_of, datagram_of, IsAbout};
 ghost use Rattle.intake.specs.Intakes.{Knows, TakesIn, WaitsFor, TellsSenders};
 
 use crate::coming::Origin;
@@ -95,6 +95,7 @@ impl<A: Allocator + Copy> Intake<A> {
         ensures takes { IfOk result
             (λ ingest. TakesIn self.old self.new (ingested_of ingest) octets.now
             (λ r. record { desk = rows.now; from = from.now; moment = moment; reading = r })) }
+        ensures about { IfOk result (λ ingest. IsAbout from.now (ingested_of ingest)) }
         ensures err { OnErr result (self.new ≡ self.old) }
         ensures asker { self.new.asker ≡ self.old.asker }
     {
@@ -129,6 +130,7 @@ impl<A: Allocator + Copy> Intake<A> {
     ) -> Result<WaitAnswer<A>, AllocError>
         ensures waits { IfOk result (λ answer. WaitsFor self.old self.new (answered_of answer) rows.now
             (record { address = from.now; ssrc = ssrc }) moment) }
+        ensures about { IfOk result (λ answer. IsAbout from.now (answered_of answer)) }
         ensures err { OnErr result (self.new ≡ self.old) }
         ensures asker { self.new.asker ≡ self.old.asker }
     {

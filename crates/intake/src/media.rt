@@ -8,7 +8,7 @@ ghost use Rattle.topology.specs.Looking.{source_from};
 ghost use Rattle.media_items.specs.Formats.{rate_of, holds_whole};
 ghost use Rattle.media_items.specs.Rates.{video_rate};
 ghost use Rattle.intake.specs.Readings.{IsOf};
-ghost use Rattle.intake.specs.Ingested.{ingested_of};
+ghost use Rattle.intake.specs.Ingested.{ingested_of, IsAbout};
 ghost use Rattle.intake.specs.Media.{audio_course, video_course, mark_of};
 ghost use Rattle.intake.specs.Taking.{sourced, of_row, room_rate};
 ghost use Rattle.intake.specs.Intakes.{Moves, TakesIn};
@@ -64,6 +64,7 @@ impl<A: Allocator + Copy> Intake<A> {
             (λ ingest. Moves self.old self.new (ingested_of ingest)
             (λ voice s. sourced voice (rate_of format)
             (audio_course format (coming_of coming.entry)) (coming_of coming.entry) s)) }
+        ensures about { IfOk result (λ ingest. IsAbout coming.entry.from.now (ingested_of ingest)) }
         ensures err { OnErr result (self.new ≡ self.old) }
         ensures asker { self.new.asker ≡ self.old.asker }
     {
@@ -82,6 +83,7 @@ impl<A: Allocator + Copy> Intake<A> {
         ensures moves { IfOk result
             (λ ingest. Moves self.old self.new (ingested_of ingest)
             (λ voice s. sourced voice video_rate (video_course (coming_of coming.entry)) (coming_of coming.entry) s)) }
+        ensures about { IfOk result (λ ingest. IsAbout coming.entry.from.now (ingested_of ingest)) }
         ensures err { OnErr result (self.new ≡ self.old) }
         ensures asker { self.new.asker ≡ self.old.asker }
     {
@@ -108,6 +110,7 @@ impl<A: Allocator + Copy> Intake<A> {
             (λ ingest. Moves self.old self.new (ingested_of ingest)
             (λ voice s. of_row voice rows.now (source_from rows.now coming.entry.view.now.ssrc coming.entry.from.now)
             (coming_of coming.entry) s)) }
+        ensures about { IfOk result (λ ingest. IsAbout coming.entry.from.now (ingested_of ingest)) }
         ensures err { OnErr result (self.new ≡ self.old) }
         ensures asker { self.new.asker ≡ self.old.asker }
     {
@@ -140,6 +143,7 @@ impl<A: Allocator + Copy> Intake<A> {
         ensures takes { IfOk result
             (λ ingest. TakesIn self.old self.new (ingested_of ingest) octets.now
             (λ r. record { desk = rows.now; from = from.now; moment = moment; reading = r })) }
+        ensures about { IfOk result (λ ingest. IsAbout from.now (ingested_of ingest)) }
         ensures err { OnErr result (self.new ≡ self.old) }
         ensures asker { self.new.asker ≡ self.old.asker }
     {

@@ -1,6 +1,7 @@
 //! Makes the datagrams that ask a source for packets or a picture.
 
 ghost use Rattle.std.specs.Prelude.{◌≡◌, ◌≤◌, [], ◌∷◌, length, IfOk, map};
+ghost use Rattle.std.specs.List.{AllByRecursion};
 ghost use Rattle.upward.specs.Upstream.{most_words};
 ghost use Rattle.intake.specs.Ingested.{datagram_of};
 ghost use Rattle.intake.specs.inner.Comings.{origin_in};
@@ -52,10 +53,12 @@ impl<A: Allocator + Copy> Intake<A> {
         pli: bool,
     ) -> Result<Vec<(Address, Vec<u8, A>), A>, AllocError>
         requires { length nacks.now ≤ most_words }
-        ensures { (voice : Voice) → IsVoice voice → voice.asker ≡ self.now.asker
+        ensures asked { (voice : Voice) → IsVoice voice → voice.asker ≡ self.now.asker
             → IfOk result
             (λ up. map datagram_of up.items
             ≡ asked_of voice (origin_in origin) nacks.now pli) }
+        ensures about { IfOk result
+            (λ up. AllByRecursion (λ d. d.0 ≡ origin.address) (map datagram_of up.items)) }
     {
         if nacks.is_empty() && !pli {
             return Ok(Vec::new(alloc));

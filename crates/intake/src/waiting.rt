@@ -2,7 +2,7 @@
 
 ghost use Rattle.std.specs.Prelude.{◌≡◌, ◌≤◌, true, is_some, length, IfOk, OnErr};
 ghost use Rattle.frame_gate.specs.Epochs.{most_missing};
-ghost use Rattle.intake.specs.Ingested.{answered_of};
+ghost use Rattle.intake.specs.Ingested.{answered_of, IsAbout};
 ghost use Rattle.intake.specs.Waiting.{video_waited};
 ghost use Rattle.intake.specs.Intakes.{Moves};
 ghost use Rattle.intake.specs.inner.Comings.{origin_in};
@@ -55,6 +55,7 @@ impl<A: Allocator + Copy> Intake<A> {
         requires ready { is_some (gate_in (kept_at (key_of (origin_in origin)) self.old.entries)) ≡ true }
         ensures waits { IfOk result
             (λ answer. WaitsAtGate self.old self.new (origin_in origin) moment prepared (answered_of answer)) }
+        ensures about { IfOk result (λ answer. IsAbout origin.address (answered_of answer)) }
         ensures err { OnErr result (self.new ≡ self.old) }
         ensures asker { self.new.asker ≡ self.old.asker }
     {
@@ -75,6 +76,7 @@ impl<A: Allocator + Copy> Intake<A> {
         ensures moves { IfOk result
             (λ answer. Moves self.old self.new (answered_of answer)
             (λ voice s. video_waited voice (origin_in origin) moment s)) }
+        ensures about { IfOk result (λ answer. IsAbout origin.address (answered_of answer)) }
         ensures err { OnErr result (self.new ≡ self.old) }
         ensures asker { self.new.asker ≡ self.old.asker }
     {

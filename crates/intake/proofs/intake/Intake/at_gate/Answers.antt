@@ -1,8 +1,9 @@
-use Rattle.std.proofs.Common.{◌≡◌, ◌∙◌, ap, sym, map, ◌||◌, ◌++◌, ◌+◌, if◌then◌else◌}
-use Rattle.std.specs.List.{list_all}
+use Rattle.std.proofs.Common.{◌≡◌, ◌∙◌, ap, sym, subst, map, ◌||◌, ◌++◌, ◌+◌, if◌then◌else◌}
+use Rattle.std.specs.List.{list_all, AllByRecursion}
 use Rattle.frame_gate.specs.Answer.{Answer}
 use Rattle.media_items.specs.Inputs.{input_of, is_sized}
 use Rattle.source_valid.specs.Histories.{restarts}
+use Rattle.intake.specs.Ingested.{datagram_of}
 use Rattle.intake.specs.Media.{Coming, origin_of, frames_from}
 use Rattle.intake.specs.Sources.{Origin}
 use Rattle.intake.specs.Taking.{asked_of}
@@ -12,6 +13,7 @@ use Rattle.intake.specs.inner.Moves.{outcome_at}
 use Rattle.intake.proofs.AtGates.{some_injective}
 use Rattle.intake.proofs.Answered.{given_is}
 use Rattle.intake.proofs.Sized.{sized_frames}
+use Rattle.intake.proofs.AboutLemmas.{about_frames}
 use Rattle.intake.proofs.intake.Intake.at_gate.Goals as goal
 
 pub invariant_of-result : goal.invariant_of-result
@@ -36,7 +38,7 @@ returns-clause-gates g c = λ p admits.
       advances = c.in_ok-admitted.ensures.advances;
       answers = λ voice is asker. given_is voice coming _ j.verdict answer _ _ _
           (c.outcome_at-outcome.ensures ∙ ap (λ (x : JudgedOf). outcome_at x.verdict c.answer.inside.place) c.judged.view_is ∙ ap (λ (a : Answer). outcome_at j.verdict a.place) at)
-          (c.in_ok-up.ensures voice is asker ∙ ap (λ n. asked_of voice parts n c.loses-pli.result) (c.deref.ensures.value ∙ ap (λ (a : Answer). a.nacks) at)
+          (c.in_ok-up.ensures.asked voice is asker ∙ ap (λ n. asked_of voice parts n c.loses-pli.result) (c.deref.ensures.value ∙ ap (λ (a : Answer). a.nacks) at)
           ∙ ap (λ (x : Origin). asked_of voice x answer.nacks c.loses-pli.result) same
           ∙ ap (λ b. asked_of voice origin answer.nacks b) (c.loses-pli.ensures ∙ ap (λ (x : JudgedOf). restarts x.verdict || c.answer.inside.pli) c.judged.view_is ∙ ap (λ (a : Answer). restarts j.verdict || a.pli) at))
           (c.put_frames.ensures.items ∙ ap (λ xs. map input_of xs ++ frames_from parts coming.moment c.epoch_for-epoch.result c.admitted.inside.frames.items) c.in_ok-items.ensures.items
@@ -44,3 +46,13 @@ returns-clause-gates g c = λ p admits.
           ∙ ap (λ fs. frames_from origin coming.moment c.epoch_for-epoch.result fs) (ap (λ (a : Answer). a.frames) (c.admitted.view_is ∙ told))
           ∙ ap (λ e. frames_from origin coming.moment e answer.frames) (c.epoch_for-epoch.ensures ∙ ap (λ e. if j.begins then c.args.self.now.epochs + 1 else e) c.requires.epoch));
     }
+
+pub returns-clause-about : goal.returns-clause-about
+returns-clause-about g c =
+    let coming : Coming = coming_of c.args.coming in
+    let origin : Origin = origin_in c.origin_of-origin.result in
+    let frames = c.admitted.inside.frames.items in
+    let to = ap (λ (o : Origin). o.address) c.origin_of-origin.ensures in
+    about_frames coming.from origin coming.moment c.epoch_for-epoch.result frames _ _ _
+    (c.put_frames.ensures.items ∙ ap (λ xs. map input_of xs ++ frames_from origin coming.moment c.epoch_for-epoch.result frames) c.in_ok-items.ensures.items)
+    (subst (λ a. AllByRecursion (λ d. d.0 ≡ a) (map datagram_of c.in_ok-up.up.items)) to c.in_ok-up.ensures.about)

@@ -12,6 +12,7 @@ use Rattle.intake.specs.inner.Kept.{KeptOf}
 use Rattle.intake.specs.inner.Holding.{IntakeOf, WaitedAt}
 use Rattle.intake.proofs.Answered.{ingested}
 use Rattle.intake.proofs.Sized.{sized_frames}
+use Rattle.intake.proofs.AboutLemmas.{about_frames}
 use Rattle.intake.proofs.intake.Intake.at_wait.Goals as goal
 
 pub invariant_of-result : goal.invariant_of-result
@@ -32,8 +33,17 @@ returns-clause-waits g c =
       others = ap (λ (i : IntakeOf). record i { entries = new }) c.self.view_is;
       answers = λ voice is asker.
           ap (λ x. ingested Unknown x (map input_of c.put_frames.new.items.items))
-          (c.in_ok-up.ensures voice is asker ∙ ap (λ n. asked_of voice origin n c.gives_up.result) c.nacks.ensures ∙ ap (λ b. asked_of voice origin c.args.prepared.nacks b) c.gives_up.ensures)
+          (c.in_ok-up.ensures.asked voice is asker ∙ ap (λ n. asked_of voice origin n c.gives_up.result) c.nacks.ensures ∙ ap (λ b. asked_of voice origin c.args.prepared.nacks b) c.gives_up.ensures)
           ∙ ap (λ x. ingested Unknown (asked_of voice origin c.args.prepared.nacks c.args.prepared.cuts.answer.pli) x)
           (c.put_frames.ensures.items ∙ ap (λ xs. map input_of xs ++ frames_from origin c.args.moment epoch c.waited.inside.frames.items) c.in_ok-items.ensures.items
           ∙ ap (λ fs. frames_from origin c.args.moment epoch fs) (ap (λ (a : Waited). a.frames) (c.waited.view_is ∙ c.wait-epoch.ensures.answer)));
     }
+
+pub returns-clause-about : goal.returns-clause-about
+returns-clause-about g c =
+    let origin : Origin = origin_in c.args.origin in
+    let frames = c.waited.inside.frames.items in
+    let epoch = c.wait-epoch.result.0 in
+    about_frames origin.address origin c.args.moment epoch frames _ _ _
+    (c.put_frames.ensures.items ∙ ap (λ xs. map input_of xs ++ frames_from origin c.args.moment epoch frames) c.in_ok-items.ensures.items)
+    c.in_ok-up.ensures.about

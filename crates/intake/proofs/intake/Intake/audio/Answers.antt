@@ -8,7 +8,8 @@ use Rattle.intake.specs.inner.Comings.{coming_of}
 use Rattle.intake.specs.inner.Kept.{JudgedOf}
 use Rattle.intake.specs.inner.Moves.{Advances}
 use Rattle.intake.proofs.Happens.{Gives, named_so, when_spent, when_telling}
-use Rattle.intake.proofs.Results.{with_fact}
+use Rattle.intake.proofs.Results.{with_fact, from_fact}
+use Rattle.intake.proofs.AboutLemmas.{about_only, about_sounds}
 use Rattle.intake.proofs.intake.Intake.audio.Goals as goal
 
 pub returns-then-is_spent-clause-moves : goal.returns-then-is_spent-clause-moves
@@ -33,3 +34,9 @@ returns-clause-moves g c =
     subst (λ (i : Ingested). Gives i c.telling.new.self (sourced voice (rate_of format) (audio_course format coming) coming s)) (sym is)
     (when_telling (rate_of format) (audio_course format coming) coming old j judges s knows voice c.telling.new.self _ (sym c.is_spent.ensures ∙ c.if-is_spent.false) (λ st. ap (λ items. telling j.verdict items st) (sym same))
     (subst (λ (key : OriginKey). Advances old c.telling.new.self key j None) c.key_of-key.ensures advances)))
+
+pub returns-then-is_spent-clause-about : goal.returns-then-is_spent-clause-about
+returns-then-is_spent-clause-about g c = about_only c.args.coming.from.now _ _ c.only.ensures
+
+pub returns-clause-about : goal.returns-clause-about
+returns-clause-about g c = from_fact c.telling.result c.telling.ensures.ingest (λ ingest is. about_sounds c.args.coming.from.now c.args.format (coming_of c.args.coming) _ _ _ _ is c.in_ok-items.ensures.items)

@@ -6,6 +6,7 @@ use Rattle.intake.specs.Ingested.{ingested_of}
 use Rattle.intake.specs.Taking.{of_member}
 use Rattle.intake.specs.Intakes.{Moves}
 use Rattle.intake.proofs.Read.{stays}
+use Rattle.intake.proofs.AboutLemmas.{about_only}
 use Rattle.intake.proofs.intake.Intake.control.Goals as goal
 
 pub returns-in-None-clause-moves : goal.returns-in-None-clause-moves
@@ -16,3 +17,6 @@ pub returns-in-Some-clause-moves : goal.returns-in-Some-clause-moves
 returns-in-Some-clause-moves g c =
     subst (λ (m : Option ℕ). IfOk c.heard.result (λ ingest. Moves c.args.self.now c.heard.new.self (ingested_of ingest) (λ voice s. of_member m c.args.from.now c.args.moment (packets_of c.args.packets.now) s)))
     (sym c.in-Some.is ∙ c.member_from.ensures) (c.heard.ensures.moves c.in-Some.field-0)
+
+pub returns-in-None-clause-about : goal.returns-in-None-clause-about
+returns-in-None-clause-about g c = about_only c.args.from.now _ _ c.only.ensures

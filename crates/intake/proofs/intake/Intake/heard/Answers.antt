@@ -8,6 +8,7 @@ use Rattle.intake.specs.Ingested.{datagram_of}
 use Rattle.intake.specs.inner.Holding.{IntakeOf, Holds}
 use Rattle.intake.proofs.Answered.{ingested}
 use Rattle.intake.proofs.Sized.{sized_asks}
+use Rattle.intake.proofs.AboutLemmas.{about_asks}
 use Rattle.intake.proofs.intake.Intake.heard.Goals as goal
 
 pub invariant_of-result : goal.invariant_of-result
@@ -25,3 +26,10 @@ returns-clause-moves g c = λ member voice s right asker knows.
         epochs = ap (λ (i : IntakeOf). i.epochs) c.self.view_is ∙ knows.epochs;
       },
     )
+
+pub returns-clause-about : goal.returns-clause-about
+returns-clause-about g c =
+    let packets = c.args.packets.now in
+    let items = map input_of c.in_ok-items.items.items in
+    about_asks c.args.from.now (Rtcp (length packets)) items (packets_of packets) _
+    (ap (λ up. ingested (Rtcp (length packets)) (map datagram_of up) items) c.new.ensures.items) c.in_ok-items.ensures

@@ -5,6 +5,7 @@ use Rattle.intake.specs.Taking.{of_row, of_media, of_format, room_rate}
 use Rattle.intake.specs.Intakes.{Knows}
 use Rattle.intake.specs.inner.Comings.{coming_of}
 use Rattle.intake.proofs.Results.{from_fact}
+use Rattle.intake.proofs.AboutLemmas.{about_only}
 use Rattle.intake.proofs.intake.Intake.media.Goals as goal
 
 pub returns-in-Some-audio_format-clause-moves : goal.returns-in-Some-audio_format-clause-moves
@@ -18,3 +19,6 @@ returns-in-Some-audio_format-clause-moves g c =
     let same = ap (λ r. of_row voice d r coming s) there ∙ ap (λ m. of_media voice m (room_rate d row) coming s) c.in-Audio.is
     ∙ ap (λ r. of_format voice (audio_format r coming.packet.header.pt (length coming.packet.payload)) coming s) (sym c.room_rate-rate.ensures) ∙ ap (λ f. of_format voice f coming s) heard in
     subst (λ x. (ingested_of ingest ≡ x.0) × Knows c.audio.new.self x.1) (sym same) (moves voice s right asker knows))
+
+pub returns-in-None-clause-about : goal.returns-in-None-clause-about
+returns-in-None-clause-about g c = about_only c.args.coming.from.now _ _ c.only-in-None.ensures

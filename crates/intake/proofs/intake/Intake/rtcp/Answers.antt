@@ -7,6 +7,7 @@ use Rattle.intake.specs.Taking.{Datagram, taken_in}
 use Rattle.intake.specs.Intakes.{Moves}
 use Rattle.intake.proofs.Read.{stays, takes_by, alone_no_compound, alone_compound}
 use Rattle.intake.proofs.Results.{with_fact, from_fact}
+use Rattle.intake.proofs.AboutLemmas.{about_only}
 use Rattle.intake.proofs.intake.Intake.rtcp.Goals as goal
 
 pub returns-in-Err-clause-takes : goal.returns-in-Err-clause-takes
@@ -28,3 +29,6 @@ returns-in-Ok-clause-takes g c =
     from_fact c.control.result c.control.ensures.moves (λ ingest moves. takes_by old c.control.new.self (ingested_of ingest) octets datagram (compound (packets_of packets))
     (alone_compound octets (packets_of packets) c.requires (λ f h. (let same = c.in-Ok.ensures.told f h in cc)) (λ qs is. sym (c.in-Ok.ensures.only qs is)))
     (subst (λ ps. Moves old c.control.new.self (ingested_of ingest) (λ voice s. taken_in voice s (datagram (compound (packets_of ps))))) c.deref.ensures.value moves))
+
+pub returns-in-Err-clause-about : goal.returns-in-Err-clause-about
+returns-in-Err-clause-about g c = from_fact c.no_compound.result c.no_compound.ensures.ingest (λ ingest is. about_only c.args.from.now _ _ is)

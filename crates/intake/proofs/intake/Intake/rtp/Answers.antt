@@ -6,6 +6,7 @@ use Rattle.intake.specs.Ingested.{ingested_of}
 use Rattle.intake.specs.Taking.{Datagram, taken_in}
 use Rattle.intake.proofs.Read.{stays, takes_by, alone_no_packet, alone_packet}
 use Rattle.intake.proofs.Results.{from_fact}
+use Rattle.intake.proofs.AboutLemmas.{about_only}
 use Rattle.intake.proofs.intake.Intake.rtp.Goals as goal
 
 pub returns-in-Err-clause-takes : goal.returns-in-Err-clause-takes
@@ -24,3 +25,6 @@ returns-in-Ok-clause-takes g c =
     let view = c.in-Ok.view in
     from_fact c.media.result c.media.ensures.moves (λ ingest moves. takes_by old c.media.new.self (ingested_of ingest) octets datagram (packet (packet_of view))
     (alone_packet octets (packet_of view) c.requires c.in-Ok.ensures.fault (λ q is. sym (c.in-Ok.ensures.only q is))) moves)
+
+pub returns-in-Err-clause-about : goal.returns-in-Err-clause-about
+returns-in-Err-clause-about g c = about_only c.args.from.now _ _ c.only.ensures

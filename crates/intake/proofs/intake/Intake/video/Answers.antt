@@ -13,6 +13,7 @@ use Rattle.intake.specs.inner.Kept.{JudgedOf}
 use Rattle.intake.specs.inner.Moves.{Advances}
 use Rattle.intake.proofs.Happens.{Gives, named_so, when_spent, when_plain, when_gated, gates_so, video_gated, video_plain, range_of}
 use Rattle.intake.proofs.Results.{with_fact, from_fact}
+use Rattle.intake.proofs.AboutLemmas.{about_only}
 use Rattle.intake.proofs.intake.Intake.video.Goals as goal
 
 pub returns-then-is_spent-clause-moves : goal.returns-then-is_spent-clause-moves
@@ -50,3 +51,9 @@ returns-in-Some-clause-moves g c =
     when_gated video_rate (video_course coming) coming old j judges s knows voice _ c.gated.new.self (numbered ext (gate_packet coming.packet)) right asker
     (sym c.is_spent.ensures ∙ c.if-is_spent.false) (λ st. video_gated coming j.verdict ext st some)
     (gates_so _ _ _ _ _ _ _ _ _ _ c.key_of-key.ensures same gates))
+
+pub returns-then-is_spent-clause-about : goal.returns-then-is_spent-clause-about
+returns-then-is_spent-clause-about g c = about_only c.args.coming.from.now _ _ c.only.ensures
+
+pub returns-in-None-clause-about : goal.returns-in-None-clause-about
+returns-in-None-clause-about g c = from_fact c.plain.result c.plain.ensures.ingest (λ ingest is. about_only c.args.coming.from.now _ _ is)

@@ -7,6 +7,7 @@ use Rattle.intake.specs.inner.Kept.{ReadiesWait, gate_in}
 use Rattle.intake.specs.inner.Holding.{key_of, kept_at}
 use Rattle.intake.proofs.Results.{from_fact}
 use Rattle.intake.proofs.WaitLemmas.{unready, nothing_waits, wait_moves}
+use Rattle.intake.proofs.AboutLemmas.{about_only}
 use Rattle.intake.proofs.intake.Intake.video_wait.Goals as goal
 
 pub returns-in-None-clause-moves : goal.returns-in-None-clause-moves
@@ -24,3 +25,6 @@ returns-in-Some-clause-moves g c =
     let ready = subst (λ (key : OriginKey). ReadiesWait (gate_in (kept_at key old.entries)) c.in_ok-prepared_wait.field-0) c.origin_key.ensures c.in_ok-prepared_wait.ensures in
     from_fact c.at_wait.result c.at_wait.ensures.waits (λ answer at. wait_moves old c.at_wait.new.self origin c.args.moment c.in-Some.prepared (answered_of answer)
     (subst (λ r. ReadiesWait (gate_in (kept_at (key_of origin) old.entries)) r) c.in-Some.is ready) at)
+
+pub returns-in-None-clause-about : goal.returns-in-None-clause-about
+returns-in-None-clause-about g c = about_only c.args.origin.address _ _ c.nothing.ensures
