@@ -56,7 +56,7 @@ waited w = record {
   answers = w.answers && not (is_some (lost_in w));
 }
 
--- Whether the source answers, after a packet: it does where the packet was missing at a wait, and does not where a number is given up.
+-- Whether the source answers, after a packet. It does once a packet comes that is behind the greatest number of one of the last waits, as a missing one is; a late one and a doubled old one are, too. It does not where a number is given up.
 abbrev pub answers_with : Watch → NumberedPacket → Bool
 answers_with w p = (w.answers || nat_le 1 (age w.marks p.number)) && not (gives_up w.epoch p)
 
