@@ -1,4 +1,5 @@
 //! The page in HTML, as far as its token and behind it.
+//! `tools/bridge make page` writes this file from web/page.html.
 
 /// The page as far as its token.
 pub(crate) const FRONT: &[u8] = br##"<!doctype html>

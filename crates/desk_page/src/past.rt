@@ -1,7 +1,9 @@
-//! The second part of the page's script: what undo and redo would take. No function of it touches the page.
+//! What undo and redo would take.
+//! `tools/bridge make page` writes this file from web/past.js.
 
 /// The second part of the page's script.
-pub(crate) const PAST: &[u8] = br##"
+pub(crate) const PAST: &[u8] = br##"// What undo and redo would take. No function touches the page.
+
 // What the bridge's history may be. Versions that came over another connection were commands, undos or redos, and the
 // page can't know which. So it keeps each history that they may have made, and drops those that a later answer or desk
 // contradicts.

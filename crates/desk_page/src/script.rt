@@ -1,8 +1,8 @@
-//! The rest of the page's script: it shows the desk, and sends the lines that clicks and drags are.
+//! The page's script that shows the desk.
+//! `tools/bridge make page` writes this file from web/page.js.
 
 /// The rest of the page's script.
-pub(crate) const SCRIPT: &[u8] = br##"
-const at = (id) => document.getElementById(id);
+pub(crate) const SCRIPT: &[u8] = br##"const at = (id) => document.getElementById(id);
 const token = () => document.querySelector('meta[name="desk-token"]').content;
 const EVERY = 250, PATIENCE = 4000, seenRows = new Map(), looks = new Map();
 let desk = null, shownText = null, drag = null, group = [], timer = null, asking = false, names = {};

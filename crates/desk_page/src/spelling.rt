@@ -1,8 +1,9 @@
-//! The first part of the page's script: what it makes of the desk's text, and the lines that clicks send. No function
-//! of it touches the page, so that each can be tried by itself.
+//! What the page makes of the desk's text, and the lines that clicks send.
+//! `tools/bridge make page` writes this file from web/lines.js.
 
 /// The first part of the page's script.
 pub(crate) const LINES: &[u8] = br##""use strict";
+// What the page makes of the desk's text, and the lines that clicks send. No function touches the page.
 
 // The rates of rooms, in Hz.
 const SPEECH = 8000, MUSIC = 44100;

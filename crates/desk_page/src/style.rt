@@ -1,4 +1,5 @@
 //! The page's style sheet.
+//! `tools/bridge make page` writes this file from web/page.css.
 
 /// The page's style sheet.
 pub(crate) const STYLE: &[u8] = br##":root {

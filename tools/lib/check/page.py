@@ -23,6 +23,7 @@ import tempfile
 import time
 
 from lib.driving import drive
+from lib.make.page import WEB
 from lib.serving import Operator, free_port, settings
 from lib.shared import CRATES, add_program_or_build, fail, found_program, try_command
 
@@ -297,8 +298,7 @@ def find_commands(browser):
 
 def try_functions():
     """The functions of the page that choose a click's line, by themselves."""
-    texts = [(CRATES / f"desk_page/src/{part}.rt").read_text() for part in ("spelling", "past")]
-    script = "".join(re.search(r'br##"(.*)"##;', text, re.S)[1] for text in texts)
+    script = "".join((WEB / part).read_text() for part in ("lines.js", "past.js"))
     with tempfile.TemporaryDirectory() as folder:
         path = pathlib.Path(folder) / "lines.js"
         path.write_text(script)

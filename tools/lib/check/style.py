@@ -8,7 +8,7 @@ Of sources the status is 1 where a function of crates/*/src has over 30 lines or
 a line over 120 columns, or a file over 300 lines, and where a name of the bridge's crates is doubled: a type with two homes, a word
 of definitions with three. Types are structs, enums, traits and aliases, public or not; those of cases, examples and tests don't
 count. It is 1 as well where the lib.rt of a crate of the bridge has no example, or where a lib.rt names a function of another crate
-("`NAME` of CRATE") that isn't there.
+("`NAME` of CRATE") that isn't there. And it is 1 where a source of desk_page isn't what `make page` writes from the page's web files.
 """
 
 import collections
@@ -17,6 +17,7 @@ import re
 import statistics
 
 from lib.make.definitions import definition_files, words_of
+from lib.make.page import stale
 from lib.shared import CRATES, ROOT, bridge_crates
 
 NEEDS = "nothing"
@@ -288,9 +289,17 @@ def check_examples():
     return not faults
 
 
+def check_made():
+    """Prints which sources aren't what the page's web files make. Whether there are none."""
+    found = stale()
+    print(f"{len(found)} sources of the page are stale")
+    print("".join(f"       {path.relative_to(ROOT)}: run `tools/bridge make page`\n" for path in found), end="")
+    return not found
+
+
 def run(args):
     good = [args.sources or check_documents()]
     if not args.docs:
         print()
-        good += [check_sources(), check_names(), check_examples()]
+        good += [check_sources(), check_names(), check_examples(), check_made()]
     return 0 if all(good) else 1

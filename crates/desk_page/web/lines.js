@@ -1,0 +1,223 @@
+"use strict";
+// What the page makes of the desk's text, and the lines that clicks send. No function touches the page.
+
+// The rates of rooms, in Hz.
+const SPEECH = 8000, MUSIC = 44100;
+
+// The desk as it stands in the text of /desk: the lines of `show`, and behind `end VERSION` the calls of this page.
+function parseDesk(text) {
+  const desk = { rooms: [], rates: new Map(), members: [], sources: [], slots: [], subs: new Map(), mutes: new Set(),
+    gains: new Map(), pins: new Map(), floors: new Map(), version: 0, rows: [], calls: [] };
+  let behind = false;
+  for (const line of text.split("\n")) {
+    if (behind) {
+      if (line.startsWith("call ")) desk.calls.push({ line: line.slice(5), said: "" });
+      else if (line.startsWith("said ")) desk.calls[desk.calls.length - 1].said = line.slice(5);
+    } else if (line.startsWith("end ")) {
+      desk.version = Number(line.slice(4));
+      behind = true;
+    } else if (line !== "") {
+      desk.rows.push(line);
+      addRow(desk, line.split(" "));
+    }
+  }
+  return desk;
+}
+
+function addRow(desk, [kind, ...word]) {
+  const n = word.map(Number);
+  if (kind === "room") {
+    desk.rooms.push(n[0]);
+    desk.rates.set(n[0], n[1] ?? SPEECH);
+  } else if (kind === "member") desk.members.push(memberIn(n, word));
+  else if (kind === "source") desk.sources.push({ ssrc: n[0], member: n[1], kind: word[2] });
+  else if (kind === "slot") desk.slots.push({ ssrc: n[0], member: n[1], index: n[2] });
+  else if (kind === "sub") desk.subs.set(n[0], n[1]);
+  else if (kind === "mute") desk.mutes.add(n[0]);
+  else if (kind === "gain") desk.gains.set(`${n[0]} ${n[1]}`, n[2]);
+  else if (kind === "pin") desk.pins.set(n[0], n[1]);
+  else if (kind === "floor") desk.floors.set(n[0], n[1]);
+}
+
+function memberIn([place, member, room, , , mix], [, , , address, codec]) {
+  return { place, member, room, address, codec, mix };
+}
+
+function isMusic(desk, room) { return desk.rates.get(room) === MUSIC; }
+function memberOf(desk, number) { return desk.members.find((m) => m.member === number); }
+function sourceOf(desk, ssrc) { return desk.sources.find((s) => s.ssrc === ssrc); }
+function sourcesOf(desk, member, kind) {
+  return desk.sources.filter((s) => s.member === member && (!kind || s.kind === kind));
+}
+function membersIn(desk, room) { return desk.members.filter((m) => m.room === room); }
+
+// The source that the rules of the desk choose for a slot, and the rule.
+function chosen(desk, slot) {
+  const room = memberOf(desk, slot.member).room;
+  if (desk.subs.has(slot.ssrc)) return { source: desk.subs.get(slot.ssrc), by: "sub" };
+  if (slot.index !== 0) return { source: null, by: null };
+  if (desk.pins.has(room)) return { source: desk.pins.get(room), by: "pin" };
+  if (!desk.floors.has(room)) return { source: null, by: null };
+  const held = sourcesOf(desk, desk.floors.get(room), "video").map((s) => s.ssrc);
+  return { source: held.length ? Math.min(...held) : null, by: "floor" };
+}
+
+// What a slot shows, by which rule, and why it shows nothing.
+function seen(desk, slot) {
+  const { source, by } = chosen(desk, slot);
+  if (source === null) return { source, by, why: by ? "the floor's holder has no video" : "nothing is chosen" };
+  if (desk.mutes.has(source)) return { source: null, by, why: `${source} is muted` };
+  if (sourceOf(desk, source).member === slot.member) return { source: null, by, why: `${source} is its own` };
+  return { source, by, why: "" };
+}
+
+// The video sources that a slot can be subscribed to, but for the one that it is.
+function videosFor(desk, slot) {
+  const members = membersIn(desk, memberOf(desk, slot.member).room);
+  const videos = members.flatMap((m) => sourcesOf(desk, m.member, "video")).map((s) => s.ssrc);
+  return videos.filter((ssrc) => desk.subs.get(slot.ssrc) !== ssrc);
+}
+
+// The audio sources that a member hears or could hear, each with its gain.
+function heard(desk, member) {
+  const others = membersIn(desk, member.room).filter((m) => m.member !== member.member);
+  return others.flatMap((m) => sourcesOf(desk, m.member, "audio")).map((s) => {
+    const gain = desk.gains.has(`${member.member} ${s.ssrc}`) ? desk.gains.get(`${member.member} ${s.ssrc}`) : 256;
+    return { ssrc: s.ssrc, gain, muted: desk.mutes.has(s.ssrc) };
+  });
+}
+
+// The rooms that a member can move to: those of its room's rate.
+function roomsFor(desk, member) {
+  return desk.rooms.filter((room) => room !== member.room && isMusic(desk, room) === isMusic(desk, member.room));
+}
+
+// The codec of a new member: what was chosen, and else what fits the room.
+function codecOf(desk, { room, codec }) { return codec || (desk && isMusic(desk, Number(room)) ? "l16" : "pcmu"); }
+
+// The lines that clicks and drags send.
+const lines = {
+  addRoom: (room, rate) => (Number(rate) === MUSIC ? `add-room ${room} ${MUSIC}` : `add-room ${room}`),
+  removeRoom: (room) => `remove-room ${room}`,
+  addMember: (f, codec = f.codec) =>
+    `add-member ${f.member} ${f.room} ${f.address} ${codec} ${f.ssrc} ${f.seq ?? 0} ${f.ts ?? 0}`,
+  moveMember: (member, room) => `move-member ${member} ${room}`,
+  removeMember: (member) => `remove-member ${member}`,
+  addSource: (f) => `add-source ${f.ssrc} ${f.member} ${f.kind}`,
+  removeSource: (ssrc) => `remove-source ${ssrc}`,
+  addSlot: (f) => `add-slot ${f.ssrc} ${f.member} ${f.index} ${f.seq ?? 0} ${f.ts ?? 0}`,
+  removeSlot: (ssrc) => `remove-slot ${ssrc}`,
+  subscribe: (slot, source) => `subscribe ${slot} ${source}`,
+  unsubscribe: (slot) => `unsubscribe ${slot}`,
+  pin: (room, source) => `pin ${room} ${source}`,
+  unpin: (room) => `unpin ${room}`,
+  giveFloor: (room, member) => `give-floor ${room} ${member}`,
+  takeFloor: (room) => `take-floor ${room}`,
+  mute: (source) => `mute ${source}`,
+  unmute: (source) => `unmute ${source}`,
+  setGain: (member, source, q8) => `set-gain ${member} ${source} ${q8}`,
+  undo: (version) => `undo ${version}`,
+  redo: (version) => `redo ${version}`,
+  group: (parts) => `group ${parts.join(" / ")}`,
+};
+
+// The line that a drop sends: a member on a room, or a source on a slot. Nothing where it would change nothing.
+function dropped(desk, drag, on) {
+  if (drag.member !== undefined && on.room !== undefined) {
+    const member = memberOf(desk, drag.member);
+    return member && member.room !== on.room ? lines.moveMember(drag.member, on.room) : null;
+  }
+  if (drag.source !== undefined && on.slot !== undefined) {
+    return desk.subs.get(on.slot) === drag.source ? null : lines.subscribe(on.slot, drag.source);
+  }
+  return null;
+}
+
+// A number that nothing of the desk has, from `least` on.
+function free(desk, least) {
+  const taken = new Set([...desk.rooms, ...desk.sources.map((s) => s.ssrc), ...desk.slots.map((s) => s.ssrc),
+    ...desk.members.flatMap((m) => [m.member, m.mix])]);
+  let number = least;
+  while (taken.has(number)) number += 1;
+  return number;
+}
+
+// The fields of forms that suggest a free number, each with its form and that number.
+function suggested(desk) {
+  const fields = [["add-room", "room", 1], ["add-member", "member", 10], ["add-member", "ssrc", 9001],
+    ["add-source", "ssrc", 101], ["add-slot", "ssrc", 501]];
+  return fields.map(([form, field, least]) => [form, field, free(desk, least)]);
+}
+
+const advice = {
+  1: "it is there already: take another number, address, SSRC or index, or remove what is there",
+  2: "there is no such room: it may have been removed",
+  3: "there is no such member: it may have been removed",
+  4: "there is no such source: it may have gone with its member",
+  5: "there is no such slot: it may have gone with its member",
+  6: "the source is of the other kind: choose one of this kind",
+  7: "they are in two rooms: move the member, or choose within the room",
+  8: "the SSRC is used already: take another one",
+  9: "a value is out of range: port 1 to 65535, index 0 to 15, gain 0 to 1024, rate 8000 or 44100",
+  10: "nothing to do: the desk is so already",
+  11: "nothing to do: there is none to take away",
+  12: "the table is full: remove something, or use another room",
+  13: "the bridge is out of memory: try again",
+  14: "another change came first: look at the desk, then try again",
+  15: "there is nothing to undo",
+  16: "there is nothing to redo",
+  17: "the log is full: start the bridge anew",
+  18: "the group is empty",
+  19: "the group has over 64 commands: make it smaller",
+  20: "one command of the group is refused, so none of it happened",
+  21: "the room has another rate: a room of 44100 Hz takes l16 alone, and a member moves between rooms of one rate",
+};
+const faults = {
+  1: "the line is too long", 2: "an octet is none of a space to ~", 3: "the word is unknown", 4: "a word is missing",
+  5: "a word is too many", 6: "that is no number, or out of range", 7: "that is no address, such as 127.0.0.1:6000",
+};
+
+// An answer of the bridge in words.
+function inWords(said) {
+  const word = said.split(" ");
+  if (word[0] === "ok") return { good: true, text: `accepted as version ${word[1]}` };
+  if (word[0] === "no") {
+    const part = word[2] === "20" ? ` Command ${Number(word[4]) + 1} of it: ${advice[word[5]] ?? word[6]}.` : "";
+    return { good: false, text: `refused (${word.slice(2).join(" ")}): ${advice[word[2]] ?? word[3]}.${part}` };
+  }
+  if (word[0] === "fault") {
+    return { good: false, text: `not understood (${said}): at word ${word[1]}, ${faults[word[2]] ?? word[3]}.` };
+  }
+  return { good: false, text: "no answer came: look at the desk before you send it again." };
+}
+
+// A response of the page to a call, in words: 200 has the bridge's answer.
+const NO_SEAT = "The page needs a seat: set operators to one more in the bridge's settings.";
+function replyInWords(status, text) {
+  if (status === 200) return inWords(text);
+  if (text.startsWith("Busy")) {
+    return { good: false, text: `all seats of the bridge are taken, so nothing was done. ${NO_SEAT}` };
+  }
+  const plain = status === 413 ? "a call is one line of up to 4096 octets" : String(status);
+  return { good: false, text: text || plain };
+}
+
+// A response without a desk, in words.
+function noDeskInWords(text) {
+  if (text.startsWith("Busy")) return `All seats of the bridge are taken. ${NO_SEAT}`;
+  return "The bridge is gone. Trying again.";
+}
+
+// A number for what a desk looks like. Where it differs the rows do.
+function lookOf(rows) {
+  let look = 0;
+  for (const octet of rows.join("\n")) look = (Math.imul(look, 31) + octet.charCodeAt(0)) | 0;
+  return look;
+}
+
+// The rows that went and that came between two desks.
+function changes(before, after) {
+  const had = new Set(before), has = new Set(after);
+  const went = before.filter((row) => !has.has(row)), came = after.filter((row) => !had.has(row));
+  return [...went.map((row) => `- ${row}`), ...came.map((row) => `+ ${row}`)];
+}
