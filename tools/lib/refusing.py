@@ -31,12 +31,12 @@ def until(holds, text):
         time.sleep(0.001)
 
 
-def library(folder):
-    """The path of the library, compiled to a folder."""
+def library(folder, source="refusing.c"):
+    """The path of a library of this folder, compiled to another one."""
     if not shutil.which("cc"):
         fail("there is no command `cc`")
-    path = f"{folder}/refusing.so"
-    subprocess.run(["cc", "-O2", "-shared", "-fPIC", "-o", path, HERE / "refusing.c"], check=True)
+    path = f"{folder}/{source}.so"
+    subprocess.run(["cc", "-O2", "-shared", "-fPIC", "-o", path, HERE / source], check=True)
     return path
 
 
