@@ -4,3 +4,4 @@ pub mod Streamed
 pub mod Upstreams
 pub mod Reported
 pub mod Rooms
+pub mod Late

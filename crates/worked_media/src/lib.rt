@@ -8,6 +8,7 @@ pub mod jitter_buffers;
 pub mod mixed_ticks;
 pub mod mixes;
 pub mod pictures;
+pub mod renewals;
 pub mod reporting;
 pub mod resends;
 pub mod sample_laws;
