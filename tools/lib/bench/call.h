@@ -7,8 +7,12 @@ static int told_at = -1;
 static struct sockaddr_in udp, tcp;
 static int desk = -1;
 
-/* How many lanes a bridge has, and how many packets a frame of the fan. */
-static int lanes = 1, burst = 4;
+/* How many lanes a bridge has, how many packets a frame of the fan, and how many octets each of these. */
+static int lanes = 1, burst = 4, video = VIDEO;
+/* Whether the members of the room send each at its own moment, and not all at once. */
+static int is_spread;
+/* Where `strace` writes how often the bridge made each system call, if it runs under it. */
+static const char *counted_at;
 
 static void die(const char *text)
 {
@@ -49,7 +53,10 @@ static void start_bridge(const char *binary)
     server = fork();
     if (server == 0) {
         dup2(ends[1], 2);
-        execl(binary, binary, "serve", path, (char *)0);
+        if (counted_at) /* -D: the bridge stays this program's child */
+            execlp("strace", "strace", "-D", "-f", "-c", "-o", counted_at, binary, "serve", path, (char *)0);
+        else
+            execl(binary, binary, "serve", path, (char *)0);
         _exit(127);
     }
     close(ends[1]);
@@ -233,12 +240,38 @@ static double seconds_now(void)
     return now.tv_sec + now.tv_nsec * 1e-9;
 }
 
+/* A packet of the room's sound, by its member and its place in the stream. */
+static void send_sound(const struct sockaddr_in *to, int member, unsigned tick)
+{
+    uint8_t octets[12 + SAMPLES];
+    header(octets, 0, tick, tick * SAMPLES, 30000 + member);
+    for (int j = 0; j < SAMPLES; j++)
+        octets[12 + j] = (member * 7 + j * 13 + tick) | 0x90;
+    sendto(room[member], octets, sizeof octets, 0, (void *)to, sizeof *to);
+    sounds_sent++;
+}
+
+/* What the room sends in a step that begins at a moment, the first of five of a tick: all at once, or each its own part of 20 ms later. */
+static void send_sounds(const struct sockaddr_in *to, long step, struct timespec begin)
+{
+    int part = step % 5, first = is_spread ? ROOM * part / 5 : 0, last = is_spread ? ROOM * (part + 1) / 5 : part ? 0 : ROOM;
+    for (int i = first; i < last; i++) {
+        if (is_spread && i > first) {
+            begin.tv_nsec += 4000000 / (last - first);
+            begin.tv_sec += begin.tv_nsec / 1000000000;
+            begin.tv_nsec %= 1000000000;
+            clock_nanosleep(CLOCK_MONOTONIC, TIMER_ABSTIME, &begin, 0);
+        }
+        send_sound(to, i, step / 5);
+    }
+}
+
 /* Both kinds of sending for so many seconds, in steps of 4 ms; a line each minute where it is asked for. A step that is more than
  * 20 ms late is left out, so that no burst follows where this program stood still; timestamps and steps go on by the clock from the
  * first one on, so that a source never comes later than it began. */
 static void talk(const struct sockaddr_in *to, double seconds, int with_fan, int with_room, pid_t watched)
 {
-    static unsigned seq, tick;
+    static unsigned seq;
     static struct timespec next;
     static long step;
     uint8_t octets[12 + VIDEO] = {0};
@@ -250,21 +283,10 @@ static void talk(const struct sockaddr_in *to, double seconds, int with_fan, int
         if (with_fan && !is_late)
             for (int i = 0; i < burst; i++, seq++, pictures_sent++) {
                 header(octets, 100 | (i == burst - 1) << 7, seq, step * 360, 101);
-                sendto(fan[0], octets, sizeof octets, 0, (void *)to, sizeof *to);
+                sendto(fan[0], octets, 12 + video, 0, (void *)to, sizeof *to);
             }
-        if (with_room && step % 5 == 0 && is_late)
-            tick++;
-        if (with_room && step % 5 == 0 && !is_late) {
-            sounds_sent += ROOM;
-            for (int i = 0; i < ROOM; i++) {
-                header(octets, 0, tick, tick * SAMPLES, 30000 + i);
-                for (int j = 0; j < SAMPLES; j++)
-                    octets[12 + j] = (i * 7 + j * 13 + tick) | 0x90;
-                sendto(room[i], octets, 12 + SAMPLES, 0, (void *)to, sizeof *to);
-            }
-            memset(octets, 0, sizeof octets);
-            tick++;
-        }
+        if (with_room && !is_late)
+            send_sounds(to, step, next);
         if (watched && step % 15000 == 0) {
             printf("minute %ld: VmRSS %ld kB, processor %.2f s, %ld pictures and %ld mixes came\n", step / 15000,
                    resident(watched), processor(watched, 0), fan_got, room_got);

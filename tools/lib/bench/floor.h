@@ -177,3 +177,32 @@ static void beside_floor(const char *binary, double seconds, int with_fan, const
     if (file)
         printf("bridge / floor in Python: %.2f\n", bridge / measured_floor(file, seconds, with_fan));
 }
+
+/* A room whose members send each at its own moment, beside the same in bursts, by the same bridge. */
+static void beside_bursts(const char *binary, double seconds)
+{
+    members();
+    start_bridge(binary);
+    set_desk(0, 1);
+    double at_once = measured("in bursts", &udp, server, seconds, 0);
+    is_spread = 1;
+    double apart = measured("each at its own moment", &udp, server, seconds, 0);
+    is_spread = 0;
+    double again = measured("in bursts", &udp, server, seconds, 0);
+    stop_bridge();
+    printf("each at its own moment / in bursts: %.2f\n", apart / (again < at_once ? again : at_once));
+}
+
+/* A room whose members send each at its own moment, while system calls are counted. */
+static void counted(const char *binary, double seconds, const char *file)
+{
+    counted_at = file;
+    is_spread = 1;
+    members();
+    start_bridge(binary);
+    set_desk(0, 1);
+    talk(&udp, seconds, 0, 1, 0);
+    talk(&udp, 0.5, 0, 0, 0);
+    stop_bridge();
+    printf("%ld datagrams in, %ld out, %ld steps of 4 ms left out\n", sounds_sent, room_got, steps_left_out);
+}

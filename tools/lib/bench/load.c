@@ -2,6 +2,8 @@
  *
  * load BINARY fan SECONDS [FLOOR]    1 video source to 16 receivers, 1,000 packets/s in frames of 4
  * load BINARY room SECONDS [FLOOR]   64 members with PCMU of 160 samples each 20 ms
+ * load BINARY spread SECONDS         the same room in bursts, and each member at its own moment
+ * load BINARY calls SECONDS FILE     that, while strace counts system calls and writes them to a file
  * load BINARY both SECONDS           both together, with the resident memory each minute
  * load BINARY most SECONDS LANES     the largest fan without loss, on so many lanes
  * load BINARY storm DATAGRAMS LINES  random datagrams and operators' lines, and then a call
@@ -32,11 +34,15 @@
 int main(int count, char **words)
 {
     if (count < 4)
-        die("usage: load BINARY fan|room SECONDS [FLOOR] | load BINARY both SECONDS"
+        die("usage: load BINARY fan|room SECONDS [FLOOR] | load BINARY spread|both SECONDS | load BINARY calls SECONDS FILE"
             " | load BINARY most SECONDS LANES | load BINARY storm DATAGRAMS LINES");
     const char *what = words[2];
     if (!strcmp(what, "fan") || !strcmp(what, "room"))
         beside_floor(words[1], atof(words[3]), what[0] == 'f', count > 4 ? words[4] : 0);
+    else if (!strcmp(what, "spread"))
+        beside_bursts(words[1], atof(words[3]));
+    else if (!strcmp(what, "calls") && count == 5)
+        counted(words[1], atof(words[3]), words[4]);
     else if (!strcmp(what, "both")) {
         members();
         start_bridge(words[1]);

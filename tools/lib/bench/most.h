@@ -1,5 +1,5 @@
 /* The largest fan that a bridge sends on without loss. */
-enum { MOST_THREADS = 64 };
+enum { MOST_THREADS = 64, SMALL = 100 };
 
 /* The threads of the bridge, its first one before the others, and the seconds of processor time that each has had. */
 struct threads {
@@ -57,13 +57,21 @@ static int all_came(const char *binary, int packets, double seconds)
     return lacking <= 0 && steps_left_out == left_out;
 }
 
-/* Frames grow by a quarter until packets are lacking in three runs of so many seconds. */
-static void largest(const char *binary, double seconds)
+/* Frames of packets of so many octets grow by a quarter until packets are lacking in three runs of so many seconds. */
+static void largest_of(const char *binary, double seconds, int octets)
 {
     int good = 0, packets = 4;
+    video = octets;
     while (packets <= 250 && (all_came(binary, packets, seconds) || all_came(binary, packets, seconds) || all_came(binary, packets, seconds))) {
         good = packets;
         packets += packets / 4;
     }
-    printf("%d lanes: at most %d packets/s out without loss\n", lanes, good * 250 * RECEIVERS);
+    printf("%d lanes, packets of %d octets: at most %d packets/s out without loss\n", lanes, octets, good * 250 * RECEIVERS);
+}
+
+/* The largest fan of large packets, and of small ones: more of these fit into the receive buffers. */
+static void largest(const char *binary, double seconds)
+{
+    largest_of(binary, seconds, VIDEO);
+    largest_of(binary, seconds, SMALL);
 }
