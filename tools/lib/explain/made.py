@@ -29,6 +29,8 @@ CALLS = {24: "mute 202", 34: "undo 9", 50: "group set-gain 10 202 128 / mute 101
 class Made:
     """A call of so many ticks. Member 10 sends sound of wrong types too, and a stranger sends something; video loses packets."""
 
+    setup = SETUP
+
     def __init__(self, ticks=80, shows=None, bridge=(BRIDGE, DESK), members=(ONE, OTHER)):
         self.packets, self.bridge, self.moment, (self.one, self.other), (udp, tcp) = [], ReportBridge(), BEGIN, members, bridge
         self.udp, self.tcp, self.seqs, self.seq = udp, tcp, {OPERATOR: 1000, tcp: 5000}, 0
@@ -37,7 +39,7 @@ class Made:
         self.bridge.answer("bridge 1 bridge renew")
         self.put(tcp_packet(OPERATOR, tcp, 999, SYN))
         self.put(tcp_packet(tcp, OPERATOR, 4999, SYN))
-        for line in SETUP:
+        for line in self.setup:
             self.call(line.replace("ONE", self.one).replace("OTHER", self.other))
         for tick in range(ticks):
             self.turn(tick, shows)

@@ -1,0 +1,103 @@
+"""Makes the captures that DEBUGGING explains, of calls that nobody held: what a bridge would have on the wire, by the model.
+
+In each call member 10 sends the sound 201 and the video 101, and Bob, who is member 11, the sound 202.
+  call.pcap     all is well
+  pcma.pcap     Bob sends PCMA
+  port.pcap     Bob's packets come from another port than the desk has
+  muted.pcap    an operator mutes Bob
+  still.pcap    a packet of the video is lost, and its sender answers nobody
+  late.pcap     Bob's packets begin to come 120 ms later than before
+  lacking.pcap  as the first one, but a datagram of Bob's isn't in it
+"""
+
+import pathlib
+
+from lib.captures.writing import pcap
+from lib.demo import picture, tone
+from lib.explain.made import BEGIN, GAP, ONE, OTHER, STRANGER, Made
+from lib.packets import number, rtp
+
+NEEDS = "nothing, some seconds"
+
+SETUP = [
+    "add-room 1",
+    "add-member 10 1 ONE pcmu 9001 0 0",
+    "add-member 11 1 OTHER pcmu 9002 0 0",
+    "add-source 201 10 audio",
+    "add-source 202 11 audio",
+    "add-source 101 10 video",
+    "add-slot 501 11 0 0 0",
+    "give-floor 1 10",
+]
+# Bob's packets are late from this tick on, by so many ticks.
+LATE, LATER = 100, 6
+# A tick whose frame lacks its first packet, one whose sound the capture lacks, and one before which Bob is muted.
+LOST, LACKING, MUTED = 100, 112, 120
+
+
+def options(parser):
+    parser.add_argument("folder", metavar="FOLDER", help="where they are written")
+
+
+class Shown(Made):
+    """A call of DEBUGGING, in which something is wrong."""
+
+    setup = SETUP
+
+    def __init__(self, wrong, ticks):
+        self.wrong = wrong
+        super().__init__(ticks)
+
+    def from_bob(self, tick):
+        """Bob's packet of a tick."""
+        is_pcma = self.wrong == "pcma"
+        octets = bytes([0xD5]) * 160 if is_pcma else tone(1000, tick)
+        self.comes(STRANGER if self.wrong == "port" else OTHER, rtp(tick, tick * 160, 202, octets, pt=8 if is_pcma else 0))
+
+    def frame(self, tick):
+        for part, payload in enumerate(picture(tick)):
+            if self.wrong != "still" or tick != LOST or part:
+                self.comes(ONE, rtp(tick * 2 + part, tick * 1800, 101, payload, marker=part))
+
+    def turn(self, tick, shows):
+        """20 ms of the call: what comes, then the tick, and what it brings."""
+        begin = BEGIN + GAP * (tick + 1)
+        self.moment, self.tick = begin - 10_000_000, tick
+        if self.wrong == "muted" and tick == MUTED:
+            self.call("mute 202")
+        self.comes(ONE, rtp(tick, tick * 160, 201, tone(440, tick), pt=0))
+        if self.wrong != "late" or tick < LATE:
+            self.from_bob(tick)
+        elif tick >= LATE + LATER:
+            self.from_bob(tick - LATER)
+        self.frame(tick)
+        self.moment = begin
+        self.sends(self.bridge.answer(f"tick {begin}"))
+        self.moment = begin + 100_000
+        self.sends(self.bridge.answer(f"wait {self.moment} {ONE} 101"))
+        if tick % 250 == 249:
+            self.moment = begin + 150_000
+            self.sends(self.bridge.answer(f"report {self.moment}"))
+
+
+def is_lacking(packet):
+    """Whether an IPv4 packet has the sound of Bob that a capture lacks."""
+    octets = packet[28:]
+    return packet[9] == 17 and octets[:2] == b"\x80\0" and number(octets[2:4]) == LACKING and number(octets[8:12]) == 202
+
+
+def made():
+    """The packets of each capture, by its name."""
+    ticks = {"call": 150, "pcma": 150, "port": 150, "muted": 150, "still": 250, "late": 250}
+    found = {wrong: Shown(wrong, count).packets for wrong, count in ticks.items()}
+    return found | {"lacking": [(moment, packet) for moment, packet in found["call"] if not is_lacking(packet)]}
+
+
+def write(folder):
+    for name, packets in made().items():
+        (pathlib.Path(folder) / f"{name}.pcap").write_bytes(pcap(sorted(packets, key=lambda one: one[0]), units=10**9))
+
+
+def run(args):
+    write(args.folder)
+    return 0
