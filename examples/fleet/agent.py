@@ -1,0 +1,171 @@
+"""The agent's watch: it sees to its own bridges, and that each room has one.
+
+A room's record says where it is to be. The agents do what is missing, again and again, so that one that dies in the
+middle leaves nothing that the next one doesn't put right.
+"""
+
+import threading
+import time
+
+from desk import BUSY
+from etcd import ANY
+from kept import commands_of, groups_of
+from known import DESKS, FLEET, NEW, Store
+from refused import Refused
+
+# The seconds between two looks, and those after which a refused room is tried again. How long a bridge of another agent
+# may be unknown before its rooms go elsewhere, beside the time of its lease.
+PAUSE, AGAIN, GRACE = 0.25, 5, 2
+# How many rooms are changed at once: etcd takes 128 changes.
+AT_ONCE = 100
+
+
+def log(text):
+    print(f"fleet: {text}", flush=True)
+
+
+class Agent:
+    def __init__(self, settings, bridges):
+        self.url, self.lasts = settings["agent"]["url"], settings["agent"]["lease"]
+        self.store, self.bridges = Store(settings["etcd"]["servers"]), {one.name: one for one in bridges}
+        self.lease, self.renewed, self.missing, self.troubles = None, 0.0, {}, {}
+        self.closed = threading.Event()
+
+    def run(self):
+        for bridge in self.bridges.values():
+            threading.Thread(target=self.again, args=(self.tend, bridge), daemon=True).start()
+        threading.Thread(target=self.again, args=(self.settle,), daemon=True).start()
+
+    def again(self, work, *given):
+        """Does a work again and again. What hinders it is told once."""
+        name = given[0].name if given else "the fleet"
+        while not self.closed.wait(PAUSE):
+            trouble = ""
+            try:
+                work(*given)
+            except Refused as why:
+                trouble = str(why)
+            if trouble != self.troubles.get(name, ""):
+                log(f"{name}: {trouble or 'all is well again'}")
+            self.troubles[name] = trouble
+
+    # All rooms
+
+    def settle(self):
+        """Keeps the lease, and gives each room without a bridge one."""
+        if self.lease is None or time.monotonic() - self.renewed > self.lasts / 3:
+            try:
+                if self.lease is None or not self.store.renew(self.lease):
+                    self.lease = self.store.lease(self.lasts)
+            except Refused:
+                # Once etcd is back, other agents have as long as this one to say that their bridges are there.
+                self.missing.clear()
+                raise
+            self.renewed = time.monotonic()
+        known, changed = self.store.known(), {}
+        gone = self.gone(known)
+        for room, (record, revision) in known.rooms.items():
+            later = self.settled(room, record, known, gone)
+            if later != record and len(changed) < AT_ONCE:
+                known.rooms[room], changed[room] = (later, revision), later
+        if changed:
+            self.store.put_rooms(changed, known)
+
+    def gone(self, known):
+        """The bridges that are gone: those of this agent at once, others after a while."""
+        named = {name for one, _ in known.rooms.values() for name in (one["on"], one["to"])} - {None, *known.bridges}
+        now = time.monotonic()
+        self.missing = {name: self.missing.get(name, now) for name in named}
+        own = {name for name in named if name in self.bridges and self.bridges[name].is_there is False}
+        return own | {name for name in named - {*self.bridges} if now - self.missing[name] > GRACE}
+
+    def settled(self, room, record, known, gone):
+        """A room's record as it should be."""
+        later = dict(record)
+        if later["on"] in gone:
+            later |= {"on": None, "ready": False}
+        if later["to"] in gone:
+            later |= {"to": None, "ready": False}
+        is_asked_to_go = known.draining.get(later["on"], {}).get("move", False)
+        if later["to"] is None and (later["on"] is None or is_asked_to_go) and time.time() >= later["after"]:
+            try:
+                later["to"] = known.chosen(later["members"], [*later["tried"], later["on"]])
+                log(f"room {room} goes from {record['on']} to {later['to']}")
+            except Refused as why:
+                later |= {"tried": [], "why": str(why), "after": int(time.time()) + AGAIN}
+                log(f"room {room} has no bridge: {why}")
+        return later
+
+    # A bridge of this agent
+
+    def tend(self, bridge):
+        """Does what the records ask of a bridge, and keeps the rows of its rooms."""
+        with bridge.lock:
+            known = self.store.known()
+            try:
+                bridge.look()
+            except Refused as why:
+                if str(why) != BUSY:
+                    bridge.is_there, bridge.kept = False, {}
+                    if known.bridges.get(bridge.name, {}).get("agent") == self.url:
+                        self.store.swap([(f"{FLEET}bridges/{bridge.name}", None, ANY)])
+                raise
+            self.announce(bridge, known)
+            for room, (record, revision) in known.rooms.items():
+                if record["on"] == bridge.name:
+                    self.keep(bridge, room, record, revision)
+                elif record["to"] == bridge.name and (record["on"] is None or record["ready"]):
+                    self.bring(bridge, room, record, revision)
+            for room in list(bridge.rooms):
+                record, _ = known.rooms.get(room, (None, 0))
+                if record is None:
+                    # An operator has added it. If the number is taken by now, the next look removes it.
+                    self.store.put_room(room, NEW | {"on": bridge.name}, 0)
+                elif bridge.name not in (record["on"], record["to"]):
+                    log(f"room {room} leaves {bridge.name}: it is on {record['on']}")
+                    bridge.remove(room)
+            if bridge.name in known.draining and not bridge.rooms and not known.rooms_of(bridge.name):
+                log(f"{bridge.name} has no room any more, and is stopped")
+                bridge.stop()
+                self.store.swap([(f"{FLEET}{kind}/{bridge.name}", None, ANY) for kind in ("draining", "bridges")])
+
+    def announce(self, bridge, known):
+        """Says that a bridge runs."""
+        told = {key: bridge.settings[key] for key in ("udp", "sip", "rooms", "members")} | {"agent": self.url}
+        before, bridge.is_there = known.bridges.get(bridge.name), True
+        if before and before["agent"] != self.url:
+            raise Refused(f"the agent at {before['agent']} has a bridge of this name")
+        if self.lease and (before != told or bridge.lease != self.lease):
+            self.store.swap([(f"{FLEET}bridges/{bridge.name}", told, ANY)], self.lease)
+            bridge.lease = self.lease
+
+    def keep(self, bridge, room, record, revision):
+        """Keeps a room's rows, where they have changed or where the room is about to go."""
+        if room not in bridge.rooms:
+            if bridge.version < record["version"]:
+                log(f"{bridge.name} was started anew, without room {room}")
+                self.store.put_room(room, record | {"on": None, "ready": False}, revision)
+            else:
+                log(f"room {room} was removed from {bridge.name}")
+                self.store.end_room(room, revision)
+            return
+        ready = record["to"] is not None
+        if bridge.kept.get(room) == bridge.rooms[room] and record["ready"] == ready:
+            return
+        later = record | {"members": len(bridge.members(room)), "version": bridge.version, "ready": ready}
+        groups = groups_of(commands_of(bridge.rooms[room]))
+        if self.store.put_room(room, later, revision, (f"{DESKS}{room}", groups, ANY)):
+            bridge.kept[room] = bridge.rooms[room]
+
+    def bring(self, bridge, room, record, revision):
+        """Makes a room on a bridge, and then says that it is there."""
+        refusal = bridge.bring(room, self.store.groups(room))
+        later = record | {"to": None, "ready": False}
+        if refusal is None:
+            later |= {"on": bridge.name, "version": bridge.version, "tried": [], "why": ""}
+        else:
+            why = f"Bridge {bridge.name} refuses room {room}: {refusal}"
+            later |= {"tried": [*record["tried"], bridge.name], "why": why}
+            log(why)
+        if not self.store.put_room(room, later, revision) and refusal is None:
+            bridge.remove(room)

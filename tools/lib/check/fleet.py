@@ -1,0 +1,64 @@
+"""Holds a fleet of three bridges, agents and etcd on this machine, and kills what may die.
+
+First a desk is kept and restored, and each thing that hinders it is told in words. Then three agents open 30 rooms at
+once. A bridge is killed: its rooms have to stand on another one within 5 s, with all their members, while no other
+room changes and none stands on two. Rooms move; agents die in the middle of a move; etcd is gone and comes back; a
+bridge is full, and busy; one is drained. Manifests are read by kubectl, and Kamailio's dispatcher finds a room's
+bridge. What isn't installed is named, and its steps are skipped. On Debian the packages are etcd-server, kamailio and
+kamailio-python3-modules. Each check prints a line, `ok` or `FAILED`. With --model the bridges are models without
+media.
+"""
+
+import pathlib
+import shutil
+import signal
+import sys
+import tempfile
+
+from lib.check.peers import Checks
+from lib.fleet_call.fleet import Fleet
+from lib.fleet_call.keeping import Keeping
+from lib.fleet_call.manifests import Manifests
+from lib.shared import add_program, release_program
+
+NEEDS = "the program or nothing (--model), etcd, and what it names where it skips; two minutes"
+
+
+def options(parser):
+    add_program(parser)
+    parser.add_argument("--model", action="store_true", help="bridges that are models, without media")
+    parser.add_argument("--only", default="", metavar="WORD", help="only the steps with this word in their names")
+
+
+PARTS = [
+    (Keeping, [], ["step_round_trip", "step_refusals", "step_large"]),
+    (Manifests, [], ["step_kubernetes", "step_podman", "step_nomad", "step_units"]),
+    (Fleet, ["etcd"], [
+        "step_opens", "step_kill", "step_move", "step_cut_moves", "step_etcd", "step_full_and_busy", "step_machine",
+        "step_dispatcher", "step_drain",
+    ]),
+]  # fmt: skip
+
+
+def run(args):
+    # What was started is ended by `finally`, also where this program is asked to end.
+    signal.signal(signal.SIGTERM, lambda *_: sys.exit(143))
+    program = None if args.model else release_program(args.binary)
+    check = Checks()
+    for part, needed, steps in PARTS:
+        lacking = [one for one in needed if not shutil.which(one)]
+        if lacking:
+            print(f"skipped: {part.__doc__.splitlines()[0]} There is no {' and no '.join(lacking)}")
+            continue
+        # A fleet is opened before anything is done to it.
+        chosen = [one for at, one in enumerate(steps) if args.only in one or needed and at == 0]
+        if not any(args.only in one for one in steps):
+            continue
+        with tempfile.TemporaryDirectory(ignore_cleanup_errors=True) as name:
+            trial = part(check, pathlib.Path(name), program)
+            try:
+                for step in chosen:
+                    getattr(trial, step)()
+            finally:
+                trial.close()
+    return 1 if check.failed else 0

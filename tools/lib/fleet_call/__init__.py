@@ -1,0 +1,1 @@
+"""What `tools/bridge check fleet` is made of."""

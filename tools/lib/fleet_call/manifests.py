@@ -1,0 +1,100 @@
+"""What examples/fleet gives to schedulers, read by their own clients where these are installed."""
+
+import importlib.util
+import json
+import re
+import shutil
+import subprocess
+import tomllib
+
+from lib.fleet_call.parts import FLEET
+from lib.models.lines import settings_of
+
+KUBERNETES, NOMAD = FLEET.with_name("kubernetes.yaml"), FLEET.with_name("confbridge.nomad")
+# No cluster is asked.
+KUBECTL = ["kubectl", "--kubeconfig=/dev/null"]
+
+
+def missing(wanted, found, at=""):
+    """The fields of one value that another one doesn't have, or has otherwise."""
+    if isinstance(wanted, dict) and isinstance(found, dict):
+        return [one for key in wanted for one in missing(wanted[key], found.get(key), f"{at}.{key}")]
+    if isinstance(wanted, list) and isinstance(found, list) and len(wanted) <= len(found):
+        return [one for number, (a, b) in enumerate(zip(wanted, found)) for one in missing(a, b, f"{at}[{number}]")]
+    return [] if str(wanted) == str(found) or wanted == {} else [at]
+
+
+class Manifests:
+    """The manifests of a fleet."""
+
+    def __init__(self, check, folder, program):
+        self.check, self.folder = check, folder
+        self.objects = None
+        if importlib.util.find_spec("yaml"):
+            import yaml
+
+            self.objects = list(yaml.safe_load_all(KUBERNETES.read_text()))
+
+    def step_kubernetes(self):
+        if self.objects is None:
+            print("skipped: the manifests for Kubernetes (there is no python3-yaml)")
+            return
+        kinds = [(one["kind"], one["metadata"]["name"]) for one in self.objects]
+        self.check(("StatefulSet", "confbridge") in kinds, f"{len(kinds)} objects for Kubernetes", kinds)
+        config = next(one["data"] for one in self.objects if one["kind"] == "ConfigMap")
+        named = lambda text: text.replace("@IP@", "10.0.0.1").replace("@NAME@", "confbridge-0")
+        texts = {name: named(text) for name, text in config.items()}
+        said = settings_of(texts["serve.toml"])
+        self.check(said.startswith("udp 10.0.0.1:5004 and tcp 127.0.0.1:7000"), "the bridge's settings are good", said)
+        own, given = FLEET.with_name("fleet.toml"), FLEET.parents[1] / "gateway/gateway.toml"
+        for path, one in (own, "fleet.toml"), (given, "gateway.toml"):
+            here, there = tomllib.loads(path.read_text()), tomllib.loads(texts[one])
+            # Bridges have names of their own.
+            same = all(here[key].keys() == there.get(key, {}).keys() for key in here if key != "bridges")
+            self.check(same, f"{one} has the keys of {path.parent.name}/{path.name}", there)
+        if not shutil.which("kubectl"):
+            print("skipped: kubectl's reading of the manifests (there is no kubectl)")
+            return
+        for one in self.objects:
+            if one["kind"] == "StatefulSet":
+                self.read_by_kubectl(one)
+
+    def read_by_kubectl(self, wanted):
+        """kubectl's types keep each field: what it doesn't know is lost. Its other dry runs ask a cluster."""
+        words = [*KUBECTL, "set", "env", "--local", "--dry-run=client", "-o", "json", "-f", "-", "TRIED=yes"]
+        done = subprocess.run(words, input=json.dumps(wanted), capture_output=True, text=True, check=False)
+        for one in wanted["spec"]["template"]["spec"]["containers"]:
+            one.get("env", []).sort(key=lambda each: each["name"])
+        found = json.loads(done.stdout) if done.returncode == 0 else {}
+        for one in found.get("spec", {}).get("template", {}).get("spec", {}).get("containers", []):
+            one["env"] = sorted((each for each in one["env"] if each["name"] != "TRIED"), key=lambda each: each["name"])
+        lost = missing(wanted, found)
+        name = wanted["metadata"]["name"]
+        self.check(not lost, f"kubectl knows each field of the StatefulSet {name}", lost or done.stderr)
+
+    def step_podman(self):
+        """Says that podman plays no pod here: that takes the image of Containerfile, which this check doesn't build."""
+        print("skipped: podman kube play (this check builds no image)")
+
+    def step_nomad(self):
+        if not shutil.which("nomad"):
+            print("skipped: Nomad's job (there is no nomad)")
+            return
+        words = ["nomad", "job", "validate", "-var", "etcd=http://127.0.0.1:2379", NOMAD]
+        done = subprocess.run(words, capture_output=True, text=True, check=False)
+        self.check(done.returncode == 0, "nomad reads the job", done.stdout + done.stderr)
+
+    def step_units(self):
+        if not shutil.which("systemd-analyze"):
+            print("skipped: the units (there is no systemd-analyze)")
+            return
+        for path in sorted(FLEET.with_name("systemd").glob("*.service")):
+            # A unit of a name is read as one of its instances.
+            copy = self.folder / path.name.replace("@.", "@a.")
+            # The programs needn't be installed where this is tried.
+            copy.write_text(re.sub(r"ExecStart=\S+", "ExecStart=/bin/true", path.read_text()))
+            done = subprocess.run(["systemd-analyze", "verify", copy], capture_output=True, text=True, check=False)
+            self.check(done.returncode == 0 and not done.stderr, f"systemd reads {path.name}", done.stderr)
+
+    def close(self):
+        pass

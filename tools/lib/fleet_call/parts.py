@@ -1,0 +1,152 @@
+"""The parts of examples/fleet, started for a test: etcd, bridges and agents, each on ports of its own."""
+
+import contextlib
+import json
+import signal
+import socket
+import subprocess
+import sys
+import time
+import urllib.error
+import urllib.request
+
+from lib.serving import Operator, free_port, started
+from lib.shared import ROOT, fail
+
+for one in "fleet", "gateway":
+    sys.path.append(str(ROOT / "examples" / one))
+
+from kept import by_room, commands_of, groups_of  # noqa: E402, F401
+from known import Store  # noqa: E402
+
+FLEET, MODEL = ROOT / "examples/fleet/fleet.py", ROOT / "tools/lib/models/served.py"
+# Seats of a bridge: its agent, this test, and one more.
+SEATS = 3
+# How many rooms and members a bridge takes by its agent's settings, and the time of a lease in seconds.
+ROOMS, MEMBERS, LEASE = 20, 256, 4
+
+
+def until(condition, seconds=20):
+    """How many seconds it takes until something holds, None where it doesn't."""
+    begun = time.monotonic()
+    while not condition():
+        if time.monotonic() - begun > seconds:
+            return None
+        time.sleep(0.02)
+    return time.monotonic() - begun
+
+
+def ended(process, by=signal.SIGKILL):
+    """Ends a process that this test has started. Its status."""
+    if process.poll() is None:
+        process.send_signal(by)
+    try:
+        return process.wait(20)
+    except subprocess.TimeoutExpired:
+        process.kill()
+        return process.wait()
+
+
+class BridgePart:
+    """A bridge, or the model in its place, and an operator at its desk."""
+
+    def __init__(self, name, folder, program, **more):
+        self.name, self.path, self.program = name, folder / f"{name}.toml", program
+        self.udp, self.tcp = free_port(socket.SOCK_DGRAM), free_port(socket.SOCK_STREAM)
+        lines = [f'udp = "127.0.0.1:{self.udp}"', f'tcp = "127.0.0.1:{self.tcp}"', f'cname = "{name}"']
+        lines += [f"{key} = {value}" for key, value in ({"operators": SEATS} | more).items()]
+        self.path.write_text("\n".join(lines) + "\n")
+        self.start()
+
+    def start(self):
+        under = [] if self.program else [sys.executable, "-B"]
+        self.process, _, _ = started(self.program or MODEL, self.path, under)
+        self.operator = self.seated()
+
+    def seated(self):
+        return Operator(socket.create_connection(("127.0.0.1", self.tcp), timeout=300))
+
+    def is_up(self):
+        return self.process.poll() is None
+
+    def desk(self):
+        """The rows of each room, and the desk's version."""
+        rows, version = self.operator.show()
+        return by_room(rows), version
+
+    def do(self, line):
+        """A call that has to be accepted."""
+        said = self.operator.ask(line)
+        if not said.startswith("ok "):
+            fail(f"{line}: {said}")
+
+    def close(self):
+        ended(self.process)
+        self.process.stderr.close()
+
+
+class AgentPart:
+    """An agent with one bridge."""
+
+    def __init__(self, bridge, folder, etcd, sip=""):
+        self.bridge, self.log = bridge, folder / f"agent_{bridge.name}.log"
+        self.port, self.path = free_port(socket.SOCK_STREAM), folder / f"agent_{bridge.name}.toml"
+        url = f"http://127.0.0.1:{self.port}"
+        self.path.write_text(
+            f'[agent]\nlisten = "127.0.0.1:{self.port}"\nurl = "{url}"\nlease = {LEASE}\n'
+            f'[etcd]\nservers = ["{etcd.url}"]\n[bridges.{bridge.name}]\nudp = "127.0.0.1:{bridge.udp}"\n'
+            f'tcp = "127.0.0.1:{bridge.tcp}"\nsip = "{sip}"\nrooms = {ROOMS}\nmembers = {MEMBERS}\n'
+        )
+        self.start()
+
+    def start(self):
+        with self.log.open("a") as log:
+            words = [sys.executable, "-B", FLEET, self.path]
+            self.process = subprocess.Popen(words, stdin=subprocess.DEVNULL, stdout=log, stderr=log)
+
+    def ask(self, path, **words):
+        """The status of a request, and what it is answered."""
+        body = json.dumps(words).encode() if path else None
+        try:
+            with urllib.request.urlopen(f"http://127.0.0.1:{self.port}/{path}", body, timeout=30) as said:
+                return said.status, json.load(said)
+        except urllib.error.HTTPError as why:
+            return why.code, why.read().decode()
+        except OSError as why:
+            return 0, str(why)
+
+    def knows(self):
+        """How many bridges it knows."""
+        status, told = self.ask("")
+        return len(told["bridges"]) if status == 200 else 0
+
+    def close(self):
+        return ended(self.process, signal.SIGTERM)
+
+
+class EtcdPart:
+    """etcd on this machine, with data of its own."""
+
+    def __init__(self, folder):
+        self.folder, self.ports = folder, [free_port(socket.SOCK_STREAM) for _ in range(2)]
+        self.url, peers = (f"http://127.0.0.1:{port}" for port in self.ports)
+        self.command = ["etcd", f"--data-dir={folder / 'etcd'}", f"--initial-cluster=default={peers}"]
+        self.command += [f"--listen-client-urls={self.url}", f"--advertise-client-urls={self.url}"]
+        self.command += [f"--listen-peer-urls={peers}", f"--initial-advertise-peer-urls={peers}"]
+        self.store = Store([self.url])
+        self.start()
+
+    def start(self):
+        with (self.folder / "etcd.log").open("a") as log:
+            self.process = subprocess.Popen(self.command, stdin=subprocess.DEVNULL, stdout=log, stderr=log)
+        if until(self.answers, 60) is None:
+            fail(f"etcd doesn't answer: {(self.folder / 'etcd.log').read_text()[-500:]}")
+
+    def answers(self):
+        with contextlib.suppress(Exception):
+            self.store.known()
+            return True
+        return False
+
+    def close(self):
+        ended(self.process)

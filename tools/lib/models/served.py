@@ -1,0 +1,109 @@
+"""A stand-in for a bridge: its desk over TCP by the model, without media.
+
+    served.py serve FILE
+
+FILE has a bridge's settings. It answers lines as docs/FORMATS.md says, with seats. Its answers wait without bound, and
+it closes no connection for its silence.
+"""
+
+import os
+import pathlib
+import socket
+import socketserver
+import sys
+import threading
+import tomllib
+
+if __name__ == "__main__":
+    sys.path.insert(0, str(pathlib.Path(__file__).resolve().parents[2]))
+
+from lib.models.desk import COMMANDS, Desk, Log  # noqa: E402
+from lib.models.lines import fault_of_line  # noqa: E402
+
+MOST_OCTETS = 4096
+
+
+class QuickDesk(Desk):
+    """A desk that looks for rows without what they name only where something was removed."""
+
+    def carry_out(self, words):
+        COMMANDS[words[0]](self, *(int(word) if word.isdigit() else word for word in words[1:]))
+        if words[0].startswith("remove-"):
+            self.sweep()
+
+
+class Front(socketserver.ThreadingTCPServer):
+    """The desk, its seats, and the connections of operators."""
+
+    allow_reuse_address = daemon_threads = True
+    request_queue_size = 64
+
+    def __init__(self, address, seats, ssrc):
+        super().__init__(address, Operator)
+        self.log, self.lock, self.seats, self.taken = Log(), threading.Lock(), seats, set()
+        self.log.desk = QuickDesk()
+        self.log.desk.bridge = ssrc
+
+
+class Operator(socketserver.StreamRequestHandler):
+    """A connection."""
+
+    def handle(self):
+        try:
+            while line := self.rfile.readline(MOST_OCTETS + 2):
+                if not self.is_answered(line):
+                    break
+        except OSError:
+            pass
+        finally:
+            with self.server.lock:
+                self.server.taken.discard(self)
+
+    def says(self, text):
+        self.wfile.write(f"{text}\n".encode())
+
+    def is_answered(self, line):
+        """Answers a line. Whether the connection goes on."""
+        octets = line.removesuffix(b"\n").removesuffix(b"\r")
+        if len(octets) > MOST_OCTETS or not line.endswith(b"\n"):
+            self.says("fault 0 1 LineTooLong")
+            return False
+        fault = fault_of_line(octets)
+        if fault:
+            self.says(fault)
+            return not fault.startswith("fault 0")
+        with self.server.lock:
+            if self not in self.server.taken and len(self.server.taken) == self.server.seats:
+                self.says("busy")
+                return False
+            self.server.taken.add(self)
+            return self.is_carried_out(octets.decode().split(" "))
+
+    def is_carried_out(self, words):
+        log = self.server.log
+        if words == ["stop"]:
+            print("confbridge: stopped", file=sys.stderr, flush=True)
+            os._exit(0)
+        if words == ["quit"]:
+            return False
+        self.says("\n".join(log.desk.shown(log.version)) if words == ["show"] else log.call(words))
+        return True
+
+
+def address_of(text):
+    host, _, port = text.rpartition(":")
+    return host, int(port)
+
+
+def main():
+    settings = tomllib.loads(pathlib.Path(sys.argv[2]).read_text())
+    with socket.socket(socket.AF_INET, socket.SOCK_DGRAM) as udp:
+        udp.bind(address_of(settings["udp"]))
+        front = Front(address_of(settings["tcp"]), settings.get("operators", 1), settings.get("bridge_ssrc", 1))
+        places = "udp {}:{} and tcp {}:{}".format(*udp.getsockname(), *front.server_address)
+        print(f"confbridge: listening on {places}", file=sys.stderr, flush=True)
+        front.serve_forever()
+
+
+if __name__ == "__main__":
+    main()
