@@ -3,12 +3,13 @@
 import os
 import re
 import shutil
+import signal
 import socket
 import subprocess
 import sys
 import threading
 
-from lib.fleet_call.parts import FLEET, ended, until
+from lib.fleet_call.parts import FLEET, begun, ended, until
 from lib.serving import free_port, port_of, udp_socket
 
 NEEDED = ["kamailio"]
@@ -53,10 +54,7 @@ class Kamailio:
         words = ["kamailio", "-DD", "-E", "-f", FLEET.with_name("kamailio.cfg"), "-l", f"udp:127.0.0.1:{self.port}"]
         given = {"SCRIPT": f'"{script}"', "GATEWAYS": f'"{gateways}"', "CTL": f'"unix:{folder}/ctl"'}
         words += [word for name, value in given.items() for word in ("-A", f"{name}={value}")]
-        with (folder / "kamailio.log").open("w") as log:
-            self.process = subprocess.Popen(
-                [*words, "-w", folder, "-Y", folder], env=environment, stdin=subprocess.DEVNULL, stdout=log, stderr=log
-            )
+        self.process = begun([*words, "-w", folder, "-Y", folder], folder / "kamailio.log", environment)
 
     def invite(self, room, id):
         """The first line of the final answer to an INVITE, None where there is none within two seconds."""
@@ -75,7 +73,7 @@ class Kamailio:
                 return None
 
     def close(self):
-        ended(self.process, 15)
+        ended(self.process, signal.SIGTERM)
 
 
 class Dispatched:

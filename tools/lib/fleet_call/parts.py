@@ -1,5 +1,6 @@
 """The parts of examples/fleet, started for a test: etcd, bridges and agents, each on ports of its own."""
 
+import atexit
 import contextlib
 import json
 import signal
@@ -45,6 +46,15 @@ def ended(process, by=signal.SIGKILL):
     except subprocess.TimeoutExpired:
         process.kill()
         return process.wait()
+
+
+def begun(command, log, environment=None):
+    """A process with a log. It ends with this test, however that ends."""
+    with log.open("a") as told:
+        null = subprocess.DEVNULL
+        process = subprocess.Popen(command, env=environment, stdin=null, stdout=told, stderr=told)
+    atexit.register(ended, process, signal.SIGTERM)
+    return process
 
 
 class BridgePart:
@@ -100,9 +110,7 @@ class AgentPart:
         self.start()
 
     def start(self):
-        with self.log.open("a") as log:
-            words = [sys.executable, "-B", FLEET, self.path]
-            self.process = subprocess.Popen(words, stdin=subprocess.DEVNULL, stdout=log, stderr=log)
+        self.process = begun([sys.executable, "-B", FLEET, self.path], self.log)
 
     def ask(self, path, **words):
         """The status of a request, and what it is answered."""
@@ -137,8 +145,7 @@ class EtcdPart:
         self.start()
 
     def start(self):
-        with (self.folder / "etcd.log").open("a") as log:
-            self.process = subprocess.Popen(self.command, stdin=subprocess.DEVNULL, stdout=log, stderr=log)
+        self.process = begun(self.command, self.folder / "etcd.log")
         if until(self.answers, 60) is None:
             fail(f"etcd doesn't answer: {(self.folder / 'etcd.log').read_text()[-500:]}")
 
