@@ -11,8 +11,8 @@ use Rattle.flood_guard.specs.declared.quota.Quota.{Quota}
 use Rattle.flood_guard.specs.declared.quota.Quota.TheVariants.{Numbers, Items}
 use Rattle.flood_guard.specs.Accounts.{account_at, account_of, opened, or_opened, used, earned, paid, counted, most_of, counted_of, counted_in, left_in, window_of}
 use Rattle.flood_guard.specs.Steps.{GuardStep, earn, spend, ask, may_spend, may_ask, accounts_after, counted_as, granted_at, all_asked, enters, entries, AreInOrder}
-use Rattle.flood_guard.proofs.PlaceLemmas.{same_address_is, same_itself}
-use Rattle.flood_guard.proofs.Turns.{address_of, own, IsKept, others}
+use Rattle.flood_guard.proofs.KeyedLemmas.{same_address_is, same_itself}
+use Rattle.flood_guard.proofs.Turns.{address_of, own_at, IsKept, others}
 
 -- how much of a quota may still be granted in a window, now or later
 abbrev pub rest_of : Quota → ℕ → Account → ℕ
@@ -145,9 +145,6 @@ asks : (q k : Quota) (window now granted : ℕ) (address : Address) (old : Optio
     → IsBounded q window (granted_in window now (counted_as q k granted)) old (Some (counted now k granted (or_opened address old)))
 asks q k window now granted address None before few = omega (arith, grants_of q k window now granted (opened address) (omega arith) few, most_rest q window (opened address))
 asks q k window now granted address (Some a) before few = omega (arith, grants_of q k window now granted a before few)
-
-own_at : (address : Address) (x : Account) (accounts : List Account) → x.address ≡ address → account_at address (used x accounts) ≡ Some x
-own_at address x accounts e = own x address accounts (ap (λ (a : Address). same_address a address) e ∙ same_itself address)
 
 other_at : (from address : Address) (x : Account) (accounts : List Account) → x.address ≡ from → same_address from address ≡ false → IsKept (account_at address accounts) (account_at address (used x accounts))
 other_at from address x accounts e f = others x address accounts (ap (λ (a : Address). same_address a address) e ∙ f)

@@ -9,9 +9,9 @@ use Rattle.flood_guard.specs.declared.quota.Quota.{Quota}
 use Rattle.flood_guard.specs.declared.quota.Quota.TheVariants.{Numbers, Items}
 use Rattle.flood_guard.specs.Accounts.{account_at, account_of, or_opened, used, earned, paid, counted, window_of}
 use Rattle.flood_guard.specs.Steps.{GuardStep, earn, spend, ask, pays, may_spend, may_ask, accounts_after, octets_from, octets_to, enters, all_from, all_to, entries}
-use Rattle.flood_guard.proofs.PlaceLemmas.{same_address_is, same_itself}
+use Rattle.flood_guard.proofs.KeyedLemmas.{same_address_is}
 use Rattle.flood_guard.proofs.AskLaws.{address_counted}
-use Rattle.flood_guard.proofs.Turns.{address_of, own, IsKept, others}
+use Rattle.flood_guard.proofs.Turns.{address_of, own_at, IsKept, others}
 
 abbrev pub credit_in : Option Account → ℕ
 credit_in None = 0
@@ -48,9 +48,6 @@ credit_counted Items window granted a = refl
 asks : (address : Address) (window : ℕ) (k : Quota) (granted : ℕ) (old : Option Account) → IsBounded 0 0 old (Some (counted window k granted (or_opened address old)))
 asks address window k granted None = omega (arith, credit_counted k window granted (or_opened address None))
 asks address window k granted (Some a) = omega (arith, credit_counted k window granted a)
-
-own_at : (address : Address) (x : Account) (accounts : List Account) → x.address ≡ address → account_at address (used x accounts) ≡ Some x
-own_at address x accounts e = own x address accounts (ap (λ (a : Address). same_address a address) e ∙ same_itself address)
 
 step : (address : Address) (s : GuardStep) (accounts : List Account) → IsBounded (octets_to address s accounts) (octets_from address s) (account_at address accounts) (account_at address (accounts_after s accounts))
 step address (earn from octets) accounts = (elim (same_address from address) as (λ y. same_address from address ≡ y → IsBounded 0 (if y then octets else 0) (account_at address accounts) (account_at address (accounts_after (earn from octets) accounts))) [

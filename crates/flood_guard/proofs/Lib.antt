@@ -1,4 +1,4 @@
-pub mod PlaceLemmas
+pub mod KeyedLemmas
 pub mod Turns
 pub mod CreditLaws
 pub mod AskLaws

@@ -1,10 +1,10 @@
 -- What a use does to the account of an address.
-use Rattle.std.proofs.Common.{◌≡◌, ℕ, zero, suc, ◌-◌, true, false, if◌then◌else◌, List, [], ◌∷◌, take, Option, None, Some, refl, ap, ◌∙◌, subst}
+use Rattle.std.proofs.Common.{◌≡◌, ℕ, zero, suc, ◌-◌, true, false, if◌then◌else◌, List, [], ◌∷◌, take, Option, None, Some, IfSome, refl, ap, ◌∙◌, subst}
 use Rattle.rtp_codec.specs.declared.address.Address.{Address}
 use Rattle.rtp_codec.specs.Address.{same_address}
 use Rattle.flood_guard.specs.declared.account.Account.{Account}
 use Rattle.flood_guard.specs.Accounts.{account_at, account_of, or_opened, other_accounts, used, most_addresses}
-use Rattle.flood_guard.proofs.PlaceLemmas.{same_address_is}
+use Rattle.flood_guard.proofs.KeyedLemmas.{same_address_is, same_itself}
 
 pub address_at : (address : Address) (accounts : List Account) (a : Account) → account_at address accounts ≡ Some a → a.address ≡ address
 address_at address [] a h = cc
@@ -19,9 +19,18 @@ address_of address accounts = (elim (account_at address accounts) as (λ o. acco
   | Some a ↦ λ h. address_at address accounts a h
 ]) refl
 
+pub address_found : (address : Address) (accounts : List Account) → IfSome (account_at address accounts) (λ a. a.address ≡ address)
+address_found address accounts = (elim (account_at address accounts) as (λ o. account_at address accounts ≡ o → IfSome o (λ a. a.address ≡ address)) [
+  | None ↦ λ h. tt
+  | Some a ↦ λ h. address_at address accounts a h
+]) refl
+
 -- its own account is the one that was used
 pub own : (x : Account) (address : Address) (accounts : List Account) → same_address x.address address ≡ true → account_at address (used x accounts) ≡ Some x
 own x address accounts t = rw t refl
+
+pub own_at : (address : Address) (x : Account) (accounts : List Account) → x.address ≡ address → account_at address (used x accounts) ≡ Some x
+own_at address x accounts e = own x address accounts (ap (λ (a : Address). same_address a address) e ∙ same_itself address)
 
 -- the account stayed, or it is gone
 abbrev pub IsKept : Option Account → Option Account → Type 0

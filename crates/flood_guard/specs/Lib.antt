@@ -1,3 +1,4 @@
 pub mod Accounts
+pub mod Drafts
 pub mod Steps
 pub mod inner

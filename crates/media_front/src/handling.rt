@@ -2,13 +2,13 @@
 
 ghost use Rattle.std.specs.Prelude.{◌≡◌, OnOk, OnErr};
 ghost use Rattle.desk_rows.specs.Desk.{Desk};
-ghost use Rattle.intake.specs.Ingested.{ingested_of};
+ghost use Rattle.intake.specs.Ingested.{ingested_of, IsAbout};
 ghost use Rattle.media_front.specs.Fronts.{HasHandled};
 
 use crate::front::MediaFront;
 use crate::giving::copies_of_all;
-use crate::paying::{credit, try_paid};
-use crate::planning::{Plan, Received, plan_for, settle};
+use crate::planning::{Plan, Received, plan_for};
+use crate::trying::try_all;
 use bridge_core::Ingest;
 use media_workers::{Pace, PublisherName, Sink};
 use rtp_codec::Address;
@@ -29,6 +29,7 @@ impl<N: PublisherName, P: Pace, S: Sink> MediaFront<N, P, S> {
         ingest: Ingest,
         wire: &mut W,
     ) -> Result<(), AllocError>
+        requires about { IsAbout from.now (ingested_of ingest) }
         ensures handled { OnOk result ((desk : Desk) → HasHandled
             (record { desk = desk; from = from.now; moment = moment; octets = octets.now }) (ingested_of ingest)
             self.old self.new (W.attempts wire.old) (W.attempts wire.new)) }
@@ -41,16 +42,10 @@ impl<N: PublisherName, P: Pace, S: Sink> MediaFront<N, P, S> {
             octets: octets.len() as u64,
         };
         let planned = plan_for(alloc, &self.guard, self.pli_cost, received, ingest)?;
-        let copies = copies_of_all(alloc, &planned.ingest.items, self.feed.count())?;
-        credit(
-            &mut self.guard,
-            planned.ingest.outcome,
-            from,
-            received.octets,
-        );
-        try_paid(&mut self.guard, &planned.ingest.up, wire);
-        let Plan { ingest, accounts } = planned;
-        settle(&mut self.guard, accounts);
+        let Plan { ingest, draft } = planned;
+        let copies = copies_of_all(alloc, &ingest.items, self.feed.count())?;
+        self.guard.put_back(draft)?;
+        try_all(&ingest.up, wire);
         self.feed.hand_out_all(&ingest.items, copies);
         Ok(())
     }

@@ -1,37 +1,38 @@
 use Rattle.std.proofs.Common.{◌∙◌, ap}
 use Rattle.intake.specs.declared.outcome.Outcome.{Outcome}
 use Rattle.intake.specs.declared.outcome.Outcome.TheVariants.{BadPayload, Spent, Probation, Accepted, Duplicate, Jump, Restarted, Rtcp}
+use Rattle.flood_guard.specs.Drafts.{DraftOf}
 use Rattle.media_front.specs.Paid.{credited}
 use Rattle.worked_front.proofs.earning.each_of_a_member_earns.Goals as goal
 
 pub returns-clause-bad : goal.returns-clause-bad
 returns-clause-bad c is =
-    c.credit.ensures ∙ (ap (λ (o : Outcome). credited o c.args.member.now 100 c.args.guard.now) is ∙ ap (credited BadPayload c.args.member.now 100) c.requires)
+    ap (λ (d : DraftOf). d.after) c.credit.ensures ∙ (ap (λ (o : Outcome). credited o c.args.draft.now.address 100 c.args.draft.now.after) is ∙ ap (credited BadPayload c.args.draft.now.address 100) c.requires)
 
 pub returns-clause-spent : goal.returns-clause-spent
 returns-clause-spent c is =
-    c.credit.ensures ∙ (ap (λ (o : Outcome). credited o c.args.member.now 100 c.args.guard.now) is ∙ ap (credited Spent c.args.member.now 100) c.requires)
+    ap (λ (d : DraftOf). d.after) c.credit.ensures ∙ (ap (λ (o : Outcome). credited o c.args.draft.now.address 100 c.args.draft.now.after) is ∙ ap (credited Spent c.args.draft.now.address 100) c.requires)
 
 pub returns-clause-probation : goal.returns-clause-probation
 returns-clause-probation c is =
-    c.credit.ensures ∙ (ap (λ (o : Outcome). credited o c.args.member.now 100 c.args.guard.now) is ∙ ap (credited Probation c.args.member.now 100) c.requires)
+    ap (λ (d : DraftOf). d.after) c.credit.ensures ∙ (ap (λ (o : Outcome). credited o c.args.draft.now.address 100 c.args.draft.now.after) is ∙ ap (credited Probation c.args.draft.now.address 100) c.requires)
 
 pub returns-clause-accepted : goal.returns-clause-accepted
 returns-clause-accepted c ext is =
-    c.credit.ensures ∙ (ap (λ (o : Outcome). credited o c.args.member.now 100 c.args.guard.now) is ∙ ap (credited (Accepted ext) c.args.member.now 100) c.requires)
+    ap (λ (d : DraftOf). d.after) c.credit.ensures ∙ (ap (λ (o : Outcome). credited o c.args.draft.now.address 100 c.args.draft.now.after) is ∙ ap (credited (Accepted ext) c.args.draft.now.address 100) c.requires)
 
 pub returns-clause-duplicate : goal.returns-clause-duplicate
 returns-clause-duplicate c ext is =
-    c.credit.ensures ∙ (ap (λ (o : Outcome). credited o c.args.member.now 100 c.args.guard.now) is ∙ ap (credited (Duplicate ext) c.args.member.now 100) c.requires)
+    ap (λ (d : DraftOf). d.after) c.credit.ensures ∙ (ap (λ (o : Outcome). credited o c.args.draft.now.address 100 c.args.draft.now.after) is ∙ ap (credited (Duplicate ext) c.args.draft.now.address 100) c.requires)
 
 pub returns-clause-jump : goal.returns-clause-jump
 returns-clause-jump c is =
-    c.credit.ensures ∙ (ap (λ (o : Outcome). credited o c.args.member.now 100 c.args.guard.now) is ∙ ap (credited Jump c.args.member.now 100) c.requires)
+    ap (λ (d : DraftOf). d.after) c.credit.ensures ∙ (ap (λ (o : Outcome). credited o c.args.draft.now.address 100 c.args.draft.now.after) is ∙ ap (credited Jump c.args.draft.now.address 100) c.requires)
 
 pub returns-clause-restarted : goal.returns-clause-restarted
 returns-clause-restarted c ext is =
-    c.credit.ensures ∙ (ap (λ (o : Outcome). credited o c.args.member.now 100 c.args.guard.now) is ∙ ap (credited (Restarted ext) c.args.member.now 100) c.requires)
+    ap (λ (d : DraftOf). d.after) c.credit.ensures ∙ (ap (λ (o : Outcome). credited o c.args.draft.now.address 100 c.args.draft.now.after) is ∙ ap (credited (Restarted ext) c.args.draft.now.address 100) c.requires)
 
 pub returns-clause-rtcp : goal.returns-clause-rtcp
 returns-clause-rtcp c packets is =
-    c.credit.ensures ∙ (ap (λ (o : Outcome). credited o c.args.member.now 100 c.args.guard.now) is ∙ ap (credited (Rtcp packets) c.args.member.now 100) c.requires)
+    ap (λ (d : DraftOf). d.after) c.credit.ensures ∙ (ap (λ (o : Outcome). credited o c.args.draft.now.address 100 c.args.draft.now.after) is ∙ ap (credited (Rtcp packets) c.args.draft.now.address 100) c.requires)

@@ -6,15 +6,14 @@ use Rattle.rtp_codec.specs.declared.address.Address.{Address}
 use Rattle.media_items.specs.Inputs.{Input, input_of}
 use Rattle.intake.specs.Ingested.{Ingested, ingested_of, datagram_of}
 use Rattle.media_items.specs.declared.item.Item.{Item}
-use Rattle.intake.specs.declared.outcome.Outcome.{Outcome}
 use Rattle.media_front.specs.FedLanes.{AllAreGiven}
 use Rattle.media_front.specs.Tries.{WereTried}
 use Rattle.flood_guard.specs.declared.account.Account.{Account}
-use Rattle.media_front.specs.Paid.{credited, paid_of, after_paying}
+use Rattle.flood_guard.specs.Drafts.{DraftOf}
+use Rattle.media_front.specs.Paid.{paid_of}
 use Rattle.media_front.specs.Granted.{granted_of, after_asking}
 use Rattle.media_front.specs.Fronts.{FrontOf, Arrival, HasHandled, once_earned, once_paid}
 use Rattle.media_front.specs.inner.Copies.{AreCopies}
-use Rattle.media_front.specs.inner.Plans.{settled}
 use Rattle.media_front.proofs.front.MediaFront.handle.Goals as goal
 
 pub hand_out_all-requires-clause-copies : goal.hand_out_all-requires-clause-copies
@@ -31,27 +30,20 @@ returns-clause-handled g c desk =
     let ingest = c.args.ingest in
     let plan = c.in_ok-planned.planned in
     let is = c.in_ok-planned.ensures in
-    let new : FrontOf g.row.P.Denot g.row.S.Denot = record { intake = here.intake; feed = c.hand_out_all.new.self; guard = c.settle.new.guard; ticks = here.ticks; reports = here.reports } in
+    let new : FrontOf g.row.P.Denot g.row.S.Denot = record { intake = here.intake; feed = c.hand_out_all.new.self; guard = c.put_back.new.self; ticks = here.ticks; reports = here.reports } in
     let before = g.W.Wire.attempts c.args.wire.now in
-    let after = g.W.Wire.attempts c.try_paid.new.wire in
+    let after = g.W.Wire.attempts c.try_all.new.wire in
     let once : List Account = once_earned arrival (ingested_of ingest) here.guard in
     let sent : List Account = once_paid arrival (ingested_of ingest) here.guard in
-    let told : plan.ingest.outcome ≡ ingest.outcome = ap (λ (i : Ingested). i.outcome) is.ingest in
-    let up : map datagram_of plan.ingest.up.items ≡ map datagram_of ingest.up.items = ap (λ (i : Ingested). i.up) is.ingest in
+    let up : map datagram_of plan.ingest.up.items ≡ paid_of (map datagram_of ingest.up.items) once = ap (λ (i : Ingested). i.up) is.ingest in
     let given : map input_of plan.ingest.items.items ≡ granted_of here.pli_cost c.args.moment (map input_of ingest.items.items) sent = ap (λ (i : Ingested). i.items) is.ingest in
-    let earned : c.credit.new.guard ≡ once = c.credit.ensures ∙ ap (λ (o : Outcome). credited o c.args.from.now (length c.args.octets.now) here.guard) told in
-    let paid : c.try_paid.new.guard ≡ sent =
-    subst (λ (xs : List (Address × Vec ℕ Global)). c.try_paid.new.guard ≡ after_paying (map datagram_of xs) c.credit.new.guard) c.deref-2.ensures.value c.try_paid.ensures.guard
-    ∙ (ap (λ (l : List (Address × List ℕ)). after_paying l c.credit.new.guard) up ∙ ap (after_paying (map datagram_of ingest.up.items)) earned) in
     subst (λ (f : FrontOf g.row.P.Denot g.row.S.Denot). HasHandled arrival (ingested_of ingest) f new before after) c.self.view_is
     (record {
-      up = subst (λ (l : List (Address × List ℕ)). WereTried (paid_of l once) before after) up
-          (subst (λ (a : List Account). WereTried (paid_of (map datagram_of plan.ingest.up.items) a) before after) earned
-          (subst (λ (xs : List (Address × Vec ℕ Global)). WereTried (paid_of (map datagram_of xs) c.credit.new.guard) before after) c.deref-2.ensures.value c.try_paid.ensures.tried));
+      up = subst (λ (l : List (Address × List ℕ)). WereTried l before after) up
+          (subst (λ (xs : List (Address × Vec ℕ Global)). WereTried (map datagram_of xs) before after) c.deref-2.ensures.value c.try_all.ensures);
       items = subst (λ (n : ℕ). AllAreGiven (granted_of n c.args.moment (map input_of ingest.items.items) sent) here.feed c.hand_out_all.new.self) c.self.invariant
           (subst (λ (is : List Input). AllAreGiven is here.feed c.hand_out_all.new.self) given
           (subst (λ (xs : List (Item Global)). AllAreGiven (map input_of xs) here.feed c.hand_out_all.new.self) c.deref-3.ensures.value c.hand_out_all.ensures));
-      guard = c.settle.ensures
-          ∙ (ap (settled plan.accounts) paid
-          ∙ (is.accounts ∙ ap (λ (n : ℕ). after_asking n c.args.moment (map input_of ingest.items.items) sent) c.self.invariant));
+      guard = c.in_ok-put_back.ensures.after ∙ ap (λ (d : DraftOf). d.after) is.draft
+          ∙ ap (λ (n : ℕ). after_asking n c.args.moment (map input_of ingest.items.items) sent) c.self.invariant;
     })

@@ -1,0 +1,36 @@
+-- The accounts that are kept, by the parts of their addresses.
+use Rattle.std.specs.Prelude.{◌≡◌, ℕ, ◌-◌, Bool, ◌&&◌, nat_eq, List, ◌∷◌, take, map, Option, None, Some}
+use Rattle.std.specs.List.{AllByRecursion}
+use Rattle.std.specs.Str.{bytes_eq}
+use Rattle.std.specs.Map.{lookup_entry, remove_entry}
+use Rattle.std.specs.Option.{option_map_or}
+use Rattle.rtp_codec.specs.declared.address.Address.{Address}
+use Rattle.flood_guard.specs.declared.account.Account.{Account}
+use Rattle.flood_guard.specs.declared.key.AddressKey.{AddressKey}
+use Rattle.flood_guard.specs.Accounts.{used}
+
+abbrev pub same_key : AddressKey → AddressKey → Bool
+same_key a b = bytes_eq a.ip b.ip && nat_eq a.port b.port
+
+-- the key of an address
+abbrev pub key_of : Address → AddressKey
+key_of a = record { ip = a.ip; port = a.port }
+
+-- Each account stands under the key of its address.
+abbrev pub AreKeyed : List (AddressKey × Account) → Type 0
+AreKeyed entries = AllByRecursion (λ e. e.0 ≡ key_of e.1.address) entries
+
+-- the accounts, without their keys
+abbrev pub accounts_in : List (AddressKey × Account) → List Account
+accounts_in entries = map (λ e. e.1) entries
+
+-- with this under the key, before the others, of which there may be so many with it
+abbrev pub put_within : ℕ → AddressKey → Account → List (AddressKey × Account) → List (AddressKey × Account)
+put_within most key a entries =
+    option_map_or (λ e. (e.0, a) ∷ remove_entry (same_key key) entries)
+    (lookup_entry (same_key key) entries) ((key, a) ∷ take (most - 1) entries)
+
+-- the accounts after a draft: its account was used, or nothing was
+abbrev pub drafted : Option Account → List Account → List Account
+drafted None accounts = accounts
+drafted (Some a) accounts = used a accounts
