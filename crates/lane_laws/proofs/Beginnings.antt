@@ -2,7 +2,6 @@
 use Rattle.std.proofs.Common.{Bool, ◌≡◌, ◌⊎◌, ◌+◌, ◌<◌, ◌≤◌, ℕ, zero, suc, List, [], ◌∷◌, ◌++◌, length, map, take, slice_get, Some, Option, IfSome, refl, ap, sym, subst, ◌∙◌, ⊎_elim, arith}
 use Rattle.std.specs.List.{AllByRecursion}
 use Rattle.std.specs.Prelude.{slice_index_or}
-use Rattle.std.specs.declared.alloc.Global.{Global}
 use Rattle.std.proofs.lemmas.List.{length-map}
 use Rattle.std.proofs.lemmas.Option.{slice_get_within}
 use Rattle.std.proofs.Math.Seq.{take-append_seam}
@@ -15,7 +14,6 @@ use Rattle.desk_calls.specs.Accepted.{after_calls}
 use Rattle.versions.specs.Published.{NoticeOf, after_lists}
 use Rattle.versions.proofs.Prefixes.{prefix_self, prefix_trans, prefix_whole, prefix_length}
 use Rattle.upward.specs.Upstream.{Asker}
-use Rattle.media_items.specs.declared.item.Item.{Item}
 use Rattle.bridge_core.specs.Sent.{Sent, sent_of}
 use Rattle.bridge_core.specs.Lanes.{Visit}
 use Rattle.bridge_core.specs.LaneState.{visit_of}

@@ -1,18 +1,17 @@
 -- Lanes whose entries saw beginnings of one list of publishes (own).
 use Rattle.std.specs.Prelude.{◌≡◌, ℕ, Bool, true, List, [], ◌∷◌, length, map, Some}
 use Rattle.std.specs.List.{All, AllByRecursion, Contains}
-use Rattle.std.specs.declared.alloc.Global.{Global}
 use mathlib.Core.List.{IsPrefix}
 use Rattle.logbook.specs.Pages.{Book}
 use Rattle.desk_rows.specs.Desk.{Desk, good}
 use Rattle.desk_rows.specs.Edit.{EditOf}
 use Rattle.versions.specs.Published.{NoticeOf}
-use Rattle.media_items.specs.declared.item.Item.{Item}
 use Rattle.bridge_core.specs.Events.{Event}
 use Rattle.operator_desk.specs.Entry.{EntryOf}
 use Rattle.operator_desk.specs.LegalLogs.{calls_of, IsLegal}
 use Rattle.operator_desk.specs.Published.{AreDesks}
 use Rattle.media_workers.specs.declared.lane_end.LaneEnd.{LaneEnd}
+use Rattle.media_workers.specs.declared.lane_item.LaneItem.{LaneItem}
 use Rattle.media_workers.specs.declared.parcel.Parcel.{Parcel}
 use Rattle.media_workers.specs.declared.parcel.Parcel.TheVariants.{Work}
 use Rattle.media_workers.specs.LaneRuns.{LaneNow, Served}
@@ -23,7 +22,7 @@ use Rattle.lane_laws.specs.Merges.{Versioned, merge}
 -- one of these parcels has a notice of these lists
 abbrev pub HasNotice : List (List EditOf) → List Parcel → Type 0
 HasNotice lists parcels =
-    (item : Item Global) × (notice : NoticeOf) × Contains parcels (Work item (Some notice)) × (notice.lists ≡ lists)
+    (item : LaneItem) × (notice : NoticeOf) × Contains parcels (Work item (Some notice)) × (notice.lists ≡ lists)
 
 -- Each item of the lane was handled at a version of these lists: what its entry saw is a beginning of them.
 abbrev pub HasSeen : {N P S : Type 0} (lists : List (List EditOf)) (answers : P → ℕ → Bool → Type 0) (taken : Taking S)

@@ -108,7 +108,7 @@ fn gives_all<N: PublisherName, R: Wait>(
             settle(rt, running, asked, number.saturating_sub(BEHIND), gathered);
         }
         let is_given = match frame(alloc, number) {
-            Some(item) => tell_all(alloc, running, &item, told),
+            Some(item) => tell_all(running, &item, told),
             None => false,
         };
         if !is_given {

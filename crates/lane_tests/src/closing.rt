@@ -19,7 +19,7 @@ use crate::told::{OfHall, Told};
 use bridge_core::Egress;
 use desk_edit::Command;
 use desk_rows::Sub;
-use media_workers::{Pace, PublisherName};
+use media_workers::{Pace, PublisherName, Sink};
 use operator_desk::{DeskNames, Hall, Log};
 use std::alloc::Global;
 use std::marker::Brand;
@@ -45,15 +45,15 @@ fn show_more() -> Command {
 }
 
 /// Gives each lane so many frames of member 3, each with the notice. False where one isn't accepted.
-pub fn give_frames<N: PublisherName, P: Pace>(
+pub fn give_frames<N: PublisherName, P: Pace, S: Sink>(
     alloc: Global,
-    running: &mut Running<N, P>,
+    running: &mut Running<N, P, S>,
     frames: u64,
     told: &Told<N>,
 ) -> bool {
     for number in 0..frames {
         let is_given = match frame_of(alloc, 3, number) {
-            Some(item) => tell_all(alloc, running, &item, told),
+            Some(item) => tell_all(running, &item, told),
             None => false,
         };
         if !is_given {
@@ -64,7 +64,7 @@ pub fn give_frames<N: PublisherName, P: Pace>(
 }
 
 /// What one thread sends for so many frames.
-fn wanted(alloc: Global, frames: u64) -> Option<Vec<Egress>> {
+pub fn wanted(alloc: Global, frames: u64) -> Option<Vec<Egress>> {
     let mut one = OneThread::new(alloc)?;
     if !one.does(alloc, show_more()) {
         return None;

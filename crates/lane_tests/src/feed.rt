@@ -28,12 +28,12 @@ pub fn item(alloc: Global, number: u64) -> Option<FitItem> {
             moment: moment(number),
         }),
     };
-    FitItem::new(made?)
+    FitItem::new(alloc, made?)
 }
 
 /// A frame of a member's source, as the item of this number.
 pub fn frame_of(alloc: Global, member: u32, number: u64) -> Option<FitItem> {
-    FitItem::new(frame(alloc, member, number)?)
+    FitItem::new(alloc, frame(alloc, member, number)?)
 }
 
 /// The moment of an item, in nanoseconds since 1970. There are 20 ms from tick to tick.

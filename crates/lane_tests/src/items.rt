@@ -3,18 +3,19 @@
 ghost use Rattle.std.specs.Prelude.{◌≡◌, true};
 ghost use Rattle.std.specs.Bool.{OnTrue};
 ghost use Rattle.media_items.specs.Inputs.{input_of, is_sized};
-ghost use Rattle.media_workers.specs.Parcels.{IsFit};
+ghost use Rattle.media_workers.specs.Parcels.{IsFit, item_in};
 
 use crate::told::Told;
 use bridge_core::Item;
-use media_workers::{Parcel, PublisherName};
+use media_workers::{LaneItem, Parcel, PublisherName};
 use std::alloc::Global;
+use std::sync::Arc;
 
 /// An item that lanes may handle.
 #[derive(Drop)]
 pub struct FitItem {
-    item: Item,
-    ghost sized: { is_sized (input_of item) ≡ true },
+    item: LaneItem,
+    ghost sized: { is_sized (input_of (item_in item)) ≡ true },
 }
 
 /// Whether lanes may handle an item: sound has 1 to 200 ms of samples at 8000 or 44100 Hz.
@@ -31,32 +32,40 @@ fn is_fit(item: &Item) -> bool
 }
 
 impl FitItem {
-    /// The item, if lanes may handle it.
-    pub fn new(item: Item) -> Option<FitItem> {
-        if is_fit(&item) {
-            Some(FitItem { item })
-        } else {
-            None
+    /// The item, for lanes to share, if they may handle it and memory suffices.
+    pub fn new(alloc: Global, item: Item) -> Option<FitItem> {
+        if !is_fit(&item) {
+            return None;
         }
+        let item = Arc::new(alloc, item).ok()?;
+        Some(FitItem {
+            item: LaneItem::Shared(item),
+        })
     }
 
+    /// A tick of one lane's own.
     pub fn tick(moment: u64) -> FitItem {
         FitItem {
-            item: Item::Tick { moment },
+            item: LaneItem::Own(Item::Tick { moment }),
         }
     }
 
     pub fn item(&self) -> &Item
         ensures { is_sized (input_of result.now) ≡ true }
     {
-        &self.item
+        self.item.item()
     }
 
-    /// A copy, if memory suffices.
-    pub fn copy(&self, alloc: Global) -> Option<FitItem> {
-        match self.item.copy(alloc) {
-            Ok(item) => Some(FitItem { item }),
-            Err(_) => None,
+    /// The same item once more, if lanes share it.
+    pub fn again(&self) -> Option<FitItem> {
+        match &self.item {
+            LaneItem::Own(_) => None,
+            LaneItem::Shared(item) => {
+                let item = Arc::try_clone(item).ok()?;
+                Some(FitItem {
+                    item: LaneItem::Shared(item),
+                })
+            }
         }
     }
 

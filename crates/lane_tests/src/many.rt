@@ -16,7 +16,7 @@ use crate::stage::OneDesk;
 use crate::streams::{Sort, has, is_beginning};
 use crate::told::{OfHall, Told};
 use bridge_core::Egress;
-use media_workers::{Pace, PublisherName};
+use media_workers::{Pace, PublisherName, Sink};
 use operator_desk::{DeskNames, Hall, Log};
 use std::alloc::Global;
 use std::marker::Brand;
@@ -28,15 +28,11 @@ use versions::LaneReader;
 /// How many rounds there are. Before each the desk changes.
 const ROUNDS: u64 = 10;
 
-/// Gives each lane a copy of an item.
-fn give_all<N: PublisherName>(
-    alloc: Global,
-    running: &mut Running<N, Counted>,
-    item: &FitItem,
-) -> bool {
+/// Gives each lane an item, which they share.
+fn give_all<N: PublisherName>(running: &mut Running<N, Counted>, item: &FitItem) -> bool {
     for lane in 0..running.lanes() {
-        let is_given = match item.copy(alloc) {
-            Some(copy) => running.push(lane, copy.alone::<N>()).is_ok(),
+        let is_given = match item.again() {
+            Some(share) => running.push(lane, share.alone::<N>()).is_ok(),
             None => false,
         };
         if !is_given {
@@ -46,16 +42,15 @@ fn give_all<N: PublisherName>(
     true
 }
 
-/// Gives each lane a copy of an item with the notice. False where one isn't accepted.
-pub fn tell_all<N: PublisherName, P: Pace>(
-    alloc: Global,
-    running: &mut Running<N, P>,
+/// Gives each lane an item, which they share, with the notice. False where one isn't accepted.
+pub fn tell_all<N: PublisherName, P: Pace, S: Sink>(
+    running: &mut Running<N, P, S>,
     item: &FitItem,
     told: &Told<N>,
 ) -> bool {
     for lane in 0..running.lanes() {
-        let is_given = match item.copy(alloc) {
-            Some(copy) => running.push(lane, copy.with(told.again())).is_ok(),
+        let is_given = match item.again() {
+            Some(share) => running.push(lane, share.with(told.again())).is_ok(),
             None => false,
         };
         if !is_given {
@@ -77,9 +72,9 @@ fn give_round<N: PublisherName>(
             return false;
         };
         let is_given = if place == 0 {
-            tell_all(alloc, running, &item, told)
+            tell_all(running, &item, told)
         } else {
-            give_all(alloc, running, &item)
+            give_all(running, &item)
         };
         if !is_given {
             return false;

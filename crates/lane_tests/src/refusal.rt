@@ -12,7 +12,7 @@ use crate::running::{Ends, Running};
 use crate::stage::OneDesk;
 use crate::told::OfHall;
 use bridge_core::Item;
-use media_workers::{HandleFault, Pace, PublisherName};
+use media_workers::{HandleFault, LaneItem, Pace, PublisherName};
 use operator_desk::{DeskNames, Hall, Log};
 use std::alloc::Global;
 use std::marker::Brand;
@@ -34,9 +34,9 @@ fn wait_for_end<N: PublisherName, P: Pace, R: Wait>(rt: &R, running: &Running<N,
 }
 
 /// Whether it is a tick of this moment that could not enter the desk.
-fn is_tick_without_entry(refused: &Option<(Item, HandleFault)>, wanted: u64) -> bool {
+fn is_tick_without_entry(refused: &Option<(LaneItem, HandleFault)>, wanted: u64) -> bool {
     match refused {
-        Some((Item::Tick { moment }, HandleFault::NoEntry)) => *moment == wanted,
+        Some((LaneItem::Own(Item::Tick { moment }), HandleFault::NoEntry)) => *moment == wanted,
         _ => false,
     }
 }

@@ -12,7 +12,7 @@ use crate::running::{Ends, Running};
 use crate::stage::OneDesk;
 use crate::told::{OfHall, Told};
 use bridge_core::Item;
-use media_workers::{Pace, Parcel, PublisherName};
+use media_workers::{LaneItem, Pace, Parcel, PublisherName};
 use operator_desk::{DeskNames, Hall, Log};
 use std::alloc::Global;
 use std::marker::Brand;
@@ -58,7 +58,7 @@ fn fills<N: PublisherName, P: Pace>(running: &mut Running<N, P>) -> bool {
 fn is_told_tick(parcel: &Parcel, wanted: u64) -> bool {
     match parcel {
         Parcel::Work {
-            item: Item::Tick { moment },
+            item: LaneItem::Own(Item::Tick { moment }),
             notice: Some(_),
         } => *moment == wanted,
         _ => false,

@@ -82,13 +82,14 @@ pub fn frame(alloc: Global) -> Option<FitItem> {
     packets.push(packet(7, false, b"\xaa\xbb")).ok()?;
     packets.push(packet(8, true, b"\xcc")).ok()?;
     let frame = Frame::new(90_000, packets).ok()?;
-    FitItem::new(Item::Frame(MediaFrame {
+    let item = Item::Frame(MediaFrame {
         source: 101,
         address: address(1),
         epoch: 1,
         moment: 1_000_000_000,
         frame,
-    }))
+    });
+    FitItem::new(alloc, item)
 }
 
 /// The octets of the frame's first packet on stream 501.

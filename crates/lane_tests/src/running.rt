@@ -1,14 +1,13 @@
-//! Lanes that run and send into rings, for tests.
+//! Lanes that run, for tests.
 
 ghost use Rattle.std.specs.Prelude.{◌≡◌, ◌<◌, ◌^◌, [], length, vec_len, All};
-ghost use Rattle.rtrb.specs.Ring.{sent};
 ghost use Rattle.media_workers.specs.LaneRuns.{LaneNow};
 ghost use Rattle.media_workers.specs.Parcels.{IsFit};
 ghost use Rattle.media_workers.specs.Bridges.{AreNew};
 
-use crate::rings::{Outfits, Rings};
+use crate::rings::Rings;
 use bridge_core::Egress;
-use media_workers::{Bridge, Lane, LaneEnd, Pace, Parcel, PublisherName, StartFault};
+use media_workers::{Bridge, Lane, LaneEnd, Pace, Parcel, PublisherName, Sink, StartFault};
 use rtrb::Producer;
 use std::alloc::Global;
 use std::mem;
@@ -16,28 +15,34 @@ use std::sync::Wait;
 use std::thread::Threads;
 
 /// How lanes ended.
-pub type Ends<N> = Vec<LaneEnd<N, Producer<Egress>>>;
+pub type Ends<N, S = Producer<Egress>> = Vec<LaneEnd<N, S>>;
 
-/// Lanes that run, how many they are, and their rings. It is not `Drop`: end it by [`Running::close`].
-pub struct Running<N: PublisherName, P: Pace> {
-    bridge: Bridge<N, P, Producer<Egress>>,
+/// Lanes that run, how many they are, and the rings that they send into if their sinks are rings. It is not `Drop`: end
+/// it by [`Running::close`].
+pub struct Running<N: PublisherName, P: Pace, S: Sink = Producer<Egress>> {
+    bridge: Bridge<N, P, S>,
     rings: Rings,
     lanes: u32,
     ghost many: { length bridge ≡ lanes },
 }
 
-impl<N: PublisherName + Send + Sync + 'static, P: Pace + Send + Drop + 'static> Running<N, P> {
+impl<N, P, S> Running<N, P, S>
+where
+    N: PublisherName + Send + Sync + 'static,
+    P: Pace + Send + Drop + 'static,
+    S: Sink + Send + Drop + 'static,
+{
     /// Starts them.
     pub fn start<R: Threads + Wait + Copy + Send + 'static>(
         rt: &R,
         alloc: Global,
         lanes: Vec<Lane>,
-        outfits: Outfits<P>,
+        outfits: Vec<(P, S)>,
         rings: Rings,
-    ) -> Result<Running<N, P>, (Vec<Lane>, StartFault)>
+    ) -> Result<Running<N, P, S>, (Vec<Lane>, StartFault)>
         requires new { AreNew lanes.items }
         requires publisher { All (λ (lane : LaneNow). lane.reader.publisher ≡ N.publisher) lanes.items }
-        requires untaken { All (λ outfit. sent outfit.1 ≡ []) outfits.items }
+        requires untaken { All (λ outfit. S.taken outfit.1 ≡ []) outfits.items }
         requires many { vec_len lanes < 2 ^ 32 }
     {
         let many = lanes.len() as u32;
@@ -52,7 +57,7 @@ impl<N: PublisherName + Send + Sync + 'static, P: Pace + Send + Drop + 'static> 
     }
 }
 
-impl<N: PublisherName, P: Pace> Running<N, P> {
+impl<N: PublisherName, P: Pace, S: Sink> Running<N, P, S> {
     pub fn lanes(&self) -> u32 {
         self.lanes
     }
@@ -106,7 +111,7 @@ impl<N: PublisherName, P: Pace> Running<N, P> {
     }
 
     /// Ends the lanes, whose rings have places for all that they still send.
-    pub fn close<R: Threads + Wait>(self, rt: &R) -> Ends<N> {
+    pub fn close<R: Threads + Wait>(self, rt: &R) -> Ends<N, S> {
         let Running {
             bridge,
             rings: _,

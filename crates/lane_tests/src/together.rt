@@ -84,7 +84,7 @@ fn are_together<N: PublisherName, P: Pace, R: Threads + Wait>(
 ) -> bool {
     let mut running = running;
     let is_told = match frame(alloc) {
-        Some(item) => tell_all(alloc, &mut running, &item, &told),
+        Some(item) => tell_all(&mut running, &item, &told),
         None => false,
     };
     if !is_told {

@@ -2,13 +2,13 @@
 use Rattle.std.proofs.Common.{◌≡◌, ◌<◌, ℕ, zero, suc, Bool, true, false, List, [], ◌∷◌, length, map, set, get_or, Option, Some, IfSome, Result, Ok, Err, OnOk, IfErr, refl, ap, sym, subst, ◌∙◌, arith, inl, inr, length-set}
 use Rattle.std.specs.Prelude.{slice_get, slice_set, is_ok, ◌||◌, if◌then◌else◌, nat_le}
 use Rattle.std.proofs.lemmas.List.Elements.{All-set}
-use Rattle.std.specs.declared.alloc.Global.{Global}
 use Rattle.logbook.specs.Pages.{Book}
 use Rattle.versions.specs.Published.{NoticeOf}
 use Rattle.media_items.specs.Inputs.{input_of}
-use Rattle.media_items.specs.declared.item.Item.{Item}
+use Rattle.media_workers.specs.declared.lane_item.LaneItem.{LaneItem}
 use Rattle.media_workers.specs.declared.parcel.Parcel.{Parcel}
 use Rattle.media_workers.specs.declared.parcel.Parcel.TheVariants.{Work}
+use Rattle.media_workers.specs.Parcels.{item_in}
 use Rattle.media_workers.specs.Ports.{PortOf, accept}
 use Rattle.media_front.specs.declared.tally.Tally.{Tally}
 use Rattle.media_front.specs.Bells.{is_pressing, many_parcels}
@@ -16,22 +16,32 @@ use Rattle.media_front.specs.FedLanes.{FedLane, accepting, dropping, rung, IsFed
 use Rattle.media_front.specs.inner.Tallies.{counted, owing, is_rung, lane_by, lanes_by, AreOf}
 use Rattle.media_front.proofs.PlaceLemmas.{beside_at, beside_set, set_same_at, read_at, All_read, found}
 
-accepted_at : {P S : Type 0} (old : List (PortOf P S)) (ts : List Tally) (lane : ℕ) (p : PortOf P S) (t : Tally) (item : Item Global)
-    → lanes_by (set old lane (accept (Work item t.owed) p)) (set ts lane (counted true (is_pressing (input_of item)) t)) ≡ set (lanes_by old ts) lane (accepting item (lane_by p t))
-accepted_at {P} {S} old ts lane p t item = beside_set lane_by old ts lane (accept (Work item t.owed) p) (counted true (is_pressing (input_of item)) t)
+accepted_at : {P S : Type 0} (old : List (PortOf P S)) (ts : List Tally) (lane : ℕ) (p : PortOf P S) (t : Tally) (item : LaneItem)
+    → lanes_by (set old lane (accept (Work item t.owed) p)) (set ts lane (counted true (is_pressing (input_of (item_in item))) t)) ≡ set (lanes_by old ts) lane (accepting item (lane_by p t))
+accepted_at {P} {S} old ts lane p t item = beside_set lane_by old ts lane (accept (Work item t.owed) p) (counted true (is_pressing (input_of (item_in item))) t)
 
 dropped_at : {P S : Type 0} (old : List (PortOf P S)) (ts : List Tally) (lane : ℕ) (p : PortOf P S) (presses : Bool) (t : Tally) → slice_get old lane ≡ Some p
     → lanes_by old (set ts lane (counted false presses t)) ≡ set (lanes_by old ts) lane (dropping (lane_by p t))
 dropped_at {P} {S} old ts lane p presses t at =
     ap (λ (ps : List (PortOf P S)). lanes_by ps (set ts lane (counted false presses t))) (sym (set_same_at old lane p at)) ∙ beside_set lane_by old ts lane p (counted false presses t)
 
+-- a parcel that was dropped counts as one
+pub dropped_one : {P S : Type 0} (old : List (PortOf P S)) (ts : List Tally) (lane : ℕ) (presses : Bool) (u : Tally) → lane < length ts → u ≡ get_or ts lane u
+    → (x : FedLane P S) → slice_get (lanes_by old ts) lane ≡ Some x → lanes_by old (set ts lane (counted false presses u)) ≡ slice_set (lanes_by old ts) lane (dropping x)
+dropped_one {P} {S} old ts lane presses u low here x at =
+    let parts = beside_at lane_by old ts lane x at in
+    let v = parts.1 in
+    let second : u ≡ v = cc (read_at ts lane u low here, parts.3) in
+    ap (λ (w : Tally). lanes_by old (set ts lane (counted false presses w))) second
+    ∙ (dropped_at old ts lane parts.0 presses v parts.2 ∙ ap (λ (z : FedLane P S). set (lanes_by old ts) lane (dropping z)) parts.4)
+
 -- a parcel that was pushed was accepted, or comes back
-pub given_one : {P S : Type 0} (old new : List (PortOf P S)) (ts : List Tally) (lane : ℕ) (item : Item Global) (notice : Option NoticeOf) (t u : Tally) (accepted presses : Bool)
-    (push : Result (Unit {0}) Parcel) → lane < length ts → t ≡ get_or ts lane t → u ≡ get_or ts lane u → notice ≡ t.owed → presses ≡ is_pressing (input_of item) → accepted ≡ is_ok push
+pub given_one : {P S : Type 0} (old new : List (PortOf P S)) (ts : List Tally) (lane : ℕ) (item : LaneItem) (notice : Option NoticeOf) (t u : Tally) (accepted presses : Bool)
+    (push : Result (Unit {0}) Parcel) → lane < length ts → t ≡ get_or ts lane t → u ≡ get_or ts lane u → notice ≡ t.owed → presses ≡ is_pressing (input_of (item_in item)) → accepted ≡ is_ok push
     → OnOk push ((port : PortOf P S) → slice_get old lane ≡ Some port → (port.closed ≡ false) × (new ≡ slice_set old lane (accept (Work item notice) port)))
     → IfErr push (λ (back : Parcel). (back ≡ Work item notice) × (new ≡ old))
     → (x : FedLane P S) → slice_get (lanes_by old ts) lane ≡ Some x
-    → (y : FedLane P S) × IsFed (input_of item) x y × (lanes_by new (set ts lane (counted accepted presses u)) ≡ slice_set (lanes_by old ts) lane y)
+    → (y : FedLane P S) × IsFed (input_of (item_in item)) x y × (lanes_by new (set ts lane (counted accepted presses u)) ≡ slice_set (lanes_by old ts) lane y)
 given_one {P} {S} old new ts lane item notice t u accepted presses (Ok k) low is here owed press was ok err x at =
     let parts = beside_at lane_by old ts lane x at in
     let p = parts.0 in
@@ -44,19 +54,15 @@ given_one {P} {S} old new ts lane item notice t u accepted presses (Ok k) low is
     ap (λ (ps : List (PortOf P S)). lanes_by ps (set ts lane (counted accepted presses u))) now
     ∙ (ap (λ (b : Bool). lanes_by (slice_set old lane (accept (Work item v.owed) p)) (set ts lane (counted b presses u))) was
     ∙ (ap (λ (b : Bool). lanes_by (slice_set old lane (accept (Work item v.owed) p)) (set ts lane (counted true b u))) press
-    ∙ (ap (λ (w : Tally). lanes_by (slice_set old lane (accept (Work item v.owed) p)) (set ts lane (counted true (is_pressing (input_of item)) w))) second
+    ∙ (ap (λ (w : Tally). lanes_by (slice_set old lane (accept (Work item v.owed) p)) (set ts lane (counted true (is_pressing (input_of (item_in item))) w))) second
     ∙ accepted_at old ts lane p v item))) in
     (accepting item x, inl (item, refl, refl), all ∙ ap (λ (z : FedLane P S). set (lanes_by old ts) lane (accepting item z)) parts.4)
-given_one {P} {S} old new ts lane item notice t u accepted presses (Err back) low is here owed press was ok err x at =
-    let parts = beside_at lane_by old ts lane x at in
-    let p = parts.0 in
-    let v = parts.1 in
-    let second : u ≡ v = cc (read_at ts lane u low here, parts.3) in
-    let all : lanes_by new (set ts lane (counted accepted presses u)) ≡ set (lanes_by old ts) lane (dropping (lane_by p v)) =
-    ap (λ (ps : List (PortOf P S)). lanes_by ps (set ts lane (counted accepted presses u))) err.1
-    ∙ (ap (λ (b : Bool). lanes_by old (set ts lane (counted b presses u))) was
-    ∙ (ap (λ (w : Tally). lanes_by old (set ts lane (counted false presses w))) second ∙ dropped_at old ts lane p presses v parts.2)) in
-    (dropping x, inr refl, all ∙ ap (λ (z : FedLane P S). set (lanes_by old ts) lane (dropping z)) parts.4)
+given_one {P} {S} old new ts lane item notice t u accepted presses (Err back) low is here owed press was ok err x at = (
+  dropping x,
+  inr refl,
+  ap (λ (ps : List (PortOf P S)). lanes_by ps (set ts lane (counted accepted presses u))) err.1
+      ∙ (ap (λ (b : Bool). lanes_by old (set ts lane (counted b presses u))) was ∙ dropped_one old ts lane presses u low here x at),
+)
 
 -- there are as many lanes as before
 pub pushed_length : {P S : Type 0} (old new : List (PortOf P S)) (lane : ℕ) (parcel : Parcel) (push : Result (Unit {0}) Parcel) → lane < length old

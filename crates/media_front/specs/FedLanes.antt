@@ -1,11 +1,11 @@
 -- The lanes of a feed, and what they are given (own).
 use Rattle.std.specs.Prelude.{◌≡◌, ◌⊎◌, ℕ, ◌+◌, ◌-◌, ◌^◌, min, Bool, false, ◌||◌, if◌then◌else◌, nat_le, List, map, Option, Some, None}
 use Rattle.std.specs.List.{AllZip, FoldsTo}
-use Rattle.std.specs.declared.alloc.Global.{Global}
 use Rattle.versions.specs.Published.{NoticeOf}
 use Rattle.media_items.specs.Inputs.{Input, input_of}
-use Rattle.media_items.specs.declared.item.Item.{Item}
+use Rattle.media_workers.specs.declared.lane_item.LaneItem.{LaneItem}
 use Rattle.media_workers.specs.declared.parcel.Parcel.TheVariants.{Work}
+use Rattle.media_workers.specs.Parcels.{item_in}
 use Rattle.media_workers.specs.LaneRuns.{LaneNow}
 use Rattle.media_workers.specs.Ports.{PortOf, port_of, accept}
 use Rattle.media_front.specs.Bells.{is_pressing, many_parcels}
@@ -48,13 +48,13 @@ abbrev pub rung : {P S : Type 0} → FedLane P S → FedLane P S
 rung x = if is_due x then record x { unrung = 0; pressed = false } else x
 
 -- the lane accepted this item, in a parcel with the notice that it was owed, and is owed none from then on
-abbrev pub accepting : {P S : Type 0} → Item Global → FedLane P S → FedLane P S
+abbrev pub accepting : {P S : Type 0} → LaneItem → FedLane P S → FedLane P S
 accepting item x =
     record {
       port = accept (Work item x.owed) x.port;
       owed = None;
       unrung = one_more x.unrung;
-      pressed = x.pressed || is_pressing (input_of item);
+      pressed = x.pressed || is_pressing (input_of (item_in item));
       dropped = x.dropped;
     }
 
@@ -64,7 +64,7 @@ dropping x = record x { dropped = one_more x.dropped }
 
 -- The lane accepted this input once, or one parcel was dropped for it.
 abbrev pub IsFed : {P S : Type 0} → Input → FedLane P S → FedLane P S → Type 0
-IsFed input x y = ((item : Item Global) × (input_of item ≡ input) × (y ≡ accepting item x)) ⊎ (y ≡ dropping x)
+IsFed input x y = ((item : LaneItem) × (input_of (item_in item) ≡ input) × (y ≡ accepting item x)) ⊎ (y ≡ dropping x)
 
 -- Every lane was given this input.
 abbrev pub AreGiven : {P S : Type 0} → List (FedLane P S) → Input → List (FedLane P S) → Type 0

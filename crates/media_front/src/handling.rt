@@ -6,7 +6,7 @@ ghost use Rattle.intake.specs.Ingested.{ingested_of, IsAbout};
 ghost use Rattle.media_front.specs.Fronts.{HasHandled};
 
 use crate::front::MediaFront;
-use crate::giving::copies_of_all;
+use crate::giving::share_all;
 use crate::planning::{Plan, Received, plan_for};
 use crate::trying::try_all;
 use bridge_core::Ingest;
@@ -43,10 +43,15 @@ impl<N: PublisherName, P: Pace, S: Sink> MediaFront<N, P, S> {
         };
         let planned = plan_for(alloc, &self.guard, self.pli_cost, received, ingest)?;
         let Plan { ingest, draft } = planned;
-        let copies = copies_of_all(alloc, &ingest.items, self.feed.count())?;
+        let Ingest {
+            outcome: _,
+            up,
+            items,
+        } = ingest;
+        let shared = share_all(alloc, items)?;
         self.guard.put_back(draft)?;
-        try_all(&ingest.up, wire);
-        self.feed.hand_out_all(&ingest.items, copies);
+        try_all(&up, wire);
+        self.feed.hand_out_all(&shared);
         Ok(())
     }
 }

@@ -1,5 +1,5 @@
-//! The front of a bridge whose lanes run on threads: it turns datagrams and moments into items, and gives each lane a
-//! copy of every item. The lanes send by sinks of their own.
+//! The front of a bridge whose lanes run on threads: it turns datagrams and moments into items, and gives every lane
+//! each item. Lanes share it. The lanes send by sinks of their own.
 //!
 //! Begin with [`LaneFeed::start`], which starts a lane for each reader of the published desk, and with
 //! [`MediaFront::new`]. In each round, [`MediaFront::tell`] takes the latest notice, [`MediaFront::datagram`] a

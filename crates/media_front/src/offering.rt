@@ -3,10 +3,11 @@
 ghost use Rattle.std.specs.Prelude.{◌≡◌};
 ghost use Rattle.media_items.specs.Inputs.{input_of};
 ghost use Rattle.media_workers.specs.declared.parcel.Parcel.TheVariants.{Work};
+ghost use Rattle.media_workers.specs.Parcels.{item_in};
 ghost use Rattle.media_front.specs.PlacesLeft.{places_left};
 
 use bridge_core::Item;
-use media_workers::{Bridge, Pace, Parcel, PublisherName, Sink};
+use media_workers::{Bridge, LaneItem, Pace, Parcel, PublisherName, Sink};
 use versions::Notice;
 
 /// How many of the 1,024 places of a lane's ring a NACK, a report block or a PLI leaves free.
@@ -64,12 +65,13 @@ impl<N: PublisherName, P: Pace, S: Sink> OfferedLanes for Bridge<N, P, S> {
 pub(crate) fn offer_item<L: OfferedLanes>(
     lanes: &mut L,
     lane: u32,
-    item: Item,
+    item: LaneItem,
     notice: Option<Notice>,
 ) -> Result<(), Parcel>
     requires { L.may_take lanes.old lane (Work item notice) }
-    ensures { L.was_offered lanes.old lane (Work item notice) (places_left (input_of item)) result lanes.new }
+    ensures { L.was_offered lanes.old lane (Work item notice) (places_left (input_of (item_in item)))
+        result lanes.new }
 {
-    let free = places_left(&item);
+    let free = places_left(item.item());
     lanes.offer(lane, Parcel::Work { item, notice }, free)
 }

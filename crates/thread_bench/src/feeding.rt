@@ -1,15 +1,18 @@
 //! What is handed to lanes, and what is taken from them.
 
 ghost use Rattle.std.specs.Prelude.{◌≡◌, ◌<◌, ◌≤◌, true, length};
+ghost use Rattle.std.specs.Arc.{arc_value};
 ghost use Rattle.media_items.specs.Inputs.{input_of, is_sized};
+ghost use Rattle.media_workers.specs.Parcels.{item_in};
 
 use crate::loads::Load;
 use crate::paces::RingBridge;
 use bridge_core::{Core, Egress, Item};
-use media_workers::{Pace, Parcel, PublisherName};
+use media_workers::{LaneItem, Pace, Parcel, PublisherName};
 use rtrb::Consumer;
 use std::alloc::Global;
 use std::io;
+use std::sync::Arc;
 
 /// Gives the lane of a core a step, and counts what it sends. False where an item is refused.
 fn step_core(alloc: Global, core: &mut Core, load: &Load, step: u64, sent: &mut u64) -> bool {
@@ -43,32 +46,31 @@ pub fn feed_core(alloc: Global, core: &mut Core, load: &Load, steps: u64) -> io:
 fn push_item<N: PublisherName, P: Pace>(
     bridge: &mut RingBridge<N, P>,
     lane: u32,
-    item: Item,
+    item: LaneItem,
 ) -> bool
     requires lane { lane < length bridge.old }
-    requires sized { is_sized (input_of item) ≡ true }
+    requires sized { is_sized (input_of (item_in item)) ≡ true }
     ensures { length bridge.new ≡ length bridge.old }
 {
     let parcel = Parcel::Work { item, notice: None };
     bridge.push(lane, parcel).is_ok()
 }
 
-/// Gives the lanes behind the first one a copy of an item. False where a ring is full or memory runs out.
-fn push_copies<N: PublisherName, P: Pace>(
-    alloc: Global,
+/// Gives each lane an item, which they share. False where a ring is full.
+fn push_shares<N: PublisherName, P: Pace>(
     bridge: &mut RingBridge<N, P>,
     lanes: u32,
-    item: &Item,
+    item: &Arc<Item, Global>,
 ) -> bool
     requires lanes { lanes ≤ length bridge.old }
-    requires sized { is_sized (input_of item.now) ≡ true }
+    requires sized { is_sized (input_of (arc_value item.now)) ≡ true }
     ensures { length bridge.new ≡ length bridge.old }
 {
-    for lane in 1..lanes {
-        let Ok(copy) = item.copy(alloc) else {
+    for lane in 0..lanes {
+        let Ok(share) = Arc::try_clone(item) else {
             return false;
         };
-        if !push_item(bridge, lane, copy) {
+        if !push_item(bridge, lane, LaneItem::Shared(share)) {
             return false;
         }
     }
@@ -83,7 +85,6 @@ pub fn step_lanes<N: PublisherName, P: Pace>(
     load: &Load,
     step: u64,
 ) -> bool
-    requires first { 0 < lanes }
     requires lanes { lanes ≤ length bridge.old }
     ensures { length bridge.new ≡ length bridge.old }
 {
@@ -91,7 +92,10 @@ pub fn step_lanes<N: PublisherName, P: Pace>(
         let Ok(item) = load.item(alloc, step, place) else {
             return false;
         };
-        if !push_copies(alloc, bridge, lanes, &item) || !push_item(bridge, 0, item) {
+        let Ok(item) = Arc::new(alloc, item) else {
+            return false;
+        };
+        if !push_shares(bridge, lanes, &item) {
             return false;
         }
     }

@@ -1,6 +1,6 @@
 //! Lanes that always have something to do.
 
-ghost use Rattle.std.specs.Prelude.{◌≡◌, ◌<◌, ◌≤◌, length};
+ghost use Rattle.std.specs.Prelude.{◌≡◌, ◌≤◌, length};
 
 use crate::feeding::{step_lanes, take_all};
 use crate::loads::Load;
@@ -71,7 +71,6 @@ fn give_step<N: PublisherName, P: Pace, R: Wait>(
     lanes: u32,
     step: u64,
 ) -> bool
-    requires first { 0 < lanes }
     requires lanes { lanes ≤ length bridge.old }
     ensures { length bridge.new ≡ length bridge.old }
 {
@@ -102,7 +101,6 @@ pub fn feed_stream<N: PublisherName, P: Pace, R: Wait + Clock + Drop>(
     lanes: u32,
     course: &Course,
 ) -> u64
-    requires first { 0 < lanes }
     requires lanes { lanes ≤ length bridge.old }
     ensures { length bridge.new ≡ length bridge.old }
 {

@@ -1,9 +1,8 @@
 //! Why a bridge ends, by how its lanes ended.
 
 ghost use Rattle.std.specs.Prelude.{◌≡◌, [], ◌∷◌, None, Some, map};
-ghost use Rattle.std.specs.declared.alloc.Global.{Global as Heap};
-ghost use Rattle.media_items.specs.declared.item.Item.{Item};
 ghost use Rattle.media_workers.specs.declared.fault.HandleFault.TheVariants.{NoEntry, Spent, OutOfMemory as RanOut};
+ghost use Rattle.media_workers.specs.declared.lane_item.LaneItem.{LaneItem};
 ghost use Rattle.udp_front.specs.declared.ending.FrontFault.TheVariants.{Io, OutOfMemory};
 
 use media_front::fault_of;
@@ -14,13 +13,13 @@ use udp_front::FrontFault;
 /// out for another beside it.
 pub fn three_lanes_have_ended<N: PublisherName, S>(ends: &[LaneEnd<N, S>]) -> Option<FrontFault>
     ensures well { map (λ end. end.refused) ends.now ≡ None ∷ None ∷ None ∷ [] → result ≡ None }
-    ensures stopped { (item other : Item Heap)
+    ensures stopped { (item other : LaneItem)
         → map (λ end. end.refused) ends.now ≡ None ∷ Some (item, NoEntry) ∷ Some (other, NoEntry) ∷ []
         → result ≡ None }
-    ensures failed { (item other : Item Heap)
+    ensures failed { (item other : LaneItem)
         → map (λ end. end.refused) ends.now ≡ Some (other, NoEntry) ∷ Some (item, Spent) ∷ None ∷ []
         → result ≡ Some Io }
-    ensures ran_out { (item other : Item Heap)
+    ensures ran_out { (item other : LaneItem)
         → map (λ end. end.refused) ends.now ≡ Some (item, Spent) ∷ None ∷ Some (other, RanOut) ∷ []
         → result ≡ Some OutOfMemory }
 {

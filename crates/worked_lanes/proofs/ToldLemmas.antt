@@ -4,6 +4,7 @@ use Rattle.std.proofs.lemmas.List.{length-map}
 use Rattle.std.specs.Prelude.{slice_get, slice_set}
 use Rattle.versions.specs.Published.{NoticeOf}
 use Rattle.media_items.specs.declared.item.Item.TheVariants.{Tick}
+use Rattle.media_workers.specs.declared.lane_item.LaneItem.TheVariants.{Own}
 use Rattle.media_workers.specs.declared.parcel.Parcel.{Parcel}
 use Rattle.media_workers.specs.declared.parcel.Parcel.TheVariants.{Work}
 use Rattle.media_workers.specs.LaneRuns.{LaneNow}
@@ -12,7 +13,7 @@ use Rattle.lane_laws.specs.Learnt.{lanes_of}
 
 -- the lane is given a tick with this notice
 abbrev pub given : {P S : Type 0} → NoticeOf → ℕ → PortOf P S → PortOf P S
-given notice moment port = accept (Work (Tick moment) (Some notice)) port
+given notice moment port = accept (Work (Own (Tick moment)) (Some notice)) port
 
 -- a lane that is given a tick stays the same lane
 pub lanes_kept : {P S : Type 0} (ports : List (PortOf P S)) (lane : ℕ) (port : PortOf P S) (notice : NoticeOf) (moment : ℕ) → slice_get ports lane ≡ Some port
@@ -32,7 +33,7 @@ found (x ∷ xs) (suc k) low = found xs k (omega (arith, low))
 -- whether the tick is accepted or not
 pub lanes_still : {P S A : Type 0} (result : Result A Parcel) (old new : List (PortOf P S)) (lane : ℕ) (notice : NoticeOf) (moment : ℕ) → lane < length old
     → OnOk result ((port : PortOf P S) → slice_get old lane ≡ Some port → (port.closed ≡ false) × (new ≡ slice_set old lane (given notice moment port)))
-    → IfErr result (λ (back : Parcel). (back ≡ Work (Tick moment) (Some notice)) × (new ≡ old))
+    → IfErr result (λ (back : Parcel). (back ≡ Work (Own (Tick moment)) (Some notice)) × (new ≡ old))
     → lanes_of new ≡ lanes_of old
 lanes_still (Ok x) old new lane notice moment low ok err =
     let here = found old lane low in

@@ -10,7 +10,7 @@ ghost use Rattle.lane_laws.specs.OneList.{SendByVersions, sent_by};
 use bridge_core::Item;
 use desk_edit::Call;
 use lane_laws::{lanes_saw_what_they_know, none_knew_more, the_running_headline};
-use media_workers::{Bridge, LaneEnd, Pace, Parcel, PublisherName, Sink};
+use media_workers::{Bridge, LaneEnd, LaneItem, Pace, Parcel, PublisherName, Sink};
 use operator_desk::{Answer, Hall, Seat, SharedDesk};
 use std::alloc::Global;
 use std::sync::Wait;
@@ -73,7 +73,7 @@ fn tell<N: PublisherName, P: Pace, S: Sink>(
     ensures count { length bridge.new ≡ length bridge.old }
 {
     let parcel = Parcel::Work {
-        item: Item::Tick { moment },
+        item: LaneItem::Own(Item::Tick { moment }),
         notice: Some(notice),
     };
     let _ = bridge.push(lane, parcel);

@@ -1,11 +1,10 @@
-use Rattle.std.proofs.Common.{◌≡◌, ◌∙◌, List, ℕ, length, map, ap, sym, subst}
-use Rattle.std.specs.List.{AllZip}
+use Rattle.std.proofs.Common.{◌≡◌, ◌∙◌, List, ℕ, length, map, ap, subst}
+use Rattle.std.specs.List.{list_all}
 use Rattle.std.specs.declared.alloc.Global.{Global}
 use Rattle.std.specs.declared.vec.Vec.{Vec}
 use Rattle.rtp_codec.specs.declared.address.Address.{Address}
-use Rattle.media_items.specs.Inputs.{Input, input_of}
+use Rattle.media_items.specs.Inputs.{Input, input_of, is_sized}
 use Rattle.intake.specs.Ingested.{Ingested, ingested_of, datagram_of}
-use Rattle.media_items.specs.declared.item.Item.{Item}
 use Rattle.media_front.specs.FedLanes.{AllAreGiven}
 use Rattle.media_front.specs.Tries.{WereTried}
 use Rattle.flood_guard.specs.declared.account.Account.{Account}
@@ -13,15 +12,12 @@ use Rattle.flood_guard.specs.Drafts.{DraftOf}
 use Rattle.media_front.specs.Paid.{paid_of}
 use Rattle.media_front.specs.Granted.{granted_of, after_asking}
 use Rattle.media_front.specs.Fronts.{FrontOf, Arrival, HasHandled, once_earned, once_paid}
-use Rattle.media_front.specs.inner.Copies.{AreCopies}
+use Rattle.media_front.specs.inner.Shares.{input_shared}
 use Rattle.media_front.proofs.front.MediaFront.handle.Goals as goal
 
-pub hand_out_all-requires-clause-copies : goal.hand_out_all-requires-clause-copies
-hand_out_all-requires-clause-copies g c =
-    let rows = c.in_ok-copies.copies.items in
-    let many = length c.self.inside.feed in
-    subst (λ (items : List (Item Global)). AllZip (λ (item : Item Global) (row : Vec (Item Global) Global). AreCopies many (input_of item) row.items) items rows) (c.deref.ensures.value ∙ sym c.deref-3.ensures.value)
-    (subst (λ (n : ℕ). AllZip (λ (item : Item Global) (row : Vec (Item Global) Global). AreCopies n (input_of item) row.items) c.deref.result.now rows) c.count.ensures.count c.in_ok-copies.ensures)
+pub hand_out_all-requires : goal.hand_out_all-requires
+hand_out_all-requires g c =
+    record { sized = ap (λ (is : List Input). list_all is_sized is) (ap (map input_shared) c.deref-2.ensures.value ∙ c.in_ok-shared.ensures) ∙ c.in_ok-planned.planned.ingest.sized }
 
 pub returns-clause-handled : goal.returns-clause-handled
 returns-clause-handled g c desk =
@@ -40,10 +36,10 @@ returns-clause-handled g c desk =
     subst (λ (f : FrontOf g.row.P.Denot g.row.S.Denot). HasHandled arrival (ingested_of ingest) f new before after) c.self.view_is
     (record {
       up = subst (λ (l : List (Address × List ℕ)). WereTried l before after) up
-          (subst (λ (xs : List (Address × Vec ℕ Global)). WereTried (map datagram_of xs) before after) c.deref-2.ensures.value c.try_all.ensures);
+          (subst (λ (xs : List (Address × Vec ℕ Global)). WereTried (map datagram_of xs) before after) c.deref.ensures.value c.try_all.ensures);
       items = subst (λ (n : ℕ). AllAreGiven (granted_of n c.args.moment (map input_of ingest.items.items) sent) here.feed c.hand_out_all.new.self) c.self.invariant
-          (subst (λ (is : List Input). AllAreGiven is here.feed c.hand_out_all.new.self) given
-          (subst (λ (xs : List (Item Global)). AllAreGiven (map input_of xs) here.feed c.hand_out_all.new.self) c.deref-3.ensures.value c.hand_out_all.ensures));
+          (subst (λ (is : List Input). AllAreGiven is here.feed c.hand_out_all.new.self)
+          (ap (map input_shared) c.deref-2.ensures.value ∙ (c.in_ok-shared.ensures ∙ given)) c.hand_out_all.ensures);
       guard = c.in_ok-put_back.ensures.after ∙ ap (λ (d : DraftOf). d.after) is.draft
           ∙ ap (λ (n : ℕ). after_asking n c.args.moment (map input_of ingest.items.items) sent) c.self.invariant;
     })
