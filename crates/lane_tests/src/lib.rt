@@ -47,6 +47,8 @@ mod running;
 #[cfg(test)]
 mod runs;
 #[cfg(test)]
+mod script_wire;
+#[cfg(test)]
 mod sleeping;
 #[cfg(test)]
 mod stage;
@@ -60,3 +62,7 @@ mod told;
 mod unrung;
 #[cfg(test)]
 mod waiting;
+#[cfg(test)]
+mod wire_plays;
+#[cfg(test)]
+mod wires;
