@@ -54,8 +54,11 @@ class Browser:
         """Sends a text frame, masked as RFC 6455 section 5.3 asks."""
         data, mask = text.encode(), os.urandom(4)
         size = len(data)
-        head = struct.pack("!BB", 0x81, 0x80 | size) if size < 126 else struct.pack("!BBH", 0x81, 0xFE, size)
-        if size >= 65536:
+        if size < 126:
+            head = struct.pack("!BB", 0x81, 0x80 | size)
+        elif size < 65536:
+            head = struct.pack("!BBH", 0x81, 0xFE, size)
+        else:
             head = struct.pack("!BBQ", 0x81, 0xFF, size)
         self.stream.sendall(head + mask + bytes(octet ^ mask[at % 4] for at, octet in enumerate(data)))
 
@@ -99,11 +102,34 @@ class Browser:
             fail(f"{script}: {told['exceptionDetails']}")
         return told["result"].get("value")
 
-    def press(self, key, code):
-        """Presses a key and lets it go: its name, and its code of the keyboard (UI Events KeyboardEvent, `keyCode`)."""
-        text = {"text": "\r"} if key == "Enter" else {}
+    def press(self, key, code, modifiers=0):
+        """Presses a key and lets it go: its name, and its code of the keyboard (UI Events KeyboardEvent, `keyCode`). Of the modifiers
+        Ctrl is 2 and Shift 8."""
+        text = {"text": "\r" if key == "Enter" else key} if key == "Enter" or len(key) == 1 and not modifiers else {}
         for kind in "keyDown", "keyUp":
-            self.ask("Input.dispatchKeyEvent", type=kind, key=key, code=key, windowsVirtualKeyCode=code, **(text if kind == "keyDown" else {}))
+            more = text if kind == "keyDown" else {}
+            self.ask("Input.dispatchKeyEvent", type=kind, key=key, code=key, windowsVirtualKeyCode=code, modifiers=modifiers, **more)
+
+    def mouse(self, kind, x, y):
+        """Presses, moves or releases the pointer's left button."""
+        buttons = {"mouseReleased": 0}.get(kind, 1)
+        self.ask("Input.dispatchMouseEvent", type=kind, x=x, y=y, button="left", buttons=buttons, clickCount=1)
+
+    def place(self, selector):
+        """Where an element is: its left and upper edge, its width and its height."""
+        return self.run(f"(() => {{ const r = document.querySelector({json.dumps(selector)}).getBoundingClientRect(); return [r.x, r.y, r.width, r.height]; }})()")
+
+    def click(self, selector):
+        """Clicks in the middle of an element."""
+        self.run(f"document.querySelector({json.dumps(selector)}).scrollIntoView({{ block: 'center' }}), true")
+        x, y, width, height = self.place(selector)
+        for kind in "mousePressed", "mouseReleased":
+            self.mouse(kind, x + width / 2, y + height / 2)
+
+    def used(self):
+        """The processor time that the tab has used, in milliseconds."""
+        told = self.ask("Performance.getMetrics")["metrics"]
+        return 1000 * next(one["value"] for one in told if one["name"] == "TaskDuration")
 
     def types(self, text):
         self.ask("Input.insertText", text=text)
@@ -118,6 +144,7 @@ class Browser:
 
     def open(self, address):
         self.ask("Page.enable")
+        self.ask("Performance.enable", timeDomain="threadTicks")
         self.ask("Page.navigate", url=address)
 
     def wait(self, script, seconds=10):

@@ -19,36 +19,49 @@ pub(crate) const BACK: &[u8] = br##"">
 <header>
   <h1>Desk</h1>
   <p id="status" role="status" aria-live="polite">Asking the bridge</p>
-  <div class="history-buttons">
-    <button id="undo" type="button" disabled>Undo</button>
-    <button id="redo" type="button" disabled>Redo</button>
+  <div class="finding" role="search">
+    <label>Search <input id="search" type="search" autocomplete="off" placeholder="name, number or address"
+      aria-keyshortcuts="/"></label>
+    <label>Sort <select id="sort"><option value="number">by number</option><option value="name">by name</option>
+      <option value="members">by members</option></select></label>
+    <button id="fold" type="button">Fold all</button>
+  </div>
+  <div class="history-buttons" id="history-buttons">
+    <button id="undo" type="button" aria-keyshortcuts="Control+Z" disabled>Undo</button>
+    <button id="redo" type="button" aria-keyshortcuts="Control+Shift+Z" disabled>Redo</button>
   </div>
 </header>
 <p id="notice" role="alert" hidden></p>
-<main>
-  <section id="board" aria-label="Rooms"></section>
+<main id="main">
+  <section id="rooms" aria-labelledby="rooms-title">
+    <h2 id="rooms-title">Rooms</h2>
+    <div id="selected" role="group" aria-label="Selected members" hidden></div>
+    <div id="board"></div>
+    <p id="nothing" class="soft" hidden></p>
+  </section>
   <aside>
+    <section id="detail" aria-labelledby="detail-title" hidden></section>
     <section aria-labelledby="add-title">
       <h2 id="add-title">Add</h2>
-      <form id="add-room" class="add">
+      <form id="add-room" class="add" aria-label="Add a room">
         <label>Room <input name="room" inputmode="numeric" required></label>
         <label class="wide">Rate <select name="rate"><option value="8000">8000 Hz, speech</option>
           <option value="44100">44100 Hz, music</option></select></label>
         <button>Add room</button></form>
-      <form id="add-member" class="add">
+      <form id="add-member" class="add" aria-label="Add a member">
         <label>Member <input name="member" inputmode="numeric" required></label>
         <label>Room <select name="room"></select></label>
-        <label>Address <input name="address" placeholder="127.0.0.1:6000" required></label>
-        <label>Codec <select name="codec"><option value="">as the room</option>
+        <label class="whole">Address <input name="address" placeholder="127.0.0.1:6000" required></label>
+        <label class="wide">Codec <select name="codec"><option value="">as the room</option>
           <option>pcmu</option><option>l16</option></select></label>
         <label>Mix SSRC <input name="ssrc" inputmode="numeric" required></label>
         <button>Add member</button></form>
-      <form id="add-source" class="add">
+      <form id="add-source" class="add" aria-label="Add a source">
         <label>Source SSRC <input name="ssrc" inputmode="numeric" required></label>
         <label>Member <select name="member"></select></label>
         <label>Kind <select name="kind"><option>audio</option><option>video</option></select></label>
         <button>Add source</button></form>
-      <form id="add-slot" class="add">
+      <form id="add-slot" class="add" aria-label="Add a slot">
         <label>Slot SSRC <input name="ssrc" inputmode="numeric" required></label>
         <label>Member <select name="member"></select></label>
         <label>Index <input name="index" inputmode="numeric" value="0" required></label>
@@ -56,7 +69,7 @@ pub(crate) const BACK: &[u8] = br##"">
     </section>
     <section aria-labelledby="line-title">
       <h2 id="line-title">Line</h2>
-      <form id="line-form" class="add"><label>What the bridge is told
+      <form id="line-form" class="add" aria-label="Send a line"><label>What the bridge is told
         <input id="line" autocomplete="off" spellcheck="false" maxlength="4096"></label>
         <button>Send</button></form>
       <p class="hint">A button shows its line when you point at it or come to it by Tab.</p>
@@ -69,8 +82,18 @@ pub(crate) const BACK: &[u8] = br##"">
       <h2 id="calls-title">History</h2>
       <ol id="calls" reversed></ol>
     </section>
+    <section aria-labelledby="keys-title">
+      <h2 id="keys-title">Keys</h2>
+      <dl class="keys"><dt>/</dt><dd>search</dd><dt>Up, Down</dt><dd>another member</dd>
+        <dt>Enter</dt><dd>open a member</dd><dt>Space</dt><dd>select a member</dd><dt>m</dt><dd>mute, unmute</dd>
+        <dt>Ctrl+Z</dt><dd>undo</dd><dt>Ctrl+Shift+Z</dt><dd>redo</dd></dl>
+    </section>
   </aside>
 </main>
+<dialog id="ask" aria-labelledby="ask-title"><form method="dialog"><h2 id="ask-title"></h2><p id="ask-text"></p>
+  <label id="ask-label" hidden><span>Name</span> <input id="ask-input" autocomplete="off" dir="auto"></label>
+  <p class="buttons"><button id="ask-yes" value="yes">Yes</button>
+    <button id="ask-no" value="no" formnovalidate>Cancel</button></p></form></dialog>
 </body>
 </html>
 "##;

@@ -7,12 +7,13 @@ const SPEECH = 8000, MUSIC = 44100;
 // The desk as it stands in the text of /desk: the lines of `show`, and behind `end VERSION` the calls of this page.
 function parseDesk(text) {
   const desk = { rooms: [], rates: new Map(), members: [], sources: [], slots: [], subs: new Map(), mutes: new Set(),
-    gains: new Map(), pins: new Map(), floors: new Map(), version: 0, rows: [], calls: [] };
+    gains: new Map(), pins: new Map(), floors: new Map(), version: 0, rows: [], calls: [], named: 0 };
   let behind = false;
   for (const line of text.split("\n")) {
     if (behind) {
       if (line.startsWith("call ")) desk.calls.push({ line: line.slice(5), said: "" });
       else if (line.startsWith("said ")) desk.calls[desk.calls.length - 1].said = line.slice(5);
+      else if (line.startsWith("names ")) desk.named = Number(line.slice(6));
     } else if (line.startsWith("end ")) {
       desk.version = Number(line.slice(4));
       behind = true;
@@ -44,12 +45,31 @@ function memberIn([place, member, room, , , mix], [, , , address, codec]) {
 }
 
 function isMusic(desk, room) { return desk.rates.get(room) === MUSIC; }
-function memberOf(desk, number) { return desk.members.find((m) => m.member === number); }
-function sourceOf(desk, ssrc) { return desk.sources.find((s) => s.ssrc === ssrc); }
-function sourcesOf(desk, member, kind) {
-  return desk.sources.filter((s) => s.member === member && (!kind || s.kind === kind));
+
+// The rows of a list by one of their fields. It is made once for each list.
+const indexes = new WeakMap();
+function by(rows, field) {
+  if (!indexes.has(rows)) indexes.set(rows, {});
+  const known = indexes.get(rows);
+  if (!known[field]) {
+    known[field] = new Map();
+    for (const row of rows) {
+      if (!known[field].has(row[field])) known[field].set(row[field], []);
+      known[field].get(row[field]).push(row);
+    }
+  }
+  return known[field];
 }
-function membersIn(desk, room) { return desk.members.filter((m) => m.room === room); }
+function withField(rows, field, value) { return by(rows, field).get(value) ?? []; }
+function memberOf(desk, number) { return withField(desk.members, "member", number)[0]; }
+function sourceOf(desk, ssrc) { return withField(desk.sources, "ssrc", ssrc)[0]; }
+function sourcesOf(desk, member, kind) {
+  return withField(desk.sources, "member", member).filter((s) => !kind || s.kind === kind);
+}
+function slotsOf(desk, member) {
+  return [...withField(desk.slots, "member", member)].sort((a, b) => a.index - b.index);
+}
+function membersIn(desk, room) { return withField(desk.members, "room", room); }
 
 // The source that the rules of the desk choose for a slot, and the rule.
 function chosen(desk, slot) {
@@ -133,10 +153,11 @@ function dropped(desk, drag, on) {
   return null;
 }
 
-// A number that nothing of the desk has, from `least` on.
-function free(desk, least) {
-  const taken = new Set([...desk.rooms, ...desk.sources.map((s) => s.ssrc), ...desk.slots.map((s) => s.ssrc),
-    ...desk.members.flatMap((m) => [m.member, m.mix])]);
+// A number from `least` on that no row of its kind has: a room, a member or an SSRC.
+function free(desk, kind, least) {
+  const ssrcs = () => [desk.sources, desk.slots].flatMap((rows) => rows.map((row) => row.ssrc));
+  const taken = new Set(kind === "room" ? desk.rooms : desk.members.map((m) => (kind === "ssrc" ? m.mix : m.member)));
+  if (kind === "ssrc") for (const ssrc of ssrcs()) taken.add(ssrc);
   let number = least;
   while (taken.has(number)) number += 1;
   return number;
@@ -146,7 +167,7 @@ function free(desk, least) {
 function suggested(desk) {
   const fields = [["add-room", "room", 1], ["add-member", "member", 10], ["add-member", "ssrc", 9001],
     ["add-source", "ssrc", 101], ["add-slot", "ssrc", 501]];
-  return fields.map(([form, field, least]) => [form, field, free(desk, least)]);
+  return fields.map(([form, field, least]) => [form, field, free(desk, field, least)]);
 }
 
 const advice = {
@@ -202,22 +223,63 @@ function replyInWords(status, text) {
   return { good: false, text: text || plain };
 }
 
+// A response to new names that weren't kept, in words.
+function nameRefusal(status, text) {
+  if (/^no [0-9]+ Unsaved/.test(text)) return "the file of names can't be written, so nothing was changed.";
+  if (/^no [0-9]+ NoNames/.test(text)) return "that is no name.";
+  return status === 413 ? "there are too many names." : text || String(status);
+}
+
 // A response without a desk, in words.
 function noDeskInWords(text) {
   if (text.startsWith("Busy")) return `All seats of the bridge are taken. ${NO_SEAT}`;
   return "The bridge is gone. Trying again.";
 }
 
-// A number for what a desk looks like. Where it differs the rows do.
+// A number for what a desk looks like. Where it differs the rows do. It is a sum, so that the changes alone tell it.
 function lookOf(rows) {
-  let look = 0;
-  for (const octet of rows.join("\n")) look = (Math.imul(look, 31) + octet.charCodeAt(0)) | 0;
-  return look;
+  let sum = 0;
+  for (const row of rows) {
+    let look = 7;
+    for (let place = 0; place < row.length; place += 1) look = (Math.imul(look, 31) + row.charCodeAt(place)) | 0;
+    sum = (sum + look) | 0;
+  }
+  return sum;
+}
+function lookAfter(look, rows) {
+  const of = (sign) => lookOf(rows.filter((row) => row.startsWith(sign)).map((row) => row.slice(2)));
+  return (look + of("+ ") - of("- ")) | 0;
+}
+
+// The rooms of which something changed between two desks: those of the rows that came or went.
+function changedRooms(before, after, rows) {
+  // A member's place may shift, and then the same row goes and comes.
+  const times = new Map(), plain = (row) => row.slice(2).replace(/^member [0-9]+ /, "member ");
+  for (const row of rows) times.set(plain(row), (times.get(plain(row)) ?? 0) + 1);
+  const rooms = new Set(), words = [...times].filter(([, count]) => count === 1).map(([row]) => row.split(" "));
+  for (const [kind, first, second] of words) {
+    for (const desk of [before, after]) {
+      const room = roomOf(desk, kind, Number(first), Number(second));
+      if (room !== undefined) rooms.add(room);
+    }
+  }
+  return rooms;
+}
+function roomOf(desk, kind, first, second) {
+  if (["room", "pin", "floor"].includes(kind)) return first;
+  const member = { member: first, gain: first, source: second, slot: second,
+    sub: withField(desk.slots, "ssrc", first)[0]?.member, mute: sourceOf(desk, first)?.member }[kind];
+  return memberOf(desk, member)?.room;
 }
 
 // The rows that went and that came between two desks.
 function changes(before, after) {
-  const had = new Set(before), has = new Set(after);
-  const went = before.filter((row) => !has.has(row)), came = after.filter((row) => !had.has(row));
+  let from = 0, end = 0;
+  const least = Math.min(before.length, after.length);
+  while (from < least && before[from] === after[from]) from += 1;
+  while (end < least - from && before[before.length - 1 - end] === after[after.length - 1 - end]) end += 1;
+  const old = before.slice(from, before.length - end), now = after.slice(from, after.length - end);
+  const had = new Set(old), has = new Set(now);
+  const went = old.filter((row) => !has.has(row)), came = now.filter((row) => !had.has(row));
   return [...went.map((row) => `- ${row}`), ...came.map((row) => `+ ${row}`)];
 }

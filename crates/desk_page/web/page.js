@@ -1,31 +1,10 @@
-const at = (id) => document.getElementById(id);
+// Asking the page's program, and what clicks, keys and drags do.
 const token = () => document.querySelector('meta[name="desk-token"]').content;
-const EVERY = 250, PATIENCE = 4000, seenRows = new Map(), looks = new Map();
-let desk = null, shownText = null, drag = null, group = [], timer = null, asking = false, names = {};
-try { names = JSON.parse(localStorage.getItem("desk-names")) ?? {}; } catch { names = {}; }
-
-// An element with properties, and children behind one another.
-function el(tag, props, ...children) {
-  const node = document.createElement(tag);
-  for (const [key, value] of Object.entries(props ?? {})) {
-    if (key === "data") Object.assign(node.dataset, value);
-    else if (key === "on") for (const [event, act] of Object.entries(value)) node.addEventListener(event, act);
-    else if (key in node) node[key] = value;
-    else node.setAttribute(key, value);
-  }
-  node.append(...children.filter((child) => child !== null && child !== undefined));
-  return node;
-}
-
-const soft = (text) => el("span", { className: "soft" }, text);
-const code = (text) => el("code", {}, text);
-
-// A button that sends a line, which it shows when it is pointed at or reached by Tab.
-function sends(text, line, kind = "") {
-  const tell = () => { if (document.activeElement !== at("line")) at("line").placeholder = line; };
-  return el("button", { type: "button", className: `small ${kind}`, title: line, data: { key: line },
-    on: { click: () => call(line), pointerenter: tell, focus: tell } }, text);
-}
+const EVERY = 250, PATIENCE = 4000, REST = 400, FEW_ROOMS = 8, FEW_MEMBERS = 4, ROW_HEIGHT = 25;
+const seenRows = new Map(), looks = new Map(), folded = new Map(), picked = new Set(), here = new Map();
+const widened = new Set(), resting = new Map(), suggestions = new Map();
+let desk = null, shownText = null, drag = null, group = [], timer = null, asking = false, opened = null, past = null;
+let names = {}, namesVersion = -1, since = null, look = 0;
 
 function notice(text, good) {
   at("notice").textContent = text;
@@ -42,17 +21,30 @@ async function ask(path, options) {
   return fetch(path, { ...options, cache: "no-store", signal: AbortSignal.timeout(PATIENCE) });
 }
 
+async function post(path, body) {
+  return ask(path, { method: "POST", headers: { "X-Desk-Token": token() }, body });
+}
+
 // Sends a line once. Whatever comes of it, the desk is shown again; the line is never sent again by itself.
-async function call(line) {
+async function call(line, words = line) {
+  if (document.body.classList.contains("gone")) return;
   if (at("collect").checked && !/^(undo|redo|group) /.test(line)) return collect(line);
   try {
-    const reply = await ask("/call", { method: "POST", headers: { "X-Desk-Token": token() }, body: line });
+    const reply = await post("/call", line);
     const { good, text } = replyInWords(reply.status, (await reply.text()).trim());
-    notice(`${line}: ${text}`, good);
+    notice(`${words}: ${text}`, good);
   } catch {
-    notice(`${line}: no answer came. Look at the desk before you send it again.`);
+    notice(`${words}: no answer came. Look at the desk before you send it again.`);
   }
   show();
+}
+
+// Sends commands as one call.
+function callAll(parts, what) {
+  const count = parts.length;
+  if (count > MOST_PARTS) return notice(`${what}: that takes ${count} commands. A group has ${MOST_PARTS} at most.`);
+  if (count > 0) return call(grouped(parts), count > 1 ? `${what} (${count} commands as one)` : parts[0]);
+  return notice(`${what}: nothing to do.`);
 }
 
 function collect(line) { group.push(line); showGroup(); }
@@ -70,226 +62,157 @@ async function show() {
   try {
     const reply = await ask("/desk");
     const text = await reply.text();
-    if (reply.ok) take(text);
+    if (reply.ok) await take(text);
     else gone(noDeskInWords(text));
-  } catch {
-    gone("The page's program is gone. Trying again; once it is back, load the page again.");
+  } catch (error) {
+    if (error instanceof TypeError || error.name === "TimeoutError" || error.name === "AbortError")
+      gone("The page's program is gone. Trying again; once it is back, load the page again.");
+    else console.error(error);
   }
   asking = false;
   timer = setTimeout(show, EVERY);
 }
 
-function gone(text) {
-  status(text, true);
-  document.body.classList.add("gone");
+// The desk is stale: nothing of it can be changed.
+function setGone(is) {
+  document.body.classList.toggle("gone", is);
+  at("main").inert = at("history-buttons").inert = is;
 }
 
-function take(text) {
+function gone(text) {
+  since ??= new Date().toLocaleTimeString();
+  status(desk ? `${text} Below is the desk as it was at ${since}.` : text, true);
+  setGone(true);
+}
+
+async function take(text) {
   status("Live", false);
-  document.body.classList.remove("gone");
-  if (text === shownText || drag) return;
+  since = null;
+  setGone(false);
+  if (text === shownText) return;
   const next = parseDesk(text);
+  if (drag) return;
+  const isRenamed = next.named !== namesVersion && await takeNames();
+  const rows = desk ? changes(desk.rows, next.rows) : [];
   if (desk && next.version > desk.version) {
-    seenRows.set(next.version, { from: desk.version, rows: changes(desk.rows, next.rows) });
+    seenRows.set(next.version, { from: desk.version, rows });
   } else if (desk && next.version < desk.version) {
     seenRows.clear();
     looks.clear();
   }
-  looks.set(next.version, lookOf(next.rows));
+  const rooms = desk && !isRenamed ? changedRooms(desk, next, rows) : null;
+  look = desk ? lookAfter(look, rows) : lookOf(next.rows);
+  looks.set(next.version, look);
   shownText = text;
   desk = next;
-  render();
+  render(rooms, rows.some((row) => /^. (room|member|source|slot) /.test(row)));
 }
 
-function nameOf(what, number) { return names[`${what} ${number}`] ?? ""; }
-
-function rename(what, number) {
-  const name = prompt(`A name for ${what} ${number}, in this browser alone`, nameOf(what, number));
-  if (name === null) return;
-  names[`${what} ${number}`] = name;
-  localStorage.setItem("desk-names", JSON.stringify(names));
-  render();
+// Names, as the page's program keeps them.
+async function takeNames() {
+  const reply = await ask("/names");
+  document.body.classList.toggle("nameless", reply.status === 404);
+  if (!reply.ok) return false;
+  const told = parseNames(await reply.text());
+  [names, namesVersion] = [told.names, told.version];
+  return true;
 }
 
-function title(what, number, more = null) {
-  const name = nameOf(what, number), plain = `${what} ${number}`;
-  return el("h3", { className: "grow" }, ...(name ? [`${name} `, soft(plain)] : [plain]), more);
-}
-
-function names_button(what, number) {
-  return el("button", { type: "button", className: "small", title: `a name for ${what} ${number}`,
-    data: { key: `name ${what} ${number}` }, on: { click: () => rename(what, number) } }, "Name");
-}
-
-// What can be dragged, and where it can be dropped.
-function drags(node, what) {
-  node.draggable = true;
-  node.addEventListener("dragstart", (event) => {
-    drag = what;
-    event.dataTransfer.setData("text/plain", "");
-    event.stopPropagation();
-  });
-  node.addEventListener("dragend", () => { drag = null; shownText = null; });
-  return node;
-}
-
-function drops(node, on) {
-  const line = () => (drag && desk ? dropped(desk, drag, on) : null);
-  const takes = (event) => { event.preventDefault(); event.stopPropagation(); };
-  node.addEventListener("dragover", (event) => {
-    if (!line()) return;
-    takes(event);
-    node.classList.add("over");
-  });
-  node.addEventListener("dragleave", () => node.classList.remove("over"));
-  node.addEventListener("drop", (event) => {
-    node.classList.remove("over");
-    const sent = line();
-    if (!sent) return;
-    takes(event);
-    drag = null;
-    call(sent);
-  });
-  return node;
-}
-
-// A choice that sends a line for what is chosen.
-function chooses(label, options, lineOf, key) {
-  if (options.length === 0) return null;
-  const select = el("select", { ariaLabel: label, data: { key } }, el("option", { value: "" }, label),
-    ...options.map((value) => el("option", { value }, String(value))));
-  select.addEventListener("change", () => {
-    if (select.value === "") return;
-    const line = lineOf(select.value);
-    select.value = "";
-    call(line);
-  });
-  return select;
-}
-
-function sourceChip(member, source) {
-  const muted = desk.mutes.has(source.ssrc), video = source.kind === "video";
-  const chip = el("span", { className: muted ? "chip muted" : "chip" },
-    el("span", { className: "what" }, `${source.kind} ${source.ssrc}`),
-    muted ? sends("Unmute", lines.unmute(source.ssrc)) : sends("Mute", lines.mute(source.ssrc)),
-    video && desk.pins.get(member.room) !== source.ssrc ? sends("Pin", lines.pin(member.room, source.ssrc)) : null,
-    sends("Remove", lines.removeSource(source.ssrc), "danger"));
-  return video ? drags(chip, { source: source.ssrc }) : chip;
-}
-
-function slotBox(member, slot) {
-  const what = seen(desk, slot), rule = { sub: "subscribed", pin: "by the pin", floor: "by the floor" }[what.by];
-  return drops(el("span", { className: "slot", data: { slot: slot.ssrc } }, `slot ${slot.index}: `,
-    what.source === null ? soft(`nothing, ${what.why}`) : el("span", {}, `${what.source} `, soft(rule)),
-    chooses("Subscribe", videosFor(desk, slot), (ssrc) => lines.subscribe(slot.ssrc, ssrc), `choose ${slot.ssrc}`),
-    desk.subs.has(slot.ssrc) ? sends("Unsubscribe", lines.unsubscribe(slot.ssrc)) : null,
-    sends("Remove", lines.removeSlot(slot.ssrc), "danger")), { slot: slot.ssrc });
-}
-
-function gainBox(member, source) {
-  const line = (gain) => lines.setGain(member.member, source.ssrc, gain);
-  const range = el("input", { type: "range", min: 0, max: 1024, step: 32, value: source.gain,
-    ariaLabel: `gain of ${source.ssrc} for ${member.member}`, title: line(source.gain),
-    data: { key: `gain ${member.member} ${source.ssrc}` }, on: { change: () => call(line(range.value)) } });
-  return el("span", { className: source.muted ? "chip muted" : "chip" },
-    el("span", { className: "what" }, `${source.ssrc} x${(source.gain / 256).toFixed(2)}`), range);
-}
-
-function memberCard(member) {
-  const part = (label, boxes) => [el("dt", {}, label), el("dd", {}, ...(boxes.length ? boxes : [soft("nothing")]))];
-  const rooms = roomsFor(desk, member), floor = desk.floors.get(member.room) === member.member;
-  const slots = desk.slots.filter((s) => s.member === member.member).sort((a, b) => a.index - b.index);
-  return drags(el("article", { className: "member", data: { member: member.member } },
-    el("div", { className: "head" }, title("member", member.member),
-      floor ? el("span", { className: "tag" }, "has the floor") : null, names_button("member", member.member),
-      floor ? null : sends("Give floor", lines.giveFloor(member.room, member.member)),
-      chooses("Move to room", rooms, (room) => lines.moveMember(member.member, room), `move ${member.member}`),
-      sends("Remove", lines.removeMember(member.member), "danger")),
-    el("div", { className: "soft" }, `${member.address} ${member.codec}, mix ${member.mix}`),
-    el("dl", {}, ...part("sends", sourcesOf(desk, member.member).map((s) => sourceChip(member, s))),
-      ...part("sees", slots.map((s) => slotBox(member, s))),
-      ...part("hears", heard(desk, member).map((s) => gainBox(member, s))))), { member: member.member });
-}
-
-function roomCard(room) {
-  const floor = desk.floors.get(room), pin = desk.pins.get(room);
-  const tag = (text, button) => el("span", { className: "tag" }, text, button);
-  return drops(el("section", { className: "room", data: { room } },
-    el("div", { className: "head" }, title("room", room, isMusic(desk, room) ? soft(` ${MUSIC} Hz`) : null),
-      names_button("room", room),
-      pin !== undefined ? tag(`${pin} is pinned `, sends("Unpin", lines.unpin(room))) : null,
-      floor !== undefined ? tag(`floor: ${floor} `, sends("Take floor", lines.takeFloor(room))) : null,
-      sends("Remove room", lines.removeRoom(room), "danger")),
-    ...membersIn(desk, room).map(memberCard)), { room });
-}
-
-function callItem(entry) {
-  if (entry.foreign) {
-    const rows = rowsSeen(seenRows, entry), boxes = rows.slice(0, MOST).map((row) => el("div", {}, code(row)));
-    return el("li", {}, soft(foreignWords(entry)), ...boxes, rows.length > MOST ? soft(moreWords(rows)) : null);
+// Names a thing for all. Where another browser has named something meanwhile, its names are taken first.
+async function rename(kind, number, name) {
+  const what = `the name of ${kind} ${number}`;
+  for (let turn = 0; turn < 8; turn += 1) {
+    const body = `names ${namesVersion}\n${JSON.stringify(renamed(names, kind, number, name))}`;
+    try {
+      const reply = await post("/names", body);
+      const said = (await reply.text()).trim();
+      if (said.startsWith("ok ")) {
+        notice(`${what}: kept`, true);
+        await takeNames();
+        return render();
+      }
+      if (!/^no [0-9]+ Newer/.test(said)) return notice(`${what}: ${nameRefusal(reply.status, said)}`);
+      await takeNames();
+    } catch {
+      return notice(`${what}: no answer came.`);
+    }
   }
-  const kind = entry.undone ? "undone" : entry.number === null ? "refused" : "";
-  const became = entry.undone ? " undone" : entry.undone === null ? " may be undone" : "";
-  return el("li", { className: kind }, code(entry.line), " ", el("code", { className: "said" }, entry.said), became);
+  return notice(`${what}: others name things all the time; try again.`);
 }
 
-function button(id, word, entry, line) {
-  at(id).textContent = named(word, entry);
-  at(id).title = line;
-  at(id).disabled = !entry;
-  at(id).onclick = () => call(line);
-}
-
-// Fills a choice again, and keeps what was chosen.
-function options(form, field, values) {
-  const select = at(form).elements[field], chosen = select.value;
-  select.replaceChildren(...values.map((value) => el("option", {}, String(value))));
-  if (values.map(String).includes(chosen)) select.value = chosen;
-}
-
-function suggest(form, field, number) {
-  const input = at(form).elements[field];
-  if (document.activeElement !== input) input.value = number;
-}
-
-function render() {
-  const key = document.activeElement?.dataset?.key;
-  const none = el("p", { className: "soft" }, "There is no room yet: add one.");
-  at("board").replaceChildren(...(desk.rooms.length ? desk.rooms.map(roomCard) : [none]));
-  const past = history(desk.calls, desk.version, looks);
-  button("undo", "Undo", past.undo, lines.undo(desk.version));
-  button("redo", "Redo", past.redo, lines.redo(desk.version));
-  at("calls").replaceChildren(...past.entries.reverse().map(callItem));
-  document.title = `Desk, version ${desk.version}`;
-  options("add-member", "room", desk.rooms);
-  options("add-source", "member", desk.members.map((m) => m.member));
-  options("add-slot", "member", desk.members.map((m) => m.member));
-  for (const [id, field, number] of suggested(desk)) suggest(id, field, number);
-  if (key) document.querySelector(`[data-key="${CSS.escape(key)}"]`)?.focus();
-}
-
-function form(id, lineOf) {
-  at(id).addEventListener("submit", (event) => {
-    event.preventDefault();
-    call(lineOf(Object.fromEntries(new FormData(at(id)))));
+// Asks a question, with a field for a text where one is given. The text, or null.
+function question(title, text, yes, value = null) {
+  at("ask-title").textContent = title;
+  at("ask-text").textContent = text;
+  at("ask-yes").textContent = yes;
+  at("ask-label").hidden = value === null;
+  at("ask-input").value = value ?? "";
+  at("ask").returnValue = "";
+  at("ask").showModal();
+  if (value === null) at("ask-no").focus();
+  return new Promise((resolve) => {
+    at("ask").onclose = () => resolve(at("ask").returnValue === "yes" ? at("ask-input").value : null);
   });
 }
 
-form("add-room", (f) => lines.addRoom(f.room, f.rate));
-form("add-member", (f) => lines.addMember(f, codecOf(desk, f)));
-form("add-source", lines.addSource);
-form("add-slot", lines.addSlot);
-at("line-form").addEventListener("submit", (event) => {
-  event.preventDefault();
-  call(at("line").value);
-  at("line").value = "";
-});
-const dropGroup = () => { group = []; showGroup(); };
-at("drop-group").addEventListener("click", dropGroup);
-at("send-group").addEventListener("click", () => {
-  const line = lines.group(group);
-  at("collect").checked = false;
-  dropGroup();
-  call(line);
-});
-show();
+const pickedVoices = (muted) => voicesOf(desk, [...picked], muted);
+const sourceLabel = (ssrc) => labelled(sourceName(names, desk, ssrc), ssrc);
+
+// What clicks do, by their `data-act`.
+const acts = {
+  open: (of) => {
+    opened = opened === Number(of) ? null : Number(of);
+    setHere(Number(of));
+    render();
+    if (opened !== null) at("detail").scrollIntoView({ block: "nearest" });
+  },
+  close: () => { opened = null; render(); },
+  fold: (of) => { folded.set(Number(of), !isFolded(Number(of))); render(); },
+  toggle: (of) => callAll(toggled(desk, [Number(of)]), `mute of member ${of}`),
+  "mute-others": (of) => callAll(othersMuted(desk, Number(of)), `mute all but member ${of}`),
+  "mute-chosen": () => callAll(pickedVoices(false).map((s) => lines.mute(s.ssrc)), "mute the selected members"),
+  "unmute-chosen": () => callAll(pickedVoices(true).map((s) => lines.unmute(s.ssrc)), "unmute the selected members"),
+  clear: () => { picked.clear(); render(); },
+  name: async (of) => {
+    const [kind, number] = of.split(" ");
+    const text = `All browsers show it. It has ${LONGEST_NAME} characters at most; an empty name takes it away.`;
+    const name = await question(`Name ${of}`, text, "Keep", nameOf(names, kind, number));
+    if (name !== null) rename(kind, Number(number), name);
+  },
+  "remove-room": async (of) => {
+    const room = Number(of);
+    if (membersIn(desk, room).length > FEW_MEMBERS && !at("collect").checked) {
+      const text = `${goesAlong(desk, room)} go along. Undo brings all of it back, until something else is changed.`;
+      const what = spoken(nameOf(names, "room", room), "room", room);
+      if (await question(`Remove ${what}?`, text, "Remove") === null) return;
+    }
+    call(lines.removeRoom(room));
+  },
+};
+
+const slotOf = (ssrc) => withField(desk.slots, "ssrc", ssrc)[0];
+const evenlyHeard = (member) => heard(desk, memberOf(desk, member)).filter((s) => s.gain === 256);
+
+// What a choice offers, and what is done with what is picked.
+const choices = {
+  subscribe: { options: (slot) => videosFor(desk, slotOf(slot)).map((ssrc) => [ssrc, sourceLabel(ssrc)]),
+    choose: (slot, ssrc) => call(lines.subscribe(slot, ssrc)) },
+  "move-member": { options: (member) => roomsFor(desk, memberOf(desk, member)).map(roomOption),
+    choose: (member, room) => call(lines.moveMember(member, room)) },
+  "gain-of": { options: (member) => evenlyHeard(member).map((s) => [s.ssrc, sourceLabel(s.ssrc)]),
+    choose: (member, ssrc) => { widened.add(`${member} ${ssrc}`); render(); } },
+  "move-chosen": { options: () => desk.rooms.map(roomOption),
+    choose: (_, room) => callAll(movedAll(desk, [...picked], room), `move the selected members to room ${room}`) },
+};
+const roomOption = (room) => [room, labelled(nameOf(names, "room", room), room)];
+function offer(select) {
+  if (select.options.length > 1) return;
+  const [kind, of] = select.dataset.choice.split(" ");
+  select.append(...choices[kind].options(Number(of)).map(([value, text]) => el("option", { value }, text)));
+}
+
+const isFolded = (room) => folded.get(room) ?? desk.rooms.length > FEW_ROOMS;
+function setHere(member) {
+  const row = memberOf(desk, member);
+  if (row) here.set(row.room, member);
+}

@@ -159,6 +159,8 @@ function moreWords(rows) {
 
 if (typeof module !== "undefined") {
   module.exports = {
-    parseDesk, isMusic, roomsFor, codecOf, seen, videosFor, heard, lines, dropped, free, suggested, inWords,
+    memberLine, roomLine, overview, parseNames, renamed, labelled, sourceName, cut, grouped, toggled, othersMuted,
+    movedAll, goesAlong, changedRooms, lookAfter, nameRefusal, parseDesk, isMusic, roomsFor, codecOf, seen, videosFor,
+    heard, lines, dropped, free, suggested, inWords,
     replyInWords, noDeskInWords, history, named, foreignWords, rowsSeen, moreWords, lookOf, changes };
 }

@@ -4,8 +4,9 @@ An operator adds rooms, one of them for music, and members, subscribes, mutes, m
 again. After each line the page's desk is what the bridge's `show` says. A second operator's change is there within half a
 second. Bad requests are refused by name and change nothing. A silent bridge keeps nobody waiting, and a bridge that comes back
 is found again. In node, the page's functions choose the lines of clicks as they should. In chromium, two browsers go through a
-call by clicks, forms and a drag: after each step both draw what `show` says, and the second one within half a second. With
---http-only neither node nor chromium is needed, and nothing tries the page's script.
+call by clicks, forms and a drag: after each step both draw what `show` says, and the second one within half a second. Sliders, keys,
+many members at once, a bridge that is gone, a room of 64 and 64 rooms of 16 are tried by hand. With --http-only neither node nor chromium is needed, and nothing tries the page's script. With --model no program
+is needed: the page is served over the plain desk of the models.
 """
 
 import concurrent.futures
@@ -22,9 +23,11 @@ import subprocess
 import tempfile
 import time
 
-from lib.driving import drive
+from lib.driving import drive, opened
+from lib.handling import handle, shows_stale, stays_small
 from lib.make.page import WEB
 from lib.serving import Operator, free_port, settings
+from lib import standin
 from lib.shared import CRATES, add_program_or_build, fail, found_program, try_command
 
 NEEDS = "a program, node and chromium, two minutes"
@@ -59,6 +62,7 @@ def options(parser):
     parser.add_argument("--page", metavar="PROGRAM", help="the page's program (crates/desk_page/out/desk_page if not given)")
     parser.add_argument("--browser", default="chromium", metavar="COMMAND", help="the browser (%(default)s)")
     parser.add_argument("--http-only", action="store_true", help="try neither the page's functions nor a browser")
+    parser.add_argument("--model", action="store_true", help="serve the page over a plain desk, without a program")
     parser.add_argument("--pictures", type=pathlib.Path, metavar="FOLDER", help="where pictures of the page go")
 
 
@@ -298,7 +302,7 @@ def find_commands(browser):
 
 def try_functions():
     """The functions of the page that choose a click's line, by themselves."""
-    script = "".join((WEB / part).read_text() for part in ("lines.js", "past.js"))
+    script = "".join((WEB / part).read_text() for part in ("lines.js", "overview.js", "past.js"))
     with tempfile.TemporaryDirectory() as folder:
         path = pathlib.Path(folder) / "lines.js"
         path.write_text(script)
@@ -312,8 +316,58 @@ def browse(args, folder, page, operator):
     """Two browsers go through a call."""
     address = f"http://127.0.0.1:{page.port}/"
     times = drive(args.browser, folder, address, lambda: shown(operator), operator.ask, args.pictures)
-    operator.tell("quit")
+    check(max(times) <= 0.5, f"a change took {max(times):.2f} s to the second browser")
     print(f"a second browser sees a step after {statistics.median(times):.2f} s, and {max(times):.2f} s at most")
+
+
+# What is tried by hand begins with this desk.
+DESK = [
+    *("add-room 1", "add-room 2"),
+    *(f"add-member {it} 1 10.8.0.{it}:6000 pcmu {9000 + it} 0 0" for it in (10, 11)),
+    *("add-source 201 10 audio", "add-source 202 11 audio", "add-source 101 10 video", "add-slot 501 11 0 0 0", "give-floor 1 10"),
+]
+
+
+def try_by_hand(args, folder, address, ask, go, come):
+    """Two browsers try what operators do by hand. `go` and `come` take the bridge away and back."""
+    for line in DESK:
+        check(ask(line).startswith("ok "), f"`{line}` is refused")
+    one, two = opened(args.browser, folder, address), opened(args.browser, folder, address)
+    try:
+        handle(one, two, ask)
+        shows_stale(one, go, come)
+        stays_small(one, [standing(*size) for size in ((1, 2), (1, 64), (64, 16))])
+    finally:
+        one.close()
+        two.close()
+
+
+def standing(rooms, size):
+    """A page over a plain desk with so many rooms of so many members: its port, another operator's call, and a source of a member."""
+    one = standin.Standin()
+    standin.fill(one, rooms, size)
+    return standin.serve(one).server_port, one.ask, 201_000
+
+
+def by_model(args, folder):
+    """Two browsers go through a session at a page over a plain desk."""
+    one = standin.Standin()
+    address = f"http://127.0.0.1:{standin.serve(one).server_port}/"
+    drive(args.browser, folder, address, one.shown, one.ask, args.pictures)
+    clean(one.ask, one.shown)
+
+    def sets(is_gone):
+        one.is_gone = is_gone
+
+    try_by_hand(args, folder, address, one.ask, lambda: sets(True), lambda: sets(False))
+    print("a session at the page over a plain desk, no fault")
+
+
+def clean(ask, shown_lines):
+    """Removes all rooms."""
+    for row in shown_lines():
+        if row.startswith("room "):
+            check(ask(f"remove-room {row.split()[1]}").startswith("ok "), f"{row} can't be removed")
 
 
 def session(args, folder):
@@ -336,7 +390,12 @@ def session(args, folder):
         programs.append(started("confbridge", args.binary, words, args.seconds, folder))
         finds_seats(page, programs[-1], tcp)
         if not args.http_only:
-            browse(args, folder, page, seated(programs[-1], tcp))
+            operator = seated(programs[-1], tcp)
+            browse(args, folder, page, operator)
+            clean(operator.ask, lambda: shown(operator))
+            stop = [lambda number=number: signal_all(programs[-1], number) for number in (signal.SIGSTOP, signal.SIGCONT)]
+            try_by_hand(args, folder, f"http://127.0.0.1:{page.port}/", operator.ask, *stop)
+            operator.tell("quit")
         check(page.call("add-room 9")[1].startswith("ok "), "the page doesn't find the bridge that came back")
     finally:
         # `rt try` ends the program that it runs once it is asked to end, and leaves it behind where it is killed.
@@ -351,5 +410,8 @@ def run(args):
         find_commands(args.browser)
         try_functions()
     with tempfile.TemporaryDirectory(ignore_cleanup_errors=True) as folder:
-        session(args, folder)
+        if args.model:
+            by_model(args, folder)
+        else:
+            session(args, folder)
     return 0

@@ -69,8 +69,8 @@ same(lines.addSource({ ssrc: "104", member: "10", kind: "video" }), "add-source 
 same(lines.setGain(11, 201, 512), "set-gain 11 201 512");
 same(lines.group(["mute 201", "unpin 1"]), "group mute 201 / unpin 1");
 same(lines.undo(17), "undo 17");
-same(page.free(desk, 101), 104);
-same(page.free(desk, 1), 3);
+same(page.free(desk, "ssrc", 101), 104);
+same(page.free(desk, "room", 1), 3);
 same(page.suggested(desk)[0], ["add-room", "room", 3]);
 same(page.videosFor(desk, slot(502)), [101, 103]);
 
@@ -249,4 +249,47 @@ for (const [page_part, looks_part] of [[100, 0], [100, 100], [90, 0], [60, 0], [
 
 same(page.changes(["room 1", "mute 1"], ["room 1", "room 2"]), ["- mute 1", "+ room 2"]);
 same([13, 20].map((count) => page.moreWords(Array(count))), ["and 1 more row", "and 8 more rows"]);
+// Names: an SSRC has its source's name, or else its member's.
+const named = page.parseNames('names 3\n{"member 10":"Bob","source 102":"camera","room 1":"Sales","odd":7}');
+same(named, { version: 3, names: { "member 10": "Bob", "source 102": "camera", "room 1": "Sales" } });
+same([201, 102, 103].map((ssrc) => page.labelled(page.sourceName(named.names, desk, ssrc), ssrc)), ["Bob (201)", "camera (102)", "103"]);
+same(page.renamed({ "member 10": "Bob" }, "member", 10, "  "), {});
+same(page.renamed({ "member 10": "Bob" }, "room", 2, " بوب 🎤 "), { "member 10": "Bob", "room 2": "بوب 🎤" });
+same([...page.cut("🎤".repeat(201))].length, 200);
+same(["no 3 Unsaved", "no 3 NoNames"].map((said) => page.nameRefusal(200, said).slice(0, 17)), ["the file of names", "that is no name."]);
+
+// The overview: what a line says, what is found, and in which order.
+const line = page.memberLine(desk, named.names, desk.members[0]);
+same([line.name, line.floor, line.muted, line.odd, line.sends.map((s) => s.ssrc)], ["Bob", true, false, false, [101, 102, 201]]);
+same(page.memberLine(desk, named.names, desk.members[1]).sees.map((s) => s.label), ["Bob (101)", "camera (102)"]);
+const silent = { ...desk, mutes: new Set([201]) };
+same(page.memberLine(silent, {}, desk.members[0]).odd, true);
+same(page.roomLine(silent, named.names, 1).odd, true);
+same([page.roomLine(desk, named.names, 1).members, page.roomLine(desk, named.names, 1).muted, page.roomLine(desk, named.names, 1).odd], [2, 1, false]);
+const found = (search, sort = "number") => page.overview(desk, named.names, search, sort).map(({ room, members }) => [room, members.map((m) => m.member)]);
+same(found(""), [[1, [10, 11]], [2, [12]]]);
+same(found("bob"), [[1, [10]]]);
+same(found("SALES"), [[1, [10, 11]]]);
+same([found("502"), found("127.0.0.1:6004"), found("nobody")], [[[1, [11]]], [[2, [12]]], []]);
+same(page.overview({ ...desk, rooms: [2, 1] }, {}, "", "members").map(({ room }) => room), [1, 2]);
+same(page.overview(desk, { "room 2": "a", "room 1": "b" }, "", "name").map(({ room }) => room), [2, 1]);
+
+// Many members at once: one call, and only what it takes.
+same([page.grouped([]), page.grouped(["mute 1"]), page.grouped(["mute 1", "mute 2"])], [null, "mute 1", "group mute 1 / mute 2"]);
+same([page.toggled(desk, [10, 11]), page.toggled(desk, [11]), page.toggled(desk, [12])], [["mute 201"], ["unmute 202"], []]);
+same([page.othersMuted(desk, 11), page.othersMuted(desk, 10)], [["mute 201"], []]);
+same(page.movedAll(desk, [10, 12, 99], 2), ["move-member 10 2"]);
+same(page.goesAlong(desk, 1), "2 members, 5 sources, 3 slots");
+
+// A change touches the rooms of its rows alone, and one of places none.
+const after = (lines) => { const next = page.parseDesk(lines); return [...page.changedRooms(desk, next, page.changes(desk.rows, next.rows))]; };
+same(after(text.replace("mute 202\n", "mute 201\n")), [1]);
+same(after(text.replace("member 2 12 2", "member 1 12 2").replace("member 1 11 1", "member 2 11 1")), []);
+same(after(text.replace("member 2 12 2", "member 2 12 1")).sort(), [1, 2]);
+same(after(text.replace("sub 502 102\n", "")), [1]);
+same(after(text.replace("gain 11 201 128", "gain 11 201 129")), [1]);
+for (const next of [text.replace("mute 202\n", ""), text.replace("room 2\n", "room 2\nroom 3\n"), ""].map(page.parseDesk)) {
+  same(page.lookAfter(page.lookOf(desk.rows), page.changes(desk.rows, next.rows)), page.lookOf(next.rows));
+}
+
 console.log(`${tried} tries of the page's functions, no fault`);

@@ -10,7 +10,7 @@ NEEDS = "nothing"
 
 WEB, SOURCES = CRATES / "desk_page/web", CRATES / "desk_page/src"
 TOKEN = "TOKEN"
-MADE = "`tools/bridge make page` writes this file from web/{}."
+MADE = "`tools/bridge make page` writes this file from {}."
 # Each source with what it is, and its constants: a name, what that is, a web file, and the part of it.
 PARTS = [
     ("markup.rt", "The page in HTML, as far as its token and behind it.", [
@@ -18,10 +18,12 @@ PARTS = [
         ("BACK", "The page behind its token.", "page.html", 1),
     ]),
     ("spelling.rt", "What the page makes of the desk's text, and the lines that clicks send.", [
-        ("LINES", "The first part of the page's script.", "lines.js", 0),
+        ("LINES", "The first part of the page's script.", "lines.js overview.js", 0),
     ]),
     ("past.rt", "What undo and redo would take.", [("PAST", "The second part of the page's script.", "past.js", 0)]),
-    ("script.rt", "The page's script that shows the desk.", [("SCRIPT", "The rest of the page's script.", "page.js", 0)]),
+    ("script.rt", "How the page shows the desk, and what is done at it.", [
+        ("SCRIPT", "The rest of the page's script.", "view.js page.js hands.js", 0),
+    ]),
     ("style.rt", "The page's style sheet.", [("STYLE", "The page's style sheet.", "page.css", 0)]),
 ]  # fmt: skip
 
@@ -31,8 +33,8 @@ def options(parser):
 
 
 def text_of(name, part):
-    """A part of a web file: what stands before the token, or behind it."""
-    text = (WEB / name).read_text()
+    """A part of web files: what stands before the token, or behind it."""
+    text = "\n".join((WEB / one).read_text() for one in name.split())
     if '"##' in text:
         fail(f"web/{name} has the end of a constant in it")
     return text.split(TOKEN)[part] if name.endswith(".html") else text
@@ -40,7 +42,8 @@ def text_of(name, part):
 
 def source_of(title, constants):
     """A source with its constants."""
-    lines = [f"//! {title}", f"//! {MADE.format(constants[0][2])}"]
+    files = ", ".join(f"web/{name}" for name in constants[0][2].split())
+    lines = [f"//! {title}", f"//! {MADE.format(files)}"]
     for name, what, file, part in constants:
         lines += ["", f"/// {what}", f'pub(crate) const {name}: &[u8] = br##"{text_of(file, part)}"##;']
     return "\n".join(lines) + "\n"

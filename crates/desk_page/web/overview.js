@@ -1,0 +1,105 @@
+// Names, what the overview says, and what is done with many members. No function touches the page.
+
+// Names. They are kept by `member 10`, `room 1` or `source 201`, and a source without one has its member's.
+const LONGEST_NAME = 200;
+function nameOf(names, kind, number) { return names[`${kind} ${number}`] ?? ""; }
+function sourceName(names, desk, ssrc) {
+  const source = sourceOf(desk, ssrc);
+  return nameOf(names, "source", ssrc) || (source ? nameOf(names, "member", source.member) : "");
+}
+function labelled(name, number) { return name ? `${name} (${number})` : String(number); }
+function cut(name) { return [...name.trim()].slice(0, LONGEST_NAME).join(""); }
+function renamed(names, kind, number, name) {
+  const next = { ...names, [`${kind} ${number}`]: cut(name) };
+  if (!cut(name)) delete next[`${kind} ${number}`];
+  return next;
+}
+
+// The names in the text of /names, and their version. What isn't a name is left out.
+function parseNames(text) {
+  const end = text.indexOf("\n"), version = Number(text.slice(6, end));
+  const pairs = Object.entries(JSON.parse(text.slice(end + 1))).filter(([, name]) => typeof name === "string");
+  return { version, names: Object.fromEntries(pairs) };
+}
+
+// What a line of the overview says of a member.
+function memberLine(desk, names, member) {
+  const sends = sourcesOf(desk, member.member).map((s) =>
+    ({ ssrc: s.ssrc, kind: s.kind, muted: desk.mutes.has(s.ssrc), name: nameOf(names, "source", s.ssrc) }));
+  const sees = slotsOf(desk, member.member).map((slot) => {
+    const { source, by: rule, why } = seen(desk, slot);
+    return source === null ? { slot: slot.ssrc, source, why } :
+      { slot: slot.ssrc, source, by: rule, label: labelled(sourceName(names, desk, source), source) };
+  });
+  const audio = sends.filter((s) => s.kind === "audio"), floor = desk.floors.get(member.room) === member.member;
+  const muted = audio.length > 0 && audio.every((s) => s.muted);
+  return { member: member.member, name: nameOf(names, "member", member.member), sends, sees, floor, muted,
+    hasAudio: audio.length > 0, odd: floor && muted };
+}
+
+// What the head of a room says.
+function roomLine(desk, names, room) {
+  const members = membersIn(desk, room), floor = desk.floors.get(room), pin = desk.pins.get(room);
+  const voices = members.flatMap((m) => sourcesOf(desk, m.member, "audio"));
+  const holder = floor === undefined ? [] : sourcesOf(desk, floor, "audio");
+  return { room, name: nameOf(names, "room", room), music: isMusic(desk, room), members: members.length,
+    muted: voices.filter((s) => desk.mutes.has(s.ssrc)).length,
+    floor: floor === undefined ? null : { member: floor, label: labelled(nameOf(names, "member", floor), floor) },
+    pin: pin === undefined ? null : { ssrc: pin, label: labelled(sourceName(names, desk, pin), pin) },
+    odd: holder.length > 0 && holder.every((s) => desk.mutes.has(s.ssrc)) };
+}
+
+// Whether a member or a room fits what is looked for: all of its words, in any case.
+function fits(words, texts) {
+  const text = texts.join(" ").toLowerCase();
+  return words.every((word) => text.includes(word));
+}
+function wordsOf(text) { return text.toLowerCase().split(/\s+/).filter((word) => word !== ""); }
+function memberFits(desk, names, member, words) {
+  const ssrcs = sourcesOf(desk, member.member).flatMap((s) => [s.ssrc, nameOf(names, "source", s.ssrc)]);
+  const slots = slotsOf(desk, member.member).map((s) => s.ssrc);
+  const name = nameOf(names, "member", member.member);
+  return fits(words, [member.member, name, member.address, member.mix, ...ssrcs, ...slots]);
+}
+
+// The rooms with the members that are shown: all of a room that fits itself, and otherwise those that fit.
+function overview(desk, names, search, sort) {
+  const words = wordsOf(search);
+  const found = desk.rooms.map((room) => {
+    const members = membersIn(desk, room);
+    if (fits(words, [`room ${room}`, nameOf(names, "room", room)])) return { room, members };
+    return { room, members: members.filter((member) => memberFits(desk, names, member, words)) };
+  }).filter(({ room, members }) => members.length > 0 || fits(words, [`room ${room}`, nameOf(names, "room", room)]));
+  const text = ({ room }) => nameOf(names, "room", room).toLowerCase() || "\uffff";
+  const order = { number: (a, b) => a.room - b.room, members: (a, b) => b.members.length - a.members.length,
+    name: (a, b) => text(a).localeCompare(text(b)) };
+  return found.sort((a, b) => order[sort](a, b) || a.room - b.room);
+}
+
+// Groups. One of one command is that command, and none is nothing.
+const MOST_PARTS = 64;
+function grouped(parts) { return parts.length < 2 ? parts[0] ?? null : lines.group(parts); }
+function voicesOf(desk, members, muted) {
+  return members.flatMap((member) => sourcesOf(desk, member, "audio")).filter((s) => desk.mutes.has(s.ssrc) === muted);
+}
+// Mutes members, or unmutes them where all are muted already.
+function toggled(desk, members) {
+  const loud = voicesOf(desk, members, false).map((s) => lines.mute(s.ssrc));
+  return loud.length ? loud : voicesOf(desk, members, true).map((s) => lines.unmute(s.ssrc));
+}
+function othersMuted(desk, member) {
+  const others = membersIn(desk, memberOf(desk, member).room).map((m) => m.member).filter((m) => m !== member);
+  return voicesOf(desk, others, false).map((s) => lines.mute(s.ssrc));
+}
+function movedAll(desk, members, room) {
+  const moving = members.map((number) => memberOf(desk, number)).filter((m) => m && m.room !== room);
+  return moving.map((m) => lines.moveMember(m.member, room));
+}
+
+// What goes along with a room: a count of each kind.
+function goesAlong(desk, room) {
+  const members = membersIn(desk, room).map((m) => m.member);
+  const counts = [["member", members.length], ["source", members.flatMap((m) => sourcesOf(desk, m)).length],
+    ["slot", members.flatMap((m) => slotsOf(desk, m)).length]];
+  return counts.map(([what, count]) => `${count} ${what}${count === 1 ? "" : "s"}`).join(", ");
+}

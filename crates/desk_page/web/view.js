@@ -1,0 +1,204 @@
+// Drawing.
+// What is drawn is changed in place, so that focus, scrolling and what is typed stay.
+const at = (id) => document.getElementById(id);
+
+// An element with attributes, and children behind one another. `line` is the line that a click sends.
+function el(tag, props, ...children) {
+  const node = document.createElement(tag);
+  for (const [name, value] of Object.entries(props ?? {})) {
+    if (value === null || value === undefined || value === false) continue;
+    node.setAttribute(name, value === true ? "" : value);
+  }
+  node.append(...children.flat().filter((child) => child !== null && child !== undefined && child !== ""));
+  return node;
+}
+const soft = (...text) => el("span", { class: "soft" }, ...text);
+const code = (text) => el("code", {}, text);
+// A name may run from right to left, so that it stands by itself.
+const bdi = (text) => el("bdi", {}, text);
+
+// A button that sends a line, which it shows when it is pointed at or reached by Tab. `what` tells its object.
+function sends(text, line, what, kind = "") {
+  return el("button", { type: "button", class: `small ${kind}`, title: line, "data-key": line, "data-line": line,
+    "aria-label": `${text} ${what}` }, text);
+}
+// A button that the page acts on itself.
+function does(text, act, of, what, more = {}) {
+  return el("button", { type: "button", class: "small", "data-key": `${act} ${of}`, "data-act": act, "data-of": of,
+    "aria-label": `${text} ${what}`, ...more }, text);
+}
+// A choice that sends the line `PREFIX CHOSEN`, or hands what is chosen to an act. It is filled once it is opened.
+function chooses(text, what, key, more) {
+  return el("select", { class: "small", "aria-label": `${text} ${what}`, "data-key": key, "data-choice": key, ...more },
+    el("option", { value: "" }, text));
+}
+
+// Whether an operator is at a field just now.
+const touched = new Set();
+const isBusy = (node) => node === document.activeElement || touched.has(node.dataset.key);
+
+// Makes a node look like another one, and keeps all of it that is so already.
+function morph(node, next) {
+  if (node.nodeType === Node.TEXT_NODE) {
+    if (node.data !== next.data) node.data = next.data;
+    return;
+  }
+  for (const { name } of [...node.attributes]) if (!next.hasAttribute(name)) node.removeAttribute(name);
+  for (const { name, value } of next.attributes) if (node.getAttribute(name) !== value) node.setAttribute(name, value);
+  if (node.tagName === "INPUT") {
+    if (!isBusy(node) && node.type === "range") node.value = next.value;
+    if (node.type === "checkbox") node.checked = next.checked;
+  }
+  if (node.tagName !== "SELECT" || !isBusy(node)) morphChildren(node, [...next.childNodes]);
+}
+const keyOf = (node) => node.dataset?.key ?? node.id ?? "";
+const isLike = (node, next) => node.nodeName === next.nodeName && keyOf(node) === keyOf(next);
+function morphChildren(node, nexts) {
+  const keys = new Set(nexts.map(keyOf).filter((key) => key));
+  for (const child of [...node.childNodes]) if (keyOf(child) && !keys.has(keyOf(child))) child.remove();
+  let place = node.firstChild;
+  for (const next of nexts) {
+    if (place && isLike(place, next)) {
+      morph(place, next);
+      place = place.nextSibling;
+    } else {
+      node.insertBefore(next, place);
+      if (place && !keyOf(place) && !keyOf(next)) {
+        const gone = place;
+        place = place.nextSibling;
+        gone.remove();
+      }
+    }
+  }
+  while (place) {
+    const gone = place;
+    place = place.nextSibling;
+    gone.remove();
+  }
+}
+
+// Draws a list into a node: each item with its key and a model. An item whose model is as before isn't drawn again, nor
+// is one that is known to be kept.
+function drawList(node, items, draw) {
+  const known = node.drawn ?? new Map(), drawn = new Map();
+  const keys = new Set(items.map((item) => item.key));
+  for (const [key, entry] of known) if (!keys.has(key)) entry.node.remove();
+  let place = node.firstElementChild;
+  for (const item of items) {
+    let entry = known.get(item.key);
+    const look = item.isKept && entry ? entry.look : JSON.stringify(item.model);
+    if (!entry) entry = { node: draw(item), look };
+    else if (entry.look !== look) {
+      morph(entry.node, draw(item));
+      entry.look = look;
+    }
+    if (entry.node === place) place = place.nextElementSibling;
+    else node.insertBefore(entry.node, place);
+    drawn.set(item.key, entry);
+  }
+  node.drawn = drawn;
+  return drawn;
+}
+
+// A name and the number behind it, or what it is and the number.
+function titled(name, kind, number) {
+  return name ? [bdi(name), soft(` ${kind} ${number}`)] : [`${kind} ${number}`];
+}
+const spoken = (name, kind, number) => (name ? `${name}, ${kind} ${number}` : `${kind} ${number}`);
+
+// A member's line of the overview.
+function memberRow({ model, room }) {
+  const { member, name, floor, muted, odd, hasAudio, isOpen, isChosen, isHere } = model;
+  const who = spoken(name, "member", member);
+  const sent = model.sends.flatMap((s, place) => [place ? ", " : null,
+    el("span", { class: `source${s.muted ? " muted" : ""}`, draggable: s.kind === "video" ? "true" : null,
+      "data-source": s.ssrc }, `${s.kind} ${labelled(s.name, s.ssrc)}`)]);
+  const seenWords = model.sees.map((s) => (s.source === null ? "nothing" : s.label)).join(", ");
+  return el("div", { class: `member${odd ? " odd" : ""}${isOpen ? " open" : ""}`, role: "listitem", draggable: "true",
+    "data-member": member, "data-room-of": room, "data-key": `member ${member}` },
+    el("input", { type: "checkbox", tabindex: -1, "data-select": member, checked: isChosen,
+      "aria-label": `Select ${who}` }),
+    el("button", { type: "button", class: "who", tabindex: isHere ? 0 : -1, "data-act": "open", "data-of": member,
+      "data-key": `open ${member}`, "aria-expanded": String(isOpen), "aria-label": `Open ${who}` },
+      ...titled(name, "member", member)),
+    el("span", { class: "sends soft" }, ...(sent.length ? sent : ["sends nothing"])),
+    el("span", { class: "sees soft" }, model.sees.length ? `sees ${seenWords}` : ""),
+    el("span", {}, floor ? el("span", { class: `tag${odd ? " bad" : ""}` }, odd ? "floor, muted" : "floor") : "",
+      muted && !floor ? el("span", { class: "tag bad" }, "muted") : ""),
+    hasAudio ? does(muted ? "Unmute" : "Mute", "toggle", member, who, { tabindex: -1, "aria-keyshortcuts": "m" }) :
+      el("span", {}));
+}
+
+// A room of the overview: its head, and a list for its members.
+function roomHead(model) {
+  const { room, name, isFolded, floor, pin } = model, what = spoken(name, "room", room);
+  const people = `${model.members} member${model.members === 1 ? "" : "s"}`;
+  const counts = model.muted ? `${people}, ${model.muted} muted` : people;
+  return el("div", { class: `head${model.odd ? " odd" : ""}` },
+    el("button", { type: "button", class: "fold", "data-act": "fold", "data-of": room, "data-key": `fold ${room}`,
+      "aria-expanded": String(!isFolded), "aria-label": `${isFolded ? "Unfold" : "Fold"} ${what}` },
+      isFolded ? "\u25b8" : "\u25be"),
+    el("h3", { id: `room-${room}` }, ...titled(name, "room", room)),
+    model.music ? el("span", { class: "soft rate" }, `${MUSIC} Hz`) : "",
+    el("span", { class: "soft grow count" }, counts),
+    pin ? el("span", { class: "tag" }, bdi(pin.label), " is pinned") : "",
+    pin ? sends("Unpin", lines.unpin(room), `${pin.label} in ${what}`) : "",
+    floor ? el("span", { class: `tag${model.odd ? " bad" : ""}` }, "floor: ", bdi(floor.label),
+      model.odd ? ", muted" : "") : "",
+    floor ? sends("Take floor", lines.takeFloor(room), `from ${floor.label} in ${what}`) : "",
+    does("Name", "name", `room ${room}`, what),
+    does("Remove room", "remove-room", room, what, { class: "small danger", title: lines.removeRoom(room) }));
+}
+function roomCard({ model }) {
+  return el("section", { class: "room", "data-room": model.room, "data-key": `room ${model.room}`,
+    "aria-labelledby": `room-${model.room}` }, roomHead(model),
+    el("div", { class: "members", role: "list", "data-key": `members ${model.room}`, hidden: model.isFolded,
+      "aria-label": `Members of ${spoken(model.name, "room", model.room)}` }));
+}
+
+// The panel of one member.
+function gainRow(member, who, { ssrc, gain, label }) {
+  const line = lines.setGain(member, ssrc, "");
+  return el("div", { class: "row", "data-key": `gain row ${ssrc}` },
+    el("span", { class: "what grow" }, bdi(label), soft(` x${(gain / 256).toFixed(2)}`)),
+    el("input", { type: "range", min: 0, max: 1024, step: 32, value: gain, "data-key": `gain ${member} ${ssrc}`,
+      "data-gain": line, "aria-label": `Gain of ${label} for ${who}`, title: `${line}${gain}` }),
+    sends("Reset", lines.setGain(member, ssrc, 256), `the gain of ${label} for ${who}`));
+}
+function sourceRow(room, { ssrc, kind, muted, name, isPinned }) {
+  const what = `${kind} ${labelled(name, ssrc)}`;
+  return el("div", { class: "row", "data-key": `source row ${ssrc}` },
+    el("span", { class: `what grow source${muted ? " muted" : ""}`, "data-source": ssrc,
+      draggable: kind === "video" ? "true" : null }, `${kind} `, bdi(labelled(name, ssrc))),
+    muted ? sends("Unmute", lines.unmute(ssrc), what) : sends("Mute", lines.mute(ssrc), what),
+    kind === "video" && !isPinned ? sends("Pin", lines.pin(room, ssrc), what) : "",
+    does("Name", "name", `source ${ssrc}`, what),
+    sends("Remove", lines.removeSource(ssrc), what, "danger"));
+}
+function slotRow({ slot, index, source, label, by: rule, why, isSubscribed }) {
+  const word = { sub: "subscribed", pin: "by the pin", floor: "by the floor" }[rule];
+  return el("div", { class: "row slot", "data-slot": slot, "data-key": `slot row ${slot}` },
+    el("span", { class: "what grow" }, `slot ${index} `, soft(`(${slot}): `),
+      ...(source === null ? [soft(`nothing, ${why}`)] : [bdi(label), soft(` ${word}`)])),
+    chooses("Subscribe", `slot ${slot}`, `subscribe ${slot}`),
+    isSubscribed ? sends("Unsubscribe", lines.unsubscribe(slot), `slot ${slot}`) : "",
+    sends("Remove", lines.removeSlot(slot), `slot ${slot}`, "danger"));
+}
+function detailPanel(model) {
+  const { member, name, room, roomLabel } = model, who = spoken(name, "member", member);
+  const part = (title, rows, none) => [el("h3", { "data-key": title }, title), ...(rows.length ? rows : [soft(none)])];
+  return el("section", { id: "detail", "aria-labelledby": "detail-title", "data-member-open": member },
+    el("div", { class: "row" }, el("h2", { id: "detail-title", class: "grow" }, ...titled(name, "member", member)),
+      does("Name", "name", `member ${member}`, who), does("Close", "close", member, who)),
+    el("div", { class: "soft address" }, "in ", bdi(roomLabel), `, ${model.address} ${model.codec}, mix ${model.mix}`),
+    el("div", { class: "row" },
+      model.floor ? sends("Take floor", lines.takeFloor(room), `from ${who}`) :
+        sends("Give floor", lines.giveFloor(room, member), `to ${who}`),
+      chooses("Move to room", who, `move-member ${member}`),
+      model.others ? does("Mute all others", "mute-others", member, `of the room of ${who}`) : "",
+      sends("Remove", lines.removeMember(member), who, "danger")),
+    ...part("Sends", model.sources.map((s) => sourceRow(room, s)), "nothing"),
+    ...part("Sees", model.slots.map(slotRow), "it has no slot"),
+    ...part("Hears", model.gains.map((g) => gainRow(member, who, g)), "all at their own level"),
+    model.hears ? chooses("Set gain of", `for ${who}`, `gain-of ${member}`) : "");
+}

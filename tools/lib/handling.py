@@ -1,0 +1,230 @@
+"""What operators do at the page by hand, each tried in two browsers: sliders, keys, names, many members, and large desks."""
+
+import json
+import statistics
+import time
+
+from lib.shared import fail
+
+REST = 0.4
+# A change of a large desk costs at most so many times what it costs with one room of two.
+MOST_TIMES = 4
+# Two screens of 1280 by 900.
+TWO_SCREENS = 1800
+NAMES = {"member 10": "Alice", "member 11": "بوب 🎤", "room 1": "<script>document.title = 'no'</script>", "source 201": "n" * 200}
+# Numbers that each control's label has to have, unless it stands for the whole page.
+UNNAMED = """[...document.querySelectorAll("main button, main input, main select")].filter((n) => n.offsetParent &&
+  !(n.ariaLabel || n.labels?.length || n.textContent.trim())).map((n) => n.outerHTML)"""
+TWINS = """(() => { const all = [...document.querySelectorAll("#board button, #detail button, #board input, #detail select")]
+  .filter((n) => n.offsetParent).map((n) => n.ariaLabel); return all.filter((one, at) => all.indexOf(one) !== at); })()"""
+SMALL = """[...document.querySelectorAll("button, select, input")].filter((n) => n.offsetParent).filter((n) => {
+  const { width, height } = n.getBoundingClientRect(); return height < 24 || width < 16; }).map((n) => n.outerHTML)"""
+LEVELS = '[...document.querySelectorAll("h1, h2, h3, h4")].filter((n) => n.offsetParent).map((n) => Number(n.tagName[1]))'
+
+
+def check(holds, text):
+    if not holds:
+        fail(text)
+
+
+def version(browser):
+    return browser.run("desk.version")
+
+
+def reaches(browser, number, what):
+    """The page is at a version, and stays there."""
+    browser.wait(f"desk.version >= {number}")
+    time.sleep(REST + 0.4)
+    check(version(browser) == number, f"{what} takes more than one call: {version(browser)} in place of {number}")
+
+
+def last_line(browser):
+    return browser.run("desk.calls[desk.calls.length - 1].line")
+
+
+def slides(browser, other):
+    """A slider that a pointer drags, or a key moves, changes the gain by one call, and nothing else."""
+    browser.run("if (opened !== 10) acts.open(10); widened.add('10 202'); render(); true")
+    before, rooms = version(browser), browser.run("desk.rows.filter((row) => row.startsWith('member '))")
+    slider = '[data-key="gain 10 202"]'
+    browser.run(f"document.querySelector({json.dumps(slider)}).scrollIntoView({{ block: 'center' }}), true")
+    x, y, width, height = browser.place(slider)
+    y += height / 2
+    browser.mouse("mousePressed", x + width / 4, y)
+    for part in range(5, 13):
+        browser.mouse("mouseMoved", x + width * part / 16, y)
+        time.sleep(0.03)
+    browser.mouse("mouseMoved", x + width * 3 / 4, y + 60)
+    browser.mouse("mouseReleased", x + width * 3 / 4, y + 60)
+    reaches(browser, before + 1, "a slider that is dragged")
+    check(last_line(browser).startswith("set-gain 10 202 "), f"a dragged slider sends {last_line(browser)}")
+    check(browser.run("desk.rows.filter((row) => row.startsWith('member '))") == rooms, "a dragged slider moves a member")
+    browser.run(f"document.querySelector({json.dumps(slider)}).focus(), true")
+    for _ in range(5):
+        browser.press("ArrowLeft", 37)
+    reaches(browser, before + 2, "a slider that five keys move")
+    browser.wait(f"document.activeElement.dataset.key === 'gain 10 202'")
+    other.wait(f"desk.version === {before + 2}")
+
+
+def keeps_what_is_typed(browser, ask):
+    """Another operator's change overwrites no field that is typed into, and leaves focus and scrolling as they are."""
+    browser.run("document.getElementById('search').blur(), window.scrollTo(0, 120), document.querySelector('#add-member [name=member]').focus({ preventScroll: true }), true")
+    browser.run("document.activeElement.select(), true")
+    browser.types("77")
+    browser.run("document.querySelector('#add-member [name=address]').focus({ preventScroll: true }), true")
+    before, scrolled = version(browser), browser.run("window.scrollY")
+    check(ask("mute 202") == f"ok {before + 1}", "another operator's mute is refused")
+    browser.wait(f"desk.version === {before + 1}")
+    said = browser.run("[document.querySelector('#add-member [name=member]').value, document.activeElement.name, window.scrollY]")
+    check(said == ["77", "address", scrolled], f"after another operator's change the field, the focus and the scrolling are {said}")
+    check(ask("unmute 202") == f"ok {before + 2}", "another operator's unmute is refused")
+    browser.wait(f"desk.version === {before + 2}")
+    browser.run("document.querySelector('#add-member [name=member]').value = '', true")
+
+
+def presses_keys(browser):
+    """`/` searches, `m` mutes, Ctrl+Z undoes by its words, and Ctrl+Shift+Z does it again."""
+    before = version(browser)
+    browser.run("document.activeElement.blur(), document.querySelector('[data-key=\"open 11\"]').focus(), true")
+    browser.press("m", 77)
+    reaches(browser, before + 1, "the key m")
+    check(last_line(browser) == "mute 202", f"the key m sends {last_line(browser)}")
+    browser.press("z", 90, modifiers=2)
+    reaches(browser, before + 2, "Ctrl+Z")
+    browser.wait("document.getElementById('notice').textContent.startsWith('Undo: mute 202: accepted')")
+    browser.press("z", 90, modifiers=10)
+    reaches(browser, before + 3, "Ctrl+Shift+Z")
+    browser.wait("document.getElementById('notice').textContent.startsWith('Redo: mute 202: accepted')")
+    browser.press("/", 191)
+    browser.types("202")
+    browser.wait("document.querySelectorAll('#board .member').length === 1 && document.querySelector('#board [data-member=\"11\"]') !== null")
+    browser.press("Escape", 27)
+    browser.wait("document.querySelectorAll('#board .member').length > 1")
+    browser.run("document.activeElement.blur(), true")
+
+
+def acts_on_many(browser):
+    """Members that are selected move as one group, all but one are muted as one, and a room of five asks before it goes."""
+    before = version(browser)
+    for member in 10, 11:
+        browser.click(f'[data-select="{member}"]')
+    browser.run("const many = document.querySelector('[data-choice=\"move-chosen\"]'); offer(many); many.value = '2'; many.dispatchEvent(new Event('change', { bubbles: true })); true")
+    reaches(browser, before + 1, "a move of two members")
+    check(last_line(browser) == "group move-member 10 2 / move-member 11 2", f"two members move by {last_line(browser)}")
+    browser.run("document.getElementById('undo').click(), acts.clear(), true")
+    reaches(browser, before + 2, "an undo")
+    browser.run("acts['mute-others'](11), true")
+    reaches(browser, before + 3, "a mute of all but one")
+    check(last_line(browser) == "mute 201", f"all but member 11 are muted by {last_line(browser)}")
+    browser.run("document.getElementById('undo').click(), true")
+    reaches(browser, before + 4, "an undo")
+
+
+def asks_before(browser, ask):
+    """A room of more than four members goes only once it was asked what goes along."""
+    before = version(browser)
+    parts = ["add-room 9"] + [f"add-member {it} 9 10.9.0.{it - 900}:5000 pcmu {9900 + it} 0 0" for it in range(901, 906)]
+    check(ask("group " + " / ".join(parts)) == f"ok {before + 1}", "a group is refused")
+    browser.wait(f"desk.version === {before + 1}")
+    for choice, wanted in ("ask-no", before + 1), ("ask-yes", before + 2):
+        browser.run("acts['remove-room'](9), true")
+        browser.wait("document.getElementById('ask').open && document.getElementById('ask-text').textContent.startsWith('5 members, 0 sources, 0 slots go along')")
+        browser.run(f"document.getElementById('{choice}').click(), true")
+        reaches(browser, wanted, "the removal of a room")
+
+
+def shows_stale(browser, go, come):
+    """Once the bridge is gone, the desk is shown as stale and nothing of it can be pressed. `go` and `come` take the bridge away and back."""
+    before = version(browser)
+    go()
+    browser.wait("document.body.classList.contains('gone') && document.getElementById('main').inert")
+    told = browser.run("document.getElementById('status').textContent")
+    check(told.startswith("The bridge is gone.") and "as it was at" in told, f"once the bridge is gone the page says {told}")
+    browser.click('[data-key="open 10"]')
+    browser.run("document.getElementById('undo').click(), true")
+    come()
+    browser.wait("!document.body.classList.contains('gone')")
+    check(version(browser) == before, "a click on a stale desk has changed it")
+
+
+def names_things(one, other):
+    """Names are shown to all, as text; two browsers that name at once lose nothing."""
+    for what, name in NAMES.items():
+        kind, number = what.split()
+        one.run(f"rename('{kind}', {number}, {json.dumps(name)}), true")
+        other.wait(f"names[{json.dumps(what)}] === {json.dumps(name)}")
+    check(other.run("document.title") != "no" and other.run("document.querySelector('#board script')") is None, "a name is run as a script")
+    check("بوب 🎤" in other.run("document.querySelector('[data-key=\"open 11\"]').textContent"), "a member's name isn't shown")
+    check(other.run("document.documentElement.scrollWidth <= innerWidth"), "a name of 200 characters makes the page wider than the window")
+    for browser, number, name in (one, 101, "camera"), (other, 202, "microphone"):
+        browser.run(f"rename('source', {number}, '{name}'), true")
+    for browser in one, other:
+        browser.wait("names['source 101'] === 'camera' && names['source 202'] === 'microphone' && names['member 10'] === 'Alice'")
+    one.run("rename('source', 201, ''), rename('room', 1, 'Sales'), true")
+    other.wait("!('source 201' in names) && names['room 1'] === 'Sales'")
+    check("Sales" in other.run("document.querySelector('#room-1').textContent"), "a room's name isn't shown")
+    check(other.run("sourceName(names, desk, 201)") == "Alice", "a source without a name hasn't its member's")
+
+
+def is_for_everyone(browser):
+    """Controls have names that tell their objects, headings go in order, and targets have 24 pixels."""
+    browser.run("if (opened !== 11) acts.open(11); true")
+    for script, what in (UNNAMED, "have no name"), (TWINS, "share a name"), (SMALL, "are under 24 pixels"):
+        found = browser.run(script)
+        check(not found, f"controls {what}: {found}")
+    levels = browser.run(LEVELS)
+    check(levels[0] == 1 and all(b - a <= 1 for a, b in zip(levels, levels[1:])), f"the headings' levels are {levels}")
+
+
+def costs(browser, ask, ssrc):
+    """What a change costs the tab, in milliseconds of processor time: the median of some mutes and unmutes by another operator."""
+    times = []
+    for at in range(10):
+        browser.run("clearTimeout(timer), asking = true, true")
+        said = ask(f"{'un' * (at % 2)}mute {ssrc}")
+        check(said.startswith("ok "), f"another operator's change is told {said}")
+        browser.run("window.got = ask('/desk').then((reply) => reply.text()).then((text) => { window.got = text; return true; })")
+        begun = browser.used()
+        browser.run("take(got).then(() => document.body.offsetHeight)")
+        times.append(browser.used() - begun)
+    browser.run("asking = false, show(), true")
+    return statistics.median(times[2:])
+
+
+def opens(browser, port):
+    browser.open(f"http://127.0.0.1:{port}/")
+    browser.wait("typeof desk !== 'undefined' && desk !== null && document.title.startsWith('Desk, version')", 60)
+
+
+def stays_small(browser, desks):
+    """A room of 64 fits two screens, and a change of 64 rooms of 16 costs little more than one of a room of two. `desks` has for
+    each of the three a port, another operator's call, and a source."""
+    (two, ask_two, in_two), (room, _, _), (many, ask_many, in_many) = desks
+    opens(browser, room)
+    browser.run("acts.close(), true")
+    height = browser.run("document.getElementById('rooms').getBoundingClientRect().bottom + scrollY")
+    check(browser.run("document.querySelectorAll('#board .member').length") == 64, "a room of 64 doesn't show 64 members")
+    check(height <= TWO_SCREENS, f"a room of 64 is {height} pixels high")
+    opens(browser, two)
+    least = costs(browser, ask_two, in_two)
+    opens(browser, many)
+    folded = costs(browser, ask_many, in_many)
+    browser.run("document.getElementById('fold').click(), true")
+    browser.wait("document.querySelectorAll('#board .member').length === 1024")
+    unfolded = costs(browser, ask_many, in_many)
+    browser.run("document.getElementById('search').value = '64015', render(), true")
+    browser.wait("document.querySelectorAll('#board .member').length === 1")
+    browser.run("document.getElementById('search').value = '', render(), true")
+    print(f"a room of 64 is {height:.0f} pixels high; a change costs {least:.1f} ms with a room of two, {folded:.1f} ms with 64 rooms of 16, {unfolded:.1f} ms unfolded")
+    check(max(folded, unfolded) <= MOST_TIMES * least, f"a change of 64 rooms of 16 costs over {MOST_TIMES} times one of a room of two")
+
+
+def handle(one, other, ask):
+    """Goes through all of this with a desk of two members, as a session leaves it."""
+    slides(one, other)
+    keeps_what_is_typed(one, ask)
+    presses_keys(one)
+    acts_on_many(one)
+    asks_before(one, ask)
+    is_for_everyone(one)
