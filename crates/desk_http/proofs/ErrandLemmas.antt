@@ -1,6 +1,6 @@
 -- A line goes to the bridge once at most.
 use Rattle.std.proofs.Common.{◌≡◌, ℕ, ◌≤◌, Bool, true, false, List, [], ◌∷◌, ◌++◌, length, refl, sym, subst, arith}
-use Rattle.desk_http.specs.Errands.{Event, wants, takes, takes_show, takes_call, Stage, hearing, waiting, handed, lines_given, listed, line_if, after_take_if, has_show, has_call}
+use Rattle.desk_http.specs.Errands.{Event, wants, takes, takes_show, takes_call, takes_names, Stage, hearing, waiting, handed, lines_given, listed, line_if, after_take_if, has_show, has_call, has_names_line}
 
 -- once it was handed over, nothing goes
 pub given-handed : (events : List Event) → lines_given events handed ≡ []
@@ -8,6 +8,7 @@ given-handed [] = refl
 given-handed (wants line ∷ events) = given-handed events
 given-handed (takes_show ∷ events) = given-handed events
 given-handed (takes_call ∷ events) = given-handed events
+given-handed (takes_names ∷ events) = given-handed events
 given-handed (takes ∷ events) = given-handed events
 
 -- a line that goes is the last one
@@ -26,6 +27,7 @@ given-waiting [] line = omega arith
 given-waiting (wants other ∷ events) line = given-waiting events line
 given-waiting (takes_show ∷ events) line = once_if (has_show (waiting line)) events line (given-waiting events line)
 given-waiting (takes_call ∷ events) line = once_if (has_call (waiting line)) events line (given-waiting events line)
+given-waiting (takes_names ∷ events) line = once_if (has_names_line (waiting line)) events line (given-waiting events line)
 given-waiting (takes ∷ events) line = only_one events line
 
 pub given-hearing : (events : List Event) → length (lines_given events hearing) ≤ 1
@@ -33,4 +35,5 @@ given-hearing [] = omega arith
 given-hearing (wants line ∷ events) = given-waiting events line
 given-hearing (takes_show ∷ events) = given-hearing events
 given-hearing (takes_call ∷ events) = given-hearing events
+given-hearing (takes_names ∷ events) = given-hearing events
 given-hearing (takes ∷ events) = given-hearing events

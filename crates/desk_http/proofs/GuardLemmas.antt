@@ -5,13 +5,13 @@ use Rattle.http.specs.Request.{head_of, body_of}
 use Rattle.http_uri.specs.Uri.{uri_path}
 use Rattle.desk_http.specs.declared.site.Site.{Site}
 use Rattle.desk_http.specs.declared.asking.Wish.{Wish}
-use Rattle.desk_http.specs.declared.asking.Wish.TheVariants.{Page, Script, Style, Desk, Call, Refused}
+use Rattle.desk_http.specs.declared.asking.Wish.TheVariants.{Page, Script, Style, Desk, Call, Names, Rename, Refused}
 use Rattle.desk_http.specs.declared.asking.PageRefusal.{PageRefusal}
-use Rattle.desk_http.specs.declared.asking.PageRefusal.TheVariants.{ForeignHost, ForeignOrigin, NotAllowed, NoToken, NoLine, Reserved}
+use Rattle.desk_http.specs.declared.asking.PageRefusal.TheVariants.{ForeignHost, ForeignOrigin, NotAllowed, NoToken, NoLine, Reserved, NoNames}
 use Rattle.desk_http.specs.declared.asking.SitePlace.{SitePlace}
 use Rattle.desk_http.specs.declared.asking.SitePlace.TheVariants as places
-use Rattle.desk_http.specs.Asked.{wish_of, wish_at, call_wish, line_wish, place_at, has_own_host, has_own_origin, has_token, is_method}
-use Rattle.desk_http.specs.Lines.{is_line, is_reserved}
+use Rattle.desk_http.specs.Asked.{wish_of, wish_at, call_wish, names_wish, line_wish, place_at, has_own_host, has_own_origin, has_token, is_method}
+use Rattle.desk_http.specs.Lines.{is_line, is_reserved, is_change}
 use Rattle.desk_http.specs.Guarded.{Passes}
 
 -- a wish behind two tests is a call only where both pass
@@ -33,6 +33,22 @@ got_no : (a : Bool) (w : Wish) → (w ≡ Call → ⊥) → (if a then w else Re
 got_no true w h e = h e
 got_no false w h e = cc
 
+-- a change of names is no call
+change_no : (a : Bool) → (if a then Rename else Refused NoNames) ≡ Call → ⊥
+change_no true e = cc
+change_no false e = cc
+
+-- and neither is another request for names
+names_no : (a b c d : Bool) → (if a then (if c then (if d then Rename else Refused NoNames) else Refused NoToken)
+    else (if b then Names else Refused NotAllowed)) ≡ Call → ⊥
+names_no false b c d e = got_no b Names (λ h. cc) e
+names_no true b false d e = cc
+names_no true b true d e = change_no d e
+
+no_names_call : (site : Site) (request : Request (List ℕ)) → names_wish site request ≡ Call → ⊥
+no_names_call site request e =
+    names_no (is_method request (codes "POST")) (is_method request (codes "GET")) (has_token site request) (is_change (body_of request)) e
+
 -- a call is at its path
 at_call : (site : Site) (request : Request (List ℕ)) (p : Option SitePlace) → wish_at site request p ≡ Call → call_wish site request ≡ Call
 at_call site request None e = absurd (cc)
@@ -41,6 +57,7 @@ at_call site request (Some places.Script) e = absurd (got_no (is_method request 
 at_call site request (Some places.Style) e = absurd (got_no (is_method request (codes "GET")) Style (λ h. cc) e)
 at_call site request (Some places.Desk) e = absurd (got_no (is_method request (codes "GET")) Desk (λ h. cc) e)
 at_call site request (Some places.Call) e = e
+at_call site request (Some places.Names) e = absurd (no_names_call site request e)
 
 pub call-passes : (site : Site) (request : Request (List ℕ)) → wish_of site request ≡ Call → Passes site request
 call-passes site request e =

@@ -8,7 +8,7 @@ use Rattle.desk_http.specs.declared.site.Files.{Files}
 use Rattle.desk_http.specs.declared.asking.Wish.{Wish}
 use Rattle.desk_http.specs.declared.asking.Wish.TheVariants as wishes
 use Rattle.desk_http.specs.declared.asking.PageRefusal.{PageRefusal}
-use Rattle.desk_http.specs.declared.asking.PageRefusal.TheVariants.{ForeignHost, ForeignOrigin, NotFound, NotAllowed, NoToken, NoLine, Reserved}
+use Rattle.desk_http.specs.declared.asking.PageRefusal.TheVariants.{ForeignHost, ForeignOrigin, NotFound, NotAllowed, NoToken, NoLine, Reserved, NoNames}
 use Rattle.desk_http.specs.declared.answering.Told.{Told}
 use Rattle.desk_http.specs.declared.answering.Told.TheVariants.{Said, Busy, Gone, Lost}
 
@@ -68,22 +68,24 @@ refusal_status NotAllowed = 405
 refusal_status NoToken = 403
 refusal_status NoLine = 400
 refusal_status Reserved = 400
+refusal_status NoNames = 400
 
 -- a refusal in words, its name first
 abbrev pub refusal_text : PageRefusal → List ℕ
 refusal_text ForeignHost = codes "ForeignHost: this page answers to its own address alone\n"
 refusal_text ForeignOrigin = codes "ForeignOrigin: this page takes nothing from other pages\n"
-refusal_text NotFound = codes "NotFound: the paths are / and /page.js, /page.css, /desk, /call\n"
-refusal_text NotAllowed = codes "NotAllowed: POST to /call, GET elsewhere\n"
+refusal_text NotFound = codes "NotFound: the paths are / and /page.js, /page.css, /desk, /call, /names\n"
+refusal_text NotAllowed = codes "NotAllowed: POST to /call, GET or POST to /names, GET elsewhere\n"
 refusal_text NoToken = codes "NoToken: load the page again, its token is of an earlier run\n"
 refusal_text NoLine = codes "NoLine: a call is one line of 1 to 4096 printed octets\n"
-refusal_text Reserved = codes "Reserved: show, quit and stop are not for the page\n"
+refusal_text Reserved = codes "Reserved: show, quit, stop and names are not for the page\n"
+refusal_text NoNames = codes "NoNames: a change is the word names, the version that was seen, and a JSON object of texts\n"
 
 -- the reply to a request that is refused
 abbrev pub refusal_reply : PageRefusal → Reply
 refusal_reply refusal = text_reply (refusal_status refusal) (refusal_text refusal)
 
--- what stands for a reply while the bridge is asked; no browser gets it
+-- what stands for a reply while the bridge, or the file of names, is asked; no browser gets it
 abbrev pub waiting_reply : Reply
 waiting_reply = text_reply 503 (codes "Waiting: the bridge is asked\n")
 
@@ -94,6 +96,8 @@ reply_of site files wishes.Script = script_reply files
 reply_of site files wishes.Style = record { status = 200; kind = style_kind; body = files.style.now }
 reply_of site files wishes.Desk = waiting_reply
 reply_of site files wishes.Call = waiting_reply
+reply_of site files wishes.Names = waiting_reply
+reply_of site files wishes.Rename = waiting_reply
 reply_of site files (wishes.Refused refusal) = refusal_reply refusal
 
 -- the reply by what the bridge said

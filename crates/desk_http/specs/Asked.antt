@@ -9,10 +9,10 @@ use Rattle.http_uri.specs.Uri.{uri_path}
 use Rattle.desk_http.specs.declared.site.Site.{Site}
 use Rattle.desk_http.specs.declared.asking.Wish.{Wish}
 use Rattle.desk_http.specs.declared.asking.Wish.TheVariants as wishes
-use Rattle.desk_http.specs.declared.asking.PageRefusal.TheVariants.{ForeignHost, ForeignOrigin, NotFound, NotAllowed, NoToken, NoLine, Reserved}
+use Rattle.desk_http.specs.declared.asking.PageRefusal.TheVariants.{ForeignHost, ForeignOrigin, NotFound, NotAllowed, NoToken, NoLine, Reserved, NoNames}
 use Rattle.desk_http.specs.declared.asking.SitePlace.{SitePlace}
 use Rattle.desk_http.specs.declared.asking.SitePlace.TheVariants as places
-use Rattle.desk_http.specs.Lines.{is_line, is_reserved}
+use Rattle.desk_http.specs.Lines.{is_line, is_reserved, is_change}
 
 -- the name ends with port 80
 abbrev pub has_port_80 : List ℕ → Bool
@@ -63,6 +63,7 @@ place_at path =
     else if bytes_eq path (codes "/page.css") then Some places.Style
     else if bytes_eq path (codes "/desk") then Some places.Desk
     else if bytes_eq path (codes "/call") then Some places.Call
+    else if bytes_eq path (codes "/names") then Some places.Names
     else None
 
 -- what a call with this body asks for
@@ -83,6 +84,18 @@ call_wish site request =
 abbrev pub got : Request (List ℕ) → Wish → Wish
 got request wish = if is_method request (codes "GET") then wish else wishes.Refused NotAllowed
 
+-- what new names in this body ask for
+abbrev pub change_wish : List ℕ → Wish
+change_wish body = if is_change body then wishes.Rename else wishes.Refused NoNames
+
+-- what a POST to `/names` asks for: it needs the token
+abbrev pub renaming_wish : Site → Request (List ℕ) → Wish
+renaming_wish site request = if has_token site request then change_wish (body_of request) else wishes.Refused NoToken
+
+-- what a request to `/names` asks for
+abbrev pub names_wish : Site → Request (List ℕ) → Wish
+names_wish site request = if is_method request (codes "POST") then renaming_wish site request else got request wishes.Names
+
 -- what a request of the page's own asks for
 abbrev pub wish_at : Site → Request (List ℕ) → Option SitePlace → Wish
 wish_at site request None = wishes.Refused NotFound
@@ -91,6 +104,7 @@ wish_at site request (Some places.Script) = got request wishes.Script
 wish_at site request (Some places.Style) = got request wishes.Style
 wish_at site request (Some places.Desk) = got request wishes.Desk
 wish_at site request (Some places.Call) = call_wish site request
+wish_at site request (Some places.Names) = names_wish site request
 
 -- what a request asks for
 abbrev pub wish_of : Site → Request (List ℕ) → Wish

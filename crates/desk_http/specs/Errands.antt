@@ -1,6 +1,7 @@
 -- The way of a request's line to the bridge (own).
-use Rattle.std.specs.Prelude.{ℕ, ◌≤◌, Bool, false, not, if◌then◌else◌, List, [], ◌∷◌, ◌++◌, length, codes, Option, Some, None}
+use Rattle.std.specs.Prelude.{ℕ, ◌≤◌, Bool, false, not, ◌&&◌, if◌then◌else◌, List, [], ◌∷◌, ◌++◌, length, codes, Option, Some, None}
 use Rattle.std.specs.Str.{bytes_eq}
+use Rattle.desk_http.specs.Lines.{is_about_names}
 use Rattle.desk_http.specs.declared.errand.Errand.{Errand}
 use Rattle.desk_http.specs.declared.errand.Errand.TheVariants as errands
 
@@ -44,17 +45,24 @@ has_show hearing = false
 has_show (waiting line) = is_show line
 has_show handed = false
 
--- a call waits
+-- a line about names waits
+abbrev pub has_names_line : Stage → Bool
+has_names_line hearing = false
+has_names_line (waiting line) = is_about_names line
+has_names_line handed = false
+
+-- a call waits: neither the question for the desk nor a line about names
 abbrev pub has_call : Stage → Bool
 has_call hearing = false
-has_call (waiting line) = not (is_show line)
+has_call (waiting line) = not (is_show line) && not (is_about_names line)
 has_call handed = false
 
--- what happens to a request's line: it is wanted, or the bridge is asked for the desk, for a call, or for any line
+-- what happens to a request's line: it is wanted, or it is taken as the question for the desk, a call, a line about names, or any line
 pub data Event : Type 0 where
   wants : List ℕ → Event
   takes_show : Event
   takes_call : Event
+  takes_names : Event
   takes : Event
 
 -- what is taken where it is such a line, and how far it is then
@@ -68,6 +76,7 @@ abbrev pub after_event : Event → Stage → Stage
 after_event (wants line) stage = after_want line stage
 after_event takes_show stage = after_take_if (has_show stage) stage
 after_event takes_call stage = after_take_if (has_call stage) stage
+after_event takes_names stage = after_take_if (has_names_line stage) stage
 after_event takes stage = after_take stage
 
 -- the lines that an event hands to the bridge
@@ -79,6 +88,7 @@ abbrev pub given_by : Event → Stage → List (List ℕ)
 given_by (wants line) stage = []
 given_by takes_show stage = listed (line_if (has_show stage) stage)
 given_by takes_call stage = listed (line_if (has_call stage) stage)
+given_by takes_names stage = listed (line_if (has_names_line stage) stage)
 given_by takes stage = listed (line_at stage)
 
 -- the lines that events hand to the bridge, one after another

@@ -9,3 +9,4 @@ pub mod Made
 pub mod Talks
 pub mod Visits
 pub mod Starts
+pub mod Names

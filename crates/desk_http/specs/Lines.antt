@@ -23,8 +23,20 @@ is_no_space octet = not (nat_eq octet 32)
 abbrev pub first_word : List ℕ → List ℕ
 first_word line = take (prefix_len is_no_space line) line
 
--- the first word asks for more than one answer, or for the end of the connection or of the bridge
+-- the line is about names, which the bridge doesn't have
+abbrev pub is_about_names : List ℕ → Bool
+is_about_names line = bytes_eq (first_word line) (codes "names")
+
+-- the most octets of a change of names
+abbrev pub longest_change : ℕ
+longest_change = 262144
+
+-- a change of names that isn't too long
+abbrev pub is_change : List ℕ → Bool
+is_change body = nat_le (length body) longest_change && is_about_names body
+
+-- the first word asks for more than one answer, for the end of the connection or of the bridge, or for names
 abbrev pub is_reserved : List ℕ → Bool
 is_reserved line =
     bytes_eq (first_word line) (codes "show") || bytes_eq (first_word line) (codes "quit")
-    || bytes_eq (first_word line) (codes "stop")
+    || bytes_eq (first_word line) (codes "stop") || is_about_names line

@@ -18,6 +18,8 @@ line_for wishes.Script body = None
 line_for wishes.Style body = None
 line_for wishes.Desk body = Some (codes "show")
 line_for wishes.Call body = Some body
+line_for wishes.Names body = Some (codes "names")
+line_for wishes.Rename body = Some body
 line_for (wishes.Refused refusal) body = None
 
 -- the line that a request is found to want

@@ -137,7 +137,8 @@ fn refusal_status(refusal: PageRefusal) -> StatusCode
             StatusCode::FORBIDDEN,
         PageRefusal::NotFound => StatusCode::NOT_FOUND,
         PageRefusal::NotAllowed => StatusCode::METHOD_NOT_ALLOWED,
-        PageRefusal::NoLine | PageRefusal::Reserved => StatusCode::BAD_REQUEST,
+        PageRefusal::NoLine | PageRefusal::Reserved | PageRefusal::NoNames =>
+            StatusCode::BAD_REQUEST,
     }
 }
 
@@ -149,11 +150,14 @@ fn refusal_text(refusal: PageRefusal) -> &'static [u8]
         PageRefusal::ForeignHost => b"ForeignHost: this page answers to its own address alone\n",
         PageRefusal::ForeignOrigin => b"ForeignOrigin: this page takes nothing from other pages\n",
         PageRefusal::NotFound =>
-            b"NotFound: the paths are / and /page.js, /page.css, /desk, /call\n",
-        PageRefusal::NotAllowed => b"NotAllowed: POST to /call, GET elsewhere\n",
+            b"NotFound: the paths are / and /page.js, /page.css, /desk, /call, /names\n",
+        PageRefusal::NotAllowed =>
+            b"NotAllowed: POST to /call, GET or POST to /names, GET elsewhere\n",
         PageRefusal::NoToken => b"NoToken: load the page again, its token is of an earlier run\n",
         PageRefusal::NoLine => b"NoLine: a call is one line of 1 to 4096 printed octets\n",
-        PageRefusal::Reserved => b"Reserved: show, quit and stop are not for the page\n",
+        PageRefusal::Reserved => b"Reserved: show, quit, stop and names are not for the page\n",
+        PageRefusal::NoNames =>
+            b"NoNames: a change is the word names, the version that was seen, and a JSON object of texts\n",
     }
 }
 
@@ -182,7 +186,7 @@ pub(crate) fn answer(
         Wish::Refused(refusal) => {
             fill_text(response, refusal_status(refusal), refusal_text(refusal))
         }
-        Wish::Desk | Wish::Call => fill_text(
+        Wish::Desk | Wish::Call | Wish::Names | Wish::Rename => fill_text(
             response,
             StatusCode::SERVICE_UNAVAILABLE,
             b"Waiting: the bridge is asked\n",

@@ -3,6 +3,9 @@
 ghost use Rattle.std.specs.Prelude.{◌≡◌, ◌≤◌, length};
 ghost use Rattle.std.specs.List.{list_all, prefix_len};
 ghost use Rattle.desk_http.specs.Asked.{
+  change_wish,
+  renaming_wish,
+  names_wish,
   place_at,
   line_wish,
   call_wish,
@@ -13,7 +16,7 @@ ghost use Rattle.desk_http.specs.Asked.{
   has_own_origin,
   has_token,
 };
-ghost use Rattle.desk_http.specs.Lines.{is_printed, is_no_space, first_word, is_reserved, is_line};
+ghost use Rattle.desk_http.specs.Lines.{is_printed, is_no_space, first_word, is_about_names, is_change, is_reserved, is_line};
 
 use crate::Site;
 use bytes::Bytes;
@@ -21,6 +24,8 @@ use http::{Request, header};
 
 /// The most octets of a line.
 pub const MAX_LINE: usize = 4_096;
+/// The most octets of a change of names.
+pub const MAX_CHANGE: usize = 262_144;
 
 /// What a request asks for.
 #[derive(Clone, Copy)]
@@ -35,6 +40,10 @@ pub enum Wish {
     Desk,
     /// The answer to the line in its body.
     Call,
+    /// The names that operators gave.
+    Names,
+    /// The names in its body in the place of these.
+    Rename,
     /// Nothing: it is refused.
     Refused(PageRefusal),
 }
@@ -54,8 +63,10 @@ pub enum PageRefusal {
     NoToken,
     /// Its body isn't 1 to 4,096 octets from 32 to 126.
     NoLine,
-    /// Its body begins with `show`, `quit` or `stop`.
+    /// Its body begins with `show`, `quit`, `stop` or `names`.
     Reserved,
+    /// Its body doesn't begin with the word `names`, or has over 262,144 octets.
+    NoNames,
 }
 
 /// What stands at a path.
@@ -66,6 +77,7 @@ pub(crate) enum SitePlace {
     Style,
     Desk,
     Call,
+    Names,
 }
 
 /// What stands at a path, if anything.
@@ -82,6 +94,8 @@ fn stands_at(path: &str) -> Option<SitePlace>
         Some(SitePlace::Desk)
     } else if path == "/call" {
         Some(SitePlace::Call)
+    } else if path == "/names" {
+        Some(SitePlace::Names)
     } else {
         None
     }
@@ -116,12 +130,29 @@ fn first_word(line: &[u8]) -> &[u8]
     &line[..word_length(line)]
 }
 
+/// Whether a line is about names, which the bridge doesn't have.
+pub(crate) fn is_about_names(line: &[u8]) -> bool
+    ensures { result ≡ is_about_names line.now }
+{
+    first_word(line) == b"names".as_slice()
+}
+
+/// Whether a body is a change of names: it begins with that word, and isn't too long.
+fn is_change(body: &[u8]) -> bool
+    ensures { result ≡ is_change body.now }
+{
+    body.len() <= MAX_CHANGE && is_about_names(body)
+}
+
 /// Whether a line begins with a word that isn't for the page's operators.
 fn is_reserved(line: &[u8]) -> bool
     ensures { result ≡ is_reserved line.now }
 {
     let word = first_word(line);
-    word == b"show".as_slice() || word == b"quit".as_slice() || word == b"stop".as_slice()
+    word == b"show".as_slice()
+        || word == b"quit".as_slice()
+        || word == b"stop".as_slice()
+        || is_about_names(line)
 }
 
 /// What a call with this body asks for.
@@ -191,6 +222,39 @@ fn got(request: &Request<Bytes>, wish: Wish) -> Wish
     }
 }
 
+/// What new names in this body ask for.
+fn of_change(body: &[u8]) -> Wish
+    ensures { result ≡ change_wish body.now }
+{
+    if is_change(body) {
+        Wish::Rename
+    } else {
+        Wish::Refused(PageRefusal::NoNames)
+    }
+}
+
+/// What a POST to `/names` asks for.
+fn renaming(site: &Site, request: &Request<Bytes>) -> Wish
+    ensures { result ≡ renaming_wish site.now request.now }
+{
+    if has_token(site, request) {
+        of_change(request.body().as_slice())
+    } else {
+        Wish::Refused(PageRefusal::NoToken)
+    }
+}
+
+/// What a request to `/names` asks for.
+fn names(site: &Site, request: &Request<Bytes>) -> Wish
+    ensures { result ≡ names_wish site.now request.now }
+{
+    if request.method().as_str() == "POST" {
+        renaming(site, request)
+    } else {
+        got(request, Wish::Names)
+    }
+}
+
 /// What a request of the page's own asks for.
 fn at_place(site: &Site, request: &Request<Bytes>, place: Option<SitePlace>) -> Wish
     ensures { result ≡ wish_at site.now request.now place }
@@ -201,6 +265,7 @@ fn at_place(site: &Site, request: &Request<Bytes>, place: Option<SitePlace>) -> 
         Some(SitePlace::Style) => got(request, Wish::Style),
         Some(SitePlace::Desk) => got(request, Wish::Desk),
         Some(SitePlace::Call) => call(site, request),
+        Some(SitePlace::Names) => names(site, request),
         None => Wish::Refused(PageRefusal::NotFound),
     }
 }

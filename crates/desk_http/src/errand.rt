@@ -8,10 +8,12 @@ ghost use Rattle.desk_http.specs.Errands.{
   after_take_if,
   has_show,
   has_call,
+  has_names_line,
   line_at,
   line_if,
 };
 
+use crate::asking::is_about_names;
 use std::mem;
 
 /// How far the line of a connection has come. A connection has one request, and so at most one line.
@@ -48,12 +50,22 @@ impl Errand {
         }
     }
 
+    /// Whether a line about names waits.
+    fn has_names_line(&self) -> bool
+        ensures { result ≡ has_names_line (stage_of self.now) }
+    {
+        match self {
+            Errand::Waiting(line) => is_about_names(line),
+            Errand::Hearing | Errand::Handed => false,
+        }
+    }
+
     /// Whether a call waits.
     fn has_call(&self) -> bool
         ensures { result ≡ has_call (stage_of self.now) }
     {
         match self {
-            Errand::Waiting(line) => line.as_slice() != b"show".as_slice(),
+            Errand::Waiting(line) => line.as_slice() != b"show".as_slice() && !is_about_names(line),
             Errand::Hearing | Errand::Handed => false,
         }
     }
@@ -87,5 +99,17 @@ impl Errand {
         ensures stage { stage_of self.new ≡ after_take_if (has_call (stage_of self.old)) (stage_of self.old) }
     {
         if self.has_call() { self.take() } else { None }
+    }
+
+    /// The line about names, if one waits. It is for the page's own names: the bridge never gets it.
+    pub fn take_names(&mut self) -> Option<Vec<u8>>
+        ensures line { option_map (λ v. v.items) result ≡ line_if (has_names_line (stage_of self.old)) (stage_of self.old) }
+        ensures stage { stage_of self.new ≡ after_take_if (has_names_line (stage_of self.old)) (stage_of self.old) }
+    {
+        if self.has_names_line() {
+            self.take()
+        } else {
+            None
+        }
     }
 }

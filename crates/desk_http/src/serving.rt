@@ -20,6 +20,8 @@ fn line_for(wish: Wish, body: &[u8]) -> Option<&[u8]>
     match wish {
         Wish::Desk => Some(b"show"),
         Wish::Call => Some(body),
+        Wish::Names => Some(b"names"),
+        Wish::Rename => Some(body),
         Wish::Page | Wish::Script | Wish::Style | Wish::Refused(_) => None,
     }
 }

@@ -1,10 +1,10 @@
 //! What the page starts with: its addresses, its token and the limits of a request.
 
 ghost use Rattle.std.specs.Prelude.{◌≡◌, ◌+◌, ◌++◌, ◌<◌, IfOk, OnOk, IfSome, IfNone};
-ghost use Rattle.desk_http.specs.Lines.{longest_line};
+ghost use Rattle.desk_http.specs.Lines.{longest_change};
 ghost use Rattle.desk_http.specs.Starts.{IsOnLoopback, digit, octet_digits, digits_of};
 
-use crate::MAX_LINE;
+use crate::MAX_CHANGE;
 use http_server::Config;
 use std::alloc::{AllocError, Global};
 use std::net::SocketAddrV4;
@@ -31,13 +31,13 @@ pub fn addresses_of(bridge: SocketAddrV4, listen: SocketAddrV4) -> Option<Addres
     }
 }
 
-/// The limits of a request. A body of one octet more than a line is still heard, and refused as no line.
+/// The limits of a request. A body of one octet more than a change of names is still heard, and refused.
 pub fn limits() -> Config
-    ensures body { result.max_body_len ≡ longest_line + 1 }
+    ensures body { result.max_body_len ≡ longest_change + 1 }
     ensures head { result.limits.max_head_len ≡ 16384 }
 {
     let mut config = Config::default();
-    config.max_body_len = MAX_LINE + 1;
+    config.max_body_len = MAX_CHANGE + 1;
     config
 }
 

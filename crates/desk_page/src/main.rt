@@ -4,6 +4,7 @@
 //! in their places, and the others are served meanwhile.
 #![tactic(auto)]
 
+mod keeping;
 mod link;
 mod markup;
 mod options;
@@ -17,7 +18,8 @@ mod spelling;
 mod style;
 mod terms;
 
-use crate::options::{Ends, options_in};
+use crate::keeping::Keeper;
+use crate::options::{Asked, Ends, options_in};
 use crate::server::Server;
 use desk_http::Addresses;
 use std::io::ErrorKind;
@@ -25,7 +27,7 @@ use std::process::ExitCode;
 use std::{env, io};
 
 /// What the arguments ask for.
-fn asked(rt: &HostRuntime) -> Result<Addresses, Ends> {
+fn asked(rt: &HostRuntime) -> Result<Asked, Ends> {
     let words = match env::args(rt) {
         Ok(words) => words,
         Err(error) => return Err(Ends::of_kind(error.kind())),
@@ -43,9 +45,15 @@ fn ended(rt: &HostRuntime, error: &io::Error) -> Ends {
     Ends::of_kind(error.kind())
 }
 
+/// What the page starts with: its addresses, and the names of the file if one is asked for.
+fn opened(rt: &HostRuntime) -> Result<(Addresses, Keeper), Ends> {
+    let asked = asked(rt)?;
+    Ok((asked.addresses, Keeper::open(rt, asked.names)?))
+}
+
 fn main(rt: HostRuntime) -> ExitCode {
-    let ends = match asked(&rt) {
-        Ok(addresses) => match Server::serve(&rt, addresses) {
+    let ends = match opened(&rt) {
+        Ok((addresses, keeper)) => match Server::serve(&rt, addresses, keeper) {
             Ok(()) => Ends::Served,
             Err(error) => ended(&rt, &error),
         },

@@ -15,8 +15,19 @@ pub(crate) enum Ends {
     OutOfMemory,
     /// A socket or the clock failed.
     Io,
+    /// The file of names has none.
+    NoNames,
     /// The arguments are not good.
     Usage,
+}
+
+/// What the arguments ask for.
+#[derive(Drop)]
+pub(crate) struct Asked {
+    /// Where the bridge and the page are.
+    pub(crate) addresses: Addresses,
+    /// The file of names, if there is one.
+    pub(crate) names: Option<String>,
 }
 
 impl Ends {
@@ -35,7 +46,7 @@ impl Ends {
             Ends::Served => 0,
             Ends::OutOfMemory => 2,
             Ends::Io => 3,
-            Ends::Usage => 4,
+            Ends::NoNames | Ends::Usage => 4,
         }
     }
 }
@@ -53,10 +64,15 @@ fn address_option<'a>(alloc: Global, name: &'a str, help: &'a str, default: &'a 
 fn command<'a>(alloc: Global) -> Result<Command<'a>, AllocError> {
     let bridge = "where the bridge takes operators";
     let listen = "where browsers connect, on loopback";
+    let names = Arg::new(alloc, "names")
+        .long("names")
+        .value_name("FILE")
+        .help("where names are kept; with none they end with the program");
     Command::new(alloc, "desk_page")
         .about("The operators' desk as a page in a browser")
         .arg(address_option(alloc, "bridge", bridge, "127.0.0.1:7000"))?
-        .arg(address_option(alloc, "listen", listen, "127.0.0.1:7080"))
+        .arg(address_option(alloc, "listen", listen, "127.0.0.1:7080"))?
+        .arg(names)
 }
 
 /// The end where the words are no command line. It prints why, or the help that they ask for.
@@ -92,17 +108,31 @@ fn chosen<R: Eprint>(
     }
 }
 
+/// A copy of a text.
+fn copy_of(alloc: Global, text: Option<&str>) -> Result<Option<String>, Ends> {
+    match text {
+        Some(text) => match String::from_str(alloc, text) {
+            Ok(copy) => Ok(Some(copy)),
+            Err(_) => Err(Ends::OutOfMemory),
+        },
+        None => Ok(None),
+    }
+}
+
 /// What the words say. Where they say nothing good, standard error has why.
 pub(crate) fn options_in<R: AllocGlobal + Print + Eprint>(
     rt: &R,
     words: &[String],
-) -> Result<Addresses, Ends> {
+) -> Result<Asked, Ends> {
     let command = match command(rt.alloc()) {
         Ok(command) => command,
         Err(_) => return Err(Ends::OutOfMemory),
     };
     match command.try_get_matches_from(words) {
-        Ok(matches) => chosen(rt, matches.get_str("bridge"), matches.get_str("listen")),
+        Ok(matches) => Ok(Asked {
+            addresses: chosen(rt, matches.get_str("bridge"), matches.get_str("listen"))?,
+            names: copy_of(rt.alloc(), matches.get_str("names"))?,
+        }),
         Err(error) => Err(refused(rt, &error)),
     }
 }

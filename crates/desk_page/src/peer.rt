@@ -14,7 +14,7 @@ const PATIENCE: u64 = 10_000;
 /// How many milliseconds a browser has to close behind the response.
 const DRAINING: u64 = 1_000;
 /// How many octets a request has at most, its head and its body.
-const MAX_REQUEST: usize = 32_768;
+const MAX_REQUEST: usize = 278_529;
 /// How many pieces are read or written at a time.
 const PIECES: u32 = 16;
 
@@ -58,7 +58,7 @@ pub(crate) struct Peer {
 /// Gives octets to a connection. No octets are the end of what the browser sends.
 fn feed(connection: &mut Connection, octets: &[u8]) -> io::Result<()> {
     let mut rest = octets;
-    for _ in 0..=PIECES {
+    for _ in 0..=MAX_REQUEST {
         connection.read_from(&mut rest)?;
         if rest.is_empty() {
             break;
@@ -98,13 +98,8 @@ impl Peer {
     /// How far it has come, as far as that counts where a place is needed.
     pub(crate) fn visit(&self) -> Visit {
         let stage = match self.stage {
-            Stage::Reading => {
-                if self.request.is_empty() {
-                    VisitStage::Silent
-                } else {
-                    VisitStage::Sending
-                }
-            }
+            Stage::Reading if self.request.is_empty() => VisitStage::Silent,
+            Stage::Reading => VisitStage::Sending,
             Stage::Asking => VisitStage::Waiting,
             Stage::Writing | Stage::Draining | Stage::Done => VisitStage::Answered,
         };
@@ -136,6 +131,11 @@ impl Peer {
     pub(crate) fn hand_call(&mut self) -> Option<Vec<u8>> {
         let line = self.errand.take_call();
         self.hand(line)
+    }
+
+    /// The line about names that waits, if there is one.
+    pub(crate) fn take_names(&mut self) -> Option<Vec<u8>> {
+        self.errand.take_names()
     }
 
     /// The line that waits, if there is one, which the bridge isn't asked.

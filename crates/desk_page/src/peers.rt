@@ -1,10 +1,13 @@
 //! The browsers' connections.
 
+use crate::keeping::Keeper;
 use crate::peer::Peer;
 use crate::terms::Terms;
 use desk_http::{Hearing, Placing, Site, Told, Visit, admit};
 use mio::net::TcpStream;
 use std::alloc::{AllocError, Global};
+use std::fs::Files;
+use std::io;
 
 /// The browsers' connections.
 #[derive(Drop)]
@@ -104,6 +107,24 @@ impl Peers {
                 peer.tell(terms, site, line, told, now);
             }
         }
+    }
+
+    /// Answers the lines about names, the oldest connection's first.
+    pub(crate) fn tell_names<R: Files>(
+        &mut self,
+        rt: &R,
+        terms: Terms,
+        site: &Site,
+        keeper: &mut Keeper,
+        now: u64,
+    ) -> io::Result<()> {
+        for peer in &mut self.connected {
+            if let Some(line) = peer.take_names() {
+                let told = keeper.answer(rt, terms.alloc, &line)?;
+                peer.tell(terms, site, &line, &told, now);
+            }
+        }
+        Ok(())
     }
 
     /// Tells all whose lines still wait that the bridge isn't there for them.

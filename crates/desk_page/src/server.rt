@@ -1,5 +1,6 @@
 //! The page on one thread: its browsers and its link to the bridge.
 
+use crate::keeping::Keeper;
 use crate::link::Link;
 use crate::peers::Peers;
 use crate::setup::{hearing_at, terms};
@@ -8,6 +9,7 @@ use desk_http::{Addresses, Calls, Hearing, Told};
 use mio::net::{TcpListener, TcpStream};
 use mio::{Events, Interest, Poll, Registry, Token};
 use std::alloc::{AllocError, AllocGlobal, Global};
+use std::fs::Files;
 use std::io;
 use std::io::{Eprint, ErrorKind};
 use std::net::{Net, SocketAddr, SocketAddrV4};
@@ -88,11 +90,6 @@ impl PageSockets {
     }
 }
 
-/// Tells where the page is.
-fn announce<R: Eprint>(rt: &R, address: SocketAddr) {
-    let _ = eprintln!(rt; "desk_page: http://{address}/");
-}
-
 /// How many milliseconds have gone by since a moment.
 fn millis_since<R: Clock>(rt: &R, begun: Instant) -> io::Result<u64> {
     Ok(u64::try_from(begun.elapsed(rt)?.as_millis()).unwrap_or(u64::MAX))
@@ -107,6 +104,7 @@ pub(crate) struct Server {
     begun: Instant,
     hearing: Hearing,
     calls: Calls,
+    keeper: Keeper,
     peers: Peers,
     link: Link,
     /// When the bridge may be asked for the desk again.
@@ -121,6 +119,7 @@ impl Server {
     pub(crate) fn serve<R: Runtime + AllocGlobal + Net + RandomSource + Wait>(
         rt: &R,
         addresses: Addresses,
+        keeper: Keeper,
     ) -> io::Result<()> {
         let alloc = rt.alloc();
         let terms = terms(rt, alloc)?;
@@ -135,6 +134,7 @@ impl Server {
             begun,
             hearing,
             calls: Calls::new(alloc),
+            keeper,
             peers: Peers::new(alloc, FIRST),
             link: Link::new(alloc),
             next_show: 0,
@@ -148,7 +148,7 @@ impl Server {
     /// Tells where it listens, and serves.
     fn run<R: Runtime + Net + Wait>(&mut self, rt: &R, address: SocketAddr) -> io::Result<()> {
         self.chunk.resize(CHUNK, 0)?;
-        announce(rt, address);
+        let _ = eprintln!(rt; "desk_page: http://{address}/");
         for _ in rt.forever() {
             self.round(rt)?;
         }
@@ -156,12 +156,13 @@ impl Server {
     }
 
     /// One round: waits 25 ms at most, and does what the sockets allow.
-    fn round<R: Net + Clock>(&mut self, rt: &R) -> io::Result<()> {
+    fn round<R: Net + Clock + Files>(&mut self, rt: &R) -> io::Result<()> {
         self.sockets.wait()?;
         let now = millis_since(rt, self.begun)?;
         self.wake();
         self.accept(now);
         self.turn(now);
+        self.tell_names(rt, now)?;
         // The second time sends what the first time has put to the link.
         self.ask_bridge(rt, now)?;
         self.ask_bridge(rt, now)?;
@@ -184,6 +185,12 @@ impl Server {
     /// Lets the browsers' connections do what their sockets allow.
     fn turn(&mut self, now: u64) {
         self.peers.turn(&mut self.hearing, &mut self.chunk, now);
+    }
+
+    /// Answers the lines about names.
+    fn tell_names<R: Files>(&mut self, rt: &R, now: u64) -> io::Result<()> {
+        self.peers
+            .tell_names(rt, self.terms, &self.hearing.site, &mut self.keeper, now)
     }
 
     /// Takes the connections that wait. Where no place is free they are closed.
@@ -276,7 +283,10 @@ impl Server {
     fn note(&mut self, line: &[u8], told: &mut Told) -> Result<(), AllocError> {
         let is_show = line == b"show".as_slice();
         match told {
-            Told::Said(text) if is_show => self.calls.append_to(text),
+            Told::Said(text) if is_show => {
+                self.keeper.names.append_heading(self.terms.alloc, text)?;
+                self.calls.append_to(text)
+            }
             Told::Said(text) => {
                 self.next_show = 0;
                 self.keep(line, text)

@@ -5,7 +5,8 @@ again. After each line the page's desk is what the bridge's `show` says. A secon
 second. Bad requests are refused by name and change nothing. A silent bridge keeps nobody waiting, and a bridge that comes back
 is found again. In node, the page's functions choose the lines of clicks as they should. In chromium, two browsers go through a
 call by clicks, forms and a drag: after each step both draw what `show` says, and the second one within half a second. Sliders, keys,
-many members at once, a bridge that is gone, a room of 64 and 64 rooms of 16 are tried by hand. With --http-only neither node nor chromium is needed, and nothing tries the page's script. With --model no program
+names, many members at once, a bridge that is gone, a room of 64 and 64 rooms of 16 are tried by hand. Names are kept in a file, and
+bad ones are told. With --http-only neither node nor chromium is needed, and nothing tries the page's script. With --model no program
 is needed: the page is served over the plain desk of the models.
 """
 
@@ -24,7 +25,7 @@ import tempfile
 import time
 
 from lib.driving import drive, opened
-from lib.handling import handle, shows_stale, stays_small
+from lib.handling import handle, names_things, shows_stale, stays_small
 from lib.make.page import WEB
 from lib.serving import Operator, free_port, settings
 from lib import standin
@@ -140,7 +141,20 @@ class Page:
         check(status == 200, f"the desk's status is {status}: {text}")
         lines = text.splitlines()
         end = next(at for at, line in enumerate(lines) if line.startswith("end "))
-        return lines[: end + 1], lines[end + 1 :]
+        check(lines[end + 1].startswith("names "), f"behind the desk stands {lines[end + 1]}")
+        return lines[: end + 1], lines[end + 2 :]
+
+    def names(self):
+        """The version of the names, and their text."""
+        status, _, text = self.ask("GET", "/names")
+        head, _, text = text.partition("\n")
+        check(status == 200 and head.startswith("names "), f"the names are {status} {head}")
+        return int(head[6:]), text
+
+    def rename(self, body):
+        """What a change of names is answered: a status and a text."""
+        status, _, text = self.ask("POST", "/names", body.encode(), {"X-Desk-Token": self.token})
+        return status, text.strip()
 
 
 def shown(operator):
@@ -213,7 +227,11 @@ def refuses(page, operator, version):
         (400, "Reserved", "POST", "/call", b"quit", good),
         (400, "Reserved", "POST", "/call", b"show", good),
         (400, "NoLine", "POST", "/call", b"a" * 4097, good),
-        (413, "", "POST", "/call", b"a" * 4098, good),
+        (400, "Reserved", "POST", "/call", b"names 0", good),
+        (403, "NoToken", "POST", "/names", b"names 0\n{}", {"Origin": own}),
+        (400, "NoNames", "POST", "/names", b"{}", good),
+        (405, "NotAllowed", "PUT", "/names", b"names 0\n{}", good),
+        (413, "", "POST", "/names", b"names 0\n" + b" " * 262_144, good),
     ]:
         status, _, text = page.ask(method, path, body, fields)
         check(status == wanted and text.startswith(name), f"{method} {path} {body}: {status} {text}, not {wanted} {name}")
@@ -232,6 +250,34 @@ def refuses_long(page, fields):
         # The page reads on for a second behind its response. Octets that come later reset the connection.
         with contextlib.suppress(ConnectionError):
             one.sendall(b"a" * (1_048_576 - 4_096))
+
+
+def keeps_names(page, path):
+    """Names go to the file by a change of those that were seen. What is no names, comes too late or can't be written changes nothing."""
+    first, _ = page.names()
+    text = '{"member 10": "Bob", "room 1": "<script>"}'
+    check(page.rename(f"names {first}\n{text}") == (200, f"ok {first + 1}"), "new names are refused")
+    check(page.names() == (first + 1, text) and path.read_text() == text, "new names aren't told, or aren't in the file")
+    head = f"names {first + 1}\n"
+    longest = '{"a": "' + "n" * 800 + '"}'
+    for body, reason in [
+        (f"names {first}\n{{}}", "Newer"),
+        ("names 7 7\n{}", "Newer"),
+        (head + "{", "NoNames"),
+        (head + "[]", "NoNames"),
+        (head + '{"member 10": 7}', "NoNames"),
+        (head + longest.replace("n", "nn", 1), "NoNames"),
+    ]:
+        told = page.rename(body)
+        check(told == (200, f"no {first + 1} {reason}"), f"names {body[:40]} are told as {told}")
+    away = path.parent.with_name("away")
+    path.parent.rename(away)
+    told = page.rename(head + longest)
+    away.rename(path.parent)
+    check(told == (200, f"no {first + 1} Unsaved"), f"names that can't be written are told as {told}")
+    check(page.names() == (first + 1, text) and path.read_text() == text, "names that were refused have changed some")
+    check(page.rename(head + longest) == (200, f"ok {first + 2}"), "a name of 800 octets is refused")
+    check(page.rename(f"names {first + 2}\n{{}}") == (200, f"ok {first + 3}"), "no names are refused")
 
 
 def is_closed(connection):
@@ -335,6 +381,7 @@ def try_by_hand(args, folder, address, ask, go, come):
     one, two = opened(args.browser, folder, address), opened(args.browser, folder, address)
     try:
         handle(one, two, ask)
+        names_things(one, two)
         shows_stale(one, go, come)
         stays_small(one, [standing(*size) for size in ((1, 2), (1, 64), (64, 16))])
     finally:
@@ -351,8 +398,13 @@ def standing(rooms, size):
 
 def by_model(args, folder):
     """Two browsers go through a session at a page over a plain desk."""
-    one = standin.Standin()
-    address = f"http://127.0.0.1:{standin.serve(one).server_port}/"
+    names = pathlib.Path(folder) / "names" / "names.json"
+    names.parent.mkdir()
+    one = standin.Standin(names)
+    page = Page(standin.serve(one).server_port)
+    page.load()
+    keeps_names(page, names)
+    address = f"http://127.0.0.1:{page.port}/"
     drive(args.browser, folder, address, one.shown, one.ask, args.pictures)
     clean(one.ask, one.shown)
 
@@ -370,15 +422,27 @@ def clean(ask, shown_lines):
             check(ask(f"remove-room {row.split()[1]}").startswith("ok "), f"{row} can't be removed")
 
 
+def refuses_bad_names(args, folder):
+    """A program whose file of names has none ends, and leaves the file as it is."""
+    bad = pathlib.Path(folder) / "bad.json"
+    bad.write_text('{"member 10":')
+    words = ["--listen", "127.0.0.1:0", "--names", str(bad)]
+    program = started("desk_page", args.page, words, args.seconds, folder)
+    check(program.wait(timeout=600) == 4 and bad.read_text() == '{"member 10":', "a file without names isn't refused, or not kept")
+
+
 def session(args, folder):
+    names = pathlib.Path(folder) / "names" / "names.json"
+    names.parent.mkdir()
     udp, tcp, port = free_port(socket.SOCK_DGRAM), free_port(socket.SOCK_STREAM), free_port(socket.SOCK_STREAM)
     words = ["serve", settings(folder, udp, tcp)]
-    addresses = ["--bridge", f"127.0.0.1:{tcp}", "--listen", f"127.0.0.1:{port}"]
+    addresses = ["--bridge", f"127.0.0.1:{tcp}", "--listen", f"127.0.0.1:{port}", "--names", str(names)]
     programs = [started("confbridge", args.binary, words, args.seconds, folder), started("desk_page", args.page, addresses, args.seconds, folder)]
     try:
         page, operator = Page(port), seated(programs[0], tcp)
         connected(programs[1], port).close()
         page.load()
+        keeps_names(page, names)
         version = sees_others(page, operator, go_through(page, operator))
         refuses(page, operator, version)
         takes_others(page, operator, version)
@@ -413,5 +477,6 @@ def run(args):
         if args.model:
             by_model(args, folder)
         else:
+            refuses_bad_names(args, folder)
             session(args, folder)
     return 0
