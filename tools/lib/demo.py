@@ -1,16 +1,20 @@
 """Starts a bridge, its page and two members, and holds a call until it is stopped.
 
 The bridge has the settings of examples/serve.toml, and the page is at http://127.0.0.1:7080/. Member 10 sends a tone of 440 Hz and
-frames of a test picture, member 11 a tone of 1000 Hz. Both read what they are sent. Ctrl-C ends all of it.
+frames of a test picture, member 11 a tone of 1000 Hz. Both read what they are sent. The desk is made through the page, which so
+names each change that **Undo** takes back. Where a port is taken the demo changes nothing. Ctrl-C ends all of it.
 """
 
+import http.client
+import json
 import math
+import re
 import socket
 import subprocess
 import time
 
 from lib.packets import rtp
-from lib.serving import Operator, udp_socket
+from lib.serving import udp_socket
 from lib.shared import CRATES, ROOT, add_program_or_build, fail, found_program, try_command
 
 NEEDS = "a program, ports 5004, 6000, 6002, 7000 and 7080"
@@ -28,6 +32,7 @@ DESK = [
     "add-slot 501 11 0 0 0",
     "give-floor 1 10",
 ]
+NAMES = {"room 1": "Demo", "member 10": "Ada", "member 11": "Ben"}
 
 
 def options(parser):
@@ -64,6 +69,38 @@ def started(crate, words, seconds, given=None):
     return subprocess.Popen(command, cwd=CRATES / crate, stdin=subprocess.DEVNULL, stdout=subprocess.DEVNULL)
 
 
+def refuse_taken():
+    """Ends where a port of the demo is taken: whoever has it is another bridge, page or member."""
+    kinds = [(socket.SOCK_DGRAM, UDP), (socket.SOCK_STREAM, TCP), (socket.SOCK_STREAM, PAGE)]
+    for kind, address in kinds + [(socket.SOCK_DGRAM, ("127.0.0.1", port)) for port, _, _ in MEMBERS]:
+        with socket.socket(socket.AF_INET, kind) as one:
+            # A connection that has just ended keeps nobody from listening.
+            one.setsockopt(socket.SOL_SOCKET, socket.SO_REUSEADDR, kind == socket.SOCK_STREAM)
+            try:
+                one.bind(address)
+            except OSError:
+                fail(f"{text_of(address)} is taken: end what runs there, such as another bridge. Nothing was changed")
+
+
+def asked(method, path, body=None, token=""):
+    """What the page answers to a request."""
+    connection = http.client.HTTPConnection(*PAGE, timeout=60)
+    connection.request(method, path, body=body, headers={"X-Desk-Token": token})
+    answer = connection.getresponse().read().decode().strip()
+    connection.close()
+    return answer
+
+
+def make_desk():
+    """Makes the desk by the page, as an operator there does, and names its members."""
+    token = re.search('name="desk-token" content="([0-9a-f]*)"', asked("GET", "/"))[1]
+    for line in DESK:
+        told = asked("POST", "/call", line, token)
+        if not told.startswith("ok "):
+            fail(f"`{line}` is answered `{told}`")
+    asked("POST", "/names", f"names 0\n{json.dumps(NAMES)}", token)
+
+
 def connected(program, address):
     """A connection to a program, once it listens there."""
     while program.poll() is None:
@@ -96,14 +133,13 @@ def talk():
 
 
 def run(args):
+    refuse_taken()
     programs = [started("confbridge", ["serve", ROOT / "examples/serve.toml"], 86400, args.binary)]
     try:
-        operator = Operator(connected(programs[0], TCP))
-        for line in DESK:
-            operator.ask(line)
-        operator.tell("quit")
+        connected(programs[0], TCP).close()
         programs.append(started("desk_page", ["--bridge", text_of(TCP), "--listen", text_of(PAGE)], 86400))
         connected(programs[1], PAGE).close()
+        make_desk()
         print(f"the desk is at http://{text_of(PAGE)}/ (Ctrl-C ends the call)", flush=True)
         talk()
     except KeyboardInterrupt:
