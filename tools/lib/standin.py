@@ -133,6 +133,8 @@ def serve(standin, port=0):
     """Serves a page until the process ends. The server, whose `server_port` is its port."""
     server = http.server.ThreadingHTTPServer(("127.0.0.1", port), handler_of(standin))
     server.daemon_threads = True
+    # A browser that closes is no fault.
+    server.handle_error = lambda *_: None
     threading.Thread(target=server.serve_forever, daemon=True).start()
     return server
 

@@ -19,25 +19,38 @@ function parseDesk(text) {
       behind = true;
     } else if (line !== "") {
       desk.rows.push(line);
-      addRow(desk, line.split(" "));
+      addRow(desk, rowOf(line));
     }
   }
   return desk;
 }
 
-function addRow(desk, [kind, ...word]) {
+// A row as the desk keeps it: where it goes, and what. A row that has come before isn't read again.
+const read = new Map(), MOST_READ = 200000;
+function rowOf(line) {
+  if (read.size >= MOST_READ) read.clear();
+  if (!read.has(line)) read.set(line, rowIn(line.split(" ")));
+  return read.get(line);
+}
+function rowIn([kind, ...word]) {
   const n = word.map(Number);
-  if (kind === "room") {
-    desk.rooms.push(n[0]);
-    desk.rates.set(n[0], n[1] ?? SPEECH);
-  } else if (kind === "member") desk.members.push(memberIn(n, word));
-  else if (kind === "source") desk.sources.push({ ssrc: n[0], member: n[1], kind: word[2] });
-  else if (kind === "slot") desk.slots.push({ ssrc: n[0], member: n[1], index: n[2] });
-  else if (kind === "sub") desk.subs.set(n[0], n[1]);
-  else if (kind === "mute") desk.mutes.add(n[0]);
-  else if (kind === "gain") desk.gains.set(`${n[0]} ${n[1]}`, n[2]);
-  else if (kind === "pin") desk.pins.set(n[0], n[1]);
-  else if (kind === "floor") desk.floors.set(n[0], n[1]);
+  if (kind === "room") return { kind, room: n[0], rate: n[1] ?? SPEECH };
+  if (kind === "member") return { kind, into: "members", row: memberIn(n, word) };
+  if (kind === "source") return { kind, into: "sources", row: { ssrc: n[0], member: n[1], kind: word[2] } };
+  if (kind === "slot") return { kind, into: "slots", row: { ssrc: n[0], member: n[1], index: n[2] } };
+  if (kind === "mute") return { kind, source: n[0] };
+  if (kind === "gain") return { kind, under: "gains", key: `${n[0]} ${n[1]}`, value: n[2] };
+  const under = { sub: "subs", pin: "pins", floor: "floors" }[kind];
+  return under ? { kind, under, key: n[0], value: n[1] } : { kind };
+}
+function addRow(desk, { into, row, under, key, value, room, rate, source }) {
+  if (into) desk[into].push(row);
+  else if (under) desk[under].set(key, value);
+  else if (source !== undefined) desk.mutes.add(source);
+  else if (room !== undefined) {
+    desk.rooms.push(room);
+    desk.rates.set(room, rate);
+  }
 }
 
 function memberIn([place, member, room, , , mix], [, , , address, codec]) {
