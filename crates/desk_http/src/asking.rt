@@ -16,7 +16,15 @@ ghost use Rattle.desk_http.specs.Asked.{
   has_own_origin,
   has_token,
 };
-ghost use Rattle.desk_http.specs.Lines.{is_printed, is_no_space, first_word, is_about_names, is_change, is_reserved, is_line};
+ghost use Rattle.desk_http.specs.Lines.{
+  is_printed,
+  is_no_space,
+  first_word,
+  is_about_names,
+  is_change,
+  is_reserved,
+  is_line,
+};
 
 use crate::Site;
 use bytes::Bytes;

@@ -103,7 +103,8 @@ impl Errand {
 
     /// The line about names, if one waits. It is for the page's own names: the bridge never gets it.
     pub fn take_names(&mut self) -> Option<Vec<u8>>
-        ensures line { option_map (λ v. v.items) result ≡ line_if (has_names_line (stage_of self.old)) (stage_of self.old) }
+        ensures line { option_map (λ v. v.items) result
+            ≡ line_if (has_names_line (stage_of self.old)) (stage_of self.old) }
         ensures stage { stage_of self.new ≡ after_take_if (has_names_line (stage_of self.old)) (stage_of self.old) }
     {
         if self.has_names_line() {

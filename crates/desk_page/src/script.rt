@@ -544,7 +544,8 @@ function renderForms() {
   for (const [id, field, number] of suggested(desk)) suggest(id, field, number);
 }
 
-// Draws what may have changed: some rooms, or all where none are given, and the forms unless their choices are as before.
+// Draws what may have changed: some rooms, or all where none are given, and the forms unless their choices are as
+// before.
 function render(changed = null, hasForms = true) {
   if (!desk) return;
   const key = document.activeElement?.dataset?.key;
