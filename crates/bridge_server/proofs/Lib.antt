@@ -1,3 +1,2 @@
 pub mod LaneLemmas
 pub mod RunLemmas
-pub mod WaitLemmas

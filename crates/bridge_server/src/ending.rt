@@ -11,9 +11,10 @@ ghost use Rattle.bridge_server.specs.Counts.{counts_by};
 ghost use Rattle.bridge_server.specs.OneRun.{HaveBegun, IsOneRun, sent_into};
 
 use crate::calls::calls_of;
-use crate::rounds::{Rounds, ServerMedia};
+use crate::rounds::{Running, ServerMedia};
 use crate::sinks::LaneSocket;
 use crate::stopped::{DeskEnd, MediaEnd};
+use front_rounds::Rounds;
 use lane_bell::Rung;
 use lane_laws::{lanes_saw_what_they_know, none_knew_more, the_running_headline};
 use lane_wire::{LaneSent, LaneWire, WireSink};
@@ -64,21 +65,24 @@ pub(crate) fn gather<'a, H: Hall, R: Wait>(
 }
 
 /// The media of a bridge whose rounds are over.
-fn media_in<H: Hall, R: Wait + Clock + Drop>(rounds: Rounds<H, R>) -> ServerMedia<H, R>
+fn media_in<H: Hall, R: Wait + Clock + Drop>(running: Running<H, R>) -> ServerMedia<H, R>
     ensures { HaveBegun H.start H.publisher (lanes_in result.feed) }
 {
+    let Running { rounds, counts: _ } = running;
     let Rounds {
         alloc: _,
-        sockets: _,
-        moments: _,
+        inlet: _,
+        wire: _,
+        watch: _,
         reader: _,
         media,
         ticked: _,
-        seen: _,
+        version: _,
         pictures: _,
-        counts: _,
         has_members: _,
+        stage: _,
         wakes: _,
+        chunk: _,
     } = rounds;
     media
 }
@@ -104,7 +108,7 @@ fn compare<N: PublisherName, P: Pace, S: Sink>(
 pub(crate) fn close<H, R>(
     rt: &R,
     alloc: Global,
-    rounds: Rounds<H, R>,
+    running: Running<H, R>,
     last: &Notice,
 ) -> Result<MediaEnd, FrontFault>
 where
@@ -116,7 +120,7 @@ where
         IsLegal H.start log → Tells H.start H.publisher log last.now →
         IsOneRun H.start (calls_in log) (sent_into end.sent.items)) }
 {
-    let media = media_in(rounds);
+    let media = media_in(running);
     let dropped = dropped_of(alloc, &media);
     let ends = media.close(rt);
     lanes_saw_what_they_know::<PublisherOf<H>, Rung<R, ()>, WireSink<LaneSocket>>();
@@ -131,12 +135,12 @@ where
 }
 
 /// Ends the lanes of a bridge whose log is lost. Returns their fault, or `Io`.
-pub(crate) fn give_up<H, R>(rt: &R, rounds: Rounds<H, R>) -> FrontFault
+pub(crate) fn give_up<H, R>(rt: &R, running: Running<H, R>) -> FrontFault
 where
     H: Hall + Send + Sync + 'static,
     R: Threads + Clock + Wait + Copy + Send + Drop + 'static,
 {
-    let ends = media_in(rounds).close(rt);
+    let ends = media_in(running).close(rt);
     fault_of(&ends).unwrap_or(FrontFault::Io)
 }
 

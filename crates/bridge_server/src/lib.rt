@@ -3,8 +3,8 @@
 //!
 //! Begin with [`Front::bind`], then [`Front::run`]. It returns once an operator stops the bridge, with the log, how
 //! many calls of each operator were accepted, how many items were dropped for each lane, and how much each lane sent
-//! and could not send. What lines and datagrams lead to is decided in operator_threads and media_front. Here are the
-//! sockets, the loop that joins the rest, and when lanes are woken.
+//! and could not send. What lines and datagrams lead to is decided in operator_threads and media_front, and the loop
+//! that joins them is that of front_rounds. Here are the sockets, the clock and the threads that it runs over.
 //!
 //! Contracts say that what the lanes sent is what one list of the log's calls and of items sends. They say nothing of
 //! sockets.
@@ -28,11 +28,8 @@ mod serving;
 mod sinks;
 mod sockets;
 mod stopped;
-mod switching;
-mod wakes;
 mod waking;
 
 pub use self::calls::calls_of;
 pub use self::front::Front;
 pub use self::stopped::Stopped;
-pub use self::wakes::sleeping_lanes_have_places;

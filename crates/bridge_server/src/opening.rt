@@ -13,30 +13,29 @@ ghost use Rattle.bridge_server.specs.Counts.{counts_by};
 ghost use Rattle.bridge_server.specs.OneRun.{HaveBegun, IsOneRun, sent_into};
 
 use crate::ending::{close, gather, give_up};
-use crate::front::{Front, WAKER};
-use crate::rounds::{Rounds, ServerMedia};
+use crate::front::Front;
+use crate::rounds::{Running, ServerMedia};
 use crate::serving::serve;
 use crate::sinks::{LaneSocket, counts_for, sinks_for};
-use crate::sockets::Sockets;
+use crate::sockets::{OperatorListener, Sockets, SystemWatch, chunk, sockets_of};
 use crate::stopped::Stopped;
-use crate::wakes::Wakes;
 use crate::waking::FrontWaker;
 use bridge_core::{Intake, Settings};
 use flood_guard::FloodGuard;
+use front_rounds::{RoundStage, Rounds, Wakes};
 use lane_wire::WireSink;
 use media_front::{LaneFeed, MediaFront, pli_octets};
 use media_workers::StartFault;
-use mio::Waker;
 use operator_desk::{DeskFault, DeskNames, Hall, Log, MAX_OPERATORS, Seat, SharedDesk};
 use operator_threads::Operators;
 use picture_requests::PictureRequests;
 use std::alloc::Global;
 use std::marker::Brand;
 use std::net::Net;
-use std::sync::{Arc, Wait};
+use std::sync::Wait;
 use std::thread::Threads;
 use std::time::Clock;
-use udp_front::{FrontFault, FrontSettings, Moments, ReportTimer};
+use udp_front::{FrontFault, ReportTimer};
 use versions::LaneReader;
 
 /// Runs a bridge until an operator stops it.
@@ -121,31 +120,13 @@ fn start_fault(fault: StartFault) -> FrontFault
     }
 }
 
-/// The sockets of a front, what ends a wait at them, and the settings.
-fn sockets_of(
-    alloc: Global,
-    front: Front,
-) -> Result<(Sockets, FrontWaker, FrontSettings), FrontFault>
-    ensures { IfOk result (λ parts. parts.2 ≡ front.settings) }
-{
-    let Front {
-        poll,
-        udp,
-        tcp,
-        settings,
-    } = front;
-    let waker = FrontWaker(Arc::new(alloc, Waker::new(poll.registry(), WAKER)?)?);
-    let sockets = Sockets::new(alloc, poll, udp, tcp)?;
-    Ok((sockets, waker, settings))
-}
-
-/// Starts the lanes, and returns the front and its waker.
+/// Starts the lanes, and returns the front, its waker, and where operators connect.
 fn begin<H, R>(
     rt: &R,
     alloc: Global,
     readers: Vec<LaneReader>,
     front: Front,
-) -> Result<(Rounds<H, R>, FrontWaker), FrontFault>
+) -> Result<(Running<H, R>, FrontWaker, OperatorListener), FrontFault>
 where
     H: Hall + Send + Sync + 'static,
     R: Threads + Clock + Wait + Copy + Send + Drop + 'static,
@@ -154,28 +135,33 @@ where
 {
     let mut readers = readers;
     let own = readers.pop();
-    let (sockets, waker, settings) = sockets_of(alloc, front)?;
-    let moments = Moments::begin(rt)?;
-    let start = moments.start();
+    let (sockets, listener, waker, settings) = sockets_of(alloc, front)?;
+    let Sockets { inlet, wire, udp } = sockets;
+    let chunk = chunk(alloc)?;
+    let watch = SystemWatch::begin(rt)?;
+    let start = watch.start();
     let counts = counts_for(alloc, readers.len())?;
-    let sinks = sinks_for(alloc, &sockets.udp()?, &counts)?;
+    let sinks = sinks_for(alloc, &udp, &counts)?;
     let reports = ReportTimer::begin(settings.report_ms, start);
     let mut media = media_of(rt, alloc, readers, settings.bridge, sinks, reports)?;
     media.renew();
     let rounds = Rounds {
         alloc,
-        sockets,
-        moments,
+        inlet,
+        wire,
+        watch,
         reader: own,
         media,
         ticked: start,
-        seen: 0,
+        version: 0,
         pictures: PictureRequests::new(alloc),
-        counts,
         has_members: false,
+        stage: RoundStage::Whole,
         wakes: Wakes::begin(start),
+        chunk,
     };
-    Ok((rounds, waker))
+    let running = Running { rounds, counts };
+    Ok((running, waker, listener))
 }
 
 /// Starts the lanes, one for each reader, each with a sink.
@@ -232,18 +218,19 @@ where
 {
     let count = front.settings.operators;
     match begin(rt, alloc, readers, front) {
-        Ok((rounds, waker)) => {
+        Ok((running, waker, listener)) => {
             let operators = Operators::new(rt, alloc, desk, seats);
-            let mut rounds = rounds;
-            let done = serve(rt, alloc, &operators, &waker, &mut rounds);
+            let mut running = running;
+            let mut listener = listener;
+            let done = serve(rt, alloc, &operators, &waker, &mut listener, &mut running);
             // The desk ends first: a lane then ends at its next item, and what is left in its ring is dropped.
             match gather(rt, alloc, operators, count) {
                 Ok((desk, last)) => {
-                    let lanes = close(rt, alloc, rounds, &last);
+                    let lanes = close(rt, alloc, running, &last);
                     Stopped::told(done, lanes, Ok(desk))
                 }
                 Err(fault) => {
-                    let lanes = give_up(rt, rounds);
+                    let lanes = give_up(rt, running);
                     Stopped::told(done, Err(lanes), Err(fault))
                 }
             }

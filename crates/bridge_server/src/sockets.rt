@@ -1,43 +1,28 @@
-//! The sockets of a bridge that runs: what has come, and what is read.
+//! The sockets of a bridge that runs: what has come, what is read, and what the front sends.
 
-ghost use Rattle.std.specs.Prelude.{◌<◌, ◌≤◌, length, IfOk, IfSome};
+ghost use Rattle.std.specs.Prelude.{◌≡◌, ◌<◌, ◌≤◌, length, IfOk};
 ghost use Rattle.intake.specs.Readings.{most_octets};
+ghost use Rattle.front_rounds.specs.Came.{octets_read};
 
-use crate::front::{TCP, UDP};
+use crate::front::{Front, TCP, UDP, WAKER};
+use crate::waking::FrontWaker;
+use front_rounds::{Inlet, Read, ReadLog, TryLog, Watch, WatchLog};
 use mio::net::{TcpListener, TcpStream, UdpSocket};
-use mio::{Events, Poll};
+use mio::{Events, Poll, Waker};
 use rtp_codec::Address;
 use std::alloc::{AllocError, Global};
 use std::io::ErrorKind;
 use std::sync::Arc;
-use std::time::Duration;
-use udp_front::{FrontFault, UdpWire, address_of};
+use std::time::{Clock, Duration};
+use udp_front::{FrontFault, FrontSettings, Moments, Wire, address_of, socket_address};
 
 /// How many of the system's events are taken at a time.
 const EVENTS: usize = 8;
 /// How many octets of a datagram are read: more than one may have, so that a longer one is noticed.
 const CHUNK: usize = 9_000;
 
-/// The sockets, and what the system last reported of them.
-#[derive(Drop)]
-pub(crate) struct Sockets {
-    poll: Poll,
-    events: Events,
-    /// Lanes have handles of it, too.
-    udp: Arc<UdpSocket, Global>,
-    tcp: TcpListener,
-    /// Datagrams may wait.
-    has_datagrams: bool,
-    /// Connections may wait.
-    has_callers: bool,
-    /// What was read last.
-    chunk: Vec<u8>,
-    /// Where a datagram's parts are joined before it is sent.
-    whole: Vec<u8>,
-}
-
 /// Where octets are read to.
-fn chunk(alloc: Global) -> Result<Vec<u8>, AllocError>
+pub(crate) fn chunk(alloc: Global) -> Result<Vec<u8>, AllocError>
     ensures { IfOk result (λ chunk. most_octets < length chunk.items) }
 {
     let mut chunk = Vec::new(alloc);
@@ -45,51 +30,191 @@ fn chunk(alloc: Global) -> Result<Vec<u8>, AllocError>
     Ok(chunk)
 }
 
-/// The result of reading a datagram.
-#[derive(Clone, Copy)]
-pub(crate) enum Read {
-    /// A datagram of this many octets, from this address.
-    Datagram { from: Address, octets: usize },
-    /// Something other than an IPv4 datagram. More may wait.
-    Other,
-    /// Nothing waits.
-    Nothing,
+/// The socket for datagrams as an inlet, with what the system last reported of the sockets.
+#[derive(Drop)]
+pub(crate) struct UdpInlet {
+    poll: Poll,
+    events: Events,
+    /// Lanes have handles of it, too.
+    udp: Arc<UdpSocket, Global>,
+    /// Datagrams may wait.
+    has_datagrams: bool,
+    /// What was read, in proofs alone.
+    log: ReadLog,
 }
 
-impl Sockets {
-    /// Sockets from which nothing was read yet.
-    pub(crate) fn new(
-        alloc: Global,
-        poll: Poll,
-        udp: UdpSocket,
-        tcp: TcpListener,
-    ) -> Result<Self, AllocError> {
+impl UdpInlet {
+    /// An inlet from which nothing was read yet.
+    fn new(alloc: Global, poll: Poll, udp: &Arc<UdpSocket, Global>) -> Result<Self, AllocError> {
         Ok(Self {
             poll,
             events: Events::with_capacity(alloc, EVENTS)?,
-            udp: Arc::new(alloc, udp)?,
-            tcp,
+            udp: Arc::try_clone(udp)?,
             has_datagrams: true,
-            has_callers: true,
-            chunk: chunk(alloc)?,
-            whole: Vec::with_capacity(alloc, CHUNK)?,
+            log: ReadLog::new(),
         })
     }
 
-    /// Waits until something has come, at most `longest` nanoseconds, and notes what. It doesn't wait if datagrams may
-    /// be there already.
-    pub(crate) fn wait(&mut self, longest: u64) -> Result<(), FrontFault> {
+    /// Reads the next datagram, if one waits.
+    fn read_once(&mut self, chunk: &mut Vec<u8>) -> Result<Read, FrontFault>
+        ensures few { IfOk result (λ read. octets_read read ≤ length chunk.new.items) }
+        ensures log { self.new.log ≡ self.old.log }
+    {
+        if !self.has_datagrams {
+            return Ok(Read::Nothing);
+        }
+        match self.udp.recv_from(chunk) {
+            Ok((octets, told)) => Ok(match address_of(told) {
+                Some(from) => Read::Datagram { from, octets },
+                None => Read::Other,
+            }),
+            Err(error) => match error.kind() {
+                ErrorKind::WouldBlock => {
+                    self.has_datagrams = false;
+                    Ok(Read::Nothing)
+                }
+                ErrorKind::Interrupted | ErrorKind::ConnectionRefused => Ok(Read::Other),
+                _ => Err(FrontFault::from(error)),
+            },
+        }
+    }
+}
+
+impl Inlet for UdpInlet {
+    ghost use Rattle.front_rounds.specs.Logs.{read_list};
+
+    ghost came = { λ inlet. read_list inlet.log };
+
+    fn read(&mut self, chunk: &mut Vec<u8>) -> Result<Read, FrontFault> {
+        let read = self.read_once(chunk)?;
+        self.log.note(&read, chunk);
+        Ok(read)
+    }
+
+    /// It doesn't wait if datagrams may be there already.
+    fn wait(&mut self, longest: u64) -> Result<bool, FrontFault> {
         let longest = if self.has_datagrams { 0 } else { longest };
         self.poll
             .poll(&mut self.events, Some(Duration::from_nanos(longest)))?;
+        let mut may_wait = false;
         for event in &self.events {
             match event.token() {
                 UDP => self.has_datagrams = true,
-                TCP => self.has_callers = true,
+                TCP => may_wait = true,
                 _ => {}
             }
         }
-        Ok(())
+        Ok(may_wait)
+    }
+}
+
+/// The socket for datagrams as the wire of the front.
+#[derive(Drop)]
+pub(crate) struct FrontSocket {
+    socket: Arc<UdpSocket, Global>,
+    /// Where a datagram's parts are joined before it is sent.
+    whole: Vec<u8>,
+    /// What was tried, in proofs alone.
+    log: TryLog,
+}
+
+impl FrontSocket {
+    /// A wire on which nothing was tried yet.
+    fn new(alloc: Global, udp: &Arc<UdpSocket, Global>) -> Result<Self, AllocError> {
+        Ok(Self {
+            socket: Arc::try_clone(udp)?,
+            whole: Vec::with_capacity(alloc, CHUNK)?,
+            log: TryLog::new(),
+        })
+    }
+
+    /// Tries to send these octets. `false`: the system refused them, which counts as loss on the wire.
+    fn send_octets(&self, to: Address, octets: &[u8]) -> bool {
+        self.socket.send_to(octets, socket_address(to)).is_ok()
+    }
+
+    /// Tries to send a datagram in two parts. Out of memory counts as loss on the wire, too.
+    fn send_joined(&mut self, to: Address, first: &[u8], rest: &[u8]) -> bool
+        ensures { self.new.log ≡ self.old.log }
+    {
+        self.whole.clear();
+        if self.whole.extend_from_slice(first).is_err()
+            || self.whole.extend_from_slice(rest).is_err()
+        {
+            return false;
+        }
+        self.send_octets(to, &self.whole)
+    }
+}
+
+impl Wire for FrontSocket {
+    ghost use Rattle.std.specs.Prelude.{Some};
+    ghost use Rattle.front_rounds.specs.Logs.{tried_list};
+
+    ghost attempts = { λ wire. Some (tried_list wire.log) };
+
+    fn send(&mut self, to: Address, octets: &[u8]) -> bool {
+        let sent = self.send_octets(to, octets);
+        self.log.note(to, &[], octets, sent);
+        sent
+    }
+
+    fn send_parts(&mut self, to: Address, first: &[u8], rest: &[u8]) -> bool {
+        let sent = self.send_joined(to, first, rest);
+        self.log.note(to, first, rest, sent);
+        sent
+    }
+}
+
+/// The moments of a bridge that runs, as a watch.
+#[derive(Drop)]
+pub(crate) struct SystemWatch<R: Clock + Drop> {
+    rt: R,
+    moments: Moments,
+    /// What it told, in proofs alone.
+    log: WatchLog,
+}
+
+impl<R: Clock + Copy + Drop> SystemWatch<R> {
+    /// A watch that has told nothing yet.
+    pub(crate) fn begin(rt: &R) -> Result<Self, FrontFault> {
+        Ok(Self {
+            rt: *rt,
+            moments: Moments::begin(rt)?,
+            log: WatchLog::new(),
+        })
+    }
+
+    /// The moment at which it began, in nanoseconds since 1970.
+    pub(crate) fn start(&self) -> u64 {
+        self.moments.start()
+    }
+}
+
+impl<R: Clock + Drop> Watch for SystemWatch<R> {
+    ghost use Rattle.front_rounds.specs.Logs.{told_list};
+
+    ghost told = { λ watch. told_list watch.log };
+
+    fn now(&mut self) -> Result<u64, FrontFault> {
+        let now = self.moments.now(&self.rt)?;
+        self.log.note(now);
+        Ok(now)
+    }
+}
+
+/// Where operators connect.
+#[derive(Drop)]
+pub(crate) struct OperatorListener {
+    tcp: TcpListener,
+    /// Connections may wait.
+    has_callers: bool,
+}
+
+impl OperatorListener {
+    /// Notes whether connections may wait since the last call.
+    pub(crate) fn note(&mut self, may_wait: bool) {
+        self.has_callers = self.has_callers || may_wait;
     }
 
     /// The next connection, if one waits.
@@ -105,50 +230,37 @@ impl Sockets {
             }
         }
     }
+}
 
-    /// A handle of the socket for datagrams.
-    pub(crate) fn udp(&self) -> Result<Arc<UdpSocket, Global>, AllocError> {
-        Arc::try_clone(&self.udp)
-    }
+/// The socket for datagrams of a front, from which nothing was read yet.
+#[derive(Drop)]
+pub(crate) struct Sockets {
+    pub(crate) inlet: UdpInlet,
+    pub(crate) wire: FrontSocket,
+    /// For the lanes.
+    pub(crate) udp: Arc<UdpSocket, Global>,
+}
 
-    /// Whether datagrams may wait.
-    pub(crate) fn has_datagrams(&self) -> bool {
-        self.has_datagrams
-    }
-
-    /// Reads the next datagram, if one waits.
-    pub(crate) fn read(&mut self) -> Result<Read, FrontFault> {
-        match self.udp.recv_from(&mut self.chunk) {
-            Ok((octets, told)) => Ok(match address_of(told) {
-                Some(from) => Read::Datagram { from, octets },
-                None => Read::Other,
-            }),
-            Err(error) => match error.kind() {
-                ErrorKind::WouldBlock => {
-                    self.has_datagrams = false;
-                    Ok(Read::Nothing)
-                }
-                ErrorKind::Interrupted | ErrorKind::ConnectionRefused => Ok(Read::Other),
-                _ => Err(FrontFault::from(error)),
-            },
-        }
-    }
-
-    /// The first octets of what was read last, and the wire.
-    pub(crate) fn parts(&mut self, octets: usize) -> (&[u8], UdpWire<'_>) {
-        let read = self.chunk.get(..octets).unwrap_or(&[]);
-        let wire = UdpWire {
-            socket: &*self.udp,
-            whole: &mut self.whole,
-        };
-        (read, wire)
-    }
-
-    /// The socket for datagrams as a wire.
-    pub(crate) fn wire(&mut self) -> UdpWire<'_> {
-        UdpWire {
-            socket: &*self.udp,
-            whole: &mut self.whole,
-        }
-    }
+/// The sockets of a front, what ends a wait at them, and the settings.
+pub(crate) fn sockets_of(
+    alloc: Global,
+    front: Front,
+) -> Result<(Sockets, OperatorListener, FrontWaker, FrontSettings), FrontFault>
+    ensures { IfOk result (λ parts. parts.3 ≡ front.settings) }
+{
+    let Front {
+        poll,
+        udp,
+        tcp,
+        settings,
+    } = front;
+    let waker = FrontWaker(Arc::new(alloc, Waker::new(poll.registry(), WAKER)?)?);
+    let udp = Arc::new(alloc, udp)?;
+    let wire = FrontSocket::new(alloc, &udp)?;
+    let inlet = UdpInlet::new(alloc, poll, &udp)?;
+    let listener = OperatorListener {
+        tcp,
+        has_callers: true,
+    };
+    Ok((Sockets { inlet, wire, udp }, listener, waker, settings))
 }

@@ -6,7 +6,8 @@ input. Each such function has a line with what runs it, or NOWHERE; the status i
 nothing uses yet read "not yet".
 
 Calls are found in the text, by names: `Type::name(..)`, `module::name(..)`, `name(..)`, and `x.name(..)` where the type of x is
-told nearby or one type alone has such a method. What can't be told counts as no call.
+told nearby or one type alone has such a method. A trait's method that is called calls that of each type. What can't be told counts as
+no call.
 """
 
 import re
@@ -26,7 +27,7 @@ PROGRAMS = {
 NOT_YET = set()
 
 FN = re.compile(r"(?P<vis>pub(?:\(crate\))? |)(?:const )?fn (?P<name>\w+)\s*(?:<[^(]*>)?\(")
-IMPL = re.compile(r"^(?:impl|pub trait|trait)\b(?:<[^{]*?>)?\s*(?:[\w:]+(?:<[^{]*>)? for )?(?P<owner>\w+)[^{]*\{", re.M)
+IMPL = re.compile(r"^(?:impl|pub trait|trait)\b(?:<[^{]*?>)?\s*(?:(?:\w+::)*(?P<trait>\w+)(?:<[^{]*>)? for )?(?P<owner>\w+)[^{]*\{", re.M)
 ENUM = re.compile(r"enum (\w+)(?:<[^{;]*>)?\s*\{")
 STRUCT = re.compile(r"struct (\w+)(?:<[^{;]*>)?\s*\{([^}]*)\}")
 EXPORT = re.compile(r"pub use (?:self::)?\w+::(\w+|\{[^}]*\})")
@@ -69,8 +70,8 @@ def after_clauses(text, place):
 class Function:
     """A function: where it stands, what it takes and gives, and its body without its contract."""
 
-    def __init__(self, crate, owner, match, text):
-        self.crate, self.owner, self.name = crate, owner, match["name"]
+    def __init__(self, crate, owner, trait, match, text):
+        self.crate, self.owner, self.trait, self.name = crate, owner, trait, match["name"]
         self.is_public = match["vis"] == "pub "
         self.is_test = "#[test]" in text[max(0, match.start() - 40) : match.start()]
         place = text.index("(", match.end() - 1)
@@ -116,10 +117,10 @@ class Sources:
         for match in ENUM.finditer(text):
             inside = text[match.end() : closing(text, match.end() - 1)]
             self.fields[match[1]].update(re.findall(r"(\w+)\((\w[^)]*)\)", inside))
-        spans = [(m.start(), closing(text, m.end() - 1), m["owner"]) for m in IMPL.finditer(text)]
+        spans = [(m.start(), closing(text, m.end() - 1), m["owner"], m["trait"]) for m in IMPL.finditer(text)]
         for match in FN.finditer(text):
-            owner = next((owner for start, end, owner in spans if start < match.start() < end), None)
-            self.functions.append(Function(crate, owner, match, text))
+            within = ((owner, trait) for start, end, owner, trait in spans if start < match.start() < end)
+            self.functions.append(Function(crate, *next(within, (None, None)), match, text))
 
     def type_in(self, words):
         named = (self.aliases.get(word, word) for word in re.findall(r"\b[A-Z]\w+", words))
@@ -128,6 +129,10 @@ class Sources:
     def candidates(self, f, name):
         """The functions of this name that a function can call."""
         return [g for g in self.by_name[name] if g.crate in self.sees[f.crate]]
+
+    def given(self, f):
+        """The methods that types give for a trait's method."""
+        return [g for g in self.by_name[f.name] if f.owner and g.trait == f.owner and f.crate in self.sees[g.crate]]
 
     def only_method(self, found):
         """The methods among these functions, if one type alone has them."""
@@ -196,7 +201,7 @@ class Sources:
             f, root = waiting.popleft()
             if f not in found:
                 found[f] = root
-                waiting += [(g, root) for g in self.calls(f)]
+                waiting += [(g, root) for g in [*self.calls(f), *self.given(f)]]
         return found
 
     def allocating(self):

@@ -1,0 +1,4 @@
+pub mod LaneLemmas
+pub mod MeantLemmas
+pub mod StepLemmas
+pub mod TurnLemmas

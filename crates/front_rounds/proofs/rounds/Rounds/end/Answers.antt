@@ -1,0 +1,49 @@
+use Rattle.std.proofs.Common.{◌∷◌, [], ◌++◌, List, refl, sym, subst, append_assoc}
+use Rattle.front_rounds.specs.Turns.{Turn, history, looked}
+use Rattle.front_rounds.specs.Shapes.{AreRounds}
+use Rattle.front_rounds.specs.Runs.{front_at, HasRun}
+use Rattle.front_rounds.specs.declared.running.RoundStage.{RoundStage}
+use Rattle.front_rounds.specs.declared.running.RoundStage.TheVariants.{Begun}
+use Rattle.front_rounds.proofs.TurnLemmas.{done_both}
+use Rattle.front_rounds.proofs.StepLemmas.{rounds_more}
+use Rattle.front_rounds.proofs.LaneLemmas.{lanes_by_all}
+use Rattle.front_rounds.proofs.rounds.Rounds.end.Goals as goal
+
+pub returns-in-Ok-clause-run : goal.returns-in-Ok-clause-run
+returns-in-Ok-clause-run g c start had =
+    let a = c.args.self.now in
+    let n = c.round.new.self in
+    let old = history a.media (g.I.Inlet.came a.inlet) (g.C.Watch.told a.watch) (g.W.Wire.attempts a.wire) a.ticked in
+    let new = history n.media (g.I.Inlet.came n.inlet) (g.C.Watch.told n.watch) (g.W.Wire.attempts n.wire) n.ticked in
+    let k : HasRun Begun start (front_at old a.reader) = subst (λ (s : RoundStage). HasRun s start (front_at old a.reader)) c.requires.stage had in
+    let r = c.in-Ok.ensures in
+    let slept : List Turn = looked k.1 ∷ [] in (
+      (k.0 ++ slept) ++ r.0,
+      done_both (k.0 ++ slept) r.0 start.history old new k.2 r.1,
+      subst (λ (l : List Turn). AreRounds start.reader n.reader l) (sym (append_assoc k.0 slept r.0))
+          (rounds_more start.reader a.reader n.reader k.0 slept r.0 k.1 c.args.notice k.3 refl r.2),
+    )
+
+pub returns-in-Err-clause-run : goal.returns-in-Err-clause-run
+returns-in-Err-clause-run g c start had =
+    let a = c.args.self.now in
+    let n = c.round.new.self in
+    let old = history a.media (g.I.Inlet.came a.inlet) (g.C.Watch.told a.watch) (g.W.Wire.attempts a.wire) a.ticked in
+    let new = history n.media (g.I.Inlet.came n.inlet) (g.C.Watch.told n.watch) (g.W.Wire.attempts n.wire) n.ticked in
+    let k : HasRun Begun start (front_at old a.reader) = subst (λ (s : RoundStage). HasRun s start (front_at old a.reader)) c.requires.stage had in
+    let r = c.round.ensures in
+    let slept : List Turn = looked k.1 ∷ [] in (
+      (k.0 ++ slept) ++ r.0,
+      done_both (k.0 ++ slept) r.0 start.history old new k.2 r.1,
+      (k.0, slept ++ r.0, a.reader, append_assoc k.0 slept r.0, k.3),
+    )
+
+pub returns-in-Ok-clause-lanes : goal.returns-in-Ok-clause-lanes
+returns-in-Ok-clause-lanes g c =
+    let d = c.round.ensures in
+    lanes_by_all d.0 _ _ d.1
+
+pub returns-in-Err-clause-lanes : goal.returns-in-Err-clause-lanes
+returns-in-Err-clause-lanes g c =
+    let d = c.round.ensures in
+    lanes_by_all d.0 _ _ d.1

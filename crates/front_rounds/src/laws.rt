@@ -1,0 +1,34 @@
+//! Laws of any number of rounds. The functions do nothing when they run.
+
+ghost use Rattle.std.specs.Prelude.{◌≡◌, ◌++◌, List};
+ghost use Rattle.std.specs.List.{flat_map};
+ghost use Rattle.media_front.specs.FedLanes.{lanes_in};
+ghost use Rattle.front_rounds.specs.Turns.{Turn, History, HaveDone};
+ghost use Rattle.front_rounds.specs.Tries.{Try, AreMeant, came_in, moments_in};
+
+use media_workers::{Pace, Sink};
+
+/// All that was read was read by a turn, and all that the watch told was told to one, in order. So no datagram is taken
+/// in twice or out of order, and none without its moment.
+pub fn all_that_came_is_in_turns<P: Pace, S: Sink>()
+    ensures came { (turns : List Turn) (old new : History P S) → HaveDone turns old new
+        → new.came ≡ old.came ++ flat_map came_in turns }
+    ensures told { (turns : List Turn) (old new : History P S) → HaveDone turns old new
+        → new.told ≡ old.told ++ flat_map moments_in turns }
+{}
+
+/// Whatever a front does, each datagram that it tries to send is a compound of the intake to the sender of a datagram
+/// that it took in, one that asks a sender again as time passes, a receiver report of a report that was due, or the PLI
+/// that asks a source for a picture.
+pub fn all_that_is_tried_is_meant<P: Pace, S: Sink>()
+    ensures { (turns : List Turn) (old new : History P S) → HaveDone turns old new
+        → (tries : List Try) × AreMeant turns old new tries }
+{}
+
+/// Whatever a front does, its lanes stay those that it was handed, and its intake signs with the same SSRC and CNAME.
+pub fn lanes_stay_the_same<P: Pace, S: Sink>()
+    ensures lanes { (turns : List Turn) (old new : History P S) → HaveDone turns old new
+        → lanes_in new.front.feed ≡ lanes_in old.front.feed }
+    ensures asker { (turns : List Turn) (old new : History P S) → HaveDone turns old new
+        → new.front.intake.asker ≡ old.front.intake.asker }
+{}

@@ -1,0 +1,36 @@
+//! The rounds of a front: what it does each time that it is woken, over anything that datagrams come from, any wire and
+//! any watch.
+//!
+//! Call [`Rounds::begin_round`] and [`Rounds::end_round`] in turn, until one of them has a fault. A round waits, takes
+//! in what has come at the rows of one version of the desk, and then does what is due. What lanes send, they send
+//! themselves.
+//!
+//! Contracts see all that a front does as a list of turns: what each changes in the front, in what was read, in the
+//! moments that its watch told, and in what was tried on its wire. They say it after a fault, too.
+//! [`all_that_is_tried_is_meant`] says of any number of rounds why each datagram was tried, and
+//! [`all_that_came_is_in_turns`] that each datagram that was read is in one turn, in order.
+//!
+//! ```rust
+//! // rounds: a `Rounds` over an `Inlet`, a `Wire` and a `Watch`
+//! let may_wait = rounds.begin_round()?; // connections may wait
+//! rounds.end_round(rt, publisher.tell())?; // what had come is taken in
+//! ```
+#![tactic(auto)]
+
+mod inlet;
+mod laws;
+mod logs;
+mod reading;
+mod rounds;
+mod running;
+mod switching;
+mod wakes;
+mod watch;
+
+pub use self::inlet::{Inlet, Read};
+pub use self::laws::{all_that_came_is_in_turns, all_that_is_tried_is_meant, lanes_stay_the_same};
+pub use self::logs::{ReadLog, TryLog, WatchLog};
+pub use self::rounds::Rounds;
+pub use self::running::RoundStage;
+pub use self::wakes::{Wakes, awake_lanes_run_out_of_samples, sleeping_lanes_have_places};
+pub use self::watch::Watch;

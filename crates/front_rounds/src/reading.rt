@@ -1,0 +1,92 @@
+//! What a round reads.
+
+ghost use Rattle.std.specs.Prelude.{◌≡◌, ◌∷◌, [], ℕ, List, IfOk, OnOk};
+ghost use Rattle.front_rounds.specs.Turns.{Turn, HaveDone, history};
+ghost use Rattle.front_rounds.specs.Shapes.{IsTaken, IsPassed, AreAllRead};
+ghost use Rattle.front_rounds.specs.inner.Reading.{IsReadOnce};
+
+use crate::inlet::{Inlet, Read};
+use crate::rounds::Rounds;
+use crate::watch::Watch;
+use desk_rows::Rows;
+use media_workers::{Pace, PublisherName, Sink};
+use udp_front::{FrontFault, Wire};
+
+/// How many datagrams are taken in under one entry into the published desk, so that neither a tick nor an operator's
+/// call waits long for them.
+const DATAGRAMS: u32 = 64;
+
+impl<N: PublisherName, P: Pace, S: Sink, I: Inlet, W: Wire, C: Watch> Rounds<N, P, S, I, W, C> {
+    /// Takes in the datagrams that wait.
+    pub(crate) fn take_datagrams(&mut self, rows: &Rows) -> Result<(), FrontFault>
+        ensures { (turns : List Turn) × HaveDone turns
+            (history self.old.media (I.came self.old.inlet) (C.told self.old.watch)
+            (W.attempts self.old.wire) self.old.ticked)
+            (history self.new.media (I.came self.new.inlet) (C.told self.new.watch)
+            (W.attempts self.new.wire) self.new.ticked)
+            × OnOk result (AreAllRead (IsTaken rows.now) turns) }
+    {
+        for _ in 0..DATAGRAMS {
+            let has_more = self.take_datagram(rows)?;
+            if !has_more {
+                return Ok(());
+            }
+        }
+        Ok(())
+    }
+
+    /// Takes in the next datagram. Returns whether one waited, or something else.
+    fn take_datagram(&mut self, rows: &Rows) -> Result<bool, FrontFault>
+        ensures { (turns : List Turn) × HaveDone turns
+            (history self.old.media (I.came self.old.inlet) (C.told self.old.watch)
+            (W.attempts self.old.wire) self.old.ticked)
+            (history self.new.media (I.came self.new.inlet) (C.told self.new.watch)
+            (W.attempts self.new.wire) self.new.ticked)
+            × IfOk result (λ more. IsReadOnce (IsTaken rows.now) more turns) }
+    {
+        let (from, octets) = match self.inlet.read(&mut self.chunk)? {
+            Read::Datagram { from, octets } => (from, octets),
+            Read::Other => return Ok(true),
+            Read::Nothing => return Ok(false),
+        };
+        let moment = self.watch.now()?;
+        self.catch_up(moment);
+        let octets = &self.chunk[..octets];
+        self.media
+            .datagram(self.alloc, rows, &from, moment, octets, &mut self.wire)?;
+        Ok(true)
+    }
+
+    /// Drops the datagrams that wait.
+    pub(crate) fn drop_datagrams(&mut self) -> Result<(), FrontFault>
+        ensures done { (turns : List Turn) × HaveDone turns
+            (history self.old.media (I.came self.old.inlet) (C.told self.old.watch)
+            (W.attempts self.old.wire) self.old.ticked)
+            (history self.new.media (I.came self.new.inlet) (C.told self.new.watch)
+            (W.attempts self.new.wire) self.new.ticked)
+            × OnOk result (AreAllRead IsPassed turns) }
+        ensures reader { self.new.reader ≡ self.old.reader }
+    {
+        for _ in 0..DATAGRAMS {
+            let has_more = self.drop_datagram()?;
+            if !has_more {
+                return Ok(());
+            }
+        }
+        Ok(())
+    }
+
+    /// Drops the next datagram. Returns whether one waited, or something else.
+    fn drop_datagram(&mut self) -> Result<bool, FrontFault>
+        ensures done { (turns : List Turn) × HaveDone turns
+            (history self.old.media (I.came self.old.inlet) (C.told self.old.watch)
+            (W.attempts self.old.wire) self.old.ticked)
+            (history self.new.media (I.came self.new.inlet) (C.told self.new.watch)
+            (W.attempts self.new.wire) self.new.ticked)
+            × IfOk result (λ more. IsReadOnce IsPassed more turns) }
+        ensures reader { self.new.reader ≡ self.old.reader }
+    {
+        let read = self.inlet.read(&mut self.chunk)?;
+        Ok(read.is_something())
+    }
+}

@@ -1,0 +1,88 @@
+//! Pictures for slots that were given another source.
+
+ghost use Rattle.std.specs.Prelude.{◌≡◌, ◌∷◌, [], Bool, List, IfOk, OnOk};
+ghost use Rattle.std.specs.List.{AllByRecursion};
+ghost use Rattle.front_rounds.specs.Turns.{Turn, HaveDone, history};
+ghost use Rattle.front_rounds.specs.Shapes.{IsPicture};
+
+use crate::inlet::Inlet;
+use crate::rounds::Rounds;
+use crate::watch::Watch;
+use desk_rows::Rows;
+use media_workers::{Pace, PublisherName, Sink};
+use picture_requests::VideoSource;
+use udp_front::{FrontFault, Wire};
+
+impl<N: PublisherName, P: Pace, S: Sink, I: Inlet, W: Wire, C: Watch> Rounds<N, P, S, I, W, C> {
+    /// Asks the senders that may be asked at this moment for pictures, at the rows of this version.
+    pub(crate) fn want_pictures(
+        &mut self,
+        version: u64,
+        rows: &Rows,
+        now: u64,
+    ) -> Result<(), FrontFault>
+        ensures { (turns : List Turn) × HaveDone turns
+            (history self.old.media (I.came self.old.inlet) (C.told self.old.watch)
+            (W.attempts self.old.wire) self.old.ticked)
+            (history self.new.media (I.came self.new.inlet) (C.told self.new.watch)
+            (W.attempts self.new.wire) self.new.ticked)
+            × AllByRecursion IsPicture turns }
+    {
+        self.see(version, rows, now)?;
+        self.ask_pictures(now)
+    }
+
+    /// Sees the rows of this version, if it is not the one that was seen last: the senders of the sources that slots
+    /// were given since then are to be asked for a picture.
+    fn see(&mut self, version: u64, rows: &Rows, now: u64) -> Result<(), FrontFault>
+        ensures { self.new ≡ record self.old { pictures = self.new.pictures; version = self.new.version } }
+    {
+        if version == self.version {
+            return Ok(());
+        }
+        self.pictures.see(self.alloc, rows, now)?;
+        self.version = version;
+        Ok(())
+    }
+
+    /// Asks the senders that may be asked at this moment for pictures.
+    fn ask_pictures(&mut self, now: u64) -> Result<(), FrontFault>
+        ensures { (turns : List Turn) × HaveDone turns
+            (history self.old.media (I.came self.old.inlet) (C.told self.old.watch)
+            (W.attempts self.old.wire) self.old.ticked)
+            (history self.new.media (I.came self.new.inlet) (C.told self.new.watch)
+            (W.attempts self.new.wire) self.new.ticked)
+            × AllByRecursion IsPicture turns }
+    {
+        let due = self.pictures.due(self.alloc, now)?;
+        for source in due.iter() {
+            self.ask_picture(source, now)?;
+        }
+        Ok(())
+    }
+
+    /// Asks a sender for a picture. If its address had credit for the request, the source was asked at this moment.
+    fn ask_picture(&mut self, source: &VideoSource, now: u64) -> Result<(), FrontFault>
+        ensures { (turns : List Turn) × HaveDone turns
+            (history self.old.media (I.came self.old.inlet) (C.told self.old.watch)
+            (W.attempts self.old.wire) self.old.ticked)
+            (history self.new.media (I.came self.new.inlet) (C.told self.new.watch)
+            (W.attempts self.new.wire) self.new.ticked)
+            × AllByRecursion IsPicture turns }
+    {
+        let sent = self
+            .media
+            .ask_picture(self.alloc, &source.address(), source.ssrc, &mut self.wire)?;
+        self.note(source, now, sent);
+        Ok(())
+    }
+
+    /// Notes that a source was asked at this moment, if it was.
+    fn note(&mut self, source: &VideoSource, now: u64, sent: bool)
+        ensures { self.new ≡ record self.old { pictures = self.new.pictures } }
+    {
+        if sent {
+            self.pictures.asked(source, now);
+        }
+    }
+}

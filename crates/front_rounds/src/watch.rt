@@ -1,0 +1,16 @@
+//! What tells the time.
+
+ghost use Rattle.std.specs.Prelude.{◌≡◌, ◌++◌, ◌∷◌, [], ℕ, List, IfOk, OnErr};
+
+use udp_front::FrontFault;
+
+/// What tells the time. Contracts see the moments that it told, oldest first, in nanoseconds since 1970.
+pub trait Watch {
+    /// What it told so far.
+    ghost told: { Self → List ℕ };
+
+    /// The present moment, in nanoseconds since 1970.
+    fn now(&mut self) -> Result<u64, FrontFault>
+        ensures ok { IfOk result (λ now. told self.new ≡ told self.old ++ now ∷ []) }
+        ensures err { OnErr result (told self.new ≡ told self.old) };
+}
