@@ -64,7 +64,7 @@ pub enum Item<A: Allocator + Copy = Global> {
 }
 
 impl<A: Allocator + Copy> Item<A> {
-    /// A copy, since each lane takes an item of its own. It shares a frame's payloads, and copies samples and numbers.
+    /// A copy. It shares a frame's payloads, and copies samples and numbers.
     ///
     /// The only error is out of memory.
     pub fn copy(&self, alloc: A) -> Result<Self, AllocError>
