@@ -32,6 +32,8 @@ NOT_RUN = {
     "tcpdump": "root",
     "tools/bridge watch": "someone who ends it, leave to capture",
     "sudo": "root, packages",
+    "tools/bridge keep": "a bridge that starts anew in between; `check fleet` keeps and restores desks",
+    "examples/fleet/dispatch.py": "Kamailio; `check fleet` runs it",
     "podman-compose": "containers, both programs built",
 }
 # Blocks that end with another status than 0.
