@@ -47,8 +47,6 @@ mod running;
 #[cfg(test)]
 mod runs;
 #[cfg(test)]
-mod script_wire;
-#[cfg(test)]
 mod sleeping;
 #[cfg(test)]
 mod stage;
@@ -62,7 +60,3 @@ mod told;
 mod unrung;
 #[cfg(test)]
 mod waiting;
-#[cfg(test)]
-mod wire_plays;
-#[cfg(test)]
-mod wires;

@@ -96,11 +96,6 @@ pub fn stream_of(egress: &Egress) -> u32 {
     head_of(egress).ssrc
 }
 
-/// The sequence number of a packet.
-pub fn number_of(egress: &Egress) -> u16 {
-    head_of(egress).number
-}
-
 /// The version by which an egress is sent first.
 pub fn version_of(egress: &Egress) -> u64 {
     head_of(egress).version
