@@ -64,7 +64,7 @@ at_ready streams before stamp desk f r h next at =
     let k = r.receiver.slot.out_ssrc in
     let e = routed-more k before v ∙ ap (λ o. routed k before ++ cons_option o []) at in
     let m = stream_more (routed k before) (routed_to v f r.receiver) r.prepared
-    (subst (λ o. SendsNext (current o r.receiver.slot) (committed (current o r.receiver.slot) r.prepared) (sending_of f stamp (owner_of r.receiver)) r.prepared.packets) h next.0) in (
+    (subst (λ o. SendsNext (current o r.receiver.slot) (committed (current o r.receiver.slot) r.prepared) (sending_of f stamp (owner_of r.receiver)) r.prepared.packets) h next) in (
       ap (stream_of k) e ∙ m.0 ∙ ap (λ o. Some (committed (current o r.receiver.slot) r.prepared)) (sym h),
       ap (packets_sent k) e ∙ m.1,
     )

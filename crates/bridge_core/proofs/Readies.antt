@@ -1,23 +1,19 @@
 -- What is prepared for the receivers, by their SSRC.
-use Rattle.std.proofs.Common.{◌≡◌, ℕ, ◌+◌, ◌*◌, Bool, true, false, cond, nat_eq, ◌⊎◌, List, [], ◌∷◌, ◌++◌, length, map, Option, Some, None, refl, sym, ap, subst, ◌∙◌, arith, eqb-true, eq-eqb, inl, inr}
+use Rattle.std.proofs.Common.{◌≡◌, ℕ, Bool, true, false, cond, nat_eq, ◌⊎◌, List, [], ◌∷◌, ◌++◌, map, Option, Some, None, refl, sym, ap, subst, ◌∙◌, arith, eqb-true, eq-eqb, inl, inr}
 use Rattle.std.proofs.lemmas.Bool.{cases_eq}
 use Rattle.std.specs.Prelude.{filter, option_map}
 use Rattle.std.specs.List.{find, AllByRecursion}
 use Rattle.std.proofs.lemmas.Bool.Decides.{nat_tests}
-use Rattle.std.proofs.lemmas.List.Sums.{sum_by-append}
-use Rattle.retransmit.specs.declared.owner.Owner.{Owner}
+use Rattle.std.proofs.lemmas.List.{flat_map_more}
 use Rattle.retransmit.specs.SentPacket.{SentPacket}
 use Rattle.topology.specs.declared.receivers.Receiver.{Receiver}
 use Rattle.topology.specs.Receivers.{receiver_at, AreDistinct}
-use Rattle.media_items.specs.declared.stamp.Stamp.{Stamp}
-use Rattle.media_items.specs.Frame.{SourceFrame}
-use Rattle.forward_rewrite.specs.Sending.{sending_of, out_of, IsOf}
 use Rattle.forward_rewrite.specs.Streams.{StreamOf, committed}
 use Rattle.media_items.specs.OwnStreams.{is_mine}
 use Rattle.bridge_core.specs.Sent.{Sent}
-use Rattle.bridge_core.specs.Lanes.{owner_of, goes}
+use Rattle.bridge_core.specs.Lanes.{goes}
 use Rattle.bridge_core.specs.LaneState.{StreamList, stream_at}
-use Rattle.bridge_core.specs.inner.Readies.{ReadyOf, Fits, AllFit, receivers_of, current, kept_after, kept_after_one, first_to, packet_count}
+use Rattle.bridge_core.specs.inner.Readies.{ReadyOf, Fits, AllFit, receivers_of, ssrc_of, current, kept_after, kept_after_one, sent_for}
 
 pub each_more : {X : Type 0} {P Q : X → Type 0} → ((x : X) → P x → Q x) → (xs : List X) → AllByRecursion P xs → AllByRecursion Q xs
 each_more f [] h = tt
@@ -139,11 +135,6 @@ pub all-push : {X : Type 0} (P : X → Type 0) (xs : List X) (x : X) → AllByRe
 all-push P [] x h n = (n, tt)
 all-push P (y ∷ xs) x h n = (h.0, all-push P xs x h.1 n)
 
-pub packet_count-push : (rs : List ReadyOf) (r : ReadyOf) (len more n : ℕ) → packet_count rs ≡ len * n → length r.prepared.packets ≡ n → more ≡ len + 1 → packet_count (rs ++ r ∷ []) ≡ more * n
-packet_count-push rs r len more n h e m =
-    let one : packet_count rs + packet_count (r ∷ []) ≡ (len + 1) * n = omega arith in
-    sum_by-append (λ (x : ReadyOf). length x.prepared.packets) rs (r ∷ []) ∙ one ∙ ap (λ k. k * n) (sym m)
-
 -- what is left of a list is the lane's
 pub all_mine : (lane lanes : ℕ) (rs : List Receiver) → AllByRecursion (λ r. is_mine lane lanes r.slot.out_ssrc ≡ true) (filter (λ r. is_mine lane lanes r.slot.out_ssrc) rs)
 all_mine lane lanes [] = tt
@@ -170,18 +161,14 @@ still_fit old new r (x ∷ rs) none is h =
     ∙ ap (λ b. cond b (Some (committed (current (stream_at x.receiver.slot.out_ssrc old) r.receiver.slot) r.prepared)) (stream_at x.receiver.slot.out_ssrc old)) apart in
     (subst (λ kept. Fits kept x) (sym same) h.0, still_fit old new r rs parts.1 is h.1)
 
--- what goes to a receiver for the first time is its packets
-pub first_alike : (stamp : Stamp) (f : SourceFrame) (r : Receiver) (ps : List SentPacket) → AllByRecursion (IsOf (sending_of f stamp (owner_of r))) ps → map (first_to stamp r) (map out_of ps) ≡ map (goes r.slot.out_ssrc None) ps
-first_alike stamp f r [] h = refl
-first_alike stamp f r (p ∷ ps) h =
-    let one : first_to stamp r (out_of p) ≡ goes r.slot.out_ssrc None p =
-    λ j. Sent.media record {
-      version = sym h.0.version j;
-      item = sym h.0.item j;
-      to = sym (ap (λ (o : Owner). o.address) h.0.owner) j;
-      ssrc = r.slot.out_ssrc;
-      number = p.number;
-      bytes = p.bytes;
-      resent_by = None;
-    } in
-    λ j. one j ∷ first_alike stamp f r ps h.1 j
+-- the packets of one more receiver are appended
+pub sent_pushed : (before out new : List Sent) (rs all : List ReadyOf) (r : ReadyOf) (to : Receiver) (ps : List SentPacket)
+    → out ≡ before ++ sent_for rs → r.receiver ≡ to → ps ≡ r.prepared.packets → new ≡ out ++ map (goes to.slot.out_ssrc None) ps → all ≡ rs ++ r ∷ []
+    → new ≡ before ++ sent_for all
+sent_pushed before out new rs all r to ps told whose same appended pushed =
+    appended
+    ∙ ap (λ es. es ++ map (goes to.slot.out_ssrc None) ps) told
+    ∙ ap (λ (x : Receiver). (before ++ sent_for rs) ++ map (goes x.slot.out_ssrc None) ps) (sym whose)
+    ∙ ap (λ (qs : List SentPacket). (before ++ sent_for rs) ++ map (goes (ssrc_of r) None) qs) same
+    ∙ flat_map_more (λ (x : ReadyOf). map (goes (ssrc_of x) None) x.prepared.packets) before rs r
+    ∙ ap (λ xs. before ++ sent_for xs) (sym pushed)

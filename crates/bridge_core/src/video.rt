@@ -110,13 +110,13 @@ impl<A: Allocator + Copy> VideoStreams<A> {
         all_who_chose_receive();
         let mut receivers = receivers_of(alloc, visit.rows, frame.source, &frame.address)?;
         keep_mine(&visit.place, &mut receivers);
-        let ready = prepare_all(alloc, &self.table, &receivers, frame, visit.stamp)?;
         let whole = &frame.frame;
         // More packets than can be counted exceed any memory too.
-        let packets = ready.len().saturating_mul(whole.len().into());
+        let packets = receivers.len().saturating_mul(whole.len().into());
         let mut out = Vec::with_capacity(alloc, packets)?;
+        let ready = prepare_all(alloc, &self.table, &receivers, frame, visit.stamp, &mut out)?;
         self.table.reserve(ready.len())?;
-        commit_all(&mut self.table, ready, visit.stamp, frame, &mut out);
+        commit_all(&mut self.table, ready);
         Ok(out)
     }
 

@@ -12,7 +12,7 @@ use crate::sending::OutPacket;
 use frame_gate::FramePacket;
 use media_items::{MediaFrame, Stamp};
 use retransmit::{Entry, Owner, PacketBytes};
-use rtp_codec::{Header, seq_next, write};
+use rtp_codec::{Header, fixed_header, seq_next};
 use std::alloc::{AllocError, Allocator};
 
 /// What all packets of a frame share.
@@ -28,21 +28,16 @@ pub struct Shared {
     pub owner: Owner,
 }
 
-/// The header of a packet with one contributing source. `block` is a buffer to write it in.
-fn header_octets<A: Allocator>(
-    header: &Header,
-    source: u32,
-    block: &mut Vec<u8, A>,
-) -> Result<[u8; 16], AllocError>
+/// The header of a packet with one contributing source.
+fn header_octets(header: &Header, source: u32) -> [u8; 16]
     requires { header.now.pt ≤ highest_pt }
-    ensures { IfOk result (λ octets. (payload : List ℕ)
-        → octets ++ payload ≡ written header.now (source ∷ []) payload) }
+    ensures { (payload : List ℕ) → result ++ payload ≡ written header.now (source ∷ []) payload }
 {
-    block.clear();
-    write(header, &[source], &[], block)?;
     let mut octets = [0; 16];
-    octets.copy_from_slice(block);
-    Ok(octets)
+    let (fixed, named) = octets.split_at_mut(12);
+    fixed.copy_from_slice(&fixed_header(header, 1));
+    named.copy_from_slice(&source.to_be_bytes());
+    octets
 }
 
 /// A packet of a frame, sent under this number.
@@ -51,7 +46,6 @@ fn entry_of<A: Allocator + Copy>(
     number: u16,
     frame: &MediaFrame<A>,
     packet: &FramePacket<A>,
-    block: &mut Vec<u8, A>,
 ) -> Result<Entry<A>, AllocError>
     requires { packet.now.pt ≤ highest_pt }
     ensures { IfOk result
@@ -64,7 +58,7 @@ fn entry_of<A: Allocator + Copy>(
         ts: shared.ts,
         ssrc: shared.ssrc,
     };
-    let octets = header_octets(&header, frame.source, block)?;
+    let octets = header_octets(&header, frame.source);
     let stamp = shared.stamp;
     Ok(Entry {
         number,
@@ -92,10 +86,9 @@ pub fn entries_of<A: Allocator + Copy>(
         (λ v. v.items ≡ numbered shared.now.ssrc first (map (part_of (stamped_by shared.now frame.now)) packets.now)) }
 {
     let mut entries = Vec::with_capacity(alloc, packets.len())?;
-    let mut block = Vec::with_capacity(alloc, 16)?;
     let mut number = first;
     for packet in packets {
-        let one = entry_of(shared, number, frame, packet, &mut block)?;
+        let one = entry_of(shared, number, frame, packet)?;
         entries.push(one)?;
         number = seq_next(number);
     }
@@ -113,7 +106,7 @@ pub fn payload_octets<A: Allocator + Copy>(packets: &[FramePacket<A>]) -> u32
     octets
 }
 
-/// A packet to be sent, which shares its octets with the window.
+/// A packet to be sent.
 fn out_packet<A: Allocator + Copy>(entry: &Entry<A>) -> Result<OutPacket<A>, AllocError>
     ensures { IfOk result (λ p. p ≡ out_of entry.now) }
 {
@@ -124,7 +117,7 @@ fn out_packet<A: Allocator + Copy>(entry: &Entry<A>) -> Result<OutPacket<A>, All
     })
 }
 
-/// The packets to be sent.
+/// The packets to be sent, which share their octets with the window.
 pub fn out_packets<A: Allocator + Copy>(
     alloc: A,
     entries: &[Entry<A>],

@@ -1,14 +1,16 @@
 //! Frames that are ready to be sent.
 
+ghost use Rattle.std.specs.Prelude.{◌≡◌};
+
 use crate::last_sent::LastSent;
-use crate::sending::OutPacket;
 use retransmit::Entry;
 use std::alloc::{Allocator, Global};
 use std::marker::Model;
 
 /// A frame that is ready to be sent. [`Stream::prepare`](crate::Stream::prepare) makes it.
 ///
-/// It has all the memory that sending takes. It fits the stream only as the stream was then.
+/// It has all the memory that sending takes. It fits the stream only as the stream was then. A contract sees its
+/// packets and what the stream keeps of them.
 #[derive(Drop)]
 pub struct PreparedFrame<A: Allocator + Copy = Global> {
     /// The number of its first packet.
@@ -18,15 +20,12 @@ pub struct PreparedFrame<A: Allocator + Copy = Global> {
     /// The octets of payload of its packets, modulo 2^32.
     pub(crate) octets: u32,
     pub(crate) last: LastSent,
-    /// The packets for the window.
     pub(crate) entries: Vec<Entry<A>, A>,
-    /// The same packets, as they are sent.
-    pub(crate) out: Vec<OutPacket<A>, A>,
 }
 
 impl<A: Allocator + Copy> Model for PreparedFrame<A> {
     ghost use Rattle.forward_rewrite.specs.Streams.{PreparedOf};
-    ghost use Rattle.forward_rewrite.specs.inner.Ready.{IsReady};
+    ghost use Rattle.forward_rewrite.specs.inner.Row.{Lead};
 
     ghost Value = { PreparedOf };
 
@@ -38,5 +37,15 @@ impl<A: Allocator + Copy> Model for PreparedFrame<A> {
       packets = p.entries.items;
     } };
 
-    ghost invariant = { λ p. IsReady p.first p.next p.entries.items p.out.items };
+    ghost invariant = { λ p. Lead p.first p.entries.items p.next };
+}
+
+impl<A: Allocator + Copy> PreparedFrame<A> {
+    /// Its packets, in the order in which they are sent. The caller copies what is to go out;
+    /// [`Entry::try_clone`] and [`PacketBytes::try_clone`](retransmit::PacketBytes::try_clone) share the payloads.
+    pub fn packets(&self) -> &[Entry<A>]
+        ensures { result.now ≡ self.now.packets }
+    {
+        &self.entries
+    }
 }

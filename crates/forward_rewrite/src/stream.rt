@@ -1,9 +1,9 @@
 //! Outgoing video streams.
 
-ghost use Rattle.std.specs.Prelude.{◌≡◌, ◌≤◌, ℕ, List, [], ◌++◌, length, map, IfOk, OnErr, option_copied};
+ghost use Rattle.std.specs.Prelude.{◌≡◌, ◌≤◌, ℕ, List, [], ◌++◌, length, IfOk, OnErr, option_copied};
 ghost use Rattle.std.specs.List.{AllByRecursion};
 ghost use Rattle.retransmit.specs.Window.{window_size, latest, resend_of};
-ghost use Rattle.forward_rewrite.specs.Sending.{Sending, sending_of, out_of, IsOf};
+ghost use Rattle.forward_rewrite.specs.Sending.{Sending, sending_of, IsOf};
 ghost use Rattle.forward_rewrite.specs.Streams.{state_of, counts_of, committed, HasSent, SendsNext, GivesNext};
 ghost use Rattle.forward_rewrite.specs.inner.Counters.{ts_after, IsPrepared};
 ghost use Rattle.forward_rewrite.specs.inner.Row.{MayGoOn};
@@ -162,24 +162,22 @@ impl<A: Allocator + Copy> Stream<A> {
             owner,
         };
         let entries = entries_of(alloc, &shared, self.next, frame, whole.sent())?;
-        let out = out_packets(alloc, &entries)?;
         Ok(PreparedFrame {
             first: self.next,
             next: self.next.wrapping_add(whole.len()),
             octets: payload_octets(whole.sent()),
             last: LastSent::new(frame, ts),
             entries,
-            out,
         })
     }
 
-    /// Sends a prepared frame, and keeps its packets. This takes no memory.
+    /// Sends a prepared frame: the stream goes on behind it, and keeps its packets. This takes no memory.
     ///
-    /// The stream must be as it was when the frame was prepared.
-    pub fn commit(&mut self, prepared: PreparedFrame<A>) -> Vec<OutPacket<A>, A>
+    /// The stream must be as it was when the frame was prepared. Copy what is to go out before, from
+    /// [`PreparedFrame::packets`].
+    pub fn commit(&mut self, prepared: PreparedFrame<A>)
         requires { prepared.first ≡ self.old.next }
-        ensures stream { self.new ≡ committed self.old prepared }
-        ensures packets { result.items ≡ map out_of prepared.packets }
+        ensures { self.new ≡ committed self.old prepared }
     {
         let PreparedFrame {
             first: _,
@@ -187,7 +185,6 @@ impl<A: Allocator + Copy> Stream<A> {
             octets,
             last,
             entries,
-            out,
         } = prepared;
         self.next = next;
         self.packets = self
@@ -196,7 +193,6 @@ impl<A: Allocator + Copy> Stream<A> {
         self.octets = self.octets.wrapping_add(octets);
         self.last = Some(last);
         keep(&mut self.window, entries);
-        out
     }
 
     /// Prepares and commits the next frame. On out of memory, the only error, the stream stays as it was.
@@ -213,7 +209,9 @@ impl<A: Allocator + Copy> Stream<A> {
         ensures err { OnErr result (self.new ≡ self.old) }
     {
         let prepared = self.prepare(alloc, frame, stamp, owner)?;
-        Ok(self.commit(prepared))
+        let out = out_packets(alloc, prepared.packets())?;
+        self.commit(prepared);
+        Ok(out)
     }
 
     /// The packet that went to this owner under this number, if it is among the last 512.

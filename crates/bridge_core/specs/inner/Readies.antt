@@ -1,15 +1,14 @@
 -- What is made ready for the receivers of a frame, and what sending it leaves.
 use Rattle.std.specs.Prelude.{◌≡◌, ℕ, if◌then◌else◌, nat_eq, List, [], ◌∷◌}
-use Rattle.std.specs.Prelude.{length, map, Option, None, Some, unwrap_or, sum_by}
+use Rattle.std.specs.Prelude.{map, Option, None, Some, unwrap_or}
 use Rattle.std.specs.List.{flat_map, AllByRecursion}
 use Rattle.desk_rows.specs.declared.row.Slot.{Slot as SlotRow}
 use Rattle.topology.specs.declared.receivers.Receiver.{Receiver}
 use Rattle.media_items.specs.declared.stamp.Stamp.{Stamp}
 use Rattle.media_items.specs.Frame.{SourceFrame}
-use Rattle.forward_rewrite.specs.Sending.{Numbered, sending_of, IsOf}
+use Rattle.forward_rewrite.specs.Sending.{sending_of}
 use Rattle.forward_rewrite.specs.Streams.{StreamOf, PreparedOf, state_of, committed, SendsNext}
 use Rattle.bridge_core.specs.Sent.{Sent}
-use Rattle.bridge_core.specs.Sent.Sent.{media}
 use Rattle.bridge_core.specs.Lanes.{owner_of, goes}
 use Rattle.bridge_core.specs.LaneState.{StreamList, stream_at}
 
@@ -49,9 +48,7 @@ AllFit streams rs = AllByRecursion (λ r. Fits (stream_at (ssrc_of r) streams) r
 abbrev pub IsNext : StreamList → Stamp → SourceFrame → ReadyOf → Type 0
 IsNext streams stamp f ready =
     let s = current (stream_at (ssrc_of ready) streams) ready.receiver.slot in
-    let sending = sending_of f stamp (owner_of ready.receiver) in
-    SendsNext s (committed s ready.prepared) sending ready.prepared.packets
-    × AllByRecursion (IsOf sending) ready.prepared.packets
+    SendsNext s (committed s ready.prepared) (sending_of f stamp (owner_of ready.receiver)) ready.prepared.packets
 
 -- What is ready is for each receiver the next frame of its stream.
 abbrev pub AreNext : StreamList → Stamp → SourceFrame → List ReadyOf → Type 0
@@ -71,23 +68,6 @@ abbrev pub kept_after : ℕ → List ReadyOf → Option StreamOf → Option Stre
 kept_after ssrc [] kept = kept
 kept_after ssrc (r ∷ rs) kept = kept_after ssrc rs (kept_after_one ssrc r kept)
 
--- a packet as it goes to a receiver for the first time
-abbrev pub first_to : Stamp → Receiver → Numbered → Sent
-first_to stamp r p =
-    media record {
-      version = stamp.version;
-      item = stamp.item;
-      to = r.address;
-      ssrc = r.slot.out_ssrc;
-      number = p.number;
-      bytes = p.bytes;
-      resent_by = None;
-    }
-
 -- all that is ready, as it goes to its receivers
 abbrev pub sent_for : List ReadyOf → List Sent
 sent_for rs = flat_map (λ r. map (goes (ssrc_of r) None) r.prepared.packets) rs
-
--- how many packets are ready
-abbrev pub packet_count : List ReadyOf → ℕ
-packet_count rs = sum_by (λ r. length r.prepared.packets) rs

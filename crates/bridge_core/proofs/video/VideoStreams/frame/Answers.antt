@@ -45,10 +45,10 @@ returns-clause-sends g c =
     let old = c.args.self.now in
     let new = c.commit_all.new.table.entries in
     let table = c.reserve.ensures.entries ∙ c.self.view_is in
-    frame_answered c.args.visit.now old new f ready (map sent_of c.commit_all.new.out.items)
+    frame_answered c.args.visit.now old new f ready _
     (c.receivers_are_distinct.ensures desk f.source f.address c.receivers_of.ensures.good)
     (λ k. c.all_who_chose_receive.ensures desk f.source f.address k c.receivers_of.ensures.good)
     same
     (subst (λ (streams : StreamList). AreNext streams c.args.visit.now.stamp f ready) c.self.view_is c.in_ok-ready.ensures.next)
-    (λ k. c.commit_all.ensures.streams k ∙ ap (λ (streams : StreamList). kept_after k ready (stream_at k streams)) table)
-    (c.commit_all.ensures.out ∙ ap (λ es. map sent_of es ++ sent_for ready) c.in_ok-out.ensures.items)
+    (λ k. c.commit_all.ensures k ∙ ap (λ (streams : StreamList). kept_after k ready (stream_at k streams)) table)
+    (c.in_ok-ready.ensures.out ∙ ap (λ es. map sent_of es ++ sent_for ready) c.in_ok-out.ensures.items)
