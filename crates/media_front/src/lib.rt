@@ -2,7 +2,7 @@
 //! each item. Lanes share it. The lanes send by sinks of their own.
 //!
 //! Begin with [`LaneFeed::start`], which starts a lane for each reader of the published desk, and with
-//! [`MediaFront::new`]. In each round, [`MediaFront::tell`] takes the latest notice, [`MediaFront::datagram`] a
+//! [`MediaFront::new`]. In each round, [`MediaFront::tell`] takes the latest notice, [`MediaFront::take_in`] a
 //! datagram, [`MediaFront::tick`] and [`MediaFront::report`] the moment. Then [`MediaFront::ring`] wakes the lanes for
 //! what presses. [`MediaFront::until_tick`] says how long the next round may wait. The crate has no socket and no
 //! clock.
@@ -23,7 +23,10 @@
 //! let mut media = MediaFront::new(intake, feed, guard, cost, ReportTimer::begin(5_000, start)); // reports every 5 s
 //! media.renew(); // once, before anything else is given
 //! media.tell(notice);
-//! let outcome = media.datagram(alloc, rows, &from, moment, octets, &mut wire); // from, at this moment
+//! let (outcome, ended) = media.take_in(alloc, rows, &from, moment, octets, &mut wire)?; // from, at this moment
+//! if let Some(ssrc) = ended {
+//!     let sent = media.ask_picture(alloc, &from, ssrc, &mut wire)?; // its probation ended
+//! }
 //! if media.tick(moment) {
 //!     media.wait_all(alloc, rows, moment, &mut wire)?; // once for each whole 20 ms
 //! }
@@ -37,6 +40,7 @@
 //! calls on sockets.
 #![tactic(auto)]
 
+mod accepting;
 mod asking;
 mod beat;
 mod ends;
