@@ -68,7 +68,7 @@ reported_lanes {P} {S} false desk now before after old new same = ap (λ (f : Fr
 lanes_by_one : {P S : Type 0} (t : Turn) (old new : History P S) → Does old t new → lanes_in new.front.feed ≡ lanes_in old.front.feed
 lanes_by_one {P} {S} (owed notice) old new d = ap (λ (h : History P S). lanes_in h.front.feed) d ∙ owed_lanes notice old.front.feed
 lanes_by_one {P} {S} (passed came) old new d = ap (λ (h : History P S). lanes_in h.front.feed) d
-lanes_by_one (took late arrival outcome) old new d =
+lanes_by_one (took late arrival outcome ended) old new d =
     all_given_lanes _ d.mid.feed new.front.feed d.takes.handled.items ∙ late_lanes late arrival.moment old.front d.mid d.time.caught
 lanes_by_one {P} {S} (lost late arrival) old new d = ap (λ (f : FrontOf P S). lanes_in f.feed) d.same ∙ late_lanes late arrival.moment old.front d.mid d.time.caught
 lanes_by_one {P} {S} (looked moment) old new d = ap (λ (h : History P S). lanes_in h.front.feed) d
@@ -92,7 +92,7 @@ late_asker {P} {S} false moment old new h = ap (λ (f : FrontOf P S). f.intake.a
 pub asker_by_one : {P S : Type 0} (t : Turn) (old new : History P S) → Does old t new → new.front.intake.asker ≡ old.front.intake.asker
 asker_by_one {P} {S} (owed notice) old new d = ap (λ (h : History P S). h.front.intake.asker) d
 asker_by_one {P} {S} (passed came) old new d = ap (λ (h : History P S). h.front.intake.asker) d
-asker_by_one (took late arrival outcome) old new d = d.asker ∙ late_asker late arrival.moment old.front d.mid d.time.caught
+asker_by_one (took late arrival outcome ended) old new d = d.asker ∙ late_asker late arrival.moment old.front d.mid d.time.caught
 asker_by_one (lost late arrival) old new d = d.asker ∙ late_asker late arrival.moment old.front d.mid d.time.caught
 asker_by_one {P} {S} (looked moment) old new d = ap (λ (h : History P S). h.front.intake.asker) d
 asker_by_one {P} {S} (gave_ticks due moment) old new d = ap (λ (f : FrontOf P S). f.intake.asker) d.given.same

@@ -143,12 +143,12 @@ meant_by_one : {P S : Type 0} (all : List Turn) (start : History P S) (t : Turn)
     → Does old t new → Meant all start old.tried new.tried
 meant_by_one {P} {S} all start (owed notice) old new same here d = no_tries all start old.tried new.tried (ap (λ (s : History P S). s.tried) d)
 meant_by_one {P} {S} all start (passed came) old new same here d = no_tries all start old.tried new.tried (ap (λ (s : History P S). s.tried) d)
-meant_by_one {P} {S} all start (took late arrival outcome) old new same here d =
+meant_by_one {P} {S} all start (took late arrival outcome ended) old new same here d =
     let ingested = d.takes.ingested in
-    let at = subst (λ o. HasDone all start (took late arrival o) old new) (sym d.takes.became) here in
+    let at = subst (λ o. HasDone all start (took late arrival o ended) old new) (sym d.takes.became) here in
     let takes = subst (λ (i : IntakeOf). HasIngested arrival ingested i new.front.intake) (late_intake late arrival.moment old.front d.mid d.time.caught) d.takes.takes in
     for_one_reason all start old.tried new.tried (answers late arrival ingested) ingested.up (paid_of ingested.up (once_earned arrival ingested (d.mid).guard)) d.takes.handled.up
-    (paid_in ingested.up ingested.up _ (λ x c. c)) (λ x c. (old, new, at, takes, c))
+    (paid_in ingested.up ingested.up _ (λ x c. c)) (λ x c. (old, new, ended, at, takes, c))
 meant_by_one all start (lost late arrival) old new same here d = no_tries all start old.tried new.tried d.tried
 meant_by_one {P} {S} all start (looked moment) old new same here d = no_tries all start old.tried new.tried (ap (λ (s : History P S). s.tried) d)
 meant_by_one {P} {S} all start (gave_ticks due moment) old new same here d = no_tries all start old.tried new.tried (ap (λ (s : History P S). s.tried) d.same)

@@ -1,6 +1,6 @@
 -- Single steps of a round.
 use Rattle.std.proofs.Common.{◌≡◌, ◌≤◌, ◌+◌, ℕ, Bool, true, false, List, [], ◌∷◌, ◌++◌, length, take, Option, Some, Result, Ok, Err, OnOk, OnErr, IfOk, IsErr, refl, ap, sym, subst, ◌∙◌, arith, length-append, inr}
-use Rattle.std.specs.List.{AllByRecursion}
+use Rattle.std.specs.List.{AllByRecursion, flat_map}
 use Rattle.std.proofs.lemmas.List.{append-nil, flat_map_more}
 use Rattle.std.proofs.lemmas.Fn.{FoldsTo-push}
 use Rattle.desk_rows.specs.Desk.{Desk}
@@ -15,7 +15,7 @@ use Rattle.front_rounds.specs.declared.inlet.Read.TheVariants.{Datagram, Other, 
 use Rattle.front_rounds.specs.inner.Reading.{IsReadOnce, is_something}
 use Rattle.front_rounds.specs.Turns.{Turn, History, history, HaveDone, HasActed, owed, passed, looked, gave_ticks, let_wait, let_some_wait, made_report}
 use Rattle.front_rounds.specs.Shapes.{IsPassed, AreAllRead, most_datagrams, IsPicture, waits, IsDue, IsPassing, IsTakenIn, IsRound, IsRoundAfterSleep, AreRounds, BeginAsRounds, rings}
-use Rattle.front_rounds.proofs.TurnLemmas.{done_one, all_both}
+use Rattle.front_rounds.proofs.TurnLemmas.{done_one, done_both, all_both}
 
 -- ---- results
 
@@ -58,22 +58,35 @@ pub passes_by : {P S : Type 0} (front : FrontOf P S) (one more : List Came) (tol
     → more ≡ one ++ came_by read chunk ∷ []
     → (turns : List Turn) × HaveDone turns (history front one told tried last) (history front more told tried last) × IsReadOnce IsPassed (is_something read) turns
 passes_by front one more told tried last (Datagram from octets) chunk is =
-    let came = datagram from (take octets chunk) in (passed came ∷ [], passed_at front one more told told tried last came is refl, (passed came, tt, refl))
-passes_by front one more told tried last Other chunk is = (passed other ∷ [], passed_at front one more told told tried last other is refl, (passed other, tt, refl))
+    let came = datagram from (take octets chunk) in (passed came ∷ [], passed_at front one more told told tried last came is refl, (came, tt, refl))
+passes_by front one more told tried last Other chunk is = (passed other ∷ [], passed_at front one more told told tried last other is refl, (other, tt, refl))
 passes_by front one more told tried last Nothing chunk is = (passed nothing ∷ [], passed_at front one more told told tried last nothing is refl, refl)
 
+-- the turns of these reads
+abbrev pub turns_of : List (List Turn) → List Turn
+turns_of reads = flat_map (λ turns. turns) reads
+
 -- one read more
-pub read_one : (Is : Turn → Type 0) (reads last : List Turn) (more : Bool) (n : ℕ) → AllByRecursion Is reads → length reads ≡ n → IsReadOnce Is more last → more ≡ true
-    → AllByRecursion Is (reads ++ last) × (length (reads ++ last) ≡ n + 1)
+pub read_one : (Is : List Turn → Type 0) (reads : List (List Turn)) (last : List Turn) (more : Bool) (n : ℕ)
+    → AllByRecursion Is reads → length reads ≡ n → IsReadOnce Is more last → more ≡ true
+    → AllByRecursion Is (reads ++ last ∷ []) × (length (reads ++ last ∷ []) ≡ n + 1)
 read_one Is reads last false n all many one is = absurd (cc (is))
 read_one Is reads last true n all many one is = (
-  subst (λ (l : List Turn). AllByRecursion Is (reads ++ l)) (sym one.2) (all_both Is reads (one.0 ∷ []) all (one.1, tt)),
-  ap (λ (l : List Turn). length (reads ++ l)) one.2 ∙ (length-append reads (one.0 ∷ []) ∙ ap (λ (k : ℕ). k + 1) many),
+  all_both Is reads (last ∷ []) all (one, tt),
+  length-append reads (last ∷ []) ∙ ap (λ (k : ℕ). k + 1) many,
 )
 
+-- what was done with one read more
+pub done_more : {P S : Type 0} (reads : List (List Turn)) (last : List Turn) (a b c : History P S)
+    → HaveDone (turns_of reads) a b → HaveDone last b c → HaveDone (turns_of (reads ++ last ∷ [])) a c
+done_more reads last a b c far next =
+    subst (λ (l : List Turn). HaveDone l a c) (flat_map_more (λ (l : List Turn). l) [] reads last)
+    (done_both (turns_of reads) last a b c far next)
+
 -- nothing waited any more
-pub read_dry : (Is : Turn → Type 0) (reads last : List Turn) (more : Bool) (n : ℕ) → AllByRecursion Is reads → length reads ≡ n → n ≤ most_datagrams → IsReadOnce Is more last → more ≡ false
-    → AreAllRead Is (reads ++ last)
+pub read_dry : (Is : List Turn → Type 0) (reads : List (List Turn)) (last : List Turn) (more : Bool) (n : ℕ)
+    → AllByRecursion Is reads → length reads ≡ n → n ≤ most_datagrams → IsReadOnce Is more last → more ≡ false
+    → AreAllRead Is (turns_of reads ++ last)
 read_dry Is reads last true n all many few one is = absurd (cc (is))
 read_dry Is reads last false n all many few one is = record {
   reads = reads;
@@ -81,18 +94,19 @@ read_dry Is reads last false n all many few one is = record {
   few = subst (λ (k : ℕ). k ≤ most_datagrams) (sym many) few;
   dry = true;
   whole = λ wrong. absurd (cc (wrong));
-  are = ap (λ (l : List Turn). reads ++ l) one;
+  are = ap (λ (l : List Turn). turns_of reads ++ l) one;
 }
 
 -- as much was read as a round may
-pub read_full : (Is : Turn → Type 0) (reads : List Turn) → AllByRecursion Is reads → length reads ≡ most_datagrams → AreAllRead Is reads
+pub read_full : (Is : List Turn → Type 0) (reads : List (List Turn)) → AllByRecursion Is reads
+    → length reads ≡ most_datagrams → AreAllRead Is (turns_of reads)
 read_full Is reads all many = record {
   reads = reads;
   each = all;
   few = omega (arith, many);
   dry = false;
   whole = λ same. many;
-  are = sym (append-nil reads);
+  are = sym (append-nil (turns_of reads));
 }
 
 -- ---- what is due

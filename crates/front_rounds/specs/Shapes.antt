@@ -2,8 +2,11 @@
 use Rattle.std.specs.Prelude.{◌≡◌, ◌⊎◌, ◌≤◌, ℕ, Bool, true, false, List, [], ◌∷◌, ◌++◌, length, Option, Some, None}
 use Rattle.std.specs.List.{AllByRecursion, FoldsTo, flat_map}
 use mathlib.Core.List.{IsPrefix}
+use Rattle.rtp_codec.specs.declared.address.Address.{Address}
 use Rattle.desk_rows.specs.Desk.{Desk}
 use Rattle.versions.specs.Published.{NoticeOf, ReaderOf, after_lists}
+use Rattle.intake.specs.declared.outcome.Outcome.{Outcome}
+use Rattle.media_front.specs.Fronts.{Arrival}
 use Rattle.front_rounds.specs.Came.{Came, datagram, other, nothing}
 use Rattle.front_rounds.specs.Turns.{Turn, owed, passed, took, lost, looked, gave_ticks, let_wait, let_some_wait, asked_picture, made_report, rang}
 
@@ -11,19 +14,26 @@ use Rattle.front_rounds.specs.Turns.{Turn, owed, passed, took, lost, looked, gav
 abbrev pub most_datagrams : ℕ
 most_datagrams = 64
 
--- A datagram was taken in at these rows, or something else was read.
-abbrev pub IsTaken : Desk → Turn → Type 0
-IsTaken desk (took late arrival outcome) = arrival.desk ≡ desk
-IsTaken desk (passed came) = came ≡ other
-IsTaken desk (owed notice) = ⊥
-IsTaken desk (lost late arrival) = ⊥
-IsTaken desk (looked moment) = ⊥
-IsTaken desk (gave_ticks due moment) = ⊥
-IsTaken desk (let_wait at moment) = ⊥
-IsTaken desk (let_some_wait at moment) = ⊥
-IsTaken desk (asked_picture o sent) = ⊥
-IsTaken desk (made_report due at moment) = ⊥
-IsTaken desk rang = ⊥
+-- The sender of the video source whose probation a datagram ended was asked for a picture, and nobody if it ended none.
+abbrev pub AsksFirst : Address → (ended : Option ℕ) → List Turn → Type 0
+AsksFirst from None turns = turns ≡ []
+AsksFirst from (Some ssrc) turns =
+    (sent : Bool) × (turns ≡ asked_picture (record { address = from; ssrc = ssrc }) sent ∷ [])
+
+-- A datagram was read and taken in at these rows, and then a picture was asked for if it ended a probation.
+pub record IsTakenAt (desk : Desk) (turns : List Turn) : Type 0 where
+  pub late : Bool
+  pub arrival : Arrival
+  pub outcome : Outcome
+  pub ended : Option ℕ
+  pub asked : List Turn
+  pub rows : arrival.desk ≡ desk
+  pub first : AsksFirst arrival.from ended asked
+  pub are : turns ≡ took late arrival outcome ended ∷ asked
+
+-- One read: a datagram was taken in at these rows, or something else was read.
+abbrev pub IsTaken : Desk → List Turn → Type 0
+IsTaken desk turns = IsTakenAt desk turns ⊎ (turns ≡ passed other ∷ [])
 
 -- A datagram or something else was read.
 abbrev pub IsSomething : Came → Type 0
@@ -31,25 +41,15 @@ IsSomething (datagram from octets) = Unit {0}
 IsSomething other = Unit {0}
 IsSomething nothing = ⊥
 
--- A datagram or something else was read, and not taken in.
-abbrev pub IsPassed : Turn → Type 0
-IsPassed (passed came) = IsSomething came
-IsPassed (took late arrival outcome) = ⊥
-IsPassed (owed notice) = ⊥
-IsPassed (lost late arrival) = ⊥
-IsPassed (looked moment) = ⊥
-IsPassed (gave_ticks due moment) = ⊥
-IsPassed (let_wait at moment) = ⊥
-IsPassed (let_some_wait at moment) = ⊥
-IsPassed (asked_picture o sent) = ⊥
-IsPassed (made_report due at moment) = ⊥
-IsPassed rang = ⊥
+-- One read: a datagram or something else was read, and not taken in.
+abbrev pub IsPassed : List Turn → Type 0
+IsPassed turns = (came : Came) × IsSomething came × (turns ≡ passed came ∷ [])
 
 -- A source was asked for a picture.
 abbrev pub IsPicture : Turn → Type 0
 IsPicture (asked_picture o sent) = Unit {0}
 IsPicture (passed came) = ⊥
-IsPicture (took late arrival outcome) = ⊥
+IsPicture (took late arrival outcome ended) = ⊥
 IsPicture (owed notice) = ⊥
 IsPicture (lost late arrival) = ⊥
 IsPicture (looked moment) = ⊥
@@ -64,14 +64,14 @@ abbrev pub found_nothing : Bool → List Turn
 found_nothing true = passed nothing ∷ []
 found_nothing false = []
 
--- All that waited was read, up to 64 times, and this was done with each.
-pub record AreAllRead (Is : Turn → Type 0) (turns : List Turn) : Type 0 where
-  pub reads : List Turn
+-- All that waited was read, by up to 64 reads, and this was done at each.
+pub record AreAllRead (Is : List Turn → Type 0) (turns : List Turn) : Type 0 where
+  pub reads : List (List Turn)
   pub each : AllByRecursion Is reads
   pub few : length reads ≤ most_datagrams
   pub dry : Bool
   pub whole : dry ≡ false → length reads ≡ most_datagrams
-  pub are : turns ≡ reads ++ found_nothing dry
+  pub are : turns ≡ flat_map (λ turns. turns) reads ++ found_nothing dry
 
 -- time passed for the video sources, where a tick was due
 abbrev pub waits : Bool → Desk → (moment : ℕ) → List Turn

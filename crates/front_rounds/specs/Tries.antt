@@ -57,7 +57,8 @@ pub record AsksAgain {P S : Type 0} (desk : Desk) (moment : ℕ) (o : Origin) (i
 -- as the front began.
 abbrev pub IsMeant : {P S : Type 0} → List Turn → History P S → Address × List ℕ → Why → Type 0
 IsMeant {P} {S} turns start what (answers late arrival ingested) =
-    (old : History P S) × (new : History P S) × HasDone turns start (took late arrival ingested.outcome) old new
+    (old : History P S) × (new : History P S) × (ended : Option ℕ)
+    × HasDone turns start (took late arrival ingested.outcome ended) old new
     × HasIngested arrival ingested old.front.intake new.front.intake × Contains ingested.up what
 IsMeant {P} {S} turns start what (asks_again desk moment o ingested) =
     (whole : Bool) × (old : History P S) × (new : History P S)
@@ -79,7 +80,7 @@ AreMeant turns old new tries =
 -- what a turn read
 abbrev pub came_in : Turn → List Came
 came_in (passed came) = came ∷ []
-came_in (took late arrival outcome) = datagram arrival.from arrival.octets ∷ []
+came_in (took late arrival outcome ended) = datagram arrival.from arrival.octets ∷ []
 came_in (lost late arrival) = datagram arrival.from arrival.octets ∷ []
 came_in (owed notice) = []
 came_in (looked moment) = []
@@ -92,7 +93,7 @@ came_in rang = []
 
 -- the moments that a turn was told
 abbrev pub moments_in : Turn → List ℕ
-moments_in (took late arrival outcome) = arrival.moment ∷ []
+moments_in (took late arrival outcome ended) = arrival.moment ∷ []
 moments_in (lost late arrival) = arrival.moment ∷ []
 moments_in (looked moment) = moment ∷ []
 moments_in (passed came) = []

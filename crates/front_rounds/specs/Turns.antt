@@ -13,6 +13,7 @@ use Rattle.media_front.specs.FedLanes.{owing_notice, rung, AllAreGiven}
 use Rattle.media_front.specs.Fronts.{FrontOf, Arrival, HasTaken, MayHaveTaken, HasReported, ticks_due, after_ticks}
 use Rattle.media_front.specs.Waits.{HaveWaited, HaveWaitedInPart, video_origins}
 use Rattle.media_front.specs.Pictures.{HasAsked}
+use Rattle.media_front.specs.Probations.{EndsProbation}
 use Rattle.front_rounds.specs.Came.{Came, datagram}
 
 -- A front and its history, oldest first: what was read where its datagrams come in, the moments that its watch told,
@@ -43,8 +44,9 @@ pub data Turn : Type 0 where
   owed : NoticeOf → Turn
   -- this was read, and not taken in
   passed : Came → Turn
-  -- a datagram was read and taken in; before that the ticks that were due, if the front was late
-  took : (late : Bool) → Arrival → Outcome → Turn
+  -- a datagram was read and taken in, and ended the probation of the video source of this SSRC, or of none; before that
+  -- the ticks that were due, if the front was late
+  took : (late : Bool) → Arrival → Outcome → (ended : Option ℕ) → Turn
   -- the same, but memory ran out
   lost : (late : Bool) → Arrival → Turn
   -- the watch told this moment
@@ -85,13 +87,14 @@ pub record IsInTime {P S : Type 0} (late : Bool) (arrival : Arrival) (old : Hist
   pub ticked : last ≡ (if late then arrival.moment else old.ticked)
   pub caught : HasCaughtUp late arrival.moment old.front mid
 
--- A datagram was read and taken in.
-pub record TakesArrival {P S : Type 0} (late : Bool) (arrival : Arrival) (outcome : Outcome) (old new : History P S)
-    : Type 0 where
+-- A datagram was read and taken in, and ended the probation of this video source, or of none.
+pub record TakesArrival {P S : Type 0} (late : Bool) (arrival : Arrival) (outcome : Outcome) (ended : Option ℕ)
+    (old new : History P S) : Type 0 where
   pub read : HasRead arrival old new
   pub mid : FrontOf P S
   pub time : IsInTime late arrival old mid new.ticked
   pub takes : HasTaken arrival outcome mid new.front old.tried new.tried
+  pub ends : EndsProbation arrival outcome mid.intake new.front.intake ended
   pub same : new.front ≡ record mid { intake = new.front.intake; feed = new.front.feed; guard = new.front.guard }
   pub asker : new.front.intake.asker ≡ mid.intake.asker
 
@@ -144,7 +147,7 @@ abbrev pub Does : {P S : Type 0} → History P S → Turn → History P S → Ty
 Does old (owed notice) new =
     new ≡ record old { front = record old.front { feed = map (owing_notice notice) old.front.feed } }
 Does old (passed came) new = new ≡ record old { came = old.came ++ came ∷ [] }
-Does old (took late arrival outcome) new = TakesArrival late arrival outcome old new
+Does old (took late arrival outcome ended) new = TakesArrival late arrival outcome ended old new
 Does old (lost late arrival) new = LosesArrival late arrival old new
 Does old (looked moment) new = new ≡ record old { told = old.told ++ moment ∷ [] }
 Does old (gave_ticks due moment) new = GivesTicks due moment old new

@@ -35,7 +35,8 @@ impl<N: PublisherName, P: Pace, S: Sink, I: Inlet, W: Wire, C: Watch> Rounds<N, 
         Ok(())
     }
 
-    /// Takes in the next datagram. Returns whether one waited, or something else.
+    /// Takes in the next datagram. If it ends the probation of a video source, its sender is asked for a picture.
+    /// Returns whether one waited, or something else.
     fn take_datagram(&mut self, rows: &Rows) -> Result<bool, FrontFault>
         ensures { (turns : List Turn) × HaveDone turns
             (history self.old.media (I.came self.old.inlet) (C.told self.old.watch)
@@ -52,8 +53,10 @@ impl<N: PublisherName, P: Pace, S: Sink, I: Inlet, W: Wire, C: Watch> Rounds<N, 
         let moment = self.watch.now()?;
         self.catch_up(moment);
         let octets = &self.chunk[..octets];
-        self.media
-            .datagram(self.alloc, rows, &from, moment, octets, &mut self.wire)?;
+        let taken = self
+            .media
+            .take_in(self.alloc, rows, &from, moment, octets, &mut self.wire)?;
+        self.ask_first(&from, taken.1, moment)?;
         Ok(true)
     }
 

@@ -1,9 +1,10 @@
-//! Pictures for slots that were given another source.
+//! Pictures for slots that were given another source, and of sources that are accepted for the first time.
 
 ghost use Rattle.std.specs.Prelude.{◌≡◌, ◌∷◌, [], Bool, List, IfOk, OnOk};
 ghost use Rattle.std.specs.List.{AllByRecursion};
-ghost use Rattle.front_rounds.specs.Turns.{Turn, HaveDone, history};
-ghost use Rattle.front_rounds.specs.Shapes.{IsPicture};
+ghost use Rattle.picture_requests.specs.Sources.{member_address};
+ghost use Rattle.front_rounds.specs.Turns.{Turn, HaveDone, history, asked_picture};
+ghost use Rattle.front_rounds.specs.Shapes.{IsPicture, AsksFirst};
 
 use crate::inlet::Inlet;
 use crate::rounds::Rounds;
@@ -11,6 +12,7 @@ use crate::watch::Watch;
 use desk_rows::Rows;
 use media_workers::{Pace, PublisherName, Sink};
 use picture_requests::VideoSource;
+use rtp_codec::Address;
 use udp_front::{FrontFault, Wire};
 
 impl<N: PublisherName, P: Pace, S: Sink, I: Inlet, W: Wire, C: Watch> Rounds<N, P, S, I, W, C> {
@@ -61,6 +63,41 @@ impl<N: PublisherName, P: Pace, S: Sink, I: Inlet, W: Wire, C: Watch> Rounds<N, 
         Ok(())
     }
 
+    /// Asks the sender at this address for a picture of the video source whose probation ended at this moment, if one
+    /// did: the frame that the source was in is left out.
+    ///
+    /// If the address has too little credit, the source waits to be asked.
+    pub(crate) fn ask_first(
+        &mut self,
+        from: &Address,
+        ended: Option<u32>,
+        moment: u64,
+    ) -> Result<(), FrontFault>
+        ensures { (turns : List Turn) × HaveDone turns
+            (history self.old.media (I.came self.old.inlet) (C.told self.old.watch)
+            (W.attempts self.old.wire) self.old.ticked)
+            (history self.new.media (I.came self.new.inlet) (C.told self.new.watch)
+            (W.attempts self.new.wire) self.new.ticked)
+            × OnOk result (AsksFirst from.now ended turns) }
+    {
+        match ended {
+            None => Ok(()),
+            Some(ssrc) => {
+                let source = VideoSource::at(ssrc, from);
+                self.want(&source, moment)?;
+                self.ask_picture(&source, moment)
+            }
+        }
+    }
+
+    /// Lets a source wait to be asked for a picture.
+    fn want(&mut self, source: &VideoSource, moment: u64) -> Result<(), FrontFault>
+        ensures { self.new ≡ record self.old { pictures = self.new.pictures } }
+    {
+        self.pictures.want(self.alloc, source, moment)?;
+        Ok(())
+    }
+
     /// Asks a sender for a picture. If its address had credit for the request, the source was asked at this moment.
     fn ask_picture(&mut self, source: &VideoSource, now: u64) -> Result<(), FrontFault>
         ensures { (turns : List Turn) × HaveDone turns
@@ -68,7 +105,9 @@ impl<N: PublisherName, P: Pace, S: Sink, I: Inlet, W: Wire, C: Watch> Rounds<N, 
             (W.attempts self.old.wire) self.old.ticked)
             (history self.new.media (I.came self.new.inlet) (C.told self.new.watch)
             (W.attempts self.new.wire) self.new.ticked)
-            × AllByRecursion IsPicture turns }
+            × AllByRecursion IsPicture turns
+            × OnOk result ((sent : Bool) × (turns ≡ asked_picture
+            (record { address = member_address source.now; ssrc = source.now.ssrc }) sent ∷ [])) }
     {
         let sent = self
             .media

@@ -4,11 +4,14 @@ import collections
 import dataclasses
 
 from lib.explain.changes import by_call
+from lib.explain.events import RX, Event
 from lib.models.codec import Dropped, nack_numbers, read_rtcp
 from lib.packets import number
 
 # A picture is asked for so soon behind the call that gave a slot its source, in nanoseconds; where nothing had come yet, later.
 SOON = 700_000_000
+# The same behind the datagram that ended a source's probation.
+AT_ONCE = 70_000_000
 # Reports are equal but for the moment of reading a clock, if their numbers differ by no more than so much: units of jitter, of
 # 1/65,536 s and of timestamps.
 JITTER, DELAY, UNITS = 200, 3300, 9000
@@ -81,6 +84,21 @@ def model_compounds(run):
     return found
 
 
+def ended_probations(run):
+    """When sources were accepted for the first time, by their addresses and SSRCs."""
+    found, on_probation = collections.defaultdict(list), set()
+    for done in run.done:
+        # The rows that a capture begins with are no event.
+        if isinstance(done.event, Event) and done.event.kind == RX and done.said:
+            source = done.event.what.peer, number(done.event.what.octets[8:12])
+            if done.said[0] == "rx probation":
+                on_probation.add(source)
+            elif source in on_probation and done.said[0].startswith("rx accepted "):
+                on_probation.remove(source)
+                found[source].append(done.event.moment)
+    return found
+
+
 def cause_of_picture(desks, ssrc, moment):
     """The call by which a slot was given a source shortly before."""
     near = [c for c in desks.changes if c.ssrc == ssrc and c.is_there and c.moment <= moment + SOON // 10 and desks.outs[c.out][0] != "mix"]
@@ -90,6 +108,7 @@ def cause_of_picture(desks, ssrc, moment):
 def compare(explained, desks):
     """Compares the compounds on the wire with those of the model."""
     compared, model, in_middle = Compared(), model_compounds(explained.run), explained.run.shown is not None
+    ended = ended_probations(explained.run)
     for datagram in explained.streams.control:
         if datagram.moment < explained.begin:
             continue
@@ -105,6 +124,9 @@ def compare(explained, desks):
         elif close is not None:
             compared.near += 1
             del mine[close]
+        elif ssrc is not None and any(abs(moment - datagram.moment) < AT_ONCE for moment in ended[datagram.peer, ssrc]):
+            why = f"{datagram.peer} is asked for a picture of {ssrc}, which was accepted for the first time"
+            compared.pictures.append((datagram.moment, why))
         elif change:
             compared.pictures.append((datagram.moment, f"{datagram.peer} is asked for a picture of {ssrc}, which stream {change.out} shows "
                                       f"since {by_call(change.call)}"))  # fmt: skip

@@ -5,9 +5,9 @@ use Rattle.front_rounds.specs.Turns.{Turn, passed}
 use Rattle.front_rounds.specs.declared.inlet.Read.{Read}
 use Rattle.front_rounds.specs.declared.inlet.Read.TheVariants.{Datagram, Other, Nothing}
 
--- Something was read, and one turn dealt with it, or nothing waited.
-abbrev pub IsReadOnce : (Turn → Type 0) → Bool → List Turn → Type 0
-IsReadOnce Is true turns = (t : Turn) × Is t × (turns ≡ t ∷ [])
+-- Something was read, and these turns dealt with it, or nothing waited.
+abbrev pub IsReadOnce : (List Turn → Type 0) → Bool → List Turn → Type 0
+IsReadOnce Is true turns = Is turns
 IsReadOnce Is false turns = turns ≡ passed nothing ∷ []
 
 -- whether something was read

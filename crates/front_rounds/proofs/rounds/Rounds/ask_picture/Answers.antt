@@ -1,4 +1,5 @@
 use Rattle.std.proofs.Common.{[], ◌∷◌, refl, ap, sym, subst}
+use Rattle.rtp_codec.specs.declared.address.Address.{Address}
 use Rattle.intake.specs.Sources.{Origin}
 use Rattle.front_rounds.specs.Turns.{History, HaveDone, history, asked_picture}
 use Rattle.front_rounds.proofs.TurnLemmas.{done_one}
@@ -18,4 +19,9 @@ returns g c =
           (sym (ap (λ s. history s.media (g.I.Inlet.came s.inlet) (g.C.Watch.told s.watch) (g.W.Wire.attempts s.wire) s.ticked) c.note.ensures))
           (done_one (asked_picture o sent) old mid (record { asked = c.in_ok-sent.ensures.asked; same = refl })),
       (tt, tt),
+      (
+        sent,
+        ap (λ (to : Address). asked_picture (record { address = to; ssrc = c.args.source.now.ssrc }) sent ∷ [])
+            c.address.ensures,
+      ),
     )

@@ -1,8 +1,8 @@
-use Rattle.std.proofs.Common.{◌∷◌, [], ◌++◌, List, Option, refl, sym, subst}
+use Rattle.std.proofs.Common.{◌++◌, List, Option, refl, sym, subst}
 use Rattle.versions.specs.Published.{ReaderOf}
 use Rattle.front_rounds.specs.Turns.{Turn, HaveDone, history}
 use Rattle.front_rounds.specs.Shapes.{AreRounds}
-use Rattle.front_rounds.specs.Runs.{FrontAt, front_at, HasRun}
+use Rattle.front_rounds.specs.Runs.{front_at, HasRun}
 use Rattle.front_rounds.specs.declared.running.RoundStage.{RoundStage}
 use Rattle.front_rounds.specs.declared.running.RoundStage.TheVariants.{Whole}
 use Rattle.front_rounds.proofs.TurnLemmas.{done_both}

@@ -2,15 +2,16 @@ use Rattle.std.proofs.Common.{◌≡◌, ◌≤◌, List, length}
 use Rattle.std.specs.List.{AllByRecursion}
 use Rattle.front_rounds.specs.Turns.{Turn, HaveDone, history}
 use Rattle.front_rounds.specs.Shapes.{IsPassed}
+use Rattle.front_rounds.proofs.StepLemmas.{turns_of}
 use Rattle.front_rounds.proofs.rounds.Rounds.drop_datagrams.Given as goal
 
 -- what was read so far was dropped
 abbrev pub invariant-loop : goal.invariant-loop
 invariant-loop g l = record {
-  done : (turns : List Turn)
-      × HaveDone turns (history l.fn.self.media (g.I.Inlet.came l.fn.self.inlet) (g.C.Watch.told l.fn.self.watch) (g.W.Wire.attempts l.fn.self.wire) l.fn.self.ticked)
+  done : (reads : List (List Turn))
+      × HaveDone (turns_of reads) (history l.fn.self.media (g.I.Inlet.came l.fn.self.inlet) (g.C.Watch.told l.fn.self.watch) (g.W.Wire.attempts l.fn.self.wire) l.fn.self.ticked)
       (history l.self.media (g.I.Inlet.came l.self.inlet) (g.C.Watch.told l.self.watch) (g.W.Wire.attempts l.self.wire) l.self.ticked)
-      × AllByRecursion IsPassed turns × (length turns ≡ l.counter);
+      × AllByRecursion IsPassed reads × (length reads ≡ l.counter);
   few : l.counter ≤ 64;
   reader : l.self.reader ≡ l.fn.self.reader;
 }

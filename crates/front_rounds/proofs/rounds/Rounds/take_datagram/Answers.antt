@@ -1,10 +1,10 @@
-use Rattle.std.proofs.Common.{◌≡◌, ◌∷◌, [], ◌++◌, ℕ, List, take, Option, refl, ap, sym, subst, ◌∙◌}
+use Rattle.std.proofs.Common.{◌≡◌, ◌∷◌, [], ◌++◌, ℕ, List, take, Option, refl, ap, sym, subst, ◌∙◌, inl, inr}
 use Rattle.udp_front.specs.Attempts.{Attempt}
 use Rattle.media_front.specs.Fronts.{Arrival, HasTaken}
 use Rattle.front_rounds.specs.Came.{datagram, other, nothing, came_by}
-use Rattle.front_rounds.specs.Turns.{history, passed, took, lost}
+use Rattle.front_rounds.specs.Turns.{TakesArrival, history, passed, took, lost}
 use Rattle.front_rounds.proofs.TurnLemmas.{done_one}
-use Rattle.front_rounds.proofs.StepLemmas.{passed_at, err_if_ok}
+use Rattle.front_rounds.proofs.StepLemmas.{passed_at, err_if_ok, on_ok}
 use Rattle.front_rounds.proofs.rounds.Rounds.take_datagram.Goals as goal
 
 pub returns-in-Other : goal.returns-in-Other
@@ -13,7 +13,7 @@ returns-in-Other g c =
       passed other ∷ [],
       passed_at a.media (g.I.Inlet.came a.inlet) (g.I.Inlet.came c.read.new.self) (g.C.Watch.told a.watch) (g.C.Watch.told a.watch) (g.W.Wire.attempts a.wire) a.ticked other
           (c.in_ok-from.ensures.ok ∙ ap (λ r. g.I.Inlet.came a.inlet ++ came_by r c.read.new.chunk.items ∷ []) c.in-Other.is) refl,
-      (passed other, refl, refl),
+      inr refl,
     )
 
 pub returns-in-Nothing : goal.returns-in-Nothing
@@ -35,8 +35,8 @@ returns-in_err-moment g c =
       err_if_ok _ c.from_residual-in_err-moment.result c.from_residual-in_err-moment.ensures.0,
     )
 
-pub returns-in_err-datagram : goal.returns-in_err-datagram
-returns-in_err-datagram g c =
+pub returns-in_err-taken : goal.returns-in_err-taken
+returns-in_err-taken g c =
     let a = c.args.self.now in
     let b = c.catch_up.new.self in
     let same = c.catch_up.ensures.same in
@@ -45,7 +45,7 @@ returns-in_err-datagram g c =
     let late = c.catch_up.result in (
       lost late arrival ∷ [],
       done_one (lost late arrival) (history a.media (g.I.Inlet.came a.inlet) (g.C.Watch.told a.watch) (g.W.Wire.attempts a.wire) a.ticked)
-          (history c.datagram.new.self (g.I.Inlet.came b.inlet) (g.C.Watch.told b.watch) (g.W.Wire.attempts c.datagram.new.wire) b.ticked)
+          (history c.take_in.new.self (g.I.Inlet.came b.inlet) (g.C.Watch.told b.watch) (g.W.Wire.attempts c.take_in.new.wire) b.ticked)
           (record {
             read = record {
               came = ap (λ s. g.I.Inlet.came s.inlet) same
@@ -56,13 +56,44 @@ returns-in_err-datagram g c =
             };
             mid = b.media;
             time = record { right = c.catch_up.ensures.late; ticked = c.catch_up.ensures.last; caught = c.catch_up.ensures.did };
-            intake = c.in_err-datagram.ensures.intake;
-            same = c.in_err-datagram.ensures.err;
-            asker = c.datagram.ensures.asker;
-            tried = c.in_err-datagram.ensures.unsent ∙ ap (λ s. g.W.Wire.attempts s.wire) same;
+            intake = c.in_err-taken.ensures.intake;
+            same = c.in_err-taken.ensures.err;
+            asker = c.take_in.ensures.asker;
+            tried = c.in_err-taken.ensures.unsent ∙ ap (λ s. g.W.Wire.attempts s.wire) same;
           }),
-      err_if_ok _ c.from_residual-in_err-datagram.result c.from_residual-in_err-datagram.ensures.0,
+      err_if_ok _ c.from_residual-in_err-taken.result c.from_residual-in_err-taken.ensures.0,
     )
+
+pub returns-in_err-ask_first : goal.returns-in_err-ask_first
+returns-in_err-ask_first g c =
+    let a = c.args.self.now in
+    let b = c.catch_up.new.self in
+    let same = c.catch_up.ensures.same in
+    let chunk : c.deref.result.now ≡ c.read.new.chunk.items = c.deref.ensures.value ∙ ap (λ s. s.chunk.items) same in
+    let arrival : Arrival = record { desk = c.args.rows.now; from = c.in-Datagram.from; moment = c.in_ok-moment.moment; octets = take c.in-Datagram.octets c.deref.result.now } in
+    let outcome = c.in_ok-taken.taken.0 in
+    let ended = c.in_ok-taken.taken.1 in
+    let turn = took c.catch_up.result arrival outcome ended in
+    let old = history a.media (g.I.Inlet.came a.inlet) (g.C.Watch.told a.watch) (g.W.Wire.attempts a.wire) a.ticked in
+    let mid = history c.take_in.new.self (g.I.Inlet.came b.inlet) (g.C.Watch.told b.watch) (g.W.Wire.attempts c.take_in.new.wire) b.ticked in
+    let does : TakesArrival c.catch_up.result arrival outcome ended old mid = record {
+      read = record {
+        came = ap (λ s. g.I.Inlet.came s.inlet) same
+            ∙ (c.in_ok-from.ensures.ok
+            ∙ (ap (λ r. g.I.Inlet.came a.inlet ++ came_by r c.read.new.chunk.items ∷ []) c.in-Datagram.is
+            ∙ ap (λ (l : List ℕ). g.I.Inlet.came a.inlet ++ datagram c.in-Datagram.from (take c.in-Datagram.octets l) ∷ []) (sym chunk)));
+        told = ap (λ s. g.C.Watch.told s.watch) same ∙ c.in_ok-moment.ensures.ok;
+      };
+      mid = b.media;
+      time = record { right = c.catch_up.ensures.late; ticked = c.catch_up.ensures.last; caught = c.catch_up.ensures.did };
+      takes = subst (λ (o : Option (List Attempt)). HasTaken arrival outcome b.media c.take_in.new.self o (g.W.Wire.attempts c.take_in.new.wire))
+          (ap (λ s. g.W.Wire.attempts s.wire) same) c.in_ok-taken.ensures.takes;
+      ends = c.in_ok-taken.ensures.ended;
+      same = c.take_in.ensures.same;
+      asker = c.take_in.ensures.asker;
+    } in
+    let k = c.ask_first.ensures in
+    (turn ∷ k.0, (mid, does, k.1), err_if_ok _ c.from_residual-in_err-ask_first.result c.from_residual-in_err-ask_first.ensures.0)
 
 pub returns : goal.returns
 returns g c =
@@ -71,25 +102,29 @@ returns g c =
     let same = c.catch_up.ensures.same in
     let chunk : c.deref.result.now ≡ c.read.new.chunk.items = c.deref.ensures.value ∙ ap (λ s. s.chunk.items) same in
     let arrival : Arrival = record { desk = c.args.rows.now; from = c.in-Datagram.from; moment = c.in_ok-moment.moment; octets = take c.in-Datagram.octets c.deref.result.now } in
-    let late = c.catch_up.result in
-    let outcome = c.in_ok-datagram.field-0 in
-    let turn = took late arrival outcome in (
-      turn ∷ [],
-      done_one turn (history a.media (g.I.Inlet.came a.inlet) (g.C.Watch.told a.watch) (g.W.Wire.attempts a.wire) a.ticked)
-          (history c.datagram.new.self (g.I.Inlet.came b.inlet) (g.C.Watch.told b.watch) (g.W.Wire.attempts c.datagram.new.wire) b.ticked)
-          (record {
-            read = record {
-              came = ap (λ s. g.I.Inlet.came s.inlet) same
-                  ∙ (c.in_ok-from.ensures.ok
-                  ∙ (ap (λ r. g.I.Inlet.came a.inlet ++ came_by r c.read.new.chunk.items ∷ []) c.in-Datagram.is
-                  ∙ ap (λ (l : List ℕ). g.I.Inlet.came a.inlet ++ datagram c.in-Datagram.from (take c.in-Datagram.octets l) ∷ []) (sym chunk)));
-              told = ap (λ s. g.C.Watch.told s.watch) same ∙ c.in_ok-moment.ensures.ok;
-            };
-            mid = b.media;
-            time = record { right = c.catch_up.ensures.late; ticked = c.catch_up.ensures.last; caught = c.catch_up.ensures.did };
-            takes = subst (λ (o : Option (List Attempt)). HasTaken arrival outcome b.media c.datagram.new.self o (g.W.Wire.attempts c.datagram.new.wire)) (ap (λ s. g.W.Wire.attempts s.wire) same) c.in_ok-datagram.ensures.takes;
-            same = c.datagram.ensures.same;
-            asker = c.datagram.ensures.asker;
-          }),
-      (turn, refl, refl),
+    let outcome = c.in_ok-taken.taken.0 in
+    let ended = c.in_ok-taken.taken.1 in
+    let turn = took c.catch_up.result arrival outcome ended in
+    let old = history a.media (g.I.Inlet.came a.inlet) (g.C.Watch.told a.watch) (g.W.Wire.attempts a.wire) a.ticked in
+    let mid = history c.take_in.new.self (g.I.Inlet.came b.inlet) (g.C.Watch.told b.watch) (g.W.Wire.attempts c.take_in.new.wire) b.ticked in
+    let does : TakesArrival c.catch_up.result arrival outcome ended old mid = record {
+      read = record {
+        came = ap (λ s. g.I.Inlet.came s.inlet) same
+            ∙ (c.in_ok-from.ensures.ok
+            ∙ (ap (λ r. g.I.Inlet.came a.inlet ++ came_by r c.read.new.chunk.items ∷ []) c.in-Datagram.is
+            ∙ ap (λ (l : List ℕ). g.I.Inlet.came a.inlet ++ datagram c.in-Datagram.from (take c.in-Datagram.octets l) ∷ []) (sym chunk)));
+        told = ap (λ s. g.C.Watch.told s.watch) same ∙ c.in_ok-moment.ensures.ok;
+      };
+      mid = b.media;
+      time = record { right = c.catch_up.ensures.late; ticked = c.catch_up.ensures.last; caught = c.catch_up.ensures.did };
+      takes = subst (λ (o : Option (List Attempt)). HasTaken arrival outcome b.media c.take_in.new.self o (g.W.Wire.attempts c.take_in.new.wire))
+          (ap (λ s. g.W.Wire.attempts s.wire) same) c.in_ok-taken.ensures.takes;
+      ends = c.in_ok-taken.ensures.ended;
+      same = c.take_in.ensures.same;
+      asker = c.take_in.ensures.asker;
+    } in
+    let k = c.ask_first.ensures in (
+      turn ∷ k.0,
+      (mid, does, k.1),
+      inl (record { late = c.catch_up.result; arrival = arrival; outcome = outcome; ended = ended; asked = k.0; rows = refl; first = on_ok c.ask_first.result (tt {0}) c.in_ok-ask_first.was k.2; are = refl }),
     )
