@@ -51,3 +51,9 @@ fresh_of book ts all k d low = subst (λ (t : Tally). IfSome t.owed (λ (n : Not
 pub All_one : {X : Type 0} (P : X → Type 0) (x : X) → P x → All P (x ∷ [])
 All_one P x one zero d low = one
 All_one P x one (suc k) d low = absurd (omega (arith, low))
+
+-- what holds of each at its place holds of all
+pub all_at : {X : Type 0} (P : X → Type 0) (xs : List X) → ((k : ℕ) (x : X) → slice_get xs k ≡ Some x → P x) → All P xs
+all_at P [] at k d low = absurd (omega (arith, low))
+all_at P (x ∷ xs) at zero d low = at 0 x refl
+all_at P (x ∷ xs) at (suc k) d low = all_at P xs (λ j y e. at (suc j) y e) k d (omega (arith, low))

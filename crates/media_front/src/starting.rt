@@ -81,6 +81,8 @@ fn lanes_for(
     requires name { is_name settings.now.cname ≡ true }
     requires few { vec_len readers ≤ most_lanes }
     ensures new { IfOk result (λ lanes. AreNew lanes.items) }
+    ensures who { IfOk result (λ lanes. All (λ (lane : LaneNow). lane.state.who
+        ≡ record { ssrc = settings.now.bridge_ssrc; cname = settings.now.cname }) lanes.items) }
     ensures readers { IfOk result (λ lanes. map (λ (lane : LaneNow). lane.reader) lanes.items ≡ readers.items) }
 {
     let count = readers.len();
@@ -100,8 +102,9 @@ where
     R: Threads + Wait + Copy + Send + Drop + 'static,
     S: Sink + Send + Drop + 'static,
 {
-    /// Starts a lane for each of 1 to 16 readers, on a thread of its own, which sends by a sink of its own. From its
-    /// first parcel on, a lane sleeps while it has none. Until then it takes processor time.
+    /// Starts a lane for each of 1 to 16 readers, on a thread of its own, which sends by a sink of its own. It signs by
+    /// the SSRC and the CNAME of the settings. From its first parcel on, a lane sleeps while it has none. Until then it
+    /// takes processor time.
     ///
     /// The fault is `Count` if there is no reader. All lanes have been ended and dropped after any fault.
     pub fn start(
@@ -117,6 +120,8 @@ where
         requires many { vec_len sinks ≡ vec_len readers }
         requires untaken { All (λ (sink : S). S.taken sink ≡ []) sinks.items }
         ensures new { IfOk result (λ feed. AreNew (lanes_in feed)) }
+        ensures who { IfOk result (λ feed. All (λ (lane : LaneNow). lane.state.who
+            ≡ record { ssrc = settings.now.bridge_ssrc; cname = settings.now.cname }) (lanes_in feed)) }
         ensures readers { IfOk result (λ feed. map (λ (lane : LaneNow). lane.reader) (lanes_in feed) ≡ readers.items) }
         ensures fresh { IfOk result (λ feed. AllByRecursion IsFresh feed) }
         ensures count { result ≡ Err StartFault.Count ↔ readers.items ≡ [] }

@@ -4,6 +4,7 @@ use Rattle.media_workers.specs.declared.fault.StartFault.{StartFault}
 use Rattle.std.specs.List.{AllByRecursion}
 use Rattle.std.proofs.lemmas.List.{length-map}
 use Rattle.versions.specs.Published.{ReaderOf}
+use Rattle.upward.specs.Upstream.{Asker}
 use Rattle.media_workers.specs.LaneRuns.{LaneNow}
 use Rattle.media_workers.specs.Bridges.{AreNew}
 use Rattle.media_front.specs.FedLanes.{IsFresh, lanes_in}
@@ -45,6 +46,18 @@ returns-in-Ok-start-clause-readers g c =
     let two : length ts ≡ length lanes.items = omega (arith, c.in-Ok.tallies.ok, c.in-Ok.ensures.len, c.len-count.ensures, same, c.args.readers.ok) in
     let started : lanes_in (lanes_by c.in-Ok-start.bridge ts) ≡ lanes.items = ap (λ b. lanes_in (lanes_by b ts)) c.in-Ok-start.ensures.started ∙ lanes_started lanes.items paces.items ts one two in
     ap (map (λ (l : LaneNow). l.reader)) started ∙ c.in-Ok-lanes_for.ensures.readers
+
+pub returns-in-Ok-start-clause-who : goal.returns-in-Ok-start-clause-who
+returns-in-Ok-start-clause-who g c =
+    let lanes = c.in-Ok-lanes_for.lanes in
+    let paces = c.in-Ok-outfits_for.outfits in
+    let ts = c.in-Ok.tallies.items in
+    let same : length lanes.items ≡ length c.args.readers.items = sym (length-map lanes.items (λ (l : LaneNow). l.reader)) ∙ ap length c.in-Ok-lanes_for.ensures.readers in
+    let one : length paces.items ≡ length lanes.items = omega (arith, paces.ok, c.in-Ok-outfits_for.ensures.len, c.requires.many, c.args.readers.ok, c.args.sinks.ok, c.in-Ok-bells_for.ensures, c.len-count.ensures, same, c.args.readers.ok) in
+    let two : length ts ≡ length lanes.items = omega (arith, c.in-Ok.tallies.ok, c.in-Ok.ensures.len, c.len-count.ensures, same, c.args.readers.ok) in
+    let started : lanes_in (lanes_by c.in-Ok-start.bridge ts) ≡ lanes.items = ap (λ b. lanes_in (lanes_by b ts)) c.in-Ok-start.ensures.started ∙ lanes_started lanes.items paces.items ts one two in
+    let name : Asker = record { ssrc = c.args.settings.now.bridge_ssrc; cname = c.args.settings.now.cname } in
+    subst (λ (ls : List LaneNow). All (λ (l : LaneNow). l.state.who ≡ name) ls) (sym started) c.in-Ok-lanes_for.ensures.who
 
 pub returns-in-Ok-start-clause-fresh : goal.returns-in-Ok-start-clause-fresh
 returns-in-Ok-start-clause-fresh g c =
