@@ -38,6 +38,7 @@ impl<N: PublisherName, P: Pace, S: Sink, I: Inlet, W: Wire, C: Watch> Rounds<N, 
             (history self.new.media (I.came self.new.inlet) (C.told self.new.watch)
             (W.attempts self.new.wire) self.new.ticked) self.new.reader) }
         ensures lanes { lanes_in self.new.media.feed ≡ lanes_in self.old.media.feed }
+        ensures asker { self.new.media.intake.asker ≡ self.old.media.intake.asker }
     {
         match self.stage {
             RoundStage::Whole => self.begin(),
@@ -56,6 +57,7 @@ impl<N: PublisherName, P: Pace, S: Sink, I: Inlet, W: Wire, C: Watch> Rounds<N, 
             (history self.new.media (I.came self.new.inlet) (C.told self.new.watch)
             (W.attempts self.new.wire) self.new.ticked) self.new.reader) }
         ensures lanes { lanes_in self.new.media.feed ≡ lanes_in self.old.media.feed }
+        ensures asker { self.new.media.intake.asker ≡ self.old.media.intake.asker }
     {
         match self.wait() {
             Ok(may_wait) => {
@@ -82,6 +84,7 @@ impl<N: PublisherName, P: Pace, S: Sink, I: Inlet, W: Wire, C: Watch> Rounds<N, 
             (history self.new.media (I.came self.new.inlet) (C.told self.new.watch)
             (W.attempts self.new.wire) self.new.ticked) self.new.reader) }
         ensures lanes { lanes_in self.new.media.feed ≡ lanes_in self.old.media.feed }
+        ensures asker { self.new.media.intake.asker ≡ self.old.media.intake.asker }
     {
         match self.stage {
             RoundStage::Begun => self.end(rt, notice),
@@ -101,6 +104,7 @@ impl<N: PublisherName, P: Pace, S: Sink, I: Inlet, W: Wire, C: Watch> Rounds<N, 
             (history self.new.media (I.came self.new.inlet) (C.told self.new.watch)
             (W.attempts self.new.wire) self.new.ticked) self.new.reader) }
         ensures lanes { lanes_in self.new.media.feed ≡ lanes_in self.old.media.feed }
+        ensures asker { self.new.media.intake.asker ≡ self.old.media.intake.asker }
     {
         match self.round(rt, notice) {
             Ok(()) => {

@@ -1,6 +1,7 @@
 //! When lanes are woken for what they were given.
 
-ghost use Rattle.std.specs.Prelude.{◌≡◌, ◌<◌, ◌≤◌, ◌+◌, ◌-◌, ◌*◌, ◌/◌, ℕ, true, false, if◌then◌else◌, Some, IfSome};
+ghost use Rattle.std.specs.Prelude.{◌≡◌, ◌<◌, ◌≤◌, ◌+◌, ◌-◌, ◌*◌, ◌/◌, ℕ, true, false, if◌then◌else◌};
+ghost use Rattle.std.specs.Prelude.{None, Some, IfSome};
 ghost use Rattle.playout.specs.Playout.{is_reset};
 ghost use Rattle.udp_front.specs.Pacing.{tick_gap, most_ticks};
 ghost use Rattle.media_front.specs.PlacesLeft.{ring_places, left_by_media};
@@ -38,7 +39,9 @@ pub struct Wakes {
 
 impl Wakes {
     /// At this moment the lanes are awake.
-    pub fn begin(now: u64) -> Self {
+    pub fn begin(now: u64) -> Self
+        ensures begun { result ≡ record { member = None; wake = now } }
+    {
         Self {
             member: None,
             wake: now,

@@ -6,7 +6,7 @@ use Rattle.front_rounds.specs.declared.running.RoundStage.{RoundStage}
 use Rattle.front_rounds.specs.declared.running.RoundStage.TheVariants.{Begun}
 use Rattle.front_rounds.proofs.TurnLemmas.{done_both}
 use Rattle.front_rounds.proofs.StepLemmas.{rounds_more}
-use Rattle.front_rounds.proofs.LaneLemmas.{lanes_by_all}
+use Rattle.front_rounds.proofs.LaneLemmas.{lanes_by_all, asker_by_all}
 use Rattle.front_rounds.proofs.rounds.Rounds.end.Goals as goal
 
 pub returns-in-Ok-clause-run : goal.returns-in-Ok-clause-run
@@ -47,3 +47,13 @@ pub returns-in-Err-clause-lanes : goal.returns-in-Err-clause-lanes
 returns-in-Err-clause-lanes g c =
     let d = c.round.ensures in
     lanes_by_all d.0 _ _ d.1
+
+pub returns-in-Ok-clause-asker : goal.returns-in-Ok-clause-asker
+returns-in-Ok-clause-asker g c =
+    let d = c.round.ensures in
+    asker_by_all d.0 _ _ d.1
+
+pub returns-in-Err-clause-asker : goal.returns-in-Err-clause-asker
+returns-in-Err-clause-asker g c =
+    let d = c.round.ensures in
+    asker_by_all d.0 _ _ d.1
