@@ -1,17 +1,18 @@
 //! How a bridge ends: its desk first, and then its lanes.
 
-ghost use Rattle.std.specs.Prelude.{◌≡◌, ◌↔◌, true, List, map, IfOk, OnOk};
+ghost use Rattle.std.specs.Prelude.{◌≡◌, ◌↔◌, true, List, map, IfOk, OnOk, vec_len};
 ghost use Rattle.desk_rows.specs.Desk.{good};
 ghost use Rattle.operator_desk.specs.Answers.{Tells};
 ghost use Rattle.operator_desk.specs.Entry.{EntryOf};
 ghost use Rattle.operator_desk.specs.LegalLogs.{IsLegal, calls_of as calls_in};
 ghost use Rattle.lane_laws.specs.Learnt.{HaveEnded, HaveKnown};
-ghost use Rattle.media_front.specs.FedLanes.{FedLane, lanes_in};
+ghost use Rattle.media_front.specs.FedLanes.{FedLane};
 ghost use Rattle.bridge_server.specs.Counts.{counts_by};
-ghost use Rattle.bridge_server.specs.OneRun.{HaveBegun, IsOneRun, sent_into};
+ghost use Rattle.bridge_server.specs.OneRun.{IsSetUp, IsOneRun, sent_into};
 
 use crate::calls::calls_of;
 use crate::rounds::{Running, ServerMedia};
+use crate::setup::Setup;
 use crate::sinks::LaneSocket;
 use crate::stopped::{DeskEnd, MediaEnd};
 use front_rounds::Rounds;
@@ -65,8 +66,8 @@ pub(crate) fn gather<'a, H: Hall, R: Wait>(
 }
 
 /// The media of a bridge whose rounds are over.
-fn media_in<H: Hall, R: Wait + Clock + Drop>(running: Running<H, R>) -> ServerMedia<H, R>
-    ensures { HaveBegun H.start H.publisher (lanes_in result.feed) }
+fn media_in<H: Hall + Setup, R: Wait + Clock + Drop>(running: Running<H, R>) -> ServerMedia<H, R>
+    ensures { IsSetUp H.who H.lanes H.start H.publisher result }
 {
     let Running { rounds, counts: _ } = running;
     let Rounds {
@@ -112,13 +113,15 @@ pub(crate) fn close<H, R>(
     last: &Notice,
 ) -> Result<MediaEnd, FrontFault>
 where
-    H: Hall + Send + Sync + 'static,
+    H: Hall + Setup + Send + Sync + 'static,
     R: Threads + Clock + Wait + Copy + Send + Drop + 'static,
     requires first { good H.start ≡ true }
     requires publisher { last.now.publisher ≡ H.publisher }
     ensures one { IfOk result (λ end. (log : List EntryOf) →
         IsLegal H.start log → Tells H.start H.publisher log last.now →
-        IsOneRun H.start (calls_in log) (sent_into end.sent.items)) }
+        IsOneRun H.who H.start (calls_in log) (sent_into end.sent.items)) }
+    ensures dropped { IfOk result (λ end. vec_len end.dropped ≡ H.lanes) }
+    ensures sent { IfOk result (λ end. vec_len end.sent ≡ H.lanes) }
 {
     let media = media_in(running);
     let dropped = dropped_of(alloc, &media);
@@ -137,7 +140,7 @@ where
 /// Ends the lanes of a bridge whose log is lost. Returns their fault, or `Io`.
 pub(crate) fn give_up<H, R>(rt: &R, running: Running<H, R>) -> FrontFault
 where
-    H: Hall + Send + Sync + 'static,
+    H: Hall + Setup + Send + Sync + 'static,
     R: Threads + Clock + Wait + Copy + Send + Drop + 'static,
 {
     let ends = media_in(running).close(rt);

@@ -6,8 +6,8 @@
 //! and could not send. What lines and datagrams lead to is decided in operator_threads and media_front, and the loop
 //! that joins them is that of front_rounds. Here are the sockets, the clock and the threads that it runs over.
 //!
-//! Contracts say that what the lanes sent is what one list of the log's calls and of items sends. They say nothing of
-//! sockets.
+//! Contracts say that there are as many lanes as the settings have, and that what these sent is what one list of the
+//! log's calls and of items sends, signed by the SSRC and the CNAME of the settings. They say nothing of sockets.
 //!
 //! ```rust
 //! let front = Front::bind(&rt, settings(alloc, text)?)?; // text: the settings' file
@@ -25,6 +25,7 @@ mod front;
 mod opening;
 mod rounds;
 mod serving;
+mod setup;
 mod sinks;
 mod sockets;
 mod stopped;

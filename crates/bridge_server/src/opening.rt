@@ -8,14 +8,14 @@ ghost use Rattle.bridge_core.specs.Calls.{most_lanes};
 ghost use Rattle.operator_desk.specs.LegalLogs.{IsLegal, calls_of as calls_in};
 ghost use Rattle.operator_desk.specs.Opening.{most_operators};
 ghost use Rattle.lane_wire.specs.Logs.{taken_list};
-ghost use Rattle.media_front.specs.FedLanes.{lanes_in};
 ghost use Rattle.bridge_server.specs.Counts.{counts_by};
-ghost use Rattle.bridge_server.specs.OneRun.{HaveBegun, IsOneRun, sent_into};
+ghost use Rattle.bridge_server.specs.OneRun.{IsSetUp, IsOneRun, signer, sent_into};
 
 use crate::ending::{close, gather, give_up};
 use crate::front::Front;
 use crate::rounds::{Running, ServerMedia};
 use crate::serving::serve;
+use crate::setup::Setup;
 use crate::sinks::{LaneSocket, counts_for, sinks_for};
 use crate::sockets::{OperatorListener, Sockets, SystemWatch, chunk, sockets_of};
 use crate::stopped::Stopped;
@@ -44,8 +44,10 @@ where
     R: Threads + Clock + Wait + Net + Copy + Send + Sync + Drop + 'static,
     ensures legal { IfOk result (λ s. IsLegal (no_rows front.settings.bridge.bridge_ssrc) s.log.items) }
     ensures accepted { IfOk result (λ s. s.accepted.items ≡ counts_by s.log.items front.settings.operators) }
-    ensures one { IfOk result (λ s. IsOneRun
+    ensures one { IfOk result (λ s. IsOneRun (signer front.settings.bridge)
         (no_rows front.settings.bridge.bridge_ssrc) (calls_in s.log.items) (sent_into s.sent.items)) }
+    ensures dropped { IfOk result (λ s. vec_len s.dropped ≡ front.settings.lanes) }
+    ensures sent { IfOk result (λ s. vec_len s.sent ≡ front.settings.lanes) }
 {
     let log = Log::new(alloc)?;
     let ssrc = front.settings.bridge.bridge_ssrc;
@@ -72,16 +74,20 @@ fn open_in<'a, H, R>(
     front: Front,
 ) -> Result<Stopped, FrontFault>
 where
-    H: Hall + Send + Sync + 'static,
+    H: Hall + Setup + Send + Sync + 'static,
     R: Threads + Clock + Wait + Net + Copy + Send + Sync + Drop + 'static,
     requires log { log.now ≡ H.cells }
     requires ledger { (names.ledger.name ≡ H.name) × (names.ledger.parts ≡ H.parts) }
     requires publisher { names.publisher ≡ H.publisher }
     requires start { no_rows ssrc ≡ H.start }
     requires seats { (operators ≡ H.seats) × (H.seats ≡ H.parts) }
+    requires who { signer front.settings.bridge ≡ H.who }
+    requires lanes { front.settings.lanes ≡ H.lanes }
     ensures legal { IfOk result (λ s. IsLegal H.start s.log.items) }
     ensures accepted { IfOk result (λ s. s.accepted.items ≡ counts_by s.log.items front.settings.operators) }
-    ensures one { IfOk result (λ s. IsOneRun H.start (calls_in s.log.items) (sent_into s.sent.items)) }
+    ensures one { IfOk result (λ s. IsOneRun H.who H.start (calls_in s.log.items) (sent_into s.sent.items)) }
+    ensures dropped { IfOk result (λ s. vec_len s.dropped ≡ H.lanes) }
+    ensures sent { IfOk result (λ s. vec_len s.sent ≡ H.lanes) }
 {
     // One reader for each lane, and one for the front.
     let readers = front.settings.lanes as usize + 1;
@@ -128,10 +134,12 @@ fn begin<H, R>(
     front: Front,
 ) -> Result<(Running<H, R>, FrontWaker, OperatorListener), FrontFault>
 where
-    H: Hall + Send + Sync + 'static,
+    H: Hall + Setup + Send + Sync + 'static,
     R: Threads + Clock + Wait + Copy + Send + Drop + 'static,
     requires readers { All (λ (reader : ReaderOf). reader ≡ new_reader H.publisher H.start) readers.items }
     requires few { vec_len readers ≤ most_lanes + 1 }
+    requires lanes { vec_len readers ≡ H.lanes + 1 }
+    requires who { signer front.settings.bridge ≡ H.who }
 {
     let mut readers = readers;
     let own = readers.pop();
@@ -174,13 +182,15 @@ fn media_of<H, R>(
     reports: ReportTimer,
 ) -> Result<ServerMedia<H, R>, FrontFault>
 where
-    H: Hall + Send + Sync + 'static,
+    H: Hall + Setup + Send + Sync + 'static,
     R: Threads + Clock + Wait + Copy + Send + Drop + 'static,
     requires readers { All (λ (reader : ReaderOf). reader ≡ new_reader H.publisher H.start) readers.items }
     requires few { vec_len readers ≤ most_lanes }
+    requires lanes { vec_len readers ≡ H.lanes }
+    requires who { signer settings ≡ H.who }
     requires many { vec_len sinks ≡ vec_len readers }
     requires untaken { All (λ sink. taken_list sink.sent.taken ≡ []) sinks.items }
-    ensures { IfOk result (λ media. HaveBegun H.start H.publisher (lanes_in media.feed)) }
+    ensures { IfOk result (λ media. IsSetUp H.who H.lanes H.start H.publisher media) }
 {
     if !settings.is_good() {
         // Settings that were read always are.
@@ -205,16 +215,20 @@ fn run<'a, H, R>(
     front: Front,
 ) -> Result<Stopped, FrontFault>
 where
-    H: Hall + Send + Sync + 'static,
+    H: Hall + Setup + Send + Sync + 'static,
     R: Threads + Clock + Wait + Net + Copy + Send + Sync + Drop + 'static,
     requires readers { All (λ (reader : ReaderOf). reader ≡ new_reader H.publisher H.start) readers.items }
     requires few { vec_len readers ≤ most_lanes + 1 }
+    requires lanes { vec_len readers ≡ H.lanes + 1 }
+    requires who { signer front.settings.bridge ≡ H.who }
     requires seats { vec_len seats ≤ most_operators }
     requires parts { H.seats ≡ H.parts }
     requires first { good H.start ≡ true }
     ensures legal { IfOk result (λ s. IsLegal H.start s.log.items) }
     ensures accepted { IfOk result (λ s. s.accepted.items ≡ counts_by s.log.items front.settings.operators) }
-    ensures one { IfOk result (λ s. IsOneRun H.start (calls_in s.log.items) (sent_into s.sent.items)) }
+    ensures one { IfOk result (λ s. IsOneRun H.who H.start (calls_in s.log.items) (sent_into s.sent.items)) }
+    ensures dropped { IfOk result (λ s. vec_len s.dropped ≡ H.lanes) }
+    ensures sent { IfOk result (λ s. vec_len s.sent ≡ H.lanes) }
 {
     let count = front.settings.operators;
     match begin(rt, alloc, readers, front) {

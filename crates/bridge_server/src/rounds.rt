@@ -2,6 +2,7 @@
 
 ghost use Rattle.std.specs.Prelude.{◌≡◌};
 
+use crate::setup::Setup;
 use crate::sinks::LaneSocket;
 use crate::sockets::{FrontSocket, SystemWatch, UdpInlet};
 use front_rounds::Rounds;
@@ -31,30 +32,31 @@ pub(crate) type ServerRounds<H, R> = Rounds<
 
 /// The front of a bridge that runs.
 ///
-/// Contracts see the lanes as they were handed in. Nothing that a round does changes which they are.
-pub(crate) struct Running<H: Hall, R: Wait + Clock + Drop> {
+/// Contracts see the lanes as they were handed in. Nothing that a round does changes which they are, or by which name
+/// the bridge signs.
+pub(crate) struct Running<H: Hall + Setup, R: Wait + Clock + Drop> {
     pub(crate) rounds: ServerRounds<H, R>,
     /// What each lane has sent so far, and what not.
     pub(crate) counts: Vec<Arc<SharedCounts, Global>>,
 }
 
-impl<H: Hall, R: Wait + Clock + Drop> Model for Running<H, R> {
+impl<H: Hall + Setup, R: Wait + Clock + Drop> Model for Running<H, R> {
     ghost use Rattle.std.specs.Prelude.{List};
     ghost use Rattle.media_workers.specs.LaneRuns.{LaneNow};
     ghost use Rattle.media_front.specs.FedLanes.{lanes_in};
-    ghost use Rattle.bridge_server.specs.OneRun.{HaveBegun};
+    ghost use Rattle.bridge_server.specs.OneRun.{IsSetUp};
 
     ghost Value = { List LaneNow };
 
     ghost view = { λ r. lanes_in r.rounds.media.feed };
 
-    ghost invariant = { λ r. HaveBegun H.start H.publisher (lanes_in r.rounds.media.feed) };
+    ghost invariant = { λ r. IsSetUp H.who H.lanes H.start H.publisher r.rounds.media };
 }
 
-impl<H: Hall + Send + Sync + 'static, R: Wait + Clock + Copy + Send + Drop + 'static> Running<
-    H,
-    R,
-> {
+impl<
+    H: Hall + Setup + Send + Sync + 'static,
+    R: Wait + Clock + Copy + Send + Drop + 'static,
+> Running<H, R> {
     /// Begins a round: waits until something has come, or a tick is due. Returns whether connections may wait. A lane
     /// that has ended is a fault.
     pub(crate) fn begin_round(&mut self) -> Result<bool, FrontFault> {

@@ -1,10 +1,10 @@
-use Rattle.std.proofs.Common.{◌≡◌, ◌∙◌, ℕ, List, ap, sym, subst}
+use Rattle.std.proofs.Common.{◌≡◌, ◌∙◌, ℕ, List, length, All, ap, sym, subst}
 use Rattle.upward.specs.Upstream.{Asker}
 use Rattle.media_front.specs.Prices.{pli_octets}
 use Rattle.versions.specs.Published.{ReaderOf}
 use Rattle.media_front.specs.FedLanes.{lanes_in}
-use Rattle.media_front.specs.Fronts.{FrontOf}
-use Rattle.bridge_server.specs.OneRun.{HaveBegun}
+use Rattle.media_workers.specs.LaneRuns.{LaneNow}
+use Rattle.bridge_server.specs.OneRun.{IsSetUp}
 use Rattle.bridge_server.proofs.RunLemmas.{lanes_begun}
 use Rattle.bridge_server.proofs.opening.media_of.Goals as goal
 
@@ -13,8 +13,23 @@ start-requires-clause-publisher g c κs within k d low = ap (λ (reader : Reader
 
 pub returns-in-Ok : goal.returns-in-Ok
 returns-in-Ok g c =
-    subst (HaveBegun g.H.Hall.start g.H.Hall.publisher) (sym (ap (λ (f : FrontOf _ _). lanes_in f.feed) c.new-in-Ok.ensures))
-    (lanes_begun g.H.Hall.publisher g.H.Hall.start (lanes_in c.in-Ok.feed) c.args.readers.items c.in-Ok.ensures.new c.in-Ok.ensures.readers c.requires.readers)
+    let here = c.args.settings in
+    let who = g.H.Setup.who in
+    let many = g.H.Setup.lanes in
+    let start = g.H.Hall.start in
+    let publisher = g.H.Hall.publisher in
+    let lanes = lanes_in c.in-Ok.feed in
+    let named : All (λ (lane : LaneNow). lane.state.who ≡ who) lanes =
+    subst (λ (w : Asker). All (λ (lane : LaneNow). lane.state.who ≡ w) lanes) c.requires.who c.in-Ok.ensures.who in
+    let count : length c.args.readers.items ≡ many = sym c.args.readers.ok.0 ∙ c.requires.lanes in
+    let copy = c.in_ok-try_clone.field-0 in
+    let same : ◌≡◌ {A = Asker} (record { ssrc = copy.bridge_ssrc; cname = copy.cname }) (record { ssrc = here.bridge_ssrc; cname = here.cname }) =
+    ap (λ (s : ℕ). record { ssrc = s; cname = copy.cname }) c.in_ok-try_clone.ensures.0 ∙ ap (λ (n : List ℕ). record { ssrc = here.bridge_ssrc; cname = n }) c.in_ok-try_clone.ensures.1 in
+    subst (IsSetUp who many start publisher) (sym c.new-in-Ok.ensures)
+    (record {
+      begun = lanes_begun who many publisher start lanes c.args.readers.items c.in-Ok.ensures.new named c.in-Ok.ensures.readers count c.requires.readers;
+      asker = c.in_ok-intake.ensures.asker ∙ (same ∙ c.requires.who);
+    })
 
 pub new-requires-in-Ok : goal.new-requires-in-Ok
 new-requires-in-Ok g c =
