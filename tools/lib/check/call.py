@@ -2,12 +2,15 @@
 
 While nobody is there the bridge sleeps. Then two members send PCMU tones, and one of them video, which is lost in part. An operator mutes a source, unsubscribes a slot and
 undoes both. The checks: each stream's numbers have no gap; each member hears the other's tone and not its own; a NACK is
-answered; lost packets are asked for; a PLI is passed on; and reports come.
+answered; lost packets are asked for; a PLI is passed on; reports come. The bridge's socket of the operator waits for no
+acknowledgement before it sends an answer's end.
 """
 
+import ctypes
 import os
 import pathlib
 import socket
+import stat
 import subprocess
 import tempfile
 import time
@@ -23,6 +26,9 @@ PATIENCE = 60
 
 # The share of a processor that a bridge without members takes at most. It takes under a hundredth; a lane that doesn't sleep takes all.
 IDLE = 0.4
+
+# The number of the system call that copies a descriptor of another process (pidfd_getfd(2)).
+GETFD = 438
 
 # Tones of one sample each, mu-law (ITU-T G.711): 988 and -988.
 TONES = {201: 0xCE, 202: 0x4E}
@@ -178,6 +184,32 @@ def check_idle(bridge):
         shares.append(share_of(bridge, 1.5))
 
 
+def sockets_of(bridge):
+    """Copies of a process's sockets, as far as the system hands them out."""
+    libc, pid = ctypes.CDLL(None), os.pidfd_open(bridge.pid)
+    copies = [libc.syscall(GETFD, pid, int(number), 0) for number in os.listdir(f"/proc/{bridge.pid}/fd")]
+    os.close(pid)
+    return [socket.socket(fileno=copy) for copy in copies if copy >= 0 and stat.S_ISSOCK(os.fstat(copy).st_mode)]
+
+
+def is_from(one, peer):
+    """Whether a socket is connected to this address."""
+    try:
+        return one.getpeername() == peer
+    except OSError:
+        return False
+
+
+def check_delay(bridge, connection):
+    """The bridge's socket of an operator sends what it is given at once (TCP_NODELAY, tcp(7))."""
+    sockets = [one for one in sockets_of(bridge) if is_from(one, connection.getsockname())]
+    for one in sockets:
+        at_once = one.getsockopt(socket.IPPROTO_TCP, socket.TCP_NODELAY)
+        check(at_once, "an answer's end may wait until an operator has acknowledged what went before")
+    if not sockets:
+        print("TCP_NODELAY: not tried, since the system hands out no copy of the bridge's socket")
+
+
 def use_desk(call):
     """Sets the desk, mutes a source and unsubscribes a slot in mid-call, and undoes both."""
     ports = {"p": port_of(call.members[201]), "q": port_of(call.members[202])}
@@ -242,9 +274,11 @@ def run(args):
     with tempfile.TemporaryDirectory() as folder:
         bridge, udp, tcp = start(args, folder)
         try:
-            call = Call(connected(bridge, tcp, folder), udp)
+            connection = connected(bridge, tcp, folder)
+            call = Call(connection, udp)
             check_idle(bridge)
             hold(call)
+            check_delay(bridge, connection)
             call.desk.tell("stop")
             status = bridge.wait(timeout=PATIENCE)
             check(status == 0, f"the bridge ended with status {status}")
