@@ -8,7 +8,8 @@ Of sources the status is 1 where a function of crates/*/src has over 30 lines or
 a line over 120 columns, or a file over 300 lines (of the page its web files count, not what is made of them), and where a name of the bridge's crates is doubled: a type with two homes, a word
 of definitions with three. Types are structs, enums, traits and aliases, public or not; those of cases, examples and tests don't
 count. It is 1 as well where the lib.rt of a crate of the bridge has no example, or where a lib.rt names a function of another crate
-("`NAME` of CRATE") that isn't there. And it is 1 where a source of desk_page isn't what `make page` writes from the page's web files.
+("`NAME` of CRATE") that isn't there. And it is 1 where a source of desk_page isn't what `make page` writes from the page's web files,
+or where a text that an edit of edits/ or must-fail/ replaces doesn't stand once in its file.
 """
 
 import collections
@@ -16,6 +17,7 @@ import itertools
 import re
 import statistics
 
+from lib.gate import edits
 from lib.make.definitions import definition_files, words_of
 from lib.make.page import SOURCES, PARTS, WEB, stale
 from lib.shared import CRATES, ROOT, bridge_crates
@@ -298,9 +300,17 @@ def check_made():
     return not found
 
 
+def check_edits():
+    """Prints which edits can't be made any more. Whether there are none."""
+    found = edits.stale()
+    print(f"{len(found)} edits can't be made")
+    print("".join(f"       {fault}\n" for fault in found), end="")
+    return not found
+
+
 def run(args):
     good = [args.sources or check_documents()]
     if not args.docs:
         print()
-        good += [check_sources(), check_names(), check_examples(), check_made()]
+        good += [check_sources(), check_names(), check_examples(), check_made(), check_edits()]
     return 0 if all(good) else 1

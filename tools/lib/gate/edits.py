@@ -42,6 +42,30 @@ def edits_of(names, gate):
     return found
 
 
+def fault_of(edit):
+    """Why an edit can't be made, or None. A further pair is made in what the earlier ones left."""
+    texts, path, old = {}, None, ""
+    for line in edit.read_text().splitlines():
+        word, _, text = line.partition(": ")
+        if word == "file":
+            path = edit.parents[1] / text
+            texts.setdefault(path, path.read_text() if path.is_file() else "")
+        elif word == "old":
+            old = text
+        elif texts[path].count(old) != 1:
+            return f"stands {texts[path].count(old)} times: {old.strip()}"
+        else:
+            texts[path] = texts[path].replace(old, text)
+    return None
+
+
+def stale():
+    """The edits that can't be made any more, those of must-fail/ among them, and why."""
+    edits = [edit for found in edits_of(set(), gate=True).values() for edit in found]
+    faults = {edit.relative_to(ROOT): fault_of(edit) for edit in edits}
+    return [f"{edit}: {fault}" for edit, fault in faults.items() if fault]
+
+
 def copy_crates(crate, edits, top):
     """Makes a repository of the crate and those below it, with these edits alone in its must-fail/."""
     needed = crates_below(crate)
