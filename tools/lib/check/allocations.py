@@ -24,7 +24,7 @@ PROGRAMS = {
 }  # fmt: skip
 
 # What nothing runs yet where the prover sees it.
-NOT_YET = set()
+NOT_YET = {"call_history::CallLists::new"}
 
 FN = re.compile(r"(?P<vis>pub(?:\(crate\))? |)(?:const )?fn (?P<name>\w+)\s*(?:<[^(]*>)?\(")
 IMPL = re.compile(r"^(?:impl|pub trait|trait)\b(?:<[^{]*?>)?\s*(?:(?:\w+::)*(?P<trait>\w+)(?:<[^{]*>)? for )?(?P<owner>\w+)[^{]*\{", re.M)

@@ -1,0 +1,2 @@
+pub mod DeskLists
+pub mod Ends

@@ -1,0 +1,2 @@
+pub mod AcceptedCall
+pub mod Lists
