@@ -11,8 +11,6 @@ static int desk = -1;
 static int lanes = 1, burst = 4, video = VIDEO;
 /* Whether the members of the room send each at its own moment, and not all at once. */
 static int is_spread;
-/* Where `strace` writes how often the bridge made each system call, if it runs under it. */
-static const char *counted_at;
 
 static void die(const char *text)
 {
@@ -53,10 +51,7 @@ static void start_bridge(const char *binary)
     server = fork();
     if (server == 0) {
         dup2(ends[1], 2);
-        if (counted_at) /* -D: the bridge stays this program's child */
-            execlp("strace", "strace", "-D", "-f", "-c", "-o", counted_at, binary, "serve", path, (char *)0);
-        else
-            execl(binary, binary, "serve", path, (char *)0);
+        execl(binary, binary, "serve", path, (char *)0);
         _exit(127);
     }
     close(ends[1]);

@@ -4,7 +4,7 @@ A floor is a program that makes the same socket calls and no more. LOAD is one o
   fan    a video source to 16 receivers, 1,000 packets a second in frames of 4
   room   64 members with PCMU of 160 samples each 20 ms
   spread the same room in bursts, and then with each member at its own moment, as real ones send
-  calls  such a room, while `strace` counts system calls: how many a datagram takes
+  calls  such a room, while `strace` counts system calls from its first datagram on: how many one takes
   link   a key frame of 100 packets to 30 receivers, over a link of 1 Gbit/s that this shapes, COUNT times
   both   both together, with the resident memory each minute
   most   the largest fan without loss: 250 frames a second, which grow by a quarter until packets are lacking in three runs; of packets of
@@ -21,12 +21,11 @@ import pathlib
 import shutil
 import subprocess
 import tempfile
-import time
 
 from lib.bench import link
 from lib.shared import add_program, compiled, release_program
 
-NEEDS = "the program, `cc`, a minute; root for large socket buffers and `link`; `strace` for `calls`"
+NEEDS = "the program, `cc`, a minute; root for large socket buffers, `link` and `calls`; `strace` for `calls`"
 
 HERE = pathlib.Path(__file__).resolve().parent
 
@@ -53,10 +52,8 @@ def words_for(args, folder):
 
 
 def tell_calls(path, said):
-    """How many system calls a datagram took, by strace's table, which comes once the bridge has ended."""
-    end = time.monotonic() + 20
-    while not (table := path.read_text()).endswith("total\n") and time.monotonic() < end:
-        time.sleep(0.05)
+    """How many system calls a datagram took, by strace's table."""
+    table = path.read_text()
     total, datagrams = int(table.splitlines()[-1].split()[3]), int(said.split(" datagrams in")[0].split()[-1])
     print(f"{table}{total} system calls, {total / max(1, datagrams):.2f} a datagram in")
 
