@@ -131,7 +131,7 @@ class Agent:
 
     def announce(self, bridge, known):
         """Says that a bridge runs."""
-        told = {key: bridge.settings[key] for key in ("udp", "sip", "rooms", "members")} | {"agent": self.url}
+        told = {key: bridge.settings[key] for key in ("udp", "sip", "page", "rooms", "members")} | {"agent": self.url}
         before, bridge.is_there = known.bridges.get(bridge.name), True
         if before and before["agent"] != self.url:
             raise Refused(f"the agent at {before['agent']} has a bridge of this name")

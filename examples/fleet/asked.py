@@ -18,6 +18,7 @@ import urllib.request
 from bridge import MEMBERS
 from desk import in_words
 from etcd import ANY
+from fleet_rooms import LEAST
 from known import FLEET, NEW
 from refused import Refused
 from web import Handler, room_of
@@ -80,8 +81,8 @@ class Asked:
         address, codec = str(words["address"]), words.get("codec", "pcmu")
         if not re.fullmatch(r"[0-9.]+:[0-9]+", address) or codec not in ("pcmu", "l16"):
             raise Refused("A member has an address such as 10.0.0.9:6000, and the codec pcmu or l16.", 400)
-        if not 0 < room_of(words) < 2**32 // MEMBERS:
-            raise Refused(f"A room is a number from 1 to {2**32 // MEMBERS - 1}.", 404)
+        if not 0 < room_of(words) < LEAST // MEMBERS:
+            raise Refused(f"A room is a number from 1 to {LEAST // MEMBERS - 1}.", 404)
         return self.at_bridge("join", words, self.join_here)
 
     def join_here(self, bridge, room, words):

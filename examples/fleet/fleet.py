@@ -21,8 +21,8 @@ from asked import Asked, ForFleet  # noqa: E402
 from bridge import Bridge  # noqa: E402
 from web import served  # noqa: E402
 
-# What a bridge's settings may leave out: the SIP address of its gateway, and how many rooms and members it takes.
-LEFT_OUT = {"sip": "", "rooms": 64, "members": 1024}
+# What a bridge's settings may leave out: its gateway's SIP address and page, and how many rooms and members it takes.
+LEFT_OUT = {"sip": "", "page": "", "rooms": 64, "members": 1024}
 
 
 def main():

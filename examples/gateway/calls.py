@@ -8,11 +8,16 @@ import time
 
 import sdp
 from desk import Desk, in_words
+from fleet_rooms import LEAST, Fleet
 from refused import Refused
 from rtpengine import Rtpengine
 
 # A line of the desk holds 45 of the longest commands.
 LONGEST_GROUP = 44
+# An agent's members have as many numbers, from `first_member` of the settings on.
+NUMBERS = 100_000
+# How often, each tenth of a second, an agent looks for a room that its fleet has placed.
+LOOKS = 50
 # For rtpengine: RTP and RTCP have one port; addresses are known, of browsers by ICE, and not to be learnt from packets.
 MUX, KNOWN = ["offer", "require"], ["asymmetric", "strict-source"]
 
@@ -42,6 +47,10 @@ class Calls:
     def __init__(self, settings):
         self.settings, self.bridge = settings["calls"], settings["bridge"]["udp"]
         self.engine, self.desk = Rtpengine(settings["rtpengine"]["control"]), Desk(settings["bridge"]["tcp"])
+        # The fleet that the bridge is one of, and the numbers of members that no other program has.
+        self.fleet = Fleet(settings["fleet"]["agent"], settings["bridge"]["udp"]) if "fleet" in settings else None
+        first = self.settings["first_member"]
+        self.numbers = range(LEAST, 2**32) if self.fleet else range(first, first + NUMBERS)
         # The calls by their ids, and why the last ones ended. One change at a time is made to them and to the desk.
         self.calls, self.ended, self.lock = {}, {}, threading.RLock()
         # Members that have to go from the desk, with their cameras, and the rooms that the agent added.
@@ -87,6 +96,8 @@ class Calls:
         return {"sdp": answer["sdp"], "member": call.member}
 
     def begin(self, side, room, name, slots, id):
+        if self.fleet:
+            self.fleet.demand(room)
         with self.lock:
             if len(self.calls) >= self.settings["most"]:
                 raise Refused("The gateway has as many calls as it may have. Try again when somebody has left.")
@@ -106,13 +117,19 @@ class Calls:
 
     def join(self, call, address):
         """Makes a call a member by one group: one `undo` takes all of it back."""
+        if self.fleet:
+            self.arrive(call.room)
         with self.lock:
             if call.id not in self.calls or call.member is not None:
                 raise Refused("This call has ended, or you have joined it already.", 410)
-            # The number of a member that has to go is free only then.
+            # What a member that has to go has, its number and its SSRCs, is free only then.
+            if self.fleet:
+                self.tidy(self.desk.rows())
             self.clear()
             for _ in range(3):
                 rows = self.desk.rows()
+                if call.room not in rows.rooms and self.fleet:
+                    raise Refused(f"Room {call.room} is on its way to a bridge. Join again in a second.")
                 if call.room not in rows.rooms and not self.settings["open_rooms"]:
                     raise Refused(f"There is no room {call.room}.", 404)
                 member = next(one for one in itertools.count(self.settings["first_member"]) if one not in rows.members)
@@ -129,6 +146,14 @@ class Calls:
                 if self.desk.rows().version == rows.version:
                     break
         raise Refused(in_words(refusal))
+
+    def arrive(self, room):
+        """Waits until a room is on the bridge that the fleet has chosen. It may be another one."""
+        for _ in range(LOOKS):
+            if room in self.desk.rows().rooms:
+                return
+            self.fleet.demand(room)
+            time.sleep(0.1)
 
     def joining(self, call, member, address, rows):
         """The commands by which a call becomes a member, sees the others of its room, and they it."""
@@ -166,6 +191,12 @@ class Calls:
         with contextlib.suppress(Refused):
             self.engine.ask("delete", call_id=call.id, delete_delay=0)
 
+    def tidy(self, rows):
+        """Takes away members without a call: an agent before this one, or one of another bridge, left them behind."""
+        with self.lock:
+            known = {call.member for call in self.calls.values()} | {member for member, _ in self.leaving}
+            self.leaving += [(one, None) for one in rows.members if one in self.numbers and one not in known]
+
     def clear(self):
         """Takes the members that have to go from the desk. Where the desk is out of reach, the watch tries again."""
         with self.lock:
@@ -185,7 +216,7 @@ class Calls:
             unseen = [one.camera for one in others if one.camera not in seen]
             free = [slot for slot in other.slots if rows.subs.get(slot) == camera and camera is not None]
             group += [f"subscribe {slot} {source}" for slot, source in zip(free, unseen)]
-        if room in self.own_rooms and list(rows.members.values()).count(room) == 1:
+        if (room in self.own_rooms or self.fleet) and list(rows.members.values()).count(room) == 1:
             self.own_rooms.discard(room)
             group.append(f"remove-room {room}")
         return group[:LONGEST_GROUP]

@@ -10,9 +10,6 @@ from desk import in_words
 from refused import Refused
 from rtpengine import UnknownCall
 
-# The agent's members have as many numbers, from `first_member` of the settings on.
-NUMBERS = 100_000
-
 
 class Watch:
     def __init__(self, calls):
@@ -43,12 +40,14 @@ class Watch:
     def look(self):
         """Ends the calls that the bridge, rtpengine or the caller has left."""
         rows = self.calls.desk.rows()
-        if self.rows is None:
-            self.tidy(rows)
-        elif rows.version < self.rows.version:
+        if self.rows is None or self.calls.fleet:
+            self.calls.tidy(rows)
+        if self.rows is not None and rows.version < self.rows.version:
             self.end_all("The bridge has been restarted. Press Join to come back.")
         self.rows = rows
         self.calls.clear()
+        if self.calls.fleet:
+            self.follow(rows)
         try:
             self.calls.engine.ask("ping")
             self.engine_lost = None
@@ -60,12 +59,13 @@ class Watch:
         for call in list(self.calls.calls.values()):
             self.look_at(call)
 
-    def tidy(self, rows):
-        """Takes away the members that an agent before this one left behind, where it was killed."""
-        own = range(self.settings["first_member"], self.settings["first_member"] + NUMBERS)
-        with self.calls.lock:
-            taken = {call.member for call in self.calls.calls.values()}
-            self.calls.leaving += [(one, None) for one in rows.members if one in own and one not in taken]
+    def follow(self, rows):
+        """Ends the calls whose room has gone to another bridge of the fleet, which tells where it is."""
+        for call in list(self.calls.calls.values()):
+            call.room = rows.members.get(call.member, call.room)
+            words = call.member is not None and call.room not in rows.rooms and self.calls.fleet.moved(call.room)
+            if words:
+                self.calls.end(call, words)
 
     def end_all(self, why):
         for call in list(self.calls.calls.values()):

@@ -34,8 +34,8 @@ PARTS = [
     (Keeping, [], ["step_round_trip", "step_refusals", "step_large"]),
     (Manifests, [], ["step_kubernetes", "step_podman", "step_nomad", "step_units"]),
     (Fleet, ["etcd"], [
-        "step_opens", "step_kill", "step_move", "step_cut_moves", "step_etcd", "step_full_and_busy", "step_machine",
-        "step_dispatcher", "step_drain",
+        "step_opens", "step_kill", "step_move", "step_cut_moves", "step_gateways", "step_etcd", "step_full_and_busy",
+        "step_machine", "step_dispatcher", "step_drain",
     ]),
 ]  # fmt: skip
 

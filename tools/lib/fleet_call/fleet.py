@@ -5,6 +5,7 @@ import threading
 import time
 
 from lib.fleet_call.dispatcher import Dispatched, Sink
+from lib.fleet_call.gateways import Gatewayed
 from lib.fleet_call.parts import LEASE, ROOMS, AgentPart, BridgePart, EtcdPart, commands_of, groups_of, until
 
 COUNT, PEOPLE = 30, 3
@@ -23,7 +24,7 @@ def without_firsts(rows):
     return told
 
 
-class Fleet(Dispatched):
+class Fleet(Dispatched, Gatewayed):
     """A fleet of bridges."""
 
     def __init__(self, check, folder, program):
@@ -113,7 +114,8 @@ class Fleet(Dispatched):
         took = time.monotonic() - begun
         statuses = [status for status, _ in said]
         self.check(statuses == [200] * 90, f"90 joins of {COUNT} rooms by three agents, {took:.1f} s", said)
-        self.check(len({(one["bridge"], one["member"]) for _, one in said}) == 90, "each is a member of its own")
+        members = {(one["bridge"], one["member"]) for status, one in said if status == 200}
+        self.check(len(members) == 90, "each is a member of its own", members)
         self.comes(lambda: self.stand_once(range(1, COUNT + 1)), "each room stands on one bridge")
         counts = [len(rooms) for rooms, _ in self.desks().values()]
         self.check(max(counts) - min(counts) <= 4, f"the bridges have {counts} rooms", counts)

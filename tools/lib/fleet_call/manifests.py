@@ -42,12 +42,12 @@ class Manifests:
         kinds = [(one["kind"], one["metadata"]["name"]) for one in self.objects]
         self.check(("StatefulSet", "confbridge") in kinds, f"{len(kinds)} objects for Kubernetes", kinds)
         config = next(one["data"] for one in self.objects if one["kind"] == "ConfigMap")
-        named = lambda text: text.replace("@IP@", "10.0.0.1").replace("@NAME@", "confbridge-0")
-        texts = {name: named(text) for name, text in config.items()}
+        given = {"@IP@": "10.0.0.1", "@NAME@": "confbridge-0", "@FIRST@": "1000000000"}
+        texts = {name: re.sub("@[A-Z]+@", lambda found: given[found[0]], text) for name, text in config.items()}
         said = settings_of(texts["serve.toml"])
         self.check(said.startswith("udp 10.0.0.1:5004 and tcp 127.0.0.1:7000"), "the bridge's settings are good", said)
-        own, given = FLEET.with_name("fleet.toml"), FLEET.parents[1] / "gateway/gateway.toml"
-        for path, one in (own, "fleet.toml"), (given, "gateway.toml"):
+        own, beside = FLEET.with_name("fleet.toml"), FLEET.parents[1] / "gateway/gateway.toml"
+        for path, one in (own, "fleet.toml"), (beside, "gateway.toml"):
             here, there = tomllib.loads(path.read_text()), tomllib.loads(texts[one])
             # Bridges have names of their own.
             same = all(here[key].keys() == there.get(key, {}).keys() for key in here if key != "bridges")

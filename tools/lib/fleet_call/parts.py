@@ -25,6 +25,8 @@ FLEET, MODEL = ROOT / "examples/fleet/fleet.py", ROOT / "tools/lib/models/served
 SEATS = 3
 # How many rooms and members a bridge takes by its agent's settings, and the time of a lease in seconds.
 ROOMS, MEMBERS, LEASE = 20, 256, 4
+# Where browsers are told to join the rooms of a bridge.
+PAGES = "https://call.example"
 
 
 def until(condition, seconds=20):
@@ -105,7 +107,8 @@ class AgentPart:
         self.path.write_text(
             f'[agent]\nlisten = "127.0.0.1:{self.port}"\nurl = "{url}"\nlease = {LEASE}\n'
             f'[etcd]\nservers = ["{etcd.url}"]\n[bridges.{bridge.name}]\nudp = "127.0.0.1:{bridge.udp}"\n'
-            f'tcp = "127.0.0.1:{bridge.tcp}"\nsip = "{sip}"\nrooms = {ROOMS}\nmembers = {MEMBERS}\n'
+            f'tcp = "127.0.0.1:{bridge.tcp}"\nsip = "{sip}"\npage = "{PAGES}/{bridge.name}"\nrooms = {ROOMS}\n'
+            f"members = {MEMBERS}\n"
         )
         self.start()
 

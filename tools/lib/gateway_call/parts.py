@@ -33,7 +33,7 @@ def until(condition, seconds=10):
 class Parts:
     """rtpengine, Kamailio and an agent, on ports of their own."""
 
-    def __init__(self, folder, udp, tcp, control=None, first_member=1000):
+    def __init__(self, folder, udp, tcp, control=None, first_member=1000, fleet=None):
         self.folder, self.running = folder, {}
         stream, datagram = socket.SOCK_STREAM, socket.SOCK_DGRAM
         self.page_port, self.phones_port, self.sip_port = free_port(stream), free_port(stream), free_port(datagram)
@@ -53,13 +53,15 @@ class Parts:
             "phones": {"listen": f"127.0.0.1:{self.sip_port}", "agent": f"127.0.0.1:{self.phones_port}"},
             "calls": {
                 "pictures": 3,
-                "open_rooms": True,
+                "open_rooms": fleet is None,
                 "first_member": first_member,
                 "silence": 6,
                 "phone_silence": 30,
                 "most": 20,
             },
         }
+        if fleet:
+            tables["fleet"] = {"agent": fleet}
         # A value of JSON is one of TOML too, as far as texts, numbers, truth and lists go.
         lines = [
             f"[{name}]\n" + "".join(f"{key} = {json.dumps(value)}\n" for key, value in table.items())

@@ -1,0 +1,42 @@
+"""Where rooms are, if the bridge is one of a fleet (examples/fleet): the fleet's agent knows."""
+
+import json
+import urllib.error
+import urllib.request
+
+from refused import Refused
+
+# The least number of a gateway's member in a fleet. Members that signalling joins have less.
+LEAST = 1_000_000_000
+
+
+class Fleet:
+    def __init__(self, agent, bridge):
+        self.agent, self.udp = agent, "{}:{}".format(*bridge)
+
+    def ask(self, path, body=None):
+        try:
+            with urllib.request.urlopen(f"{self.agent}/{path}", body, timeout=5) as said:
+                return json.load(said)
+        except urllib.error.HTTPError as why:
+            raise Refused(why.read().decode(), why.code) from None
+        except (OSError, ValueError):
+            raise Refused("The fleet doesn't answer. Try again in a minute.") from None
+
+    def demand(self, room):
+        """Refuses a room of another bridge. A room that has no bridge gets one."""
+        told = self.ask("where", json.dumps({"room": room}).encode())
+        if told["udp"] != self.udp:
+            raise Refused(elsewhere(room, told["bridge"], told), 421)
+
+    def moved(self, room):
+        """Words for who was in a room that has gone to another bridge, None where it hasn't."""
+        known = self.ask("")
+        bridge = known["rooms"].get(str(room), {}).get("on")
+        told = known["bridges"].get(bridge)
+        return elsewhere(room, bridge, told) if told and told["udp"] != self.udp else None
+
+
+def elsewhere(room, bridge, told):
+    where = f"{told['page']}/?room={room}" if told["page"] else "its own page"
+    return f"Room {room} is on bridge {bridge} of the fleet now. Join it at {where}"

@@ -1,0 +1,132 @@
+"""Gateways beside the bridges of a fleet: what becomes of calls whose room moves. No media pass here."""
+
+import itertools
+import json
+import threading
+
+from lib.fleet_call.parts import PAGES, until
+from lib.gateway_call.parts import Parts
+from lib.gateway_call.refusals import answer_of, offer_of
+from lib.serving import port_of, udp_socket
+
+# The rooms that this uses, and the SSRC of a browser that keeps it: real ones draw another one for each call.
+HERE, THERE, SSRC = 60, 61, 600_000
+
+
+class Engine(threading.Thread):
+    """The control port of rtpengine, answered as if all media came."""
+
+    def __init__(self):
+        super().__init__(daemon=True)
+        self.socket, self.ports, self.calls = udp_socket(), itertools.count(40_000, 2), {}
+        self.port = port_of(self.socket)
+        self.start()
+
+    def run(self):
+        while True:
+            try:
+                octets, sender = self.socket.recvfrom(65536)
+            except OSError:
+                return
+            cookie, _, words = octets.partition(b" ")
+            said = json.dumps({"result": "ok"} | self.answer(json.loads(words)))
+            self.socket.sendto(cookie + b" " + said.encode(), sender)
+
+    def answer(self, words):
+        call = words.get("call-id")
+        if words["command"] == "offer":
+            self.calls[call] = 0
+        if words["command"] in ("offer", "answer"):
+            return {"sdp": offer_of([f"m=audio {next(self.ports)} RTP/AVPF 0 96", "a=ice-ufrag:x", "a=setup:actpass"])}
+        if words["command"] == "query":
+            self.calls[call] = self.calls.get(call, 0) + 1
+            return {"tags": {"browser": {"medias": [{"streams": [{"stats": {"packets": self.calls[call]}}]}]}}}
+        if words["command"] == "delete":
+            self.calls.pop(call, None)
+        return {}
+
+    def close(self):
+        self.socket.close()
+
+
+class Gateway(Parts):
+    """An agent of examples/gateway beside a bridge, and browsers that ask it."""
+
+    def __init__(self, folder, bridge, engine, agent, first_member):
+        super().__init__(folder, bridge.udp, bridge.tcp, engine.port, first_member, f"http://127.0.0.1:{agent.port}")
+        self.start("agent")
+
+    def offered(self, room):
+        """The id of a call that isn't answered yet."""
+        status, told = self.ask("offer", room=str(room), name="test")
+        return told["id"] if status == 200 else None
+
+    def answered(self, id, ssrc):
+        return self.ask("answer", id=id, sdp=answer_of(ssrc=ssrc))
+
+    def joined(self, room, ssrc=SSRC):
+        """The id of a call, and what the browser is told."""
+        status, told = self.ask("offer", room=str(room), name="test")
+        return (told["id"], self.answered(told["id"], ssrc)) if status == 200 else (None, (status, told))
+
+
+class Gatewayed:
+    """The step of a fleet's check that has gateways beside two bridges."""
+
+    def step_gateways(self):
+        engine = self.begun(Engine())
+        self.gateways = {
+            name: self.begun(Gateway(self.folder, self.bridges[name], engine, self.agents[name], first))
+            for name, first in (("b", 1_000_000_000), ("c", 1_000_100_000))
+        }
+        b, c = self.gateways.values()
+        self.opened(HERE, "b")
+        self.opened(THERE, "c")
+        # Signalling's own member stays in the room, whatever becomes of calls.
+        own = self.join("a", HERE)[1]["member"]
+        ids = [b.joined(HERE), c.joined(THERE, SSRC + 1)]
+        self.check([one[1][0] for one in ids] == [200, 200], "browsers join at the gateways of two bridges", ids)
+        words = f"Room {HERE} is on bridge b of the fleet now. Join it at {PAGES}/b/?room={HERE}"
+        self.told(c.joined(HERE)[1], 421, words, "at the gateway of another bridge one is told where the room is")
+        self.goes(HERE, "c", "the room of a call moves there")
+        id, said = c.joined(HERE)
+        self.check(said[0] == 200, "who joins there at once, under the same SSRC, is a member", said)
+        wanted = [own, said[1]["member"]] if said[0] == 200 else None
+        self.check(self.members(HERE) == wanted, "and the old call's member is gone", self.rows(HERE))
+        ended = until(lambda: b.ask("state", id=ids[0][0])[0] == 410)
+        words = f"Room {HERE} is on bridge c of the fleet now"
+        self.told(b.ask("state", id=ids[0][0]) if ended else (0, ""), 410, words, "the page of the old call says so")
+        self.moves_while_joining(c)
+        self.comes(lambda: self.members(HERE) == [own], "no call leaves a row behind")
+        self.agents["a"].ask("leave", room=HERE, member=own)
+        c.ask("leave", id=ids[1][0])
+        gone = lambda: not {HERE, THERE} & (self.places().keys() | self.records().keys())
+        self.comes(gone, "rooms and their records go with the last call or member that leaves")
+        for one in self.gateways.values():
+            one.close()
+
+    def members(self, room):
+        return sorted(int(row.split(" ")[2]) for row in self.rows(room) if row.startswith("member "))
+
+    def moves_while_joining(self, c):
+        """A room moves between a browser's offer and its answer."""
+        late = c.offered(HERE)
+        self.goes(HERE, "b", "a room moves while a browser joins it")
+        words = f"Room {HERE} is on bridge b of the fleet now"
+        said = c.answered(late, SSRC + 2)
+        if said[0] == 200:
+            # The room was still there, and has gone since.
+            until(lambda: c.ask("state", id=late)[0] == 410)
+            said = c.ask("state", id=late)
+        self.check(said[0] in (410, 421) and words in str(said[1]), f"the browser is told so: `{words}`", said)
+
+    def opened(self, room, name):
+        """Opens a room on a bridge."""
+        self.agents["a"].ask("where", room=room)
+        self.comes(lambda: self.places().get(room), f"room {room} is opened")
+        self.goes(room, name, f"it goes to {name}")
+
+    def goes(self, room, name, text):
+        """Moves a room to a bridge. An agent that keeps the room's rows in this moment is faster than a move."""
+        moves = lambda: self.places().get(room) == [name] or self.agents["a"].ask("move", room=room, to=name)[0] == 200
+        self.comes(moves, text)
