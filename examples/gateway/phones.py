@@ -58,6 +58,7 @@ class Script:
         name, offer = KSR.pv.get("$fU") or "phone", KSR.pv.get("$rb") or ""
         said, status, words = ask("phone", id=call, room=room, name=name, sdp=offer)
         if said:
-            KSR.hdr.append_to_reply(f"Contact: <sip:{room}@{KSR.pv.get('$Ri')}:{KSR.pv.get('$Rp')}>\r\n")
+            # Where the phone finds Kamailio: behind a NAT that is the advertised address.
+            KSR.hdr.append_to_reply(f"Contact: <sip:{room}@{KSR.pv.get('$RAi')}:{KSR.pv.get('$RAp')}>\r\n")
             KSR.textops.set_reply_body(said["sdp"], "application/sdp")
         KSR.tm.t_reply(status, words)
