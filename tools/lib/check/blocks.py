@@ -35,6 +35,7 @@ NOT_RUN = {
     "tools/bridge keep": "a bridge that starts anew in between; `check fleet` keeps and restores desks",
     "examples/fleet/dispatch.py": "Kamailio; `check fleet` runs it",
     "podman-compose": "containers, both programs built",
+    "podman build": "containers, both programs built",
 }
 # Blocks that end with another status than 0.
 STATUSES = {"tools/bridge explain lacking.pcap\n": 1}
