@@ -1,2 +1,5 @@
+mod CallerLemmas
 mod FreeLemmas
+mod LawLemmas
+mod SittingLemmas
 mod TalkLemmas

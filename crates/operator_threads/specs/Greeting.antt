@@ -1,5 +1,6 @@
 -- What a connection without a seat is answered (own).
-use Rattle.std.specs.Prelude.{◌≡◌, ◌⊎◌, ◌+◌, ◌++◌, ℕ, Bool, true, false, not, List, [], ◌∷◌, take}
+use Rattle.std.specs.Prelude.{◌≡◌, ◌⊎◌, ◌+◌, ◌<◌, ◌++◌, ℕ, Bool, true, false, not, List, [], ◌∷◌, take}
+use Rattle.udp_front.specs.Fed.{Brings}
 use Rattle.udp_front.specs.Openings.{opening_of, greeting_of}
 use Rattle.udp_front.specs.declared.answering.Next.{Next}
 use Rattle.udp_front.specs.declared.answering.Next.TheVariants as next
@@ -50,6 +51,12 @@ GreetsFirst lines before after to greeted.All =
 GreetsFirst lines before after to greeted.Stopped =
     (count : ℕ) × GreetsLines (take count lines) before after Open to × (to ≡ Open)
 
+-- the place of a good line is one of so many
+abbrev pub IsPlaceIn : Greeted → ℕ → Type 0
+IsPlaceIn (greeted.Good at) count = at < count
+IsPlaceIn greeted.All count = Unit {0}
+IsPlaceIn greeted.Stopped count = Unit {0}
+
 -- all lines were dealt with without a seat
 abbrev pub is_all : Greeted → Bool
 is_all (greeted.Good at) = false
@@ -64,3 +71,15 @@ GreetsAll lines is_too_long before after to greeted =
     (between : List ℕ) × (standing : Standing)
     × GreetsFirst lines before between standing greeted
     × Refuses (refuses is_too_long (not (is_all greeted)) standing) between after standing to
+
+-- memory ran out while these lines were dealt with: the first of them were
+abbrev pub GreetsSome : List (List ℕ) → (before after : List ℕ) → Type 0
+GreetsSome lines before after =
+    (count : ℕ) × (to : Standing) × GreetsLines (take count lines) before after Open to
+
+-- memory ran out while octets that follow a stream were heard, or while the lines that they end were dealt with
+abbrev pub BreaksGreeting : (stream octets : List ℕ) → (before after : List ℕ) → Type 0
+BreaksGreeting stream octets before after =
+    (after ≡ before)
+    ⊎ ((lines : List (List ℕ)) × (is_too_long : Bool)
+    × Brings stream octets lines is_too_long × GreetsSome lines before after)

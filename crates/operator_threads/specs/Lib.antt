@@ -1,6 +1,11 @@
+pub mod Acts
+pub mod Connection
+pub mod Deeds
 pub mod Free
 pub mod Greeting
+pub mod LineLogs
 pub mod Lobby
 pub mod Readiness
 pub mod Talking
+pub mod Talks
 pub mod Told

@@ -112,6 +112,21 @@ AnswersOctets replies shows stream octets old new before after to stopped =
     × Brings stream octets lines is_too_long
     × AnswersAll replies shows lines is_too_long old new before after to stopped
 
+-- memory ran out while these lines were answered: the first of them were, and then a call may have been carried out
+abbrev pub AnswersSome :
+    {D : Type 0} → Replying D → Showing D → List (List ℕ) → D → (before after : List ℕ) → Type 0
+AnswersSome {D = D} replies shows lines old before after =
+    (count : ℕ) × (mid : D) × (to : Standing)
+    × AnswersLines replies shows (take count lines) old mid before after Open to
+
+-- memory ran out while octets that follow a stream were heard, or while the lines that they end were answered
+abbrev pub BreaksOff :
+    {D : Type 0} → Replying D → Showing D → (stream octets : List ℕ) → D → (before after : List ℕ) → Type 0
+BreaksOff replies shows stream octets old before after =
+    (after ≡ before)
+    ⊎ ((lines : List (List ℕ)) × (is_too_long : Bool)
+    × Brings stream octets lines is_too_long × AnswersSome replies shows lines old before after)
+
 -- what an error of a socket means: nothing yet, nothing this time, or the end
 abbrev pub came_by : ErrorKind → Came
 came_by kinds.WouldBlock = came.Later

@@ -5,7 +5,7 @@ ghost use Rattle.script_text.specs.declared.fault.Fault.TheVariants.{LineTooLong
 ghost use Rattle.udp_front.specs.Fed.{StandsFor, texts};
 ghost use Rattle.udp_front.specs.Operators.{AnswersLine, fault_line};
 ghost use Rattle.operator_threads.specs.Talking.{after_line, refuses, Refuses};
-ghost use Rattle.operator_threads.specs.Talking.{AnswersFirst, AnswersAll, AnswersOctets};
+ghost use Rattle.operator_threads.specs.Talking.{AnswersFirst, AnswersAll, AnswersOctets, AnswersSome, BreaksOff};
 
 use crate::talking::{Standing, Talk};
 use std::alloc::{AllocError, Global};
@@ -47,6 +47,8 @@ impl Talk {
         requires open { self.old.standing ≡ Standing.Open }
         ensures first { IfOk result (λ stops. AnswersFirst D.replies D.shows (texts lines.now)
             desk.old desk.new self.old.outgoing self.new.outgoing self.new.standing stops) }
+        ensures broke { OnErr result
+            (AnswersSome D.replies D.shows (texts lines.now) desk.old self.old.outgoing self.new.outgoing) }
         ensures lines { self.new.lines ≡ self.old.lines }
     {
         for line in lines {
@@ -91,6 +93,7 @@ impl Talk {
     ) -> Result<(), AllocError>
         ensures refused { OnOk result
             (Refuses refuses self.old.outgoing self.new.outgoing self.old.standing self.new.standing) }
+        ensures err { OnErr result (self.new ≡ self.old) }
         ensures lines { self.new.lines ≡ self.old.lines }
     {
         if refuses {
@@ -114,6 +117,8 @@ impl Talk {
         requires stands { self.old.standing ≡ Standing.Open }
         ensures all { IfOk result (λ stops. AnswersAll D.replies D.shows (texts lines.now) is_too_long
             desk.old desk.new self.old.outgoing self.new.outgoing self.new.standing stops) }
+        ensures broke { OnErr result
+            (AnswersSome D.replies D.shows (texts lines.now) desk.old self.old.outgoing self.new.outgoing) }
         ensures lines { self.new.lines ≡ self.old.lines }
     {
         let stops = self.answer_lines(alloc, desk, lines, text, stopped)?;
@@ -139,8 +144,10 @@ impl Talk {
             self.new.standing stops) }
         ensures kept { IfOk result (λ stops. (before : List ℕ) → StandsFor self.old.lines before
             → StandsFor self.new.lines (before ++ octets.now)) }
-        ensures since { IfOk result (λ stops. self.new.since ≡ now) }
+        ensures since { self.new.since ≡ now }
         ensures lost { OnErr result (self.new.standing ≡ Standing.Lost) }
+        ensures broke { OnErr result ((before : List ℕ) → StandsFor self.old.lines before
+            → BreaksOff D.replies D.shows before octets.now desk.old self.old.outgoing self.new.outgoing) }
     {
         match self.lines.feed(alloc, octets) {
             Ok(fed) => {
@@ -148,7 +155,10 @@ impl Talk {
                 self.since = now;
                 self.or_lost(said)
             }
-            Err(error) => self.or_lost(Err(error)),
+            Err(error) => {
+                self.since = now;
+                self.or_lost(Err(error))
+            }
         }
     }
 
@@ -169,6 +179,8 @@ impl Talk {
             fed.now.too_long desk.old desk.new self.old.outgoing self.new.outgoing self.new.standing stops) }
         ensures lines { self.new.lines ≡ self.old.lines }
         ensures lost { OnErr result (self.new.standing ≡ Standing.Lost) }
+        ensures broke { OnErr result (AnswersSome D.replies D.shows (texts (drop at fed.now.lines.items))
+            desk.old self.old.outgoing self.new.outgoing) }
     {
         let rest = &fed.lines[at..];
         let said = self.answer_all(alloc, desk, rest, fed.too_long, text, stopped);

@@ -1,9 +1,10 @@
 //! What a connection without a seat is answered.
 
-ghost use Rattle.std.specs.Prelude.{◌≡◌, ◌++◌, ℕ, List, IfOk, OnOk, OnErr};
+ghost use Rattle.std.specs.Prelude.{◌≡◌, ◌++◌, ℕ, List, IfOk, OnOk, OnErr, vec_len};
 ghost use Rattle.udp_front.specs.Fed.{Brings, StandsFor, texts};
 ghost use Rattle.udp_front.specs.Operators.{busy_line};
 ghost use Rattle.operator_threads.specs.Greeting.{GreetsLine, GreetsFirst, GreetsAll, is_all};
+ghost use Rattle.operator_threads.specs.Greeting.{GreetsSome, BreaksGreeting, IsPlaceIn};
 
 use crate::talking::{Standing, Talk};
 use std::alloc::{AllocError, Global};
@@ -54,6 +55,7 @@ impl Talk {
     ) -> Result<bool, AllocError>
         ensures greets { IfOk result (λ is_good. GreetsLine is_good line.now
             self.old.outgoing self.new.outgoing self.old.standing self.new.standing) }
+        ensures err { OnErr result (self.new.outgoing ≡ self.old.outgoing) }
         ensures lines { self.new.lines ≡ self.old.lines }
     {
         text.clear();
@@ -79,6 +81,7 @@ impl Talk {
         requires open { self.old.standing ≡ Standing.Open }
         ensures first { IfOk result (λ greeted. GreetsFirst (texts lines.now)
             self.old.outgoing self.new.outgoing self.new.standing greeted) }
+        ensures broke { OnErr result (GreetsSome (texts lines.now) self.old.outgoing self.new.outgoing) }
         ensures lines { self.new.lines ≡ self.old.lines }
     {
         let mut at = 0;
@@ -110,6 +113,7 @@ impl Talk {
         requires stands { self.old.standing ≡ Standing.Open }
         ensures all { IfOk result (λ greeted. GreetsAll (texts lines.now) is_too_long
             self.old.outgoing self.new.outgoing self.new.standing greeted) }
+        ensures broke { OnErr result (GreetsSome (texts lines.now) self.old.outgoing self.new.outgoing) }
         ensures lines { self.new.lines ≡ self.old.lines }
     {
         let greeted = self.greet_lines(alloc, lines, text, stopped)?;
@@ -135,8 +139,11 @@ impl Talk {
             self.old.outgoing self.new.outgoing self.new.standing heard.greeted) }
         ensures kept { IfOk result (λ heard. (before : List ℕ) → StandsFor self.old.lines before
             → StandsFor self.new.lines (before ++ octets.now)) }
-        ensures since { IfOk result (λ heard. self.new.since ≡ now) }
+        ensures place { IfOk result (λ heard. IsPlaceIn heard.greeted (vec_len heard.fed.lines)) }
+        ensures since { self.new.since ≡ now }
         ensures lost { OnErr result (self.new.standing ≡ Standing.Lost) }
+        ensures broke { OnErr result ((before : List ℕ) → StandsFor self.old.lines before
+            → BreaksGreeting before octets.now self.old.outgoing self.new.outgoing) }
     {
         match self.lines.feed(alloc, octets) {
             Ok(fed) => {
@@ -147,7 +154,10 @@ impl Talk {
                     Err(error) => Err(error),
                 }
             }
-            Err(error) => self.or_lost(Err(error)),
+            Err(error) => {
+                self.since = now;
+                self.or_lost(Err(error))
+            }
         }
     }
 
@@ -155,8 +165,10 @@ impl Talk {
     pub fn refuse_seat(&mut self, now: u64) -> Result<(), AllocError>
         ensures told { OnOk result (self.new.outgoing ≡ self.old.outgoing ++ busy_line) }
         ensures ends { OnOk result (self.new.standing ≡ Standing.Ending) }
-        ensures since { OnOk result (self.new.since ≡ now) }
+        ensures since { self.new.since ≡ now }
         ensures lost { OnErr result (self.new.standing ≡ Standing.Lost) }
+        ensures err { OnErr result (self.new.outgoing ≡ self.old.outgoing) }
+        ensures lines { self.new.lines ≡ self.old.lines }
     {
         self.since = now;
         self.standing = Standing::Ending;

@@ -1,17 +1,21 @@
 //! The operators of a bridge, each connection on a thread of its own, at one shared desk.
 //!
 //! Begin with [`Operators::new`]. Where a seat is free ([`Operators::has_seat`]), [`Operators::enter`] a connection,
-//! make a [`Caller`] of it, and run [`Operators::talk`] in a thread; else [`turn_away`] the caller. The first good line
-//! takes a seat. `udp_front::answer` over an [`AtDesk`] answers a line, and its contract says how. Contracts say
-//! nothing of sockets, and so nothing of `talk`.
+//! make a [`Caller`] of its [`SocketLine`], and run [`Operators::talk`] in a thread; else [`turn_away`] the caller. The
+//! first good line takes a seat. `udp_front::answer` over an [`AtDesk`] answers a line, and its contract says how.
+//!
+//! A connection is a [`CallerLine`]: contracts see all that was done on it, and a test may script one. `talk` repeats
+//! [`Operators::greet`] until the connection has a seat, and then [`Operators::serve`]: one round each. Their contracts
+//! say what a round does, and [`what_is_said_goes_on`] what that makes of any number of rounds.
 //!
 //! ```rust
 //! // desk and seats: of a shared desk; stream: a connection; front: what is roused after each accepted call
 //! let operators = Operators::new(&rt, alloc, desk, seats);
 //! if operators.has_seat(&rt) {
 //!     let number = operators.enter(&rt)?;
-//!     let caller = Caller::new(&rt, alloc, number, stream)?;
-//!     operators.talk(&rt, alloc, caller, &front); // in a thread of its own
+//!     let line = SocketLine::open(&rt, alloc, stream)?;
+//!     let mut caller = Caller::new(alloc, number, line)?;
+//!     operators.talk(&rt, alloc, &mut caller, &front); // in a thread of its own
 //! } else {
 //!     turn_away(stream);
 //! }
@@ -25,16 +29,29 @@ mod answering;
 mod at_desk;
 mod caller;
 mod greeting;
+mod heard;
+mod hearing;
 mod latest;
+mod laws;
+mod line;
+mod line_log;
 mod lobby;
 mod operators;
 mod printed;
 mod printing;
 mod readiness;
 mod seats;
+mod socket_line;
+mod steps;
 mod talking;
 
 pub use self::at_desk::AtDesk;
-pub use self::caller::{Caller, turn_away};
+pub use self::caller::Caller;
+pub use self::laws::{nothing_is_said_after_the_end, what_is_said_goes_on};
+pub use self::line::CallerLine;
+pub use self::line_log::LineLog;
 pub use self::operators::Operators;
 pub use self::printing::print_answer;
+pub use self::socket_line::{SocketLine, turn_away};
+pub use self::steps::Seating;
+pub use self::talking::Came;

@@ -5,7 +5,6 @@ ghost use mathlib.Core.List.{IsPrefix};
 ghost use Rattle.operator_desk.specs.Answers.{IsNotice};
 
 use crate::at_desk::AtDesk;
-use crate::caller::{Caller, Heed};
 use crate::latest::Latest;
 use crate::lobby::Lobby;
 use crate::printed::Printed;
@@ -15,7 +14,6 @@ use operator_desk::{Hall, Seat, SharedDesk};
 use std::alloc::{AllocError, Global};
 use std::sync::atomic::{AtomicBool, Ordering};
 use std::sync::{Mutex, MutexGuard, Wait};
-use std::time::Clock;
 use versions::Notice;
 
 /// The operators of a bridge, at one desk. It is not `Drop`: end it by [`Operators::end`].
@@ -29,7 +27,7 @@ pub struct Operators<'a, H: Hall> {
     /// Held while the rows are printed, which takes milliseconds for a full desk, or copied as they were printed last.
     /// Operators who keep asking take one processor together, and the others' calls have the rest.
     pub(crate) printed: Mutex<Printed<H>>,
-    stopped: AtomicBool,
+    pub(crate) stopped: AtomicBool,
 }
 
 impl<'a, H: Hall> Operators<'a, H> {
@@ -69,7 +67,7 @@ impl<'a, H: Hall> Operators<'a, H> {
     }
 
     /// Whether a connection without a seat is there, and has not made way for a newer one.
-    fn is_there<R: Wait>(&self, rt: &R, number: u64) -> bool {
+    pub(crate) fn is_there<R: Wait>(&self, rt: &R, number: u64) -> bool {
         let lobby = self.lobby.lock(rt);
         let is_there = lobby.has(number);
         MutexGuard::unlock(lobby);
@@ -77,14 +75,14 @@ impl<'a, H: Hall> Operators<'a, H> {
     }
 
     /// Takes a connection out of those that have no seat.
-    fn leave<R: Wait>(&self, rt: &R, number: u64) {
+    pub(crate) fn leave<R: Wait>(&self, rt: &R, number: u64) {
         let mut lobby = self.lobby.lock(rt);
         lobby.leave(number);
         MutexGuard::unlock(lobby);
     }
 
     /// Takes the lowest free seat.
-    fn take<R: Wait>(&self, rt: &R) -> Option<TakenSeat<'a, H>> {
+    pub(crate) fn take<R: Wait>(&self, rt: &R) -> Option<TakenSeat<'a, H>> {
         let mut seats = self.seats.lock(rt);
         let taken = seats.take();
         MutexGuard::unlock(seats);
@@ -99,7 +97,7 @@ impl<'a, H: Hall> Operators<'a, H> {
     }
 
     /// The operator of a taken seat. End it by [`AtDesk::leave`].
-    fn at_desk<'b, R: Wait, F: Rouse>(
+    pub(crate) fn at_desk<'b, R: Wait, F: Rouse>(
         &'b self,
         rt: &'b R,
         front: &'b F,
@@ -137,61 +135,6 @@ impl<'a, H: Hall> Operators<'a, H> {
         let notice = latest.again();
         MutexGuard::unlock(latest);
         notice
-    }
-
-    /// Talks with the operator of a connection: the body of its thread. The first good line takes the lowest free seat,
-    /// which is given back at the end. It ends when the connection does, or within two seconds of any `stop`.
-    ///
-    /// `front` is roused after each accepted call, and after `stop`.
-    pub fn talk<R: Wait + Clock, F: Rouse>(
-        &self,
-        rt: &R,
-        alloc: Global,
-        mut caller: Caller,
-        front: &F,
-    ) {
-        let taken = self.seated(rt, alloc, &mut caller);
-        self.leave(rt, caller.number());
-        let Some(taken) = taken else {
-            return;
-        };
-        let mut desk = self.at_desk(rt, front, taken);
-        caller.answer_heard(rt, alloc, &mut desk, &self.stopped);
-        for _ in rt.forever() {
-            if caller.stops() && !self.has_stopped() {
-                self.stop();
-                front.rouse();
-            }
-            if caller.is_over(rt) {
-                break;
-            }
-            caller.round(rt, alloc, &mut desk, &self.stopped);
-        }
-        desk.leave();
-    }
-
-    /// Deals with a connection's lines up to its first good one, and takes a seat for it. `None`: the connection is
-    /// over, and had none.
-    fn seated<R: Wait + Clock>(
-        &self,
-        rt: &R,
-        alloc: Global,
-        caller: &mut Caller,
-    ) -> Option<TakenSeat<'a, H>> {
-        for _ in rt.forever() {
-            if !self.is_there(rt, caller.number()) {
-                return None;
-            }
-            match caller.round_without_seat(rt, alloc, &self.stopped) {
-                Heed::Over => return None,
-                Heed::Waits => {}
-                Heed::Good => match self.take(rt) {
-                    Some(taken) => return Some(taken),
-                    None => caller.refuse_seat(rt),
-                },
-            }
-        }
-        None
     }
 
     /// Stops the bridge: each connection's thread ends within two seconds.

@@ -1,6 +1,7 @@
 //! An operator's connection: its state after each read, answer and write. No function here has a socket.
 
-ghost use Rattle.std.specs.Prelude.{◌≡◌, ◌-◌, ℕ, [], OnOk, OnErr};
+ghost use Rattle.std.specs.Prelude.{◌≡◌, ◌≤◌, ◌-◌, ℕ, [], OnOk, OnErr};
+ghost use Rattle.operator_threads.specs.Acts.{octet_count};
 ghost use Rattle.udp_front.specs.Fed.{StandsFor};
 ghost use Rattle.operator_threads.specs.declared.talking.Came.TheVariants as arrived;
 ghost use Rattle.operator_threads.specs.Talking.{is_open, is_over, after_line, after_stop, since_stop};
@@ -33,7 +34,7 @@ pub(crate) enum Standing {
 
 /// What a read or a write gave.
 #[derive(Clone, Copy, Debug, PartialEq, Eq)]
-pub(crate) enum Came {
+pub enum Came {
     /// This many octets, at least one.
     Octets(usize),
     /// The end of the stream, or a socket that takes nothing more.
@@ -44,6 +45,28 @@ pub(crate) enum Came {
     Again,
     /// The connection has failed.
     Failed,
+}
+
+impl Came {
+    /// How many octets came or were taken.
+    pub(crate) fn count(&self) -> usize
+        ensures { result ≡ octet_count self.now }
+    {
+        match self {
+            Came::Octets(count) => *count,
+            Came::End | Came::Later | Came::Again | Came::Failed => 0,
+        }
+    }
+
+    /// The same, with no more than so many octets.
+    pub(crate) fn at_most(self, most: usize) -> Self
+        ensures { octet_count result ≤ most }
+    {
+        match self {
+            Came::Octets(count) => Came::Octets(count.min(most)),
+            Came::End | Came::Later | Came::Again | Came::Failed => self,
+        }
+    }
 }
 
 /// What a socket's answer means.
@@ -145,6 +168,8 @@ impl Talk {
         ensures ok { OnOk result (self.new ≡ self.old) }
         ensures lost { OnErr result (self.new.standing ≡ Standing.Lost) }
         ensures lines { self.new.lines ≡ self.old.lines }
+        ensures outgoing { self.new.outgoing ≡ self.old.outgoing }
+        ensures since { self.new.since ≡ self.old.since }
     {
         if said.is_err() {
             self.standing = Standing::Lost;

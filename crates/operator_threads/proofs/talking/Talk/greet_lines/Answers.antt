@@ -1,5 +1,8 @@
-use Rattle.std.proofs.Common.{◌+◌, Bool, sym, ap, subst, ◌∙◌, inr}
-use Rattle.operator_threads.specs.Greeting.{GreetsLine}
+use Rattle.std.proofs.Common.{◌+◌, ℕ, Bool, List, take, sym, ap, subst, ◌∙◌, inr}
+use Rattle.udp_front.specs.Fed.{texts}
+use Rattle.operator_threads.specs.Greeting.{GreetsLine, GreetsLines, GreetsSome}
+use Rattle.operator_threads.specs.declared.talking.Standing.TheVariants.{Open}
+use Rattle.operator_threads.proofs.CallerLemmas.{on_err}
 use Rattle.operator_threads.proofs.TalkLemmas.{greets_good, greets_step, open_is}
 use Rattle.operator_threads.proofs.talking.Talk.greet_lines.Goals as goal
 
@@ -35,3 +38,13 @@ loop-line-preserved c =
       said = greets_step (λ line. line.items) c.args.lines.now c.loop-line.line-index _ c.deref.result.now c.args.self.now.outgoing was.outgoing now.outgoing greets.0 _
           c.loop-line-test.true c.line-item.is c.deref.ensures.value c.loop-line.invariant.said greets.1 (sym stays ∙ greets.2);
     }
+
+pub returns-in_err-greet_line-clause-broke : goal.returns-in_err-greet_line-clause-broke
+returns-in_err-greet_line-clause-broke c =
+    let some : GreetsSome (texts c.args.lines.now) c.args.self.now.outgoing c.greet_line.new.self.outgoing = (
+      c.loop-line.line-index,
+      Open,
+      subst (λ (o : List ℕ). GreetsLines (take c.loop-line.line-index (texts c.args.lines.now)) c.args.self.now.outgoing o Open Open)
+          (sym c.in_err-greet_line.ensures.err) c.loop-line.invariant.said,
+    ) in
+    on_err _ some

@@ -1,0 +1,13 @@
+use Rattle.std.proofs.Common.{ℕ, List, sym, ap, subst}
+use Rattle.udp_front.specs.Fed.{texts}
+use Rattle.operator_threads.specs.Greeting.{GreetsSome}
+use Rattle.operator_threads.specs.declared.talking.Talk.{Talk}
+use Rattle.operator_threads.proofs.CallerLemmas.{on_err, first_some}
+use Rattle.operator_threads.proofs.talking.Talk.greet_all.Goals as goal
+
+pub returns-in_err-refuse_if-clause-broke : goal.returns-in_err-refuse_if-clause-broke
+returns-in_err-refuse_if-clause-broke c =
+    let said = c.greet_lines.new.self in
+    on_err _ (subst (λ (o : List ℕ). GreetsSome (texts c.args.lines.now) c.args.self.now.outgoing o)
+    (sym (ap (λ (t : Talk). t.outgoing) c.in_err-refuse_if.ensures.err))
+    (first_some (texts c.args.lines.now) c.args.self.now.outgoing said.outgoing said.standing _ c.in_ok-greeted.ensures.first))

@@ -1,0 +1,109 @@
+//! The socket of an operator's connection.
+
+ghost use Rattle.std.specs.Prelude.{◌≡◌, ◌≤◌, length};
+ghost use Rattle.operator_threads.specs.Acts.{octet_count};
+
+use crate::line::CallerLine;
+use crate::line_log::LineLog;
+use crate::talking::{Came, meaning};
+use mio::net::TcpStream;
+use mio::{Events, Interest, Poll, Token};
+use std::alloc::Global;
+use std::io;
+use std::io::{Read, Write};
+use std::net::Net;
+use std::time::{Clock, Duration};
+use udp_front::{Moments, busy};
+
+/// How many of the system's events are taken at a time.
+const EVENTS: usize = 4;
+
+/// The socket of an operator's connection as a line, with a poll and a clock of its own.
+#[derive(Drop)]
+pub struct SocketLine<R: Clock + Drop> {
+    rt: R,
+    poll: Poll,
+    events: Events,
+    stream: TcpStream,
+    moments: Moments,
+    /// What was done on it, in proofs alone.
+    log: LineLog,
+}
+
+impl<R: Net + Clock + Copy + Drop> SocketLine<R> {
+    /// The line of a connection that was accepted. An `Err` is the system's or out of memory, and closes the
+    /// connection.
+    pub fn open(rt: &R, alloc: Global, mut stream: TcpStream) -> io::Result<Self> {
+        let poll = Poll::new(rt)?;
+        let events = Events::with_capacity(alloc, EVENTS)?;
+        let interest = Interest::READABLE | Interest::WRITABLE;
+        poll.registry().register(&mut stream, Token(0), interest)?;
+        // An answer's last octets don't wait until what went before them is acknowledged, which may take 40 ms.
+        stream.set_nodelay(true)?;
+        Ok(Self {
+            rt: *rt,
+            poll,
+            events,
+            stream,
+            moments: Moments::begin(rt)?,
+            log: LineLog::new(),
+        })
+    }
+}
+
+impl<R: Clock + Drop> SocketLine<R> {
+    /// What a read of the socket gave: of octets, no more than the chunk has.
+    fn read_once(&mut self, chunk: &mut Vec<u8>) -> Came
+        ensures few { octet_count result ≤ length chunk.new.items }
+        ensures log { self.new.log ≡ self.old.log }
+    {
+        let came = meaning(&self.stream.read(chunk));
+        came.at_most(chunk.len())
+    }
+
+    /// What a write to the socket gave: of octets, no more than these.
+    fn write_once(&mut self, octets: &[u8]) -> Came
+        ensures few { octet_count result ≤ length octets.now }
+        ensures log { self.new.log ≡ self.old.log }
+    {
+        let came = meaning(&self.stream.write(octets));
+        came.at_most(octets.len())
+    }
+}
+
+impl<R: Clock + Drop> CallerLine for SocketLine<R> {
+    ghost use Rattle.operator_threads.specs.LineLogs.{act_list};
+
+    ghost acts = { λ line. act_list line.log };
+
+    fn wait(&mut self, longest: u64) -> io::Result<bool> {
+        self.poll
+            .poll(&mut self.events, Some(Duration::from_millis(longest)))?;
+        let any = !self.events.is_empty();
+        self.log.note_wait(longest, any);
+        Ok(any)
+    }
+
+    fn now(&mut self) -> io::Result<u64> {
+        let now = self.moments.now(&self.rt)?;
+        self.log.note_look(now);
+        Ok(now)
+    }
+
+    fn read(&mut self, chunk: &mut Vec<u8>) -> Came {
+        let came = self.read_once(chunk);
+        self.log.note_read(came, chunk);
+        came
+    }
+
+    fn write(&mut self, octets: &[u8]) -> Came {
+        let came = self.write_once(octets);
+        self.log.note_write(came, octets);
+        came
+    }
+}
+
+/// Tells a caller that no seat is free, and closes the connection.
+pub fn turn_away(mut stream: TcpStream) {
+    let _ = stream.write(busy());
+}

@@ -1,0 +1,169 @@
+//! The rounds of an operator's connection at the desk.
+
+ghost use Rattle.std.specs.Prelude.{◌≡◌, List};
+ghost use Rattle.operator_threads.specs.Connection.{connection};
+ghost use Rattle.operator_threads.specs.Deeds.{SeatedDeed, AreSeatedDeeds};
+ghost use Rattle.operator_threads.specs.Talks.{HasWaitedFor, HasSat, IsStep};
+
+use crate::at_desk::AtDesk;
+use crate::caller::{Caller, Heed};
+use crate::line::CallerLine;
+use crate::operators::Operators;
+use lane_bell::Rouse;
+use operator_desk::Hall;
+use std::alloc::Global;
+use std::sync::Wait;
+use udp_front::LineDesk;
+
+/// What a round of a connection without a seat led to. With a seat it is not `Drop`: end the desk by
+/// [`AtDesk::leave`].
+pub enum Seating<'b, 'a, H: Hall, R: Wait, F: Rouse> {
+    /// Its first good line has not come, or it was refused a seat: another round follows.
+    Waits,
+    /// It is to be closed, and has no seat.
+    Over,
+    /// It has a seat: this is its operator at the desk.
+    Seated(AtDesk<'b, 'a, H, R, F>),
+}
+
+impl<'a, H: Hall> Operators<'a, H> {
+    /// Talks with the operator of a connection: the body of its thread. The first good line takes the lowest free seat,
+    /// which is given back at the end. It ends when the connection does, or within two seconds of any `stop`.
+    ///
+    /// `front` is roused after each accepted call, and after `stop`.
+    pub fn talk<'b, R: Wait, F: Rouse, L: CallerLine + Drop>(
+        &'b self,
+        rt: &'b R,
+        alloc: Global,
+        caller: &mut Caller<L>,
+        front: &'b F,
+    ) {
+        if let Some(mut desk) = self.seated(rt, alloc, caller, front) {
+            self.sit(rt, alloc, caller, &mut desk, front);
+            desk.leave();
+        }
+    }
+
+    /// Has rounds without a seat, until the first good line has one. `None`: the connection is over, and had none.
+    fn seated<'b, R: Wait, F: Rouse, L: CallerLine + Drop>(
+        &'b self,
+        rt: &'b R,
+        alloc: Global,
+        caller: &mut Caller<L>,
+        front: &'b F,
+    ) -> Option<AtDesk<'b, 'a, H, R, F>>
+        ensures { HasWaitedFor
+            (connection (L.acts caller.old.line) caller.old.talk caller.old.ready caller.old.heard)
+            (connection (L.acts caller.new.line) caller.new.talk caller.new.ready caller.new.heard) }
+    {
+        for _ in rt.forever() {
+            match self.greet(rt, alloc, caller, front) {
+                Seating::Waits => {}
+                Seating::Over => return None,
+                Seating::Seated(desk) => return Some(desk),
+            }
+        }
+        None
+    }
+
+    /// Has rounds with a seat, until the connection is over.
+    pub fn sit<R: Wait, F: Rouse, L: CallerLine + Drop, D: LineDesk>(
+        &self,
+        rt: &R,
+        alloc: Global,
+        caller: &mut Caller<L>,
+        desk: &mut D,
+        front: &F,
+    )
+        ensures { HasSat D.replies D.shows
+            (desk.old, connection (L.acts caller.old.line) caller.old.talk caller.old.ready caller.old.heard)
+            (desk.new, connection (L.acts caller.new.line) caller.new.talk caller.new.ready caller.new.heard) }
+    {
+        for _ in rt.forever() {
+            if !self.serve(alloc, caller, desk, front) {
+                return;
+            }
+        }
+    }
+
+    /// A round of a connection without a seat: waits 50 ms at most, and deals with its lines up to the first good one,
+    /// which takes the lowest free seat. If none is free, it is answered `busy`.
+    pub fn greet<'b, R: Wait, F: Rouse, L: CallerLine + Drop>(
+        &'b self,
+        rt: &'b R,
+        alloc: Global,
+        caller: &mut Caller<L>,
+        front: &'b F,
+    ) -> Seating<'b, 'a, H, R, F>
+        ensures { HasWaitedFor
+            (connection (L.acts caller.old.line) caller.old.talk caller.old.ready caller.old.heard)
+            (connection (L.acts caller.new.line) caller.new.talk caller.new.ready caller.new.heard) }
+    {
+        let number = caller.number();
+        if !self.is_there(rt, number) {
+            return Seating::Over;
+        }
+        match caller.round_without_seat(alloc, &self.stopped) {
+            Heed::Over => {
+                self.leave(rt, number);
+                Seating::Over
+            }
+            Heed::Waits => Seating::Waits,
+            Heed::Good => self.admit(rt, number, caller, front),
+        }
+    }
+
+    /// Takes a seat for the first good line of a connection, or tells it that none is free.
+    fn admit<'b, R: Wait, F: Rouse, L: CallerLine + Drop>(
+        &'b self,
+        rt: &'b R,
+        number: u64,
+        caller: &mut Caller<L>,
+        front: &'b F,
+    ) -> Seating<'b, 'a, H, R, F>
+        ensures { HasWaitedFor
+            (connection (L.acts caller.old.line) caller.old.talk caller.old.ready caller.old.heard)
+            (connection (L.acts caller.new.line) caller.new.talk caller.new.ready caller.new.heard) }
+    {
+        match self.take(rt) {
+            Some(taken) => {
+                self.leave(rt, number);
+                Seating::Seated(self.at_desk(rt, front, taken))
+            }
+            None => {
+                caller.refuse_seat();
+                Seating::Waits
+            }
+        }
+    }
+
+    /// A round of a connection with a seat: answers what was heard before it had one; or else waits 50 ms at most, and
+    /// answers the lines that have come. Returns whether the connection goes on; if not, nothing was done on it.
+    ///
+    /// It stops the bridge for an operator who said `stop`, and then rouses the front.
+    pub fn serve<F: Rouse, L: CallerLine + Drop, D: LineDesk>(
+        &self,
+        alloc: Global,
+        caller: &mut Caller<L>,
+        desk: &mut D,
+        front: &F,
+    ) -> bool
+        ensures { (deeds : List SeatedDeed) × IsStep result deeds × AreSeatedDeeds D.replies D.shows deeds
+            (desk.old, connection (L.acts caller.old.line) caller.old.talk caller.old.ready caller.old.heard)
+            (desk.new, connection (L.acts caller.new.line) caller.new.talk caller.new.ready caller.new.heard) }
+    {
+        if caller.stops() && !self.has_stopped() {
+            self.stop();
+            front.rouse();
+        }
+        if caller.is_over() {
+            return false;
+        }
+        if caller.has_heard() {
+            caller.answer_heard(alloc, desk, &self.stopped);
+        } else {
+            caller.round(alloc, desk, &self.stopped);
+        }
+        true
+    }
+}
