@@ -17,7 +17,7 @@ from dataclasses import dataclass
 from lib.packets import rtp
 from lib.shared import add_program, fail, release_program
 
-NEEDS = "the program, some ten minutes"
+NEEDS = "the program, four minutes"
 
 P, Q, SSRC, OUT = "10.0.0.1:5000", "10.0.0.2:5000", 201, 9002
 BEGIN, MILLI = 10**18, 10**6
