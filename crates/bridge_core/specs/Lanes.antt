@@ -29,8 +29,8 @@ use Rattle.forward_rewrite.specs.Streams.{counts_of}
 use Rattle.mixer.specs.Mixes.{turns, counts_of as mix_counts_of}
 use Rattle.upward.specs.Upstream.{Asker, upstream_packets}
 use Rattle.feedback.specs.PassedUp.{pli_up}
-use Rattle.reports.specs.SenderReports.{sender_packets}
-use Rattle.reports.specs.LossNotes.{note_of}
+use Rattle.feedback.specs.SenderReports.{sender_packets}
+use Rattle.feedback.specs.LossNotes.{note_of}
 use Rattle.media_items.specs.Inputs.{Told, Loss}
 use Rattle.media_items.specs.Inputs.Input.{frame, audio, tick, nack, block, pli, report, renew}
 use Rattle.bridge_core.specs.Sent.{Sent, about}

@@ -45,8 +45,8 @@ pub use self::laws::{
     the_headline, undos_and_redos_are_accepted, undos_are_redone,
 };
 pub use self::reply::Reply;
+pub use feedback::LossNote;
 pub use frame_gate::{Frame, FrameFault, FramePacket};
 pub use intake::{Ingest, Intake, Outcome, Settings, WaitAnswer};
 pub use media_items::{Item, MediaFrame};
-pub use reports::LossNote;
 pub use retransmit::PacketBytes;

@@ -15,8 +15,8 @@ use crate::egress::Egress;
 use crate::parts::LaneParts;
 use crate::visit::LaneVisit;
 use desk_rows::{Member, Slot};
+use feedback::sender_report;
 use forward_rewrite::Counts;
-use reports::sender_report;
 use std::alloc::{AllocError, Allocator, Global};
 use topology::slots_to;
 

@@ -12,7 +12,7 @@ use Rattle.desk_edit.specs.Told.{Told, table_text, told_of}
 use Rattle.rtp_codec.specs.declared.address.Address.{Address as Endpoint}
 use Rattle.bridge_core.specs.declared.reply.Reply.{Reply}
 use Rattle.bridge_core.specs.declared.reply.Reply.TheVariants.{Accepted, Refused}
-use Rattle.reports.specs.declared.noting.LossNote.{LossNote}
+use Rattle.feedback.specs.declared.noting.LossNote.{LossNote}
 use Rattle.bridge_core.specs.Sent.{MediaPacket, ControlPacket, Notice, Sent}
 use Rattle.bridge_core.specs.Sent.Sent.{media, control, note}
 use Rattle.script_text.specs.declared.fault.Fault.{Fault}

@@ -11,13 +11,14 @@ ghost use Rattle.rtcp_codec.specs.Packet.{Sender};
 ghost use Rattle.rtcp_codec.specs.Report.{FitsLost};
 ghost use Rattle.rtcp_codec.specs.View.{packets_of};
 ghost use Rattle.upward.specs.ReceiverReports.{blocks_in};
-ghost use Rattle.reports.specs.Times.{from_1900_to_1970, ntp_of, second, ts_at};
+ghost use Rattle.feedback.specs.Times.{from_1900_to_1970, ntp_of, second, ts_at};
 ghost use Rattle.worked_media.specs.Reported.{bridge};
 
 use desk_rows::Rows;
-use feedback::{each_number_once, picture_losses_reach_a_sender, pli_up};
+use feedback::{
+    each_number_once, picture_losses_reach_a_sender, pli_up, sender_report, times_of_reports,
+};
 use forward_rewrite::Counts;
-use reports::{sender_report, times_of_reports};
 use rtcp_codec::{Nack, ReportBlock, Rtcp, read_compound};
 use rtp_codec::Address;
 use std::alloc::{AllocError, Global};

@@ -5,8 +5,8 @@ ghost use Rattle.worked_media.specs.Upstreams.{octets_of};
 ghost use Rattle.worked_media.specs.Reported.{name, first_block, second_block};
 
 use crate::streaming::{owner, switched};
+use feedback::{LossNote, note, sender_report};
 use forward_rewrite::Counts;
-use reports::{LossNote, note, sender_report};
 use rtcp_codec::ReportBlock;
 use std::alloc::{AllocError, Global};
 use upward::receiver_report;

@@ -1,7 +1,7 @@
 //! Reads what receivers report of losses.
 
 ghost use Rattle.std.specs.Prelude.{◌≡◌};
-ghost use Rattle.reports.specs.LossNotes.{note_of};
+ghost use Rattle.feedback.specs.LossNotes.{note_of};
 
 use forward_rewrite::{Owner, Stream};
 use rtcp_codec::ReportBlock;

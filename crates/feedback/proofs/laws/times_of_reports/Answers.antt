@@ -1,7 +1,7 @@
 use Rattle.std.proofs.Common.{◌≡◌, ℕ, ◌+◌, ◌*◌, ◌/◌, ◌%◌, ◌^◌, ap, ◌∙◌, mul_assoc, arith}
 use Rattle.std.proofs.Math.Nat.{mul-div_cancel_left}
-use Rattle.reports.specs.Times.{second, second_in_microseconds, elapsed}
-use Rattle.reports.proofs.laws.times_of_reports.Goals as goal
+use Rattle.feedback.specs.Times.{second, second_in_microseconds, elapsed}
+use Rattle.feedback.proofs.laws.times_of_reports.Goals as goal
 
 whole_seconds : (from n : ℕ) → elapsed from (from + n * second) ≡ second_in_microseconds * n
 whole_seconds from n = omega arith

@@ -3,7 +3,7 @@ use Rattle.std.specs.Prelude.{ℕ, List, [], ◌∷◌}
 use Rattle.rtcp_codec.specs.Packet.{Packet, Sender}
 use Rattle.rtcp_codec.specs.CanonicalName.{named}
 use Rattle.forward_rewrite.specs.declared.counts.Counts.{Counts}
-use Rattle.reports.specs.Times.{ntp_of, ts_at}
+use Rattle.feedback.specs.Times.{ntp_of, ts_at}
 
 -- a sender report of a moment without blocks, then the stream's canonical name
 abbrev pub sender_packets : Counts → (moment : ℕ) → (cname : List ℕ) → List Packet

@@ -5,7 +5,7 @@ ghost use Rattle.rtcp_codec.specs.CanonicalName.{IsCname};
 ghost use Rattle.rtcp_codec.specs.Compound.{IsCompound, written};
 ghost use Rattle.rtcp_codec.specs.View.{packets_of};
 ghost use Rattle.rtcp_codec.specs.WriteFault.{AreWritable};
-ghost use Rattle.reports.specs.SenderReports.{sender_packets};
+ghost use Rattle.feedback.specs.SenderReports.{sender_packets};
 
 use crate::timing::{ntp_of, ts_at};
 use forward_rewrite::Counts;

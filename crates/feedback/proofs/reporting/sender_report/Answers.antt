@@ -3,7 +3,7 @@ use Rattle.std.proofs.lemmas.Result.{IfOk-weaker}
 use Rattle.rtcp_codec.specs.Packet.{Packet}
 use Rattle.rtcp_codec.specs.Compound.{IsCompound, written}
 use Rattle.rtcp_codec.specs.View.{packets_of}
-use Rattle.reports.proofs.sending.sender_report.Goals as goal
+use Rattle.feedback.proofs.reporting.sender_report.Goals as goal
 
 pub returns-clause-octets : goal.returns-clause-octets
 returns-clause-octets g c =

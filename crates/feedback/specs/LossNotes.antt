@@ -5,7 +5,7 @@ use Rattle.rtcp_codec.specs.declared.report.ReportBlock.{ReportBlock}
 use Rattle.retransmit.specs.declared.owner.Owner.{Owner}
 use Rattle.retransmit.specs.SentPacket.{SentPacket}
 use Rattle.retransmit.specs.Window.{resend_of}
-use Rattle.reports.specs.declared.noting.LossNote.{LossNote}
+use Rattle.feedback.specs.declared.noting.LossNote.{LossNote}
 
 -- what a block from this owner says: its losses, and which packet of which source went to the owner under the block's highest number, if that is among the stream's last
 abbrev pub note_of : ReportBlock → Owner → List SentPacket → LossNote

@@ -1,7 +1,7 @@
 //! The NTP and RTP timestamps of a report's moment.
 
 ghost use Rattle.std.specs.Prelude.{◌≡◌};
-ghost use Rattle.reports.specs.Times.{ntp_of, ts_at};
+ghost use Rattle.feedback.specs.Times.{ntp_of, ts_at};
 
 use forward_rewrite::Counts;
 

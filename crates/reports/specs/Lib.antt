@@ -1,3 +1,0 @@
-pub mod Times
-pub mod SenderReports
-pub mod LossNotes
