@@ -27,7 +27,7 @@ use std::alloc::{AllocError, Global};
 use std::sync::Wait;
 use std::thread::Threads;
 use std::time::Clock;
-use udp_front::FrontFault;
+use udp_wire::FrontFault;
 use versions::Notice;
 
 /// The bridge's fault, if the log can't be gathered.

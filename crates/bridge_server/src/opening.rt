@@ -35,7 +35,7 @@ use std::net::Net;
 use std::sync::Wait;
 use std::thread::Threads;
 use std::time::Clock;
-use udp_front::{FrontFault, ReportTimer};
+use udp_wire::{FrontFault, ReportTimer};
 use versions::LaneReader;
 
 /// Runs a bridge until an operator stops it.

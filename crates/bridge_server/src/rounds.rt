@@ -14,7 +14,7 @@ use std::alloc::Global;
 use std::marker::Model;
 use std::sync::{Arc, Wait};
 use std::time::Clock;
-use udp_front::FrontFault;
+use udp_wire::FrontFault;
 use versions::Notice;
 
 /// The media of a bridge in hall H, on a runtime R.

@@ -12,7 +12,7 @@ use std::io::{Error, ErrorKind};
 use std::sync::{Arc, Wait};
 use std::thread::Parker;
 use std::time::Duration;
-use udp_front::socket_address;
+use udp_wire::socket_address;
 
 /// How many octets of a datagram are joined without taking memory.
 const WHOLE: usize = 9_000;

@@ -14,7 +14,8 @@ use std::alloc::{AllocError, Global};
 use std::io::ErrorKind;
 use std::sync::Arc;
 use std::time::{Clock, Duration};
-use udp_front::{FrontFault, FrontSettings, Moments, Wire, address_of, socket_address};
+use udp_wire::{FrontFault, Moments, Wire, address_of, socket_address};
+use front_settings::FrontSettings;
 
 /// How many of the system's events are taken at a time.
 const EVENTS: usize = 8;

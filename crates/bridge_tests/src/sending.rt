@@ -10,7 +10,7 @@ use rtp_codec::Address;
 use script_text::{parse_address, parse_desk};
 use std::alloc::{AllocError, Global};
 use std::test::Fail;
-use udp_front::{Wire, send_all};
+use udp_wire::{Wire, send_all};
 
 /// Fails to send its first datagrams, and notes each attempt.
 #[derive(Drop)]

@@ -1,12 +1,12 @@
 -- How `confbridge serve` ends (own).
 use Rattle.std.specs.Prelude.{ℕ, List, ◌++◌, codes, Result, Ok, Err}
 use Rattle.std.specs.declared.io.ErrorKind.{ErrorKind}
-use Rattle.udp_front.specs.declared.ending.FrontFault.{FrontFault}
-use Rattle.udp_front.specs.declared.ending.FrontFault.TheVariants.{OutOfMemory}
-use Rattle.udp_front.specs.declared.fault.SettingsFault.{SettingsFault}
-use Rattle.udp_front.specs.declared.fault.SettingsFault.TheVariants as settings
-use Rattle.udp_front.specs.Ended.{front_text, front_status_of, ended_by_io}
-use Rattle.udp_front.specs.SettingsTold.{settings_text}
+use Rattle.udp_wire.specs.declared.ending.FrontFault.{FrontFault}
+use Rattle.udp_wire.specs.declared.ending.FrontFault.TheVariants.{OutOfMemory}
+use Rattle.front_settings.specs.declared.fault.SettingsFault.{SettingsFault}
+use Rattle.front_settings.specs.declared.fault.SettingsFault.TheVariants as settings
+use Rattle.udp_wire.specs.Ended.{front_text, front_status_of, ended_by_io}
+use Rattle.front_settings.specs.SettingsTold.{settings_text}
 use Rattle.confbridge.specs.declared.ending.ServeFault.{ServeFault}
 use Rattle.confbridge.specs.declared.ending.ServeFault.TheVariants.{Settings, Front}
 

@@ -17,7 +17,7 @@ use std::sync::Wait;
 use std::thread::Threads;
 use std::time::Clock;
 use std::{env, fs, io};
-use udp_front::{FrontSettings, SettingsFault, settings};
+use front_settings::{FrontSettings, SettingsFault, settings};
 
 /// What the arguments ask for.
 #[derive(Drop)]

@@ -4,7 +4,7 @@ use crate::left::Left;
 use bridge_server::Front;
 use std::alloc::AllocGlobal;
 use std::net::Net;
-use udp_front::{Listening, settings};
+use front_settings::{Listening, settings};
 
 /// A bridge that runs on a thread of its own, until an operator stops it.
 #[derive(Drop)]

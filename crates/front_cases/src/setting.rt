@@ -1,7 +1,7 @@
 //! Settings of a case.
 
 use std::alloc::Global;
-use udp_front::{FrontSettings, Listening, settings};
+use front_settings::{FrontSettings, Listening, settings};
 
 /// Settings as a line of a case has them: where the bridge listens, its lanes, its operators, the milliseconds between
 /// its reports, its SSRC and its name.

@@ -10,7 +10,7 @@ use std::net::{Net, SocketAddr, TcpStream};
 use std::sync::Wait;
 use std::thread;
 use std::time::{Clock, Duration};
-use udp_front::socket_address;
+use udp_wire::socket_address;
 
 /// How many turns an answer or a datagram may take: 15 s, where a report is due every 5 s. On a busy machine a turn is
 /// longer, so that the bridge has more time, too.

@@ -6,7 +6,7 @@ use Rattle.versions.specs.Published.{NoticeOf}
 use Rattle.media_items.specs.Inputs.{Input}
 use Rattle.intake.specs.Sources.{Origin}
 use Rattle.media_workers.specs.LaneRuns.{LaneNow}
-use Rattle.udp_front.specs.Attempts.{Attempt}
+use Rattle.udp_wire.specs.Attempts.{Attempt}
 use Rattle.media_front.specs.Fronts.{FrontOf, HasReported}
 use Rattle.media_front.specs.Waits.{OnWire, HaveWaited, HaveWaitedInPart, video_origins}
 use Rattle.media_front.specs.FedLanes.{FedLane, is_due, lanes_in, owing_notice, rung, IsFed, AreGiven, AllAreGiven}

@@ -11,7 +11,7 @@ use Rattle.intake.specs.Taking.{picture_request}
 use Rattle.intake.specs.inner.Holding.{IntakeOf}
 use Rattle.flood_guard.specs.declared.account.Account.{Account}
 use Rattle.flood_guard.specs.Steps.{may_spend}
-use Rattle.udp_front.specs.Attempts.{Attempt}
+use Rattle.udp_wire.specs.Attempts.{Attempt}
 use Rattle.media_front.specs.Tries.{WereTried}
 use Rattle.media_front.specs.Paid.{paid_one, paid_of, after_one, is_paid_for}
 use Rattle.media_front.specs.Fronts.{FrontOf, HasIngested, HasReported, once_earned}

@@ -5,8 +5,8 @@ use Rattle.std.proofs.lemmas.List.{append-nil, flat_map_more}
 use Rattle.std.proofs.lemmas.Fn.{FoldsTo-push}
 use Rattle.desk_rows.specs.Desk.{Desk}
 use Rattle.versions.specs.Published.{NoticeOf, ReaderOf}
-use Rattle.udp_front.specs.Attempts.{Attempt}
-use Rattle.udp_front.specs.declared.ending.FrontFault.{FrontFault}
+use Rattle.udp_wire.specs.Attempts.{Attempt}
+use Rattle.udp_wire.specs.declared.ending.FrontFault.{FrontFault}
 use Rattle.media_front.specs.Fronts.{FrontOf}
 use Rattle.media_front.specs.Waits.{HaveWaited, HaveWaitedInPart, video_origins}
 use Rattle.front_rounds.specs.Came.{Came, datagram, other, nothing, came_by}

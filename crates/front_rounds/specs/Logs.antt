@@ -1,6 +1,6 @@
 -- Logs that exist in proofs alone: what was read, what a watch told, and what was tried on a wire (own).
 use Rattle.std.specs.Prelude.{ℕ, List, [], ◌∷◌, ◌++◌}
-use Rattle.udp_front.specs.Attempts.{Attempt}
+use Rattle.udp_wire.specs.Attempts.{Attempt}
 use Rattle.front_rounds.specs.Came.{Came, came_by}
 use Rattle.front_rounds.specs.declared.logs.ReadLog.{ReadLog, Nothing as Nothing_read, Read'}
 use Rattle.front_rounds.specs.declared.logs.WatchLog.{WatchLog, Nothing as Nothing_told, Told'}

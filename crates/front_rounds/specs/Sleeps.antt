@@ -1,6 +1,6 @@
 -- For how long the lanes of a bridge may sleep while its desk has no members (own). Lengths are in nanoseconds.
 use Rattle.std.specs.Prelude.{ℕ, ◌+◌, ◌*◌}
-use Rattle.udp_front.specs.Pacing.{tick_gap, most_ticks}
+use Rattle.udp_wire.specs.Pacing.{tick_gap, most_ticks}
 
 -- For how long ticks find samples in a jitter buffer that is given no more: a second at most. Samples that reach
 -- further ahead begin it anew (`is_reset` of playout).

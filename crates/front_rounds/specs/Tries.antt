@@ -9,7 +9,7 @@ use Rattle.intake.specs.Sources.{Origin}
 use Rattle.intake.specs.Taking.{picture_request}
 use Rattle.intake.specs.inner.Holding.{IntakeOf}
 use Rattle.media_front.specs.Tries.{WereTried}
-use Rattle.udp_front.specs.Attempts.{Attempt}
+use Rattle.udp_wire.specs.Attempts.{Attempt}
 use Rattle.media_front.specs.Fronts.{FrontOf, Arrival, HasIngested}
 use Rattle.media_front.specs.Waits.{HaveWaited, video_origins}
 use Rattle.front_rounds.specs.Came.{Came, datagram}

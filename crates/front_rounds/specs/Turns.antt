@@ -7,8 +7,8 @@ use Rattle.versions.specs.Published.{NoticeOf}
 use Rattle.media_items.specs.Inputs.{Input}
 use Rattle.intake.specs.Sources.{Origin}
 use Rattle.intake.specs.declared.outcome.Outcome.{Outcome}
-use Rattle.udp_front.specs.Attempts.{Attempt}
-use Rattle.udp_front.specs.Pacing.{most_ticks, is_behind, report_due, after_report}
+use Rattle.udp_wire.specs.Attempts.{Attempt}
+use Rattle.udp_wire.specs.Pacing.{most_ticks, is_behind, report_due, after_report}
 use Rattle.media_front.specs.FedLanes.{owing_notice, rung, AllAreGiven}
 use Rattle.media_front.specs.Fronts.{FrontOf, Arrival, HasTaken, MayHaveTaken, HasReported, ticks_due, after_ticks}
 use Rattle.media_front.specs.Waits.{HaveWaited, HaveWaitedInPart, video_origins}

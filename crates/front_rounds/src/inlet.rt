@@ -5,7 +5,7 @@ ghost use Rattle.front_rounds.specs.Came.{Came, came_by, octets_read};
 ghost use Rattle.front_rounds.specs.inner.Reading.{is_something};
 
 use rtp_codec::Address;
-use udp_front::FrontFault;
+use udp_wire::FrontFault;
 
 /// The result of a read.
 #[derive(Clone, Copy)]

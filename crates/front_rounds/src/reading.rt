@@ -10,7 +10,7 @@ use crate::rounds::Rounds;
 use crate::watch::Watch;
 use desk_rows::Rows;
 use media_workers::{Pace, PublisherName, Sink};
-use udp_front::{FrontFault, Wire};
+use udp_wire::{FrontFault, Wire};
 
 /// How many datagrams are taken in under one entry into the published desk, so that neither a tick nor an operator's
 /// call waits long for them.

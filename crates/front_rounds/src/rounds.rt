@@ -1,7 +1,7 @@
 //! The rounds of a front: what it does each time that it is woken.
 
 ghost use Rattle.std.specs.Prelude.{◌≡◌, if◌then◌else◌, ◌∷◌, ◌++◌, [], ℕ, Bool, List, IfOk, OnOk};
-ghost use Rattle.udp_front.specs.Pacing.{is_behind};
+ghost use Rattle.udp_wire.specs.Pacing.{is_behind};
 ghost use Rattle.front_rounds.specs.Turns.{Turn, HasTicked, HasCaughtUp, HaveDone, history, is_late};
 ghost use Rattle.front_rounds.specs.Turns.{looked, gave_ticks, let_wait, made_report};
 ghost use Rattle.front_rounds.specs.Shapes.{IsDue, IsTaking, IsTakenIn, IsRound, waits, rings};
@@ -16,7 +16,7 @@ use media_workers::{Pace, PublisherName, Sink};
 use picture_requests::PictureRequests;
 use std::alloc::Global;
 use std::sync::Wait;
-use udp_front::{FrontFault, Wire};
+use udp_wire::{FrontFault, Wire};
 use versions::{LaneReader, Notice};
 
 /// From how many nanoseconds without a tick on the bridge stood still: 1 s, whose 50 ticks it makes up for.

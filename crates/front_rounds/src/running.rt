@@ -10,7 +10,7 @@ use crate::rounds::Rounds;
 use crate::watch::Watch;
 use media_workers::{Pace, PublisherName, Sink};
 use std::sync::Wait;
-use udp_front::{FrontFault, Wire};
+use udp_wire::{FrontFault, Wire};
 use versions::Notice;
 
 /// How far the rounds of a front are.

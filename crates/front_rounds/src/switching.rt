@@ -13,7 +13,7 @@ use desk_rows::Rows;
 use media_workers::{Pace, PublisherName, Sink};
 use picture_requests::VideoSource;
 use rtp_codec::Address;
-use udp_front::{FrontFault, Wire};
+use udp_wire::{FrontFault, Wire};
 
 impl<N: PublisherName, P: Pace, S: Sink, I: Inlet, W: Wire, C: Watch> Rounds<N, P, S, I, W, C> {
     /// Asks the senders that may be asked at this moment for pictures, at the rows of this version.

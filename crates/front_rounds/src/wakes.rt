@@ -3,7 +3,7 @@
 ghost use Rattle.std.specs.Prelude.{◌≡◌, ◌<◌, ◌≤◌, ◌+◌, ◌-◌, ◌*◌, ◌/◌, ℕ, true, false, if◌then◌else◌};
 ghost use Rattle.std.specs.Prelude.{None, Some, IfSome};
 ghost use Rattle.playout.specs.Playout.{is_reset};
-ghost use Rattle.udp_front.specs.Pacing.{tick_gap, most_ticks};
+ghost use Rattle.udp_wire.specs.Pacing.{tick_gap, most_ticks};
 ghost use Rattle.media_front.specs.PlacesLeft.{ring_places, left_by_media};
 ghost use Rattle.front_rounds.specs.Sleeps.{samples_last, awake_for, asleep_for};
 

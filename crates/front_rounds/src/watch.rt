@@ -2,7 +2,7 @@
 
 ghost use Rattle.std.specs.Prelude.{◌≡◌, ◌++◌, ◌∷◌, [], ℕ, List, IfOk, OnErr};
 
-use udp_front::FrontFault;
+use udp_wire::FrontFault;
 
 /// What tells the time. Contracts see the moments that it told, oldest first, in nanoseconds since 1970.
 pub trait Watch {

@@ -2,7 +2,7 @@
 use Rattle.std.specs.Prelude.{List, [], ◌∷◌, ◌++◌}
 use Rattle.std.specs.declared.alloc.Global.{Global}
 use Rattle.bridge_core.specs.declared.egress.Egress.{Egress}
-use Rattle.udp_front.specs.Attempts.{datagrams_of}
+use Rattle.udp_wire.specs.Attempts.{datagrams_of}
 use Rattle.lane_wire.specs.declared.taken.Taken.{Taken, Nothing, More'}
 use Rattle.lane_wire.specs.declared.wire_log.WireLog.{WireLog, Nothing as None_yet, Tried', Paused'}
 use Rattle.lane_wire.specs.Tries.{WireStep, paused, all_tried}

@@ -1,7 +1,7 @@
 //! How a datagram is sent over a wire that may not be ready.
 
 ghost use Rattle.std.specs.Prelude.{◌≡◌, ◌≤◌, ◌++◌, Err};
-ghost use Rattle.udp_front.specs.Attempts.{datagrams_of};
+ghost use Rattle.udp_wire.specs.Attempts.{datagrams_of};
 ghost use Rattle.lane_wire.specs.Tries.{all_tried, unready};
 ghost use Rattle.lane_wire.specs.Sendings.{patience, is_unready};
 
@@ -16,7 +16,7 @@ const MOST_PAUSES: u32 = 20;
 /// Where a lane's datagrams are sent. Contracts see the list of what was done on it, oldest first.
 pub trait LaneWire {
     ghost use Rattle.std.specs.Prelude.{◌≡◌, [], ◌∷◌, ◌++◌, List};
-    ghost use Rattle.udp_front.specs.Attempts.{datagrams_of};
+    ghost use Rattle.udp_wire.specs.Attempts.{datagrams_of};
     ghost use Rattle.lane_wire.specs.Tries.{WireStep, paused, all_tried};
 
     /// What was done on it so far.

@@ -1,7 +1,7 @@
 //! What was done on a wire, in proofs alone.
 
 ghost use Rattle.std.specs.Prelude.{◌≡◌, [], ◌∷◌, ◌++◌};
-ghost use Rattle.udp_front.specs.Attempts.{datagrams_of};
+ghost use Rattle.udp_wire.specs.Attempts.{datagrams_of};
 ghost use Rattle.lane_wire.specs.Tries.{all_tried, paused};
 ghost use Rattle.lane_wire.specs.Logs.{step_list};
 

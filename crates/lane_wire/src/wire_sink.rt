@@ -5,7 +5,7 @@ ghost use Rattle.std.specs.declared.alloc.Global.{Global as Heap};
 ghost use Rattle.rtrb.specs.declared.consumer.Consumer.{Consumer};
 ghost use Rattle.rtrb.specs.declared.AnyItems.{AnyItems};
 ghost use Rattle.bridge_core.specs.declared.egress.Egress.{Egress as AnEgress};
-ghost use Rattle.udp_front.specs.Attempts.{datagrams_of};
+ghost use Rattle.udp_wire.specs.Attempts.{datagrams_of};
 ghost use Rattle.lane_wire.specs.Logs.{taken_list};
 ghost use Rattle.lane_wire.specs.Counted.{no_counts};
 ghost use Rattle.lane_wire.specs.Sendings.{octets_together, so_far, WereSent};

@@ -11,7 +11,7 @@ use Rattle.intake.specs.Ingested.{Ingested}
 use Rattle.intake.specs.Sources.{Origin}
 use Rattle.upward.specs.Upstream.{Asker}
 use Rattle.flood_guard.specs.declared.account.Account.{Account}
-use Rattle.udp_front.specs.Attempts.{Attempt}
+use Rattle.udp_wire.specs.Attempts.{Attempt}
 use Rattle.media_front.specs.FedLanes.{FedLane, AllAreGiven}
 use Rattle.media_front.specs.Tries.{WereTried}
 use Rattle.media_front.specs.Paid.{paid_of}

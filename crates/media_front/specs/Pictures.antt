@@ -7,7 +7,7 @@ use Rattle.intake.specs.Sources.{Origin}
 use Rattle.intake.specs.Ingested.{Ingested}
 use Rattle.intake.specs.Taking.{picture_request}
 use Rattle.intake.specs.declared.outcome.Outcome.TheVariants.{Unknown}
-use Rattle.udp_front.specs.Attempts.{Attempt}
+use Rattle.udp_wire.specs.Attempts.{Attempt}
 use Rattle.media_front.specs.Paid.{is_paid_for}
 use Rattle.media_front.specs.Fronts.{FrontOf, HasHandled}
 use Rattle.media_front.specs.Waits.{silence}

@@ -13,7 +13,7 @@ use Rattle.intake.specs.Ingested.{Ingested}
 use Rattle.intake.specs.Intakes.{WaitsFor}
 use Rattle.intake.specs.inner.Holding.{IntakeOf}
 use Rattle.intake.specs.declared.outcome.Outcome.TheVariants.{Unknown}
-use Rattle.udp_front.specs.Attempts.{Attempt}
+use Rattle.udp_wire.specs.Attempts.{Attempt}
 use Rattle.media_front.specs.Fronts.{FrontOf, Arrival, HasHandled}
 
 -- nothing came from an address at a moment: an arrival of no octets

@@ -14,7 +14,7 @@ use media_workers::{Pace, PublisherName, Sink};
 use rtp_codec::{Address, Class, classify, read};
 use std::alloc::Global;
 use topology::source_from;
-use udp_front::{FrontFault, Wire};
+use udp_wire::{FrontFault, Wire};
 
 /// The most octets of a datagram that the intake takes in.
 const MOST_OCTETS: usize = 8_192;

@@ -5,8 +5,8 @@ ghost use Rattle.std.specs.Bool.{MatchBool};
 ghost use Rattle.media_items.specs.Inputs.{Input};
 ghost use Rattle.bridge_core.specs.Calls.{most_lanes};
 ghost use Rattle.media_workers.specs.Bridges.{AllEnded};
-ghost use Rattle.udp_front.specs.Pacing.{tick_gap, most_ticks, is_behind, report_due, after_report};
-ghost use Rattle.udp_front.specs.declared.ending.FrontFault.TheVariants.{OutOfMemory as MemoryFault};
+ghost use Rattle.udp_wire.specs.Pacing.{tick_gap, most_ticks, is_behind, report_due, after_report};
+ghost use Rattle.udp_wire.specs.declared.ending.FrontFault.TheVariants.{OutOfMemory as MemoryFault};
 ghost use Rattle.media_front.specs.FedLanes.{FedLane, ports_in, owing_notice, rung, AreGiven, AllAreGiven};
 ghost use Rattle.media_front.specs.Prices.{pli_octets};
 ghost use Rattle.media_front.specs.Tries.{WereTried};
@@ -24,7 +24,7 @@ use std::alloc::Global;
 use std::marker::Model;
 use std::sync::Wait;
 use std::thread::Threads;
-use udp_front::{FrontFault, ReportTimer, Ticks, Wire};
+use udp_wire::{FrontFault, ReportTimer, Ticks, Wire};
 use versions::Notice;
 
 /// How many nanoseconds lie between two ticks.

@@ -13,7 +13,7 @@ use bridge_core::Ingest;
 use media_workers::{Pace, PublisherName, Sink};
 use rtp_codec::Address;
 use std::alloc::{AllocError, Global};
-use udp_front::Wire;
+use udp_wire::Wire;
 
 impl<N: PublisherName, P: Pace, S: Sink> MediaFront<N, P, S> {
     /// Does what the intake answered to these octets, which came from an address at a moment: earns their credit, tries

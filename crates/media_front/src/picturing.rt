@@ -8,7 +8,7 @@ use crate::paying::try_one;
 use media_workers::{Pace, PublisherName, Sink};
 use rtp_codec::Address;
 use std::alloc::Global;
-use udp_front::{FrontFault, Wire};
+use udp_wire::{FrontFault, Wire};
 
 impl<N: PublisherName, P: Pace, S: Sink> MediaFront<N, P, S> {
     /// Asks the sender of a video source for a picture, by a PLI (RFC 4585 section 6.3.1). The front tries to send it

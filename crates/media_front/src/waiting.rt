@@ -11,7 +11,7 @@ use desk_rows::{Kind, Row, Rows};
 use media_workers::{Pace, PublisherName, Sink};
 use rtp_codec::Address;
 use std::alloc::Global;
-use udp_front::{FrontFault, Wire};
+use udp_wire::{FrontFault, Wire};
 
 impl<N: PublisherName, P: Pace, S: Sink> MediaFront<N, P, S> {
     /// Tells the intake that time has passed for a video source of a member at an address: call it every 20 ms for each

@@ -2,7 +2,7 @@
 use Rattle.std.proofs.lemmas.Bool.Decides.{nat_tests}
 use Rattle.std.proofs.Math.Seq.{take-length}
 use Rattle.std.proofs.Common.{◌≡◌, ◌<◌, ◌-◌, ◌∙◌, ℕ, nat_lt, true, List, [], ◌∷◌, ◌++◌, length, take, drop, length-drop, arith, map, Option, Some, None, Result, Ok, Err, OnErr, refl, sym, ap, subst}
-use Rattle.udp_front.specs.Operators.{Replying, Showing}
+use Rattle.operator_lines.specs.Operators.{Replying, Showing}
 use Rattle.operator_threads.specs.declared.greeting.Greeted.{Greeted}
 use Rattle.operator_threads.specs.declared.greeting.Greeted.TheVariants as greeted
 use Rattle.operator_threads.specs.declared.talking.Standing.{Standing}

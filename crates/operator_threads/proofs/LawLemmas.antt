@@ -4,9 +4,9 @@ use Rattle.std.proofs.lemmas.Bool.Decides.{nat_tests}
 use Rattle.std.proofs.lemmas.Grind.{flat_map-append}
 use Rattle.std.proofs.lemmas.List.{append-nil, take-append-drop, take-append-le}
 use Rattle.std.specs.Bool.{MatchBool}
-use Rattle.udp_front.specs.Fed.{Kept, StandsFor}
-use Rattle.udp_front.specs.Operators.{Replying, Showing, busy_line}
-use Rattle.udp_front.specs.Outbound.{piece}
+use Rattle.operator_lines.specs.Fed.{Kept, StandsFor}
+use Rattle.operator_lines.specs.Operators.{Replying, Showing, busy_line}
+use Rattle.operator_lines.specs.Outbound.{piece}
 use Rattle.operator_threads.proofs.TalkLemmas.{open_is}
 use Rattle.operator_threads.specs.Acts.{Act, waited, looked, read, wrote, read_by, written_by, all_read, all_written, octet_count}
 use Rattle.operator_threads.specs.Connection.{Connection, IsSilent, IsLost, HasWaited, HasLooked, NotesStop, HasRead, IsHeardAt, Heeded, is_heard, is_owed}

@@ -2,7 +2,7 @@
 use Rattle.std.proofs.Common.{◌≡◌, Bool, true, false, List, [], ◌∷◌, ◌++◌, refl, sym, subst}
 use Rattle.std.specs.List.{AllByRecursion, flat_map}
 use Rattle.std.proofs.lemmas.Grind.{flat_map-append}
-use Rattle.udp_front.specs.Operators.{Replying, Showing}
+use Rattle.operator_lines.specs.Operators.{Replying, Showing}
 use Rattle.operator_threads.specs.Connection.{Connection}
 use Rattle.operator_threads.specs.Deeds.{Deed, SeatedDeed, AreDeeds, AreSeatedDeeds}
 use Rattle.operator_threads.specs.Talks.{IsRoundAlone, HasWaitedFor, IsRoundSeated, HasSat, IsStep}

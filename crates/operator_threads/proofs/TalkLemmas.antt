@@ -1,12 +1,12 @@
 -- Lines that are answered one after another.
 use Rattle.std.proofs.Common.{◌≡◌, ℕ, ◌+◌, ◌<◌, true, List, [], ◌∷◌, ◌++◌, length, take, map, get_or, refl, sym, ap, ◌∙◌, subst, rules}
 use Rattle.std.proofs.lemmas.List.{take-map, map_more}
-use Rattle.udp_front.specs.Operators.{Replying, Showing, AnswersLine}
-use Rattle.udp_front.specs.declared.answering.Next.{Next}
-use Rattle.udp_front.specs.Openings.{opening_of}
-use Rattle.udp_front.specs.declared.answering.Next.TheVariants as next
-use Rattle.udp_front.specs.declared.greeting.Opening.{Opening}
-use Rattle.udp_front.specs.declared.greeting.Opening.TheVariants.{Foreign, Faulty}
+use Rattle.operator_lines.specs.Operators.{Replying, Showing, AnswersLine}
+use Rattle.operator_lines.specs.declared.answering.Next.{Next}
+use Rattle.operator_lines.specs.Openings.{opening_of}
+use Rattle.operator_lines.specs.declared.answering.Next.TheVariants as next
+use Rattle.operator_lines.specs.declared.greeting.Opening.{Opening}
+use Rattle.operator_lines.specs.declared.greeting.Opening.TheVariants.{Foreign, Faulty}
 use Rattle.operator_threads.specs.Greeting.{Greets, GreetsLine, GreetsLines, GreetsFirst, IsRefusedAs}
 use Rattle.operator_threads.specs.declared.greeting.Greeted.TheVariants as greeted
 use Rattle.operator_threads.specs.Talking.{AnswersLines, after_line, is_open}

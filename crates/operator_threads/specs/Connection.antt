@@ -1,7 +1,7 @@
 -- An operator's connection, and what changes in it (own).
 use Rattle.std.specs.Prelude.{◌≡◌, ℕ, nat_eq, Bool, not, ◌&&◌, List, [], ◌∷◌, ◌++◌}
 use Rattle.std.specs.Prelude.{length, drop, if◌then◌else◌, Option, Some, None, is_none}
-use Rattle.udp_front.specs.Fed.{Kept, texts}
+use Rattle.operator_lines.specs.Fed.{Kept, texts}
 use Rattle.operator_threads.specs.declared.talking.Came.{Came}
 use Rattle.operator_threads.specs.declared.talking.Standing.{Standing}
 use Rattle.operator_threads.specs.declared.talking.Standing.TheVariants.{Lost}

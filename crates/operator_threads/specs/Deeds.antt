@@ -3,9 +3,9 @@ use Rattle.std.specs.Prelude.{◌≡◌, ◌⊎◌, ◌≤◌, ℕ, nat_lt, Bool
 use Rattle.std.specs.Prelude.{length, take, drop, map, Option, Some, None}
 use Rattle.std.specs.Bool.{MatchBool}
 use Rattle.std.specs.List.{FoldsTo}
-use Rattle.udp_front.specs.Fed.{StandsFor, Brings}
-use Rattle.udp_front.specs.Outbound.{piece}
-use Rattle.udp_front.specs.Operators.{Replying, Showing, busy_line}
+use Rattle.operator_lines.specs.Fed.{StandsFor, Brings}
+use Rattle.operator_lines.specs.Outbound.{piece}
+use Rattle.operator_lines.specs.Operators.{Replying, Showing, busy_line}
 use Rattle.operator_threads.specs.declared.talking.Came.{Came}
 use Rattle.operator_threads.specs.declared.talking.Standing.{Standing}
 use Rattle.operator_threads.specs.declared.talking.Standing.TheVariants.{Ending, Lost}

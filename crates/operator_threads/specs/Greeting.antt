@@ -1,11 +1,11 @@
 -- What a connection without a seat is answered (own).
 use Rattle.std.specs.Prelude.{◌≡◌, ◌⊎◌, ◌+◌, ◌<◌, ◌++◌, ℕ, Bool, true, false, not, List, [], ◌∷◌, take}
-use Rattle.udp_front.specs.Fed.{Brings}
-use Rattle.udp_front.specs.Openings.{opening_of, greeting_of}
-use Rattle.udp_front.specs.declared.answering.Next.{Next}
-use Rattle.udp_front.specs.declared.answering.Next.TheVariants as next
-use Rattle.udp_front.specs.declared.greeting.Opening.{Opening}
-use Rattle.udp_front.specs.declared.greeting.Opening.TheVariants.{Foreign, Faulty, Good}
+use Rattle.operator_lines.specs.Fed.{Brings}
+use Rattle.operator_lines.specs.Openings.{opening_of, greeting_of}
+use Rattle.operator_lines.specs.declared.answering.Next.{Next}
+use Rattle.operator_lines.specs.declared.answering.Next.TheVariants as next
+use Rattle.operator_lines.specs.declared.greeting.Opening.{Opening}
+use Rattle.operator_lines.specs.declared.greeting.Opening.TheVariants.{Foreign, Faulty, Good}
 use Rattle.operator_threads.specs.Talking.{is_open, after_line, refuses, Refuses}
 use Rattle.operator_threads.specs.declared.greeting.Greeted.{Greeted}
 use Rattle.operator_threads.specs.declared.greeting.Greeted.TheVariants as greeted

@@ -6,11 +6,11 @@ use Rattle.std.specs.declared.io.Error.{Error}
 use Rattle.std.specs.declared.io.ErrorKind.{ErrorKind}
 use Rattle.std.specs.declared.io.ErrorKind.TheVariants as kinds
 use Rattle.script_text.specs.declared.fault.Fault.TheVariants.{LineTooLong}
-use Rattle.udp_front.specs.Fed.{Brings}
-use Rattle.udp_front.specs.Outbound.{is_too_much}
-use Rattle.udp_front.specs.Operators.{Replying, Showing, AnswersLine, fault_line}
-use Rattle.udp_front.specs.declared.answering.Next.{Next}
-use Rattle.udp_front.specs.declared.answering.Next.TheVariants as next
+use Rattle.operator_lines.specs.Fed.{Brings}
+use Rattle.operator_lines.specs.Outbound.{is_too_much}
+use Rattle.operator_lines.specs.Operators.{Replying, Showing, AnswersLine, fault_line}
+use Rattle.operator_lines.specs.declared.answering.Next.{Next}
+use Rattle.operator_lines.specs.declared.answering.Next.TheVariants as next
 use Rattle.operator_threads.specs.declared.talking.Standing.{Standing}
 use Rattle.operator_threads.specs.declared.talking.Standing.TheVariants.{Open, Ending, Lost, Stopping}
 use Rattle.operator_threads.specs.declared.talking.Came.{Came}

@@ -1,8 +1,8 @@
 -- All that is done on an operator's connection, from its first round to its last (own).
 use Rattle.std.specs.Prelude.{◌≡◌, ◌⊎◌, ℕ, Bool, true, false, List, [], ◌++◌, Option}
 use Rattle.std.specs.List.{AllByRecursion, flat_map}
-use Rattle.udp_front.specs.Fed.{StandsFor}
-use Rattle.udp_front.specs.Operators.{Replying, Showing}
+use Rattle.operator_lines.specs.Fed.{StandsFor}
+use Rattle.operator_lines.specs.Operators.{Replying, Showing}
 use Rattle.operator_threads.specs.declared.talking.Standing.TheVariants.{Open}
 use Rattle.operator_threads.specs.Acts.{all_read, all_written}
 use Rattle.operator_threads.specs.Connection.{Connection}

@@ -2,15 +2,15 @@
 
 ghost use Rattle.std.specs.Prelude.{◌≡◌, ◌≤◌, ◌++◌, ℕ, List, drop, IfOk, OnOk, OnErr, vec_len};
 ghost use Rattle.script_text.specs.declared.fault.Fault.TheVariants.{LineTooLong};
-ghost use Rattle.udp_front.specs.Fed.{StandsFor, texts};
-ghost use Rattle.udp_front.specs.Operators.{AnswersLine, fault_line};
+ghost use Rattle.operator_lines.specs.Fed.{StandsFor, texts};
+ghost use Rattle.operator_lines.specs.Operators.{AnswersLine, fault_line};
 ghost use Rattle.operator_threads.specs.Talking.{after_line, refuses, Refuses};
 ghost use Rattle.operator_threads.specs.Talking.{AnswersFirst, AnswersAll, AnswersOctets, AnswersSome, BreaksOff};
 
 use crate::talking::{Standing, Talk};
 use std::alloc::{AllocError, Global};
 use std::sync::atomic::{AtomicBool, Ordering};
-use udp_front::{Fed, LineDesk, Next, answer, print_too_long};
+use operator_lines::{Fed, LineDesk, Next, answer, print_too_long};
 
 impl Talk {
     /// Answers a line. An `Err` appends nothing, but a call may be carried out.

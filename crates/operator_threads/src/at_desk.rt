@@ -4,7 +4,7 @@ ghost use Rattle.std.specs.Prelude.{◌≡◌, OnOk, OnErr};
 ghost use Rattle.desk_edit.specs.Asked.{asked_by};
 ghost use Rattle.operator_desk.specs.Answers.{IsAnswered};
 ghost use Rattle.operator_threads.specs.Told.{IsKnown, IsTelling, SeatShows};
-ghost use Rattle.udp_front.specs.Operators.{AppendsShown};
+ghost use Rattle.operator_lines.specs.Operators.{AppendsShown};
 
 use crate::operators::Operators;
 use crate::printed::Printed;
@@ -15,7 +15,7 @@ use lane_bell::Rouse;
 use operator_desk::{Answer, Hall};
 use std::alloc::{AllocError, Global};
 use std::sync::{MutexGuard, Wait};
-use udp_front::LineDesk;
+use operator_lines::LineDesk;
 use versions::Notice;
 
 /// An operator at a shared desk. It is not `Drop`, so that the seat is given back: end it by [`AtDesk::leave`].

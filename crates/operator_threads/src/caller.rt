@@ -14,7 +14,7 @@ use crate::talking::{Standing, Talk};
 use std::alloc::Global;
 use std::io;
 use std::sync::atomic::{AtomicBool, Ordering};
-use udp_front::LineDesk;
+use operator_lines::LineDesk;
 
 /// How many octets are read at a time.
 const CHUNK: usize = 9_000;

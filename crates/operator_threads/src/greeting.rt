@@ -1,15 +1,15 @@
 //! What a connection without a seat is answered.
 
 ghost use Rattle.std.specs.Prelude.{◌≡◌, ◌++◌, ℕ, List, IfOk, OnOk, OnErr, vec_len};
-ghost use Rattle.udp_front.specs.Fed.{Brings, StandsFor, texts};
-ghost use Rattle.udp_front.specs.Operators.{busy_line};
+ghost use Rattle.operator_lines.specs.Fed.{Brings, StandsFor, texts};
+ghost use Rattle.operator_lines.specs.Operators.{busy_line};
 ghost use Rattle.operator_threads.specs.Greeting.{GreetsLine, GreetsFirst, GreetsAll, is_all};
 ghost use Rattle.operator_threads.specs.Greeting.{GreetsSome, BreaksGreeting, IsPlaceIn};
 
 use crate::talking::{Standing, Talk};
 use std::alloc::{AllocError, Global};
 use std::sync::atomic::{AtomicBool, Ordering};
-use udp_front::{Fed, Next, Opening, busy, greet};
+use operator_lines::{Fed, Next, Opening, busy, greet};
 
 /// How far the lines of a connection without a seat were dealt with.
 #[derive(Clone, Copy, Debug, PartialEq, Eq)]

@@ -2,7 +2,7 @@
 
 ghost use Rattle.std.specs.Prelude.{◌≤◌, vec_len};
 
-use udp_front::Fed;
+use operator_lines::Fed;
 
 /// The lines that came with the first good one, and its place among them.
 #[derive(Drop)]

@@ -13,7 +13,7 @@ use crate::line::CallerLine;
 use crate::talking::{Came, Standing};
 use std::alloc::Global;
 use std::sync::atomic::AtomicBool;
-use udp_front::LineDesk;
+use operator_lines::LineDesk;
 
 impl<L: CallerLine + Drop> Caller<L> {
     /// Whether a piece is to be read: octets may have come, and they are heard.

@@ -6,7 +6,7 @@ ghost use Rattle.operator_threads.specs.Deeds.{Deed, SeatedDeed, AreDeeds, AreSe
 ghost use Rattle.operator_threads.specs.Talking.{is_open};
 ghost use Rattle.operator_threads.specs.Talks.{IsStream, GoesOn, StaysEnded};
 
-use udp_front::LineDesk;
+use operator_lines::LineDesk;
 
 /// In any number of rounds, all that was read on a connection is the stream whose lines are heard, as long as it is
 /// open. And what was written, followed by what waits, is all that was appended so far: no octet is lost, written

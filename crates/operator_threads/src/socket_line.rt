@@ -13,7 +13,8 @@ use std::io;
 use std::io::{Read, Write};
 use std::net::Net;
 use std::time::{Clock, Duration};
-use udp_front::{Moments, busy};
+use operator_lines::busy;
+use udp_wire::Moments;
 
 /// How many of the system's events are taken at a time.
 const EVENTS: usize = 4;

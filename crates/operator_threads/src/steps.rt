@@ -13,7 +13,7 @@ use lane_bell::Rouse;
 use operator_desk::Hall;
 use std::alloc::Global;
 use std::sync::Wait;
-use udp_front::LineDesk;
+use operator_lines::LineDesk;
 
 /// What a round of a connection without a seat led to. With a seat it is not `Drop`: end the desk by
 /// [`AtDesk::leave`].

@@ -2,7 +2,7 @@
 
 ghost use Rattle.std.specs.Prelude.{◌≡◌, ◌≤◌, ◌-◌, ℕ, [], OnOk, OnErr};
 ghost use Rattle.operator_threads.specs.Acts.{octet_count};
-ghost use Rattle.udp_front.specs.Fed.{StandsFor};
+ghost use Rattle.operator_lines.specs.Fed.{StandsFor};
 ghost use Rattle.operator_threads.specs.declared.talking.Came.TheVariants as arrived;
 ghost use Rattle.operator_threads.specs.Talking.{is_open, is_over, after_line, after_stop, since_stop};
 ghost use Rattle.operator_threads.specs.Talking.{came_of, after_read, after_write, left_after, since_read, since_write};
@@ -10,7 +10,7 @@ ghost use Rattle.operator_threads.specs.Talking.{came_of, after_read, after_writ
 use std::alloc::{AllocError, Global};
 use std::io;
 use std::io::ErrorKind;
-use udp_front::{Lines, Next, Outgoing};
+use operator_lines::{Lines, Next, Outgoing};
 
 /// How many nanoseconds a connection without a seat may be silent.
 const LONGEST_SILENCE: u64 = 30_000_000_000;

@@ -1,11 +1,11 @@
 //! What the laws of operators' lines tell a caller.
 
 ghost use Rattle.std.specs.Prelude.{◌≡◌, true, List, ℕ, [], IfOk};
-ghost use Rattle.udp_front.specs.Cut.{cut, is_too_long};
-ghost use Rattle.udp_front.specs.Fed.{StandsFor, texts};
+ghost use Rattle.operator_lines.specs.Cut.{cut, is_too_long};
+ghost use Rattle.operator_lines.specs.Fed.{StandsFor, texts};
 
 use std::alloc::{AllocError, Global};
-use udp_front::{Fed, Lines, cuts_are_whole, too_long_for_good};
+use operator_lines::{Fed, Lines, cuts_are_whole, too_long_for_good};
 
 /// Behind a line that is too long nothing is a line.
 pub fn hears_nothing_behind_too_long_a_line(

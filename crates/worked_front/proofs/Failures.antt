@@ -1,6 +1,6 @@
 -- How many attempts failed.
 use Rattle.std.proofs.Common.{◌≡◌, ℕ, suc, Bool, true, false, not, List, [], ◌∷◌, map, filter, length, cond, refl, ap, ◌∙◌}
-use Rattle.udp_front.specs.Attempts.{Attempt, failures}
+use Rattle.udp_wire.specs.Attempts.{Attempt, failures}
 
 one_more : {X Y : Type 0} (b : Bool) (x : X) (xs : List X) (y : Y) (ys : List Y) → length xs ≡ length ys → length (cond b (x ∷ xs) xs) ≡ length (cond b (y ∷ ys) ys)
 one_more true x xs y ys e = ap suc e

@@ -2,11 +2,11 @@
 
 ghost use Rattle.std.specs.Prelude.{◌≡◌, ◌∷◌, [], List, map, length, true, false};
 ghost use Rattle.std.specs.List.{flat_map};
-ghost use Rattle.udp_front.specs.Attempts.{Attempt, datagrams_of, with_tried};
+ghost use Rattle.udp_wire.specs.Attempts.{Attempt, datagrams_of, with_tried};
 
 use bridge_core::Egress;
 use std::alloc::Global;
-use udp_front::{Wire, send_all};
+use udp_wire::{Wire, send_all};
 
 /// Three datagrams: each is tried, and where the second attempt alone fails the answer is 1.
 pub fn tries_three<W: Wire>(egresses: &[(u32, Egress<Global>)], wire: &mut W) -> u64

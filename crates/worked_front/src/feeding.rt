@@ -1,10 +1,10 @@
 //! The lines of a stream that comes in pieces.
 
 ghost use Rattle.std.specs.Prelude.{◌≡◌, ◌++◌, ◌∷◌, [], false, codes, IfOk};
-ghost use Rattle.udp_front.specs.Fed.{texts};
+ghost use Rattle.operator_lines.specs.Fed.{texts};
 
 use std::alloc::{AllocError, Global};
-use udp_front::{Fed, Lines};
+use operator_lines::{Fed, Lines};
 
 /// `show`, CR and LF, cut at any place: one line, `show`.
 pub fn hears_show(alloc: Global, front: &[u8], back: &[u8]) -> Result<(Fed, Fed), AllocError>

@@ -3,11 +3,11 @@
 ghost use Rattle.std.specs.Prelude.{◌≡◌, [], ◌∷◌, None, Some, map};
 ghost use Rattle.media_workers.specs.declared.fault.HandleFault.TheVariants.{NoEntry, Spent, OutOfMemory as RanOut};
 ghost use Rattle.media_workers.specs.declared.lane_item.LaneItem.{LaneItem};
-ghost use Rattle.udp_front.specs.declared.ending.FrontFault.TheVariants.{Io, OutOfMemory};
+ghost use Rattle.udp_wire.specs.declared.ending.FrontFault.TheVariants.{Io, OutOfMemory};
 
 use media_front::fault_of;
 use media_workers::{LaneEnd, PublisherName};
-use udp_front::FrontFault;
+use udp_wire::FrontFault;
 
 /// Three lanes: none refused an item, or two did since the desk had ended, or one had no numbers left, or memory ran
 /// out for another beside it.

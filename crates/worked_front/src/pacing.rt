@@ -2,7 +2,7 @@
 
 ghost use Rattle.std.specs.Prelude.{◌≡◌, true, false, Some, None};
 
-use udp_front::{ReportTimer, Ticks};
+use udp_wire::{ReportTimer, Ticks};
 
 /// One nanosecond before 20 ms have passed no tick is due.
 pub fn no_tick_is_due_before_20_ms(ticks: &mut Ticks) -> Option<u64>

@@ -2,7 +2,7 @@
 
 ghost use Rattle.std.specs.Prelude.{◌≡◌, true, false, length};
 
-use udp_front::Outgoing;
+use operator_lines::Outgoing;
 
 /// 4 MiB may wait.
 pub fn may_leave_4_mib_unread(outgoing: &Outgoing) -> bool

@@ -8,7 +8,7 @@ use media_front::MediaFront;
 use media_workers::{Pace, PublisherName, Sink};
 use rtp_codec::Address;
 use std::alloc::Global;
-use udp_front::{FrontFault, Wire};
+use udp_wire::{FrontFault, Wire};
 
 /// A wait of source 101 at 20 ms earns nothing: where no member's datagram has come, nothing is asked for, whatever is
 /// missing.

@@ -1,5 +1,5 @@
 use Rattle.std.proofs.Common.{◌≡◌, ◌++◌}
-use Rattle.udp_front.specs.Attempts.{datagrams_of}
+use Rattle.udp_wire.specs.Attempts.{datagrams_of}
 use Rattle.lane_wire.specs.Tries.{unready}
 use Rattle.lane_wire.proofs.sending.send_patiently.Given as goal
 

@@ -1,8 +1,8 @@
 use Rattle.std.proofs.Common.{[], sym, ◌∙◌, append-nil}
 use Rattle.std.proofs.lemmas.List.{append_cancel_left}
 use Rattle.std.proofs.lemmas.Result.{IfOk-weaker}
-use Rattle.udp_front.specs.Cut.{lines_of}
-use Rattle.udp_front.specs.Fed.{texts}
+use Rattle.operator_lines.specs.Cut.{lines_of}
+use Rattle.operator_lines.specs.Fed.{texts}
 use Rattle.worked_bridge.proofs.front_laws.hears_nothing_behind_too_long_a_line.Goals as goal
 
 pub returns-clause-none : goal.returns-clause-none

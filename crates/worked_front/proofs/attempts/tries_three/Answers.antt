@@ -1,6 +1,6 @@
 use Rattle.std.proofs.Common.{◌≡◌, length, map, sym, ap, ◌∙◌}
 use Rattle.std.proofs.lemmas.List.{length-map}
-use Rattle.udp_front.specs.Attempts.{tried_of}
+use Rattle.udp_wire.specs.Attempts.{tried_of}
 use Rattle.worked_front.proofs.Failures.{failures_of}
 use Rattle.worked_front.proofs.attempts.tries_three.Goals as goal
 

@@ -1,6 +1,6 @@
 use Rattle.std.proofs.Common.{[], ◌++◌, List, ℕ, sym, ap, ◌∙◌}
-use Rattle.udp_front.specs.Cut.{lines_of}
-use Rattle.udp_front.specs.Fed.{texts}
+use Rattle.operator_lines.specs.Cut.{lines_of}
+use Rattle.operator_lines.specs.Fed.{texts}
 use Rattle.worked_front.proofs.feeding.hears_show.Goals as goal
 
 pub returns-clause-lines : goal.returns-clause-lines

@@ -1,5 +1,5 @@
 use Rattle.std.proofs.Common.{◌≡◌, ◌∷◌, [], ◌++◌, ℕ, List, take, Option, refl, ap, sym, subst, ◌∙◌, inl, inr}
-use Rattle.udp_front.specs.Attempts.{Attempt}
+use Rattle.udp_wire.specs.Attempts.{Attempt}
 use Rattle.media_front.specs.Fronts.{Arrival, HasTaken}
 use Rattle.front_rounds.specs.Came.{datagram, other, nothing, came_by}
 use Rattle.front_rounds.specs.Turns.{TakesArrival, history, passed, took, lost}

@@ -1,5 +1,5 @@
 use Rattle.std.proofs.Common.{◌∙◌, ap, arith}
-use Rattle.udp_front.specs.Attempts.{datagrams_of}
+use Rattle.udp_wire.specs.Attempts.{datagrams_of}
 use Rattle.lane_wire.specs.Counted.{after_answer}
 use Rattle.lane_wire.specs.Sendings.{octets_together}
 use Rattle.lane_wire.proofs.SentLemmas.{sent_one}

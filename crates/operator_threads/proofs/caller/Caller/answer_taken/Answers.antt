@@ -1,6 +1,6 @@
 use Rattle.std.proofs.Common.{ℕ, Bool, true, false, List, drop, inl, inr, refl, sym, subst}
 use Rattle.std.proofs.lemmas.List.{drop-map}
-use Rattle.udp_front.specs.Fed.{texts}
+use Rattle.operator_lines.specs.Fed.{texts}
 use Rattle.operator_threads.specs.Talking.{AnswersAll, AnswersSome}
 use Rattle.operator_threads.proofs.caller.Caller.answer_taken.Goals as goal
 

@@ -1,5 +1,5 @@
 use Rattle.std.proofs.Common.{ℕ, List, take, sym, ap, subst}
-use Rattle.udp_front.specs.Fed.{texts}
+use Rattle.operator_lines.specs.Fed.{texts}
 use Rattle.operator_threads.specs.Talking.{AnswersLines, AnswersSome}
 use Rattle.operator_threads.specs.declared.talking.Standing.TheVariants.{Open}
 use Rattle.operator_threads.specs.declared.talking.Talk.{Talk}

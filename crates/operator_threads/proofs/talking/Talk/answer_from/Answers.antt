@@ -1,5 +1,5 @@
 use Rattle.std.proofs.Common.{ℕ, List, drop, OnErr, sym, subst}
-use Rattle.udp_front.specs.Fed.{texts}
+use Rattle.operator_lines.specs.Fed.{texts}
 use Rattle.operator_threads.specs.Talking.{AnswersSome}
 use Rattle.operator_threads.proofs.CallerLemmas.{rest_is}
 use Rattle.operator_threads.proofs.talking.Talk.answer_from.Goals as goal

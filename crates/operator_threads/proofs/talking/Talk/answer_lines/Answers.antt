@@ -1,5 +1,5 @@
 use Rattle.std.proofs.Common.{◌+◌, ℕ, List, take, sym, subst, ◌∙◌, inl, inr}
-use Rattle.udp_front.specs.Fed.{texts}
+use Rattle.operator_lines.specs.Fed.{texts}
 use Rattle.operator_threads.specs.Talking.{AnswersLines, AnswersSome}
 use Rattle.operator_threads.specs.declared.talking.Standing.TheVariants.{Open}
 use Rattle.operator_threads.proofs.CallerLemmas.{on_err}

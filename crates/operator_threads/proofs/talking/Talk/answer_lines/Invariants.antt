@@ -1,5 +1,5 @@
 use Rattle.std.proofs.Common.{◌≡◌, take}
-use Rattle.udp_front.specs.Fed.{texts}
+use Rattle.operator_lines.specs.Fed.{texts}
 use Rattle.operator_threads.specs.Talking.{AnswersLines}
 use Rattle.operator_threads.specs.declared.talking.Standing.TheVariants.{Open}
 use Rattle.operator_threads.proofs.talking.Talk.answer_lines.Given as goal

@@ -1,5 +1,5 @@
 use Rattle.std.proofs.Common.{ℕ, List, sym, ap, subst}
-use Rattle.udp_front.specs.Fed.{texts}
+use Rattle.operator_lines.specs.Fed.{texts}
 use Rattle.operator_threads.specs.Greeting.{GreetsSome}
 use Rattle.operator_threads.specs.declared.talking.Talk.{Talk}
 use Rattle.operator_threads.proofs.CallerLemmas.{on_err, first_some}

@@ -1,5 +1,5 @@
 use Rattle.std.proofs.Common.{◌+◌, ℕ, Bool, List, take, sym, ap, subst, ◌∙◌, inr}
-use Rattle.udp_front.specs.Fed.{texts}
+use Rattle.operator_lines.specs.Fed.{texts}
 use Rattle.operator_threads.specs.Greeting.{GreetsLine, GreetsLines, GreetsSome}
 use Rattle.operator_threads.specs.declared.talking.Standing.TheVariants.{Open}
 use Rattle.operator_threads.proofs.CallerLemmas.{on_err}

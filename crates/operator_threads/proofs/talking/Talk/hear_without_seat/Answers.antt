@@ -1,5 +1,5 @@
 use Rattle.std.proofs.Common.{List, ℕ, IfOk, sym, ap, subst, ◌∙◌}
-use Rattle.udp_front.specs.Fed.{texts}
+use Rattle.operator_lines.specs.Fed.{texts}
 use Rattle.operator_threads.specs.Greeting.{GreetsAll}
 use Rattle.operator_threads.specs.declared.greeting.Greeted.{Greeted}
 use Rattle.operator_threads.specs.declared.talking.Standing.{Standing}

@@ -1,0 +1,4 @@
+pub mod Printed
+pub mod Settings
+pub mod SettingsTold
+pub mod SettingValues

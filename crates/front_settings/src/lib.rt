@@ -1,0 +1,22 @@
+//! What a bridge on sockets is set to by its settings' file, and how it tells where it listens.
+//!
+//! Begin with [`settings`], which reads the file's text (TOML). [`Listening`] is printed once the bridge listens.
+//!
+//! ```rust
+//! let settings = settings(alloc, text)?; // text: the settings' file
+//! let lanes = settings.lanes; // 1 to 16
+//! ```
+//!
+//! `settings_are_read` of worked_front reads a text so, with what it gives proved.
+#![tactic(auto)]
+
+mod fault;
+mod listening;
+mod reading;
+mod setup;
+mod values;
+
+pub use fault::SettingsFault;
+pub use listening::Listening;
+pub use reading::settings;
+pub use setup::{FrontSettings, SettingKey};

@@ -1,0 +1,160 @@
+//! The values of a table, as settings.
+
+ghost use Rattle.std.specs.Prelude.{◌≡◌, ◌≢◌, codes, Err};
+ghost use Rattle.std.specs.List.{list_all};
+ghost use Rattle.std.specs.Option.{option_map};
+ghost use Rattle.toml.specs.Data.{get_member};
+ghost use Rattle.toml.specs.View.{view, table_view};
+ghost use Rattle.script_text.specs.Requests.{is_printable};
+ghost use Rattle.front_settings.specs.SettingValues.{address_in, loopback_in, number_in, is_cname, cname_in};
+ghost use Rattle.front_settings.specs.Settings.{key_text, needed, given, is_known, unknown_in};
+ghost use Rattle.front_settings.specs.SettingsTold.{Gives};
+
+use crate::fault::SettingsFault;
+use crate::setup::SettingKey;
+use rtp_codec::Address;
+use script_text::parse_address;
+use toml::{Table, Value};
+
+/// The address that a text value spells.
+fn address(value: &Value) -> Option<Address>
+    ensures { result ≡ address_in (view value.now) }
+{
+    match value.as_str() {
+        None => None,
+        Some(text) => parse_address(text.as_bytes()),
+    }
+}
+
+/// Such an address, if it is of this machine alone.
+fn loopback(value: &Value) -> Option<Address>
+    ensures { result ≡ loopback_in (view value.now) }
+{
+    match address(value) {
+        Some(address) if address.ip[0] == 127 => Some(address),
+        _ => None,
+    }
+}
+
+/// A number from `low` to `high`.
+fn number(value: &Value, low: u32, high: u32) -> Option<u32>
+    ensures { result ≡ number_in low high (view value.now) }
+{
+    match value.as_integer() {
+        Some(n) if low as i64 <= n && n <= high as i64 => Some(n as u32),
+        _ => None,
+    }
+}
+
+/// Whether each octet is printed.
+fn are_printable(text: &[u8]) -> bool
+    ensures { result ≡ list_all is_printable text.now }
+{
+    text.iter().all(|octet| 32 <= *octet && *octet <= 126)
+}
+
+/// Whether a text can be a canonical name, all of it printed.
+fn is_cname(text: &[u8]) -> bool
+    ensures { result ≡ is_cname text.now }
+{
+    !text.is_empty() && text.len() <= 255 && are_printable(text)
+}
+
+/// The canonical name that a text value is.
+fn cname(value: &Value) -> Option<&[u8]>
+    ensures { option_map (λ x. x.now) result ≡ cname_in (view value.now) }
+{
+    match value.as_str() {
+        Some(text) if is_cname(text.as_bytes()) => Some(text.as_bytes()),
+        _ => None,
+    }
+}
+
+/// The value at a key.
+fn value_at(table: &Table, key: SettingKey) -> Option<&Value>
+    ensures { option_map (λ x. view x.now) result ≡ get_member (key_text key) (table_view table.now) }
+{
+    table.get(key.text())
+}
+
+/// The address of the UDP socket.
+pub(crate) fn udp_of(table: &Table) -> Result<Address, SettingsFault>
+    ensures memory { result ≢ Err SettingsFault.OutOfMemory }
+    ensures answer { Gives (λ x. x) result
+        (needed SettingKey.Udp address_in (get_member (codes "udp") (table_view table.now))) }
+{
+    let key = SettingKey::Udp;
+    let Some(value) = value_at(table, key) else {
+        return Err(SettingsFault::MissingKey { key });
+    };
+    address(value).ok_or(SettingsFault::BadValue { key })
+}
+
+/// The address of the operators' listener.
+pub(crate) fn tcp_of(table: &Table) -> Result<Address, SettingsFault>
+    ensures { Gives (λ x. x) result
+        (needed SettingKey.Tcp loopback_in (get_member (codes "tcp") (table_view table.now))) }
+{
+    let key = SettingKey::Tcp;
+    let Some(value) = value_at(table, key) else {
+        return Err(SettingsFault::MissingKey { key });
+    };
+    loopback(value).ok_or(SettingsFault::BadValue { key })
+}
+
+/// The number at a key, from `low` to `high`, or `left_out` where there is none.
+pub(crate) fn number_of(
+    table: &Table,
+    key: SettingKey,
+    low: u32,
+    high: u32,
+    left_out: u32,
+) -> Result<u32, SettingsFault>
+    ensures { Gives (λ x. x) result
+        (given key (number_in low high) left_out (get_member (key_text key) (table_view table.now))) }
+{
+    match value_at(table, key) {
+        None => Ok(left_out),
+        Some(value) => number(value, low, high).ok_or(SettingsFault::BadValue { key }),
+    }
+}
+
+/// The canonical name, or `bridge`.
+pub(crate) fn cname_of(table: &Table) -> Result<&[u8], SettingsFault>
+    ensures { Gives (λ x. x.now) result
+        (given SettingKey.Cname cname_in (codes "bridge") (get_member (codes "cname") (table_view table.now))) }
+{
+    match value_at(table, SettingKey::Cname) {
+        None => Ok(b"bridge"),
+        Some(value) => cname(value).ok_or(SettingsFault::BadValue {
+            key: SettingKey::Cname,
+        }),
+    }
+}
+
+/// Whether a text is how one of the keys is written.
+#[tactic(auto, unfolding(crate::specs::Settings::is_known))]
+fn is_known(text: &[u8]) -> bool
+    ensures { result ≡ is_known text.now }
+{
+    text == b"udp".as_slice()
+        || text == b"tcp".as_slice()
+        || text == b"lanes".as_slice()
+        || text == b"operators".as_slice()
+        || text == b"report_ms".as_slice()
+        || text == b"bridge_ssrc".as_slice()
+        || text == b"cname".as_slice()
+}
+
+/// The least key that is not known.
+pub(crate) fn unknown_in(table: &Table) -> Option<&str>
+    ensures { option_map (λ x. x.now) result ≡ unknown_in (table_view table.now) }
+{
+    // The keys of a table ascend, so that the first is the least.
+    for key in table.keys() {
+        if !is_known(key.as_bytes()) {
+            return Some(key.as_str());
+        }
+    }
+    None
+}

@@ -1,0 +1,115 @@
+//! Answers operators' lines.
+
+ghost use Rattle.std.specs.Prelude.{◌≡◌, ◌++◌, Ok, IfOk, OnOk, OnErr};
+ghost use Rattle.script_text.specs.declared.fault.Fault.TheVariants.{LineTooLong};
+ghost use Rattle.operator_lines.specs.Operators.{fault_line, after_fault, busy_line, alone, AppendsAnswer, AnswersLine};
+
+use crate::asking::{LineAsk, Verb, parse_line};
+use crate::line_desk::LineDesk;
+use script_text::{Fault, ParseFault};
+use std::alloc::{AllocError, Allocator, Global};
+
+/// What happens to a connection after a line.
+#[derive(Clone, Copy, Debug, PartialEq, Eq)]
+pub enum Next {
+    /// It stays.
+    Stay,
+    /// It is closed.
+    Quit,
+    /// The bridge ends.
+    Stop,
+}
+
+/// The answer to a connection when no seat is free.
+pub fn busy() -> &'static [u8]
+    ensures { result.now ≡ busy_line }
+{
+    b"busy\n"
+}
+
+/// Appends the line of a fault of a word, counted from 1; word 0 is the whole line. An `Err` appends nothing.
+pub(crate) fn print_fault<A: Allocator + Copy>(
+    alloc: A,
+    word: u32,
+    fault: Fault,
+    out: &mut Vec<u8, A>,
+) -> Result<(), AllocError>
+    ensures ok { OnOk result (out.new.items ≡ out.old.items ++ fault_line word fault) }
+    ensures err { OnErr result (out.new.items ≡ out.old.items) }
+{
+    let line = format!(in alloc; "fault {word} {fault}\n")?;
+    out.extend_from_slice(line.as_bytes())
+}
+
+/// What happens to a connection behind a faulty line. Who sends an octet that no line may hold speaks another protocol,
+/// and what follows may be lines that somebody else chose.
+pub(crate) fn after_fault(fault: Fault) -> Next
+    ensures { result ≡ after_fault fault }
+{
+    match fault {
+        Fault::LineTooLong | Fault::BadByte => Next::Quit,
+        Fault::UnknownWord
+        | Fault::MissingWord
+        | Fault::ExtraWord
+        | Fault::BadNumber
+        | Fault::BadAddress
+        | Fault::BadHex
+        | Fault::BadFrame => Next::Stay,
+    }
+}
+
+/// Appends the answer to a line of more octets than a line may have. An `Err` appends nothing.
+pub fn print_too_long<A: Allocator + Copy>(alloc: A, out: &mut Vec<u8, A>) -> Result<(), AllocError>
+    ensures ok { OnOk result (out.new.items ≡ out.old.items ++ fault_line 0 LineTooLong) }
+    ensures err { OnErr result (out.new.items ≡ out.old.items) }
+{
+    print_fault(alloc, 0, Fault::LineTooLong, out)
+}
+
+/// Carries out a line of one word, and appends the answer. An `Err` appends nothing.
+fn answer_verb<D: LineDesk>(
+    alloc: Global,
+    desk: &D,
+    verb: Verb,
+    out: &mut Vec<u8>,
+) -> Result<Next, AllocError>
+    ensures answer { IfOk result (λ next.
+        AppendsAnswer D.replies D.shows desk.now (Ok (alone verb)) desk.now out.old.items out.new.items next) }
+    ensures err { OnErr result (out.new.items ≡ out.old.items) }
+{
+    match verb {
+        Verb::Show => {
+            desk.show(alloc, out)?;
+            Ok(Next::Stay)
+        }
+        Verb::Quit => Ok(Next::Quit),
+        Verb::Stop => Ok(Next::Stop),
+    }
+}
+
+/// Answers an operator's line, without its LF: carries it out, and appends the answer.
+///
+/// On out of memory nothing is appended, but a call may have been carried out.
+pub fn answer<D: LineDesk>(
+    alloc: Global,
+    desk: &mut D,
+    line: &[u8],
+    out: &mut Vec<u8>,
+) -> Result<Next, AllocError>
+    ensures answer { IfOk result (λ next.
+        AnswersLine D.replies D.shows desk.old desk.new line.now out.old.items out.new.items next) }
+    ensures err { OnErr result (out.new.items ≡ out.old.items) }
+{
+    match parse_line(alloc, line) {
+        Ok(LineAsk::Call(call)) => {
+            desk.reply(alloc, call, out)?;
+            Ok(Next::Stay)
+        }
+        Ok(LineAsk::Verb(verb)) => answer_verb(alloc, desk, verb, out),
+        Err(ParseFault::Line { word, fault }) => {
+            print_fault(alloc, word, fault, out)?;
+            Ok(after_fault(fault))
+        }
+        Err(ParseFault::OutOfMemory) => Err(AllocError),
+    }
+}

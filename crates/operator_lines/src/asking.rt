@@ -1,0 +1,122 @@
+//! What an operator's line asks for.
+
+ghost use Rattle.std.specs.Prelude.{◌≡◌, ◌≢◌, Err};
+ghost use Rattle.desk_edit.specs.Asked.{asked_by};
+ghost use Rattle.script_text.specs.Words.{Gives, cut_of};
+ghost use Rattle.script_text.specs.Calls.{spoken_call};
+ghost use Rattle.operator_lines.specs.Operators.{
+  alone_of,
+  asked_call,
+  asked_in,
+  asked_of,
+  asks,
+  begins_group,
+  is_printed,
+  is_request,
+};
+
+use desk_edit::Call;
+use script_text::{Fault, ParseFault, cut, parse_desk};
+use std::alloc::{Allocator, Global};
+
+/// What a line of an operator asks for.
+#[derive(Drop)]
+pub(crate) enum LineAsk<A: Allocator + Copy = Global> {
+    Call(Call<A>),
+    Verb(Verb),
+}
+
+/// A line of one word.
+#[derive(Clone, Copy)]
+pub(crate) enum Verb {
+    /// The rows of the desk.
+    Show,
+    /// The end of the connection.
+    Quit,
+    /// The end of the bridge.
+    Stop,
+}
+
+/// Whether each octet is one that a line may hold.
+pub(crate) fn is_printed(line: &[u8]) -> bool
+    ensures { result ≡ is_printed line.now }
+{
+    line.iter().all(|octet| 32 <= *octet && *octet <= 126)
+}
+
+/// Whether a line is the first one of a browser's request: it ends in the version of HTTP (RFC 9112 section 3).
+fn is_request(line: &[u8]) -> bool
+    ensures { result ≡ is_request line.now }
+{
+    line.ends_with(b" HTTP/1.1".as_slice())
+}
+
+/// The line of one word that this is, if it is one.
+fn alone(word: &[u8]) -> Option<Verb>
+    ensures { result ≡ alone_of word.now }
+{
+    if word == b"show".as_slice() {
+        Some(Verb::Show)
+    } else if word == b"quit".as_slice() {
+        Some(Verb::Quit)
+    } else if word == b"stop".as_slice() {
+        Some(Verb::Stop)
+    } else {
+        None
+    }
+}
+
+/// The call that a line is. Only a group takes memory.
+fn call<A: Allocator + Copy>(alloc: A, line: &[u8]) -> Result<LineAsk<A>, ParseFault>
+    ensures call { Gives asks result (asked_call (spoken_call line.now)) }
+    ensures memory { result ≡ Err ParseFault.OutOfMemory → begins_group line.now }
+{
+    match parse_desk(alloc, line) {
+        Ok(call) => Ok(LineAsk::Call(call)),
+        Err(fault) => Err(fault),
+    }
+}
+
+/// What the words of a line ask for. Only a group takes memory.
+fn words<A: Allocator + Copy>(alloc: A, line: &[u8]) -> Result<LineAsk<A>, ParseFault>
+    ensures asked { Gives asks result (asked_in line.now (cut_of 32 line.now) (asked_call (spoken_call line.now))) }
+    ensures memory { result ≡ Err ParseFault.OutOfMemory → begins_group line.now }
+{
+    match cut(line, b' ') {
+        None => match alone(line) {
+            Some(verb) => Ok(LineAsk::Verb(verb)),
+            None => call(alloc, line),
+        },
+        Some((word, _)) => match alone(word) {
+            Some(_) => Err(ParseFault::Line {
+                word: 2,
+                fault: Fault::ExtraWord,
+            }),
+            None => call(alloc, line),
+        },
+    }
+}
+
+/// What a line asks for, or its first fault. Only a group takes memory.
+///
+/// A browser's request asks for the end of the connection: a page that is open on the bridge's machine can send one,
+/// and the lines of its body would be calls.
+#[tactic(auto, unfolding(crate::specs::Operators::asked_of))]
+pub(crate) fn parse_line<A: Allocator + Copy>(
+    alloc: A,
+    line: &[u8],
+) -> Result<LineAsk<A>, ParseFault>
+    ensures asked { Gives asks result (asked_of line.now) }
+    ensures memory { result ≡ Err ParseFault.OutOfMemory → begins_group line.now }
+{
+    if !is_printed(line) {
+        return Err(ParseFault::Line {
+            word: 0,
+            fault: Fault::BadByte,
+        });
+    }
+    if is_request(line) {
+        return Ok(LineAsk::Verb(Verb::Quit));
+    }
+    words(alloc, line)
+}

@@ -1,0 +1,39 @@
+//! Operators' lines: how a stream of octets is cut into lines, what a line asks, how it is answered, and what waits to
+//! be written.
+//!
+//! Begin with [`Lines::feed`], which cuts what an operator sends into lines. [`greet`] deals with those before the
+//! first good one, which takes a seat, and [`answer`] asks a [`LineDesk`]. [`Outgoing`] keeps what the socket hasn't
+//! taken yet.
+//!
+//! Contracts see a stream as its lines, and what waits for an operator as octets. No function here has a socket.
+//!
+//! ```rust
+//! let mut lines = Lines::new(alloc);
+//! let mut told = Vec::new(alloc); // what the operator is told
+//! let fed = lines.feed(alloc, &octets)?; // octets: what has come from the operator
+//! for line in &fed.lines {
+//!     let next = answer(alloc, &mut desk, line, &mut told)?; // desk: a `LineDesk`
+//!     if next == Next::Stop {
+//!         break; // the operator stops the bridge
+//!     }
+//! }
+//! ```
+//!
+//! `hears_show` of worked_front feeds a stream so, with its lines proved.
+#![tactic(auto)]
+
+mod answering;
+mod asking;
+mod feeding;
+mod foreign;
+mod greeting;
+mod laws;
+mod line_desk;
+mod outgoing;
+
+pub use answering::{Next, answer, busy, print_too_long};
+pub use feeding::{Fed, Lines};
+pub use greeting::{Opening, greet};
+pub use laws::{cuts_are_whole, too_long_for_good};
+pub use line_desk::LineDesk;
+pub use outgoing::Outgoing;

@@ -1,0 +1,4 @@
+pub mod Attempts
+pub mod Ended
+pub mod Pacing
+pub mod Sockets
