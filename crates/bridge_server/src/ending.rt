@@ -16,12 +16,11 @@ use crate::setup::Setup;
 use crate::sinks::LaneSocket;
 use crate::stopped::{DeskEnd, MediaEnd};
 use front_rounds::Rounds;
-use lane_bell::Rung;
 use lane_laws::{lanes_saw_what_they_know, none_knew_more, the_running_headline};
 use lane_wire::{LaneSent, LaneWire, WireSink};
 use media_front::{PublisherOf, fault_of};
-use media_workers::{LaneEnd, Pace, PublisherName, Sink};
-use operator_desk::{GatherFault, Hall};
+use media_workers::{LaneEnd, Pace, PublisherName, Sink, SleepPace};
+use operator_desk::{DeskBrand, GatherFault};
 use operator_threads::Operators;
 use std::alloc::{AllocError, Global};
 use std::sync::Wait;
@@ -41,7 +40,7 @@ fn gather_fault(fault: GatherFault) -> FrontFault
 }
 
 /// Ends the desk. Returns its log, with how many calls of each operator it has, and the notice of its last version.
-pub(crate) fn gather<'a, H: Hall, R: Wait>(
+pub(crate) fn gather<'a, H: DeskBrand, R: Wait>(
     rt: &R,
     alloc: Global,
     operators: Operators<'a, H>,
@@ -66,7 +65,9 @@ pub(crate) fn gather<'a, H: Hall, R: Wait>(
 }
 
 /// The media of a bridge whose rounds are over.
-fn media_in<H: Hall + Setup, R: Wait + Clock + Drop>(running: Running<H, R>) -> ServerMedia<H, R>
+fn media_in<H: DeskBrand + Setup, R: Wait + Clock + Drop>(
+    running: Running<H, R>,
+) -> ServerMedia<H, R>
     ensures { IsSetUp H.who H.lanes H.start H.publisher result }
 {
     let Running { rounds, counts: _ } = running;
@@ -113,7 +114,7 @@ pub(crate) fn close<H, R>(
     last: &Notice,
 ) -> Result<MediaEnd, FrontFault>
 where
-    H: Hall + Setup + Send + Sync + 'static,
+    H: DeskBrand + Setup + Send + Sync + 'static,
     R: Threads + Clock + Wait + Copy + Send + Drop + 'static,
     requires first { good H.start ≡ true }
     requires publisher { last.now.publisher ≡ H.publisher }
@@ -126,12 +127,12 @@ where
     let media = media_in(running);
     let dropped = dropped_of(alloc, &media);
     let ends = media.close(rt);
-    lanes_saw_what_they_know::<PublisherOf<H>, Rung<R, ()>, WireSink<LaneSocket>>();
-    the_running_headline::<PublisherOf<H>, Rung<R, ()>, WireSink<LaneSocket>>();
+    lanes_saw_what_they_know::<PublisherOf<H>, SleepPace<R, ()>, WireSink<LaneSocket>>();
+    the_running_headline::<PublisherOf<H>, SleepPace<R, ()>, WireSink<LaneSocket>>();
     if let Some(fault) = fault_of(&ends) {
         return Err(fault);
     }
-    compare::<PublisherOf<H>, Rung<R, ()>, WireSink<LaneSocket>>(&ends, last)?;
+    compare::<PublisherOf<H>, SleepPace<R, ()>, WireSink<LaneSocket>>(&ends, last)?;
     let dropped = dropped?;
     let sent = sent_of(alloc, ends)?;
     Ok(MediaEnd { dropped, sent })
@@ -140,7 +141,7 @@ where
 /// Ends the lanes of a bridge whose log is lost. Returns their fault, or `Io`.
 pub(crate) fn give_up<H, R>(rt: &R, running: Running<H, R>) -> FrontFault
 where
-    H: Hall + Setup + Send + Sync + 'static,
+    H: DeskBrand + Setup + Send + Sync + 'static,
     R: Threads + Clock + Wait + Copy + Send + Drop + 'static,
 {
     let ends = media_in(running).close(rt);
@@ -150,7 +151,7 @@ where
 /// How many items were dropped for each lane.
 fn dropped_of<H, R>(alloc: Global, media: &ServerMedia<H, R>) -> Result<Vec<u64>, AllocError>
 where
-    H: Hall,
+    H: DeskBrand,
     R: Wait + Clock + Drop,
     ensures { IfOk result (λ dropped. dropped.items ≡ map (λ (x : FedLane _ _). x.dropped) media.now.feed) }
 {

@@ -21,14 +21,14 @@ use crate::sockets::{OperatorListener, Sockets, SystemWatch, chunk, sockets_of};
 use crate::stopped::Stopped;
 use crate::waking::FrontWaker;
 use bridge_core::{Intake, Settings};
-use flood_guard::FloodGuard;
 use front_rounds::{RoundStage, Rounds, Wakes};
 use lane_wire::WireSink;
 use media_front::{LaneFeed, MediaFront, pli_octets};
 use media_workers::StartFault;
-use operator_desk::{DeskFault, DeskNames, Hall, Log, MAX_OPERATORS, Seat, SharedDesk};
+use operator_desk::{DeskBrand, DeskFault, DeskNames, Log, MAX_OPERATORS, Seat, SharedDesk};
 use operator_threads::Operators;
 use picture_requests::PictureRequests;
+use rate_limiter::RateLimiter;
 use std::alloc::Global;
 use std::marker::Brand;
 use std::net::Net;
@@ -63,7 +63,7 @@ where
     )
 }
 
-/// Runs a bridge in a hall of its own, with the SSRC and the number of operators of its settings.
+/// Runs a bridge whose desk has a brand of its own, with the SSRC and the number of operators of its settings.
 fn open_in<'a, H, R>(
     rt: &R,
     alloc: Global,
@@ -74,7 +74,7 @@ fn open_in<'a, H, R>(
     front: Front,
 ) -> Result<Stopped, FrontFault>
 where
-    H: Hall + Setup + Send + Sync + 'static,
+    H: DeskBrand + Setup + Send + Sync + 'static,
     R: Threads + Clock + Wait + Net + Copy + Send + Sync + Drop + 'static,
     requires log { log.now ≡ H.cells }
     requires ledger { (names.ledger.name ≡ H.name) × (names.ledger.parts ≡ H.parts) }
@@ -134,7 +134,7 @@ fn begin<H, R>(
     front: Front,
 ) -> Result<(Running<H, R>, FrontWaker, OperatorListener), FrontFault>
 where
-    H: Hall + Setup + Send + Sync + 'static,
+    H: DeskBrand + Setup + Send + Sync + 'static,
     R: Threads + Clock + Wait + Copy + Send + Drop + 'static,
     requires readers { All (λ (reader : ReaderOf). reader ≡ new_reader H.publisher H.start) readers.items }
     requires few { vec_len readers ≤ most_lanes + 1 }
@@ -182,7 +182,7 @@ fn media_of<H, R>(
     reports: ReportTimer,
 ) -> Result<ServerMedia<H, R>, FrontFault>
 where
-    H: Hall + Setup + Send + Sync + 'static,
+    H: DeskBrand + Setup + Send + Sync + 'static,
     R: Threads + Clock + Wait + Copy + Send + Drop + 'static,
     requires readers { All (λ (reader : ReaderOf). reader ≡ new_reader H.publisher H.start) readers.items }
     requires few { vec_len readers ≤ most_lanes }
@@ -197,10 +197,10 @@ where
         return Err(FrontFault::Io);
     }
     let intake = Intake::new(alloc, settings.try_clone()?)?;
-    let guard = FloodGuard::new(alloc)?;
+    let limiter = RateLimiter::new(alloc)?;
     let cost = pli_octets(alloc, &settings)?;
     match LaneFeed::start(rt, alloc, readers, &settings, sinks) {
-        Ok(feed) => Ok(MediaFront::new(intake, feed, guard, cost, reports)),
+        Ok(feed) => Ok(MediaFront::new(intake, feed, limiter, cost, reports)),
         Err(fault) => Err(start_fault(fault)),
     }
 }
@@ -215,7 +215,7 @@ fn run<'a, H, R>(
     front: Front,
 ) -> Result<Stopped, FrontFault>
 where
-    H: Hall + Setup + Send + Sync + 'static,
+    H: DeskBrand + Setup + Send + Sync + 'static,
     R: Threads + Clock + Wait + Net + Copy + Send + Sync + Drop + 'static,
     requires readers { All (λ (reader : ReaderOf). reader ≡ new_reader H.publisher H.start) readers.items }
     requires few { vec_len readers ≤ most_lanes + 1 }

@@ -6,10 +6,10 @@ use crate::setup::Setup;
 use crate::sinks::LaneSocket;
 use crate::sockets::{FrontSocket, SystemWatch, UdpInlet};
 use front_rounds::Rounds;
-use lane_bell::Rung;
 use lane_wire::{SharedCounts, WireSink};
 use media_front::{MediaFront, PublisherOf};
-use operator_desk::Hall;
+use media_workers::SleepPace;
+use operator_desk::DeskBrand;
 use std::alloc::Global;
 use std::marker::Model;
 use std::sync::{Arc, Wait};
@@ -17,13 +17,17 @@ use std::time::Clock;
 use udp_wire::FrontFault;
 use versions::Notice;
 
-/// The media of a bridge in hall H, on a runtime R.
-pub(crate) type ServerMedia<H, R> = MediaFront<PublisherOf<H>, Rung<R, ()>, WireSink<LaneSocket>>;
+/// The media of a bridge whose desk has brand H, on a runtime R.
+pub(crate) type ServerMedia<H, R> = MediaFront<
+    PublisherOf<H>,
+    SleepPace<R, ()>,
+    WireSink<LaneSocket>,
+>;
 
-/// The rounds of a bridge in hall H, on a runtime R.
+/// The rounds of a bridge whose desk has brand H, on a runtime R.
 pub(crate) type ServerRounds<H, R> = Rounds<
     PublisherOf<H>,
-    Rung<R, ()>,
+    SleepPace<R, ()>,
     WireSink<LaneSocket>,
     UdpInlet,
     FrontSocket,
@@ -34,13 +38,13 @@ pub(crate) type ServerRounds<H, R> = Rounds<
 ///
 /// Contracts see the lanes as they were handed in. Nothing that a round does changes which they are, or by which name
 /// the bridge signs.
-pub(crate) struct Running<H: Hall + Setup, R: Wait + Clock + Drop> {
+pub(crate) struct Running<H: DeskBrand + Setup, R: Wait + Clock + Drop> {
     pub(crate) rounds: ServerRounds<H, R>,
     /// What each lane has sent so far, and what not.
     pub(crate) counts: Vec<Arc<SharedCounts, Global>>,
 }
 
-impl<H: Hall + Setup, R: Wait + Clock + Drop> Model for Running<H, R> {
+impl<H: DeskBrand + Setup, R: Wait + Clock + Drop> Model for Running<H, R> {
     ghost use Rattle.std.specs.Prelude.{List};
     ghost use Rattle.media_workers.specs.LaneRuns.{LaneNow};
     ghost use Rattle.media_front.specs.FedLanes.{lanes_in};
@@ -54,7 +58,7 @@ impl<H: Hall + Setup, R: Wait + Clock + Drop> Model for Running<H, R> {
 }
 
 impl<
-    H: Hall + Setup + Send + Sync + 'static,
+    H: DeskBrand + Setup + Send + Sync + 'static,
     R: Wait + Clock + Copy + Send + Drop + 'static,
 > Running<H, R> {
     /// Begins a round: waits until something has come, or a tick is due. Returns whether connections may wait. A lane

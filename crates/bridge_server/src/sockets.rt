@@ -7,6 +7,7 @@ ghost use Rattle.front_rounds.specs.Came.{octets_read};
 use crate::front::{Front, TCP, UDP, WAKER};
 use crate::waking::FrontWaker;
 use front_rounds::{Inlet, Read, ReadLog, TryLog, Watch, WatchLog};
+use front_settings::FrontSettings;
 use mio::net::{TcpListener, TcpStream, UdpSocket};
 use mio::{Events, Poll, Waker};
 use rtp_codec::Address;
@@ -15,7 +16,6 @@ use std::io::ErrorKind;
 use std::sync::Arc;
 use std::time::{Clock, Duration};
 use udp_wire::{FrontFault, Moments, Wire, address_of, socket_address};
-use front_settings::FrontSettings;
 
 /// How many of the system's events are taken at a time.
 const EVENTS: usize = 8;

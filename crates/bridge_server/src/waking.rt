@@ -1,7 +1,7 @@
 //! How other threads wake the front.
 
-use lane_bell::Rouse;
 use mio::Waker;
+use operator_threads::Wake;
 use std::alloc::{AllocError, Global};
 use std::sync::Arc;
 
@@ -9,8 +9,8 @@ use std::sync::Arc;
 #[derive(Drop)]
 pub(crate) struct FrontWaker(pub(crate) Arc<Waker, Global>);
 
-impl Rouse for FrontWaker {
-    fn rouse(&self) {
+impl Wake for FrontWaker {
+    fn wake(&self) {
         // If a wake fails, the next round comes at most 20 ms later.
         let _ = self.0.wake();
     }

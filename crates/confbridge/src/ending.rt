@@ -3,9 +3,9 @@
 ghost use Rattle.std.specs.Prelude.{◌≡◌, Some};
 ghost use Rattle.confbridge.specs.Served.{serve_text, serve_status_of, by_settings, by_front, by_io};
 
+use front_settings::SettingsFault;
 use std::{fmt, io};
 use udp_wire::{FrontFault, front_status};
-use front_settings::SettingsFault;
 
 /// Why `confbridge serve` ended without `stop`.
 #[derive(Drop)]

@@ -6,6 +6,7 @@ mod ending;
 
 use crate::ending::{ServeFault, serve_status};
 use bridge_server::{Front, Stopped};
+use front_settings::{FrontSettings, SettingsFault, settings};
 use lane_wire::{SendCounts, SendFault};
 use script_text::{Ask, Exit, Reader, Writer, asked, exit_status, run, unread};
 use std::alloc::AllocGlobal;
@@ -17,7 +18,6 @@ use std::sync::Wait;
 use std::thread::Threads;
 use std::time::Clock;
 use std::{env, fs, io};
-use front_settings::{FrontSettings, SettingsFault, settings};
 
 /// What the arguments ask for.
 #[derive(Drop)]

@@ -2,9 +2,9 @@
 
 use crate::left::Left;
 use bridge_server::Front;
+use front_settings::{Listening, settings};
 use std::alloc::AllocGlobal;
 use std::net::Net;
-use front_settings::{Listening, settings};
 
 /// A bridge that runs on a thread of its own, until an operator stops it.
 #[derive(Drop)]

@@ -1,7 +1,7 @@
 //! Settings of a case.
 
-use std::alloc::Global;
 use front_settings::{FrontSettings, Listening, settings};
+use std::alloc::Global;
 
 /// Settings as a line of a case has them: where the bridge listens, its lanes, its operators, the milliseconds between
 /// its reports, its SSRC and its name.

@@ -9,20 +9,20 @@ use Rattle.media_workers.specs.LaneRuns.{LaneNow}
 use Rattle.udp_wire.specs.Attempts.{Attempt}
 use Rattle.media_front.specs.Fronts.{FrontOf, HasReported}
 use Rattle.media_front.specs.Waits.{OnWire, HaveWaited, HaveWaitedInPart, video_origins}
-use Rattle.media_front.specs.FedLanes.{FedLane, is_due, lanes_in, owing_notice, rung, IsFed, AreGiven, AllAreGiven}
-use Rattle.front_rounds.specs.Turns.{Turn, History, Does, HaveDone, HasCaughtUp, owed, passed, took, lost, looked, gave_ticks, let_wait, let_some_wait, asked_picture, made_report, rang}
+use Rattle.media_front.specs.FedLanes.{FedLane, is_due, lanes_in, owing_notice, after_signal, IsFed, AreGiven, AllAreGiven}
+use Rattle.front_rounds.specs.Turns.{Turn, History, Does, HaveDone, HasCaughtUp, owed, passed, took, lost, looked, gave_ticks, let_wait, let_some_wait, asked_picture, made_report, signalled}
 
 owed_lanes : {P S : Type 0} (notice : NoticeOf) (xs : List (FedLane P S)) → lanes_in (map (owing_notice notice) xs) ≡ lanes_in xs
 owed_lanes notice [] = refl
 owed_lanes notice (x ∷ xs) = ap (λ (ls : List LaneNow). x.port.lane ∷ ls) (owed_lanes notice xs)
 
-rung_lane : {P S : Type 0} (due : Bool) (x : FedLane P S) → (if due then record x { unrung = 0; pressed = false } else x).port.lane ≡ x.port.lane
-rung_lane true x = refl
-rung_lane false x = refl
+signal_lane : {P S : Type 0} (due : Bool) (x : FedLane P S) → (if due then record x { unsignalled = 0; pressed = false } else x).port.lane ≡ x.port.lane
+signal_lane true x = refl
+signal_lane false x = refl
 
-rung_lanes : {P S : Type 0} (xs : List (FedLane P S)) → lanes_in (map rung xs) ≡ lanes_in xs
-rung_lanes [] = refl
-rung_lanes (x ∷ xs) = ap (λ (l : LaneNow). l ∷ lanes_in (map rung xs)) (rung_lane (is_due x) x) ∙ ap (λ (ls : List LaneNow). x.port.lane ∷ ls) (rung_lanes xs)
+signal_lanes : {P S : Type 0} (xs : List (FedLane P S)) → lanes_in (map after_signal xs) ≡ lanes_in xs
+signal_lanes [] = refl
+signal_lanes (x ∷ xs) = ap (λ (l : LaneNow). l ∷ lanes_in (map after_signal xs)) (signal_lane (is_due x) x) ∙ ap (λ (ls : List LaneNow). x.port.lane ∷ ls) (signal_lanes xs)
 
 fed_lane : {P S : Type 0} (input : Input) (x y : FedLane P S) → IsFed input x y → y.port.lane ≡ x.port.lane
 fed_lane {P} {S} input x y (inl given) = ap (λ (z : FedLane P S). z.port.lane) given.2
@@ -77,7 +77,7 @@ lanes_by_one (let_wait desk moment) old new d = have_waited desk moment (video_o
 lanes_by_one (let_some_wait desk moment) old new d = have_waited_in_part desk moment (video_origins desk) old.front new.front old.tried new.tried d.waited
 lanes_by_one {P} {S} (asked_picture o sent) old new d = ap (λ (f : FrontOf P S). lanes_in f.feed) d.asked.same
 lanes_by_one (made_report due desk moment) old new d = reported_lanes due desk moment old.tried new.tried old.front new.front d.made
-lanes_by_one {P} {S} rang old new d = ap (λ (h : History P S). lanes_in h.front.feed) d ∙ rung_lanes old.front.feed
+lanes_by_one {P} {S} signalled old new d = ap (λ (h : History P S). lanes_in h.front.feed) d ∙ signal_lanes old.front.feed
 
 pub lanes_by_all : {P S : Type 0} (turns : List Turn) (old new : History P S) → HaveDone turns old new → lanes_in new.front.feed ≡ lanes_in old.front.feed
 lanes_by_all {P} {S} [] old new g = ap (λ (h : History P S). lanes_in h.front.feed) (sym g)
@@ -100,7 +100,7 @@ asker_by_one (let_wait desk moment) old new d = d.asker
 asker_by_one (let_some_wait desk moment) old new d = d.asker
 asker_by_one {P} {S} (asked_picture o sent) old new d = ap (λ (f : FrontOf P S). f.intake.asker) d.asked.same
 asker_by_one (made_report due desk moment) old new d = d.asker
-asker_by_one {P} {S} rang old new d = ap (λ (h : History P S). h.front.intake.asker) d
+asker_by_one {P} {S} signalled old new d = ap (λ (h : History P S). h.front.intake.asker) d
 
 pub asker_by_all : {P S : Type 0} (turns : List Turn) (old new : History P S) → HaveDone turns old new → new.front.intake.asker ≡ old.front.intake.asker
 asker_by_all {P} {S} [] old new g = ap (λ (h : History P S). h.front.intake.asker) (sym g)

@@ -9,16 +9,16 @@ use Rattle.upward.specs.Upstream.{Asker}
 use Rattle.intake.specs.Sources.{Origin}
 use Rattle.intake.specs.Taking.{picture_request}
 use Rattle.intake.specs.inner.Holding.{IntakeOf}
-use Rattle.flood_guard.specs.declared.account.Account.{Account}
-use Rattle.flood_guard.specs.Steps.{may_spend}
+use Rattle.rate_limiter.specs.declared.bucket.Bucket.{Bucket}
+use Rattle.rate_limiter.specs.Steps.{may_spend}
 use Rattle.udp_wire.specs.Attempts.{Attempt}
 use Rattle.media_front.specs.Tries.{WereTried}
 use Rattle.media_front.specs.Paid.{paid_one, paid_of, after_one, is_paid_for}
-use Rattle.media_front.specs.Fronts.{FrontOf, HasIngested, HasReported, once_earned}
+use Rattle.media_front.specs.Fronts.{FrontOf, HasIngested, HasReported, once_refilled}
 use Rattle.media_front.specs.Waits.{OnWire, HasWaitedOnce, HaveWaited, video_origins, silence}
 use Rattle.media_front.proofs.TryLemmas.{tried_none, tried_both}
 use Rattle.media_front.proofs.WaitLists.{folds_both}
-use Rattle.front_rounds.specs.Turns.{Turn, History, Does, HaveDone, HasCaughtUp, owed, passed, took, lost, looked, gave_ticks, let_wait, let_some_wait, asked_picture, made_report, rang}
+use Rattle.front_rounds.specs.Turns.{Turn, History, Does, HaveDone, HasCaughtUp, owed, passed, took, lost, looked, gave_ticks, let_wait, let_some_wait, asked_picture, made_report, signalled}
 use Rattle.front_rounds.specs.Tries.{Try, Why, answers, asks_again, reports, asks_picture, HasDone, AsksAgain, IsMeant, AreMeant, time_passes}
 use Rattle.front_rounds.proofs.TurnLemmas.{all_both, done_both, done_one}
 use Rattle.front_rounds.proofs.LaneLemmas.{asker_by_one}
@@ -49,13 +49,13 @@ what_for why [] = refl
 what_for why (d ∷ ds) = ap (λ (l : List (Address × List ℕ)). d ∷ l) (what_for why ds)
 
 -- what is paid for is some of what is asked for
-paid_in : (all ds : List (Address × List ℕ)) (accounts : List Account) → ((d : Address × List ℕ) → Contains ds d → Contains all d)
-    → AllByRecursion (λ (d : Address × List ℕ). Contains all d) (paid_of ds accounts)
-paid_in all [] accounts f = tt
-paid_in all (d ∷ ds) accounts f =
-    all_both (λ (e : Address × List ℕ). Contains all e) (paid_one d accounts) (paid_of ds (after_one d accounts))
-    (elim (may_spend d.0 (length d.1) accounts) as (λ b. AllByRecursion (λ (e : Address × List ℕ). Contains all e) (cond b (d ∷ []) [])) [ true ↦ (f d (in_head d ds), tt) | false ↦ tt ])
-    (paid_in all ds (after_one d accounts) (λ e c. f e (in_tail d ds e c)))
+paid_in : (all ds : List (Address × List ℕ)) (buckets : List Bucket) → ((d : Address × List ℕ) → Contains ds d → Contains all d)
+    → AllByRecursion (λ (d : Address × List ℕ). Contains all d) (paid_of ds buckets)
+paid_in all [] buckets f = tt
+paid_in all (d ∷ ds) buckets f =
+    all_both (λ (e : Address × List ℕ). Contains all e) (paid_one d buckets) (paid_of ds (after_one d buckets))
+    (elim (may_spend d.0 (length d.1) buckets) as (λ b. AllByRecursion (λ (e : Address × List ℕ). Contains all e) (cond b (d ∷ []) [])) [ true ↦ (f d (in_head d ds), tt) | false ↦ tt ])
+    (paid_in all ds (after_one d buckets) (λ e c. f e (in_tail d ds e c)))
 
 -- what was tried and why, between two states of a front that began at a third
 abbrev Meant : {P S : Type 0} → List Turn → History P S → Option (List Attempt) → Option (List Attempt) → Type 0
@@ -106,15 +106,15 @@ meant_waits {P} {S} all start whole desk moment old new here first (o ∷ os) re
       waits = one.waited.waits;
     } in
     both_meant all start before mid.1 after
-    (for_one_reason all start before mid.1 (asks_again desk moment o ingested) ingested.up (paid_of ingested.up (once_earned (silence desk o.address moment) ingested front.guard)) one.waited.handled.up
+    (for_one_reason all start before mid.1 (asks_again desk moment o ingested) ingested.up (paid_of ingested.up (once_refilled (silence desk o.address moment) ingested front.limiter)) one.waited.handled.up
     (paid_in ingested.up ingested.up _ (λ d c. c)) (λ d c. (whole, old, new, here, again, c)))
     (meant_waits all start whole desk moment old new here (first ++ o ∷ []) os rest mid.0 last mid.1 after (order ∙ sym (append_assoc first (o ∷ []) (os ++ rest)))
     (folds_both (HasWaitedOnce desk moment) (old.front, old.tried) first (front, before) (o ∷ []) mid far (mid, one, refl)) done.2)
 
 -- ---- pictures
 
-paid_alone : (d : Address × List ℕ) (accounts : List Account) (sent : Bool) → sent ≡ is_paid_for d accounts → paid_of (d ∷ []) accounts ≡ (if sent then d ∷ [] else []) ++ []
-paid_alone d accounts sent is = ap (λ (b : Bool). (if b then d ∷ [] else []) ++ []) (sym is)
+paid_alone : (d : Address × List ℕ) (buckets : List Bucket) (sent : Bool) → sent ≡ is_paid_for d buckets → paid_of (d ∷ []) buckets ≡ (if sent then d ∷ [] else []) ++ []
+paid_alone d buckets sent is = ap (λ (b : Bool). (if b then d ∷ [] else []) ++ []) (sym is)
 
 meant_picture : {P S : Type 0} (all : List Turn) (start : History P S) (who : Asker) (o : Origin) (sent : Bool) (old new : History P S) (before after : Option (List Attempt))
     → start.front.intake.asker ≡ who → HasDone all start (asked_picture o sent) old new → WereTried ((if sent then picture_request who o ∷ [] else []) ++ []) before after
@@ -147,7 +147,7 @@ meant_by_one {P} {S} all start (took late arrival outcome ended) old new same he
     let ingested = d.takes.ingested in
     let at = subst (λ o. HasDone all start (took late arrival o ended) old new) (sym d.takes.became) here in
     let takes = subst (λ (i : IntakeOf). HasIngested arrival ingested i new.front.intake) (late_intake late arrival.moment old.front d.mid d.time.caught) d.takes.takes in
-    for_one_reason all start old.tried new.tried (answers late arrival ingested) ingested.up (paid_of ingested.up (once_earned arrival ingested (d.mid).guard)) d.takes.handled.up
+    for_one_reason all start old.tried new.tried (answers late arrival ingested) ingested.up (paid_of ingested.up (once_refilled arrival ingested (d.mid).limiter)) d.takes.handled.up
     (paid_in ingested.up ingested.up _ (λ x c. c)) (λ x c. (old, new, ended, at, takes, c))
 meant_by_one all start (lost late arrival) old new same here d = no_tries all start old.tried new.tried d.tried
 meant_by_one {P} {S} all start (looked moment) old new same here d = no_tries all start old.tried new.tried (ap (λ (s : History P S). s.tried) d)
@@ -159,9 +159,9 @@ meant_by_one {P} {S} all start (let_some_wait desk moment) old new same here d =
 meant_by_one {P} {S} all start (asked_picture o sent) old new same here d =
     let who = old.front.intake.asker in
     meant_picture all start who o sent old new old.tried new.tried same here
-    (subst (λ (l : List (Address × List ℕ)). WereTried l old.tried new.tried) (paid_alone (picture_request who o) old.front.guard sent d.asked.answer) (d.asked.handled (blank 0) 0).up)
+    (subst (λ (l : List (Address × List ℕ)). WereTried l old.tried new.tried) (paid_alone (picture_request who o) old.front.limiter sent d.asked.answer) (d.asked.handled (blank 0) 0).up)
 meant_by_one all start (made_report due desk moment) old new same here d = meant_report all start due desk moment old new here d.made
-meant_by_one {P} {S} all start rang old new same here d = no_tries all start old.tried new.tried (ap (λ (s : History P S). s.tried) d)
+meant_by_one {P} {S} all start signalled old new same here d = no_tries all start old.tried new.tried (ap (λ (s : History P S). s.tried) d)
 
 meant_from : {P S : Type 0} (all first turns : List Turn) (start old new : History P S) → all ≡ first ++ turns → start.front.intake.asker ≡ old.front.intake.asker
     → HaveDone first start old → HaveDone turns old new → Meant all start old.tried new.tried

@@ -14,7 +14,7 @@ use Rattle.front_rounds.specs.declared.inlet.Read.{Read}
 use Rattle.front_rounds.specs.declared.inlet.Read.TheVariants.{Datagram, Other, Nothing}
 use Rattle.front_rounds.specs.inner.Reading.{IsReadOnce, is_something}
 use Rattle.front_rounds.specs.Turns.{Turn, History, history, HaveDone, HasActed, owed, passed, looked, gave_ticks, let_wait, let_some_wait, made_report}
-use Rattle.front_rounds.specs.Shapes.{IsPassed, AreAllRead, most_datagrams, IsPicture, waits, IsDue, IsPassing, IsTakenIn, IsRound, IsRoundAfterSleep, AreRounds, BeginAsRounds, rings}
+use Rattle.front_rounds.specs.Shapes.{IsPassed, AreAllRead, most_datagrams, IsPicture, waits, IsDue, IsPassing, IsTakenIn, IsRound, IsRoundAfterSleep, AreRounds, BeginAsRounds, signals}
 use Rattle.front_rounds.proofs.TurnLemmas.{done_one, done_both, all_both}
 
 -- ---- results
@@ -114,7 +114,7 @@ read_full Is reads all many = record {
 pub waits_by : {P S : Type 0} (r : Result (Unit {0}) FrontFault) (desk : Desk) (moment : ℕ) (old new : History P S)
     → OnOk r (HaveWaited desk moment (video_origins desk) old.front new.front old.tried new.tried)
     → OnErr r (HaveWaitedInPart desk moment (video_origins desk) old.front new.front old.tried new.tried)
-    → new.front ≡ record old.front { intake = new.front.intake; feed = new.front.feed; guard = new.front.guard }
+    → new.front ≡ record old.front { intake = new.front.intake; feed = new.front.feed; limiter = new.front.limiter }
     → new.front.intake.asker ≡ old.front.intake.asker → HasActed old new
     → (turns : List Turn) × HaveDone turns old new × OnOk r (turns ≡ let_wait desk moment ∷ [])
 waits_by (Ok u) desk moment old new ok err kept asker same = (
@@ -148,13 +148,13 @@ pub kept_reader : (one old new : Option ReaderOf) (r : ReaderOf) (turns : List T
 kept_reader one old new r turns a b c passing =
     subst (λ (o : Option ReaderOf). IsTakenIn o new turns) (sym a) (subst (λ (o : Option ReaderOf). IsTakenIn (Some r) o turns) (sym (c ∙ b)) (inr (refl, passing)))
 
-pub round_of : (notice : NoticeOf) (old new : Option ReaderOf) (entry woken : List Turn) → IsTakenIn old new entry → (wake : ℕ) (rung : Bool) → woken ≡ looked wake ∷ rings rung
+pub round_of : (notice : NoticeOf) (old new : Option ReaderOf) (entry woken : List Turn) → IsTakenIn old new entry → (wake : ℕ) (raised : Bool) → woken ≡ looked wake ∷ signals raised
     → IsRound notice old new (owed notice ∷ (entry ++ woken))
-round_of notice old new entry woken entered wake rung is = record {
+round_of notice old new entry woken entered wake raised is = record {
   entry = entry;
   entered = entered;
   wake = wake;
-  rung = rung;
+  raised = raised;
   are = ap (λ (l : List Turn). owed notice ∷ (entry ++ l)) is;
 }
 

@@ -3,7 +3,7 @@ use Rattle.std.proofs.Common.{◌≡◌, ℕ, List, [], ◌∷◌, ◌++◌, ref
 use Rattle.std.specs.List.{flat_map, AllByRecursion}
 use Rattle.std.proofs.lemmas.List.{append-nil}
 use Rattle.front_rounds.specs.Came.{Came}
-use Rattle.front_rounds.specs.Turns.{Turn, History, Does, HaveDone, owed, passed, took, lost, looked, gave_ticks, let_wait, let_some_wait, asked_picture, made_report, rang}
+use Rattle.front_rounds.specs.Turns.{Turn, History, Does, HaveDone, owed, passed, took, lost, looked, gave_ticks, let_wait, let_some_wait, asked_picture, made_report, signalled}
 use Rattle.front_rounds.specs.Tries.{came_in, moments_in}
 
 pub done_both : {P S : Type 0} (xs ys : List Turn) (a b c : History P S) → HaveDone xs a b → HaveDone ys b c → HaveDone (xs ++ ys) a c
@@ -33,7 +33,7 @@ came_by_one {P} {S} (let_wait desk moment) old new d = ap (λ (s : History P S).
 came_by_one {P} {S} (let_some_wait desk moment) old new d = ap (λ (s : History P S). s.came) d.same ∙ none old.came
 came_by_one {P} {S} (asked_picture o sent) old new d = ap (λ (s : History P S). s.came) d.same ∙ none old.came
 came_by_one {P} {S} (made_report due desk moment) old new d = ap (λ (s : History P S). s.came) d.same ∙ none old.came
-came_by_one {P} {S} rang old new d = ap (λ (s : History P S). s.came) d ∙ none old.came
+came_by_one {P} {S} signalled old new d = ap (λ (s : History P S). s.came) d ∙ none old.came
 
 pub came_by_all : {P S : Type 0} (turns : List Turn) (old new : History P S) → HaveDone turns old new → new.came ≡ old.came ++ flat_map came_in turns
 came_by_all {P} {S} [] old new g = ap (λ (s : History P S). s.came) (sym g) ∙ none old.came
@@ -52,7 +52,7 @@ told_by_one {P} {S} (let_wait desk moment) old new d = ap (λ (s : History P S).
 told_by_one {P} {S} (let_some_wait desk moment) old new d = ap (λ (s : History P S). s.told) d.same ∙ none old.told
 told_by_one {P} {S} (asked_picture o sent) old new d = ap (λ (s : History P S). s.told) d.same ∙ none old.told
 told_by_one {P} {S} (made_report due desk moment) old new d = ap (λ (s : History P S). s.told) d.same ∙ none old.told
-told_by_one {P} {S} rang old new d = ap (λ (s : History P S). s.told) d ∙ none old.told
+told_by_one {P} {S} signalled old new d = ap (λ (s : History P S). s.told) d ∙ none old.told
 
 pub told_by_all : {P S : Type 0} (turns : List Turn) (old new : History P S) → HaveDone turns old new → new.told ≡ old.told ++ flat_map moments_in turns
 told_by_all {P} {S} [] old new g = ap (λ (s : History P S). s.told) (sym g) ∙ none old.told

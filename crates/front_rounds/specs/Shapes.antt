@@ -8,7 +8,7 @@ use Rattle.versions.specs.Published.{NoticeOf, ReaderOf, after_lists}
 use Rattle.intake.specs.declared.outcome.Outcome.{Outcome}
 use Rattle.media_front.specs.Fronts.{Arrival}
 use Rattle.front_rounds.specs.Came.{Came, datagram, other, nothing}
-use Rattle.front_rounds.specs.Turns.{Turn, owed, passed, took, lost, looked, gave_ticks, let_wait, let_some_wait, asked_picture, made_report, rang}
+use Rattle.front_rounds.specs.Turns.{Turn, owed, passed, took, lost, looked, gave_ticks, let_wait, let_some_wait, asked_picture, made_report, signalled}
 
 -- how many datagrams a round takes in at most
 abbrev pub most_datagrams : ℕ
@@ -57,7 +57,7 @@ IsPicture (gave_ticks due moment) = ⊥
 IsPicture (let_wait at moment) = ⊥
 IsPicture (let_some_wait at moment) = ⊥
 IsPicture (made_report due at moment) = ⊥
-IsPicture rang = ⊥
+IsPicture signalled = ⊥
 
 -- the last read found nothing, or there was none
 abbrev pub found_nothing : Bool → List Turn
@@ -119,19 +119,19 @@ abbrev pub IsTakenIn : Option ReaderOf → Option ReaderOf → List Turn → Typ
 IsTakenIn (Some old) new turns = IsEntered old new turns
 IsTakenIn None new turns = ⊥
 
--- the bells were rung, or not
-abbrev pub rings : Bool → List Turn
-rings true = rang ∷ []
-rings false = []
+-- the signals were raised, or not
+abbrev pub signals : Bool → List Turn
+signals true = signalled ∷ []
+signals false = []
 
--- One round: the notice first, then what had come and what was due at the rows of one entry, and then the bells, if
+-- One round: the notice first, then what had come and what was due at the rows of one entry, and then the signals, if
 -- they were due.
 pub record IsRound (notice : NoticeOf) (old new : Option ReaderOf) (turns : List Turn) : Type 0 where
   pub entry : List Turn
   pub entered : IsTakenIn old new entry
   pub wake : ℕ
-  pub rung : Bool
-  pub are : turns ≡ owed notice ∷ (entry ++ looked wake ∷ rings rung)
+  pub raised : Bool
+  pub are : turns ≡ owed notice ∷ (entry ++ looked wake ∷ signals raised)
 
 -- Before a round, the front looked at its watch and slept.
 pub record IsRoundAfterSleep (old : Option ReaderOf) (turns : List Turn) (new : Option ReaderOf) : Type 0 where

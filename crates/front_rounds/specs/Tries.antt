@@ -13,7 +13,7 @@ use Rattle.udp_wire.specs.Attempts.{Attempt}
 use Rattle.media_front.specs.Fronts.{FrontOf, Arrival, HasIngested}
 use Rattle.media_front.specs.Waits.{HaveWaited, video_origins}
 use Rattle.front_rounds.specs.Came.{Came, datagram}
-use Rattle.front_rounds.specs.Turns.{Turn, History, Does, HaveDone, owed, passed, took, lost, looked, gave_ticks, let_wait, let_some_wait, asked_picture, made_report, rang}
+use Rattle.front_rounds.specs.Turns.{Turn, History, Does, HaveDone, owed, passed, took, lost, looked, gave_ticks, let_wait, let_some_wait, asked_picture, made_report, signalled}
 
 -- Why a datagram is tried: the intake answers one that arrived, or asks again as time passes for a source; a report is
 -- due; or a source is asked for a picture.
@@ -89,7 +89,7 @@ came_in (let_wait desk moment) = []
 came_in (let_some_wait desk moment) = []
 came_in (asked_picture o sent) = []
 came_in (made_report due desk moment) = []
-came_in rang = []
+came_in signalled = []
 
 -- the moments that a turn was told
 abbrev pub moments_in : Turn → List ℕ
@@ -103,4 +103,4 @@ moments_in (let_wait desk moment) = []
 moments_in (let_some_wait desk moment) = []
 moments_in (asked_picture o sent) = []
 moments_in (made_report due desk moment) = []
-moments_in rang = []
+moments_in signalled = []

@@ -9,7 +9,7 @@ use Rattle.intake.specs.Sources.{Origin}
 use Rattle.intake.specs.declared.outcome.Outcome.{Outcome}
 use Rattle.udp_wire.specs.Attempts.{Attempt}
 use Rattle.udp_wire.specs.Pacing.{most_ticks, is_behind, report_due, after_report}
-use Rattle.media_front.specs.FedLanes.{owing_notice, rung, AllAreGiven}
+use Rattle.media_front.specs.FedLanes.{owing_notice, after_signal, AllAreGiven}
 use Rattle.media_front.specs.Fronts.{FrontOf, Arrival, HasTaken, MayHaveTaken, HasReported, ticks_due, after_ticks}
 use Rattle.media_front.specs.Waits.{HaveWaited, HaveWaitedInPart, video_origins}
 use Rattle.media_front.specs.Pictures.{HasAsked}
@@ -57,12 +57,12 @@ pub data Turn : Type 0 where
   let_wait : Desk → (moment : ℕ) → Turn
   -- the same for the first of them, until memory ran out
   let_some_wait : Desk → (moment : ℕ) → Turn
-  -- the source of this origin was asked for a picture, if its address had credit
+  -- the source of this origin was asked for a picture, if its address had tokens
   asked_picture : Origin → (sent : Bool) → Turn
   -- the reports were made, if they were due
   made_report : (due : Bool) → Desk → (moment : ℕ) → Turn
-  -- the bells were rung
-  rang : Turn
+  -- the signals were raised
+  signalled : Turn
 
 -- Every lane was given the ticks that are due at this moment.
 pub record HasTicked {P S : Type 0} (moment : ℕ) (old new : FrontOf P S) : Type 0 where
@@ -95,7 +95,7 @@ pub record TakesArrival {P S : Type 0} (late : Bool) (arrival : Arrival) (outcom
   pub time : IsInTime late arrival old mid new.ticked
   pub takes : HasTaken arrival outcome mid new.front old.tried new.tried
   pub ends : EndsProbation arrival outcome mid.intake new.front.intake ended
-  pub same : new.front ≡ record mid { intake = new.front.intake; feed = new.front.feed; guard = new.front.guard }
+  pub same : new.front ≡ record mid { intake = new.front.intake; feed = new.front.feed; limiter = new.front.limiter }
   pub asker : new.front.intake.asker ≡ mid.intake.asker
 
 -- A datagram was read, and memory ran out: nothing was sent or given, though the intake may have taken it in.
@@ -123,11 +123,11 @@ pub record PassesTime {P S : Type 0} (whole : Bool) (desk : Desk) (moment : ℕ)
   pub waited : MatchBool whole
       (HaveWaited desk moment (video_origins desk) old.front new.front old.tried new.tried)
       (HaveWaitedInPart desk moment (video_origins desk) old.front new.front old.tried new.tried)
-  pub kept : new.front ≡ record old.front { intake = new.front.intake; feed = new.front.feed; guard = new.front.guard }
+  pub kept : new.front ≡ record old.front { intake = new.front.intake; feed = new.front.feed; limiter = new.front.limiter }
   pub asker : new.front.intake.asker ≡ old.front.intake.asker
   pub same : HasActed old new
 
--- A source was asked for a picture, or its address had too little credit.
+-- A source was asked for a picture, or its address had too few tokens.
 pub record AsksPicture {P S : Type 0} (o : Origin) (sent : Bool) (old new : History P S) : Type 0 where
   pub asked : HasAsked o sent old.front new.front old.tried new.tried
   pub same : HasActed old new
@@ -138,7 +138,7 @@ pub record MakesReports {P S : Type 0} (due : Bool) (desk : Desk) (moment : ℕ)
   pub made : MatchBool due (HasReported desk moment old.front new.front old.tried new.tried)
       ((new.front ≡ old.front) × (new.tried ≡ old.tried))
   pub timer : new.front.reports ≡ after_report old.front.reports moment
-  pub kept : new.front ≡ record new.front { guard = old.front.guard; ticks = old.front.ticks }
+  pub kept : new.front ≡ record new.front { limiter = old.front.limiter; ticks = old.front.ticks }
   pub asker : new.front.intake.asker ≡ old.front.intake.asker
   pub same : HasActed old new
 
@@ -155,7 +155,7 @@ Does old (let_wait desk moment) new = PassesTime true desk moment old new
 Does old (let_some_wait desk moment) new = PassesTime false desk moment old new
 Does old (asked_picture o sent) new = AsksPicture o sent old new
 Does old (made_report due desk moment) new = MakesReports due desk moment old new
-Does old rang new = new ≡ record old { front = record old.front { feed = map rung old.front.feed } }
+Does old signalled new = new ≡ record old { front = record old.front { feed = map after_signal old.front.feed } }
 
 -- The front did these, one after another, and nothing else.
 abbrev pub HaveDone : {P S : Type 0} → List Turn → History P S → History P S → Type 0

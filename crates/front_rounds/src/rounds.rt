@@ -4,7 +4,7 @@ ghost use Rattle.std.specs.Prelude.{◌≡◌, if◌then◌else◌, ◌∷◌, �
 ghost use Rattle.udp_wire.specs.Pacing.{is_behind};
 ghost use Rattle.front_rounds.specs.Turns.{Turn, HasTicked, HasCaughtUp, HaveDone, history, is_late};
 ghost use Rattle.front_rounds.specs.Turns.{looked, gave_ticks, let_wait, made_report};
-ghost use Rattle.front_rounds.specs.Shapes.{IsDue, IsTaking, IsTakenIn, IsRound, waits, rings};
+ghost use Rattle.front_rounds.specs.Shapes.{IsDue, IsTaking, IsTakenIn, IsRound, waits, signals};
 
 use crate::inlet::Inlet;
 use crate::running::RoundStage;
@@ -194,12 +194,12 @@ impl<N: PublisherName, P: Pace, S: Sink, I: Inlet, W: Wire, C: Watch> Rounds<N, 
             (W.attempts self.old.wire) self.old.ticked)
             (history self.new.media (I.came self.new.inlet) (C.told self.new.watch)
             (W.attempts self.new.wire) self.new.ticked)
-            × OnOk result ((moment : ℕ) × (rung : Bool) × (turns ≡ looked moment ∷ rings rung)) }
+            × OnOk result ((moment : ℕ) × (raised : Bool) × (turns ≡ looked moment ∷ signals raised)) }
         ensures reader { self.new.reader ≡ self.old.reader }
     {
         let now = self.watch.now()?;
         if self.wakes.is_due(now, self.has_members) {
-            self.media.ring(rt);
+            self.media.signal(rt);
         }
         Ok(())
     }

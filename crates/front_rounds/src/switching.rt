@@ -66,7 +66,7 @@ impl<N: PublisherName, P: Pace, S: Sink, I: Inlet, W: Wire, C: Watch> Rounds<N, 
     /// Asks the sender at this address for a picture of the video source whose probation ended at this moment, if one
     /// did: the frame that the source was in is left out.
     ///
-    /// If the address has too little credit, the source waits to be asked.
+    /// If the address has too few tokens, the source waits to be asked.
     pub(crate) fn ask_first(
         &mut self,
         from: &Address,
@@ -98,7 +98,7 @@ impl<N: PublisherName, P: Pace, S: Sink, I: Inlet, W: Wire, C: Watch> Rounds<N, 
         Ok(())
     }
 
-    /// Asks a sender for a picture. If its address had credit for the request, the source was asked at this moment.
+    /// Asks a sender for a picture. If its address had tokens for the request, the source was asked at this moment.
     fn ask_picture(&mut self, source: &VideoSource, now: u64) -> Result<(), FrontFault>
         ensures { (turns : List Turn) × HaveDone turns
             (history self.old.media (I.came self.old.inlet) (C.told self.old.watch)

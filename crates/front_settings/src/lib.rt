@@ -6,8 +6,6 @@
 //! let settings = settings(alloc, text)?; // text: the settings' file
 //! let lanes = settings.lanes; // 1 to 16
 //! ```
-//!
-//! `settings_are_read` of worked_front reads a text so, with what it gives proved.
 #![tactic(auto)]
 
 mod fault;

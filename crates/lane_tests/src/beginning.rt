@@ -6,9 +6,9 @@ ghost use Rattle.versions.specs.Published.{new_reader};
 use crate::lanes::lanes;
 use crate::rings::outfits;
 use crate::running::Running;
-use crate::told::OfHall;
+use crate::told::OfBrand;
 use media_workers::Pace;
-use operator_desk::Hall;
+use operator_desk::DeskBrand;
 use std::alloc::Global;
 use std::sync::Wait;
 use std::thread::Threads;
@@ -19,10 +19,10 @@ const PLACES: usize = 4_096;
 
 /// Starts a lane for each reader, each with its pace and a ring of 4,096 places.
 pub fn begun<
-    H: Hall + Send + Sync + 'static,
+    H: DeskBrand + Send + Sync + 'static,
     P: Pace + Send + Drop + 'static,
     R: Threads + Wait + Copy + Send + 'static,
->(rt: &R, alloc: Global, readers: Vec<LaneReader>, paces: Vec<P>) -> Option<Running<OfHall<H>, P>>
+>(rt: &R, alloc: Global, readers: Vec<LaneReader>, paces: Vec<P>) -> Option<Running<OfBrand<H>, P>>
     requires { All (λ reader. reader ≡ new_reader H.publisher H.start) readers.items }
 {
     begun_with(rt, alloc, readers, paces, PLACES)
@@ -30,7 +30,7 @@ pub fn begun<
 
 /// The same with rings of so many places.
 pub fn begun_with<
-    H: Hall + Send + Sync + 'static,
+    H: DeskBrand + Send + Sync + 'static,
     P: Pace + Send + Drop + 'static,
     R: Threads + Wait + Copy + Send + 'static,
 >(
@@ -39,7 +39,7 @@ pub fn begun_with<
     readers: Vec<LaneReader>,
     paces: Vec<P>,
     places: usize,
-) -> Option<Running<OfHall<H>, P>>
+) -> Option<Running<OfBrand<H>, P>>
     requires { All (λ reader. reader ≡ new_reader H.publisher H.start) readers.items }
 {
     let lanes = lanes::<H>(alloc, readers).ok()?;

@@ -16,12 +16,12 @@ use crate::paces::{Asked, Counted};
 use crate::running::Running;
 use crate::stage::OneDesk;
 use crate::streams::{is_numbered, is_same, item_of, stream_of, version_of};
-use crate::told::{OfHall, Told};
+use crate::told::{OfBrand, Told};
 use bridge_core::Egress;
 use desk_edit::Command;
 use desk_rows::{Mute, Sub};
 use media_workers::PublisherName;
-use operator_desk::{DeskNames, Hall, Log};
+use operator_desk::{DeskBrand, DeskNames, Log};
 use std::alloc::Global;
 use std::marker::Brand;
 use std::sync::{Arc, Wait};
@@ -75,7 +75,7 @@ fn frame(alloc: Global, number: u64) -> Option<FitItem> {
 
 /// Makes all calls, each once the lanes have come as far. The last of those that are asked counts them, and one more
 /// once all are made.
-fn makes_calls<'a, H: Hall, R: Wait>(
+fn makes_calls<'a, H: DeskBrand, R: Wait>(
     rt: &R,
     alloc: Global,
     desk: &mut OneDesk<'a, H>,
@@ -120,11 +120,11 @@ fn gives_all<N: PublisherName, R: Wait>(
 }
 
 /// Makes the calls on a thread of their own, and gives the frames meanwhile.
-fn are_beside<'a, H: Hall + Send + Sync, R: Threads + Wait + Sync>(
+fn are_beside<'a, H: DeskBrand + Send + Sync, R: Threads + Wait + Sync>(
     rt: &R,
     alloc: Global,
     desk: &mut OneDesk<'a, H>,
-    running: &mut Running<OfHall<H>, Counted>,
+    running: &mut Running<OfBrand<H>, Counted>,
     asked: &Vec<Arc<Asked, Global>>,
     gathered: &mut Gathered,
 ) -> bool {
@@ -213,11 +213,11 @@ fn are_same(alloc: Global, sent: &Vec<Egress>) -> Option<bool> {
 }
 
 /// Lets the calls and the frames come, ends the lanes, and compares.
-fn is_played<'a, H: Hall + Send + Sync, R: Threads + Wait + Sync>(
+fn is_played<'a, H: DeskBrand + Send + Sync, R: Threads + Wait + Sync>(
     rt: &R,
     alloc: Global,
     desk: &mut OneDesk<'a, H>,
-    running: Running<OfHall<H>, Counted>,
+    running: Running<OfBrand<H>, Counted>,
     asked: &Vec<Arc<Asked, Global>>,
 ) -> bool {
     let mut running = running;
@@ -234,7 +234,7 @@ fn is_played<'a, H: Hall + Send + Sync, R: Threads + Wait + Sync>(
 /// Sets the desk up, and does the same with lanes that are started for it.
 fn is_started<
     'a,
-    H: Hall + Send + Sync + 'static,
+    H: DeskBrand + Send + Sync + 'static,
     R: Threads + Wait + Copy + Send + Sync + 'static,
 >(rt: &R, alloc: Global, desk: &mut OneDesk<'a, H>, readers: Vec<LaneReader>) -> Option<bool>
     requires { All (λ reader. reader ≡ new_reader H.publisher H.start) readers.items }
@@ -249,12 +249,10 @@ fn is_started<
 }
 
 /// The same, over a desk.
-fn scene<H: Hall + Send + Sync + 'static, R: Threads + Wait + Copy + Drop + Send + Sync + 'static>(
-    rt: &R,
-    alloc: Global,
-    log: &Log,
-    names: DeskNames,
-) -> bool
+fn scene<
+    H: DeskBrand + Send + Sync + 'static,
+    R: Threads + Wait + Copy + Drop + Send + Sync + 'static,
+>(rt: &R, alloc: Global, log: &Log, names: DeskNames) -> bool
     requires log { log.now ≡ H.cells }
     requires ledger { (names.ledger.name ≡ H.name) × (names.ledger.parts ≡ H.parts) }
     requires publisher { names.publisher ≡ H.publisher }

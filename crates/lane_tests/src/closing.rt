@@ -15,12 +15,12 @@ use crate::rings::Rings;
 use crate::running::{Ends, Running};
 use crate::stage::OneDesk;
 use crate::streams::is_beginning;
-use crate::told::{OfHall, Told};
+use crate::told::{OfBrand, Told};
 use bridge_core::Egress;
 use desk_edit::Command;
 use desk_rows::Sub;
 use media_workers::{Pace, PublisherName, Sink};
-use operator_desk::{DeskNames, Hall, Log};
+use operator_desk::{DeskBrand, DeskNames, Log};
 use std::alloc::Global;
 use std::marker::Brand;
 use std::sync::atomic::{AtomicBool, Ordering};
@@ -151,11 +151,11 @@ fn paces(alloc: Global) -> Option<Vec<Free>> {
 }
 
 /// The same, with lanes that are started for it.
-fn is_started<H: Hall + Send + Sync + 'static, R: Threads + Wait + Copy + Send + 'static>(
+fn is_started<H: DeskBrand + Send + Sync + 'static, R: Threads + Wait + Copy + Send + 'static>(
     rt: &R,
     alloc: Global,
     readers: Vec<LaneReader>,
-    told: Told<OfHall<H>>,
+    told: Told<OfBrand<H>>,
 ) -> Option<bool>
     requires { All (λ reader. reader ≡ new_reader H.publisher H.start) readers.items }
 {
@@ -173,7 +173,11 @@ fn is_started<H: Hall + Send + Sync + 'static, R: Threads + Wait + Copy + Send +
 }
 
 /// Sets the desk up, so that a frame of member 3 goes to four slots. False where a command is refused.
-pub fn sets_up<'a, H: Hall, R: Wait>(rt: &R, alloc: Global, desk: &mut OneDesk<'a, H>) -> bool {
+pub fn sets_up<'a, H: DeskBrand, R: Wait>(
+    rt: &R,
+    alloc: Global,
+    desk: &mut OneDesk<'a, H>,
+) -> bool {
     match set_up(alloc) {
         Ok(commands) => {
             desk.does_all(rt, alloc, &commands) && desk.does(rt, alloc, show_more()).is_some()
@@ -183,7 +187,7 @@ pub fn sets_up<'a, H: Hall, R: Wait>(rt: &R, alloc: Global, desk: &mut OneDesk<'
 }
 
 /// The same, over a desk that is set up.
-fn scene<H: Hall + Send + Sync + 'static, R: Threads + Wait + Copy + Drop + Send + 'static>(
+fn scene<H: DeskBrand + Send + Sync + 'static, R: Threads + Wait + Copy + Drop + Send + 'static>(
     rt: &R,
     alloc: Global,
     log: &Log,

@@ -9,9 +9,9 @@ use crate::paces::Free;
 use crate::rings::outfits;
 use crate::running::Running;
 use crate::stage::OneDesk;
-use crate::told::OfHall;
+use crate::told::OfBrand;
 use media_workers::StartFault;
-use operator_desk::{DeskNames, Hall, Log};
+use operator_desk::{DeskBrand, DeskNames, Log};
 use std::alloc::Global;
 use std::marker::Brand;
 use std::sync::Wait;
@@ -28,7 +28,7 @@ fn free(alloc: Global, count: usize) -> Option<Vec<Free>> {
 }
 
 /// How many lanes come back of a start with so many outfits that is refused for its counts.
-fn back<H: Hall + Send + Sync + 'static, R: Threads + Wait + Copy + Send + 'static>(
+fn back<H: DeskBrand + Send + Sync + 'static, R: Threads + Wait + Copy + Send + 'static>(
     rt: &R,
     alloc: Global,
     readers: Vec<LaneReader>,
@@ -38,7 +38,7 @@ fn back<H: Hall + Send + Sync + 'static, R: Threads + Wait + Copy + Send + 'stat
 {
     let (outfits, rings) = outfits(alloc, free(alloc, count)?, 1).ok()?;
     let lanes = lanes::<H>(alloc, readers).ok()?;
-    match Running::<OfHall<H>, Free>::start(rt, alloc, lanes, outfits, rings) {
+    match Running::<OfBrand<H>, Free>::start(rt, alloc, lanes, outfits, rings) {
         Ok(running) => {
             running.close(rt);
             None
@@ -48,7 +48,7 @@ fn back<H: Hall + Send + Sync + 'static, R: Threads + Wait + Copy + Send + 'stat
 }
 
 /// The same, over a desk that has ended.
-fn scene<H: Hall + Send + Sync + 'static, R: Threads + Wait + Copy + Drop + Send + 'static>(
+fn scene<H: DeskBrand + Send + Sync + 'static, R: Threads + Wait + Copy + Drop + Send + 'static>(
     rt: &R,
     alloc: Global,
     log: &Log,

@@ -11,9 +11,9 @@ use crate::gathering::{Gathered, end_taking};
 use crate::paces::Free;
 use crate::running::Running;
 use crate::stage::OneDesk;
-use crate::told::{OfHall, Told};
+use crate::told::{OfBrand, Told};
 use media_workers::{Pace, PublisherName};
-use operator_desk::{DeskNames, Hall, Log};
+use operator_desk::{DeskBrand, DeskNames, Log};
 use std::alloc::Global;
 use std::marker::Brand;
 use std::sync::Wait;
@@ -80,11 +80,11 @@ fn is_ended<N: PublisherName, P: Pace, R: Threads + Wait>(
 }
 
 /// The same, with a lane that is started for it.
-fn is_started<H: Hall + Send + Sync + 'static, R: Threads + Wait + Copy + Send + 'static>(
+fn is_started<H: DeskBrand + Send + Sync + 'static, R: Threads + Wait + Copy + Send + 'static>(
     rt: &R,
     alloc: Global,
     readers: Vec<LaneReader>,
-    told: Told<OfHall<H>>,
+    told: Told<OfBrand<H>>,
 ) -> Option<bool>
     requires { All (λ reader. reader ≡ new_reader H.publisher H.start) readers.items }
 {
@@ -95,7 +95,7 @@ fn is_started<H: Hall + Send + Sync + 'static, R: Threads + Wait + Copy + Send +
 }
 
 /// The same, over a desk that is set up.
-fn scene<H: Hall + Send + Sync + 'static, R: Threads + Wait + Copy + Drop + Send + 'static>(
+fn scene<H: DeskBrand + Send + Sync + 'static, R: Threads + Wait + Copy + Drop + Send + 'static>(
     rt: &R,
     alloc: Global,
     log: &Log,

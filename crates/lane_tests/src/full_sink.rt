@@ -11,10 +11,10 @@ use crate::paces::{Asked, Counted};
 use crate::running::Running;
 use crate::stage::OneDesk;
 use crate::together::next;
-use crate::told::{OfHall, Told};
+use crate::told::{OfBrand, Told};
 use crate::waiting::wait_for_full;
 use media_workers::{Pace, PublisherName};
-use operator_desk::{DeskNames, Hall, Log};
+use operator_desk::{DeskBrand, DeskNames, Log};
 use std::alloc::Global;
 use std::marker::Brand;
 use std::sync::{Arc, Wait};
@@ -73,11 +73,11 @@ fn counted(alloc: Global, asked: &Arc<Asked, Global>) -> Option<Vec<Counted>> {
 }
 
 /// The same, with a lane that is started for it.
-fn is_started<H: Hall + Send + Sync + 'static, R: Threads + Wait + Copy + Send + 'static>(
+fn is_started<H: DeskBrand + Send + Sync + 'static, R: Threads + Wait + Copy + Send + 'static>(
     rt: &R,
     alloc: Global,
     readers: Vec<LaneReader>,
-    told: Told<OfHall<H>>,
+    told: Told<OfBrand<H>>,
 ) -> Option<bool>
     requires { All (λ reader. reader ≡ new_reader H.publisher H.start) readers.items }
 {
@@ -88,7 +88,7 @@ fn is_started<H: Hall + Send + Sync + 'static, R: Threads + Wait + Copy + Send +
 }
 
 /// The same, over a desk that is set up.
-fn scene<H: Hall + Send + Sync + 'static, R: Threads + Wait + Copy + Drop + Send + 'static>(
+fn scene<H: DeskBrand + Send + Sync + 'static, R: Threads + Wait + Copy + Drop + Send + 'static>(
     rt: &R,
     alloc: Global,
     log: &Log,

@@ -9,10 +9,10 @@ use crate::lanes::{OwnLane, own_lane};
 use crate::rows::{FIRST, SECOND, frame, mute, set_up, unmute};
 use crate::stage::OneDesk;
 use crate::streams::{is_packet, version_of};
-use crate::told::{OfHall, Told};
+use crate::told::{OfBrand, Told};
 use bridge_core::Egress;
 use media_workers::PublisherName;
-use operator_desk::{DeskNames, Hall, Log};
+use operator_desk::{DeskBrand, DeskNames, Log};
 use std::alloc::Global;
 use std::marker::Brand;
 use std::sync::Wait;
@@ -43,12 +43,12 @@ fn are_packets(sent: &Vec<Egress>, item: u64) -> bool {
 
 /// Whether once the source is muted the first lane, which is told of it, sends nothing. The third lane is told nothing:
 /// it sends nothing either, or packets by a version below that of the mute.
-fn is_muted<'a, H: Hall, R: Wait>(
+fn is_muted<'a, H: DeskBrand, R: Wait>(
     rt: &R,
     alloc: Global,
     desk: &mut OneDesk<'a, H>,
-    first: &mut OwnLane<OfHall<H>>,
-    third: &mut OwnLane<OfHall<H>>,
+    first: &mut OwnLane<OfBrand<H>>,
+    third: &mut OwnLane<OfBrand<H>>,
 ) -> Option<bool> {
     let item = frame(alloc)?;
     let of_mute = desk.does(rt, alloc, mute())?;
@@ -59,12 +59,12 @@ fn is_muted<'a, H: Hall, R: Wait>(
 
 /// Whether once the source is no longer muted the first lane, which is told of it, sends the frame, and the second lane
 /// sends the same when all that it is told is the last notice.
-fn is_unmuted<'a, H: Hall, R: Wait>(
+fn is_unmuted<'a, H: DeskBrand, R: Wait>(
     rt: &R,
     alloc: Global,
     desk: &mut OneDesk<'a, H>,
-    first: &mut OwnLane<OfHall<H>>,
-    second: &mut OwnLane<OfHall<H>>,
+    first: &mut OwnLane<OfBrand<H>>,
+    second: &mut OwnLane<OfBrand<H>>,
 ) -> Option<bool> {
     let item = frame(alloc)?;
     let of_unmute = desk.does(rt, alloc, unmute())?;
@@ -74,11 +74,15 @@ fn is_unmuted<'a, H: Hall, R: Wait>(
 }
 
 /// Whether three lanes handle the frame so. The desk then has version 8, and the rows that it was set up with.
-fn are_told<'a, H: Hall, R: Wait>(
+fn are_told<'a, H: DeskBrand, R: Wait>(
     rt: &R,
     alloc: Global,
     desk: &mut OneDesk<'a, H>,
-    lanes: (OwnLane<OfHall<H>>, OwnLane<OfHall<H>>, OwnLane<OfHall<H>>),
+    lanes: (
+        OwnLane<OfBrand<H>>,
+        OwnLane<OfBrand<H>>,
+        OwnLane<OfBrand<H>>,
+    ),
 ) -> Option<bool> {
     let (mut first, mut second, mut third) = lanes;
     let is_muted = is_muted(rt, alloc, desk, &mut first, &mut third)?;
@@ -87,7 +91,7 @@ fn are_told<'a, H: Hall, R: Wait>(
 }
 
 /// The same, with lanes of these readers, over a desk without rows.
-fn is_played<'a, H: Hall, R: Wait>(
+fn is_played<'a, H: DeskBrand, R: Wait>(
     rt: &R,
     alloc: Global,
     desk: &mut OneDesk<'a, H>,
@@ -105,7 +109,7 @@ fn is_played<'a, H: Hall, R: Wait>(
 }
 
 /// The same, over a desk.
-fn scene<H: Hall + Send + Sync + 'static, R: Threads + Wait + Copy + Drop + Send + 'static>(
+fn scene<H: DeskBrand + Send + Sync + 'static, R: Threads + Wait + Copy + Drop + Send + 'static>(
     rt: &R,
     alloc: Global,
     log: &Log,

@@ -7,11 +7,11 @@ ghost use Rattle.media_workers.specs.LaneRuns.{LaneNow};
 ghost use Rattle.media_workers.specs.Bridges.{AreNew};
 
 use crate::items::FitItem;
-use crate::told::{OfHall, Told};
+use crate::told::{OfBrand, Told};
 use bridge_core::{Egress, LaneState, Settings};
 use bytes::Bytes;
 use media_workers::{HandleFault, Lane, PublisherName};
-use operator_desk::Hall;
+use operator_desk::DeskBrand;
 use std::alloc::{AllocError, Global};
 use std::marker::PhantomData;
 use versions::LaneReader;
@@ -32,7 +32,7 @@ fn state(alloc: Global, lane: u32, lanes: u32) -> Result<LaneState, AllocError>
 }
 
 /// The lanes of a bridge, one for each of up to 16 readers.
-pub fn lanes<H: Hall>(alloc: Global, readers: Vec<LaneReader>) -> Result<Vec<Lane>, AllocError>
+pub fn lanes<H: DeskBrand>(alloc: Global, readers: Vec<LaneReader>) -> Result<Vec<Lane>, AllocError>
     requires readers { All (λ reader. reader ≡ new_reader H.publisher H.start) readers.items }
     ensures new { IfOk result (λ lanes. AreNew lanes.items) }
     ensures publisher { IfOk result (λ lanes.
@@ -57,7 +57,7 @@ pub fn lanes<H: Hall>(alloc: Global, readers: Vec<LaneReader>) -> Result<Vec<Lan
 }
 
 /// The last reader. It leaves the list.
-fn last_of<H: Hall>(readers: &mut Vec<LaneReader>) -> Option<LaneReader>
+fn last_of<H: DeskBrand>(readers: &mut Vec<LaneReader>) -> Option<LaneReader>
     requires { All (λ reader. reader ≡ new_reader H.publisher H.start) readers.old.items }
     ensures taken { IfSome result (λ reader. reader ≡ new_reader H.publisher H.start) }
     ensures left { All (λ reader. reader ≡ new_reader H.publisher H.start) readers.new.items }
@@ -74,7 +74,10 @@ pub struct OwnLane<N: PublisherName> {
 }
 
 /// The only lane of a bridge, with the last one of the readers.
-pub fn own_lane<H: Hall>(alloc: Global, readers: &mut Vec<LaneReader>) -> Option<OwnLane<OfHall<H>>>
+pub fn own_lane<H: DeskBrand>(
+    alloc: Global,
+    readers: &mut Vec<LaneReader>,
+) -> Option<OwnLane<OfBrand<H>>>
     requires { All (λ reader. reader ≡ new_reader H.publisher H.start) readers.old.items }
     ensures { All (λ reader. reader ≡ new_reader H.publisher H.start) readers.new.items }
 {

@@ -57,6 +57,6 @@ mod together;
 #[cfg(test)]
 mod told;
 #[cfg(test)]
-mod unrung;
+mod unsignalled;
 #[cfg(test)]
 mod waiting;

@@ -14,10 +14,10 @@ use crate::paces::{Asked, Counted};
 use crate::running::{Ends, Running};
 use crate::stage::OneDesk;
 use crate::streams::{Sort, has, is_beginning};
-use crate::told::{OfHall, Told};
+use crate::told::{OfBrand, Told};
 use bridge_core::Egress;
 use media_workers::{Pace, PublisherName, Sink};
-use operator_desk::{DeskNames, Hall, Log};
+use operator_desk::{DeskBrand, DeskNames, Log};
 use std::alloc::Global;
 use std::marker::Brand;
 use std::sync::{Arc, Wait};
@@ -84,11 +84,11 @@ fn give_round<N: PublisherName>(
 }
 
 /// Plays all rounds, and gathers what the lanes send. False where a call or a parcel is refused.
-fn play_all<'a, H: Hall, R: Wait>(
+fn play_all<'a, H: DeskBrand, R: Wait>(
     rt: &R,
     alloc: Global,
     desk: &mut OneDesk<'a, H>,
-    running: &mut Running<OfHall<H>, Counted>,
+    running: &mut Running<OfBrand<H>, Counted>,
     asked: &Vec<Arc<Asked, Global>>,
     gathered: &mut Gathered,
 ) -> bool {
@@ -140,11 +140,11 @@ fn has_all_sorts(sent: &Vec<Egress>) -> bool {
 }
 
 /// Sets the desk up, plays all rounds on the lanes, and compares.
-fn is_played<'a, H: Hall, R: Threads + Wait>(
+fn is_played<'a, H: DeskBrand, R: Threads + Wait>(
     rt: &R,
     alloc: Global,
     desk: &mut OneDesk<'a, H>,
-    running: Running<OfHall<H>, Counted>,
+    running: Running<OfBrand<H>, Counted>,
     asked: &Vec<Arc<Asked, Global>>,
 ) -> bool {
     let mut running = running;
@@ -167,7 +167,7 @@ fn is_played<'a, H: Hall, R: Threads + Wait>(
 }
 
 /// The same, with lanes that are started for it.
-fn is_started<'a, H: Hall + Send + Sync + 'static, R: Threads + Wait + Copy + Send + 'static>(
+fn is_started<'a, H: DeskBrand + Send + Sync + 'static, R: Threads + Wait + Copy + Send + 'static>(
     rt: &R,
     alloc: Global,
     desk: &mut OneDesk<'a, H>,
@@ -182,7 +182,7 @@ fn is_started<'a, H: Hall + Send + Sync + 'static, R: Threads + Wait + Copy + Se
 }
 
 /// The same, over a desk.
-fn scene<H: Hall + Send + Sync + 'static, R: Threads + Wait + Copy + Drop + Send + 'static>(
+fn scene<H: DeskBrand + Send + Sync + 'static, R: Threads + Wait + Copy + Drop + Send + 'static>(
     rt: &R,
     alloc: Global,
     log: &Log,

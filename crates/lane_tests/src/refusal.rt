@@ -10,10 +10,10 @@ use crate::items::FitItem;
 use crate::paces::{Asked, Counted};
 use crate::running::{Ends, Running};
 use crate::stage::OneDesk;
-use crate::told::OfHall;
+use crate::told::OfBrand;
 use bridge_core::Item;
 use media_workers::{HandleFault, LaneItem, Pace, PublisherName};
-use operator_desk::{DeskNames, Hall, Log};
+use operator_desk::{DeskBrand, DeskNames, Log};
 use std::alloc::Global;
 use std::marker::Brand;
 use std::sync::{Arc, Wait};
@@ -55,7 +55,7 @@ fn are_as_wanted<N: PublisherName>(ends: &Ends<N>) -> bool {
 }
 
 /// Each lane handles a tick. Then the desk ends, and the first lane is given another.
-fn is_refused<'a, H: Hall, N: PublisherName, P: Pace, R: Threads + Wait>(
+fn is_refused<'a, H: DeskBrand, N: PublisherName, P: Pace, R: Threads + Wait>(
     rt: &R,
     running: Running<N, P>,
     desk: OneDesk<'a, H>,
@@ -78,10 +78,10 @@ fn is_refused<'a, H: Hall, N: PublisherName, P: Pace, R: Threads + Wait>(
 }
 
 /// Two lanes, and what they are asked.
-type Started<H> = (Running<OfHall<H>, Counted>, Vec<Arc<Asked, Global>>);
+type Started<H> = (Running<OfBrand<H>, Counted>, Vec<Arc<Asked, Global>>);
 
 /// The two lanes, and what they are asked.
-fn started<H: Hall + Send + Sync + 'static, R: Threads + Wait + Copy + Send + 'static>(
+fn started<H: DeskBrand + Send + Sync + 'static, R: Threads + Wait + Copy + Send + 'static>(
     rt: &R,
     alloc: Global,
     readers: Vec<LaneReader>,
@@ -95,7 +95,7 @@ fn started<H: Hall + Send + Sync + 'static, R: Threads + Wait + Copy + Send + 's
 }
 
 /// The same, over a desk.
-fn scene<H: Hall + Send + Sync + 'static, R: Threads + Wait + Copy + Drop + Send + 'static>(
+fn scene<H: DeskBrand + Send + Sync + 'static, R: Threads + Wait + Copy + Drop + Send + 'static>(
     rt: &R,
     alloc: Global,
     log: &Log,

@@ -10,10 +10,10 @@ use crate::paces::Held;
 use crate::rows::set_up;
 use crate::running::{Ends, Running};
 use crate::stage::OneDesk;
-use crate::told::{OfHall, Told};
+use crate::told::{OfBrand, Told};
 use bridge_core::Item;
 use media_workers::{LaneItem, Pace, Parcel, PublisherName};
-use operator_desk::{DeskNames, Hall, Log};
+use operator_desk::{DeskBrand, DeskNames, Log};
 use std::alloc::Global;
 use std::marker::Brand;
 use std::sync::atomic::{AtomicBool, Ordering};
@@ -105,11 +105,11 @@ fn held(alloc: Global, gate: &Arc<AtomicBool, Global>) -> Option<Vec<Held>> {
 }
 
 /// The same, with a lane that is started for it.
-fn is_held<H: Hall + Send + Sync + 'static, R: Threads + Wait + Copy + Send + 'static>(
+fn is_held<H: DeskBrand + Send + Sync + 'static, R: Threads + Wait + Copy + Send + 'static>(
     rt: &R,
     alloc: Global,
     readers: Vec<LaneReader>,
-    told: Told<OfHall<H>>,
+    told: Told<OfBrand<H>>,
 ) -> bool
     requires { All (λ reader. reader ≡ new_reader H.publisher H.start) readers.items }
 {
@@ -126,7 +126,7 @@ fn is_held<H: Hall + Send + Sync + 'static, R: Threads + Wait + Copy + Send + 's
 }
 
 /// The same, over a desk that is set up.
-fn scene<H: Hall + Send + Sync + 'static, R: Threads + Wait + Copy + Drop + Send + 'static>(
+fn scene<H: DeskBrand + Send + Sync + 'static, R: Threads + Wait + Copy + Drop + Send + 'static>(
     rt: &R,
     alloc: Global,
     log: &Log,

@@ -11,10 +11,10 @@ use crate::paces::{Asked, Counted, StopsAt};
 use crate::rows::{FIRST, SECOND, frame, set_up};
 use crate::stage::OneDesk;
 use crate::streams::is_packet;
-use crate::told::{OfHall, Told};
+use crate::told::{OfBrand, Told};
 use bridge_core::Egress;
 use media_workers::{FitParcels, Pace, Parcel, PublisherName};
-use operator_desk::{DeskNames, Hall, Log};
+use operator_desk::{DeskBrand, DeskNames, Log};
 use rtrb::{Consumer, Producer, RingBuffer};
 use std::alloc::Global;
 use std::marker::Brand;
@@ -110,11 +110,11 @@ fn is_stopped<N: PublisherName, R: Wait>(
 }
 
 /// Whether the lane runs as it has to over a filled ring.
-fn is_run<H: Hall, R: Wait>(
+fn is_run<H: DeskBrand, R: Wait>(
     rt: &R,
     alloc: Global,
     readers: Vec<LaneReader>,
-    told: Told<OfHall<H>>,
+    told: Told<OfBrand<H>>,
     stops_at: Option<u64>,
 ) -> Option<bool>
     requires { All (λ reader. reader ≡ new_reader H.publisher H.start) readers.items }
@@ -129,7 +129,7 @@ fn is_run<H: Hall, R: Wait>(
 }
 
 /// The same, over a desk that is set up.
-fn scene<H: Hall + Send + Sync + 'static, R: Threads + Wait + Copy + Drop + Send + 'static>(
+fn scene<H: DeskBrand + Send + Sync + 'static, R: Threads + Wait + Copy + Drop + Send + 'static>(
     rt: &R,
     alloc: Global,
     log: &Log,

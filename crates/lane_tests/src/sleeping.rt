@@ -1,4 +1,4 @@
-//! A lane that sleeps by its bell.
+//! A lane that sleeps by its signal.
 
 ghost use Rattle.std.specs.Prelude.{◌≡◌, All};
 ghost use Rattle.desk_rows.specs.Desk.{blank as no_rows};
@@ -10,10 +10,9 @@ use crate::running::{Ends, Running};
 use crate::stage::OneDesk;
 use crate::streams::is_packet;
 use crate::together::next;
-use crate::told::{OfHall, Told};
-use lane_bell::{Bell, Rouse, Rung};
-use media_workers::{Pace, PublisherName};
-use operator_desk::{DeskNames, Hall, Log};
+use crate::told::{OfBrand, Told};
+use media_workers::{BeforeSleep, Pace, PublisherName, Signal, SleepPace};
+use operator_desk::{DeskBrand, DeskNames, Log};
 use std::alloc::Global;
 use std::marker::Brand;
 use std::sync::atomic::{AtomicU64, Ordering};
@@ -29,16 +28,16 @@ struct Sleeps {
     times: Arc<AtomicU64, Global>,
 }
 
-impl Rouse for Sleeps {
-    fn rouse(&self) {
+impl BeforeSleep for Sleeps {
+    fn before_sleep(&self) {
         self.times.fetch_add(1, Ordering::SeqCst);
     }
 }
 
-/// A lane's bell, and how often the lane went to sleep.
+/// A lane's signal, and how often the lane went to sleep.
 #[derive(Drop)]
 struct Bed {
-    bell: Arc<Bell, Global>,
+    signal: Arc<Signal, Global>,
     times: Arc<AtomicU64, Global>,
 }
 
@@ -66,7 +65,7 @@ fn wake<N: PublisherName, P: Pace, R: Wait>(
         None => false,
     };
     if is_given {
-        bed.bell.ring(rt, 1);
+        bed.signal.raise(rt, 1);
     }
     is_given
 }
@@ -86,7 +85,7 @@ fn is_handled<N: PublisherName>(ends: &Ends<N>) -> bool {
     }
 }
 
-/// Whether the lane sleeps, wakes for a parcel, sleeps again, and ends once its bell is open.
+/// Whether the lane sleeps, wakes for a parcel, sleeps again, and ends once its signal is open.
 fn sleeps_well<N: PublisherName, P: Pace, R: Threads + Wait>(
     rt: &R,
     alloc: Global,
@@ -102,46 +101,50 @@ fn sleeps_well<N: PublisherName, P: Pace, R: Threads + Wait>(
         wait_for_sleep(rt, bed, 2);
     }
     let times = bed.times.load(Ordering::SeqCst);
-    bed.bell.open(rt);
+    bed.signal.open(rt);
     let ends = running.close(rt);
     is_sent && times == 2 && is_handled(&ends)
 }
 
-/// A bell and a count.
+/// A signal and a count.
 fn made_bed(alloc: Global) -> Option<Bed> {
-    let bell = Arc::new(alloc, Bell::new()).ok()?;
+    let signal = Arc::new(alloc, Signal::new()).ok()?;
     let times = Arc::new(alloc, AtomicU64::new(0)).ok()?;
-    Some(Bed { bell, times })
+    Some(Bed { signal, times })
 }
 
-/// The pace of the bell.
-fn paces<R: Wait + Copy + Drop>(rt: &R, alloc: Global, bed: &Bed) -> Option<Vec<Rung<R, Sleeps>>> {
-    let bell = Arc::try_clone(&bed.bell).ok()?;
+/// The pace of the signal.
+fn paces<R: Wait + Copy + Drop>(
+    rt: &R,
+    alloc: Global,
+    bed: &Bed,
+) -> Option<Vec<SleepPace<R, Sleeps>>> {
+    let signal = Arc::try_clone(&bed.signal).ok()?;
     let times = Arc::try_clone(&bed.times).ok()?;
     let mut paces = Vec::new(alloc);
-    paces.push(Rung::by(*rt, bell, Sleeps { times })).ok()?;
+    paces
+        .push(SleepPace::by(*rt, signal, Sleeps { times }))
+        .ok()?;
     Some(paces)
 }
 
-/// The same, with a lane that is started for it. Its bell is closed before, so that it also sleeps before its first
+/// The same, with a lane that is started for it. Its signal is closed before, so that it also sleeps before its first
 /// parcel.
-fn is_started<H: Hall + Send + Sync + 'static, R: Threads + Wait + Copy + Drop + Send + 'static>(
-    rt: &R,
-    alloc: Global,
-    readers: Vec<LaneReader>,
-    told: Told<OfHall<H>>,
-) -> Option<bool>
+fn is_started<
+    H: DeskBrand + Send + Sync + 'static,
+    R: Threads + Wait + Copy + Drop + Send + 'static,
+>(rt: &R, alloc: Global, readers: Vec<LaneReader>, told: Told<OfBrand<H>>) -> Option<bool>
     requires { All (λ reader. reader ≡ new_reader H.publisher H.start) readers.items }
 {
     let bed = made_bed(alloc)?;
-    bed.bell.close(rt);
+    bed.signal.close(rt);
     let paces = paces(rt, alloc, &bed)?;
-    let running = begun::<H, Rung<R, Sleeps>, R>(rt, alloc, readers, paces)?;
+    let running = begun::<H, SleepPace<R, Sleeps>, R>(rt, alloc, readers, paces)?;
     Some(sleeps_well(rt, alloc, running, &bed, told))
 }
 
 /// The same, over a desk that is set up.
-fn scene<H: Hall + Send + Sync + 'static, R: Threads + Wait + Copy + Drop + Send + 'static>(
+fn scene<H: DeskBrand + Send + Sync + 'static, R: Threads + Wait + Copy + Drop + Send + 'static>(
     rt: &R,
     alloc: Global,
     log: &Log,
@@ -166,10 +169,10 @@ fn scene<H: Hall + Send + Sync + 'static, R: Threads + Wait + Copy + Drop + Send
     }
 }
 
-/// A lane sleeps by its bell until it is rung for a parcel, handles it, and sleeps again. Once the bell is open it
-/// takes its `End`.
+/// A lane sleeps by its signal until it is raised for a parcel, handles it, and sleeps again. Once the signal is open
+/// it takes its `End`.
 #[test]
-fn a_lane_sleeps_by_its_bell(rt: HostRuntime) -> Result<(), Fail> {
+fn a_lane_sleeps_by_its_signal(rt: HostRuntime) -> Result<(), Fail> {
     let alloc = rt.alloc();
     let log = Log::new(alloc)?;
     assert!(rt; scene::<Brand, _>(&rt, alloc, &log, DeskNames::new(1)));

@@ -4,10 +4,10 @@ ghost use Rattle.std.specs.Prelude.{◌≡◌, All, IfSome};
 ghost use Rattle.desk_rows.specs.Desk.{blank as no_rows};
 ghost use Rattle.versions.specs.Published.{new_reader};
 
-use crate::told::{OfHall, Told};
+use crate::told::{OfBrand, Told};
 use desk_edit::{Call, Command, Form};
 use desk_rows::{Kind, Rows};
-use operator_desk::{Answer, DeskNames, Hall, Log, Seat, SharedDesk};
+use operator_desk::{Answer, DeskBrand, DeskNames, Log, Seat, SharedDesk};
 use std::alloc::Global;
 use std::sync::Wait;
 use versions::LaneReader;
@@ -41,12 +41,12 @@ fn are_only(rows: &Rows, put: &[Command]) -> bool {
 }
 
 /// A desk with one operator. It is not `Drop`: end it by [`OneDesk::end`].
-pub struct OneDesk<'a, H: Hall> {
+pub struct OneDesk<'a, H: DeskBrand> {
     desk: SharedDesk<'a, H>,
     seat: Seat<'a, H>,
 }
 
-impl<'a, H: Hall> OneDesk<'a, H> {
+impl<'a, H: DeskBrand> OneDesk<'a, H> {
     /// A desk without rows over a log in which nothing is written, and readers of what it publishes.
     pub fn open<R: Wait>(
         rt: &R,
@@ -80,7 +80,7 @@ impl<'a, H: Hall> OneDesk<'a, H> {
         rt: &R,
         alloc: Global,
         command: Command,
-    ) -> Option<Told<OfHall<H>>> {
+    ) -> Option<Told<OfBrand<H>>> {
         match self
             .desk
             .call(rt, alloc, &mut self.seat, Call::Apply(command))
@@ -101,7 +101,7 @@ impl<'a, H: Hall> OneDesk<'a, H> {
     }
 
     /// The notice of what is published now.
-    pub fn notice<R: Wait>(&self, rt: &R) -> Told<OfHall<H>> {
+    pub fn notice<R: Wait>(&self, rt: &R) -> Told<OfBrand<H>> {
         Told::new(self.desk.notice(rt))
     }
 

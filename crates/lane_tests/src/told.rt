@@ -3,16 +3,16 @@
 ghost use Rattle.std.specs.Prelude.{◌≡◌};
 
 use media_workers::PublisherName;
-use operator_desk::Hall;
+use operator_desk::DeskBrand;
 use std::marker::PhantomData;
 use versions::Notice;
 
-/// The publisher of a desk, by its hall.
-pub struct OfHall<H: Hall> {
+/// The publisher of a desk, by its brand.
+pub struct OfBrand<H: DeskBrand> {
     _hall: PhantomData<H>,
 }
 
-impl<H: Hall> PublisherName for OfHall<H> {
+impl<H: DeskBrand> PublisherName for OfBrand<H> {
     ghost publisher = { H.publisher };
 }
 

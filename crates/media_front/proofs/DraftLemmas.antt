@@ -1,13 +1,13 @@
 -- Drafts of an address, step by step.
 use Rattle.std.proofs.Common.{◌≡◌, List, ◌∷◌, map, sym, ap, subst, ◌∙◌}
 use Rattle.std.specs.List.{AllByRecursion}
-use Rattle.flood_guard.specs.declared.account.Account.{Account}
-use Rattle.flood_guard.specs.Drafts.{DraftOf}
+use Rattle.rate_limiter.specs.declared.bucket.Bucket.{Bucket}
+use Rattle.rate_limiter.specs.Drafts.{DraftOf}
 
--- what was done with a draft, and then more, is of the same address and the same accounts before
-pub still : (first here next : DraftOf) (accounts : List Account) → here ≡ record first { after = here.after } → next ≡ record here { after = accounts } → next ≡ record first { after = next.after }
-still first here next accounts same more =
-    more ∙ ap (λ (d : DraftOf). record d { after = accounts }) same ∙ ap (λ (a : List Account). record first { after = a }) (sym (ap (λ (d : DraftOf). d.after) more))
+-- what was done with a draft, and then more, is of the same address and the same buckets before
+pub still : (first here next : DraftOf) (buckets : List Bucket) → here ≡ record first { after = here.after } → next ≡ record here { after = buckets } → next ≡ record first { after = next.after }
+still first here next buckets same more =
+    more ∙ ap (λ (d : DraftOf). record d { after = buckets }) same ∙ ap (λ (a : List Bucket). record first { after = a }) (sym (ap (λ (d : DraftOf). d.after) more))
 
 -- what holds of all that is left holds of the next one and of the rest
 pub next_one : {X Y : Type 0} (P : Y → Type 0) (f : X → Y) (left rest : List X) (x : X) → left ≡ x ∷ rest → AllByRecursion P (map f left) → P (f x) × AllByRecursion P (map f rest)

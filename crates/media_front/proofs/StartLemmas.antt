@@ -6,12 +6,12 @@ use Rattle.versions.specs.Published.{NoticeOf}
 use Rattle.upward.specs.Upstream.{Asker}
 use Rattle.media_workers.specs.LaneRuns.{LaneNow}
 use Rattle.media_workers.specs.Ports.{port_of}
-use Rattle.media_front.specs.declared.tally.Tally.{Tally}
+use Rattle.media_front.specs.declared.lane_status.LaneStatus.{LaneStatus}
 use Rattle.media_front.specs.FedLanes.{IsFresh, lanes_in}
-use Rattle.media_front.specs.inner.Tallies.{fresh_tally, lane_by, lanes_by, AreOf}
+use Rattle.media_front.specs.inner.Statuses.{fresh_status, lane_by, lanes_by, AreOf}
 
 -- the lanes are those that were handed in
-pub lanes_started : {P S : Type 0} (lanes : List LaneNow) (outfits : List (P × S)) (ts : List Tally) → length outfits ≡ length lanes → length ts ≡ length lanes
+pub lanes_started : {P S : Type 0} (lanes : List LaneNow) (outfits : List (P × S)) (ts : List LaneStatus) → length outfits ≡ length lanes → length ts ≡ length lanes
     → lanes_in (lanes_by (map (λ x. port_of x.0 (x.1).0 (x.1).1) (zip lanes outfits)) ts) ≡ lanes
 lanes_started [] outfits ts one two = refl
 lanes_started (l ∷ lanes) [] ts one two = absurd (omega (arith, one))
@@ -19,13 +19,13 @@ lanes_started (l ∷ lanes) (o ∷ outfits) [] one two = absurd (omega (arith, t
 lanes_started (l ∷ lanes) (o ∷ outfits) (t ∷ ts) one two = ap (λ (ls : List LaneNow). l ∷ ls) (lanes_started lanes outfits ts (omega (arith, one)) (omega (arith, two)))
 
 -- none was given anything
-pub fresh_started : {P S : Type 0} (lanes : List LaneNow) (outfits : List (P × S)) (ts : List Tally) → All (λ (t : Tally). t ≡ fresh_tally) ts
+pub fresh_started : {P S : Type 0} (lanes : List LaneNow) (outfits : List (P × S)) (ts : List LaneStatus) → All (λ (t : LaneStatus). t ≡ fresh_status) ts
     → AllByRecursion IsFresh (lanes_by (map (λ x. port_of x.0 (x.1).0 (x.1).1) (zip lanes outfits)) ts)
 fresh_started [] outfits ts all = tt
 fresh_started (l ∷ lanes) [] ts all = tt
 fresh_started (l ∷ lanes) (o ∷ outfits) [] all = tt
 fresh_started {P} {S} (l ∷ lanes) (o ∷ outfits) (t ∷ ts) all = (
-  ap (λ (u : Tally). lane_by (port_of l o.0 o.1) u) (all 0 t (omega arith)),
+  ap (λ (u : LaneStatus). lane_by (port_of l o.0 o.1) u) (all 0 t (omega arith)),
   fresh_started lanes outfits ts (λ k d low. all (suc k) d (omega (arith, low))),
 )
 
@@ -45,8 +45,8 @@ All_mapped R f [] all k d low = absurd (omega (arith, low))
 All_mapped R f (x ∷ xs) all zero d low = all 0 (f x) (omega arith)
 All_mapped R f (x ∷ xs) all (suc k) d low = All_mapped R f xs (λ j e less. all (suc j) e (omega (arith, less))) k d (omega (arith, low))
 
-pub fresh_of : (book : Book) (ts : List Tally) → All (λ (t : Tally). t ≡ fresh_tally) ts → AreOf book ts
-fresh_of book ts all k d low = subst (λ (t : Tally). IfSome t.owed (λ (n : NoticeOf). n.publisher ≡ book)) (sym (all k d low)) (tt {0})
+pub fresh_of : (book : Book) (ts : List LaneStatus) → All (λ (t : LaneStatus). t ≡ fresh_status) ts → AreOf book ts
+fresh_of book ts all k d low = subst (λ (t : LaneStatus). IfSome t.owed (λ (n : NoticeOf). n.publisher ≡ book)) (sym (all k d low)) (tt {0})
 
 pub All_one : {X : Type 0} (P : X → Type 0) (x : X) → P x → All P (x ∷ [])
 All_one P x one zero d low = one

@@ -10,14 +10,14 @@ use Rattle.topology.proofs.KindRows.{source_rows}
 use Rattle.intake.specs.Ingested.{Ingested}
 use Rattle.intake.specs.Sources.{Origin}
 use Rattle.upward.specs.Upstream.{Asker}
-use Rattle.flood_guard.specs.declared.account.Account.{Account}
+use Rattle.rate_limiter.specs.declared.bucket.Bucket.{Bucket}
 use Rattle.udp_wire.specs.Attempts.{Attempt}
 use Rattle.media_front.specs.FedLanes.{FedLane, AllAreGiven}
 use Rattle.media_front.specs.Tries.{WereTried}
 use Rattle.media_front.specs.Paid.{paid_of}
 use Rattle.media_front.specs.Prices.{pli_octets}
 use Rattle.media_front.specs.Granted.{granted_of}
-use Rattle.media_front.specs.Fronts.{FrontOf, Arrival, HasHandled, once_earned, once_paid, once_asked}
+use Rattle.media_front.specs.Fronts.{FrontOf, Arrival, HasHandled, once_refilled, once_paid, once_asked}
 use Rattle.media_front.specs.Waits.{HasWaitedOnce, HaveWaited, HaveWaitedInPart, video_origin, video_origins}
 use Rattle.media_front.specs.inner.Origins.{origin_in}
 use Rattle.media_front.proofs.WaitLists.{folds_both, read_of_part, read_more, read_parts, deeper}
@@ -27,18 +27,18 @@ pub on_err : {A B C : Type 0} (r : Result A B) → C → OnErr r C
 on_err (Ok a) k = tt {0}
 on_err (Err b) k = k
 
--- what was done for a front is done for one with the same accounts, the same lanes and the same name
+-- what was done for a front is done for one with the same buckets, the same lanes and the same name
 pub handled_at : {P S : Type 0} (arrival : Arrival) (ingested : Ingested) (mid old new : FrontOf P S) (before after : Option (List Attempt))
-    → mid.guard ≡ old.guard → mid.feed ≡ old.feed → mid.intake.asker ≡ old.intake.asker
+    → mid.limiter ≡ old.limiter → mid.feed ≡ old.feed → mid.intake.asker ≡ old.intake.asker
     → HasHandled arrival ingested mid new before after → HasHandled arrival ingested old new before after
-handled_at {P} {S} arrival ingested mid old new before after guard feed asker h = record {
-  up = subst (λ (a : List Account). WereTried (paid_of ingested.up (once_earned arrival ingested a)) before after) guard h.up;
-  items = subst (λ (f : List (FedLane P S)). AllAreGiven (granted_of (pli_octets old.intake.asker) arrival.moment ingested.items (once_paid arrival ingested old.guard)) f new.feed) feed
-      (subst (λ (a : List Account). AllAreGiven (granted_of (pli_octets old.intake.asker) arrival.moment ingested.items (once_paid arrival ingested a)) mid.feed new.feed) guard
-      (subst (λ (who : Asker). AllAreGiven (granted_of (pli_octets who) arrival.moment ingested.items (once_paid arrival ingested mid.guard)) mid.feed new.feed) asker h.items));
-  guard = h.guard
-      ∙ (ap (λ (who : Asker). once_asked (pli_octets who) arrival ingested mid.guard) asker
-      ∙ ap (once_asked (pli_octets old.intake.asker) arrival ingested) guard);
+handled_at {P} {S} arrival ingested mid old new before after limiter feed asker h = record {
+  up = subst (λ (a : List Bucket). WereTried (paid_of ingested.up (once_refilled arrival ingested a)) before after) limiter h.up;
+  items = subst (λ (f : List (FedLane P S)). AllAreGiven (granted_of (pli_octets old.intake.asker) arrival.moment ingested.items (once_paid arrival ingested old.limiter)) f new.feed) feed
+      (subst (λ (a : List Bucket). AllAreGiven (granted_of (pli_octets old.intake.asker) arrival.moment ingested.items (once_paid arrival ingested a)) mid.feed new.feed) limiter
+      (subst (λ (who : Asker). AllAreGiven (granted_of (pli_octets who) arrival.moment ingested.items (once_paid arrival ingested mid.limiter)) mid.feed new.feed) asker h.items));
+  limiter = h.limiter
+      ∙ (ap (λ (who : Asker). once_asked (pli_octets who) arrival ingested mid.limiter) asker
+      ∙ ap (once_asked (pli_octets old.intake.asker) arrival ingested) limiter);
 }
 
 -- the origins of the video sources, row by row

@@ -8,14 +8,14 @@ use Rattle.media_workers.specs.declared.parcel.Parcel.TheVariants.{Work}
 use Rattle.media_workers.specs.Parcels.{item_in}
 use Rattle.media_workers.specs.LaneRuns.{LaneNow}
 use Rattle.media_workers.specs.Ports.{PortOf, port_of, accept}
-use Rattle.media_front.specs.Bells.{is_pressing, many_parcels}
+use Rattle.media_front.specs.Signals.{is_pressing, many_parcels}
 
--- a lane of a feed: its port, the notice that its next parcel carries, how many parcels it accepted since its bell was
--- rung, whether one of these presses, and how many parcels were dropped for it
+-- a lane of a feed: its port, the notice that its next parcel carries, how many parcels it accepted since its signal was
+-- raised last, whether one of these presses, and how many parcels were dropped for it
 pub record FedLane (P S : Type 0) : Type 0 where
   pub port : PortOf P S
   pub owed : Option NoticeOf
-  pub unrung : ℕ
+  pub unsignalled : ℕ
   pub pressed : Bool
   pub dropped : ℕ
 
@@ -33,19 +33,19 @@ lanes_in lanes = map (λ x. x.port.lane) lanes
 
 -- The lane was given nothing and is owed nothing.
 abbrev pub IsFresh : {P S : Type 0} → FedLane P S → Type 0
-IsFresh x = x ≡ record { port = port_of x.port.lane x.port.pace x.port.sink; owed = None; unrung = 0; pressed = false; dropped = 0 }
+IsFresh x = x ≡ record { port = port_of x.port.lane x.port.pace x.port.sink; owed = None; unsignalled = 0; pressed = false; dropped = 0 }
 
 -- the lane's next parcel carries this notice
 abbrev pub owing_notice : {P S : Type 0} → NoticeOf → FedLane P S → FedLane P S
 owing_notice notice x = record x { owed = Some notice }
 
--- the lane's bell is due: one of the parcels presses, or they are many
+-- the lane's signal is due: one of the parcels presses, or they are many
 abbrev pub is_due : {P S : Type 0} → FedLane P S → Bool
-is_due x = x.pressed || nat_le many_parcels x.unrung
+is_due x = x.pressed || nat_le many_parcels x.unsignalled
 
--- the lane's bell was rung for all that it accepted, if it was due
-abbrev pub rung : {P S : Type 0} → FedLane P S → FedLane P S
-rung x = if is_due x then record x { unrung = 0; pressed = false } else x
+-- the lane's signal was raised for all that it accepted, if it was due
+abbrev pub after_signal : {P S : Type 0} → FedLane P S → FedLane P S
+after_signal x = if is_due x then record x { unsignalled = 0; pressed = false } else x
 
 -- the lane accepted this item, in a parcel with the notice that it was owed, and is owed none from then on
 abbrev pub accepting : {P S : Type 0} → LaneItem → FedLane P S → FedLane P S
@@ -53,7 +53,7 @@ accepting item x =
     record {
       port = accept (Work item x.owed) x.port;
       owed = None;
-      unrung = one_more x.unrung;
+      unsignalled = one_more x.unsignalled;
       pressed = x.pressed || is_pressing (input_of (item_in item));
       dropped = x.dropped;
     }

@@ -16,11 +16,11 @@ use Rattle.media_front.specs.Waits.{silence}
 abbrev pub request_for : Asker → Origin → Ingested
 request_for who o = record { outcome = Unknown; up = picture_request who o ∷ []; items = [] }
 
--- The source of this origin was asked for a picture, or the request was not sent since its address had too little credit.
--- It is handled as an arrival of no octets that is no member's: it earns nothing, and costs its octets where it is sent.
+-- The source of this origin was asked for a picture, or the request was not sent since its address had too few tokens.
+-- It is handled as an arrival of no octets that is no member's: it refills nothing, and costs its octets where it is sent.
 pub record HasAsked {P S : Type 0} (o : Origin) (sent : Bool) (old new : FrontOf P S)
     (before after : Option (List Attempt)) : Type 0 where
   pub handled : (desk : Desk) (moment : ℕ)
       → HasHandled (silence desk o.address moment) (request_for old.intake.asker o) old new before after
-  pub answer : sent ≡ is_paid_for (picture_request old.intake.asker o) old.guard
-  pub same : new ≡ record old { guard = new.guard }
+  pub answer : sent ≡ is_paid_for (picture_request old.intake.asker o) old.limiter
+  pub same : new ≡ record old { limiter = new.limiter }

@@ -21,7 +21,7 @@ abbrev pub silence : Desk → Address → (moment : ℕ) → Arrival
 silence desk from moment = record { desk = desk; from = from; moment = moment; octets = [] }
 
 -- The intake had a wait of the source of this origin. It is handled as an arrival of no octets that is no member's: it
--- earns nothing, and what is sent costs its octets.
+-- refills nothing, and what is sent costs its octets.
 pub record HasWaited {P S : Type 0} (desk : Desk) (o : Origin) (moment : ℕ) (old new : FrontOf P S)
     (before after : Option (List Attempt)) : Type 0 where
   pub ingested : Ingested
@@ -51,7 +51,7 @@ OnWire P S = FrontOf P S × Option (List Attempt)
 pub record HasWaitedOnce {P S : Type 0} (desk : Desk) (moment : ℕ) (old : OnWire P S) (o : Origin) (new : OnWire P S)
     : Type 0 where
   pub waited : HasWaited desk o moment old.0 new.0 old.1 new.1
-  pub same : new.0 ≡ record old.0 { intake = new.0.intake; feed = new.0.feed; guard = new.0.guard }
+  pub same : new.0 ≡ record old.0 { intake = new.0.intake; feed = new.0.feed; limiter = new.0.limiter }
   pub asker : new.0.intake.asker ≡ old.0.intake.asker
 
 -- The sources of these origins have waited, each once and in this order, at this moment.

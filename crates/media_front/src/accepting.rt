@@ -135,7 +135,7 @@ impl<N: PublisherName, P: Pace, S: Sink> MediaFront<N, P, S> {
             (record { desk = rows.now; from = from.now; moment = moment; octets = octets.now })
             self.old.intake self.new.intake) }
         ensures same { self.new
-            ≡ record self.old { intake = self.new.intake; feed = self.new.feed; guard = self.new.guard } }
+            ≡ record self.old { intake = self.new.intake; feed = self.new.feed; limiter = self.new.limiter } }
         ensures asker { self.new.intake.asker ≡ self.old.intake.asker }
     {
         let before = self.epochs();

@@ -1,44 +1,43 @@
-//! The lanes of a bridge, each with its bell and with what it is owed.
+//! The lanes of a bridge, each with its signal and with what it is owed.
 
 ghost use Rattle.std.specs.Prelude.{◌≡◌, ◌<◌, ◌≤◌, length, map, Some, slice_get};
 ghost use Rattle.std.specs.Bool.{OnTrue};
 ghost use Rattle.bridge_core.specs.Calls.{most_lanes};
 ghost use Rattle.media_workers.specs.Bridges.{AllEnded};
-ghost use Rattle.media_front.specs.FedLanes.{FedLane, ports_in, owing_notice, rung};
+ghost use Rattle.media_front.specs.FedLanes.{FedLane, ports_in, owing_notice, after_signal};
 
-use crate::tally::{Tally, owe_all, ring_all};
-use lane_bell::Bell;
-use media_workers::{Bridge, LaneEnd, Pace, PublisherName, Sink};
+use crate::lane_status::{LaneStatus, owe_all, signal_all};
+use media_workers::{Bridge, LaneEnd, Pace, PublisherName, Signal, Sink};
 use std::alloc::Global;
 use std::marker::Model;
 use std::sync::{Arc, Wait};
 use std::thread::Threads;
 use versions::Notice;
 
-/// The lanes of a bridge, each with its bell, with the notice that it is owed and with how many parcels were dropped
+/// The lanes of a bridge, each with its signal, with the notice that it is owed and with how many parcels were dropped
 /// for it. It is not `Drop`: end it by [`LaneFeed::close`].
 ///
 /// Contracts see it as its lanes.
 pub struct LaneFeed<N: PublisherName, P: Pace, S: Sink> {
     pub(crate) bridge: Bridge<N, P, S>,
     /// One for each lane.
-    pub(crate) tallies: Vec<Tally>,
+    pub(crate) statuses: Vec<LaneStatus>,
     /// One for each lane.
-    pub(crate) bells: Vec<Arc<Bell, Global>>,
+    pub(crate) signals: Vec<Arc<Signal, Global>>,
 }
 
 impl<N: PublisherName, P: Pace, S: Sink> Model for LaneFeed<N, P, S> {
     ghost use Rattle.std.specs.Prelude.{◌≡◌, ◌<◌, ◌≤◌, List, length, vec_len};
     ghost use Rattle.bridge_core.specs.Calls.{most_lanes};
     ghost use Rattle.media_front.specs.FedLanes.{FedLane};
-    ghost use Rattle.media_front.specs.inner.Tallies.{lanes_by, AreOf};
+    ghost use Rattle.media_front.specs.inner.Statuses.{lanes_by, AreOf};
 
     ghost Value = { List (FedLane P S) };
 
-    ghost view = { λ f. lanes_by f.bridge f.tallies.items };
+    ghost view = { λ f. lanes_by f.bridge f.statuses.items };
 
-    ghost invariant = { λ f. (vec_len f.tallies ≡ length f.bridge) × (vec_len f.bells ≡ length f.bridge)
-        × (length f.bridge ≤ most_lanes) × AreOf N.publisher f.tallies.items };
+    ghost invariant = { λ f. (vec_len f.statuses ≡ length f.bridge) × (vec_len f.signals ≡ length f.bridge)
+        × (length f.bridge ≤ most_lanes) × AreOf N.publisher f.statuses.items };
 }
 
 impl<N: PublisherName, P: Pace, S: Sink> LaneFeed<N, P, S> {
@@ -47,7 +46,7 @@ impl<N: PublisherName, P: Pace, S: Sink> LaneFeed<N, P, S> {
         ensures count { result ≡ length self.now }
         ensures few { result ≤ most_lanes }
     {
-        self.tallies.len() as u32
+        self.statuses.len() as u32
     }
 
     /// How many parcels were dropped for a lane, since its ring had too few free places for them.
@@ -55,7 +54,7 @@ impl<N: PublisherName, P: Pace, S: Sink> LaneFeed<N, P, S> {
         requires lane { lane < length self.now }
         ensures { (x : FedLane _ _) → slice_get self.now lane ≡ Some x → result ≡ x.dropped }
     {
-        self.tallies[lane as usize].dropped
+        self.statuses[lane as usize].dropped
     }
 
     /// Each lane's next parcel carries this notice, in place of one that the lane was owed.
@@ -63,28 +62,28 @@ impl<N: PublisherName, P: Pace, S: Sink> LaneFeed<N, P, S> {
         requires publisher { notice.publisher ≡ N.publisher }
         ensures { self.new ≡ map (owing_notice notice) self.old }
     {
-        owe_all(&mut self.tallies, &notice);
+        owe_all(&mut self.statuses, &notice);
     }
 
-    /// Rings the bell of each lane that accepted something other than sound since it was rung, or 256 parcels: for all
-    /// that it accepted. So sound alone waits for the next tick.
-    pub fn ring<R: Wait>(&mut self, rt: &R)
-        ensures { self.new ≡ map rung self.old }
+    /// Raises the signal of each lane that accepted something other than sound since it was raised last, or 256
+    /// parcels: for all that it accepted. So sound alone waits for the next tick.
+    pub fn signal<R: Wait>(&mut self, rt: &R)
+        ensures { self.new ≡ map after_signal self.old }
     {
-        ring_all(rt, &self.bells, &mut self.tallies);
+        signal_all(rt, &self.signals, &mut self.statuses);
     }
 
-    /// Opens each bell, gives each lane its `End`, and waits for the lanes' threads.
+    /// Opens each signal, gives each lane its `End`, and waits for the lanes' threads.
     pub fn close<R: Threads + Wait>(self, rt: &R) -> Vec<LaneEnd<N, S>>
         ensures ended { AllEnded P.answers S.taken (ports_in self) result.items }
     {
         let LaneFeed {
             bridge,
-            tallies: _,
-            bells,
+            statuses: _,
+            signals,
         } = self;
-        for bell in &bells {
-            bell.open(rt);
+        for signal in &signals {
+            signal.open(rt);
         }
         bridge.close(rt)
     }

@@ -7,18 +7,18 @@ ghost use Rattle.bridge_core.specs.Calls.{most_lanes};
 ghost use Rattle.media_workers.specs.Bridges.{AllEnded};
 ghost use Rattle.udp_wire.specs.Pacing.{tick_gap, most_ticks, is_behind, report_due, after_report};
 ghost use Rattle.udp_wire.specs.declared.ending.FrontFault.TheVariants.{OutOfMemory as MemoryFault};
-ghost use Rattle.media_front.specs.FedLanes.{FedLane, ports_in, owing_notice, rung, AreGiven, AllAreGiven};
+ghost use Rattle.media_front.specs.FedLanes.{FedLane, ports_in, owing_notice, after_signal, AreGiven, AllAreGiven};
 ghost use Rattle.media_front.specs.Prices.{pli_octets};
 ghost use Rattle.media_front.specs.Tries.{WereTried};
 ghost use Rattle.media_front.specs.Fronts.{HasTaken, MayHaveTaken, HasReported, ticks_due, after_ticks, until_tick};
 
-use crate::beat::Beat;
 use crate::feed::LaneFeed;
+use crate::timer_item::TimerItem;
 use crate::trying::try_all;
 use bridge_core::{Intake, Outcome};
 use desk_rows::Rows;
-use flood_guard::FloodGuard;
 use media_workers::{LaneEnd, Pace, PublisherName, Sink};
+use rate_limiter::RateLimiter;
 use rtp_codec::Address;
 use std::alloc::Global;
 use std::marker::Model;
@@ -33,14 +33,14 @@ const TICK_GAP: u64 = 20_000_000;
 /// The most ticks that are made up for.
 const MOST_TICKS: u32 = 50;
 
-/// The front of a bridge whose lanes run on threads: the receive side, the lanes, the flood guard, and when ticks and
+/// The front of a bridge whose lanes run on threads: the receive side, the lanes, the rate limiter, and when ticks and
 /// reports are due. It is not `Drop`: end it by [`MediaFront::close`].
 ///
 /// Contracts see these five. Moments are nanoseconds since 1970.
 pub struct MediaFront<N: PublisherName, P: Pace, S: Sink> {
     pub(crate) intake: Intake,
     pub(crate) feed: LaneFeed<N, P, S>,
-    pub(crate) guard: FloodGuard,
+    pub(crate) limiter: RateLimiter,
     /// How many octets a PLI costs the address that it comes from.
     pub(crate) pli_cost: u64,
     ticks: Ticks,
@@ -57,7 +57,7 @@ impl<N: PublisherName, P: Pace, S: Sink> Model for MediaFront<N, P, S> {
     ghost view = { λ f. record {
       intake = f.intake;
       feed = f.feed;
-      guard = f.guard;
+      limiter = f.limiter;
       ticks = f.ticks;
       reports = f.reports;
     } };
@@ -71,7 +71,7 @@ impl<N: PublisherName, P: Pace, S: Sink> MediaFront<N, P, S> {
     pub fn new(
         intake: Intake,
         feed: LaneFeed<N, P, S>,
-        guard: FloodGuard,
+        limiter: RateLimiter,
         pli_cost: u64,
         reports: ReportTimer,
     ) -> Self
@@ -79,7 +79,7 @@ impl<N: PublisherName, P: Pace, S: Sink> MediaFront<N, P, S> {
         ensures { result ≡ record {
           intake = intake;
           feed = feed;
-          guard = guard;
+          limiter = limiter;
           ticks = record { start = reports.last; had = 0 };
           reports = reports;
         } }
@@ -87,7 +87,7 @@ impl<N: PublisherName, P: Pace, S: Sink> MediaFront<N, P, S> {
         Self {
             intake,
             feed,
-            guard,
+            limiter,
             pli_cost,
             ticks: Ticks {
                 start: reports.last,
@@ -107,12 +107,12 @@ impl<N: PublisherName, P: Pace, S: Sink> MediaFront<N, P, S> {
 
     /// Takes in a datagram that came from an address at a moment. The rows say whose it is. Then, in this order:
     ///
-    /// - A datagram of a member earns the credit of its octets.
+    /// - A datagram of a member refills the tokens of its octets.
     /// - The front tries to send what the intake asks the sender for, in order. Each of these datagrams costs its
-    ///   octets. One that its address has too little credit for is dropped.
-    /// - Every lane is given each item. A NACK keeps as many of its first numbers as the guard grants. A NACK, a report
-    ///   block or a PLI is left out if the guard grants it nothing. A PLI also costs its sender the octets that pass it
-    ///   on, and is left out if the sender has too little credit.
+    ///   octets. One that its address has too few tokens for is dropped.
+    /// - Every lane is given each item. A NACK keeps as many of its first numbers as the limiter grants. A NACK, a
+    ///   report block or a PLI is left out if the limiter grants it nothing. A PLI also costs its sender the octets
+    ///   that pass it on, and is left out if the sender has too few tokens.
     ///
     /// On out of memory, the only error, nothing is sent, and no lane is given an item. The intake may have taken the
     /// datagram in.
@@ -134,7 +134,7 @@ impl<N: PublisherName, P: Pace, S: Sink> MediaFront<N, P, S> {
             (record { desk = rows.now; from = from.now; moment = moment; octets = octets.now })
             self.old.intake self.new.intake) }
         ensures same { self.new
-            ≡ record self.old { intake = self.new.intake; feed = self.new.feed; guard = self.new.guard } }
+            ≡ record self.old { intake = self.new.intake; feed = self.new.feed; limiter = self.new.limiter } }
         ensures asker { self.new.intake.asker ≡ self.old.intake.asker }
     {
         let ingest = self.intake.datagram(alloc, rows, from, moment, octets)?;
@@ -179,14 +179,14 @@ impl<N: PublisherName, P: Pace, S: Sink> MediaFront<N, P, S> {
             let Some(moment) = self.ticks.due(now) else {
                 return;
             };
-            self.feed.give_beat(Beat::Tick { moment });
+            self.feed.give_timer_item(TimerItem::Tick { moment });
         }
     }
 
     /// Once the interval has passed since the last report or the start, tries to send the receiver reports, in order,
     /// and then gives every lane a report. Returns whether a report was due.
     ///
-    /// Reports cost no credit. They answer no datagram, and time bounds them.
+    /// Reports cost no tokens. They answer no datagram, and time bounds them.
     ///
     /// On out of memory, the only error, nothing changes and nothing is sent.
     pub fn report<W: Wire>(
@@ -201,7 +201,7 @@ impl<N: PublisherName, P: Pace, S: Sink> MediaFront<N, P, S> {
             (HasReported rows.now now self.old self.new (W.attempts wire.old) (W.attempts wire.new))
             ((self.new ≡ self.old) × (W.attempts wire.new ≡ W.attempts wire.old))) }
         ensures timer { IfOk result (λ due. self.new.reports ≡ after_report self.old.reports now) }
-        ensures same { self.new ≡ record self.new { guard = self.old.guard; ticks = self.old.ticks } }
+        ensures same { self.new ≡ record self.new { limiter = self.old.limiter; ticks = self.old.ticks } }
         ensures asker { self.new.intake.asker ≡ self.old.intake.asker }
         ensures err { OnErr result ((self.new ≡ self.old) × (W.attempts wire.new ≡ W.attempts wire.old)) }
     {
@@ -212,7 +212,7 @@ impl<N: PublisherName, P: Pace, S: Sink> MediaFront<N, P, S> {
         let up = self.intake.reports(alloc, rows, now)?;
         self.reports = timer;
         try_all(&up, wire);
-        self.feed.give_beat(Beat::Report { moment: now });
+        self.feed.give_timer_item(TimerItem::Report { moment: now });
         Ok(true)
     }
 
@@ -222,15 +222,15 @@ impl<N: PublisherName, P: Pace, S: Sink> MediaFront<N, P, S> {
         ensures given { AreGiven self.old.feed Input.renew self.new.feed }
         ensures same { self.new ≡ record self.old { feed = self.new.feed } }
     {
-        self.feed.give_beat(Beat::Renew);
+        self.feed.give_timer_item(TimerItem::Renew);
     }
 
-    /// Rings the bell of each lane that accepted something other than sound since it was rung, or 256 parcels: for all
-    /// that it accepted. So sound alone waits for the next tick.
-    pub fn ring<R: Wait>(&mut self, rt: &R)
-        ensures { self.new ≡ record self.old { feed = map rung self.old.feed } }
+    /// Raises the signal of each lane that accepted something other than sound since it was raised last, or 256
+    /// parcels: for all that it accepted. So sound alone waits for the next tick.
+    pub fn signal<R: Wait>(&mut self, rt: &R)
+        ensures { self.new ≡ record self.old { feed = map after_signal self.old.feed } }
     {
-        self.feed.ring(rt);
+        self.feed.signal(rt);
     }
 
     /// Whether any lane has ended. No contract speaks of the answer for lanes on threads.
@@ -254,14 +254,14 @@ impl<N: PublisherName, P: Pace, S: Sink> MediaFront<N, P, S> {
         self.feed.dropped(lane)
     }
 
-    /// Opens each bell, gives each lane its `End`, and waits for the lanes' threads.
+    /// Opens each signal, gives each lane its `End`, and waits for the lanes' threads.
     pub fn close<R: Threads + Wait>(self, rt: &R) -> Vec<LaneEnd<N, S>>
         ensures ended { AllEnded P.answers S.taken (ports_in self.feed) result.items }
     {
         let MediaFront {
             intake: _,
             feed,
-            guard: _,
+            limiter: _,
             pli_cost: _,
             ticks: _,
             reports: _,

@@ -6,13 +6,13 @@ ghost use Rattle.std.specs.List.{list_all};
 ghost use Rattle.media_items.specs.Inputs.{input_of, is_sized};
 ghost use Rattle.media_workers.specs.Parcels.{item_in};
 ghost use Rattle.media_front.specs.FedLanes.{FedLane, IsFed, dropping, AreGiven, AllAreGiven};
-ghost use Rattle.media_front.specs.inner.Beats.{input_at};
+ghost use Rattle.media_front.specs.inner.TimerItems.{input_at};
 ghost use Rattle.media_front.specs.inner.Shares.{input_shared};
 
-use crate::beat::Beat;
 use crate::feed::LaneFeed;
 use crate::offering::offer_item;
 use crate::pressing::is_pressing;
+use crate::timer_item::TimerItem;
 use bridge_core::Item;
 use media_workers::{LaneItem, Pace, PublisherName, Sink};
 use std::alloc::{AllocError, Global};
@@ -41,10 +41,10 @@ impl<N: PublisherName, P: Pace, S: Sink> LaneFeed<N, P, S> {
         ensures { (x : FedLane P S) → slice_get self.old lane ≡ Some x →
             (y : FedLane P S) × IsFed (input_of (item_in item)) x y × (self.new ≡ slice_set self.old lane y) }
     {
-        let notice = self.tallies[lane].notice();
+        let notice = self.statuses[lane].notice();
         let presses = is_pressing(item.item());
         let accepted = offer_item(&mut self.bridge, lane as u32, item, notice).is_ok();
-        self.tallies[lane].count(accepted, presses);
+        self.statuses[lane].count(accepted, presses);
     }
 
     /// Counts a parcel that was dropped for a lane.
@@ -53,7 +53,7 @@ impl<N: PublisherName, P: Pace, S: Sink> LaneFeed<N, P, S> {
         ensures { (x : FedLane P S) → slice_get self.old lane ≡ Some x →
             self.new ≡ slice_set self.old lane (dropping x) }
     {
-        self.tallies[lane].count(false, false);
+        self.statuses[lane].count(false, false);
     }
 
     /// Gives a lane a shared item, as `give_one` does. Only where 2^63 - 1 parcels share it, it counts as dropped.
@@ -91,12 +91,12 @@ impl<N: PublisherName, P: Pace, S: Sink> LaneFeed<N, P, S> {
     }
 
     /// Gives every lane an item of the front's own. It takes no memory.
-    pub(crate) fn give_beat(&mut self, beat: Beat)
-        ensures { AreGiven self.old (input_at beat) self.new }
+    pub(crate) fn give_timer_item(&mut self, timer_item: TimerItem)
+        ensures { AreGiven self.old (input_at timer_item) self.new }
     {
         let count = self.count() as usize;
         for lane in 0..count {
-            self.give_one(lane, LaneItem::Own(beat.item()));
+            self.give_one(lane, LaneItem::Own(timer_item.item()));
         }
     }
 }

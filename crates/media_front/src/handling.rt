@@ -16,8 +16,8 @@ use std::alloc::{AllocError, Global};
 use udp_wire::Wire;
 
 impl<N: PublisherName, P: Pace, S: Sink> MediaFront<N, P, S> {
-    /// Does what the intake answered to these octets, which came from an address at a moment: earns their credit, tries
-    /// to send what is paid for, and gives every lane what is granted of the items.
+    /// Does what the intake answered to these octets, which came from an address at a moment: refills their tokens,
+    /// tries to send what is paid for, and gives every lane what is granted of the items.
     ///
     /// On out of memory, the only error, nothing changes and nothing is sent.
     pub(crate) fn handle<W: Wire>(
@@ -34,14 +34,14 @@ impl<N: PublisherName, P: Pace, S: Sink> MediaFront<N, P, S> {
             (record { desk = desk; from = from.now; moment = moment; octets = octets.now }) (ingested_of ingest)
             self.old self.new (W.attempts wire.old) (W.attempts wire.new)) }
         ensures err { OnErr result ((self.new ≡ self.old) × (W.attempts wire.new ≡ W.attempts wire.old)) }
-        ensures same { self.new ≡ record self.old { feed = self.new.feed; guard = self.new.guard } }
+        ensures same { self.new ≡ record self.old { feed = self.new.feed; limiter = self.new.limiter } }
     {
         let received = Received {
             from: *from,
             moment,
             octets: octets.len() as u64,
         };
-        let planned = plan_for(alloc, &self.guard, self.pli_cost, received, ingest)?;
+        let planned = plan_for(alloc, &self.limiter, self.pli_cost, received, ingest)?;
         let Plan { ingest, draft } = planned;
         let Ingest {
             outcome: _,
@@ -49,7 +49,7 @@ impl<N: PublisherName, P: Pace, S: Sink> MediaFront<N, P, S> {
             items,
         } = ingest;
         let shared = share_all(alloc, items)?;
-        self.guard.put_back(draft)?;
+        self.limiter.put_back(draft)?;
         try_all(&up, wire);
         self.feed.hand_out_all(&shared);
         Ok(())

@@ -3,24 +3,23 @@
 //!
 //! Begin with [`LaneFeed::start`], which starts a lane for each reader of the published desk, and with
 //! [`MediaFront::new`]. In each round, [`MediaFront::tell`] takes the latest notice, [`MediaFront::take_in`] a
-//! datagram, [`MediaFront::tick`] and [`MediaFront::report`] the moment. Then [`MediaFront::ring`] wakes the lanes for
-//! what presses. [`MediaFront::until_tick`] says how long the next round may wait. The crate has no socket and no
+//! datagram, [`MediaFront::tick`] and [`MediaFront::report`] the moment. Then [`MediaFront::signal`] wakes the lanes
+//! for what presses. [`MediaFront::until_tick`] says how long the next round may wait. The crate has no socket and no
 //! clock.
 //!
 //! Contracts see a feed as its lanes: for each one its port of `media_workers`, the notice that it is owed, how many
-//! parcels it accepted since its bell was rung, whether one presses, and how many were dropped. They don't say when a
-//! parcel is dropped:
-//! [`places_left`] says how many places of a ring each kind of item leaves free for others.
+//! parcels it accepted since its signal was raised, whether one presses, and how many were dropped. They don't say when
+//! a parcel is dropped: [`places_left`] says how many places of a ring each kind of item leaves free for others.
 //!
 //! ```rust
-//! // readers, notice and rows: of a shared desk of the hall H; sinks: a `Sink` for each lane; wire: a `Wire`
+//! // readers, notice and rows: of a shared desk of the brand H; sinks: a `Sink` for each lane; wire: a `Wire`
 //! let intake = Intake::new(alloc, settings.try_clone()?)?;
-//! let guard = FloodGuard::new(alloc)?;
+//! let limiter = RateLimiter::new(alloc)?;
 //! let cost = pli_octets(alloc, &settings)?;
 //! let Ok(feed) = LaneFeed::<PublisherOf<H>, _, _>::start(rt, alloc, readers, &settings, sinks) else {
 //!     return println!(rt; "no lanes");
 //! };
-//! let mut media = MediaFront::new(intake, feed, guard, cost, ReportTimer::begin(5_000, start)); // reports every 5 s
+//! let mut media = MediaFront::new(intake, feed, limiter, cost, ReportTimer::begin(5_000, start)); // reports every 5 s
 //! media.renew(); // once, before anything else is given
 //! media.tell(notice);
 //! let (outcome, ended) = media.take_in(alloc, rows, &from, moment, octets, &mut wire)?; // from, at this moment
@@ -31,7 +30,7 @@
 //!     media.wait_all(alloc, rows, moment, &mut wire)?; // once for each whole 20 ms
 //! }
 //! let sent = media.ask_picture(alloc, &from, 101, &mut wire)?; // where a slot was given source 101
-//! media.ring(rt);
+//! media.signal(rt);
 //! let longest = media.until_tick(moment); // nanoseconds
 //! let fault = fault_of(&media.close(rt)); // None, unless a lane had a fault
 //! ```
@@ -42,13 +41,13 @@
 
 mod accepting;
 mod asking;
-mod beat;
 mod ends;
 mod feed;
 mod front;
 mod giving;
 mod granting;
 mod handling;
+mod lane_status;
 mod laws;
 mod naming;
 mod offering;
@@ -59,7 +58,7 @@ mod planning;
 mod pressing;
 mod pricing;
 mod starting;
-mod tally;
+mod timer_item;
 mod trying;
 mod waiting;
 mod watching;
@@ -73,5 +72,5 @@ pub use self::laws::{
 };
 pub use self::naming::PublisherOf;
 pub use self::offering::places_left;
-pub use self::paying::credit;
+pub use self::paying::refill_for;
 pub use self::pricing::pli_octets;

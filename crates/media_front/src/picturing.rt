@@ -12,7 +12,7 @@ use udp_wire::{FrontFault, Wire};
 
 impl<N: PublisherName, P: Pace, S: Sink> MediaFront<N, P, S> {
     /// Asks the sender of a video source for a picture, by a PLI (RFC 4585 section 6.3.1). The front tries to send it
-    /// if the address has credit for its octets. Returns whether it had.
+    /// if the address has tokens for its octets. Returns whether it had.
     ///
     /// Ask so where a slot was given the source: no picture can be seen before the next key frame. On out of memory,
     /// the only error, nothing changes and nothing is sent.
@@ -25,10 +25,10 @@ impl<N: PublisherName, P: Pace, S: Sink> MediaFront<N, P, S> {
     ) -> Result<bool, FrontFault>
         ensures asked { IfOk result (λ sent. HasAsked (record { address = to.now; ssrc = ssrc }) sent
             self.old self.new (W.attempts wire.old) (W.attempts wire.new)) }
-        ensures same { self.new ≡ record self.old { guard = self.new.guard } }
+        ensures same { self.new ≡ record self.old { limiter = self.new.limiter } }
         ensures err { OnErr result ((self.new ≡ self.old) × (W.attempts wire.new ≡ W.attempts wire.old)) }
     {
         let request = self.intake.picture_request(alloc, to, ssrc)?;
-        Ok(try_one(&mut self.guard, &request, wire))
+        Ok(try_one(&mut self.limiter, &request, wire))
     }
 }

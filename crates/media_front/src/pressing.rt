@@ -2,7 +2,7 @@
 
 ghost use Rattle.std.specs.Prelude.{◌≡◌};
 ghost use Rattle.media_items.specs.Inputs.{input_of};
-ghost use Rattle.media_front.specs.Bells.{is_pressing};
+ghost use Rattle.media_front.specs.Signals.{is_pressing};
 
 use bridge_core::Item;
 

@@ -1,4 +1,4 @@
-//! How lanes are started, each with a bell.
+//! How lanes are started, each with a signal.
 
 ghost use Rattle.std.specs.Prelude.{◌≡◌, ◌≤◌, ◌↔◌, true, [], Err, length, map, All, IfOk, vec_len};
 ghost use Rattle.std.specs.List.{AllByRecursion};
@@ -8,65 +8,64 @@ ghost use Rattle.bridge_core.specs.Calls.{most_lanes};
 ghost use Rattle.media_workers.specs.LaneRuns.{LaneNow};
 ghost use Rattle.media_workers.specs.Bridges.{AreNew};
 ghost use Rattle.media_front.specs.FedLanes.{lanes_in, IsFresh};
-ghost use Rattle.media_front.specs.inner.Tallies.{fresh_tally};
+ghost use Rattle.media_front.specs.inner.Statuses.{fresh_status};
 
 use crate::feed::LaneFeed;
-use crate::tally::Tally;
+use crate::lane_status::LaneStatus;
 use bridge_core::{LaneState, Settings};
-use lane_bell::{Bell, Rung};
-use media_workers::{Bridge, Lane, PublisherName, Sink, StartFault};
+use media_workers::{Bridge, Lane, PublisherName, Signal, Sink, SleepPace, StartFault};
 use std::alloc::{AllocError, Global};
 use std::sync::{Arc, Wait};
 use std::thread::Threads;
 use versions::LaneReader;
 
-/// The tallies of `count` lanes that were given nothing.
-fn tallies_for(alloc: Global, count: usize) -> Result<Vec<Tally>, AllocError>
-    ensures len { IfOk result (λ tallies. vec_len tallies ≡ count) }
-    ensures fresh { IfOk result (λ tallies. All (λ tally. tally ≡ fresh_tally) tallies.items) }
+/// The statuses of `count` lanes that were given nothing.
+fn statuses_for(alloc: Global, count: usize) -> Result<Vec<LaneStatus>, AllocError>
+    ensures len { IfOk result (λ statuses. vec_len statuses ≡ count) }
+    ensures fresh { IfOk result (λ statuses. All (λ status. status ≡ fresh_status) statuses.items) }
 {
-    let mut tallies = Vec::with_capacity(alloc, count)?;
+    let mut statuses = Vec::with_capacity(alloc, count)?;
     for _ in 0..count {
-        tallies.push_reserved(Tally::new());
+        statuses.push_reserved(LaneStatus::new());
     }
-    Ok(tallies)
+    Ok(statuses)
 }
 
-/// `count` bells.
-fn bells_for(alloc: Global, count: usize) -> Result<Vec<Arc<Bell, Global>>, AllocError>
-    ensures { IfOk result (λ bells. vec_len bells ≡ count) }
+/// `count` signals.
+fn signals_for(alloc: Global, count: usize) -> Result<Vec<Arc<Signal, Global>>, AllocError>
+    ensures { IfOk result (λ signals. vec_len signals ≡ count) }
 {
-    let mut bells = Vec::with_capacity(alloc, count)?;
+    let mut signals = Vec::with_capacity(alloc, count)?;
     for _ in 0..count {
-        bells.push_reserved(Arc::new(alloc, Bell::new())?);
+        signals.push_reserved(Arc::new(alloc, Signal::new())?);
     }
-    Ok(bells)
+    Ok(signals)
 }
 
-/// Closes each bell: each lane sleeps from its next parcel on.
-fn close_all<R: Wait>(rt: &R, bells: &Vec<Arc<Bell, Global>>) {
-    for bell in bells {
-        bell.close(rt);
+/// Closes each signal: each lane sleeps from its next parcel on.
+fn close_all<R: Wait>(rt: &R, signals: &Vec<Arc<Signal, Global>>) {
+    for signal in signals {
+        signal.close(rt);
     }
 }
 
-/// What each lane is started with beside itself: a pace by its bell, and its sink.
+/// What each lane is started with beside itself: a pace by its signal, and its sink.
 fn outfits_for<R: Wait + Copy + Drop, S: Sink>(
     rt: &R,
     alloc: Global,
-    bells: &[Arc<Bell, Global>],
+    signals: &[Arc<Signal, Global>],
     sinks: Vec<S>,
-) -> Result<Vec<(Rung<R, ()>, S)>, AllocError>
-    requires many { length bells.now ≡ vec_len sinks }
+) -> Result<Vec<(SleepPace<R, ()>, S)>, AllocError>
+    requires many { length signals.now ≡ vec_len sinks }
     requires untaken { All (λ (sink : S). S.taken sink ≡ []) sinks.items }
     ensures len { IfOk result (λ outfits. vec_len outfits ≡ vec_len sinks) }
     ensures untaken { IfOk result (λ outfits. All (λ x. S.taken x.1 ≡ []) outfits.items) }
 {
-    let mut outfits = Vec::with_capacity(alloc, bells.len())?;
+    let mut outfits = Vec::with_capacity(alloc, signals.len())?;
     let mut at = 0;
     for sink in sinks {
-        let bell = Arc::try_clone(&bells[at])?;
-        outfits.push_reserved((Rung::by(*rt, bell, ()), sink));
+        let signal = Arc::try_clone(&signals[at])?;
+        outfits.push_reserved((SleepPace::by(*rt, signal, ()), sink));
         at += 1;
     }
     Ok(outfits)
@@ -96,7 +95,7 @@ fn lanes_for(
     Ok(lanes)
 }
 
-impl<N, R, S> LaneFeed<N, Rung<R, ()>, S>
+impl<N, R, S> LaneFeed<N, SleepPace<R, ()>, S>
 where
     N: PublisherName + Send + Sync + 'static,
     R: Threads + Wait + Copy + Send + Drop + 'static,
@@ -130,13 +129,13 @@ where
             return Err(StartFault::Count);
         }
         let count = readers.len();
-        let Ok(tallies) = tallies_for(alloc, count) else {
+        let Ok(statuses) = statuses_for(alloc, count) else {
             return Err(StartFault::OutOfMemory);
         };
-        let Ok(bells) = bells_for(alloc, count) else {
+        let Ok(signals) = signals_for(alloc, count) else {
             return Err(StartFault::OutOfMemory);
         };
-        let Ok(outfits) = outfits_for(rt, alloc, &bells, sinks) else {
+        let Ok(outfits) = outfits_for(rt, alloc, &signals, sinks) else {
             return Err(StartFault::OutOfMemory);
         };
         let Ok(lanes) = lanes_for(alloc, readers, settings) else {
@@ -144,11 +143,11 @@ where
         };
         match Bridge::start(rt, alloc, lanes, outfits) {
             Ok(bridge) => {
-                close_all(rt, &bells);
+                close_all(rt, &signals);
                 Ok(LaneFeed {
                     bridge,
-                    tallies,
-                    bells,
+                    statuses,
+                    signals,
                 })
             }
             Err((_, fault)) => Err(fault),

@@ -18,8 +18,8 @@ impl<N: PublisherName, P: Pace, S: Sink> MediaFront<N, P, S> {
     /// video source of the desk, or [`MediaFront::wait_all`]. A wait asks for packets that are still missing, and gives
     /// up those that have been missing for long.
     ///
-    /// The front tries to send what the intake asks the member for, as far as its address has credit: it costs its
-    /// octets, and a wait earns none. Then every lane is given each frame that the wait sets free, with this moment.
+    /// The front tries to send what the intake asks the member for, as far as its address has tokens: it costs its
+    /// octets, and a wait refills none. Then every lane is given each frame that the wait sets free, with this moment.
     /// Nothing comes of a wait of any other source.
     ///
     /// On out of memory, the only error, nothing is sent, and no lane is given an item. The intake may have had the
@@ -40,12 +40,12 @@ impl<N: PublisherName, P: Pace, S: Sink> MediaFront<N, P, S> {
         ensures intake { OnErr result (MayHaveWaited rows.now (record { address = from.now; ssrc = ssrc }) moment
             self.old.intake self.new.intake) }
         ensures same { self.new
-            ≡ record self.old { intake = self.new.intake; feed = self.new.feed; guard = self.new.guard } }
+            ≡ record self.old { intake = self.new.intake; feed = self.new.feed; limiter = self.new.limiter } }
         ensures asker { self.new.intake.asker ≡ self.old.intake.asker }
     {
         let answer = self.intake.wait(alloc, rows, from, ssrc, moment)?;
         let WaitAnswer { up, items } = answer;
-        // A wait is no datagram: it earns as little as a stranger's.
+        // A wait is no datagram: it refills as little as a stranger's.
         let ingest = Ingest {
             outcome: Outcome::Unknown,
             up,
@@ -69,7 +69,7 @@ impl<N: PublisherName, P: Pace, S: Sink> MediaFront<N, P, S> {
         ensures err { OnErr result (HaveWaitedInPart rows.now now (option_to_list (origin_in rows.now row.now))
             self.old self.new (W.attempts wire.old) (W.attempts wire.new)) }
         ensures same { self.new
-            ≡ record self.old { intake = self.new.intake; feed = self.new.feed; guard = self.new.guard } }
+            ≡ record self.old { intake = self.new.intake; feed = self.new.feed; limiter = self.new.limiter } }
         ensures asker { self.new.intake.asker ≡ self.old.intake.asker }
     {
         match origin_in(rows, row) {
@@ -95,7 +95,7 @@ impl<N: PublisherName, P: Pace, S: Sink> MediaFront<N, P, S> {
         ensures err { OnErr result (HaveWaitedInPart rows.now now (video_origins rows.now)
             self.old self.new (W.attempts wire.old) (W.attempts wire.new)) }
         ensures same { self.new
-            ≡ record self.old { intake = self.new.intake; feed = self.new.feed; guard = self.new.guard } }
+            ≡ record self.old { intake = self.new.intake; feed = self.new.feed; limiter = self.new.limiter } }
         ensures asker { self.new.intake.asker ≡ self.old.intake.asker }
     {
         for row in rows.others_of(Kind::Source) {

@@ -1,7 +1,7 @@
 //! The signal of a lane, and its pace.
 
-use crate::signal_state::SignalState;
 use crate::pace::Pace;
+use crate::signal_state::SignalState;
 use std::alloc::Global;
 use std::sync::{Arc, Condvar, Mutex, MutexGuard, Wait};
 
@@ -66,7 +66,8 @@ impl Signal {
 
 /// A lane calls this before it goes to sleep.
 pub trait BeforeSleep {
-    /// The lane has handled all that its signal was raised for, and goes to sleep now. Until the call returns it handles nothing.
+    /// The lane has handled all that its signal was raised for, and goes to sleep now. Until the call returns it
+    /// handles nothing.
     fn before_sleep(&self);
 }
 
@@ -87,7 +88,11 @@ pub struct SleepPace<R: Wait + Drop, F: BeforeSleep + Drop> {
 impl<R: Wait + Drop, F: BeforeSleep + Drop> SleepPace<R, F> {
     /// A pace by this signal. The lane calls `sleeper` before it sleeps.
     pub fn by(rt: R, signal: Arc<Signal, Global>, sleeper: F) -> Self {
-        Self { rt, signal, sleeper }
+        Self {
+            rt,
+            signal,
+            sleeper,
+        }
     }
 }
 

@@ -18,7 +18,7 @@ use Rattle.operator_desk.specs.Entry.{EntryOf}
 use Rattle.operator_desk.specs.LegalLogs.{calls_of, after_log, IsLegal}
 use Rattle.operator_desk.specs.OwnCalls.{numbers, numbers_from}
 use Rattle.operator_desk.specs.Published.{AreDesks}
-use Rattle.operator_desk.specs.inner.Held.{HeldOf, IsHeld}
+use Rattle.operator_desk.specs.inner.DeskInner.{InnerOf, IsInner}
 
 calls-push : (log : List EntryOf) (e : EntryOf) → calls_of (log ++ e ∷ []) ≡ calls_of log ++ e.call ∷ []
 calls-push log e = map-append (λ (x : EntryOf). x.call) log (e ∷ [])
@@ -118,12 +118,12 @@ desks-push start log lists entry edits desks leads = record {
       ap (after_lists start) (take_all n (lists ++ edits ∷ []) (omega arith)) ∙ (fold_push after_list start lists edits ∙ (ap (λ d. after_list d edits) (desks-all start log lists desks) ∙ (leads ∙ ap (λ l. desk_now (after_log start l)) (sym (take_all n (log ++ entry ∷ []) (omega arith))))))
 
 -- the desk under the lock after one more call, whose edits were staged and published
-pub held-push : (start : Desk) (publisher : Book) (h new : HeldOf) (staged : PublisherOf) (entry : EntryOf) (edits : List EditOf)
-    → IsHeld start publisher h → refusal_of (after_log start h.log) entry.call ≡ None → HasCalled new.desk (after_call (after_log start h.log) entry.call) → after h.desk.desk edits ≡ new.desk.desk
+pub held-push : (start : Desk) (publisher : Book) (h new : InnerOf) (staged : PublisherOf) (entry : EntryOf) (edits : List EditOf)
+    → IsInner start publisher h → refusal_of (after_log start h.log) entry.call ≡ None → HasCalled new.desk (after_call (after_log start h.log) entry.call) → after h.desk.desk edits ≡ new.desk.desk
     → staged ≡ record h.edition { staged = Some edits } → IfSome staged.staged (λ es. new.edition.lists ≡ staged.lists ++ es ∷ [])
     → (new.edition.publisher ≡ staged.publisher) × (new.edition.start ≡ staged.start) → new.edition.staged ≡ None
     → new.log ≡ h.log ++ entry ∷ [] → new.total ≡ h.total + 1
-    → IsHeld start publisher new
+    → IsInner start publisher new
 held-push start publisher h new staged entry edits held free called leads is published same none log total =
     let next = after_log-push start h.log entry in
     let called' : HasCalled new.desk (after_log start (h.log ++ entry ∷ [])) = subst (λ (x : CallHistory). HasCalled new.desk x) (sym next) called in

@@ -8,10 +8,10 @@ ghost use Rattle.operator_desk.specs.LegalLogs.{IsLegal};
 ghost use Rattle.operator_desk.specs.Seats.{SeatOf};
 ghost use Rattle.operator_desk.specs.Gathering.{IsFault, AreAllIn, is_handed_in};
 
+use crate::desk_brand::DeskBrand;
+use crate::desk_inner::DeskInner;
 use crate::entry::LogEntry;
 use crate::fault::{Behind, GatherFault};
-use crate::hall::Hall;
-use crate::held::Held;
 use crate::seat::Seat;
 use crate::waiting::never;
 use std::alloc::Global;
@@ -21,9 +21,9 @@ use versions::Notice;
 /// A copy of the log and the notice that it led to, if all seats are among these and nothing else was written.
 ///
 /// It waits for ever if the log is taken and a seat has seen more than it.
-pub fn judged<'a, H: Hall, R: Wait>(
+pub fn judged<'a, H: DeskBrand, R: Wait>(
     rt: &R,
-    held: &Held<'a, H>,
+    held: &DeskInner<'a, H>,
     alloc: Global,
     seats: &Vec<Seat<'a, H>>,
     count: u32,
@@ -51,14 +51,14 @@ pub fn judged<'a, H: Hall, R: Wait>(
 }
 
 /// Whether no seat has seen more entries than these.
-fn saw_no_more<'a, H: Hall>(seats: &Vec<Seat<'a, H>>, entries: usize) -> bool
+fn saw_no_more<'a, H: DeskBrand>(seats: &Vec<Seat<'a, H>>, entries: usize) -> bool
     ensures { OnTrue result (All (λ (s : SeatOf). length s.seen ≤ entries) seats.now.items) }
 {
     seats.iter().all(|seat| seat.has_seen() <= entries)
 }
 
 /// The least operator whose seat is missing.
-fn missing<'a, H: Hall>(seats: &Vec<Seat<'a, H>>, count: u32) -> Option<u32>
+fn missing<'a, H: DeskBrand>(seats: &Vec<Seat<'a, H>>, count: u32) -> Option<u32>
     ensures some { IfSome result (λ op. IsFault H.cells count seats.now.items (GatherFault.SeatMissing op) None) }
     ensures none { IfNone result (AreAllIn count seats.now.items) }
 {
@@ -70,7 +70,7 @@ fn missing<'a, H: Hall>(seats: &Vec<Seat<'a, H>>, count: u32) -> Option<u32>
     None
 }
 
-fn has_seat<'a, H: Hall>(seats: &Vec<Seat<'a, H>>, op: u32) -> bool
+fn has_seat<'a, H: DeskBrand>(seats: &Vec<Seat<'a, H>>, op: u32) -> bool
     ensures { result ≡ is_handed_in op seats.now.items }
 {
     seats.iter().any(|seat| seat.op == op)

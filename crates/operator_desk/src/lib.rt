@@ -8,7 +8,7 @@
 //! accepted. All seats see beginnings of one log. Contracts say nothing of time: a call may wait for calls of others.
 //!
 //! ```rust
-//! // H: a hall of these names
+//! // H: a brand of these names
 //! let log = Log::new(alloc)?;
 //! let (desk, mut seats, readers) = SharedDesk::<H>::new(&rt, alloc, &log, names, 1, 2, 1)?; // two seats
 //! let call = Call::Apply(Command::AddRoom(Room { room: 1, rate: 8_000 }));
@@ -23,11 +23,11 @@
 #![tactic(auto)]
 
 mod answer;
+mod desk_brand;
+mod desk_inner;
 mod entry;
 mod fault;
 mod gathering;
-mod hall;
-mod held;
 mod log;
 mod seat;
 mod shared;
@@ -35,9 +35,9 @@ mod tokens;
 mod waiting;
 
 pub use self::answer::{Answer, Why};
+pub use self::desk_brand::{DeskBrand, DeskNames};
 pub use self::entry::LogEntry;
 pub use self::fault::{Behind, DeskFault, GatherFault};
-pub use self::hall::{DeskNames, Hall};
 pub use self::log::Log;
 pub use self::seat::Seat;
 pub use self::shared::{MAX_OPERATORS, SharedDesk};

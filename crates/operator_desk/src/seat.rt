@@ -5,8 +5,8 @@ ghost use mathlib.Core.List.{IsPrefix};
 ghost use Rattle.operator_desk.specs.Seats.{new_seat, new_seats};
 ghost use Rattle.operator_desk.specs.inner.Tokens.{shown, AreFirst};
 
+use crate::desk_brand::DeskBrand;
 use crate::entry::LogEntry;
-use crate::hall::Hall;
 use crate::log::Log;
 use crate::tokens::agree;
 use crate::waiting::never;
@@ -20,7 +20,7 @@ use std::sync::{OnceToken, Wait};
 /// Contracts see its operator, the log that it has seen, how many of its calls were accepted, and an entry behind
 /// that log if it met one.
 #[derive(Drop)]
-pub struct Seat<'a, H: Hall> {
+pub struct Seat<'a, H: DeskBrand> {
     pub(crate) op: u32,
     /// A token of each entry that it has seen. Tokens have no bytes.
     pub(crate) seen: Vec<OnceToken<'a, LogEntry>>,
@@ -29,7 +29,7 @@ pub struct Seat<'a, H: Hall> {
     pub(crate) mine: Share<H>,
 }
 
-impl<'a, H: Hall> Model for Seat<'a, H> {
+impl<'a, H: DeskBrand> Model for Seat<'a, H> {
     ghost use Rattle.std.specs.Prelude.{◌≡◌, length, vec_capacity};
     ghost use Rattle.operator_desk.specs.LegalLogs.{IsLegal};
     ghost use Rattle.operator_desk.specs.OwnCalls.{numbers};
@@ -52,7 +52,7 @@ impl<'a, H: Hall> Model for Seat<'a, H> {
         × (s.mine.parts ≡ 1) };
 }
 
-impl<'a, H: Hall> Seat<'a, H> {
+impl<'a, H: DeskBrand> Seat<'a, H> {
     /// A seat that has seen nothing, with capacity for tokens of the whole log.
     pub(crate) fn new(
         alloc: Global,
@@ -112,7 +112,7 @@ impl<'a, H: Hall> Seat<'a, H> {
 }
 
 /// One seat for each operator, each with a part of the count.
-pub fn seats_for<'a, H: Hall>(
+pub fn seats_for<'a, H: DeskBrand>(
     alloc: Global,
     log: &'a Log,
     all: &mut Share<H>,

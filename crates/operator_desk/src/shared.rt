@@ -13,11 +13,11 @@ ghost use Rattle.operator_desk.specs.Opening.{desk_fault};
 ghost use Rattle.operator_desk.specs.Gathering.{IsFault};
 
 use crate::answer::Answer;
+use crate::desk_brand::{DeskBrand, DeskNames};
+use crate::desk_inner::DeskInner;
 use crate::entry::LogEntry;
 use crate::fault::{Behind, DeskFault, GatherFault};
 use crate::gathering::judged;
-use crate::hall::{DeskNames, Hall};
-use crate::held::Held;
 use crate::log::Log;
 use crate::seat::{Seat, seats_for};
 use crate::waiting::never;
@@ -33,13 +33,13 @@ pub const MAX_OPERATORS: u32 = 16;
 
 /// A desk that up to sixteen operators share. It is not `Drop`: end it by [`SharedDesk::gather`] or
 /// [`SharedDesk::end`].
-pub struct SharedDesk<'a, H: Hall> {
-    inner: Mutex<Held<'a, H>>,
+pub struct SharedDesk<'a, H: DeskBrand> {
+    inner: Mutex<DeskInner<'a, H>>,
     seats: u32,
     ghost all: { seats ≡ H.seats },
 }
 
-impl<'a, H: Hall> SharedDesk<'a, H> {
+impl<'a, H: DeskBrand> SharedDesk<'a, H> {
     /// A desk without rows over a log in which nothing is written, with a seat for each of 1 to 16 operators, and 1 to
     /// 17 readers of what it publishes.
     pub fn new<R: Wait>(
@@ -104,7 +104,7 @@ impl<'a, H: Hall> SharedDesk<'a, H> {
         // A publisher can't be dropped, so it comes last.
         match start(alloc, rt, publisher, rows, readers) {
             Ok((publisher, lanes)) => {
-                let held = Held {
+                let held = DeskInner {
                     log,
                     entries,
                     next: None,
@@ -119,7 +119,7 @@ impl<'a, H: Hall> SharedDesk<'a, H> {
         }
     }
 
-    fn around(held: Held<'a, H>, seats: u32) -> SharedDesk<'a, H>
+    fn around(held: DeskInner<'a, H>, seats: u32) -> SharedDesk<'a, H>
         requires { seats ≡ H.seats }
     {
         SharedDesk {

@@ -5,7 +5,7 @@ ghost use Rattle.desk_rows.specs.Desk.{blank as no_rows};
 
 use crate::calls::{Reply, call_of, reply_of, version_of};
 use crate::replay::{Operator, is_same, replayed};
-use operator_desk::{DeskNames, Hall, Log, Seat, SharedDesk};
+use operator_desk::{DeskBrand, DeskNames, Log, Seat, SharedDesk};
 use std::alloc::Global;
 use std::marker::Brand;
 use std::sync::Wait;
@@ -20,20 +20,20 @@ const CALLS: usize = 10_000;
 
 /// A seat at its desk.
 #[derive(Drop)]
-struct Post<'d, 'a, H: Hall> {
+struct Post<'d, 'a, H: DeskBrand> {
     desk: &'d SharedDesk<'a, H>,
     seat: Seat<'a, H>,
 }
 
 /// A seat whose operator has made its calls, and how they were answered.
 #[derive(Drop)]
-struct Done<'a, H: Hall> {
+struct Done<'a, H: DeskBrand> {
     seat: Seat<'a, H>,
     replies: Vec<Reply>,
 }
 
 /// Makes all calls of one operator.
-fn work<'d, 'a, H: Hall, R: Wait>(
+fn work<'d, 'a, H: DeskBrand, R: Wait>(
     rt: &R,
     alloc: Global,
     post: Post<'d, 'a, H>,
@@ -54,7 +54,7 @@ fn work<'d, 'a, H: Hall, R: Wait>(
 type Worked<'a, H> = (Vec<Seat<'a, H>>, Vec<Operator>);
 
 /// Makes all calls, each operator on a thread of its own.
-fn all_work<'a, H: Hall + Send + Sync, R: Threads + Wait + Sync>(
+fn all_work<'a, H: DeskBrand + Send + Sync, R: Threads + Wait + Sync>(
     rt: &R,
     alloc: Global,
     desk: &SharedDesk<'a, H>,
@@ -76,7 +76,7 @@ fn all_work<'a, H: Hall + Send + Sync, R: Threads + Wait + Sync>(
 }
 
 /// Whether the log that they made gives the same rows, version and replies at a desk with one operator.
-fn agrees<'a, H: Hall, R: Wait>(
+fn agrees<'a, H: DeskBrand, R: Wait>(
     rt: &R,
     alloc: Global,
     desk: SharedDesk<'a, H>,
@@ -103,7 +103,7 @@ fn agrees<'a, H: Hall, R: Wait>(
     }
 }
 
-fn crowd<H: Hall + Send + Sync, R: Threads + Wait + Sync>(
+fn crowd<H: DeskBrand + Send + Sync, R: Threads + Wait + Sync>(
     rt: &R,
     alloc: Global,
     log: &Log,

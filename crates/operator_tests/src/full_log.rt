@@ -6,7 +6,7 @@ ghost use Rattle.desk_rows.specs.Desk.{blank as no_rows};
 use crate::calls::{Reply, reply_of};
 use desk_edit::{Call, Command, Refusal};
 use desk_rows::Room;
-use operator_desk::{DeskNames, Hall, Log, Seat, SharedDesk};
+use operator_desk::{DeskBrand, DeskNames, Log, Seat, SharedDesk};
 use std::alloc::Global;
 use std::marker::Brand;
 use std::sync::Wait;
@@ -29,7 +29,7 @@ fn call_after(version: u64) -> Call {
 }
 
 /// Makes a call at each version that a log has place for. False where one is refused.
-fn fills<'a, H: Hall, R: Wait>(
+fn fills<'a, H: DeskBrand, R: Wait>(
     rt: &R,
     alloc: Global,
     desk: &SharedDesk<'a, H>,
@@ -65,7 +65,7 @@ fn enters_last(readers: Vec<LaneReader>, notice: Notice) -> bool {
 }
 
 /// Whether each call has its place in the log, one more is refused, and the log is gathered whole.
-fn is_filled<'a, H: Hall, R: Wait>(
+fn is_filled<'a, H: DeskBrand, R: Wait>(
     rt: &R,
     alloc: Global,
     desk: SharedDesk<'a, H>,
@@ -96,7 +96,7 @@ fn is_filled<'a, H: Hall, R: Wait>(
     }
 }
 
-fn scene<H: Hall, R: Wait>(rt: &R, alloc: Global, log: &Log, names: DeskNames) -> bool
+fn scene<H: DeskBrand, R: Wait>(rt: &R, alloc: Global, log: &Log, names: DeskNames) -> bool
     requires log { log.now ≡ H.cells }
     requires ledger { (names.ledger.name ≡ H.name) × (names.ledger.parts ≡ H.parts) }
     requires publisher { names.publisher ≡ H.publisher }

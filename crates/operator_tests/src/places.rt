@@ -3,14 +3,14 @@
 ghost use Rattle.std.specs.Prelude.{◌≡◌};
 ghost use Rattle.desk_rows.specs.Desk.{blank as no_rows};
 
-use operator_desk::{DeskFault, DeskNames, Hall, Log, SharedDesk};
+use operator_desk::{DeskBrand, DeskFault, DeskNames, Log, SharedDesk};
 use std::alloc::Global;
 use std::marker::Brand;
 use std::sync::Wait;
 use std::test::*;
 
 /// How many seats and readers such a desk has, or why there is none.
-fn opened<H: Hall, R: Wait>(
+fn opened<H: DeskBrand, R: Wait>(
     rt: &R,
     alloc: Global,
     log: &Log,

@@ -8,9 +8,9 @@ ghost use Rattle.operator_threads.specs.Talking.{after_line, refuses, Refuses};
 ghost use Rattle.operator_threads.specs.Talking.{AnswersFirst, AnswersAll, AnswersOctets, AnswersSome, BreaksOff};
 
 use crate::talking::{Standing, Talk};
+use operator_lines::{Fed, LineDesk, Next, answer, print_too_long};
 use std::alloc::{AllocError, Global};
 use std::sync::atomic::{AtomicBool, Ordering};
-use operator_lines::{Fed, LineDesk, Next, answer, print_too_long};
 
 impl Talk {
     /// Answers a line. An `Err` appends nothing, but a call may be carried out.

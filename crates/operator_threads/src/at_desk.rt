@@ -10,19 +10,19 @@ use crate::operators::Operators;
 use crate::printed::Printed;
 use crate::printing::print_answer;
 use crate::seats::TakenSeat;
+use crate::wake::Wake;
 use desk_edit::Call;
-use lane_bell::Rouse;
-use operator_desk::{Answer, Hall};
+use operator_desk::{Answer, DeskBrand};
+use operator_lines::LineDesk;
 use std::alloc::{AllocError, Global};
 use std::sync::{MutexGuard, Wait};
-use operator_lines::LineDesk;
 use versions::Notice;
 
 /// An operator at a shared desk. It is not `Drop`, so that the seat is given back: end it by [`AtDesk::leave`].
 ///
-/// As a [`LineDesk`] it answers each call by `SharedDesk::call` with its own seat. It rouses the front after each
+/// As a [`LineDesk`] it answers each call by `SharedDesk::call` with its own seat. It wakes the front after each
 /// accepted call.
-pub struct AtDesk<'b, 'a, H: Hall, R: Wait, F: Rouse> {
+pub struct AtDesk<'b, 'a, H: DeskBrand, R: Wait, F: Wake> {
     pub(crate) operators: &'b Operators<'a, H>,
     pub(crate) rt: &'b R,
     pub(crate) front: &'b F,
@@ -31,7 +31,7 @@ pub struct AtDesk<'b, 'a, H: Hall, R: Wait, F: Rouse> {
     pub(crate) known: Notice,
 }
 
-impl<'b, 'a, H: Hall, R: Wait, F: Rouse> AtDesk<'b, 'a, H, R, F> {
+impl<'b, 'a, H: DeskBrand, R: Wait, F: Wake> AtDesk<'b, 'a, H, R, F> {
     /// Gives the seat back.
     pub fn leave(self) {
         let AtDesk {
@@ -44,7 +44,7 @@ impl<'b, 'a, H: Hall, R: Wait, F: Rouse> AtDesk<'b, 'a, H, R, F> {
         operators.give(rt, taken);
     }
 
-    /// Answers a call by the operator's seat. Learns the notice of an accepted one, and rouses the front.
+    /// Answers a call by the operator's seat. Learns the notice of an accepted one, and wakes the front.
     fn answer_call(&mut self, alloc: Global, call: Call) -> Answer
         ensures said { IsAnswered H.start H.publisher self.old.taken.seat self.new.taken.seat (asked_by call) result }
         ensures known { IsKnown result self.new.known }
@@ -72,7 +72,7 @@ impl<'b, 'a, H: Hall, R: Wait, F: Rouse> AtDesk<'b, 'a, H, R, F> {
         printed.append(out)
     }
 
-    /// Learns the notice of an accepted call, and rouses the front.
+    /// Learns the notice of an accepted call, and wakes the front.
     fn note(&mut self, answer: &Answer)
         requires tells { IsTelling H.start H.publisher answer.now }
         ensures known { IsKnown answer.now self.new.known }
@@ -80,12 +80,12 @@ impl<'b, 'a, H: Hall, R: Wait, F: Rouse> AtDesk<'b, 'a, H, R, F> {
     {
         if let Answer::Accepted { notice, .. } = answer {
             self.known = self.operators.learn(self.rt, notice);
-            self.front.rouse();
+            self.front.wake();
         }
     }
 }
 
-impl<'b, 'a, H: Hall, R: Wait, F: Rouse> LineDesk for AtDesk<'b, 'a, H, R, F> {
+impl<'b, 'a, H: DeskBrand, R: Wait, F: Wake> LineDesk for AtDesk<'b, 'a, H, R, F> {
     ghost use Rattle.std.specs.Prelude.{length};
     ghost use Rattle.operator_threads.specs.Told.{SeatReplies, SeatShows};
 

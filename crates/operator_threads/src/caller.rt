@@ -11,10 +11,10 @@ use crate::heard::HeardLines;
 use crate::line::CallerLine;
 use crate::readiness::Readiness;
 use crate::talking::{Standing, Talk};
+use operator_lines::LineDesk;
 use std::alloc::Global;
 use std::io;
 use std::sync::atomic::{AtomicBool, Ordering};
-use operator_lines::LineDesk;
 
 /// How many octets are read at a time.
 const CHUNK: usize = 9_000;

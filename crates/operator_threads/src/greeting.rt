@@ -7,9 +7,9 @@ ghost use Rattle.operator_threads.specs.Greeting.{GreetsLine, GreetsFirst, Greet
 ghost use Rattle.operator_threads.specs.Greeting.{GreetsSome, BreaksGreeting, IsPlaceIn};
 
 use crate::talking::{Standing, Talk};
+use operator_lines::{Fed, Next, Opening, busy, greet};
 use std::alloc::{AllocError, Global};
 use std::sync::atomic::{AtomicBool, Ordering};
-use operator_lines::{Fed, Next, Opening, busy, greet};
 
 /// How far the lines of a connection without a seat were dealt with.
 #[derive(Clone, Copy, Debug, PartialEq, Eq)]

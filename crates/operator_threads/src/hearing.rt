@@ -11,9 +11,9 @@ use crate::greeting::{Brought, Greeted};
 use crate::heard::HeardLines;
 use crate::line::CallerLine;
 use crate::talking::{Came, Standing};
+use operator_lines::LineDesk;
 use std::alloc::Global;
 use std::sync::atomic::AtomicBool;
-use operator_lines::LineDesk;
 
 impl<L: CallerLine + Drop> Caller<L> {
     /// Whether a piece is to be read: octets may have come, and they are heard.

@@ -4,18 +4,18 @@ ghost use Rattle.std.specs.Prelude.{◌≡◌};
 ghost use mathlib.Core.List.{IsPrefix};
 ghost use Rattle.operator_desk.specs.Answers.{IsNotice};
 
-use operator_desk::Hall;
+use operator_desk::DeskBrand;
 use std::marker::{Model, PhantomData};
 use versions::Notice;
 
 /// The latest notice that is known of a hall's desk. Contracts see that notice.
 #[derive(Drop)]
-pub(crate) struct Latest<H: Hall> {
+pub(crate) struct Latest<H: DeskBrand> {
     notice: Notice,
     hall: PhantomData<H>,
 }
 
-impl<H: Hall> Model for Latest<H> {
+impl<H: DeskBrand> Model for Latest<H> {
     ghost use Rattle.operator_desk.specs.Answers.{IsNotice};
     ghost use Rattle.versions.specs.Published.{NoticeOf};
 
@@ -26,7 +26,7 @@ impl<H: Hall> Model for Latest<H> {
     ghost invariant = { λ l. IsNotice H.start H.publisher l.notice };
 }
 
-impl<H: Hall> Latest<H> {
+impl<H: DeskBrand> Latest<H> {
     /// This notice is the latest one.
     pub fn new(notice: Notice) -> Self
         requires tells { IsNotice H.start H.publisher notice }

@@ -2,14 +2,14 @@
 //!
 //! Begin with [`Operators::new`]. Where a seat is free ([`Operators::has_seat`]), [`Operators::enter`] a connection,
 //! make a [`Caller`] of its [`SocketLine`], and run [`Operators::talk`] in a thread; else [`turn_away`] the caller. The
-//! first good line takes a seat. `udp_front::answer` over an [`AtDesk`] answers a line, and its contract says how.
+//! first good line takes a seat. `operator_lines::answer` over an [`AtDesk`] answers a line, and its contract says how.
 //!
 //! A connection is a [`CallerLine`]: contracts see all that was done on it, and a test may script one. `talk` repeats
 //! [`Operators::greet`] until the connection has a seat, and then [`Operators::serve`]: one round each. Their contracts
 //! say what a round does, and [`what_is_said_goes_on`] what that makes of any number of rounds.
 //!
 //! ```rust
-//! // desk and seats: of a shared desk; stream: a connection; front: what is roused after each accepted call
+//! // desk and seats: of a shared desk; stream: a connection; front: what is woken after each accepted call
 //! let operators = Operators::new(&rt, alloc, desk, seats);
 //! if operators.has_seat(&rt) {
 //!     let number = operators.enter(&rt)?;
@@ -44,6 +44,7 @@ mod seats;
 mod socket_line;
 mod steps;
 mod talking;
+mod wake;
 
 pub use self::at_desk::AtDesk;
 pub use self::caller::Caller;
@@ -55,3 +56,4 @@ pub use self::printing::print_answer;
 pub use self::socket_line::{SocketLine, turn_away};
 pub use self::steps::Seating;
 pub use self::talking::Came;
+pub use self::wake::Wake;

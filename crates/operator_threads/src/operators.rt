@@ -9,8 +9,8 @@ use crate::latest::Latest;
 use crate::lobby::Lobby;
 use crate::printed::Printed;
 use crate::seats::{FreeSeats, TakenSeat};
-use lane_bell::Rouse;
-use operator_desk::{Hall, Seat, SharedDesk};
+use crate::wake::Wake;
+use operator_desk::{DeskBrand, Seat, SharedDesk};
 use std::alloc::{AllocError, Global};
 use std::sync::atomic::{AtomicBool, Ordering};
 use std::sync::{Mutex, MutexGuard, Wait};
@@ -19,7 +19,7 @@ use versions::Notice;
 /// The operators of a bridge, at one desk. It is not `Drop`: end it by [`Operators::end`].
 ///
 /// One reference to it is all that a connection's thread borrows.
-pub struct Operators<'a, H: Hall> {
+pub struct Operators<'a, H: DeskBrand> {
     pub(crate) desk: SharedDesk<'a, H>,
     seats: Mutex<FreeSeats<'a, H>>,
     lobby: Mutex<Lobby>,
@@ -30,7 +30,7 @@ pub struct Operators<'a, H: Hall> {
     pub(crate) stopped: AtomicBool,
 }
 
-impl<'a, H: Hall> Operators<'a, H> {
+impl<'a, H: DeskBrand> Operators<'a, H> {
     /// The operators of a desk with these seats, all of them free.
     pub fn new<R: Wait>(
         rt: &R,
@@ -97,7 +97,7 @@ impl<'a, H: Hall> Operators<'a, H> {
     }
 
     /// The operator of a taken seat. End it by [`AtDesk::leave`].
-    pub(crate) fn at_desk<'b, R: Wait, F: Rouse>(
+    pub(crate) fn at_desk<'b, R: Wait, F: Wake>(
         &'b self,
         rt: &'b R,
         front: &'b F,

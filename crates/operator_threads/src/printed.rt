@@ -4,7 +4,7 @@ ghost use Rattle.std.specs.Prelude.{◌≡◌, ◌++◌, [], OnOk, OnErr};
 ghost use Rattle.std.specs.Bool.{OnTrue};
 ghost use Rattle.operator_threads.specs.Told.{SeatShows};
 
-use operator_desk::{Hall, SharedDesk};
+use operator_desk::{DeskBrand, SharedDesk};
 use script_text::print_rows;
 use std::alloc::{AllocError, Global};
 use std::marker::{Model, PhantomData};
@@ -12,14 +12,14 @@ use std::sync::Wait;
 
 /// The lines of the rows of a hall's desk, as they were printed last. Contracts see the octets.
 #[derive(Drop)]
-pub(crate) struct Printed<H: Hall> {
+pub(crate) struct Printed<H: DeskBrand> {
     /// The version that they are of, if they are of one.
     version: Option<u64>,
     text: Vec<u8>,
     hall: PhantomData<H>,
 }
 
-impl<H: Hall> Model for Printed<H> {
+impl<H: DeskBrand> Model for Printed<H> {
     ghost use Rattle.std.specs.Prelude.{ℕ, List, IfSome};
     ghost use Rattle.operator_threads.specs.Told.{ShowsAt};
 
@@ -30,7 +30,7 @@ impl<H: Hall> Model for Printed<H> {
     ghost invariant = { λ p. IfSome p.version (λ version. ShowsAt H.start version p.text.items) };
 }
 
-impl<H: Hall> Printed<H> {
+impl<H: DeskBrand> Printed<H> {
     /// Nothing was printed yet. It takes no memory.
     pub fn nothing(alloc: Global) -> Self
         ensures { result ≡ [] }

@@ -5,20 +5,20 @@ ghost use Rattle.std.specs.Prelude.{slice_index_or, swap_remove};
 ghost use Rattle.operator_desk.specs.Opening.{most_operators};
 ghost use Rattle.operator_threads.specs.Free.{seat_at, IsLowest, IsLowestAt, IsTakenFrom};
 
-use operator_desk::{Hall, MAX_OPERATORS, Seat};
+use operator_desk::{DeskBrand, MAX_OPERATORS, Seat};
 
 /// Seats that are free.
 #[derive(Drop)]
-pub(crate) struct FreeSeats<'a, H: Hall> {
+pub(crate) struct FreeSeats<'a, H: DeskBrand> {
     pub seats: Vec<Seat<'a, H>>,
 }
 
 /// A seat that was taken. It is not `Drop`, so that it is given back: by [`FreeSeats::give`].
-pub(crate) struct TakenSeat<'a, H: Hall> {
+pub(crate) struct TakenSeat<'a, H: DeskBrand> {
     pub seat: Seat<'a, H>,
 }
 
-impl<'a, H: Hall> FreeSeats<'a, H> {
+impl<'a, H: DeskBrand> FreeSeats<'a, H> {
     /// Where the seat of an operator is among these.
     fn seat_at(&self, op: u32) -> Option<usize>
         ensures { result ≡ seat_at op self.now.seats.items }

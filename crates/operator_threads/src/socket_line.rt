@@ -8,12 +8,12 @@ use crate::line_log::LineLog;
 use crate::talking::{Came, meaning};
 use mio::net::TcpStream;
 use mio::{Events, Interest, Poll, Token};
+use operator_lines::busy;
 use std::alloc::Global;
 use std::io;
 use std::io::{Read, Write};
 use std::net::Net;
 use std::time::{Clock, Duration};
-use operator_lines::busy;
 use udp_wire::Moments;
 
 /// How many of the system's events are taken at a time.

@@ -9,15 +9,15 @@ use crate::at_desk::AtDesk;
 use crate::caller::{Caller, Heed};
 use crate::line::CallerLine;
 use crate::operators::Operators;
-use lane_bell::Rouse;
-use operator_desk::Hall;
+use crate::wake::Wake;
+use operator_desk::DeskBrand;
+use operator_lines::LineDesk;
 use std::alloc::Global;
 use std::sync::Wait;
-use operator_lines::LineDesk;
 
 /// What a round of a connection without a seat led to. With a seat it is not `Drop`: end the desk by
 /// [`AtDesk::leave`].
-pub enum Seating<'b, 'a, H: Hall, R: Wait, F: Rouse> {
+pub enum Seating<'b, 'a, H: DeskBrand, R: Wait, F: Wake> {
     /// Its first good line has not come, or it was refused a seat: another round follows.
     Waits,
     /// It is to be closed, and has no seat.
@@ -26,12 +26,12 @@ pub enum Seating<'b, 'a, H: Hall, R: Wait, F: Rouse> {
     Seated(AtDesk<'b, 'a, H, R, F>),
 }
 
-impl<'a, H: Hall> Operators<'a, H> {
+impl<'a, H: DeskBrand> Operators<'a, H> {
     /// Talks with the operator of a connection: the body of its thread. The first good line takes the lowest free seat,
     /// which is given back at the end. It ends when the connection does, or within two seconds of any `stop`.
     ///
-    /// `front` is roused after each accepted call, and after `stop`.
-    pub fn talk<'b, R: Wait, F: Rouse, L: CallerLine + Drop>(
+    /// `front` is woken after each accepted call, and after `stop`.
+    pub fn talk<'b, R: Wait, F: Wake, L: CallerLine + Drop>(
         &'b self,
         rt: &'b R,
         alloc: Global,
@@ -45,7 +45,7 @@ impl<'a, H: Hall> Operators<'a, H> {
     }
 
     /// Has rounds without a seat, until the first good line has one. `None`: the connection is over, and had none.
-    fn seated<'b, R: Wait, F: Rouse, L: CallerLine + Drop>(
+    fn seated<'b, R: Wait, F: Wake, L: CallerLine + Drop>(
         &'b self,
         rt: &'b R,
         alloc: Global,
@@ -67,7 +67,7 @@ impl<'a, H: Hall> Operators<'a, H> {
     }
 
     /// Has rounds with a seat, until the connection is over.
-    pub fn sit<R: Wait, F: Rouse, L: CallerLine + Drop, D: LineDesk>(
+    pub fn sit<R: Wait, F: Wake, L: CallerLine + Drop, D: LineDesk>(
         &self,
         rt: &R,
         alloc: Global,
@@ -88,7 +88,7 @@ impl<'a, H: Hall> Operators<'a, H> {
 
     /// A round of a connection without a seat: waits 50 ms at most, and deals with its lines up to the first good one,
     /// which takes the lowest free seat. If none is free, it is answered `busy`.
-    pub fn greet<'b, R: Wait, F: Rouse, L: CallerLine + Drop>(
+    pub fn greet<'b, R: Wait, F: Wake, L: CallerLine + Drop>(
         &'b self,
         rt: &'b R,
         alloc: Global,
@@ -114,7 +114,7 @@ impl<'a, H: Hall> Operators<'a, H> {
     }
 
     /// Takes a seat for the first good line of a connection, or tells it that none is free.
-    fn admit<'b, R: Wait, F: Rouse, L: CallerLine + Drop>(
+    fn admit<'b, R: Wait, F: Wake, L: CallerLine + Drop>(
         &'b self,
         rt: &'b R,
         number: u64,
@@ -140,8 +140,8 @@ impl<'a, H: Hall> Operators<'a, H> {
     /// A round of a connection with a seat: answers what was heard before it had one; or else waits 50 ms at most, and
     /// answers the lines that have come. Returns whether the connection goes on; if not, nothing was done on it.
     ///
-    /// It stops the bridge for an operator who said `stop`, and then rouses the front.
-    pub fn serve<F: Rouse, L: CallerLine + Drop, D: LineDesk>(
+    /// It stops the bridge for an operator who said `stop`, and then wakes the front.
+    pub fn serve<F: Wake, L: CallerLine + Drop, D: LineDesk>(
         &self,
         alloc: Global,
         caller: &mut Caller<L>,
@@ -154,7 +154,7 @@ impl<'a, H: Hall> Operators<'a, H> {
     {
         if caller.stops() && !self.has_stopped() {
             self.stop();
-            front.rouse();
+            front.wake();
         }
         if caller.is_over() {
             return false;

@@ -7,10 +7,10 @@ ghost use Rattle.operator_threads.specs.declared.talking.Came.TheVariants as arr
 ghost use Rattle.operator_threads.specs.Talking.{is_open, is_over, after_line, after_stop, since_stop};
 ghost use Rattle.operator_threads.specs.Talking.{came_of, after_read, after_write, left_after, since_read, since_write};
 
+use operator_lines::{Lines, Next, Outgoing};
 use std::alloc::{AllocError, Global};
 use std::io;
 use std::io::ErrorKind;
-use operator_lines::{Lines, Next, Outgoing};
 
 /// How many nanoseconds a connection without a seat may be silent.
 const LONGEST_SILENCE: u64 = 30_000_000_000;

@@ -4,7 +4,7 @@ ghost use Rattle.std.specs.Prelude.{◌≡◌, ◌<◌, length};
 
 use crate::feeding::{step_lanes, take_all};
 use crate::loads::Load;
-use crate::paces::{Bells, RingBridge, ring_all};
+use crate::paces::{RingBridge, Signals, ring_all};
 use media_workers::{Pace, PublisherName};
 use std::alloc::Global;
 use std::sync::Wait;
@@ -39,7 +39,7 @@ pub fn feed_batches<N: PublisherName, P: Pace, R: Wait + Drop>(
     rt: &R,
     alloc: Global,
     bridge: &mut RingBridge<N, P>,
-    bells: &mut Bells<R>,
+    signals: &mut Signals<R>,
     load: &Load,
     batches: u64,
 ) -> u64
@@ -49,13 +49,13 @@ pub fn feed_batches<N: PublisherName, P: Pace, R: Wait + Drop>(
     let items = BATCH.saturating_mul(u64::from(load.items()));
     let mut taken = 0u64;
     for batch in 0..batches {
-        let _asleep = bells.sleeps.pass(batch.saturating_add(1));
-        taken = taken.saturating_add(take_all(&mut bells.rings, EGRESSES));
+        let _asleep = signals.sleeps.pass(batch.saturating_add(1));
+        taken = taken.saturating_add(take_all(&mut signals.rings, EGRESSES));
         if !give_batch(alloc, bridge, load, batch.saturating_mul(BATCH)) {
             return taken;
         }
-        ring_all(rt, &bells.bells, items);
+        ring_all(rt, &signals.signals, items);
     }
-    let _asleep = bells.sleeps.pass(batches.saturating_add(1));
-    taken.saturating_add(take_all(&mut bells.rings, EGRESSES))
+    let _asleep = signals.sleeps.pass(batches.saturating_add(1));
+    taken.saturating_add(take_all(&mut signals.rings, EGRESSES))
 }

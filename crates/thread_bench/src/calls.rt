@@ -8,7 +8,7 @@ use crate::timing::{Took, Watch, least_of};
 use bridge_core::{Core, Reply};
 use desk_edit::{Call, Command};
 use desk_rows::{Mute, Room};
-use operator_desk::{Answer, DeskNames, Hall, Log, Seat, SharedDesk};
+use operator_desk::{Answer, DeskBrand, DeskNames, Log, Seat, SharedDesk};
 use std::alloc::Global;
 use std::io;
 use std::marker::Brand;
@@ -75,7 +75,7 @@ pub fn at_core<R: Clock + CpuClock>(
 }
 
 /// Makes so many calls from a seat. It answers how many were accepted.
-pub fn call_desk<'a, H: Hall, R: Wait>(
+pub fn call_desk<'a, H: DeskBrand, R: Wait>(
     rt: &R,
     alloc: Global,
     desk: &SharedDesk<'a, H>,
@@ -93,7 +93,7 @@ pub fn call_desk<'a, H: Hall, R: Wait>(
 }
 
 /// Makes the room. False where a command is refused.
-pub fn fill<'a, H: Hall, R: Wait>(
+pub fn fill<'a, H: DeskBrand, R: Wait>(
     rt: &R,
     alloc: Global,
     desk: &SharedDesk<'a, H>,
@@ -109,7 +109,7 @@ pub fn fill<'a, H: Hall, R: Wait>(
 }
 
 /// So many calls from the only seat of a desk over this log, which is filled first.
-fn by_one<H: Hall, R: Wait + Clock + CpuClock>(
+fn by_one<H: DeskBrand, R: Wait + Clock + CpuClock>(
     rt: &R,
     alloc: Global,
     log: &Log,
@@ -138,7 +138,7 @@ fn by_one<H: Hall, R: Wait + Clock + CpuClock>(
 }
 
 /// So many calls from a seat, behind those that make the room.
-fn timed<'a, H: Hall, R: Wait + Clock + CpuClock>(
+fn timed<'a, H: DeskBrand, R: Wait + Clock + CpuClock>(
     rt: &R,
     alloc: Global,
     desk: &SharedDesk<'a, H>,

@@ -7,7 +7,7 @@ use crate::calls::{Turn, call_desk, fill};
 use crate::rooms::{Plan, commands_for};
 use crate::timing::{Took, Watch};
 use desk_edit::Command;
-use operator_desk::{DeskNames, Hall, Log, Seat, SharedDesk};
+use operator_desk::{DeskBrand, DeskNames, Log, Seat, SharedDesk};
 use std::alloc::Global;
 use std::io;
 use std::marker::Brand;
@@ -29,7 +29,7 @@ pub enum Callers {
 
 /// A seat at its desk.
 #[derive(Drop)]
-pub struct Post<'d, 'a, H: Hall> {
+pub struct Post<'d, 'a, H: DeskBrand> {
     /// The desk.
     pub desk: &'d SharedDesk<'a, H>,
     /// The seat.
@@ -44,14 +44,19 @@ fn turn_of(op: u32) -> Turn {
 }
 
 /// Makes all calls of one operator. It answers how many were accepted.
-fn work<'d, 'a, H: Hall, R: Wait>(rt: &R, alloc: Global, post: Post<'d, 'a, H>, calls: u64) -> u64 {
+fn work<'d, 'a, H: DeskBrand, R: Wait>(
+    rt: &R,
+    alloc: Global,
+    post: Post<'d, 'a, H>,
+    calls: u64,
+) -> u64 {
     let Post { desk, mut seat } = post;
     let turn = turn_of(seat.op());
     call_desk(rt, alloc, desk, &mut seat, turn, calls)
 }
 
 /// Each of these seats makes so many calls, on a thread of its own. It answers how many were accepted.
-fn all_work<'a, H: Hall + Send + Sync, R: Threads + Wait + Sync>(
+fn all_work<'a, H: DeskBrand + Send + Sync, R: Threads + Wait + Sync>(
     rt: &R,
     alloc: Global,
     desk: &SharedDesk<'a, H>,
@@ -71,7 +76,7 @@ fn all_work<'a, H: Hall + Send + Sync, R: Threads + Wait + Sync>(
 }
 
 /// One of these seats makes as many calls as all would.
-fn one_works<'a, H: Hall, R: Wait>(
+fn one_works<'a, H: DeskBrand, R: Wait>(
     rt: &R,
     alloc: Global,
     desk: &SharedDesk<'a, H>,
@@ -86,7 +91,7 @@ fn one_works<'a, H: Hall, R: Wait>(
 }
 
 /// Fills the desk, and then has it called.
-fn timed<'a, H: Hall + Send + Sync, R: Threads + Wait + Sync + Clock + CpuClock>(
+fn timed<'a, H: DeskBrand + Send + Sync, R: Threads + Wait + Sync + Clock + CpuClock>(
     rt: &R,
     alloc: Global,
     desk: &SharedDesk<'a, H>,
@@ -107,7 +112,7 @@ fn timed<'a, H: Hall + Send + Sync, R: Threads + Wait + Sync + Clock + CpuClock>
     Some(watch.took(rt, accepted))
 }
 
-fn by_sixteen<H: Hall + Send + Sync, R: Threads + Wait + Sync + Clock + CpuClock>(
+fn by_sixteen<H: DeskBrand + Send + Sync, R: Threads + Wait + Sync + Clock + CpuClock>(
     rt: &R,
     alloc: Global,
     log: &Log,

@@ -1,25 +1,24 @@
-//! Bells for lanes and for whoever waits for them, and rings for what lanes send.
+//! Signals for lanes and for whoever waits for them, and rings for what lanes send.
 
 ghost use Rattle.std.specs.Prelude.{◌≡◌, [], All, IfOk};
 ghost use Rattle.rtrb.specs.Ring.{sent};
 
 use bridge_core::Egress;
-use lane_bell::{Bell, Rouse, Rung};
-use media_workers::Bridge;
+use media_workers::{BeforeSleep, Bridge, Signal, SleepPace};
 use rtrb::{Consumer, Producer, RingBuffer};
 use std::alloc::{AllocError, Global};
 use std::sync::{Arc, Wait};
 
-/// Rings a bell each time a lane goes to sleep.
+/// Rings a signal each time a lane goes to sleep.
 #[derive(Drop)]
-pub struct Rouser<R: Wait + Drop> {
+pub struct Sleeper<R: Wait + Drop> {
     rt: R,
-    bell: Arc<Bell, Global>,
+    signal: Arc<Signal, Global>,
 }
 
-impl<R: Wait + Drop> Rouse for Rouser<R> {
-    fn rouse(&self) {
-        self.bell.ring(&self.rt, 1);
+impl<R: Wait + Drop> BeforeSleep for Sleeper<R> {
+    fn before_sleep(&self) {
+        self.signal.raise(&self.rt, 1);
     }
 }
 
@@ -27,38 +26,38 @@ impl<R: Wait + Drop> Rouse for Rouser<R> {
 const RING: usize = 16_384;
 
 /// The pace of a lane.
-pub type LanePace<R> = Rung<R, Rouser<R>>;
+pub type LanePace<R> = SleepPace<R, Sleeper<R>>;
 
 /// A bridge whose lanes send into rings.
 pub type RingBridge<N, P> = Bridge<N, P, Producer<Egress>>;
 
 /// What wakes lanes, takes what they send, and waits until they sleep.
 #[derive(Drop)]
-pub struct Bells<R: Wait + Drop> {
-    /// A bell for each lane.
-    pub bells: Vec<Arc<Bell, Global>>,
+pub struct Signals<R: Wait + Drop> {
+    /// A signal for each lane.
+    pub signals: Vec<Arc<Signal, Global>>,
     /// What each lane sends.
     pub rings: Vec<Consumer<Egress>>,
     /// It lets item n pass once lanes went to sleep n times.
-    pub sleeps: Rung<R, ()>,
+    pub sleeps: SleepPace<R, ()>,
 }
 
-/// Bells, and outfits by them.
+/// Signals, and outfits by them.
 #[derive(Drop)]
 pub struct Paced<R: Wait + Drop> {
-    /// The bells.
-    pub bells: Bells<R>,
+    /// The signals.
+    pub signals: Signals<R>,
     /// A pace and a ring for each lane.
     pub outfits: Vec<(LanePace<R>, Producer<Egress>)>,
 }
 
-fn closed_bell<R: Wait>(rt: &R, alloc: Global) -> Result<Arc<Bell, Global>, AllocError> {
-    let bell = Arc::new(alloc, Bell::new())?;
-    bell.close(rt);
-    Ok(bell)
+fn closed_signal<R: Wait>(rt: &R, alloc: Global) -> Result<Arc<Signal, Global>, AllocError> {
+    let signal = Arc::new(alloc, Signal::new())?;
+    signal.close(rt);
+    Ok(signal)
 }
 
-/// Outfits of so many lanes. Their bells are closed, so that a lane also sleeps before its first parcel.
+/// Outfits of so many lanes. Their signals are closed, so that a lane also sleeps before its first parcel.
 pub fn paces_for<R: Wait + Copy + Drop>(
     rt: &R,
     alloc: Global,
@@ -66,40 +65,40 @@ pub fn paces_for<R: Wait + Copy + Drop>(
 ) -> Result<Paced<R>, AllocError>
     ensures { IfOk result (λ paced. All (λ outfit. sent outfit.1 ≡ []) paced.outfits.items) }
 {
-    let front = closed_bell(rt, alloc)?;
-    let mut bells = Vec::new(alloc);
+    let front = closed_signal(rt, alloc)?;
+    let mut signals = Vec::new(alloc);
     let mut rings = Vec::new(alloc);
     let mut outfits = Vec::new(alloc);
     for _lane in 0..lanes {
-        let bell = closed_bell(rt, alloc)?;
-        let rouser = Rouser {
+        let signal = closed_signal(rt, alloc)?;
+        let sleeper = Sleeper {
             rt: *rt,
-            bell: Arc::try_clone(&front)?,
+            signal: Arc::try_clone(&front)?,
         };
-        let pace = Rung::by(*rt, Arc::try_clone(&bell)?, rouser);
+        let pace = SleepPace::by(*rt, Arc::try_clone(&signal)?, sleeper);
         let (sink, ring) = RingBuffer::new(alloc, RING)?;
         outfits.push((pace, sink))?;
         rings.push(ring)?;
-        bells.push(bell)?;
+        signals.push(signal)?;
     }
-    let bells = Bells {
-        bells,
+    let signals = Signals {
+        signals,
         rings,
-        sleeps: Rung::by(*rt, front, ()),
+        sleeps: SleepPace::by(*rt, front, ()),
     };
-    Ok(Paced { bells, outfits })
+    Ok(Paced { signals, outfits })
 }
 
-/// Rings each lane's bell for so many parcels.
-pub fn ring_all<R: Wait>(rt: &R, bells: &Vec<Arc<Bell, Global>>, parcels: u64) {
-    for bell in bells {
-        bell.ring(rt, parcels);
+/// Rings each lane's signal for so many parcels.
+pub fn ring_all<R: Wait>(rt: &R, signals: &Vec<Arc<Signal, Global>>, parcels: u64) {
+    for signal in signals {
+        signal.raise(rt, parcels);
     }
 }
 
 /// Lets no lane wait any more.
-pub fn open_all<R: Wait>(rt: &R, bells: &Vec<Arc<Bell, Global>>) {
-    for bell in bells {
-        bell.open(rt);
+pub fn open_all<R: Wait>(rt: &R, signals: &Vec<Arc<Signal, Global>>) {
+    for signal in signals {
+        signal.open(rt);
     }
 }

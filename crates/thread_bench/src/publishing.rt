@@ -10,7 +10,7 @@ use crate::meeting::Meeting;
 use crate::rooms::{Plan, commands_for};
 use crate::timing::{Took, Watch};
 use desk_edit::Command;
-use operator_desk::{Answer, DeskNames, Hall, Log, Seat, SharedDesk};
+use operator_desk::{Answer, DeskBrand, DeskNames, Log, Seat, SharedDesk};
 use std::alloc::Global;
 use std::io;
 use std::marker::Brand;
@@ -40,7 +40,7 @@ struct Visit<'c> {
 }
 
 /// Makes calls until the reader is done. False where one is refused, or the last one is made before.
-fn call_all<'d, 'a, H: Hall, R: Wait>(
+fn call_all<'d, 'a, H: DeskBrand, R: Wait>(
     rt: &R,
     alloc: Global,
     post: Post<'d, 'a, H>,
@@ -62,7 +62,7 @@ fn call_all<'d, 'a, H: Hall, R: Wait>(
 }
 
 /// Makes the calls that are to be made while a reader enters. False where they end before it is done.
-fn work<'d, 'a, H: Hall, R: Wait>(
+fn work<'d, 'a, H: DeskBrand, R: Wait>(
     rt: &R,
     alloc: Global,
     post: Post<'d, 'a, H>,
@@ -94,7 +94,7 @@ fn timed<R: Wait + Clock + CpuClock>(
 }
 
 /// Fills the desk, and then has it entered and called.
-fn beside<'a, H: Hall + Send + Sync, R: Threads + Wait + Sync + Clock + CpuClock>(
+fn beside<'a, H: DeskBrand + Send + Sync, R: Threads + Wait + Sync + Clock + CpuClock>(
     rt: &R,
     desk: &SharedDesk<'a, H>,
     seats: Vec<Seat<'a, H>>,
@@ -124,7 +124,7 @@ fn beside<'a, H: Hall + Send + Sync, R: Threads + Wait + Sync + Clock + CpuClock
 }
 
 /// The same, at a desk over this log.
-fn over<H: Hall + Send + Sync, R: Threads + Wait + Sync + Clock + CpuClock>(
+fn over<H: DeskBrand + Send + Sync, R: Threads + Wait + Sync + Clock + CpuClock>(
     rt: &R,
     log: &Log,
     names: DeskNames,

@@ -7,7 +7,7 @@ use crate::batches::{BATCH, feed_batches};
 use crate::feeding::feed_core;
 use crate::lanes::lanes_by;
 use crate::loads::Load;
-use crate::paces::{Bells, Paced, RingBridge, open_all, paces_for};
+use crate::paces::{Paced, RingBridge, Signals, open_all, paces_for};
 use crate::rooms::{Plan, core_with};
 use crate::streaming::{Course, feed_stream};
 use crate::timing::{Took, Watch};
@@ -59,7 +59,7 @@ fn fed<N: PublisherName, P: Pace, R: Wait + Clock + CpuClock + Drop>(
     rt: &R,
     alloc: Global,
     bridge: &mut RingBridge<N, P>,
-    bells: &mut Bells<R>,
+    signals: &mut Signals<R>,
     load: &Load,
     lanes: u32,
     way: &Way,
@@ -69,8 +69,8 @@ fn fed<N: PublisherName, P: Pace, R: Wait + Clock + CpuClock + Drop>(
 {
     let watch = Watch::begin(rt);
     let taken = match way {
-        Way::Batches(batches) => feed_batches(rt, alloc, bridge, bells, load, *batches),
-        Way::Stream(course) => feed_stream(rt, alloc, bridge, bells, load, lanes, course),
+        Way::Batches(batches) => feed_batches(rt, alloc, bridge, signals, load, *batches),
+        Way::Stream(course) => feed_stream(rt, alloc, bridge, signals, load, lanes, course),
     };
     watch.took(rt, taken)
 }
@@ -90,11 +90,14 @@ fn by_readers<
     requires readers { All (λ (r : ReaderOf). r.publisher ≡ N.publisher) readers.items }
 {
     let lanes = lanes_by::<N>(alloc, readers, count)?;
-    let Paced { mut bells, outfits } = paces_for(rt, alloc, count)?;
+    let Paced {
+        mut signals,
+        outfits,
+    } = paces_for(rt, alloc, count)?;
     match RingBridge::<N, _>::start(rt, alloc, lanes, outfits) {
         Ok(mut bridge) => {
-            let took = fed(rt, alloc, &mut bridge, &mut bells, load, count, way);
-            open_all(rt, &bells.bells);
+            let took = fed(rt, alloc, &mut bridge, &mut signals, load, count, way);
+            open_all(rt, &signals.signals);
             let _ends = bridge.close(rt);
             Ok(took)
         }

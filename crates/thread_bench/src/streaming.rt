@@ -4,10 +4,9 @@ ghost use Rattle.std.specs.Prelude.{◌≡◌, ◌≤◌, length};
 
 use crate::feeding::{step_lanes, take_all};
 use crate::loads::Load;
-use crate::paces::{Bells, RingBridge, ring_all};
+use crate::paces::{RingBridge, Signals, ring_all};
 use bridge_core::Egress;
-use lane_bell::Bell;
-use media_workers::{Pace, PublisherName};
+use media_workers::{Pace, PublisherName, Signal};
 use rtrb::Consumer;
 use std::alloc::Global;
 use std::sync::{Arc, Wait};
@@ -61,12 +60,12 @@ impl Course {
     }
 }
 
-/// Gives all lanes a step, and rings their bells. False where a ring is full or memory runs out.
+/// Gives all lanes a step, and raises their signals. False where a ring is full or memory runs out.
 fn give_step<N: PublisherName, P: Pace, R: Wait>(
     rt: &R,
     alloc: Global,
     bridge: &mut RingBridge<N, P>,
-    bells: &Vec<Arc<Bell, Global>>,
+    signals: &Vec<Arc<Signal, Global>>,
     load: &Load,
     lanes: u32,
     step: u64,
@@ -75,7 +74,7 @@ fn give_step<N: PublisherName, P: Pace, R: Wait>(
     ensures { length bridge.new ≡ length bridge.old }
 {
     let given = step_lanes(alloc, bridge, lanes, load, step);
-    ring_all(rt, bells, u64::from(load.items()));
+    ring_all(rt, signals, u64::from(load.items()));
     given
 }
 
@@ -96,7 +95,7 @@ pub fn feed_stream<N: PublisherName, P: Pace, R: Wait + Clock + Drop>(
     rt: &R,
     alloc: Global,
     bridge: &mut RingBridge<N, P>,
-    bells: &mut Bells<R>,
+    signals: &mut Signals<R>,
     load: &Load,
     lanes: u32,
     course: &Course,
@@ -114,12 +113,20 @@ pub fn feed_stream<N: PublisherName, P: Pace, R: Wait + Clock + Drop>(
             break;
         }
         if course.is_due(progress) {
-            if !give_step(rt, alloc, bridge, &bells.bells, load, lanes, progress.given) {
+            if !give_step(
+                rt,
+                alloc,
+                bridge,
+                &signals.signals,
+                load,
+                lanes,
+                progress.given,
+            ) {
                 break;
             }
             progress.given = progress.given.saturating_add(1);
         } else {
-            take_some(rt, &mut bells.rings, &mut progress);
+            take_some(rt, &mut signals.rings, &mut progress);
         }
     }
     progress.taken

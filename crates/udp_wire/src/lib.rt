@@ -6,14 +6,12 @@
 //! Contracts see a wire as the datagrams that were tried. They say nothing of sockets and clocks.
 //!
 //! ```rust
-//! let mut ticks = Ticks { start: moments.start(), had: 0 };
-//! while let Some(tick) = ticks.due(moments.now(rt)?) {
-//!     lane.tick(tick); // each 20 ms once, in order
-//! }
+//! let mut ticks = Ticks { start: 1_000_000_000, had: 0 }; // moments are nanoseconds since 1970
+//! let due = ticks.due(1_020_000_000); // the first tick, 20 ms after the start
 //! let failed = send_all(&egresses, &mut wire); // how many datagrams the wire refused
 //! ```
 //!
-//! `ticks_catch_up` of worked_front asks for ticks so, with their moments proved.
+//! `a_tick_is_due_at_20_ms` of worked_front asks for a tick so, with its moment proved.
 #![tactic(auto)]
 
 mod ending;

@@ -4,8 +4,8 @@ ghost use Rattle.std.specs.Prelude.{◌≡◌, true, List, ℕ, [], IfOk};
 ghost use Rattle.operator_lines.specs.Cut.{cut, is_too_long};
 ghost use Rattle.operator_lines.specs.Fed.{StandsFor, texts};
 
-use std::alloc::{AllocError, Global};
 use operator_lines::{Fed, Lines, cuts_are_whole, too_long_for_good};
+use std::alloc::{AllocError, Global};
 
 /// Behind a line that is too long nothing is a line.
 pub fn hears_nothing_behind_too_long_a_line(

@@ -1,1 +1,1 @@
-pub mod Earned
+pub mod Refilled

@@ -3,8 +3,8 @@
 ghost use Rattle.std.specs.Prelude.{◌≡◌, ◌++◌, ◌∷◌, [], false, codes, IfOk};
 ghost use Rattle.operator_lines.specs.Fed.{texts};
 
-use std::alloc::{AllocError, Global};
 use operator_lines::{Fed, Lines};
+use std::alloc::{AllocError, Global};
 
 /// `show`, CR and LF, cut at any place: one line, `show`.
 pub fn hears_show(alloc: Global, front: &[u8], back: &[u8]) -> Result<(Fed, Fed), AllocError>

@@ -2,11 +2,11 @@
 #![tactic(auto)]
 
 pub mod attempts;
-pub mod earning;
 pub mod feeding;
 pub mod flooding;
 pub mod lane_ends;
 pub mod leaving;
 pub mod pacing;
+pub mod refilling;
 pub mod unread;
 pub mod waits;

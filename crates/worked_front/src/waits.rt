@@ -10,8 +10,8 @@ use rtp_codec::Address;
 use std::alloc::Global;
 use udp_wire::{FrontFault, Wire};
 
-/// A wait of source 101 at 20 ms earns nothing: where no member's datagram has come, nothing is asked for, whatever is
-/// missing.
+/// A wait of source 101 at 20 ms refills nothing: where no member's datagram has come, nothing is asked for, whatever
+/// is missing.
 pub fn a_wait_pays_by_what_came<N: PublisherName, P: Pace, S: Sink, W: Wire>(
     media: &mut MediaFront<N, P, S>,
     alloc: Global,
@@ -19,7 +19,7 @@ pub fn a_wait_pays_by_what_came<N: PublisherName, P: Pace, S: Sink, W: Wire>(
     member: &Address,
     wire: &mut W,
 ) -> Result<(), FrontFault>
-    requires { media.old.guard ≡ [] }
+    requires { media.old.limiter ≡ [] }
     ensures { OnOk result (WereTried [] (W.attempts wire.old) (W.attempts wire.new)) }
 {
     media.wait(alloc, rows, member, 101, 20_000_000, wire)

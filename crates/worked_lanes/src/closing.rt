@@ -11,7 +11,7 @@ use bridge_core::Item;
 use desk_edit::Call;
 use lane_laws::{lanes_saw_what_they_know, none_knew_more, the_running_headline};
 use media_workers::{Bridge, LaneEnd, LaneItem, Pace, Parcel, PublisherName, Sink};
-use operator_desk::{Answer, Hall, Seat, SharedDesk};
+use operator_desk::{Answer, DeskBrand, Seat, SharedDesk};
 use std::alloc::Global;
 use std::sync::Wait;
 use std::thread::Threads;
@@ -22,7 +22,7 @@ use versions::Notice;
 ///
 /// Each packet that a lane sent goes where the desk of the version that it names has it go, by the log that the seat
 /// has seen.
-pub fn call_and_close<'a, H: Hall, N: PublisherName, P: Pace, S: Sink, R: Threads + Wait>(
+pub fn call_and_close<'a, H: DeskBrand, N: PublisherName, P: Pace, S: Sink, R: Threads + Wait>(
     rt: &R,
     alloc: Global,
     desk: &SharedDesk<'a, H>,

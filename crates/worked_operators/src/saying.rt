@@ -1,13 +1,13 @@
 //! Answers, printed.
 
 use desk_edit::{Call, Carried};
-use operator_desk::{Answer, GatherFault, Hall, Seat, SharedDesk, Why};
+use operator_desk::{Answer, DeskBrand, GatherFault, Seat, SharedDesk, Why};
 use std::alloc::Global;
 use std::io;
 use std::sync::Wait;
 
 /// Makes a call, and prints how it was answered.
-pub fn says<'a, H: Hall, R: Wait + Print>(
+pub fn says<'a, H: DeskBrand, R: Wait + Print>(
     rt: &R,
     alloc: Global,
     desk: &SharedDesk<'a, H>,

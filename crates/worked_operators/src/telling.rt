@@ -9,7 +9,7 @@ ghost use Rattle.operator_desk.specs.LegalLogs.{after_log};
 use crate::saying::says;
 use desk_edit::{Call, Command};
 use desk_rows::{Codec, Kind, Media, Member, Mute, Room, Rows, Slot, Source, Sub};
-use operator_desk::{Answer, DeskNames, Hall, Log, Seat, SharedDesk};
+use operator_desk::{Answer, DeskBrand, DeskNames, Log, Seat, SharedDesk};
 use rtp_codec::Address;
 use std::alloc::Global;
 use std::io;
@@ -19,7 +19,7 @@ use versions::{LaneReader, Notice};
 /// Six calls set a room up. A reader that is told of the seventh, which mutes a source, finds it muted; told of the
 /// eighth, it finds none muted. Another reader, which is told of nothing else than what is published then, finds the
 /// same.
-pub fn reader_is_told<H: Hall, R: Wait + Print>(
+pub fn reader_is_told<H: DeskBrand, R: Wait + Print>(
     rt: &R,
     alloc: Global,
     log: &Log,
@@ -43,7 +43,7 @@ pub fn reader_is_told<H: Hall, R: Wait + Print>(
     }
 }
 
-fn told_of_calls<'a, H: Hall, R: Wait + Print>(
+fn told_of_calls<'a, H: DeskBrand, R: Wait + Print>(
     rt: &R,
     alloc: Global,
     desk: &SharedDesk<'a, H>,
@@ -132,7 +132,7 @@ struct Entry {
 
 /// Makes a call, and tells a reader of it. The version that the reader enters is that of the call or a later one. At
 /// that of the call it finds the desk of the log that the seat has seen.
-fn told_of<'a, H: Hall, R: Wait>(
+fn told_of<'a, H: DeskBrand, R: Wait>(
     rt: &R,
     alloc: Global,
     desk: &SharedDesk<'a, H>,

@@ -10,7 +10,7 @@ ghost use Rattle.worked_operators.specs.Has.{Has};
 
 use desk_edit::{Call, Command};
 use desk_rows::Room;
-use operator_desk::{Answer, DeskNames, Hall, Log, LogEntry, Seat, SharedDesk};
+use operator_desk::{Answer, DeskBrand, DeskNames, Log, LogEntry, Seat, SharedDesk};
 use std::alloc::Global;
 use std::io;
 use std::sync::Wait;
@@ -18,13 +18,13 @@ use std::thread::{Threads, join};
 
 /// A seat at its desk.
 #[derive(Drop)]
-struct Post<'d, 'a, H: Hall> {
+struct Post<'d, 'a, H: DeskBrand> {
     desk: &'d SharedDesk<'a, H>,
     seat: Seat<'a, H>,
 }
 
 /// Two operators add a room each at the same time.
-pub fn two_at_once<H: Hall + Send + Sync, R: Threads + Wait + Print + Sync>(
+pub fn two_at_once<H: DeskBrand + Send + Sync, R: Threads + Wait + Print + Sync>(
     rt: &R,
     alloc: Global,
     log: &Log,
@@ -55,7 +55,7 @@ fn add_room(room: u32) -> Call {
 
 /// Two operators make a call each. Where both are accepted, the log is legal and has just these two, each by its
 /// operator.
-fn by_two<'a, H: Hall + Send + Sync, R: Threads + Wait + Sync>(
+fn by_two<'a, H: DeskBrand + Send + Sync, R: Threads + Wait + Sync>(
     rt: &R,
     alloc: Global,
     desk: SharedDesk<'a, H>,
@@ -102,7 +102,7 @@ fn by_two<'a, H: Hall + Send + Sync, R: Threads + Wait + Sync>(
 }
 
 /// Makes a call with a new seat.
-fn made<'d, 'a, H: Hall, R: Wait>(
+fn made<'d, 'a, H: DeskBrand, R: Wait>(
     rt: &R,
     alloc: Global,
     post: Post<'d, 'a, H>,
@@ -120,7 +120,7 @@ fn made<'d, 'a, H: Hall, R: Wait>(
 }
 
 /// The log that two seats made.
-fn gathered<'a, H: Hall, R: Wait>(
+fn gathered<'a, H: DeskBrand, R: Wait>(
     rt: &R,
     alloc: Global,
     desk: SharedDesk<'a, H>,

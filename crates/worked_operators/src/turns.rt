@@ -6,14 +6,14 @@ ghost use Rattle.desk_rows.specs.Desk.{blank as no_rows};
 use crate::saying::{say_fault, says};
 use desk_edit::{Call, Command};
 use desk_rows::{Kind, Room};
-use operator_desk::{DeskNames, Hall, Log, Seat, SharedDesk};
+use operator_desk::{DeskBrand, DeskNames, Log, Seat, SharedDesk};
 use std::alloc::Global;
 use std::io;
 use std::sync::Wait;
 
 /// Two operators add a room each. Neither can undo while the other has called since, so one of them takes both back.
 /// The log is handed out once both seats are back.
-pub fn two_in_turn<H: Hall, R: Wait + Print>(
+pub fn two_in_turn<H: DeskBrand, R: Wait + Print>(
     rt: &R,
     alloc: Global,
     log: &Log,
@@ -40,7 +40,7 @@ fn add_room(room: u32) -> Call {
     Call::Apply(Command::AddRoom(Room { room, rate: 8_000 }))
 }
 
-fn take_turns<'a, H: Hall, R: Wait + Print>(
+fn take_turns<'a, H: DeskBrand, R: Wait + Print>(
     rt: &R,
     alloc: Global,
     desk: &SharedDesk<'a, H>,
@@ -62,7 +62,7 @@ fn take_turns<'a, H: Hall, R: Wait + Print>(
 }
 
 /// One seat is kept back at first.
-fn without_one<'a, H: Hall, R: Wait + Print>(
+fn without_one<'a, H: DeskBrand, R: Wait + Print>(
     rt: &R,
     alloc: Global,
     desk: SharedDesk<'a, H>,
@@ -83,7 +83,7 @@ fn without_one<'a, H: Hall, R: Wait + Print>(
     }
 }
 
-fn with<'a, H: Hall>(seats: Vec<Seat<'a, H>>, kept: Option<Seat<'a, H>>) -> Vec<Seat<'a, H>> {
+fn with<'a, H: DeskBrand>(seats: Vec<Seat<'a, H>>, kept: Option<Seat<'a, H>>) -> Vec<Seat<'a, H>> {
     let mut seats = seats;
     if let Some(seat) = kept {
         let _ = seats.push(seat);
@@ -92,7 +92,7 @@ fn with<'a, H: Hall>(seats: Vec<Seat<'a, H>>, kept: Option<Seat<'a, H>>) -> Vec<
 }
 
 /// Prints whose calls the log has.
-fn whole<'a, H: Hall, R: Wait + Print>(
+fn whole<'a, H: DeskBrand, R: Wait + Print>(
     rt: &R,
     alloc: Global,
     desk: SharedDesk<'a, H>,

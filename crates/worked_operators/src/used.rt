@@ -6,13 +6,13 @@ ghost use Rattle.desk_rows.specs.Desk.{blank as no_rows};
 use crate::saying::{say_fault, says};
 use desk_edit::{Call, Command};
 use desk_rows::Room;
-use operator_desk::{DeskNames, Hall, Log, SharedDesk};
+use operator_desk::{DeskBrand, DeskNames, Log, SharedDesk};
 use std::alloc::Global;
 use std::io;
 use std::sync::Wait;
 
 /// Its calls are refused, and its log is not handed out.
-pub fn used_log<H: Hall, R: Wait + Print>(
+pub fn used_log<H: DeskBrand, R: Wait + Print>(
     rt: &R,
     alloc: Global,
     log: &Log,

@@ -16,8 +16,8 @@ returns-in-Ok g c =
     let here = c.args.settings in
     let who = g.H.Setup.who in
     let many = g.H.Setup.lanes in
-    let start = g.H.Hall.start in
-    let publisher = g.H.Hall.publisher in
+    let start = g.H.DeskBrand.start in
+    let publisher = g.H.DeskBrand.publisher in
     let lanes = lanes_in c.in-Ok.feed in
     let named : All (λ (lane : LaneNow). lane.state.who ≡ who) lanes =
     subst (λ (w : Asker). All (λ (lane : LaneNow). lane.state.who ≡ w) lanes) c.requires.who c.in-Ok.ensures.who in

@@ -6,7 +6,7 @@ use Rattle.lane_tests.proofs.lanes.lanes.Goals as goal
 
 pub loop-lane-preserved : goal.loop-lane-preserved
 loop-lane-preserved g c =
-    let h = g.H.Hall in
+    let h = g.H.DeskBrand in
     let inv = c.loop-lane.invariant in
     let many = c.len-many.result in
     let place = c.loop-lane.lane in

@@ -7,8 +7,8 @@ use Rattle.lane_tests.proofs.lanes.lanes.Given as goal
 
 abbrev pub invariant-loop-lane : goal.invariant-loop-lane
 invariant-loop-lane g l = record {
-  readers : All (λ reader. reader ≡ new_reader g.H.Hall.publisher g.H.Hall.start) l.readers.items;
+  readers : All (λ reader. reader ≡ new_reader g.H.DeskBrand.publisher g.H.DeskBrand.start) l.readers.items;
   begun : AreBegun l.many l.lanes.items;
-  publisher : All (λ (lane : LaneNow). lane.reader.publisher ≡ g.H.Hall.publisher) l.lanes.items;
+  publisher : All (λ (lane : LaneNow). lane.reader.publisher ≡ g.H.DeskBrand.publisher) l.lanes.items;
   count : length l.lanes.items ≡ l.lane;
 }

@@ -5,10 +5,10 @@ use Rattle.lane_tests.proofs.lanes.last_of.Goals as goal
 
 pub returns-clause-taken : goal.returns-clause-taken
 returns-clause-taken g c =
-    let h = g.H.Hall in
+    let h = g.H.DeskBrand in
     (All-pop (λ reader. reader ≡ new_reader h.publisher h.start) _ _ _ c.pop.ensures.items c.requires).1
 
 pub returns-clause-left : goal.returns-clause-left
 returns-clause-left g c =
-    let h = g.H.Hall in
+    let h = g.H.DeskBrand in
     (All-pop (λ reader. reader ≡ new_reader h.publisher h.start) _ _ _ c.pop.ensures.items c.requires).0

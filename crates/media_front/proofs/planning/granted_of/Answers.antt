@@ -1,7 +1,7 @@
 use Rattle.std.proofs.Common.{◌≡◌, ◌∙◌, true, List, ap, sym}
 use Rattle.std.specs.List.{list_all}
 use Rattle.std.specs.declared.alloc.Global.{Global}
-use Rattle.flood_guard.specs.declared.account.Account.{Account}
+use Rattle.rate_limiter.specs.declared.bucket.Bucket.{Bucket}
 use Rattle.media_items.specs.Inputs.{input_of}
 use Rattle.media_items.specs.declared.item.Item.{Item}
 use Rattle.media_front.specs.inner.Plans.{is_free}
@@ -18,4 +18,4 @@ pub returns-then-are_free-clause-after : goal.returns-then-are_free-clause-after
 returns-then-are_free-clause-after c =
     let free : list_all (λ (item : Item Global). is_free (input_of item)) c.args.items.items ≡ true =
     ap (list_all (λ (item : Item Global). is_free (input_of item))) (sym c.deref.ensures.value) ∙ (sym c.are_free.ensures ∙ c.if-are_free.true) in
-    ap (λ (a : List Account). record c.args.draft.now { after = a }) (sym (free_after input_of c.args.cost c.args.moment c.args.items.items c.args.draft.now.after free))
+    ap (λ (a : List Bucket). record c.args.draft.now { after = a }) (sym (free_after input_of c.args.cost c.args.moment c.args.items.items c.args.draft.now.after free))

@@ -5,8 +5,8 @@ use Rattle.media_front.proofs.PlaceLemmas.{All_at}
 use Rattle.media_front.proofs.StartLemmas.{All_one}
 use Rattle.media_front.proofs.starting.outfits_for.Goals as goal
 
-pub bounds-bells-at : goal.bounds-bells-at
-bounds-bells-at g c =
+pub bounds-signals-at : goal.bounds-signals-at
+bounds-signals-at g c =
     let k = c.loop-sink.invariant in
     let next = c.in-Some.ensures.steps in
     let done = c.loop-sink.yielded in

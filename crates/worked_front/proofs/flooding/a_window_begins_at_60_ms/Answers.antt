@@ -1,9 +1,9 @@
 use Rattle.std.proofs.Common.{◌∙◌, ap, min}
-use Rattle.flood_guard.specs.declared.account.Account.{Account}
-use Rattle.flood_guard.specs.declared.quota.Quota.TheVariants.{Numbers}
-use Rattle.flood_guard.specs.Accounts.{left_in, window_of}
+use Rattle.rate_limiter.specs.declared.bucket.Bucket.{Bucket}
+use Rattle.rate_limiter.specs.declared.quota.Quota.TheVariants.{Numbers}
+use Rattle.rate_limiter.specs.Buckets.{left_in, window_of}
 use Rattle.worked_front.proofs.Others.{from_fact}
 use Rattle.worked_front.proofs.flooding.a_window_begins_at_60_ms.Goals as goal
 
 pub returns : goal.returns
-returns c = from_fact c.ask.result c.ask.ensures.answer (λ granted is. is ∙ ap (λ (a : Account). min 1 (left_in (window_of 60000000) Numbers a)) c.requires)
+returns c = from_fact c.ask.result c.ask.ensures.answer (λ granted is. is ∙ ap (λ (a : Bucket). min 1 (left_in (window_of 60000000) Numbers a)) c.requires)

@@ -9,12 +9,12 @@ none_knew_more-requires g c =
     let accepted = c.in-Accepted.ensures in
     let ports = c.tell-in-Accepted.new.bridge in
     let lanes = c.tell-in-Accepted.ensures.lanes ∙ c.tell.ensures.lanes in
-    let read = subst (AllRead g.H.Hall.publisher) (sym lanes) c.requires.read in
+    let read = subst (AllRead g.H.DeskBrand.publisher) (sym lanes) c.requires.read in
     record { ended = (ports, c.close-ends.ensures.ended, subst (λ b. AllRead b (lanes_of ports)) (sym accepted.tells.0) read) }
 
 pub returns-then-none_knew_more : goal.returns-then-none_knew_more
 returns-then-none_knew_more g c =
-    let start = g.H.Hall.start in
+    let start = g.H.DeskBrand.start in
     let seen = c.call.new.seat.seen in
     let accepted = c.in-Accepted.ensures in
     let ports = c.tell-in-Accepted.new.bridge in

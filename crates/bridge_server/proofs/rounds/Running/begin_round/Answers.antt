@@ -4,7 +4,7 @@ use Rattle.bridge_server.proofs.rounds.Running.begin_round.Goals as goal
 
 pub invariant_of-self : goal.invariant_of-self
 invariant_of-self g c = record {
-  begun = subst (HaveBegun g.H.Setup.who g.H.Setup.lanes g.H.Hall.start g.H.Hall.publisher)
+  begun = subst (HaveBegun g.H.Setup.who g.H.Setup.lanes g.H.DeskBrand.start g.H.DeskBrand.publisher)
       (sym c.begin_round.ensures.lanes) c.self.invariant.begun;
   asker = c.begin_round.ensures.asker ∙ c.self.invariant.asker;
 }

@@ -1,5 +1,5 @@
 use Rattle.std.proofs.Common.{◌∷◌, [], true, false, List, ℕ, refl, ap}
-use Rattle.front_rounds.specs.Turns.{history, looked, rang}
+use Rattle.front_rounds.specs.Turns.{history, looked, signalled}
 use Rattle.front_rounds.proofs.rounds.Rounds.wake.Goals as goal
 
 pub returns-then-is_due-clause-done : goal.returns-then-is_due-clause-done
@@ -10,9 +10,9 @@ returns-then-is_due-clause-done g c =
     let told = g.C.Watch.told c.now.new.self in
     let now = c.in_ok-now.now in
     let mid = history a.media came told tried a.ticked in
-    let new = history c.ring.new.self came told tried a.ticked in (
-      looked now ∷ rang ∷ [],
-      (mid, ap (λ (t : List ℕ). history a.media came t tried a.ticked) c.in_ok-now.ensures.ok, (new, ap (λ f. history f came told tried a.ticked) c.ring.ensures, refl)),
+    let new = history c.signal.new.self came told tried a.ticked in (
+      looked now ∷ signalled ∷ [],
+      (mid, ap (λ (t : List ℕ). history a.media came t tried a.ticked) c.in_ok-now.ensures.ok, (new, ap (λ f. history f came told tried a.ticked) c.signal.ensures, refl)),
       (now, true, refl),
     )
 

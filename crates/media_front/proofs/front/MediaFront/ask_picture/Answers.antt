@@ -19,17 +19,17 @@ returns-clause-asked g c =
     let is : d ≡ p = c.in_ok-request.ensures in
     let before = g.W.Wire.attempts c.args.wire.now in
     let after = g.W.Wire.attempts c.try_one.new.wire in
-    let guard = c.try_one.new.guard in
-    let old : FrontOf g.row.P.Denot g.row.S.Denot = record { intake = here.intake; feed = here.feed; guard = here.guard; ticks = here.ticks; reports = here.reports } in
-    let new : FrontOf g.row.P.Denot g.row.S.Denot = record old { guard = guard } in
-    let one : WereTried (paid_one p here.guard) before after = subst (λ (x : Address × List ℕ). WereTried (paid_one x here.guard) before after) is c.try_one.ensures.tried in
+    let limiter = c.try_one.new.limiter in
+    let old : FrontOf g.row.P.Denot g.row.S.Denot = record { intake = here.intake; feed = here.feed; limiter = here.limiter; ticks = here.ticks; reports = here.reports } in
+    let new : FrontOf g.row.P.Denot g.row.S.Denot = record old { limiter = limiter } in
+    let one : WereTried (paid_one p here.limiter) before after = subst (λ (x : Address × List ℕ). WereTried (paid_one x here.limiter) before after) is c.try_one.ensures.tried in
     subst (λ (f : FrontOf g.row.P.Denot g.row.S.Denot). HasAsked o c.try_one.result f new before after) c.self.view_is
     (record {
       handled = λ desk moment. record {
-        up = subst (λ (ds : List (Address × List ℕ)). WereTried ds before after) (sym (append-nil (paid_one p here.guard))) one;
+        up = subst (λ (ds : List (Address × List ℕ)). WereTried ds before after) (sym (append-nil (paid_one p here.limiter))) one;
         items = refl;
-        guard = c.try_one.ensures.guard ∙ ap (λ (x : Address × List ℕ). after_one x here.guard) is;
+        limiter = c.try_one.ensures.limiter ∙ ap (λ (x : Address × List ℕ). after_one x here.limiter) is;
       };
-      answer = c.try_one.ensures.answer ∙ ap (λ (x : Address × List ℕ). is_paid_for x here.guard) is;
+      answer = c.try_one.ensures.answer ∙ ap (λ (x : Address × List ℕ). is_paid_for x here.limiter) is;
       same = refl;
     })

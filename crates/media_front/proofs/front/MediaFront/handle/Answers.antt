@@ -7,11 +7,11 @@ use Rattle.media_items.specs.Inputs.{Input, input_of, is_sized}
 use Rattle.intake.specs.Ingested.{Ingested, ingested_of, datagram_of}
 use Rattle.media_front.specs.FedLanes.{AllAreGiven}
 use Rattle.media_front.specs.Tries.{WereTried}
-use Rattle.flood_guard.specs.declared.account.Account.{Account}
-use Rattle.flood_guard.specs.Drafts.{DraftOf}
+use Rattle.rate_limiter.specs.declared.bucket.Bucket.{Bucket}
+use Rattle.rate_limiter.specs.Drafts.{DraftOf}
 use Rattle.media_front.specs.Paid.{paid_of}
 use Rattle.media_front.specs.Granted.{granted_of, after_asking}
-use Rattle.media_front.specs.Fronts.{FrontOf, Arrival, HasHandled, once_earned, once_paid}
+use Rattle.media_front.specs.Fronts.{FrontOf, Arrival, HasHandled, once_refilled, once_paid}
 use Rattle.media_front.specs.inner.Shares.{input_shared}
 use Rattle.media_front.proofs.front.MediaFront.handle.Goals as goal
 
@@ -26,11 +26,11 @@ returns-clause-handled g c desk =
     let ingest = c.args.ingest in
     let plan = c.in_ok-planned.planned in
     let is = c.in_ok-planned.ensures in
-    let new : FrontOf g.row.P.Denot g.row.S.Denot = record { intake = here.intake; feed = c.hand_out_all.new.self; guard = c.put_back.new.self; ticks = here.ticks; reports = here.reports } in
+    let new : FrontOf g.row.P.Denot g.row.S.Denot = record { intake = here.intake; feed = c.hand_out_all.new.self; limiter = c.put_back.new.self; ticks = here.ticks; reports = here.reports } in
     let before = g.W.Wire.attempts c.args.wire.now in
     let after = g.W.Wire.attempts c.try_all.new.wire in
-    let once : List Account = once_earned arrival (ingested_of ingest) here.guard in
-    let sent : List Account = once_paid arrival (ingested_of ingest) here.guard in
+    let once : List Bucket = once_refilled arrival (ingested_of ingest) here.limiter in
+    let sent : List Bucket = once_paid arrival (ingested_of ingest) here.limiter in
     let up : map datagram_of plan.ingest.up.items ≡ paid_of (map datagram_of ingest.up.items) once = ap (λ (i : Ingested). i.up) is.ingest in
     let given : map input_of plan.ingest.items.items ≡ granted_of here.pli_cost c.args.moment (map input_of ingest.items.items) sent = ap (λ (i : Ingested). i.items) is.ingest in
     subst (λ (f : FrontOf g.row.P.Denot g.row.S.Denot). HasHandled arrival (ingested_of ingest) f new before after) c.self.view_is
@@ -40,6 +40,6 @@ returns-clause-handled g c desk =
       items = subst (λ (n : ℕ). AllAreGiven (granted_of n c.args.moment (map input_of ingest.items.items) sent) here.feed c.hand_out_all.new.self) c.self.invariant
           (subst (λ (is : List Input). AllAreGiven is here.feed c.hand_out_all.new.self)
           (ap (map input_shared) c.deref-2.ensures.value ∙ (c.in_ok-shared.ensures ∙ given)) c.hand_out_all.ensures);
-      guard = c.in_ok-put_back.ensures.after ∙ ap (λ (d : DraftOf). d.after) is.draft
+      limiter = c.in_ok-put_back.ensures.after ∙ ap (λ (d : DraftOf). d.after) is.draft
           ∙ ap (λ (n : ℕ). after_asking n c.args.moment (map input_of ingest.items.items) sent) c.self.invariant;
     })

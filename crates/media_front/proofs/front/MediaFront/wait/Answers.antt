@@ -24,7 +24,7 @@ returns-clause-waited g c =
     let answer = c.in_ok-answer.answer in
     let before = g.W.Wire.attempts c.args.wire.now in
     let after = g.W.Wire.attempts c.handle.new.wire in
-    let old : FrontOf g.row.P.Denot g.row.S.Denot = record { intake = here.intake; feed = here.feed; guard = here.guard; ticks = here.ticks; reports = here.reports } in
+    let old : FrontOf g.row.P.Denot g.row.S.Denot = record { intake = here.intake; feed = here.feed; limiter = here.limiter; ticks = here.ticks; reports = here.reports } in
     let mid : FrontOf g.row.P.Denot g.row.S.Denot = record old { intake = c.wait.new.self } in
     subst (λ (f : FrontOf g.row.P.Denot g.row.S.Denot). HasWaited desk o c.args.moment f c.handle.new.self before after) c.self.view_is
     (record {

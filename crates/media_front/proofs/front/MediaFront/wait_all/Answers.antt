@@ -27,7 +27,7 @@ loop-row-preserved g c =
       waited = waits_more desk c.args.now (origin_in desk) c.others_of-row-items.result.now c.loop-row.row-index _ c.args.self.now c.loop-row.self c.wait_row.new.self
           (g.W.Wire.attempts c.args.wire.now) (g.W.Wire.attempts c.loop-row.wire) (g.W.Wire.attempts c.wait_row.new.wire)
           c.loop-row-test.true c.loop-row.invariant.waited c.in_ok-wait_row.ensures.waited;
-      same = c.wait_row.ensures.same ∙ ap (λ (f : FrontOf g.row.P.Denot g.row.S.Denot). record f { intake = c.wait_row.new.self.intake; feed = c.wait_row.new.self.feed; guard = c.wait_row.new.self.guard }) c.loop-row.invariant.same;
+      same = c.wait_row.ensures.same ∙ ap (λ (f : FrontOf g.row.P.Denot g.row.S.Denot). record f { intake = c.wait_row.new.self.intake; feed = c.wait_row.new.self.feed; limiter = c.wait_row.new.self.limiter }) c.loop-row.invariant.same;
       asker = c.wait_row.ensures.asker ∙ c.loop-row.invariant.asker;
     }
 

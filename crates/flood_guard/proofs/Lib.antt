@@ -1,4 +1,0 @@
-pub mod KeyedLemmas
-pub mod Turns
-pub mod CreditLaws
-pub mod AskLaws

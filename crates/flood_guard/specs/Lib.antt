@@ -1,4 +1,0 @@
-pub mod Accounts
-pub mod Drafts
-pub mod Steps
-pub mod inner

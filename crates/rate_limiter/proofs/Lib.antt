@@ -1,0 +1,4 @@
+pub mod KeyedLemmas
+pub mod Turns
+pub mod TokenLaws
+pub mod AskLaws

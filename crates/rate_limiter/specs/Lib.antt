@@ -1,0 +1,4 @@
+pub mod Buckets
+pub mod Drafts
+pub mod Steps
+pub mod inner

@@ -1,0 +1,23 @@
+//! The key of a bucket.
+
+ghost use Rattle.std.specs.Prelude.{◌≡◌};
+ghost use Rattle.rate_limiter.specs.inner.Keyed.{key_of};
+
+use rtp_codec::Address;
+
+/// The key of a bucket: the parts of its address.
+#[derive(Clone, Copy, PartialEq, Eq, Hash)]
+pub(crate) struct AddressKey {
+    ip: [u8; 4],
+    port: u16,
+}
+
+/// The key of the bucket of an address.
+pub(crate) fn key_of(address: &Address) -> AddressKey
+    ensures { result ≡ key_of address.now }
+{
+    AddressKey {
+        ip: address.ip,
+        port: address.port,
+    }
+}
