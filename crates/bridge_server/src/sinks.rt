@@ -117,7 +117,7 @@ pub(crate) fn counts_for(
 {
     let mut counts = Vec::with_capacity(alloc, count)?;
     for _ in 0..count {
-        counts.push_reserved(Arc::new(alloc, SharedCounts::new())?);
+        counts.push_reserved(Arc::new(alloc, SharedCounts::new(alloc)?)?);
     }
     Ok(counts)
 }

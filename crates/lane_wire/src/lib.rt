@@ -2,7 +2,7 @@
 //!
 //! Begin with [`WireSink::new`], of a [`LaneWire`] such as a socket, and hand it to `Bridge::start` of media_workers.
 //! When the lane has ended, [`WireSink::into_sent`] tells what it took and how much of that was sent. Meanwhile
-//! [`SharedCounts::read`] tells the latter.
+//! [`SharedCounts::read`] tells the latter, and [`SharedCounts::last_note`] what a receiver reported last.
 //!
 //! Contracts see a sink as the list of what it took, and a wire as the list of what was done on it: each try to send a
 //! datagram, with its answer, and each pause. Of a socket both lists exist in proofs alone: [`Taken`] and [`WireLog`]
@@ -10,7 +10,7 @@
 //!
 //! ```rust
 //! // wire: a `LaneWire`; egress: what a lane sends
-//! let counts = Arc::new(alloc, SharedCounts::new())?;
+//! let counts = Arc::new(alloc, SharedCounts::new(alloc)?)?;
 //! let mut sink = WireSink::new(wire, Arc::try_clone(&counts)?);
 //! sink.put(&rt, egress);
 //! let packets = counts.read().packets; // 1, if the datagram was sent
@@ -20,6 +20,7 @@
 
 mod counts;
 mod fault;
+mod last_notes;
 mod sending;
 mod shared_counts;
 mod taken;
@@ -28,6 +29,7 @@ mod wire_sink;
 
 pub use self::counts::SendCounts;
 pub use self::fault::SendFault;
+pub use self::last_notes::LastNotes;
 pub use self::sending::LaneWire;
 pub use self::shared_counts::SharedCounts;
 pub use self::taken::Taken;

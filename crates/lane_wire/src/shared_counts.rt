@@ -1,10 +1,14 @@
-//! The counts of a lane that runs, for whoever asks.
+//! The counts of a lane that runs and its receivers' reports, for whoever asks.
 
 use crate::counts::SendCounts;
+use crate::last_notes::LastNotes;
+use bridge_core::LossNote;
+use std::alloc::{AllocError, Global};
 use std::sync::atomic::{AtomicU64, Ordering};
+use std::sync::{Mutex, MutexGuard, Wait};
 
-/// What a lane's sink has counted so far, as other threads may read it. Each count is exact, and they may be of moments
-/// that a datagram or so lies between. No contract speaks of it.
+/// What a lane's sink has counted so far, and what its receivers reported last, as other threads may read it. Each count
+/// is exact, and they may be of moments that a datagram or so lies between. No contract speaks of it.
 #[derive(Drop)]
 pub struct SharedCounts {
     packets: AtomicU64,
@@ -16,12 +20,13 @@ pub struct SharedCounts {
     unreachable: AtomicU64,
     too_long: AtomicU64,
     other: AtomicU64,
+    notes: Mutex<LastNotes>,
 }
 
 impl SharedCounts {
-    /// Nothing was counted.
-    pub fn new() -> Self {
-        Self {
+    /// Nothing was counted. The only error is out of memory.
+    pub fn new(alloc: Global) -> Result<Self, AllocError> {
+        Ok(Self {
             packets: AtomicU64::new(0),
             octets: AtomicU64::new(0),
             waited: AtomicU64::new(0),
@@ -31,7 +36,23 @@ impl SharedCounts {
             unreachable: AtomicU64::new(0),
             too_long: AtomicU64::new(0),
             other: AtomicU64::new(0),
-        }
+            notes: Mutex::new(LastNotes::new(alloc)?),
+        })
+    }
+
+    /// What the receiver of a stream reported last, if that is kept.
+    pub fn last_note<R: Wait>(&self, rt: &R, out_ssrc: u32) -> Option<LossNote> {
+        let notes = self.notes.lock(rt);
+        let note = notes.last_of(out_ssrc);
+        MutexGuard::unlock(notes);
+        note
+    }
+
+    /// Keeps what a receiver reported.
+    pub(crate) fn note<R: Wait>(&self, rt: &R, note: &LossNote) {
+        let mut notes = self.notes.lock(rt);
+        notes.note(note);
+        MutexGuard::unlock(notes);
     }
 
     /// What was counted so far.

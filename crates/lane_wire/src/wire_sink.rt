@@ -28,7 +28,7 @@ pub struct LaneSent {
     pub counts: SendCounts,
 }
 
-/// A sink that sends each datagram, in the order in which they are put. Notes are dropped.
+/// A sink that sends each datagram, in the order in which they are put. Of notes it shows the last one of each stream.
 ///
 /// Where the wire isn't ready, it makes a pause and tries the same datagram again, for 20 ms at most. A datagram that
 /// is given up, or fails otherwise, is counted by its cause, and the next one is sent. After one that was given up it
@@ -119,7 +119,7 @@ impl<W: LaneWire + Drop> Sink for WireSink<W> {
     {
         match &egress {
             Egress::Media { .. } | Egress::Control { .. } => self.send(rt, &egress),
-            Egress::Note { .. } => {}
+            Egress::Note { note, .. } => self.shown.note(rt, note),
         }
         self.sent.taken.note(&egress);
     }
