@@ -7,8 +7,8 @@ use std::alloc::{AllocError, Global};
 use std::sync::atomic::{AtomicU64, Ordering};
 use std::sync::{Mutex, MutexGuard, Wait};
 
-/// What a lane's sink has counted so far, and what its receivers reported last, as other threads may read it. Each count
-/// is exact, and they may be of moments that a datagram or so lies between. No contract speaks of it.
+/// What a lane's sink has counted so far, and what its receivers reported last, as other threads may read it. Each
+/// count is exact, and they may be of moments that a datagram or so lies between. No contract speaks of it.
 #[derive(Drop)]
 pub struct SharedCounts {
     packets: AtomicU64,

@@ -1,5 +1,5 @@
 -- All that is done on an operator's connection, from its first round to its last (own).
-use Rattle.std.specs.Prelude.{◌≡◌, ◌⊎◌, ℕ, Bool, true, false, List, [], ◌++◌, Option}
+use Rattle.std.specs.Prelude.{◌≡◌, ◌⊎◌, ℕ, Bool, true, false, List, [], ◌++◌, ◌∷◌, Option}
 use Rattle.std.specs.List.{AllByRecursion, flat_map}
 use Rattle.operator_lines.specs.Fed.{StandsFor}
 use Rattle.operator_lines.specs.Operators.{Replying, Showing}
@@ -21,6 +21,12 @@ abbrev pub HasWaitedFor : Connection → Connection → Type 0
 HasWaitedFor start now =
     (rounds : List (List Deed)) × AllByRecursion IsRoundAlone rounds
     × AreDeeds (flat_map (λ deeds. deeds) rounds) start now
+
+-- the same with one round at least
+abbrev pub HasHadRounds : Connection → Connection → Type 0
+HasHadRounds start now =
+    (first : List Deed) × (rounds : List (List Deed)) × IsRoundAlone first × AllByRecursion IsRoundAlone rounds
+    × AreDeeds (flat_map (λ deeds. deeds) (first ∷ rounds)) start now
 
 -- a round with a seat, or the answers to what was heard before
 abbrev pub IsRoundSeated : List SeatedDeed → Type 0

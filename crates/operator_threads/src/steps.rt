@@ -1,9 +1,10 @@
 //! The rounds of an operator's connection at the desk.
 
-ghost use Rattle.std.specs.Prelude.{◌≡◌, List};
+ghost use Rattle.std.specs.Prelude.{◌≡◌, ◌-◌, List, not, true};
 ghost use Rattle.operator_threads.specs.Connection.{connection};
 ghost use Rattle.operator_threads.specs.Deeds.{SeatedDeed, AreSeatedDeeds};
-ghost use Rattle.operator_threads.specs.Talks.{HasWaitedFor, HasSat, IsStep};
+ghost use Rattle.operator_threads.specs.Talking.{is_over};
+ghost use Rattle.operator_threads.specs.Talks.{HasWaitedFor, HasHadRounds, HasSat, IsStep};
 
 use crate::at_desk::AtDesk;
 use crate::caller::{Caller, Heed};
@@ -95,7 +96,10 @@ impl<'a, H: DeskBrand> Operators<'a, H> {
         caller: &mut Caller<L>,
         front: &'b F,
     ) -> Seating<'b, 'a, H, R, F>
-        ensures { HasWaitedFor
+        ensures waited { HasWaitedFor
+            (connection (L.acts caller.old.line) caller.old.talk caller.old.ready caller.old.heard)
+            (connection (L.acts caller.new.line) caller.new.talk caller.new.ready caller.new.heard) }
+        ensures some { (result ≡ Seating.Over → ⊥) → HasHadRounds
             (connection (L.acts caller.old.line) caller.old.talk caller.old.ready caller.old.heard)
             (connection (L.acts caller.new.line) caller.new.talk caller.new.ready caller.new.heard) }
     {
@@ -148,7 +152,9 @@ impl<'a, H: DeskBrand> Operators<'a, H> {
         desk: &mut D,
         front: &F,
     ) -> bool
-        ensures { (deeds : List SeatedDeed) × IsStep result deeds × AreSeatedDeeds D.replies D.shows deeds
+        ensures over { result ≡ not (is_over caller.old.talk.standing true caller.old.talk.outgoing
+            (caller.old.looked - caller.old.talk.since)) }
+        ensures step { (deeds : List SeatedDeed) × IsStep result deeds × AreSeatedDeeds D.replies D.shows deeds
             (desk.old, connection (L.acts caller.old.line) caller.old.talk caller.old.ready caller.old.heard)
             (desk.new, connection (L.acts caller.new.line) caller.new.talk caller.new.ready caller.new.heard) }
     {

@@ -30,7 +30,7 @@ use Rattle.intake.specs.Taking.{taken_in}
 use Rattle.intake.specs.Waiting.{waited_for}
 use Rattle.intake.specs.Intakes.{Knows, TakesIn, WaitsFor, TellsSenders}
 use Rattle.intake.specs.Reported.{reported}
-use Rattle.script_text.specs.Wire.{Wire, voice_of}
+use Rattle.script_text.specs.Decodings.{Decoding, voice_of}
 use Rattle.script_text.specs.Requests.{Desk as DeskRequest, Rx, Wait, Report, Show}
 use Rattle.script_text.specs.Datagrams.{outcome_text, up_text}
 use Rattle.script_text.specs.Text.{reply_text, sent_text}
@@ -155,10 +155,10 @@ pub datagram_answered : (old mid new : CoreOf) (moment : ℕ) (from : Address) (
     → before ≡ outcome_text ingested.outcome ++ flat_map up_text ingested.up → HandsItems mid ingested.items new before now → AnswersRequest old (Rx moment from octets) new now
 datagram_answered old mid new moment from octets ingested before now takes others asker text hands bridge heard s =
     let desk : old.desk ≡ desk_now bridge.calls = s.called.desk in
-    let took = takes (bridge.wire.reading octets) heard.reads (voice_of bridge.who bridge.wire) bridge.sources (heard.names bridge.who) (sym s.speaks) s.knows in
+    let took = takes (bridge.decoding.reading octets) heard.reads (voice_of bridge.who bridge.decoding) bridge.sources (heard.names bridge.who) (sym s.speaks) s.knows in
     let here = taken_at bridge moment from octets in
-    let same : ingested ≡ here.0 = took.0 ∙ ap (λ (d : Desk). (taken_in (voice_of bridge.who bridge.wire) bridge.sources (record { desk = d; from = from; moment = moment; reading = bridge.wire.reading octets })).0) desk in
-    let knows : Knows mid.intake here.1 = subst (λ (d : Desk). Knows mid.intake (taken_in (voice_of bridge.who bridge.wire) bridge.sources (record { desk = d; from = from; moment = moment; reading = bridge.wire.reading octets })).1) desk took.1 in
+    let same : ingested ≡ here.0 = took.0 ∙ ap (λ (d : Desk). (taken_in (voice_of bridge.who bridge.decoding) bridge.sources (record { desk = d; from = from; moment = moment; reading = bridge.decoding.reading octets })).0) desk in
+    let knows : Knows mid.intake here.1 = subst (λ (d : Desk). Knows mid.intake (taken_in (voice_of bridge.who bridge.decoding) bridge.sources (record { desk = d; from = from; moment = moment; reading = bridge.decoding.reading octets })).1) desk took.1 in
     let h = hands (knowing here.1 bridge) (now_knows old mid bridge here.1 others asker knows s) in
     subst (λ (i : Ingested). Stands new (after_items (knowing here.1 bridge) i.items) × (now ≡ outcome_text i.outcome ++ flat_map up_text i.up ++ items_text (items_sent (knowing here.1 bridge) i.items))) same
     (h.0, h.1 ∙ ap (λ (t : List ℕ). t ++ items_text (items_sent (knowing here.1 bridge) ingested.items)) text)
@@ -170,10 +170,10 @@ pub wait_answered : (old mid new : CoreOf) (moment : ℕ) (from : Address) (ssrc
     → before ≡ flat_map up_text freed.up → HandsItems mid freed.items new before now → AnswersRequest old (Wait moment from ssrc) new now
 wait_answered old mid new moment from ssrc freed before now goes_by others asker text hands bridge heard s =
     let desk : old.desk ≡ desk_now bridge.calls = s.called.desk in
-    let went = goes_by (voice_of bridge.who bridge.wire) bridge.sources (heard bridge.who) (sym s.speaks) s.knows in
+    let went = goes_by (voice_of bridge.who bridge.decoding) bridge.sources (heard bridge.who) (sym s.speaks) s.knows in
     let here = waited_at bridge moment (origin_at from ssrc) in
-    let same : freed ≡ here.0 = went.0 ∙ ap (λ (d : Desk). (waited_for (voice_of bridge.who bridge.wire) d (origin_at from ssrc) moment bridge.sources).0) desk in
-    let knows : Knows mid.intake here.1 = subst (λ (d : Desk). Knows mid.intake (waited_for (voice_of bridge.who bridge.wire) d (origin_at from ssrc) moment bridge.sources).1) desk went.1 in
+    let same : freed ≡ here.0 = went.0 ∙ ap (λ (d : Desk). (waited_for (voice_of bridge.who bridge.decoding) d (origin_at from ssrc) moment bridge.sources).0) desk in
+    let knows : Knows mid.intake here.1 = subst (λ (d : Desk). Knows mid.intake (waited_for (voice_of bridge.who bridge.decoding) d (origin_at from ssrc) moment bridge.sources).1) desk went.1 in
     let h = hands (knowing here.1 bridge) (now_knows old mid bridge here.1 others asker knows s) in
     subst (λ (i : Ingested). Stands new (after_items (knowing here.1 bridge) i.items) × (now ≡ flat_map up_text i.up ++ items_text (items_sent (knowing here.1 bridge) i.items))) same
     (h.0, h.1 ∙ ap (λ (t : List ℕ). t ++ items_text (items_sent (knowing here.1 bridge) freed.items)) text)
@@ -200,8 +200,8 @@ rows_shown core bridge s = ap (λ (d : Desk). show_text d core.version) s.called
 
 -- ---- the first line
 
-pub opens : (core : CoreOf) (wire : Wire) (who : Asker) → HasTaken core (first_desk who) [] → HasCalled core (no_calls (first_desk who)) → length core.lanes ≡ 1 → Knows core.intake no_sources → core.intake.asker ≡ who → Stands core (begun_bridge wire who)
-opens core wire who taken called lanes knows speaks = record { taken = taken; called = called; lanes = lanes; knows = knows; speaks = speaks }
+pub opens : (core : CoreOf) (decoding : Decoding) (who : Asker) → HasTaken core (first_desk who) [] → HasCalled core (no_calls (first_desk who)) → length core.lanes ≡ 1 → Knows core.intake no_sources → core.intake.asker ≡ who → Stands core (begun_bridge decoding who)
+opens core decoding who taken called lanes knows speaks = record { taken = taken; called = called; lanes = lanes; knows = knows; speaks = speaks }
 
 -- what follows from what holds of a success
 pub on_ok : {X E : Type 0} (r : Result X E) (P Q : Type 0) → OnOk r P → (P → Q) → OnOk r Q

@@ -19,7 +19,7 @@ use Rattle.script_text.specs.Values.{values_of, number_at, address_at}
 use Rattle.script_text.specs.Calls.{call_of}
 use Rattle.script_text.specs.Requests.{Request, Nothing, Begin, Desk, Item, Rx, Wait, Report, Show, line_kind_of, front_of, some_packets, sighted, framed, frame_of, some_octets, rx_of, request_with, words_request, is_printable, line_request, request_of}
 use Rattle.script_text.specs.FirstLine.{bridge_word, asker_of, renews_of, bridge_of, first_request, words_request_at, request_at}
-use Rattle.script_text.specs.Wire.{Wire, Hears}
+use Rattle.script_text.specs.Decodings.{Decoding, DecodesRequest}
 use Rattle.script_text.proofs.ValueLaws.{bind_ok}
 
 -- what is read of a line that is too long, has a bad octet, or asks for nothing
@@ -28,41 +28,41 @@ read_by long bad empty read = if long then Err (0, LineTooLong) else if bad then
 
 -- ---- what is heard
 
-hears_then : {A : Type 0} (wire : Wire) (r : Result A (ℕ × Fault)) (f : A → Result Request (ℕ × Fault)) → ((x : A) → Hears wire (f x)) → Hears wire (r >>= f)
-hears_then wire (Ok x) f h = h x
-hears_then wire (Err e) f h = tt
+hears_then : {A : Type 0} (decoding : Decoding) (r : Result A (ℕ × Fault)) (f : A → Result Request (ℕ × Fault)) → ((x : A) → DecodesRequest decoding (f x)) → DecodesRequest decoding (r >>= f)
+hears_then decoding (Ok x) f h = h x
+hears_then decoding (Err e) f h = tt
 
-hears_bridge : (wire : Wire) (words : List (List ℕ)) → Hears wire (bridge_of words)
+hears_bridge : (decoding : Decoding) (words : List (List ℕ)) → DecodesRequest decoding (bridge_of words)
 unfolding bridge_of
-hears_bridge wire words =
-    hears_then wire (word_at 2 words) _ (λ word. hears_then wire (value_or 2 BadNumber (decimal_of 4294967295 word.0)) _ (λ ssrc.
-    hears_then wire (word_at 3 word.1) _ (λ name. hears_then wire (asker_of ssrc name.0) _ (λ who. hears_then wire (renews_of name.1) _ (λ renews. tt)))))
+hears_bridge decoding words =
+    hears_then decoding (word_at 2 words) _ (λ word. hears_then decoding (value_or 2 BadNumber (decimal_of 4294967295 word.0)) _ (λ ssrc.
+    hears_then decoding (word_at 3 word.1) _ (λ name. hears_then decoding (asker_of ssrc name.0) _ (λ who. hears_then decoding (renews_of name.1) _ (λ renews. tt)))))
 
-hears_either : (wire : Wire) (b : Bool) (words : List (List ℕ)) (other : Result Request (ℕ × Fault)) → Hears wire other → Hears wire (if b then bridge_of words else other)
-hears_either wire true words other h = hears_bridge wire words
-hears_either wire false words other h = h
+hears_either : (decoding : Decoding) (b : Bool) (words : List (List ℕ)) (other : Result Request (ℕ × Fault)) → DecodesRequest decoding other → DecodesRequest decoding (if b then bridge_of words else other)
+hears_either decoding true words other h = hears_bridge decoding words
+hears_either decoding false words other h = h
 
-hears_first : (wire : Wire) (words : List (List ℕ)) → Hears wire (words_request words) → Hears wire (first_request words)
+hears_first : (decoding : Decoding) (words : List (List ℕ)) → DecodesRequest decoding (words_request words) → DecodesRequest decoding (first_request words)
 unfolding first_request
-hears_first wire [] h = h
-hears_first wire (word ∷ words) h = hears_either wire (bytes_eq word bridge_word) words (words_request (word ∷ words)) h
+hears_first decoding [] h = h
+hears_first decoding (word ∷ words) h = hears_either decoding (bytes_eq word bridge_word) words (words_request (word ∷ words)) h
 
-hears_words : (wire : Wire) (is_first : Bool) (words : List (List ℕ)) → Hears wire (words_request words) → Hears wire (if is_first then first_request words else words_request words)
-hears_words wire true words h = hears_first wire words h
-hears_words wire false words h = h
+hears_words : (decoding : Decoding) (is_first : Bool) (words : List (List ℕ)) → DecodesRequest decoding (words_request words) → DecodesRequest decoding (if is_first then first_request words else words_request words)
+hears_words decoding true words h = hears_first decoding words h
+hears_words decoding false words h = h
 
-hears_read : (wire : Wire) (long bad empty : Bool) (read other : Result Request (ℕ × Fault)) → (Hears wire read → Hears wire other) → Hears wire (read_by long bad empty read) → Hears wire (read_by long bad empty other)
-hears_read wire true bad empty read other f h = tt
-hears_read wire false true empty read other f h = tt
-hears_read wire false false true read other f h = tt
-hears_read wire false false false read other f h = f h
+hears_read : (decoding : Decoding) (long bad empty : Bool) (read other : Result Request (ℕ × Fault)) → (DecodesRequest decoding read → DecodesRequest decoding other) → DecodesRequest decoding (read_by long bad empty read) → DecodesRequest decoding (read_by long bad empty other)
+hears_read decoding true bad empty read other f h = tt
+hears_read decoding false true empty read other f h = tt
+hears_read decoding false false true read other f h = tt
+hears_read decoding false false false read other f h = f h
 
 -- a line that is heard as a later one is heard as the first one too
-pub hears_at : (wire : Wire) (number : ℕ) (line : List ℕ) → Hears wire (request_of line) → Hears wire (request_at number line)
+pub hears_at : (decoding : Decoding) (number : ℕ) (line : List ℕ) → DecodesRequest decoding (request_of line) → DecodesRequest decoding (request_at number line)
 unfolding line_request
-hears_at wire number line h =
+hears_at decoding number line h =
     let words = words_of line in
-    hears_read wire (nat_lt line_limit (length line)) (not (list_all is_printable line)) (length line == 0 || slice_index line 0 == 35) (words_request words) (words_request_at number words) (hears_words wire (number == 1) words) h
+    hears_read decoding (nat_lt line_limit (length line)) (not (list_all is_printable line)) (length line == 0 || slice_index line 0 == 35) (words_request words) (words_request_at number words) (hears_words decoding (number == 1) words) h
 
 -- ---- only the first line says who the bridge is
 

@@ -22,7 +22,7 @@ use Rattle.media_items.specs.Inputs.{Input}
 use Rattle.media_items.specs.Inputs.Input.{report, renew}
 use Rattle.upward.specs.Upstream.{Asker}
 use Rattle.script_text.specs.Requests.{Request, Nothing, Begin, Desk, Item, Rx, Wait, Report, Show}
-use Rattle.script_text.specs.Wire.{Wire, script_asker}
+use Rattle.script_text.specs.Decodings.{Decoding, script_asker}
 use Rattle.script_text.specs.Lines.{lines_of}
 use Rattle.script_text.specs.Bridge.{Bridge, first_desk, begun_bridge, opening_bridge, answer_begin, answer_call, after_item, after_items, knowing, taken_at, waited_at, origin_at, reported_at, bridge_after}
 use Rattle.script_text.specs.Scripts.{requests_of, after_all, steps_of}
@@ -142,16 +142,16 @@ items_good : (b : Bridge) (items : List Input) → Fine b → Fine (after_items 
 items_good b [] fine = fine
 items_good b (item ∷ items) fine = items_good (after_item b item) items (item_good b item fine)
 
-begun_fine : (wire : Wire) (who : Asker) → Fine (begun_bridge wire who)
-begun_fine wire who = record { calls = first_good who; steps = tt }
+begun_fine : (decoding : Decoding) (who : Asker) → Fine (begun_bridge decoding who)
+begun_fine decoding who = record { calls = first_good who; steps = tt }
 
-begun_good : (wire : Wire) (who : Asker) (renews : Bool) → Fine (answer_begin (begun_bridge wire who) renews).1
-begun_good wire who true = item_good (begun_bridge wire who) renew (begun_fine wire who)
-begun_good wire who false = begun_fine wire who
+begun_good : (decoding : Decoding) (who : Asker) (renews : Bool) → Fine (answer_begin (begun_bridge decoding who) renews).1
+begun_good decoding who true = item_good (begun_bridge decoding who) renew (begun_fine decoding who)
+begun_good decoding who false = begun_fine decoding who
 
 after_good : Keeps → (b : Bridge) (request : Request) → Fine b → Fine (bridge_after b request)
 after_good keeps b Nothing fine = fine
-after_good keeps b (Begin who renews) fine = begun_good b.wire who renews
+after_good keeps b (Begin who renews) fine = begun_good b.decoding who renews
 after_good keeps b Show fine = fine
 after_good keeps b (Desk op call) fine = by (refusal_of b.calls call) refl
   where
@@ -174,5 +174,5 @@ all_good : Keeps → (b : Bridge) (requests : List Request) → Fine b → Fine 
 all_good keeps b [] fine = fine
 all_good keeps b (request ∷ requests) fine = all_good keeps (bridge_after b request) requests (after_good keeps b request fine)
 
-pub steps_good : Keeps → (wire : Wire) (input : List ℕ) → AreGood (steps_of wire input)
-steps_good keeps wire input = (all_good keeps (opening_bridge wire) (requests_of (lines_of input)) (begun_fine wire script_asker)).steps
+pub steps_good : Keeps → (decoding : Decoding) (input : List ℕ) → AreGood (steps_of decoding input)
+steps_good keeps decoding input = (all_good keeps (opening_bridge decoding) (requests_of (lines_of input)) (begun_fine decoding script_asker)).steps

@@ -1,4 +1,4 @@
--- One wire hears every datagram, and so every script.
+-- One decoding has every datagram, and so every script.
 use Rattle.std.proofs.Common.{◌≡◌, ◌⊎◌, ◌^◌, ℕ, suc, Bool, true, false, not, ◌||◌, ◌==◌, nat_lt, length, slice_index, if◌then◌else◌, List, [], ◌∷◌, Option, Some, None, Result, Ok, Err, refl, inl, inr, arith}
 use Rattle.std.specs.Prelude.{IfSome}
 use Rattle.std.specs.List.{list_all}
@@ -13,7 +13,7 @@ use Rattle.script_text.specs.declared.fault.Fault.{Fault}
 use Rattle.script_text.specs.Lines.{line_limit}
 use Rattle.script_text.specs.Words.{words_of}
 use Rattle.script_text.specs.Requests.{Request, Nothing, Begin, Desk, Item, Rx, Wait, Report, Show, is_printable, words_request, line_request, request_of}
-use Rattle.script_text.specs.Wire.{Wire, script_asker, IsHeard, Hears, HearsAll, OnWires}
+use Rattle.script_text.specs.Decodings.{Decoding, script_asker, IsDecoded, DecodesRequest, DecodesLines, InEachDecoding}
 use Rattle.script_text.specs.Lines.{lines_of}
 use Rattle.script_text.proofs.FirstLineLemmas.{read_by}
 use Rattle.script_text.proofs.RxLaws.{rx_back}
@@ -47,11 +47,11 @@ unfolding read
 reads readings octets (inl small) h = (readings octets small).1
 reads readings octets (inr other) h = absurd (other h)
 
--- a wire that hears every datagram
-abbrev HearsEach : Wire → Type 0
-HearsEach wire = (octets : List ℕ) → AreOctets octets → IsHeard wire octets
+-- a decoding of every datagram
+abbrev HearsEach : Decoding → Type 0
+HearsEach decoding = (octets : List ℕ) → AreOctets octets → IsDecoded decoding octets
 
-pub datagrams_heard : HaveVoices → HaveReadings → (wire : Wire) × HearsEach wire
+pub datagrams_heard : HaveVoices → HaveReadings → (decoding : Decoding) × HearsEach decoding
 datagrams_heard voices readings =
     let voice = voices script_asker in (
       record { reading = λ numbers. read readings numbers (octets_or_not numbers); words = voice.0.words },
@@ -76,33 +76,33 @@ unfolding line_request
 line_octets line moment from octets e =
     by_recursion octets (rx_back line moment from octets (words_read (nat_lt line_limit (length line)) (not (list_all is_printable line)) (length line == 0 || slice_index line 0 == 35) (words_request (words_of line)) moment from octets e)).3.bytes
 
-line_heard : (wire : Wire) → HearsEach wire → (line : List ℕ) (asked : Result Request (ℕ × Fault)) → request_of line ≡ asked → Hears wire asked
-line_heard wire each line (Ok Nothing) e = tt
-line_heard wire each line (Ok (Begin who renews)) e = tt
-line_heard wire each line (Ok (Desk op call)) e = tt
-line_heard wire each line (Ok (Item item)) e = tt
-line_heard wire each line (Ok (Rx moment from octets)) e = each octets (line_octets line moment from octets e)
-line_heard wire each line (Ok (Wait moment from ssrc)) e = (each [] tt).names
-line_heard wire each line (Ok (Report moment)) e = tt
-line_heard wire each line (Ok Show) e = tt
-line_heard wire each line (Err fault) e = tt
+line_heard : (decoding : Decoding) → HearsEach decoding → (line : List ℕ) (asked : Result Request (ℕ × Fault)) → request_of line ≡ asked → DecodesRequest decoding asked
+line_heard decoding each line (Ok Nothing) e = tt
+line_heard decoding each line (Ok (Begin who renews)) e = tt
+line_heard decoding each line (Ok (Desk op call)) e = tt
+line_heard decoding each line (Ok (Item item)) e = tt
+line_heard decoding each line (Ok (Rx moment from octets)) e = each octets (line_octets line moment from octets e)
+line_heard decoding each line (Ok (Wait moment from ssrc)) e = (each [] tt).names
+line_heard decoding each line (Ok (Report moment)) e = tt
+line_heard decoding each line (Ok Show) e = tt
+line_heard decoding each line (Err fault) e = tt
 
-lines_heard : (wire : Wire) → HearsEach wire → (lines : List (List ℕ)) → HearsAll wire lines
-lines_heard wire each [] = tt
-lines_heard wire each (line ∷ lines) = (line_heard wire each line (request_of line) refl, lines_heard wire each lines)
+lines_heard : (decoding : Decoding) → HearsEach decoding → (lines : List (List ℕ)) → DecodesLines decoding lines
+lines_heard decoding each [] = tt
+lines_heard decoding each (line ∷ lines) = (line_heard decoding each line (request_of line) refl, lines_heard decoding each lines)
 
--- a wire that hears every script
+-- a decoding of every script
 abbrev pub HaveWire : Type 0
-HaveWire = (wire : Wire) × ((lines : List (List ℕ)) → HearsAll wire lines)
+HaveWire = (decoding : Decoding) × ((lines : List (List ℕ)) → DecodesLines decoding lines)
 
-pub scripts_heard : (wire : Wire) × HearsEach wire → HaveWire
+pub scripts_heard : (decoding : Decoding) × HearsEach decoding → HaveWire
 scripts_heard one = (one.0, lines_heard one.0 one.1)
 
--- ---- what is so on each wire is so on that one
+-- ---- what is so in each decoding is so in that one
 
-pub on_wires : HaveWire → (lines : List (List ℕ)) (IsSo : Wire → Type 0) → ((wire : Wire) → HearsAll wire lines → IsSo wire) → OnWires lines IsSo
+pub on_wires : HaveWire → (lines : List (List ℕ)) (IsSo : Decoding → Type 0) → ((decoding : Decoding) → DecodesLines decoding lines → IsSo decoding) → InEachDecoding lines IsSo
 on_wires one lines IsSo each = record { each = each; some = (one.0, one.1 lines, each one.0 (one.1 lines)) }
 
-pub input_on_wires : HaveWire → (left : Option (List ℕ)) (IsSo : List ℕ → Wire → Type 0) → IfSome left (λ input. (wire : Wire) → HearsAll wire (lines_of input) → IsSo input wire) → IfSome left (λ input. OnWires (lines_of input) (IsSo input))
+pub input_on_wires : HaveWire → (left : Option (List ℕ)) (IsSo : List ℕ → Decoding → Type 0) → IfSome left (λ input. (decoding : Decoding) → DecodesLines decoding (lines_of input) → IsSo input decoding) → IfSome left (λ input. InEachDecoding (lines_of input) (IsSo input))
 input_on_wires one None IsSo each = tt
 input_on_wires one (Some input) IsSo each = on_wires one (lines_of input) (IsSo input) each

@@ -16,7 +16,7 @@ use Rattle.intake.specs.Sources.{Sources}
 use Rattle.script_text.specs.Requests.{Request, Nothing, Begin, Desk, Item, Rx, Wait, Report, Show}
 use Rattle.script_text.specs.FirstLine.{request_at}
 use Rattle.script_text.specs.Lines.{lines_of}
-use Rattle.script_text.specs.Wire.{Wire}
+use Rattle.script_text.specs.Decodings.{Decoding}
 use Rattle.script_text.specs.Bridge.{Bridge, first_desk, begun_bridge, opening_bridge, Answer, silence, replied, sent, heard, waited, reports, shown, text_of, answer_call, item_sent, after_item, items_sent, after_items, knowing, answer_datagram, taken_at, answer_wait, waited_at, origin_at, answer, bridge_after}
 use Rattle.script_text.specs.Output.{RunOutput, continues, outcome_of, output_of}
 use Rattle.script_text.specs.Scripts.{followed, requests_from, requests_of, named_by, speaker_of, answers_to, after_all, sent_in, answers_of, steps_of}
@@ -34,8 +34,8 @@ unfolding outcome_of requests_from
 text_from bridge number [] = refl
 text_from bridge number (line ∷ lines) = text_on bridge number (request_at number line) (λ b. outcome_of b (number + 1) lines) (requests_from (number + 1) lines) (λ b. text_from b (number + 1) lines)
 
-pub text_told : (wire : Wire) (input : List ℕ) → (output_of wire input).text ≡ flat_map text_of (answers_of wire input)
-text_told wire input = text_from (opening_bridge wire) 1 (lines_of input)
+pub text_told : (decoding : Decoding) (input : List ℕ) → (output_of decoding input).text ≡ flat_map text_of (answers_of decoding input)
+text_told decoding input = text_from (opening_bridge decoding) 1 (lines_of input)
 
 -- ---- what is sent
 
@@ -148,25 +148,25 @@ all_later number (line ∷ lines) more =
     followed_later (request_at number line) (requests_from (number + 1) lines) (λ who renews e. later_never_begins number line who renews (not_first number more) e) (all_later (number + 1) lines (omega (arith, more)))
 
 -- a request for the bridge of this script, and others that say nothing of it
-first_sends : (wire : Wire) (request : Request) (others : List Request) → AreLater others → sent_in (answers_to (opening_bridge wire) (request ∷ others)) ≡ sends_by (named_by (request ∷ others)) (after_all (opening_bridge wire) (request ∷ others)).steps
-first_sends wire Nothing others later = sym (all_sends (opening_bridge wire) others later)
-first_sends wire (Begin who false) others later = sym (all_sends (begun_bridge wire who) others later)
-first_sends wire (Begin who true) others later = sym (all_sends (after_item (begun_bridge wire who) renew) others later)
-first_sends wire (Desk op call) others later = sym (all_sends (opening_bridge wire) (Desk op call ∷ others) (λ who renews e. absurd cc, later))
-first_sends wire (Item item) others later = sym (all_sends (opening_bridge wire) (Item item ∷ others) (λ who renews e. absurd cc, later))
-first_sends wire (Rx moment from octets) others later = sym (all_sends (opening_bridge wire) (Rx moment from octets ∷ others) (λ who renews e. absurd cc, later))
-first_sends wire (Wait moment from ssrc) others later = sym (all_sends (opening_bridge wire) (Wait moment from ssrc ∷ others) (λ who renews e. absurd cc, later))
-first_sends wire (Report moment) others later = sym (all_sends (opening_bridge wire) (Report moment ∷ others) (λ who renews e. absurd cc, later))
-first_sends wire Show others later = sym (all_sends (opening_bridge wire) others later)
+first_sends : (decoding : Decoding) (request : Request) (others : List Request) → AreLater others → sent_in (answers_to (opening_bridge decoding) (request ∷ others)) ≡ sends_by (named_by (request ∷ others)) (after_all (opening_bridge decoding) (request ∷ others)).steps
+first_sends decoding Nothing others later = sym (all_sends (opening_bridge decoding) others later)
+first_sends decoding (Begin who false) others later = sym (all_sends (begun_bridge decoding who) others later)
+first_sends decoding (Begin who true) others later = sym (all_sends (after_item (begun_bridge decoding who) renew) others later)
+first_sends decoding (Desk op call) others later = sym (all_sends (opening_bridge decoding) (Desk op call ∷ others) (λ who renews e. absurd cc, later))
+first_sends decoding (Item item) others later = sym (all_sends (opening_bridge decoding) (Item item ∷ others) (λ who renews e. absurd cc, later))
+first_sends decoding (Rx moment from octets) others later = sym (all_sends (opening_bridge decoding) (Rx moment from octets ∷ others) (λ who renews e. absurd cc, later))
+first_sends decoding (Wait moment from ssrc) others later = sym (all_sends (opening_bridge decoding) (Wait moment from ssrc ∷ others) (λ who renews e. absurd cc, later))
+first_sends decoding (Report moment) others later = sym (all_sends (opening_bridge decoding) (Report moment ∷ others) (λ who renews e. absurd cc, later))
+first_sends decoding Show others later = sym (all_sends (opening_bridge decoding) others later)
 
-read_sends : (wire : Wire) (read : Result Request (ℕ × Fault)) (others : List Request) → AreLater others → sent_in (answers_to (opening_bridge wire) (followed read others)) ≡ sends_by (named_by (followed read others)) (after_all (opening_bridge wire) (followed read others)).steps
-read_sends wire (Ok request) others later = first_sends wire request others later
-read_sends wire (Err e) others later = refl
+read_sends : (decoding : Decoding) (read : Result Request (ℕ × Fault)) (others : List Request) → AreLater others → sent_in (answers_to (opening_bridge decoding) (followed read others)) ≡ sends_by (named_by (followed read others)) (after_all (opening_bridge decoding) (followed read others)).steps
+read_sends decoding (Ok request) others later = first_sends decoding request others later
+read_sends decoding (Err e) others later = refl
 
-lines_send : (wire : Wire) (lines : List (List ℕ)) → sent_in (answers_to (opening_bridge wire) (requests_of lines)) ≡ sends_by (named_by (requests_of lines)) (after_all (opening_bridge wire) (requests_of lines)).steps
+lines_send : (decoding : Decoding) (lines : List (List ℕ)) → sent_in (answers_to (opening_bridge decoding) (requests_of lines)) ≡ sends_by (named_by (requests_of lines)) (after_all (opening_bridge decoding) (requests_of lines)).steps
 unfolding requests_from
-lines_send wire [] = refl
-lines_send wire (line ∷ lines) = read_sends wire (request_at 1 line) (requests_from 2 lines) (all_later 2 lines (omega arith))
+lines_send decoding [] = refl
+lines_send decoding (line ∷ lines) = read_sends decoding (request_at 1 line) (requests_from 2 lines) (all_later 2 lines (omega arith))
 
-pub sends_told : (wire : Wire) (input : List ℕ) → sent_in (answers_of wire input) ≡ sends (speaker_of input) 1 (first_desk (speaker_of input)) (steps_of wire input)
-sends_told wire input = lines_send wire (lines_of input)
+pub sends_told : (decoding : Decoding) (input : List ℕ) → sent_in (answers_of decoding input) ≡ sends (speaker_of input) 1 (first_desk (speaker_of input)) (steps_of decoding input)
+sends_told decoding input = lines_send decoding (lines_of input)

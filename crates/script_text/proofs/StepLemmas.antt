@@ -13,7 +13,7 @@ use Rattle.script_text.specs.declared.fault.RunFault.TheVariants as errors
 use Rattle.desk_edit.specs.declared.refusal.Refusal.{Refusal}
 use Rattle.desk_edit.specs.Calls.{CallHistory, refusal_of, after_call as history_after}
 use Rattle.media_items.specs.Inputs.{Input}
-use Rattle.script_text.specs.Wire.{Wire, Hears, HearsAll}
+use Rattle.script_text.specs.Decodings.{Decoding, DecodesRequest, DecodesLines}
 use Rattle.script_text.specs.Bridge.{Bridge, begun_bridge, answer_begin, answer_call, after_item, after_items, knowing, taken_at, waited_at, origin_at, answer_text, bridge_after}
 use Rattle.bridge_core.specs.Steps.{CoreOf}
 use Rattle.script_text.proofs.FirstLineLemmas.{hears_at}
@@ -21,7 +21,7 @@ use Rattle.script_text.specs.Requests.{Request, Nothing, Begin, Desk, Item, Rx, 
 use Rattle.script_text.specs.FirstLine.{request_at}
 use Rattle.script_text.specs.Lines.{parts_of, lines_by, whole, ended}
 use Rattle.script_text.specs.Output.{RunOutput, nothing, told, stopped, continues, outcome_of}
-use Rattle.script_text.specs.inner.Steps.{Held, place_of, Place, to_come, Goes, StepFails, HearsComing, StepEnds, LineEnds, FinishEnds}
+use Rattle.script_text.specs.inner.Steps.{Held, place_of, Place, to_come, Goes, StepFails, DecodesComing, StepEnds, LineEnds, FinishEnds}
 
 abbrev pub NoLf : List ℕ → Type 0
 NoLf octets = All (λ b. eqb b 10 ≡ false) octets
@@ -69,22 +69,22 @@ next_line held core = record { core = core; line = held.line + 1; pending = [] }
 
 -- ---- what comes is heard
 
--- the wire stays as it is
-items_wire : (bridge : Bridge) (items : List Input) → (after_items bridge items).wire ≡ bridge.wire
+-- the decoding stays as it is
+items_wire : (bridge : Bridge) (items : List Input) → (after_items bridge items).decoding ≡ bridge.decoding
 items_wire bridge [] = refl
 items_wire bridge (item ∷ items) = items_wire (after_item bridge item) items
 
-call_wire : (bridge : Bridge) (next : CallHistory) (why : Option Refusal) → (answer_call bridge next why).1.wire ≡ bridge.wire
+call_wire : (bridge : Bridge) (next : CallHistory) (why : Option Refusal) → (answer_call bridge next why).1.decoding ≡ bridge.decoding
 call_wire bridge next None = refl
 call_wire bridge next (Some why) = refl
 
-begin_wire : (bridge : Bridge) (renews : Bool) → (answer_begin bridge renews).1.wire ≡ bridge.wire
+begin_wire : (bridge : Bridge) (renews : Bool) → (answer_begin bridge renews).1.decoding ≡ bridge.decoding
 begin_wire bridge true = refl
 begin_wire bridge false = refl
 
-same_wire : (bridge : Bridge) (request : Request) → (bridge_after bridge request).wire ≡ bridge.wire
+same_wire : (bridge : Bridge) (request : Request) → (bridge_after bridge request).decoding ≡ bridge.decoding
 same_wire bridge Nothing = refl
-same_wire bridge (Begin who renews) = begin_wire (begun_bridge bridge.wire who) renews
+same_wire bridge (Begin who renews) = begin_wire (begun_bridge bridge.decoding who) renews
 same_wire bridge Show = refl
 same_wire bridge (Desk op call) = call_wire bridge (history_after bridge.calls call) (refusal_of bridge.calls call)
 same_wire bridge (Item item) = refl
@@ -95,23 +95,23 @@ same_wire bridge (Wait moment from ssrc) =
 same_wire bridge (Rx moment from octets) = items_wire (knowing (taken_at bridge moment from octets).1 bridge) (taken_at bridge moment from octets).0.items
 
 -- the line that an LF ends, and those behind it
-pub first_heard : (wire : Wire) (number : ℕ) (pending tail line : List ℕ) → NoLf pending → line ≡ strip_carriage_return pending → HearsAll wire (lines_by whole (parts_of (pending ++ 10 ∷ tail))) → Hears wire (request_at number line)
-first_heard wire number pending tail line nolf is h = hears_at wire number line (rw is (subst (HearsAll wire) (lines_lf whole pending tail nolf) h).0)
+pub first_heard : (decoding : Decoding) (number : ℕ) (pending tail line : List ℕ) → NoLf pending → line ≡ strip_carriage_return pending → DecodesLines decoding (lines_by whole (parts_of (pending ++ 10 ∷ tail))) → DecodesRequest decoding (request_at number line)
+first_heard decoding number pending tail line nolf is h = hears_at decoding number line (rw is (subst (DecodesLines decoding) (lines_lf whole pending tail nolf) h).0)
 
-others_heard : (wire : Wire) (pending tail : List ℕ) → NoLf pending → HearsAll wire (lines_by whole (parts_of (pending ++ 10 ∷ tail))) → HearsAll wire (lines_by whole (parts_of tail))
-others_heard wire pending tail nolf h = (subst (HearsAll wire) (lines_lf whole pending tail nolf) h).1
+others_heard : (decoding : Decoding) (pending tail : List ℕ) → NoLf pending → DecodesLines decoding (lines_by whole (parts_of (pending ++ 10 ∷ tail))) → DecodesLines decoding (lines_by whole (parts_of tail))
+others_heard decoding pending tail nolf h = (subst (DecodesLines decoding) (lines_lf whole pending tail nolf) h).1
 
 -- the line that the end of the input ends
-pub last_heard : (wire : Wire) (number : ℕ) (pending line : List ℕ) → NoLf pending → line ≡ pending → HearsAll wire (lines_by whole (parts_of (pending ++ []))) → Hears wire (request_at number line)
-last_heard wire number pending line nolf is h = hears_at wire number line (rw is (subst (HearsAll wire) (lines_none whole pending nolf) h).0)
+pub last_heard : (decoding : Decoding) (number : ℕ) (pending line : List ℕ) → NoLf pending → line ≡ pending → DecodesLines decoding (lines_by whole (parts_of (pending ++ []))) → DecodesRequest decoding (request_at number line)
+last_heard decoding number pending line nolf is h = hears_at decoding number line (rw is (subst (DecodesLines decoding) (lines_none whole pending nolf) h).0)
 
 -- with one more octet
-pub kept_heard : (wire : Wire) (pending tail : List ℕ) (x : ℕ) → HearsAll wire (lines_by whole (parts_of (pending ++ x ∷ tail))) → HearsAll wire (lines_by whole (parts_of ((pending ++ x ∷ []) ++ tail)))
-kept_heard wire pending tail x h = subst (λ (t : List ℕ). HearsAll wire (lines_by whole (parts_of t))) (sym (append_assoc pending (x ∷ []) tail)) h
+pub kept_heard : (decoding : Decoding) (pending tail : List ℕ) (x : ℕ) → DecodesLines decoding (lines_by whole (parts_of (pending ++ x ∷ tail))) → DecodesLines decoding (lines_by whole (parts_of ((pending ++ x ∷ []) ++ tail)))
+kept_heard decoding pending tail x h = subst (λ (t : List ℕ). DecodesLines decoding (lines_by whole (parts_of t))) (sym (append_assoc pending (x ∷ []) tail)) h
 
-line_step : (held new : Held) (bridge : Bridge) (core : CoreOf) (tail sent : List ℕ) (r : Result (Unit {0}) RunFault) → NoLf held.pending → HearsComing bridge.wire held (10 ∷ tail) → LineEnds bridge held.line (strip_carriage_return held.pending) core sent r → MatchResult r (λ _. new ≡ next_line held core) (λ _. Unit {0}) → StepEnds (place_of held bridge) (10 ∷ []) tail new sent r
+line_step : (held new : Held) (bridge : Bridge) (core : CoreOf) (tail sent : List ℕ) (r : Result (Unit {0}) RunFault) → NoLf held.pending → DecodesComing bridge.decoding held (10 ∷ tail) → LineEnds bridge held.line (strip_carriage_return held.pending) core sent r → MatchResult r (λ _. new ≡ next_line held core) (λ _. Unit {0}) → StepEnds (place_of held bridge) (10 ∷ []) tail new sent r
 line_step held new bridge core behind sent (Ok u) nolf heard h is =
-    let others = subst (λ (wire : Wire). HearsAll wire (lines_by whole (parts_of behind))) (sym (same_wire bridge h.0)) (others_heard bridge.wire held.pending behind nolf heard) in
+    let others = subst (λ (decoding : Decoding). DecodesLines decoding (lines_by whole (parts_of behind))) (sym (same_wire bridge h.0)) (others_heard bridge.decoding held.pending behind nolf heard) in
     rw is (bridge_after bridge h.0, h.2, (λ last tail. lf_comes (place_of held bridge) last tail nolf ∙ (rw (h.1, h.3) refl)), others)
 line_step held new bridge core behind sent (Err (errors.Script n word fault)) nolf heard h is = λ tail.
     lf_comes (place_of held bridge) whole tail nolf ∙ rw (h.1, h.0, h.2) refl
@@ -125,7 +125,7 @@ line_step held new bridge core behind sent (Err errors.Write) nolf heard h is = 
 line_step held new bridge core behind sent (Err errors.Read) nolf heard h is = h
 line_step held new bridge core behind sent (Err errors.OutOfMemory) nolf heard h is = ([], (10 ∷ [], refl), none_ended (place_of held bridge) nolf ∙ rw h refl)
 
-pub line_answered : (held new : Held) (bridge : Bridge) (core : CoreOf) (line tail sent : List ℕ) (r : Result (Unit {0}) RunFault) → NoLf held.pending → HearsComing bridge.wire held (10 ∷ tail) → line ≡ strip_carriage_return held.pending → LineEnds bridge held.line line core sent r → MatchResult r (λ _. new ≡ next_line held core) (λ _. Unit {0}) → StepEnds (place_of held bridge) (10 ∷ []) tail new sent r
+pub line_answered : (held new : Held) (bridge : Bridge) (core : CoreOf) (line tail sent : List ℕ) (r : Result (Unit {0}) RunFault) → NoLf held.pending → DecodesComing bridge.decoding held (10 ∷ tail) → line ≡ strip_carriage_return held.pending → LineEnds bridge held.line line core sent r → MatchResult r (λ _. new ≡ next_line held core) (λ _. Unit {0}) → StepEnds (place_of held bridge) (10 ∷ []) tail new sent r
 line_answered held new bridge core line tail sent r nolf heard stripped h is =
     line_step held new bridge core tail sent r nolf heard (subst (λ (l : List ℕ). LineEnds bridge held.line l core sent r) stripped h) is
 

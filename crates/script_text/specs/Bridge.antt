@@ -23,13 +23,13 @@ use Rattle.bridge_core.specs.Steps.{Step, visits, visit_after}
 use Rattle.script_text.specs.Requests.{Request, Nothing, Begin, Desk as DeskRequest, Item, Rx, Wait, Report, Show}
 use Rattle.script_text.specs.Text.{reply_text, sent_text}
 use Rattle.script_text.specs.Datagrams.{outcome_text, up_text}
-use Rattle.script_text.specs.Wire.{Wire, script_asker, voice_of}
+use Rattle.script_text.specs.Decodings.{Decoding, script_asker, voice_of}
 use Rattle.script_text.specs.RowLines.{show_text}
 
--- the bridge between two lines: how it reads the wire, who it is, what its calls have led to, the accepted calls and the
+-- the bridge between two lines: how it decodes datagrams, who it is, what its calls have led to, the accepted calls and the
 -- items so far, and the sources that it knows
 pub record Bridge : Type 0 where
-  pub wire : Wire
+  pub decoding : Decoding
   pub who : Asker
   pub calls : CallHistory
   pub steps : List Step
@@ -40,9 +40,9 @@ abbrev pub first_desk : Asker → Desk
 first_desk who = blank who.ssrc
 
 -- a bridge that is this one, and to which nothing has come
-abbrev pub begun_bridge : Wire → Asker → Bridge
-begun_bridge wire who = record {
-  wire = wire;
+abbrev pub begun_bridge : Decoding → Asker → Bridge
+begun_bridge decoding who = record {
+  decoding = decoding;
   who = who;
   calls = no_calls (first_desk who);
   steps = [];
@@ -50,8 +50,8 @@ begun_bridge wire who = record {
 }
 
 -- the bridge before any line
-abbrev pub opening_bridge : Wire → Bridge
-opening_bridge wire = begun_bridge wire script_asker
+abbrev pub opening_bridge : Decoding → Bridge
+opening_bridge decoding = begun_bridge decoding script_asker
 
 -- the answer to a request: nothing, a reply, what is sent, a datagram's outcome with what is sent back and what is sent
 -- for each item, the same of a wait, which has no outcome, receiver reports with the sender reports of the lane, or a
@@ -121,12 +121,12 @@ answer_datagram bridge ingested sources = (
 -- a datagram that comes at a moment from an address, by the present desk
 abbrev pub datagram_at : Bridge → (moment : ℕ) → Address → List ℕ → Datagram
 datagram_at bridge moment from octets =
-    record { desk = desk_now bridge.calls; from = from; moment = moment; reading = bridge.wire.reading octets }
+    record { desk = desk_now bridge.calls; from = from; moment = moment; reading = bridge.decoding.reading octets }
 
 -- its result, and the sources after it
 abbrev pub taken_at : Bridge → (moment : ℕ) → Address → List ℕ → Ingested × Sources
 taken_at bridge moment from octets =
-    taken_in (voice_of bridge.who bridge.wire) bridge.sources (datagram_at bridge moment from octets)
+    taken_in (voice_of bridge.who bridge.decoding) bridge.sources (datagram_at bridge moment from octets)
 
 -- the answer to a wait with this result, if the bridge knows these sources from then on: the lane is given the frames
 -- that the wait freed
@@ -139,7 +139,7 @@ answer_wait bridge freed sources = (
 -- what a wait for a source until a moment gives, by the present desk, and the sources after it
 abbrev pub waited_at : Bridge → (moment : ℕ) → Origin → Ingested × Sources
 waited_at bridge moment origin =
-    waited_for (voice_of bridge.who bridge.wire) (desk_now bridge.calls) origin moment bridge.sources
+    waited_for (voice_of bridge.who bridge.decoding) (desk_now bridge.calls) origin moment bridge.sources
 
 -- the source of an SSRC at an address
 abbrev pub origin_at : Address → (ssrc : ℕ) → Origin
@@ -165,7 +165,7 @@ answer_begin bridge true = (sent (item_sent bridge renew), after_item bridge ren
 -- the answer to a request, and the bridge after it
 abbrev pub answer : Bridge → Request → Answer × Bridge
 answer bridge Nothing = (silence, bridge)
-answer bridge (Begin who renews) = answer_begin (begun_bridge bridge.wire who) renews
+answer bridge (Begin who renews) = answer_begin (begun_bridge bridge.decoding who) renews
 answer bridge (DeskRequest op call) =
     answer_call bridge (history_after bridge.calls call) (refusal_of bridge.calls call)
 answer bridge (Item item) = (sent (item_sent bridge item), after_item bridge item)

@@ -12,7 +12,7 @@ pub mod Datagrams
 pub mod RowLines
 pub mod Judged
 pub mod Lines
-pub mod Wire
+pub mod Decodings
 pub mod Bridge
 pub mod Output
 pub mod Scripts

@@ -7,7 +7,7 @@ use Rattle.script_text.specs.declared.fault.RunFault.TheVariants as errors
 use Rattle.script_text.specs.Requests.{Request}
 use Rattle.script_text.specs.FirstLine.{request_at}
 use Rattle.script_text.specs.Lines.{lines_of, ended_lines}
-use Rattle.script_text.specs.Wire.{Wire}
+use Rattle.script_text.specs.Decodings.{Decoding}
 use Rattle.script_text.specs.Bridge.{Bridge, opening_bridge, answer_text, bridge_after}
 
 -- the text that is written, and the fault that ends it, if any: its line, the place of its word, and what it is
@@ -39,33 +39,33 @@ outcome_of bridge number (line ∷ lines) =
     continues number bridge (request_at number line) (λ b. outcome_of b (number + 1) lines)
 
 -- what a script gives
-abbrev pub output_of : Wire → List ℕ → RunOutput
-output_of wire input = outcome_of (opening_bridge wire) 1 (lines_of input)
+abbrev pub output_of : Decoding → List ℕ → RunOutput
+output_of decoding input = outcome_of (opening_bridge decoding) 1 (lines_of input)
 
 -- what the lines of a text give that have ended
-abbrev pub ended_output_of : Wire → List ℕ → RunOutput
-ended_output_of wire input = outcome_of (opening_bridge wire) 1 (ended_lines input)
+abbrev pub ended_output_of : Decoding → List ℕ → RunOutput
+ended_output_of decoding input = outcome_of (opening_bridge decoding) 1 (ended_lines input)
 
 -- the text begins so
-abbrev pub IsFrontOf : List ℕ → List ℕ → Type 0
-IsFrontOf front all = (rest : List ℕ) × (all ≡ front ++ rest)
+abbrev pub IsPrefixOf : List ℕ → List ℕ → Type 0
+IsPrefixOf front all = (rest : List ℕ) × (all ≡ front ++ rest)
 
 -- the text begins so, and goes on
 abbrev pub IsCutOf : List ℕ → List ℕ → Type 0
 IsCutOf front all = (next : ℕ) × (rest : List ℕ) × (all ≡ front ++ next ∷ rest)
 
 -- what a run over this input leaves: what the reader still has, and what the writer held before and holds now
-abbrev pub RunEnds : Wire → List ℕ → Option (List ℕ) → Option (List ℕ) → Option (List ℕ) → Result (Unit {0}) RunFault
+abbrev pub RunEnds : Decoding → List ℕ → Option (List ℕ) → Option (List ℕ) → Option (List ℕ) → Result (Unit {0}) RunFault
     → Type 0
-RunEnds wire input left before now (Ok u) =
-    IsAtEnd left × ((output_of wire input).fault ≡ None) × Appends before now (output_of wire input).text
-RunEnds wire input left before now (Err (errors.Script line word fault)) =
-    ((output_of wire input).fault ≡ Some (line, word, fault)) × Appends before now (output_of wire input).text
-RunEnds wire input left before now (Err errors.Write) =
-    (sent : List ℕ) × IsCutOf sent (output_of wire input).text × Appends before now sent
-RunEnds wire input left before now (Err errors.Read) =
-    (seen : List ℕ) × Consumes (Some input) left seen × ((ended_output_of wire seen).fault ≡ None)
-    × Appends before now (ended_output_of wire seen).text
-RunEnds wire input left before now (Err errors.OutOfMemory) =
-    (seen : List ℕ) × Consumes (Some input) left seen × (front : List ℕ) × IsFrontOf front seen
-    × ((ended_output_of wire front).fault ≡ None) × Appends before now (ended_output_of wire front).text
+RunEnds decoding input left before now (Ok u) =
+    IsAtEnd left × ((output_of decoding input).fault ≡ None) × Appends before now (output_of decoding input).text
+RunEnds decoding input left before now (Err (errors.Script line word fault)) =
+    ((output_of decoding input).fault ≡ Some (line, word, fault)) × Appends before now (output_of decoding input).text
+RunEnds decoding input left before now (Err errors.Write) =
+    (sent : List ℕ) × IsCutOf sent (output_of decoding input).text × Appends before now sent
+RunEnds decoding input left before now (Err errors.Read) =
+    (seen : List ℕ) × Consumes (Some input) left seen × ((ended_output_of decoding seen).fault ≡ None)
+    × Appends before now (ended_output_of decoding seen).text
+RunEnds decoding input left before now (Err errors.OutOfMemory) =
+    (seen : List ℕ) × Consumes (Some input) left seen × (front : List ℕ) × IsPrefixOf front seen
+    × ((ended_output_of decoding front).fault ≡ None) × Appends before now (ended_output_of decoding front).text

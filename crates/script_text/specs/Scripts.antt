@@ -7,7 +7,7 @@ use Rattle.upward.specs.Upstream.{Asker}
 use Rattle.script_text.specs.Requests.{Request, Nothing, Begin, Desk, Item, Rx, Wait, Report, Show}
 use Rattle.script_text.specs.FirstLine.{request_at}
 use Rattle.script_text.specs.Lines.{lines_of}
-use Rattle.script_text.specs.Wire.{Wire, script_asker}
+use Rattle.script_text.specs.Decodings.{Decoding, script_asker}
 use Rattle.script_text.specs.Bridge.{Bridge, opening_bridge, Answer, silence, replied, sent}
 use Rattle.script_text.specs.Bridge.{heard, waited, reports, shown, answer, bridge_after}
 
@@ -63,9 +63,9 @@ sent_in (reports up out ∷ answers) = out ∷ sent_in answers
 sent_in (shown desk version ∷ answers) = sent_in answers
 
 -- the answers to a script
-abbrev pub answers_of : Wire → List ℕ → List Answer
-answers_of wire input = answers_to (opening_bridge wire) (requests_of (lines_of input))
+abbrev pub answers_of : Decoding → List ℕ → List Answer
+answers_of decoding input = answers_to (opening_bridge decoding) (requests_of (lines_of input))
 
 -- the accepted calls of a script, as the desks that they leave, and its items
-abbrev pub steps_of : Wire → List ℕ → List Step
-steps_of wire input = (after_all (opening_bridge wire) (requests_of (lines_of input))).steps
+abbrev pub steps_of : Decoding → List ℕ → List Step
+steps_of decoding input = (after_all (opening_bridge decoding) (requests_of (lines_of input))).steps

@@ -2,7 +2,7 @@
 
 ghost use Rattle.std.specs.Prelude.{◌≡◌, true, [], IfOk, OnOk};
 ghost use Rattle.intake.specs.Names.{is_name};
-ghost use Rattle.script_text.specs.Wire.{Wire};
+ghost use Rattle.script_text.specs.Decodings.{Decoding};
 ghost use Rattle.script_text.specs.Bridge.{begun_bridge};
 ghost use Rattle.script_text.specs.inner.Cursor.{asker_in, begin_of};
 ghost use Rattle.script_text.specs.inner.Steps.{HasLane, Stands, AnswersRequest};
@@ -18,7 +18,8 @@ pub(crate) fn begun<A: Allocator + Copy>(
     settings: Settings<A>,
 ) -> Result<Core<A>, AllocError>
     requires { is_name settings.cname ≡ true }
-    ensures stands { IfOk result (λ core. (wire : Wire) → Stands core (begun_bridge wire (asker_in settings))) }
+    ensures stands { IfOk result (λ core. (decoding : Decoding)
+        → Stands core (begun_bridge decoding (asker_in settings))) }
     ensures lane { IfOk result (λ core. HasLane core) }
 {
     match Core::new(alloc, 1, settings) {

@@ -8,7 +8,7 @@ ghost use Rattle.rtp_codec.specs.declared.address.Address.{Address};
 ghost use Rattle.rtp_codec.specs.Octets.{AreOctets};
 ghost use Rattle.desk_rows.specs.Desk.{Desk as Rows, blank};
 ghost use Rattle.upward.specs.Upstream.{Asker};
-ghost use Rattle.script_text.specs.Wire.{Wire, script_asker, IsHeard, HearsAll};
+ghost use Rattle.script_text.specs.Decodings.{Decoding, script_asker, IsDecoded, DecodesLines};
 ghost use Rattle.script_text.specs.Bridge.{first_desk, text_of};
 ghost use Rattle.script_text.specs.Output.{output_of};
 ghost use Rattle.script_text.specs.Scripts.{answers_of, sent_in, speaker_of, steps_of};
@@ -187,17 +187,17 @@ pub fn refusal_words()
     ensures part { (why : Reason) → reason_words why ≡ told_words (told_of (refusal_for why)) }
 {}
 
-/// One wire hears every datagram: any octets have a reading, and the bridge has words for lost packets.
+/// One decoding has every datagram: any octets have a reading, and the bridge has words for lost packets.
 pub fn datagrams_are_heard()
-    ensures { (wire : Wire) × ((octets : List ℕ) → AreOctets octets → IsHeard wire octets) }
+    ensures { (decoding : Decoding) × ((octets : List ℕ) → AreOctets octets → IsDecoded decoding octets) }
 {
     voices_are_there();
     datagrams_are_read();
 }
 
-/// One wire hears all lines of every script: only datagrams and waits have to be heard.
+/// One decoding has all lines of every script: only datagrams and waits have to be decoded.
 pub fn scripts_are_heard()
-    ensures { (wire : Wire) × ((lines : List (List ℕ)) → HearsAll wire lines) }
+    ensures { (decoding : Decoding) × ((lines : List (List ℕ)) → DecodesLines decoding lines) }
 {
     datagrams_are_heard();
 }
@@ -206,19 +206,20 @@ pub fn scripts_are_heard()
 /// the core's definition sends over the script's accepted calls and items: so the core's laws on
 /// streams and choices speak of scripts.
 pub fn script_sends()
-    ensures text { (wire : Wire) (input : List ℕ)
-        → (output_of wire input).text ≡ flat_map text_of (answers_of wire input) }
-    ensures sends { (wire : Wire) (input : List ℕ)
-        → sent_in (answers_of wire input)
-        ≡ sends (speaker_of input) 1 (first_desk (speaker_of input)) (steps_of wire input) }
+    ensures text { (decoding : Decoding) (input : List ℕ)
+        → (output_of decoding input).text ≡ flat_map text_of (answers_of decoding input) }
+    ensures sends { (decoding : Decoding) (input : List ℕ)
+        → sent_in (answers_of decoding input)
+        ≡ sends (speaker_of input) 1 (first_desk (speaker_of input)) (steps_of decoding input) }
 {}
 
 /// Each desk that a script publishes is good, so the core's laws on good desks speak of scripts: each
 /// stream of a script numbers the packets that it sends for the first time without a gap modulo 65536.
 pub fn script_streams_have_no_gap()
-    ensures good { (wire : Wire) (input : List ℕ) → AreGood (steps_of wire input) }
-    ensures no_gap { (wire : Wire) (input : List ℕ) (name : Name)
-        → HaveNoGap (numbers (firsts (speaker_of input) 1 (first_desk (speaker_of input)) name (steps_of wire input))) }
+    ensures good { (decoding : Decoding) (input : List ℕ) → AreGood (steps_of decoding input) }
+    ensures no_gap { (decoding : Decoding) (input : List ℕ) (name : Name)
+        → HaveNoGap (numbers
+        (firsts (speaker_of input) 1 (first_desk (speaker_of input)) name (steps_of decoding input))) }
 {
     good_desks_stay_good();
     streams_have_no_gap();

@@ -15,14 +15,14 @@ use arrayvec::ArrayVec;
 use desk_rows::{DEFAULT_RATE, MOST_VALUES};
 
 /// The values that stand first, and the text behind them.
-pub(crate) type ReadFront<'a> = (ArrayVec<Value, MOST_VALUES>, Option<&'a [u8]>);
+pub(crate) type ReadPrefix<'a> = (ArrayVec<Value, MOST_VALUES>, Option<&'a [u8]>);
 
 /// The values of these fields, of which the first stands at this place.
 pub(crate) fn read_values<'a>(
     place: u32,
     shape: &[Field],
     words: Option<&'a [u8]>,
-) -> Result<ReadFront<'a>, ParseFault>
+) -> Result<ReadPrefix<'a>, ParseFault>
     requires few { length shape.now ≤ MOST_VALUES }
     requires near { place ≤ 2 ^ 18 }
     ensures values { Gives (λ x. (x.0.items, words_in x.1)) result (values_of place shape.now (words_in words.entry)) }
@@ -65,7 +65,7 @@ pub(crate) fn read_fields<'a>(
     place: u32,
     name: Name,
     words: Option<&'a [u8]>,
-) -> Result<ReadFront<'a>, ParseFault>
+) -> Result<ReadPrefix<'a>, ParseFault>
     requires { place ≤ 2 ^ 18 }
     ensures values { Gives (λ x. (x.0.items, words_in x.1)) result
         (values_of place (shape_of name) (with_rate name (words_in words.entry))) }

@@ -1,7 +1,7 @@
 //! A run over a source and a sink.
 
 ghost use Rattle.std.specs.Prelude.{◌≡◌, ◌≢◌, ◌⊎◌, ℕ, ◌^◌, ◌<◌, ◌≤◌, length, IfSome, IfOk};
-ghost use Rattle.script_text.specs.Wire.{Wire, HearsAll, OnWires};
+ghost use Rattle.script_text.specs.Decodings.{Decoding, DecodesLines, InEachDecoding};
 ghost use Rattle.script_text.specs.Lines.{lines_of};
 ghost use Rattle.script_text.specs.Output.{output_of, RunEnds};
 ghost use Rattle.script_text.specs.declared.fault.Fault.{Fault};
@@ -30,8 +30,8 @@ fn run_with<A: Allocator + Copy, S: ScriptSource, T: TextSink>(
     requires midline { IsMidLine script.old }
     requires some { 0 < length chunk.old }
     requires few { length chunk.old ≤ CHUNK }
-    ensures run { IfSome (S.rest reader.old) (λ input. (wire : Wire) → HearsAll wire (lines_of input)
-        → RunEnds wire input (S.rest reader.new) (T.held writer.old) (T.held writer.new) result) }
+    ensures run { IfSome (S.rest reader.old) (λ input. (decoding : Decoding) → DecodesLines decoding (lines_of input)
+        → RunEnds decoding input (S.rest reader.new) (T.held writer.old) (T.held writer.new) result) }
     ensures read { result ≡ Err RunFault.Read → S.may_fail ⊎ S.goes_on (2 ^ 32) reader.old reader.new }
     ensures write { result ≡ Err RunFault.Write →
         T.may_fail ⊎ (T.may_starve × T.may_split) ⊎ ((first : T) × T.goes_on (2 ^ 32) first writer.new) }
@@ -58,8 +58,8 @@ fn run_script<A: Allocator + Copy, S: ScriptSource, T: TextSink>(
     reader: &mut S,
     writer: &mut T,
 ) -> Result<(), RunFault>
-    ensures run { IfSome (S.rest reader.old) (λ input. (wire : Wire) → HearsAll wire (lines_of input)
-        → RunEnds wire input (S.rest reader.new) (T.held writer.old) (T.held writer.new) result) }
+    ensures run { IfSome (S.rest reader.old) (λ input. (decoding : Decoding) → DecodesLines decoding (lines_of input)
+        → RunEnds decoding input (S.rest reader.new) (T.held writer.old) (T.held writer.new) result) }
     ensures read { result ≡ Err RunFault.Read → S.may_fail ⊎ S.goes_on (2 ^ 32) reader.old reader.new }
     ensures write { result ≡ Err RunFault.Write →
         T.may_fail ⊎ (T.may_starve × T.may_split) ⊎ ((first : T) × T.goes_on (2 ^ 32) first writer.new) }
@@ -87,8 +87,8 @@ pub fn run<A: Allocator + Copy, S: ScriptSource, T: TextSink>(
     reader: &mut S,
     writer: &mut T,
 ) -> Result<(), RunFault>
-    ensures run { IfSome (S.rest reader.old) (λ input. OnWires (lines_of input)
-        (λ wire. RunEnds wire input (S.rest reader.new) (T.held writer.old) (T.held writer.new) result)) }
+    ensures run { IfSome (S.rest reader.old) (λ input. InEachDecoding (lines_of input)
+        (λ decoding. RunEnds decoding input (S.rest reader.new) (T.held writer.old) (T.held writer.new) result)) }
     ensures read { result ≡ Err RunFault.Read → S.may_fail ⊎ S.goes_on (2 ^ 32) reader.old reader.new }
     ensures write { result ≡ Err RunFault.Write →
         T.may_fail ⊎ (T.may_starve × T.may_split) ⊎ ((first : T) × T.goes_on (2 ^ 32) first writer.new) }
@@ -99,12 +99,12 @@ pub fn run<A: Allocator + Copy, S: ScriptSource, T: TextSink>(
 
 /// The output of a script that is in memory.
 fn script_output<A: Allocator + Copy>(alloc: A, script: &[u8]) -> Result<Vec<u8, A>, RunFault>
-    ensures ok { (wire : Wire) → HearsAll wire (lines_of script.now)
+    ensures ok { (decoding : Decoding) → DecodesLines decoding (lines_of script.now)
         → IfOk result
-        (λ out. ((output_of wire script.now).fault ≡ None) × (out.items ≡ (output_of wire script.now).text)) }
-    ensures fault { (wire : Wire) (line word : ℕ) (fault : Fault) → HearsAll wire (lines_of script.now)
+        (λ out. ((output_of decoding script.now).fault ≡ None) × (out.items ≡ (output_of decoding script.now).text)) }
+    ensures fault { (decoding : Decoding) (line word : ℕ) (fault : Fault) → DecodesLines decoding (lines_of script.now)
         → result ≡ Err (RunFault.Script line word fault)
-        → (output_of wire script.now).fault ≡ Some (line, word, fault) }
+        → (output_of decoding script.now).fault ≡ Some (line, word, fault) }
     ensures read { result ≢ Err RunFault.Read }
     ensures write { result ≢ Err RunFault.Write }
 {
@@ -123,10 +123,11 @@ fn script_output<A: Allocator + Copy>(alloc: A, script: &[u8]) -> Result<Vec<u8,
 
 /// The output of a script that is in memory, or why the run over it ended: a fault of the script, or out of memory.
 pub fn output<A: Allocator + Copy>(alloc: A, script: &[u8]) -> Result<Vec<u8, A>, RunFault>
-    ensures ok { OnWires (lines_of script.now) (λ wire. IfOk result (λ out.
-        ((output_of wire script.now).fault ≡ None) × (out.items ≡ (output_of wire script.now).text))) }
+    ensures ok { InEachDecoding (lines_of script.now) (λ decoding. IfOk result (λ out.
+        ((output_of decoding script.now).fault ≡ None) × (out.items ≡ (output_of decoding script.now).text))) }
     ensures fault { (line word : ℕ) (fault : Fault) → result ≡ Err (RunFault.Script line word fault)
-        → OnWires (lines_of script.now) (λ wire. (output_of wire script.now).fault ≡ Some (line, word, fault)) }
+        → InEachDecoding (lines_of script.now)
+        (λ decoding. (output_of decoding script.now).fault ≡ Some (line, word, fault)) }
     ensures read { result ≢ Err RunFault.Read }
     ensures write { result ≢ Err RunFault.Write }
 {

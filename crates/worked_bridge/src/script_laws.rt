@@ -25,7 +25,7 @@ ghost use Rattle.script_text.specs.Requests.{wait_line, wait_values};
 ghost use Rattle.script_text.specs.Requests.{Begin};
 ghost use Rattle.script_text.specs.FirstLine.{IsNamed, bridge_line, request_at};
 ghost use Rattle.script_text.specs.Judged.{call_cases};
-ghost use Rattle.script_text.specs.Wire.{Wire, IsHeard, HearsAll};
+ghost use Rattle.script_text.specs.Decodings.{Decoding, IsDecoded, DecodesLines};
 ghost use Rattle.script_text.specs.Scripts.{answers_of, sent_in, speaker_of, steps_of};
 ghost use Rattle.script_text.specs.Output.{output_of};
 
@@ -159,27 +159,27 @@ pub fn tells_the_first_reason(alloc: Global, core: &mut Core, call: Call) -> Rep
 
 /// The octets of a datagram are heard, whatever they are.
 pub fn a_datagram_is_heard(octets: &[u8])
-    ensures { (wire : Wire) × IsHeard wire octets.now }
+    ensures { (decoding : Decoding) × IsDecoded decoding octets.now }
 {
     datagrams_are_heard();
 }
 
-/// The output of a script is that of a wire on which the script is heard, whatever its lines are.
+/// The output of a script is that of a decoding of the script, whatever its lines are.
 pub fn a_script_has_an_output(alloc: Global, script: &[u8]) -> Result<Vec<u8>, RunFault>
-    ensures { IfOk result (λ out. (wire : Wire) × HearsAll wire (lines_of script.now)
-        × (out.items ≡ (output_of wire script.now).text)) }
+    ensures { IfOk result (λ out. (decoding : Decoding) × DecodesLines decoding (lines_of script.now)
+        × (out.items ≡ (output_of decoding script.now).text)) }
 {
     output(alloc, script)
 }
 
-/// The outputs of two scripts are those of one wire.
+/// The outputs of two scripts are those of one decoding of both.
 pub fn two_scripts_have_one_wire(
     alloc: Global,
     first: &[u8],
     second: &[u8],
 ) -> Result<(Vec<u8>, Vec<u8>), RunFault>
-    ensures { IfOk result (λ both. (wire : Wire) × (both.0.items ≡ (output_of wire first.now).text)
-        × (both.1.items ≡ (output_of wire second.now).text)) }
+    ensures { IfOk result (λ both. (decoding : Decoding) × (both.0.items ≡ (output_of decoding first.now).text)
+        × (both.1.items ≡ (output_of decoding second.now).text)) }
 {
     scripts_are_heard();
     let one = output(alloc, first)?;
@@ -190,8 +190,8 @@ pub fn two_scripts_have_one_wire(
 /// What a script sends is what the core sends over its steps, under the name that the script gives its bridge. The desk
 /// is blank at first. A script that gives none, as one that adds a room, has SSRC 1 and the name `bridge`.
 pub fn a_script_sends_as_the_core_does()
-    ensures sends { (wire : Wire) (input : List ℕ) → sent_in (answers_of wire input)
-        ≡ sends (speaker_of input) 1 (blank (speaker_of input).ssrc) (steps_of wire input) }
+    ensures sends { (decoding : Decoding) (input : List ℕ) → sent_in (answers_of decoding input)
+        ≡ sends (speaker_of input) 1 (blank (speaker_of input).ssrc) (steps_of decoding input) }
     ensures unnamed { speaker_of (codes "desk 0 add-room 1\n") ≡ record { ssrc = 1; cname = codes "bridge" } }
     ensures named { speaker_of (codes "bridge 7 conf renew\n") ≡ record { ssrc = 7; cname = codes "conf" } }
 {
@@ -211,11 +211,12 @@ pub fn a_bridge_is_named_once()
 /// The second packet that a script sends for the first time on a stream is numbered one more than the first, and the
 /// first desk that it publishes is good.
 pub fn a_script_numbers_without_a_gap()
-    ensures second { (wire : Wire) (input : List ℕ) (name : Name) (m n : ℕ) (ns : List ℕ)
-        → numbers (firsts (speaker_of input) 1 (blank (speaker_of input).ssrc) name (steps_of wire input)) ≡ m ∷ n ∷ ns
+    ensures second { (decoding : Decoding) (input : List ℕ) (name : Name) (m n : ℕ) (ns : List ℕ)
+        → numbers (firsts (speaker_of input) 1 (blank (speaker_of input).ssrc) name (steps_of decoding input))
+        ≡ m ∷ n ∷ ns
         → n ≡ (m + 1) % 2 ^ 16 }
-    ensures good { (wire : Wire) (input : List ℕ) (desk : Desk) (steps : List Step)
-        → steps_of wire input ≡ Step.publish desk ∷ steps → good desk ≡ true }
+    ensures good { (decoding : Decoding) (input : List ℕ) (desk : Desk) (steps : List Step)
+        → steps_of decoding input ≡ Step.publish desk ∷ steps → good desk ≡ true }
 {
     script_bridge();
     script_streams_have_no_gap();

@@ -14,12 +14,12 @@ use Rattle.script_text.specs.declared.fault.RunFault.{RunFault}
 use Rattle.script_text.specs.declared.fault.RunFault.TheVariants as errors
 use Rattle.script_text.specs.Requests.{Request}
 use Rattle.script_text.specs.FirstLine.{request_at}
-use Rattle.script_text.specs.Wire.{Wire, Hears, HearsAll}
+use Rattle.script_text.specs.Decodings.{Decoding, DecodesRequest, DecodesLines}
 use Rattle.script_text.specs.Lines.{lines_by, whole, ended, parts_of}
 use Rattle.script_text.specs.Text.{sent_text}
 use Rattle.script_text.specs.Bridge.{Bridge, first_desk, opening_bridge, answer_text, bridge_after}
 use Rattle.script_text.specs.Bridge.{item_sent, after_item, items_sent, items_text, after_items}
-use Rattle.script_text.specs.Output.{RunOutput, told, stopped, outcome_of, IsFrontOf, IsCutOf}
+use Rattle.script_text.specs.Output.{RunOutput, told, stopped, outcome_of, IsPrefixOf, IsCutOf}
 
 -- the reply reports out of memory
 abbrev pub wants_memory : Reply → Bool
@@ -51,8 +51,8 @@ pub record Place : Type 0 where
   pub pending : List ℕ
 
 -- before any octet
-abbrev pub opening : Wire → Place
-opening wire = record { bridge = opening_bridge wire; line = 1; pending = [] }
+abbrev pub opening : Decoding → Place
+opening decoding = record { bridge = opening_bridge decoding; line = 1; pending = [] }
 
 -- where a run is that holds this, if its core is this bridge
 abbrev pub place_of : Held → Bridge → Place
@@ -60,7 +60,7 @@ place_of held bridge = record { bridge = bridge; line = held.line; pending = hel
 
 -- a run of which no octet was read
 abbrev pub IsOpening : Held → Type 0
-IsOpening held = ((wire : Wire) → Stands held.core (opening_bridge wire)) × (held.line ≡ 1) × (held.pending ≡ [])
+IsOpening held = ((decoding : Decoding) → Stands held.core (opening_bridge decoding)) × (held.line ≡ 1) × (held.pending ≡ [])
 
 -- no line has ended of what has come
 abbrev pub IsMidLine : Held → Type 0
@@ -83,35 +83,35 @@ StepFails old octets sent (errors.Script line word fault) =
 StepFails old octets sent errors.Write = (tail : List ℕ) → IsCutOf sent (to_come whole old (octets ++ tail)).text
 StepFails old octets sent errors.Read = ⊥
 StepFails old octets sent errors.OutOfMemory =
-    (front : List ℕ) × IsFrontOf front octets × (to_come ended old front ≡ record { text = sent; fault = None })
+    (front : List ℕ) × IsPrefixOf front octets × (to_come ended old front ≡ record { text = sent; fault = None })
 
--- all datagrams are heard that come with these octets
-abbrev pub HearsComing : Wire → Held → List ℕ → Type 0
-HearsComing wire held text = HearsAll wire (lines_by whole (parts_of (held.pending ++ text)))
+-- all datagrams and waits are decoded that come with these octets
+abbrev pub DecodesComing : Decoding → Held → List ℕ → Type 0
+DecodesComing decoding held text = DecodesLines decoding (lines_by whole (parts_of (held.pending ++ text)))
 
 -- how a step over octets ended before others that come behind them, and what is held then
 abbrev pub StepEnds : Place → List ℕ → List ℕ → Held → List ℕ → Result (Unit {0}) RunFault → Type 0
 StepEnds old octets tail new sent (Ok u) =
     (bridge : Bridge) × Stands new.core bridge × Goes old octets (place_of new bridge) sent
-    × HearsComing bridge.wire new tail
+    × DecodesComing bridge.decoding new tail
 StepEnds old octets tail new sent (Err e) = StepFails old octets sent e
 
 -- a step over octets that sends nothing, whatever comes behind them
 abbrev pub Keeps : Held → List ℕ → Held → Result (Unit {0}) RunFault → Type 0
 Keeps old octets new result =
-    (bridge : Bridge) (tail : List ℕ) → HearsComing bridge.wire old (octets ++ tail) → Stands old.core bridge
+    (bridge : Bridge) (tail : List ℕ) → DecodesComing bridge.decoding old (octets ++ tail) → Stands old.core bridge
     → StepEnds (place_of old bridge) octets tail new [] result
 
 -- a step over octets, and what the writer held before and holds now, whatever comes behind them
 abbrev pub Steps : Held → List ℕ → Held → Option (List ℕ) → Option (List ℕ) → Result (Unit {0}) RunFault → Type 0
 Steps old octets new before now result =
-    (bridge : Bridge) (tail : List ℕ) → HearsComing bridge.wire old (octets ++ tail) → Stands old.core bridge
+    (bridge : Bridge) (tail : List ℕ) → DecodesComing bridge.decoding old (octets ++ tail) → Stands old.core bridge
     → (sent : List ℕ) × Appends before now sent × StepEnds (place_of old bridge) octets tail new sent result
 
 -- a request was answered by this text
 abbrev pub AnswersRequest : CoreOf → Request → CoreOf → List ℕ → Type 0
 AnswersRequest old request new text =
-    (bridge : Bridge) → Hears bridge.wire (Ok request) → Stands old bridge
+    (bridge : Bridge) → DecodesRequest bridge.decoding (Ok request) → Stands old bridge
     → Stands new (bridge_after bridge request) × (text ≡ answer_text bridge request)
 
 -- the lane was handed an item, and this was written behind what stood before
@@ -142,7 +142,7 @@ LineEnds old number line new sent (Err errors.OutOfMemory) = sent ≡ []
 abbrev pub AnswersLine : CoreOf → ℕ → List ℕ → CoreOf → Option (List ℕ) → Option (List ℕ) → Result (Unit {0}) RunFault
     → Type 0
 AnswersLine old number line new before now result =
-    (bridge : Bridge) → Hears bridge.wire (request_at number line) → Stands old bridge
+    (bridge : Bridge) → DecodesRequest bridge.decoding (request_at number line) → Stands old bridge
     → (sent : List ℕ) × Appends before now sent × LineEnds bridge number line new sent result
 
 -- all was sent, or a front and not all, or nothing on out of memory
@@ -167,5 +167,5 @@ FinishEnds old sent (Err errors.OutOfMemory) = to_come ended old [] ≡ record {
 -- the end of the input, and what the writer held before and holds now
 abbrev pub Finishes : Held → Option (List ℕ) → Option (List ℕ) → Result (Unit {0}) RunFault → Type 0
 Finishes old before now result =
-    (bridge : Bridge) → HearsComing bridge.wire old [] → Stands old.core bridge
+    (bridge : Bridge) → DecodesComing bridge.decoding old [] → Stands old.core bridge
     → (sent : List ℕ) × Appends before now sent × FinishEnds (place_of old bridge) sent result

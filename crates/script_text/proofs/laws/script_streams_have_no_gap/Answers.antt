@@ -7,6 +7,6 @@ pub returns-clause-good : goal.returns-clause-good
 returns-clause-good c = steps_good c.good_desks_stay_good.ensures
 
 pub returns-clause-no_gap : goal.returns-clause-no_gap
-returns-clause-no_gap c wire input name =
+returns-clause-no_gap c decoding input name =
     let who = speaker_of input in
-    c.streams_have_no_gap.ensures who 1 (first_desk who) (steps_of wire input) name (first_good who) (steps_good c.good_desks_stay_good.ensures wire input)
+    c.streams_have_no_gap.ensures who 1 (first_desk who) (steps_of decoding input) name (first_good who) (steps_good c.good_desks_stay_good.ensures decoding input)

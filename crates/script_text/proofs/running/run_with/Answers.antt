@@ -16,7 +16,7 @@ loop-init g c = record {
   line = omega (arith, c.requires.script.1);
   midline = c.requires.midline;
   calls = g.met.S.ScriptSource.at_first c.args.reader.now;
-  so_far = λ wire input heard e. at_first wire input heard _ _ c.args.script.now c.requires.script e;
+  so_far = λ decoding input heard e. at_first decoding input heard _ _ c.args.script.now c.requires.script e;
 }
 
 pub returns-in-Err-clause-run : goal.returns-in-Err-clause-run
@@ -52,19 +52,19 @@ loop-preserved g c =
             midline = rw w.script-is w.feed.ensures.midline;
             calls = w.in-Octets.ensures.counted c.loop.counter c.args.reader.now c.loop.invariant.calls octets_end;
             line = rw w.script-is (omega (arith, w.in_default.ensures.line, length-take w.in-Octets.n c.read_some.new.chunk));
-            so_far = λ wire input heard e.
+            so_far = λ decoding input heard e.
                 rw (w.script-is, w.writer-is)
-                (goes_on wire input (g.S.ScriptSource.rest c.loop.reader) (g.S.ScriptSource.rest c.read_some.new.self) (g.T.TextSink.held c.args.writer.now) (g.T.TextSink.held c.loop.writer) (g.T.TextSink.held w.feed.new.writer)
-                c.loop.script w.feed.new.self (take w.in-Octets.n c.read_some.new.chunk) (c.loop.invariant.so_far wire input heard e) w.in-Octets.ensures.piece.1 w.in_default.ensures.step);
+                (goes_on decoding input (g.S.ScriptSource.rest c.loop.reader) (g.S.ScriptSource.rest c.read_some.new.self) (g.T.TextSink.held c.args.writer.now) (g.T.TextSink.held c.loop.writer) (g.T.TextSink.held w.feed.new.writer)
+                c.loop.script w.feed.new.self (take w.in-Octets.n c.read_some.new.chunk) (c.loop.invariant.so_far decoding input heard e) w.in-Octets.ensures.piece.1 w.in_default.ensures.step);
           }
       | in-Interrupted w ↦
           record {
             midline = rw w.script-is c.loop.invariant.midline;
             calls = w.in-Interrupted.ensures.counted c.loop.counter c.args.reader.now c.loop.invariant.calls interrupted_end;
             line = rw w.script-is (omega (arith, c.loop.invariant.line));
-            so_far = λ wire input heard e.
+            so_far = λ decoding input heard e.
                 rw (w.script-is, w.writer-is)
-                (waits wire input (g.S.ScriptSource.rest c.loop.reader) (g.S.ScriptSource.rest c.read_some.new.self) (g.T.TextSink.held c.args.writer.now) (g.T.TextSink.held c.loop.writer) c.loop.script (c.loop.invariant.so_far wire input heard e) w.in-Interrupted.ensures.piece);
+                (waits decoding input (g.S.ScriptSource.rest c.loop.reader) (g.S.ScriptSource.rest c.read_some.new.self) (g.T.TextSink.held c.args.writer.now) (g.T.TextSink.held c.loop.writer) c.loop.script (c.loop.invariant.so_far decoding input heard e) w.in-Interrupted.ensures.piece);
           }
     ]
 

@@ -1,6 +1,6 @@
 use Rattle.std.proofs.Common.{◌≡◌, ◌+◌, ◌*◌, ◌≤◌, List, ℕ, Some}
 use Rattle.script_text.proofs.RunLemmas.{SoFar}
-use Rattle.script_text.specs.Wire.{Wire, HearsAll}
+use Rattle.script_text.specs.Decodings.{Decoding, DecodesLines}
 use Rattle.script_text.specs.Lines.{lines_of}
 use Rattle.script_text.specs.inner.Steps.{IsMidLine}
 use Rattle.script_text.proofs.running.run_with.Given as goal
@@ -11,5 +11,5 @@ invariant-loop g l = record {
   midline : IsMidLine l.script;
   calls : g.S.ScriptSource.goes_on l.counter l.fn.reader l.reader;
   line : l.script.line ≤ 1 + 4096 * l.counter;
-  so_far : (wire : Wire) (input : List ℕ) → HearsAll wire (lines_of input) → g.S.ScriptSource.rest l.fn.reader ≡ Some input → SoFar wire input (g.S.ScriptSource.rest l.reader) (g.T.TextSink.held l.fn.writer) (g.T.TextSink.held l.writer) l.script;
+  so_far : (decoding : Decoding) (input : List ℕ) → DecodesLines decoding (lines_of input) → g.S.ScriptSource.rest l.fn.reader ≡ Some input → SoFar decoding input (g.S.ScriptSource.rest l.reader) (g.T.TextSink.held l.fn.writer) (g.T.TextSink.held l.writer) l.script;
 }

@@ -3,7 +3,7 @@ use Rattle.worked_bridge.proofs.script_laws.two_scripts_have_one_wire.Goals as g
 
 pub returns : goal.returns
 returns c =
-    let wire = c.scripts_are_heard.ensures in
-    let first = c.in_ok-one.ensures.ok.each wire.0 (wire.1 (lines_of c.args.first.now)) in
-    let second = c.in_ok-other.ensures.ok.each wire.0 (wire.1 (lines_of c.args.second.now)) in
-    (wire.0, first.1, second.1)
+    let decoding = c.scripts_are_heard.ensures in
+    let first = c.in_ok-one.ensures.ok.each decoding.0 (decoding.1 (lines_of c.args.first.now)) in
+    let second = c.in_ok-other.ensures.ok.each decoding.0 (decoding.1 (lines_of c.args.second.now)) in
+    (decoding.0, first.1, second.1)

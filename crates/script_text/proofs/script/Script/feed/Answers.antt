@@ -1,6 +1,6 @@
 use Rattle.std.proofs.Common.{◌≡◌, ℕ, ◌+◌, ◌<◌, List, ◌++◌, [], ◌∷◌, length, take, drop, arith, get_or, refl, sym, ap, ◌∙◌, subst, append_assoc}
 use Rattle.std.proofs.lemmas.List.{take_more, take_all, take-append-drop}
-use Rattle.script_text.specs.inner.Steps.{Goes, HearsComing, place_of}
+use Rattle.script_text.specs.inner.Steps.{Goes, DecodesComing, place_of}
 use Rattle.script_text.proofs.Known.{Appends-then, Appends-none}
 use Rattle.script_text.proofs.StepLemmas.{goes_more, fails_at, goes_none}
 use Rattle.script_text.proofs.script.Script.feed.Goals as goal
@@ -26,7 +26,7 @@ returns-in-Err-clause-step g c = λ first tail heard stands.
     let octets = c.args.octets.now in
     let i = c.loop-octet.octet-index in
     let rest = drop (i + 1) octets ++ tail in
-    let before = c.loop-octet.invariant.step first (get_or octets i 0 ∷ rest) (subst (HearsComing first.wire c.args.self.now) (one_of octets i tail c.loop-octet-test.true) heard) stands in
+    let before = c.loop-octet.invariant.step first (get_or octets i 0 ∷ rest) (subst (DecodesComing first.decoding c.args.self.now) (one_of octets i tail c.loop-octet-test.true) heard) stands in
     let h = c.in-Err.ensures.step before.1 rest before.5 before.2 in (
       before.0 ++ h.0,
       Appends-then _ _ _ _ _ before.3 h.1,
@@ -40,7 +40,7 @@ loop-octet-preserved g c = record {
   step = λ first tail heard stands.
       let octets = c.args.octets.now in
       let i = c.loop-octet.octet-index in
-      let before = c.loop-octet.invariant.step first (get_or octets i 0 ∷ tail) (subst (HearsComing first.wire c.args.self.now) (one_more octets i tail c.loop-octet-test.true) heard) stands in
+      let before = c.loop-octet.invariant.step first (get_or octets i 0 ∷ tail) (subst (DecodesComing first.decoding c.args.self.now) (one_more octets i tail c.loop-octet-test.true) heard) stands in
       let h = c.in_default.ensures.step before.1 tail before.5 before.2 in (
         before.0 ++ h.0,
         h.2.0,
@@ -54,5 +54,5 @@ loop-octet-preserved g c = record {
 pub returns-clause-step : goal.returns-clause-step
 returns-clause-step g c = λ first tail heard stands.
     let all = take_all c.loop-octet.octet-index c.args.octets.now c.loop-octet-test.false in
-    let h = c.loop-octet.invariant.step first tail (subst (λ (t : List ℕ). HearsComing first.wire c.args.self.now (t ++ tail)) (sym all) heard) stands in
+    let h = c.loop-octet.invariant.step first tail (subst (λ (t : List ℕ). DecodesComing first.decoding c.args.self.now (t ++ tail)) (sym all) heard) stands in
     (h.0, h.3, (h.1, h.2, subst (λ (t : List ℕ). Goes (place_of c.args.self.now first) t (place_of c.loop-octet.self h.1) h.0) all h.4, h.5))

@@ -11,4 +11,4 @@ returns-then-is_err-clause-step g c = rw (← c.self.view_is) (λ bridge tail he
 pub returns-clause-step : goal.returns-clause-step
 returns-clause-step g c =
     let e : c.push.new.self.items ≡ c.self.inside.pending.items ++ c.args.octet ∷ [] = pushed c.push.result _ _ _ c.if-is_err.ensures.value c.push.ensures.items in
-    rw (← c.self.view_is, e) (λ bridge tail heard stands. (bridge, stands, kept_goes (record { bridge = bridge; line = c.self.inside.line; pending = c.self.inside.pending.items }) c.args.octet, kept_heard bridge.wire c.self.inside.pending.items tail c.args.octet heard))
+    rw (← c.self.view_is, e) (λ bridge tail heard stands. (bridge, stands, kept_goes (record { bridge = bridge; line = c.self.inside.line; pending = c.self.inside.pending.items }) c.args.octet, kept_heard bridge.decoding c.self.inside.pending.items tail c.args.octet heard))
