@@ -1,3 +1,4 @@
 pub mod Compounds
 pub mod Octets
 pub mod Packets
+pub mod Fixtures

@@ -10,3 +10,4 @@ pub mod DeskCases
 pub mod GroupCases
 pub mod ShownRooms
 pub mod TwoRates
+pub mod Has

@@ -1,2 +1,4 @@
 pub mod Failures
 pub mod Others
+pub mod ToldLemmas
+pub mod TakenLemmas

@@ -2,19 +2,24 @@
 //! the call alone.
 #![tactic(auto)]
 
-pub mod feedback_laws;
+// Sources, and what they are asked for.
+pub mod pictures;
+pub mod reporting;
+pub mod source_laws;
+pub mod sources;
+pub mod upstreams;
+
+// Samples and mixes.
 pub mod formats;
 pub mod jitter_buffers;
 pub mod mixed_ticks;
 pub mod mixes;
-pub mod pictures;
 pub mod renewals;
-pub mod reporting;
-pub mod resends;
 pub mod sample_laws;
 pub mod samples;
-pub mod source_laws;
-pub mod sources;
+
+// Outgoing streams.
+pub mod feedback_laws;
+pub mod resends;
 pub mod stream_laws;
 pub mod streaming;
-pub mod upstreams;

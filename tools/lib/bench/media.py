@@ -15,7 +15,7 @@ import tempfile
 
 from lib.shared import add_measuring, add_program, compiled, instructions, processor_time, release_program
 
-NEEDS = "the program of the crate bench, `cc`, minutes; valgrind to count instructions"
+NEEDS = "the program of the crate x_bench_media, `cc`, minutes; valgrind to count instructions"
 
 HERE = pathlib.Path(__file__).resolve().parent
 RECEIVERS = 16
@@ -83,7 +83,7 @@ FLOORS = {
 
 
 def options(parser):
-    add_program(parser, "bench")
+    add_program(parser, "x_bench_media")
     add_measuring(parser, 7)
     how = parser.add_mutually_exclusive_group()
     how.add_argument("--seconds", type=float, default=0.5, help="how long a run takes at least (%(default)s)")
@@ -133,7 +133,7 @@ def run(args):
     floors = {name: case for name, case in FLOORS.items() if name in rows}
     cases = list(dict.fromkeys([case for made, _ in rows.values() for case in made] + list(floors.values())))
     with tempfile.TemporaryDirectory() as folder:
-        programs = release_program(args.binary, "bench"), compiled(HERE / "tick.c", folder)
+        programs = release_program(args.binary, "x_bench_media"), compiled(HERE / "tick.c", folder)
         each = costs(measure, programs, cases, runs, least)
     yardstick = None
     for name, (made, units) in rows.items():

@@ -17,11 +17,12 @@ from lib.shared import CRATES, crates
 
 NEEDS = "nothing"
 
-TESTS = {"desk_tests", "version_tests", "operator_tests", "lane_tests", "bridge_tests"}
 PROGRAMS = {
-    "confbridge", "worked_versions", "worked_operators", "codec_cases", "source_cases", "script_cases", "bridge_cases", "front_cases",
-    "page_cases", "desk_page",
+    "confbridge", "desk_page", "worked_desk",
+    "x_cases_codecs", "x_cases_sources", "x_cases_scripts", "x_cases_bridge", "x_cases_front", "x_cases_page",
 }  # fmt: skip
+# How the names of crates begin that have no function of a library.
+NO_LIBRARY = ("worked_", "x_tests_", "x_bench_")
 
 # What nothing runs yet where the prover sees it.
 NOT_YET = {"call_history::CallLists::new"}
@@ -207,7 +208,7 @@ class Sources:
     def allocating(self):
         """The public functions of the libraries that take an allocator."""
         for f in self.functions:
-            is_library = not (f.crate in TESTS | PROGRAMS or f.crate.startswith("worked_") or f.crate in {"bench", "thread_bench"})
+            is_library = f.crate not in PROGRAMS and not f.crate.startswith(NO_LIBRARY)
             is_public = f.is_public and (f.owner or f.name) in self.exports[f.crate]
             if is_library and is_public and f.takes_an_allocator():
                 yield f

@@ -1,15 +1,16 @@
 """Tries the cases of scripts, calls, codecs and sockets.
 
-The programs of script_cases, bridge_cases and codec_cases are built without proofs. Sections that take them too long are left out: those
-that fill the desk's tables and its log, and those of many datagrams and random calls. A program that doesn't answer within
-the toolchain's time, as on a busy machine, says nothing of its cases: this is printed, and is no failure.
+The programs of x_cases_scripts, x_cases_bridge and x_cases_codecs are built without proofs. Sections that take them
+too long are left out: those that fill the desk's tables and its log, and those of many datagrams and random calls. A
+program that doesn't answer within the toolchain's time, as on a busy machine, says nothing of its cases: this is
+printed, and is no failure.
 
 Cases by sums are scripts too long to be kept. Each is a line of sums.txt beside this tool, as `tools/bridge make script --sum` prints
 it: the SHA-256 of the output, its octets, and the arguments with which `make script` makes the script. They are tried where there is
 a program, since one without proofs prints too little.
 
-The program of front_cases is one that `rt ci` built. It runs the same cases on bridges of 1, 2, 4 and 16 lanes and has to print the same
-each time. Where it is named, its cases alone are tried.
+The program of x_cases_front is one that `rt ci` built. It runs the same cases on bridges of 1, 2, 4 and 16 lanes and
+has to print the same each time. Where it is named, its cases alone are tried.
 """
 
 import argparse
@@ -24,9 +25,9 @@ from lib.shared import CRATES, add_program, found_program, release_program, repl
 
 NEEDS = "`rt`, three minutes; with BINARY that program, a minute"
 
-# Sections of crates/script_cases/stdin that take too long.
+# Sections of crates/x_cases_scripts/stdin that take too long.
 LONG = {"no desk", "many datagrams", "large requests and reports", "random calls"}
-# The lanes of the bridges of front_cases whose case doesn't say how many. All are tried side by side.
+# The lanes of the bridges of x_cases_front whose case doesn't say how many. All are tried side by side.
 LANES = [1, 2, 4, 16]
 # The cases by sums.
 SUMS = pathlib.Path(__file__).with_name("sums.txt")
@@ -35,7 +36,7 @@ SECONDS = 120
 
 
 def options(parser):
-    add_program(parser, "front_cases")
+    add_program(parser, "x_cases_front")
 
 
 def short_sections(text):
@@ -65,8 +66,8 @@ def are_good(crate, text):
 
 
 def said_on_lanes(program, lanes):
-    """What front_cases prints where bridges have so many lanes."""
-    with (CRATES / "front_cases" / "stdin").open() as cases:
+    """What x_cases_front prints where bridges have so many lanes."""
+    with (CRATES / "x_cases_front" / "stdin").open() as cases:
         try:
             run = subprocess.run([program, str(lanes)], stdin=cases, capture_output=True, text=True, timeout=SECONDS, check=False)
         except subprocess.TimeoutExpired:
@@ -75,23 +76,23 @@ def said_on_lanes(program, lanes):
 
 
 def are_good_on_lanes(program):
-    """Whether front_cases prints what it has to with each number of lanes. Prints what it says."""
-    wanted = (CRATES / "front_cases" / "stdout").read_text()
+    """Whether x_cases_front prints what it has to with each number of lanes. Prints what it says."""
+    wanted = (CRATES / "x_cases_front" / "stdout").read_text()
     with concurrent.futures.ThreadPoolExecutor() as pool:
         said = list(pool.map(functools.partial(said_on_lanes, program), LANES))
     for lanes, text in zip(LANES, said, strict=True):
-        print(f"front_cases on lanes {lanes}: {text}", end="")
+        print(f"x_cases_front on lanes {lanes}: {text}", end="")
     return all(text == wanted for text in said)
 
 
 def are_good_without_proofs():
     """Whether the programs that are built without proofs find no case that differs."""
-    scripts = short_sections((CRATES / "script_cases" / "stdin").read_text())
-    paths = sorted((CRATES / "codec_cases" / "data").glob("*.txt"))
+    scripts = short_sections((CRATES / "x_cases_scripts" / "stdin").read_text())
+    paths = sorted((CRATES / "x_cases_codecs" / "data").glob("*.txt"))
     good = [
-        are_good("script_cases", scripts),
-        are_good("bridge_cases", (CRATES / "bridge_cases" / "stdin").read_text()),
-        are_good("codec_cases", "".join(f"{path}\n" for path in paths)),
+        are_good("x_cases_scripts", scripts),
+        are_good("x_cases_bridge", (CRATES / "x_cases_bridge" / "stdin").read_text()),
+        are_good("x_cases_codecs", "".join(f"{path}\n" for path in paths)),
         have_their_sums(found_program(None)),
     ]
     return all(good)
@@ -121,9 +122,9 @@ def run(args):
     if args.binary:
         return 0 if are_good_on_lanes(release_program(args.binary)) else 1
     is_good = are_good_without_proofs()
-    program = found_program(None, "front_cases")
+    program = found_program(None, "x_cases_front")
     if program:
         is_good = are_good_on_lanes(program) and is_good
     else:
-        print("front_cases: not tried, since there is no program that is newer than the sources")
+        print("x_cases_front: not tried, since there is no program that is newer than the sources")
     return 0 if is_good else 1

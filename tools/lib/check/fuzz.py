@@ -2,10 +2,10 @@
 
 INPUT is one of
   datagrams   RTP packets and RTCP compounds, by `rx` lines of `replay`, with waits between them: whether each is read, or its first fault
-  fields      these, by the program of crates/codec_cases: each field that is read, and what compounds are written as
+  fields      these, by the program of crates/x_cases_codecs: each field that is read, and what compounds are written as
   lines       operators' lines, over a connection to a served bridge
   scripts     lines of scripts, besides frames, each by a `replay` of its own: some hundred a second
-  settings    TOML texts, by the program of crates/front_cases
+  settings    TOML texts, by the program of crates/x_cases_front
 
 Each input is a case of the repository that is changed at one to four places, or joined with another. The readers are plain: those
 of tools/lib/models, and Python's `tomllib`. The first differences are printed. The status is 0 where there is none.
@@ -24,10 +24,10 @@ from lib.models.told import told_of
 from lib.serving import settings, started
 from lib.shared import CRATES, add_program, fail, release_program
 
-NEEDS = "the program, of codec_cases for fields and of front_cases for settings; 25 s a million"
+NEEDS = "the program, of x_cases_codecs for fields and of x_cases_front for settings; 25 s a million"
 
 # The programs that answer, where it isn't the bridge's.
-PROGRAMS = {"fields": "codec_cases", "settings": "front_cases"}
+PROGRAMS = {"fields": "x_cases_codecs", "settings": "x_cases_front"}
 BATCH = 20_000
 MOST_SHOWN = 20
 TELLING = [0, 1, 2, 3, 7, 8, 31, 32, 127, 128, 129, 192, 200, 201, 202, 203, 204, 205, 206, 207, 223, 224, 254, 255]
@@ -93,7 +93,7 @@ def said_of_datagram(data):
 
 def datagrams_like(draw, count):
     """Lists of datagrams that are changed cases of the codecs."""
-    texts = [path.read_text() for path in (CRATES / "codec_cases" / "data").glob("*.txt")]
+    texts = [path.read_text() for path in (CRATES / "x_cases_codecs" / "data").glob("*.txt")]
     corpus = [bytes.fromhex(word) for text in texts for word in re.findall(r"\b(?:[0-9a-f]{2}){8,400}\b", text)]
     return batches(count, lambda: mutant(draw, corpus, TELLING) or b"\x80")
 
@@ -137,7 +137,7 @@ def said_to(answer):
 
 
 def lines(draw, count, program):
-    words = (CRATES / "script_cases" / "stdin").read_text().splitlines()
+    words = (CRATES / "x_cases_scripts" / "stdin").read_text().splitlines()
     corpus = list({re.sub(r"^\S+ \S+ ", "", it).encode() for it in words if it.startswith("desk ") and len(it) < 200})
 
     def line():
@@ -170,7 +170,7 @@ def said_of_script(program, line):
 
 
 def scripts(draw, count, program):
-    texts = [it.removeprefix("-- ") for it in (CRATES / "script_cases" / "stdin").read_text().splitlines()]
+    texts = [it.removeprefix("-- ") for it in (CRATES / "x_cases_scripts" / "stdin").read_text().splitlines()]
     words = ("desk ", "rx ", "wait ", "tick ", "report ", "show", "#")
     corpus = list({it.encode() for it in texts if it.startswith(words) and len(it) < 200 and it.isascii() and "{" not in it})
     corpus += len(corpus) // 6 * [
@@ -209,7 +209,7 @@ def escaped(text):
 
 
 def said_of_settings(program, asked):
-    """Which of these lines of front_cases come out otherwise. Ends where the program has not read them all."""
+    """Which of these lines of x_cases_front come out otherwise. Ends where the program has not read them all."""
     run = subprocess.run([program], input="".join(f"{it}\n" for it in asked).encode(), capture_output=True, check=False)
     *differ, last, rest = ["", *run.stdout.decode(errors="replace").split("\n")]
     differ = set(differ[1:])
@@ -219,14 +219,14 @@ def said_of_settings(program, asked):
 
 
 def texts(draw, count, program):
-    cases = (CRATES / "front_cases" / "stdin").read_text().splitlines()
+    cases = (CRATES / "x_cases_front" / "stdin").read_text().splitlines()
     given = [it[9:].split(" > ")[0] for it in cases if it.startswith("settings ") and " > " in it]
     corpus = [it.replace("\\n", "\n").replace("\\\\", "\\").encode() for it in given if len(it) < 300]
     corpus += [f"{before}{it}\n".encode() for it in FORMS for before in ("", ADDRESSES)]
     had = set()
 
     def judged():
-        """A new line of front_cases, with the answer that it wants."""
+        """A new line of x_cases_front, with the answer that it wants."""
         while True:
             text = mutant(draw, corpus, TOML).decode(errors="ignore")
             says = "" if NOT_JUDGED.search(text) else settings_of(text)

@@ -5,7 +5,7 @@ it comes late, or while much sound waits, for so long that its buffer may begin 
 that has buffers begin anew by that. Ticks and waits come in between, and operators mute, set gains, move, remove and undo, with
 --groups mostly in groups. A member that is removed comes back in any of the rooms, also at another clock rate.
 
-With --cases nothing is compared. The lines are printed with the model's answers, in the form of script_cases.
+With --cases nothing is compared. The lines are printed with the model's answers, in the form of x_cases_scripts.
 """
 
 import random

@@ -5,7 +5,7 @@ and changed, with wraps and restarts. Lost packets may come after all. Time pass
 send NACKs. Operators mute, unsubscribe, remove and undo in between, with --groups mostly in groups. They also have the second audio
 sender come back in the other room, or as a source of video. Every second script names its bridge.
 
-With --cases nothing is compared. The lines are printed with the model's answers, in the form of script_cases.
+With --cases nothing is compared. The lines are printed with the model's answers, in the form of x_cases_scripts.
 """
 
 import collections

@@ -190,7 +190,7 @@ KEYS = {
 
 
 def settings_of(text):
-    """What crates/front_cases prints of the settings of a text."""
+    """What crates/x_cases_front prints of the settings of a text."""
     try:
         table = tomllib.loads(text)
     except (tomllib.TOMLDecodeError, RecursionError):

@@ -1,4 +1,4 @@
-"""What crates/codec_cases tells of a datagram: its class, and each field that the codecs read, in the words of its README."""
+"""What crates/x_cases_codecs tells of a datagram, in the words of its README: its class, and each field that is read."""
 
 from lib.models.codec import Dropped, read_rtcp, read_rtp
 from lib.packets import number

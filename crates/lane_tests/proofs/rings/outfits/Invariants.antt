@@ -1,6 +1,0 @@
-use Rattle.std.proofs.Common.{◌≡◌, [], All}
-use Rattle.rtrb.specs.Ring.{sent}
-use Rattle.lane_tests.proofs.rings.outfits.Given as goal
-
-abbrev pub invariant-loop-pace : goal.invariant-loop-pace
-invariant-loop-pace g l = All (λ outfit. sent outfit.1 ≡ []) l.outfits.items

@@ -1,3 +1,0 @@
-pub mod Both
-pub mod Fronts
-pub mod Leading
