@@ -9,7 +9,8 @@ a line over 120 columns, or a file over 300 lines (of the page its web files cou
 of definitions with three. Types are structs, enums, traits and aliases, public or not; those of cases, examples and tests don't
 count. It is 1 as well where the lib.rt of a crate of the bridge has no example, or where a lib.rt names a function of another crate
 ("`NAME` of CRATE") that isn't there. And it is 1 where a source of desk_page isn't what `make page` writes from the page's web files,
-or where a text that an edit of edits/ or must-fail/ replaces doesn't stand once in its file.
+or where a text that an edit of edits/ or must-fail/ replaces doesn't stand once in its file, or where a crate that is there to
+check sorts before one of the product.
 """
 
 import collections
@@ -20,7 +21,7 @@ import statistics
 from lib.gate import edits
 from lib.make.definitions import definition_files, words_of
 from lib.make.page import SOURCES, PARTS, WEB, stale
-from lib.shared import CRATES, ROOT, bridge_crates
+from lib.shared import CRATES, ROOT, bridge_crates, crates
 
 NEEDS = "nothing"
 
@@ -308,9 +309,18 @@ def check_edits():
     return not found
 
 
+def check_order():
+    """Prints which crates that are there to check sort before one of the product. Whether none does."""
+    product = bridge_crates()
+    found = [name for name in crates() if name not in product and name < max(product)]
+    print(f"{len(found)} crates that are there to check sort before the product's")
+    print("".join(f"       {name}\n" for name in found), end="")
+    return not found
+
+
 def run(args):
     good = [args.sources or check_documents()]
     if not args.docs:
         print()
-        good += [check_sources(), check_names(), check_examples(), check_made(), check_edits()]
+        good += [check_sources(), check_names(), check_examples(), check_made(), check_edits(), check_order()]
     return 0 if all(good) else 1
