@@ -16,7 +16,7 @@
 //! println!(rt; "{} calls of operator 0", stopped.accepted[0])?;
 //! ```
 //!
-//! front_cases runs these calls on sockets.
+//! x_cases_front runs these calls on sockets.
 #![tactic(auto)]
 
 mod calls;

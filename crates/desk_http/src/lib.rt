@@ -12,7 +12,7 @@
 //! let last = exchange.feed(b"9\n")?; // Progress::Whole
 //! ```
 //!
-//! The cases of page_cases have this exchange, and each kind of request.
+//! The cases of x_cases_page have this exchange, and each kind of request.
 #![tactic(auto)]
 
 mod answering;

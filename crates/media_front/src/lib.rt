@@ -35,7 +35,7 @@
 //! let fault = fault_of(&media.close(rt)); // None, unless a lane had a fault
 //! ```
 //!
-//! `three_lanes_have_ended` of worked_front calls `fault_of` so, with its answers proved. front_cases runs the other
+//! `three_lanes_have_ended` of worked_front calls `fault_of` so, with its answers proved. x_cases_front runs the other
 //! calls on sockets.
 #![tactic(auto)]
 

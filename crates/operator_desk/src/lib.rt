@@ -19,7 +19,7 @@
 //! }
 //! ```
 //!
-//! `two_in_turn` of worked_operators makes these calls, and prints the answers.
+//! `two_in_turn` of worked_desk makes these calls, and prints the answers.
 #![tactic(auto)]
 
 mod answer;

@@ -22,7 +22,7 @@
 //! let (desk, seats) = operators.end(); // once all threads have ended, for `gather`
 //! ```
 //!
-//! front_cases runs these calls on sockets.
+//! x_cases_front runs these calls on sockets.
 #![tactic(auto)]
 
 mod answering;

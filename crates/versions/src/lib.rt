@@ -25,7 +25,7 @@
 //! publisher.end(&rt);
 //! ```
 //!
-//! `publishes_version_1`, `learns_of_a_later_version` and `enters_what_it_was_told` of worked_versions are such calls,
+//! `publishes_version_1`, `learns_of_a_later_version` and `enters_what_it_was_told` of worked_desk are such calls,
 //! with their answers proved.
 #![tactic(auto)]
 
