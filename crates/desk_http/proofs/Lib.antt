@@ -1,2 +1,2 @@
-mod ErrandLemmas
+mod PendingLineLemmas
 mod GuardLemmas

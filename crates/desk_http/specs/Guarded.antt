@@ -1,10 +1,10 @@
--- What holds of each request that asks the bridge a call (own).
+-- What holds of each request whose line goes to the bridge as a call (own).
 use Rattle.std.specs.Prelude.{◌≡◌, ℕ, true, false, List, codes}
 use Rattle.http.specs.declared.request.Request.{Request}
 use Rattle.http.specs.Request.{body_of}
 use Rattle.desk_http.specs.declared.site.Site.{Site}
-use Rattle.desk_http.specs.declared.asking.Wish.TheVariants.{Call}
-use Rattle.desk_http.specs.Asked.{wish_of, has_own_host, has_own_origin, has_token, is_method}
+use Rattle.desk_http.specs.declared.routing.Route.TheVariants.{Call}
+use Rattle.desk_http.specs.Routes.{route_of, has_own_host, has_own_origin, has_token, is_method}
 use Rattle.desk_http.specs.Lines.{is_line, is_reserved}
 
 -- a call passes all of these
@@ -18,4 +18,4 @@ pub record Passes (site : Site) (request : Request (List ℕ)) : Type 0 where
 
 -- each call passes
 abbrev pub IsGuarded : Type 0
-IsGuarded = (site : Site) (request : Request (List ℕ)) → wish_of site request ≡ Call → Passes site request
+IsGuarded = (site : Site) (request : Request (List ℕ)) → route_of site request ≡ Call → Passes site request

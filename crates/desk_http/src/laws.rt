@@ -1,14 +1,14 @@
 //! Laws of the definitions.
 
-ghost use Rattle.desk_http.specs.Errands.{GoesOnce};
+ghost use Rattle.desk_http.specs.PendingLines.{IsSentAtMostOnce};
 ghost use Rattle.desk_http.specs.Guarded.{IsGuarded};
 
-/// A request asks the bridge a call only if it is a POST of the page's own host and origin, with its token and a line.
+/// A request is a call only if it is a POST to the page's own host, from no other origin, with its token and a line.
 pub fn calls_are_guarded()
     ensures { IsGuarded }
 {}
 
-/// At most one line of each request goes to the bridge, and it goes once.
-pub fn lines_go_once()
-    ensures { GoesOnce }
+/// At most one line of each request is handed over, and that once.
+pub fn lines_are_sent_at_most_once()
+    ensures { IsSentAtMostOnce }
 {}

@@ -1,42 +1,42 @@
-//! The operators' page: what a browser's request asks for, how its line reaches the bridge once, and what the browser
-//! is answered.
+//! The operators' page: which route a browser's request takes, how its line reaches the bridge once, and how the
+//! request is responded to.
 //!
-//! Begin with [`asked_for`]. A [`Hearing`] answers a request that needs no bridge, and names the line of any other. An
-//! [`Errand`] hands that line over once, an [`Exchange`] takes in the bridge's answer, and a [`Telling`] answers the
-//! request with it. A contract sees requests, lines and answers as octets. The crate has no socket and no clock.
+//! Begin with [`route_of`]. A [`Router`] responds to a request that needs no bridge, and names the line of any other. A
+//! [`PendingLine`] hands that line over once, a [`BridgeRequest`] takes in the bridge's reply, and a [`Responder`]
+//! responds with it. A contract sees requests, lines and replies as octets. The crate has no socket and no clock.
 //!
 //! ```rust
-//! let mut exchange = Exchange::new(alloc, Vec::from_slice(alloc, b"mute 201")?);
-//! let octets = exchange.sent(alloc)?; // the line and an LF
-//! let first = exchange.feed(b"ok ")?; // Progress::More
-//! let last = exchange.feed(b"9\n")?; // Progress::Whole
+//! let mut request = BridgeRequest::new(alloc, Vec::from_slice(alloc, b"mute 201")?);
+//! let octets = request.encode(alloc)?; // the line and an LF
+//! let first = request.feed(b"ok ")?; // ReplyProgress::Partial
+//! let last = request.feed(b"9\n")?; // ReplyProgress::Complete
 //! ```
 //!
-//! The cases of x_cases_page have this exchange, and each kind of request.
+//! The cases of x_cases_page have this request, and each route.
 #![tactic(auto)]
 
-mod answering;
-mod asking;
-mod calls;
-mod errand;
-mod exchange;
+mod admission;
+mod bridge_connection;
+mod bridge_request;
+mod call_log;
 mod laws;
 mod naming;
-mod serving;
+mod pending_line;
+mod responding;
+mod routing;
+mod services;
 mod site;
-mod starting;
-mod talk;
-mod visit;
+mod startup;
 
-pub use answering::Told;
-pub use asking::{MAX_CHANGE, MAX_LINE, PageRefusal, Wish, asked_for};
-pub use calls::Calls;
-pub use errand::Errand;
-pub use exchange::{Exchange, Progress};
-pub use laws::{calls_are_guarded, lines_go_once};
-pub use naming::{Names, Renaming, is_names_text};
-pub use serving::{Hearing, Telling};
-pub use site::{Files, Site};
-pub use starting::{Addresses, addresses_of, limits, token};
-pub use talk::BridgeTalk;
-pub use visit::{Placing, Visit, VisitStage, admit};
+pub use admission::{ClientActivity, ClientStage, Placement, admit};
+pub use bridge_connection::BridgeConnection;
+pub use bridge_request::{BridgeRequest, ReplyProgress};
+pub use call_log::CallLog;
+pub use laws::{calls_are_guarded, lines_are_sent_at_most_once};
+pub use naming::{Names, NamesOutcome, is_names_text};
+pub use pending_line::PendingLine;
+pub use responding::BridgeReply;
+pub use routing::{MAX_CHANGE, MAX_LINE, PageRefusal, Route, route_of};
+pub use services::{Responder, Router};
+pub use site::{Assets, Site};
+pub use startup::{Addresses, loopback_addresses, request_limits, token};

@@ -20,8 +20,8 @@ ghost use Rattle.desk_http.specs.Names.{
   IsNamesText,
   IsChange,
   heading,
-  names_text,
-  IsJudged,
+  names_body,
+  IsValidated,
 };
 
 use json::{Error, Scratch, Value};
@@ -30,29 +30,28 @@ use std::alloc::{AllocError, Global};
 /// The most octets of a name: 200 characters of UTF-8 fit.
 const LONGEST_NAME: usize = 800;
 
-/// The names, as the page's program keeps them.
+/// All names, and their version.
 #[derive(Drop)]
 pub struct Names {
     /// The text of a JSON object, whose values are the names.
     pub text: Vec<u8>,
-    /// How often they were changed in this run.
+    /// How many times they were changed in this run.
     pub version: u64,
 }
 
-/// What becomes of a line about names.
+/// What a line about names does.
 #[derive(Drop)]
-pub enum Renaming {
-    /// The names are told.
+pub enum NamesOutcome {
+    /// It asks for the names.
     Shown,
-    /// The names were changed since: the browser has to look at them first.
+    /// It changes an older version: the browser has to get the names first.
     Newer,
-    /// It has no names: a JSON object whose values are texts of up to 800 octets.
+    /// It isn't followed by names: a JSON object whose values are texts of up to 800 octets.
     NoNames,
-    /// This is the text of the new names, which count once the file has them.
+    /// It changes the names to this text. Save it, and then [`replace`](Names::replace) the names.
     New(Vec<u8>),
 }
 
-/// Whether a value is a name.
 fn is_name(value: &Value<'_>) -> bool
     ensures { result ≡ is_name (value_view value.now) }
 {
@@ -63,7 +62,6 @@ fn is_name(value: &Value<'_>) -> bool
     }
 }
 
-/// Whether each member is a name.
 fn are_names(members: &[(&str, Value<'_>)]) -> bool
     ensures { result ≡ are_names (members_view members.now) }
 {
@@ -75,7 +73,6 @@ fn are_names(members: &[(&str, Value<'_>)]) -> bool
     true
 }
 
-/// Whether a value is an object of names.
 fn holds_names(value: &Value<'_>) -> bool
     ensures { result ≡ holds_names (value_view value.now) }
 {
@@ -98,26 +95,25 @@ pub fn is_names_text(alloc: Global, text: &[u8]) -> Result<bool, AllocError>
     }
 }
 
-/// The line with which the names begin that were changed so often.
+/// The first line of names of this version: `names VERSION` and an LF.
 fn heading(alloc: Global, version: u64) -> Result<Vec<u8>, AllocError>
     ensures { IfOk result (λ line. line.items ≡ heading version) }
 {
     Ok(format!(in alloc; "names {version}\n")?.into_bytes())
 }
 
-/// What a change of names is: no names, or new ones.
-fn judged_text(alloc: Global, text: &[u8]) -> Result<Renaming, AllocError>
+fn validated_text(alloc: Global, text: &[u8]) -> Result<NamesOutcome, AllocError>
     ensures { IfOk result (IsChange text.now) }
 {
     if is_names_text(alloc, text)? {
-        Ok(Renaming::New(Vec::from_slice(alloc, text)?))
+        Ok(NamesOutcome::New(Vec::from_slice(alloc, text)?))
     } else {
-        Ok(Renaming::NoNames)
+        Ok(NamesOutcome::NoNames)
     }
 }
 
 impl Names {
-    /// No change yet of these names.
+    /// These names, as version 0. The text has to be one of names.
     pub fn new(text: Vec<u8>) -> Self
         ensures text { result.text ≡ text }
         ensures version { result.version ≡ 0 }
@@ -125,22 +121,22 @@ impl Names {
         Self { text, version: 0 }
     }
 
-    /// What becomes of a line about names.
-    pub fn judge(&self, alloc: Global, line: &[u8]) -> Result<Renaming, AllocError>
-        ensures { IfOk result (IsJudged self.now line.now) }
+    /// Validates a line about names. Nothing changes yet.
+    pub fn validate(&self, alloc: Global, line: &[u8]) -> Result<NamesOutcome, AllocError>
+        ensures { IfOk result (IsValidated self.now line.now) }
     {
         let head = heading(alloc, self.version)?;
         if line == b"names".as_slice() {
-            Ok(Renaming::Shown)
+            Ok(NamesOutcome::Shown)
         } else if line.len() >= head.len() && &line[..head.len()] == head.as_slice() {
-            judged_text(alloc, &line[head.len()..])
+            validated_text(alloc, &line[head.len()..])
         } else {
-            Ok(Renaming::Newer)
+            Ok(NamesOutcome::Newer)
         }
     }
 
-    /// Takes new names, and counts the change.
-    pub fn take(&mut self, text: Vec<u8>)
+    /// Takes new names, and counts up the version.
+    pub fn replace(&mut self, text: Vec<u8>)
         ensures text { self.new.text ≡ text }
         ensures version { self.new.version ≡ min (self.old.version + 1) (2 ^ 64 - 1) }
     {
@@ -148,7 +144,7 @@ impl Names {
         self.version = self.version.saturating_add(1);
     }
 
-    /// Appends the line that says how often the names were changed. An `Err` may append a part.
+    /// Appends the line `names VERSION`. An `Err` may append a part.
     pub fn append_heading(&self, alloc: Global, out: &mut Vec<u8>) -> Result<(), AllocError>
         ensures { OnOk result (out.new.items ≡ out.old.items ++ heading self.now.version) }
     {
@@ -156,9 +152,9 @@ impl Names {
         out.extend_from_slice(&head)
     }
 
-    /// The names behind that line.
-    pub fn shown(&self, alloc: Global) -> Result<Vec<u8>, AllocError>
-        ensures { IfOk result (λ text. text.items ≡ names_text self.now) }
+    /// The line `names VERSION`, and the names.
+    pub fn body(&self, alloc: Global) -> Result<Vec<u8>, AllocError>
+        ensures { IfOk result (λ text. text.items ≡ names_body self.now) }
     {
         let mut out = heading(alloc, self.version)?;
         out.extend_from_slice(&self.text)?;

@@ -1,43 +1,42 @@
-//! What is the page's own: its names, its token and its files.
+//! The page's own hosts, token and files.
 
 ghost use Rattle.std.specs.Prelude.{◌≡◌, ◌++◌, codes, IfOk};
 ghost use Rattle.std.specs.Fmt.{decimal};
 ghost use Rattle.std.specs.Net.Socket.{socket_port};
 ghost use Rattle.std.specs.Net.Text.{socket_text};
-ghost use Rattle.desk_http.specs.Asked.{has_port_80, is_named, is_host_of, is_origin_of};
+ghost use Rattle.desk_http.specs.Routes.{has_port_80, is_named, is_host_of, is_origin_of};
 
 use std::alloc::{AllocError, Global};
 use std::net::SocketAddr;
 
-/// How browsers name the page, and the token that a call has to carry.
+/// How browsers name the page, and the token that a POST has to carry.
 #[derive(Drop)]
 pub struct Site {
     /// The address that the page listens at, such as `127.0.0.1:7080`.
     pub host: Vec<u8>,
     /// The same by name, such as `localhost:7080`.
     pub local: Vec<u8>,
-    /// A secret of this run, of any length. The page holds it, and each call sends it back.
+    /// A secret of this run, of any length. The page holds it, and each POST sends it back.
     pub token: Vec<u8>,
 }
 
-/// The page's files.
+/// The page's files, which the program embeds.
 #[derive(Clone, Copy)]
-pub struct Files {
-    /// The page as far as the token, in HTML.
-    pub front: &'static [u8],
-    /// The page behind the token.
-    pub back: &'static [u8],
-    /// The first part of the page's script.
-    pub lines: &'static [u8],
-    /// The second part of the page's script.
-    pub past: &'static [u8],
-    /// The rest of the page's script.
-    pub script: &'static [u8],
+pub struct Assets {
+    /// The page in HTML, as far as the token.
+    pub html_before: &'static [u8],
+    /// The page in HTML, after the token.
+    pub html_after: &'static [u8],
+    /// The first part of the script: the desk's text, and lines for the bridge.
+    pub script_lines: &'static [u8],
+    /// The second part of the script: what undo and redo would take.
+    pub script_past: &'static [u8],
+    /// The rest of the script: what is drawn, and what operators do.
+    pub script_view: &'static [u8],
     /// The page's style sheet.
     pub style: &'static [u8],
 }
 
-/// Whether a name ends with port 80.
 fn has_port_80(name: &[u8]) -> bool
     ensures { result ≡ has_port_80 name.now }
 {
@@ -52,8 +51,8 @@ fn is_named(name: &[u8], host: &[u8]) -> bool
 }
 
 impl Site {
-    /// The page's own at this address, with this token.
-    pub fn at(alloc: Global, address: SocketAddr, token: Vec<u8>) -> Result<Self, AllocError>
+    /// The page at this address, with this token.
+    pub fn new(alloc: Global, address: SocketAddr, token: Vec<u8>) -> Result<Self, AllocError>
         ensures host { IfOk result (λ site. site.host.items ≡ socket_text address) }
         ensures local { IfOk result (λ site. site.local.items ≡ codes "localhost:" ++ decimal (socket_port address)) }
         ensures token { IfOk result (λ site. site.token ≡ token) }
@@ -64,7 +63,6 @@ impl Site {
         Ok(Self { host, local, token })
     }
 
-    /// Whether this is the page's own host.
     pub(crate) fn is_host(&self, host: &[u8]) -> bool
         ensures { result ≡ is_host_of self.now host.now }
     {

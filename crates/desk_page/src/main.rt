@@ -1,63 +1,62 @@
 //! The operators' desk as a page in a browser: `desk_page --bridge 127.0.0.1:7000 --listen 127.0.0.1:7080`.
 //!
-//! One thread serves browsers and holds one operator's connection to the bridge. Browsers that wait for the bridge wait
-//! in their places, and the others are served meanwhile.
+//! One thread runs the event loop: it serves browsers, and is one operator of the bridge. A browser whose request waits
+//! for the bridge keeps nobody else waiting.
 #![tactic(auto)]
 
-mod keeping;
-mod link;
+mod bridge_client;
+mod client;
+mod clients;
 mod markup;
+mod names_store;
 mod options;
-mod past;
-mod peer;
-mod peers;
-mod script;
+mod script_lines;
+mod script_past;
+mod script_view;
 mod server;
+mod server_config;
 mod setup;
-mod spelling;
 mod style;
-mod terms;
 
-use crate::keeping::Keeper;
-use crate::options::{Asked, Ends, options_in};
+use crate::names_store::NamesStore;
+use crate::options::{ExitReason, Options, parse_options};
 use crate::server::Server;
 use desk_http::Addresses;
 use std::io::ErrorKind;
 use std::process::ExitCode;
 use std::{env, io};
 
-/// What the arguments ask for.
-fn asked(rt: &HostRuntime) -> Result<Asked, Ends> {
+fn read_options(rt: &HostRuntime) -> Result<Options, ExitReason> {
     let words = match env::args(rt) {
         Ok(words) => words,
-        Err(error) => return Err(Ends::of_kind(error.kind())),
+        Err(error) => return Err(ExitReason::from_kind(error.kind())),
     };
     let words: Vec<String> = match words.collect(rt.alloc()) {
         Ok(words) => words,
-        Err(_) => return Err(Ends::OutOfMemory),
+        Err(_) => return Err(ExitReason::OutOfMemory),
     };
-    options_in(rt, words.as_slice())
+    parse_options(rt, words.as_slice())
 }
 
-/// The end that an error is.
-fn ended(rt: &HostRuntime, error: &io::Error) -> Ends {
+/// Prints an error, which ends the program.
+fn exit_by(rt: &HostRuntime, error: &io::Error) -> ExitReason {
     let _ = eprintln!(rt; "desk_page: {error}");
-    Ends::of_kind(error.kind())
+    ExitReason::from_kind(error.kind())
 }
 
-/// What the page starts with: its addresses, and the names of the file if one is asked for.
-fn opened(rt: &HostRuntime) -> Result<(Addresses, Keeper), Ends> {
-    let asked = asked(rt)?;
-    Ok((asked.addresses, Keeper::open(rt, asked.names)?))
+/// The page's addresses, and the names of the file if the arguments name one.
+fn startup(rt: &HostRuntime) -> Result<(Addresses, NamesStore), ExitReason> {
+    let options = read_options(rt)?;
+    Ok((options.addresses, NamesStore::open(rt, options.names)?))
 }
 
 fn main(rt: HostRuntime) -> ExitCode {
-    let ends = match opened(&rt) {
-        Ok((addresses, keeper)) => match Server::serve(&rt, addresses, keeper) {
-            Ok(()) => Ends::Served,
-            Err(error) => ended(&rt, &error),
+    let reason = match startup(&rt) {
+        Ok((addresses, store)) => match Server::serve(&rt, addresses, store) {
+            Ok(()) => ExitReason::Served,
+            Err(error) => exit_by(&rt, &error),
         },
-        Err(ends) => ends,
+        Err(reason) => reason,
     };
-    ExitCode::from(ends.status())
+    ExitCode::from(reason.status())
 }

@@ -2,7 +2,7 @@
 //! `tools/bridge make page` writes this file from web/page.html.
 
 /// The page as far as its token.
-pub(crate) const FRONT: &[u8] = br##"<!doctype html>
+pub(crate) const HTML_BEFORE: &[u8] = br##"<!doctype html>
 <html lang="en">
 <head>
 <meta charset="utf-8">
@@ -13,7 +13,7 @@ pub(crate) const FRONT: &[u8] = br##"<!doctype html>
 <meta name="desk-token" content=""##;
 
 /// The page behind its token.
-pub(crate) const BACK: &[u8] = br##"">
+pub(crate) const HTML_AFTER: &[u8] = br##"">
 </head>
 <body>
 <header>

@@ -1,57 +1,54 @@
-//! What the arguments say.
+//! The command line, and exit statuses.
 
 use clap::{Arg, Command, Error};
-use desk_http::{Addresses, addresses_of};
+use desk_http::{Addresses, loopback_addresses};
 use std::alloc::{AllocError, AllocGlobal, Global};
 use std::io::{Eprint, ErrorKind, Print};
 use std::net::SocketAddrV4;
 
-/// How the program ends.
+/// Why the program ends.
 #[derive(Clone, Copy)]
-pub(crate) enum Ends {
+pub(crate) enum ExitReason {
     /// It did what was asked.
     Served,
     /// Memory ran out.
     OutOfMemory,
     /// A socket or the clock failed.
     Io,
-    /// The file of names has none.
+    /// The file of names isn't one.
     NoNames,
-    /// The arguments are not good.
+    /// The arguments are wrong.
     Usage,
 }
 
-/// What the arguments ask for.
+/// What the arguments say.
 #[derive(Drop)]
-pub(crate) struct Asked {
+pub(crate) struct Options {
     /// Where the bridge and the page are.
     pub(crate) addresses: Addresses,
     /// The file of names, if there is one.
     pub(crate) names: Option<String>,
 }
 
-impl Ends {
-    /// The end by an error of this kind.
-    pub(crate) fn of_kind(kind: ErrorKind) -> Self {
+impl ExitReason {
+    pub(crate) fn from_kind(kind: ErrorKind) -> Self {
         if kind == ErrorKind::OutOfMemory {
-            Ends::OutOfMemory
+            ExitReason::OutOfMemory
         } else {
-            Ends::Io
+            ExitReason::Io
         }
     }
 
-    /// The exit status.
     pub(crate) fn status(self) -> u8 {
         match self {
-            Ends::Served => 0,
-            Ends::OutOfMemory => 2,
-            Ends::Io => 3,
-            Ends::NoNames | Ends::Usage => 4,
+            ExitReason::Served => 0,
+            ExitReason::OutOfMemory => 2,
+            ExitReason::Io => 3,
+            ExitReason::NoNames | ExitReason::Usage => 4,
         }
     }
 }
 
-/// An option that is an address.
 fn address_option<'a>(alloc: Global, name: &'a str, help: &'a str, default: &'a str) -> Arg<'a> {
     Arg::new(alloc, name)
         .long(name)
@@ -60,7 +57,6 @@ fn address_option<'a>(alloc: Global, name: &'a str, help: &'a str, default: &'a 
         .default_value(default)
 }
 
-/// The command line.
 fn command<'a>(alloc: Global) -> Result<Command<'a>, AllocError> {
     let bridge = "where the bridge takes operators";
     let listen = "where browsers connect, on loopback";
@@ -75,64 +71,62 @@ fn command<'a>(alloc: Global) -> Result<Command<'a>, AllocError> {
         .arg(names)
 }
 
-/// The end where the words are no command line. It prints why, or the help that they ask for.
-fn refused<R: Print + Eprint>(rt: &R, error: &Error) -> Ends {
+/// Prints what is wrong with the arguments, or the help that they ask for.
+fn report_usage<R: Print + Eprint>(rt: &R, error: &Error) -> ExitReason {
     let _ = error.print(rt);
     if error.use_stderr() {
-        Ends::Usage
+        ExitReason::Usage
     } else {
-        Ends::Served
+        ExitReason::Served
     }
 }
 
-/// The address that a text spells.
-fn address_in(text: Option<&str>) -> Option<SocketAddrV4> {
+fn parse_address(text: Option<&str>) -> Option<SocketAddrV4> {
     text?.parse::<SocketAddrV4>().ok()
 }
 
-/// The addresses that these texts spell, both of loopback.
-fn chosen<R: Eprint>(
+/// Both addresses, which have to be of loopback. Standard error has what is wrong.
+fn parse_addresses<R: Eprint>(
     rt: &R,
     bridge: Option<&str>,
     listen: Option<&str>,
-) -> Result<Addresses, Ends> {
-    let both = address_in(bridge).zip(address_in(listen));
-    match both.and_then(|(bridge, listen)| addresses_of(bridge, listen)) {
+) -> Result<Addresses, ExitReason> {
+    let both = parse_address(bridge).zip(parse_address(listen));
+    match both.and_then(|(bridge, listen)| loopback_addresses(bridge, listen)) {
         Some(addresses) => Ok(addresses),
         None => {
             let _ = eprintln!(rt;
                 "desk_page: --bridge and --listen are addresses of loopback, such as 127.0.0.1:7080"
             );
-            Err(Ends::Usage)
+            Err(ExitReason::Usage)
         }
     }
 }
 
-/// A copy of a text.
-fn copy_of(alloc: Global, text: Option<&str>) -> Result<Option<String>, Ends> {
+fn copy_of(alloc: Global, text: Option<&str>) -> Result<Option<String>, ExitReason> {
     match text {
         Some(text) => match String::from_str(alloc, text) {
             Ok(copy) => Ok(Some(copy)),
-            Err(_) => Err(Ends::OutOfMemory),
+            Err(_) => Err(ExitReason::OutOfMemory),
         },
         None => Ok(None),
     }
 }
 
-/// What the words say. Where they say nothing good, standard error has why.
-pub(crate) fn options_in<R: AllocGlobal + Print + Eprint>(
+/// What the arguments say. Standard error has what is wrong with them.
+pub(crate) fn parse_options<R: AllocGlobal + Print + Eprint>(
     rt: &R,
     words: &[String],
-) -> Result<Asked, Ends> {
+) -> Result<Options, ExitReason> {
     let command = match command(rt.alloc()) {
         Ok(command) => command,
-        Err(_) => return Err(Ends::OutOfMemory),
+        Err(_) => return Err(ExitReason::OutOfMemory),
     };
     match command.try_get_matches_from(words) {
-        Ok(matches) => Ok(Asked {
-            addresses: chosen(rt, matches.get_str("bridge"), matches.get_str("listen"))?,
+        Ok(matches) => Ok(Options {
+            addresses: parse_addresses(rt, matches.get_str("bridge"), matches.get_str("listen"))?,
             names: copy_of(rt.alloc(), matches.get_str("names"))?,
         }),
-        Err(error) => Err(refused(rt, &error)),
+        Err(error) => Err(report_usage(rt, &error)),
     }
 }

@@ -1,11 +1,11 @@
-//! The page on one thread: its browsers and its link to the bridge.
+//! The event loop: browsers' connections, and the client of the bridge.
 
-use crate::keeping::Keeper;
-use crate::link::Link;
-use crate::peers::Peers;
-use crate::setup::{hearing_at, terms};
-use crate::terms::Terms;
-use desk_http::{Addresses, Calls, Hearing, Told};
+use crate::bridge_client::BridgeClient;
+use crate::clients::Clients;
+use crate::names_store::NamesStore;
+use crate::server_config::ServerConfig;
+use crate::setup::{router_at, server_config};
+use desk_http::{Addresses, BridgeReply, CallLog, Responder, Router};
 use mio::net::{TcpListener, TcpStream};
 use mio::{Events, Interest, Poll, Registry, Token};
 use std::alloc::{AllocError, AllocGlobal, Global};
@@ -18,31 +18,30 @@ use std::rt::Runtime;
 use std::sync::Wait;
 use std::time::{Clock, Duration, Instant};
 
-/// What the listener is known by.
 const LISTENER: Token = Token(0);
-/// What the link is known by.
-const LINK: Token = Token(1);
-/// What the first browser's connection is known by.
-const FIRST: usize = 2;
-/// How many milliseconds lie between two questions for the desk at least. All browsers share an answer.
-const PACE: u64 = 100;
-/// How many milliseconds a round waits at most.
-const LONGEST_WAIT: u64 = 25;
-/// How many of the system's events are taken at a time.
-const EVENTS: usize = 32;
-/// How many connections are taken in a round at most.
-const COMERS: u32 = 1_024;
-/// How many octets are read at a time.
-const CHUNK: usize = 16_384;
 
-/// The sockets for browsers that come, and what tells of all sockets.
+const BRIDGE: Token = Token(1);
+/// The token of the first browser's connection.
+const FIRST_CLIENT: usize = 2;
+/// How many milliseconds are between two requests for the desk at least. All browsers share a reply.
+const SHOW_INTERVAL: u64 = 100;
+/// How many milliseconds a round waits at most.
+const MAX_WAIT: u64 = 25;
+/// How many of the system's events are taken at a time.
+const MAX_EVENTS: usize = 32;
+/// How many connections are accepted in a round at most.
+const MAX_ACCEPTS: u32 = 1_024;
+/// How many octets are read at a time.
+const CHUNK_SIZE: usize = 16_384;
+
+/// The socket that browsers connect to, and the events of all sockets.
 #[derive(Drop)]
 struct PageSockets {
     poll: Poll,
     events: Events,
     listener: TcpListener,
-    /// Connections may wait. The system tells of them once.
-    has_comers: bool,
+    /// Connections may be waiting, which the system reports only once.
+    may_accept: bool,
 }
 
 /// Opens the socket for browsers.
@@ -60,30 +59,31 @@ impl PageSockets {
     /// Opens the socket for browsers at this address.
     fn open<R: Net>(rt: &R, alloc: Global, address: SocketAddrV4) -> io::Result<Self> {
         let poll = Poll::new(rt)?;
-        let events = Events::with_capacity(alloc, EVENTS)?;
+        let events = Events::with_capacity(alloc, MAX_EVENTS)?;
         let listener = listener_at(rt, poll.registry(), address)?;
         Ok(Self {
             poll,
             events,
             listener,
-            has_comers: true,
+            may_accept: true,
         })
     }
 
-    /// Waits until something has come, for a round at most.
+    /// Waits until a socket is ready, for a round at most.
     fn wait(&mut self) -> io::Result<()> {
-        self.poll.poll(&mut self.events, Some(Duration::from_millis(LONGEST_WAIT)))
+        self.poll
+            .poll(&mut self.events, Some(Duration::from_millis(MAX_WAIT)))
     }
 
-    /// The next connection, if one waits. Where the system has no descriptor for it, the next round tries again.
-    fn next_comer(&mut self) -> Option<TcpStream> {
-        if !self.has_comers {
+    /// Accepts a connection, if one is waiting. Where the system has no descriptor for it, the next round tries again.
+    fn next_connection(&mut self) -> Option<TcpStream> {
+        if !self.may_accept {
             return None;
         }
         match self.listener.accept() {
             Ok((stream, _)) => Some(stream),
             Err(error) => {
-                self.has_comers = error.kind() != ErrorKind::WouldBlock;
+                self.may_accept = error.kind() != ErrorKind::WouldBlock;
                 None
             }
         }
@@ -95,21 +95,21 @@ fn millis_since<R: Clock>(rt: &R, begun: Instant) -> io::Result<u64> {
     Ok(u64::try_from(begun.elapsed(rt)?.as_millis()).unwrap_or(u64::MAX))
 }
 
-/// The page, with its sockets.
+/// The page's server.
 #[derive(Drop)]
 pub(crate) struct Server {
-    terms: Terms,
+    config: ServerConfig,
     sockets: PageSockets,
-    bridge: SocketAddr,
+    bridge_address: SocketAddr,
     begun: Instant,
-    hearing: Hearing,
-    calls: Calls,
-    keeper: Keeper,
-    peers: Peers,
-    link: Link,
-    /// When the bridge may be asked for the desk again.
+    router: Router,
+    call_log: CallLog,
+    store: NamesStore,
+    clients: Clients,
+    bridge: BridgeClient,
+    /// When the next request for the desk may begin.
     next_show: u64,
-    /// Where octets are read to.
+    /// The buffer of all reads.
     chunk: Vec<u8>,
 }
 
@@ -119,24 +119,24 @@ impl Server {
     pub(crate) fn serve<R: Runtime + AllocGlobal + Net + RandomSource + Wait>(
         rt: &R,
         addresses: Addresses,
-        keeper: Keeper,
+        store: NamesStore,
     ) -> io::Result<()> {
         let alloc = rt.alloc();
-        let terms = terms(rt, alloc)?;
+        let config = server_config(rt, alloc)?;
         let begun = Instant::now(rt)?;
         let sockets = PageSockets::open(rt, alloc, addresses.listen)?;
         let address = sockets.listener.local_addr()?;
-        let hearing = hearing_at(rt, alloc, address)?;
+        let router = router_at(rt, alloc, address)?;
         let mut server = Self {
-            terms,
+            config,
             sockets,
-            bridge: SocketAddr::V4(addresses.bridge),
+            bridge_address: SocketAddr::V4(addresses.bridge),
             begun,
-            hearing,
-            calls: Calls::new(alloc),
-            keeper,
-            peers: Peers::new(alloc, FIRST),
-            link: Link::new(alloc),
+            router,
+            call_log: CallLog::new(alloc),
+            store,
+            clients: Clients::new(alloc, FIRST_CLIENT),
+            bridge: BridgeClient::new(alloc),
             next_show: 0,
             chunk: Vec::new(alloc),
         };
@@ -145,9 +145,9 @@ impl Server {
         served
     }
 
-    /// Tells where it listens, and serves.
+    /// Prints where it listens, and serves.
     fn run<R: Runtime + Net + Wait>(&mut self, rt: &R, address: SocketAddr) -> io::Result<()> {
-        self.chunk.resize(CHUNK, 0)?;
+        self.chunk.resize(CHUNK_SIZE, 0)?;
         let _ = eprintln!(rt; "desk_page: http://{address}/");
         for _ in rt.forever() {
             self.round(rt)?;
@@ -159,140 +159,138 @@ impl Server {
     fn round<R: Net + Clock + Files>(&mut self, rt: &R) -> io::Result<()> {
         self.sockets.wait()?;
         let now = millis_since(rt, self.begun)?;
-        self.wake();
+        self.note_events();
         self.accept(now);
-        self.turn(now);
-        self.tell_names(rt, now)?;
-        // The second time sends what the first time has put to the link.
-        self.ask_bridge(rt, now)?;
-        self.ask_bridge(rt, now)?;
-        self.turn(now);
-        self.peers.close(now);
+        self.poll_clients(now);
+        self.serve_names(rt, now)?;
+        // The second time sends the line of the request that the first time began.
+        self.poll_bridge(rt, now)?;
+        self.poll_bridge(rt, now)?;
+        self.poll_clients(now);
+        self.clients.remove_closed(now);
         Ok(())
     }
 
-    /// Notes what has come.
-    fn wake(&mut self) {
+    /// Notes which sockets are ready.
+    fn note_events(&mut self) {
         for event in &self.sockets.events {
             match event.token() {
-                LISTENER => self.sockets.has_comers = true,
-                LINK => self.link.wake(),
-                Token(number) => self.peers.wake(number),
+                LISTENER => self.sockets.may_accept = true,
+                BRIDGE => self.bridge.set_ready(),
+                Token(id) => self.clients.set_ready(id),
             }
         }
     }
 
     /// Lets the browsers' connections do what their sockets allow.
-    fn turn(&mut self, now: u64) {
-        self.peers.turn(&mut self.hearing, &mut self.chunk, now);
+    fn poll_clients(&mut self, now: u64) {
+        self.clients.poll(&mut self.router, &mut self.chunk, now);
     }
 
-    /// Answers the lines about names.
-    fn tell_names<R: Files>(&mut self, rt: &R, now: u64) -> io::Result<()> {
-        self.peers
-            .tell_names(rt, self.terms, &self.hearing.site, &mut self.keeper, now)
+    fn serve_names<R: Files>(&mut self, rt: &R, now: u64) -> io::Result<()> {
+        self.clients
+            .serve_names(rt, self.config, &self.router.site, &mut self.store, now)
     }
 
-    /// Takes the connections that wait. Where no place is free they are closed.
+    /// Accepts the connections that are waiting.
     fn accept(&mut self, now: u64) {
-        for _ in 0..COMERS {
-            match self.sockets.next_comer() {
-                Some(stream) => self.place(stream, now),
+        for _ in 0..MAX_ACCEPTS {
+            match self.sockets.next_connection() {
+                Some(stream) => self.register_client(stream, now),
                 None => return,
             }
         }
     }
 
-    /// Gives a connection a place, or closes it.
-    fn place(&mut self, mut stream: TcpStream, now: u64) {
-        let token = Token(self.peers.next());
+    /// Gives a connection a place and a token, or closes it.
+    fn register_client(&mut self, mut stream: TcpStream, now: u64) {
+        let token = Token(self.clients.next_id());
         let interest = Interest::READABLE | Interest::WRITABLE;
         let registry = self.sockets.poll.registry();
         if registry.register(&mut stream, token, interest).is_ok() {
-            self.peers.put(self.terms, stream, now);
+            self.clients.accept(self.config, stream, now);
         }
     }
 
-    /// Settles the exchange that is over, and begins the next one.
-    fn ask_bridge<R: Net>(&mut self, rt: &R, now: u64) -> io::Result<()> {
-        if let Some((line, told)) = self.link.turn(&mut self.chunk, now)? {
-            self.settle(line, told, now)?;
+    /// Finishes the request that has ended, and begins the next one.
+    fn poll_bridge<R: Net>(&mut self, rt: &R, now: u64) -> io::Result<()> {
+        if let Some((line, reply)) = self.bridge.poll(&mut self.chunk, now)? {
+            self.finish_request(line, reply, now)?;
         }
-        if self.link.is_free() {
-            self.ask(rt, now)?;
+        if self.bridge.is_idle() {
+            self.begin_request(rt, now)?;
         }
         Ok(())
     }
 
-    /// The next line for the bridge: the call that waits longest, or else the question for the desk.
+    /// The next line for the bridge: the oldest connection's call, or else one that asks for the desk.
     fn next_line(&mut self, now: u64) -> Option<Vec<u8>> {
-        if let Some(line) = self.peers.next_call() {
+        if let Some(line) = self.clients.next_call() {
             return Some(line);
         }
         if now < self.next_show {
             return None;
         }
-        let line = self.peers.next_show()?;
-        self.next_show = now.saturating_add(PACE);
+        let line = self.clients.next_show()?;
+        self.next_show = now.saturating_add(SHOW_INTERVAL);
         Some(line)
     }
 
-    /// Hands the next line to the bridge.
-    fn ask<R: Net>(&mut self, rt: &R, now: u64) -> io::Result<()> {
+    fn begin_request<R: Net>(&mut self, rt: &R, now: u64) -> io::Result<()> {
         if let Some(line) = self.next_line(now) {
             let registry = self.sockets.poll.registry();
-            self.link.ask(rt, self.terms.alloc, registry, LINK, self.bridge, line, now)?;
+            let (alloc, address) = (self.config.alloc, self.bridge_address);
+            self.bridge
+                .begin(rt, alloc, registry, BRIDGE, address, line, now)?;
         }
         Ok(())
     }
 
-    /// Tells what the bridge said to a line to all whose lines were handed to it.
-    fn tell(&mut self, line: &[u8], told: &Told, now: u64) {
-        self.peers
-            .tell(self.terms, &self.hearing.site, line, told, now);
+    fn complete(&mut self, line: &[u8], reply: &BridgeReply, now: u64) {
+        let site = &self.router.site;
+        self.clients
+            .complete(self.config, Responder { site, line, reply }, now);
     }
 
-    /// Tells all whose lines still wait that the bridge isn't there for them.
-    fn tell_waiting(&mut self, told: &Told, now: u64) {
-        self.peers
-            .tell_waiting(self.terms, &self.hearing.site, told, now);
+    fn complete_queued(&mut self, reply: &BridgeReply, now: u64) {
+        self.clients
+            .complete_queued(self.config, &self.router.site, reply, now);
     }
 
-    /// Notes an answer, and tells it to those who asked. Where the bridge isn't there for them, neither is it for those
-    /// who still wait.
-    fn settle(&mut self, line: Vec<u8>, told: Told, now: u64) -> io::Result<()> {
-        let mut told = told;
-        self.note(&line, &mut told)?;
-        self.tell(&line, &told, now);
-        match told {
-            Told::Said(_) => {}
-            Told::Busy => self.tell_waiting(&Told::Busy, now),
-            Told::Gone | Told::Lost => self.tell_waiting(&Told::Gone, now),
+    /// Records a reply, and responds to those who await it. Where the bridge gave none, those whose lines are queued
+    /// get a response at once, too.
+    fn finish_request(&mut self, line: Vec<u8>, reply: BridgeReply, now: u64) -> io::Result<()> {
+        let mut reply = reply;
+        self.record(&line, &mut reply)?;
+        self.complete(&line, &reply, now);
+        match reply {
+            BridgeReply::Text(_) => {}
+            BridgeReply::Busy => self.complete_queued(&BridgeReply::Busy, now),
+            BridgeReply::Gone | BridgeReply::Lost => self.complete_queued(&BridgeReply::Gone, now),
         }
         Ok(())
     }
 
-    /// Keeps a call with its answer.
-    fn keep(&mut self, line: &[u8], said: &[u8]) -> Result<(), AllocError> {
-        let line = Vec::from_slice(self.terms.alloc, line)?;
-        let said = Vec::from_slice(self.terms.alloc, said)?;
-        self.calls.push(line, said)
+    fn log_call(&mut self, line: &[u8], reply: &[u8]) -> Result<(), AllocError> {
+        let line = Vec::from_slice(self.config.alloc, line)?;
+        let reply = Vec::from_slice(self.config.alloc, reply)?;
+        self.call_log.push(line, reply)
     }
 
-    /// Keeps a call with its answer, and adds the calls to the desk.
-    fn note(&mut self, line: &[u8], told: &mut Told) -> Result<(), AllocError> {
+    /// Logs a call with its reply. To the desk it adds the version of the names and the logged calls.
+    fn record(&mut self, line: &[u8], reply: &mut BridgeReply) -> Result<(), AllocError> {
         let is_show = line == b"show".as_slice();
-        match told {
-            Told::Said(text) if is_show => {
-                self.keeper.names.append_heading(self.terms.alloc, text)?;
-                self.calls.append_to(text)
+        match reply {
+            BridgeReply::Text(text) if is_show => {
+                self.store.names.append_heading(self.config.alloc, text)?;
+                self.call_log.append_to(text)
             }
-            Told::Said(text) => {
+            BridgeReply::Text(text) => {
                 self.next_show = 0;
-                self.keep(line, text)
+                self.log_call(line, text)
             }
-            Told::Lost if !is_show => self.keep(line, b"lost\n"),
-            Told::Busy | Told::Gone | Told::Lost => Ok(()),
+            BridgeReply::Lost if !is_show => self.log_call(line, b"lost\n"),
+            BridgeReply::Busy | BridgeReply::Gone | BridgeReply::Lost => Ok(()),
         }
     }
 }

@@ -1,56 +1,54 @@
 //! What the page starts with.
 
-use crate::markup::{BACK, FRONT};
-use crate::past::PAST;
-use crate::script::SCRIPT;
-use crate::spelling::LINES;
+use crate::markup::{HTML_AFTER, HTML_BEFORE};
+use crate::script_lines::LINES;
+use crate::script_past::PAST;
+use crate::script_view::VIEW;
+use crate::server_config::ServerConfig;
 use crate::style::STYLE;
-use crate::terms::Terms;
-use desk_http::{Files, Hearing, Site, limits, token};
+use desk_http::{Assets, Router, Site, request_limits, token};
 use std::alloc::Global;
 use std::hash::RandomState;
 use std::io;
 use std::net::SocketAddr;
 use std::random::RandomSource;
 
-/// What is the page's own at this address, with a secret of this run.
+/// The page at this address, with a secret token of this run.
 fn site<R: RandomSource>(rt: &R, alloc: Global, address: SocketAddr) -> io::Result<Site> {
     let mut octets = [0u8; 16];
     rt.fill_bytes(&mut octets)?;
-    Ok(Site::at(alloc, address, token(alloc, octets)?)?)
+    Ok(Site::new(alloc, address, token(alloc, octets)?)?)
 }
 
-/// The page's files.
-fn files() -> Files {
-    Files {
-        front: FRONT,
-        back: BACK,
-        lines: LINES,
-        past: PAST,
-        script: SCRIPT,
+fn assets() -> Assets {
+    Assets {
+        html_before: HTML_BEFORE,
+        html_after: HTML_AFTER,
+        script_lines: LINES,
+        script_past: PAST,
+        script_view: VIEW,
         style: STYLE,
     }
 }
 
-/// Hears the requests to the page at this address.
-pub(crate) fn hearing_at<R: RandomSource>(
+/// The router of the page at this address.
+pub(crate) fn router_at<R: RandomSource>(
     rt: &R,
     alloc: Global,
     address: SocketAddr,
-) -> io::Result<Hearing> {
-    Ok(Hearing {
+) -> io::Result<Router> {
+    Ok(Router {
         alloc,
         site: site(rt, alloc, address)?,
-        files: files(),
-        wanted: None,
+        assets: assets(),
+        line: None,
     })
 }
 
-/// What each connection begins with.
-pub(crate) fn terms<R: RandomSource>(rt: &R, alloc: Global) -> io::Result<Terms> {
-    Ok(Terms {
+pub(crate) fn server_config<R: RandomSource>(rt: &R, alloc: Global) -> io::Result<ServerConfig> {
+    Ok(ServerConfig {
         alloc,
         keys: RandomState::new(rt)?,
-        config: limits(),
+        config: request_limits(),
     })
 }

@@ -1,10 +1,11 @@
-//! The pages of all cases.
+//! A case, by its first word.
 
-use crate::places::placing_is;
+use crate::admissions::placement_is;
+use crate::connections::reply_is;
 use crate::request::{octets_of, request_of, spoken};
-use crate::talks::said_of;
 use desk_http::{
-    Calls, Exchange, Files, Hearing, Progress, Site, Telling, Told, addresses_of, limits,
+    Assets, BridgeReply, BridgeRequest, CallLog, ReplyProgress, Responder, Router, Site,
+    loopback_addresses, request_limits,
 };
 use http_server::{Config, Connection, Service};
 use std::alloc::{AllocError, Global};
@@ -12,46 +13,45 @@ use std::hash::RandomState;
 use std::net::{SocketAddr, SocketAddrV4};
 use std::str::Split;
 
-/// Two pages, and what each connection to them begins with.
+/// Two pages, and what connections to them begin with.
 #[derive(Drop)]
 pub struct Page {
     alloc: Global,
     keys: RandomState,
     config: Config,
-    hearing: Hearing,
+    router: Router,
     /// The same page at port 80.
-    hearing_80: Hearing,
+    router_80: Router,
 }
 
 /// The files of the page.
-const FILES: Files = Files {
-    front: b"<front ",
-    back: b" back>",
-    lines: b"lines ",
-    past: b"past ",
-    script: b"script",
+const ASSETS: Assets = Assets {
+    html_before: b"<before ",
+    html_after: b" after>",
+    script_lines: b"lines ",
+    script_past: b"past ",
+    script_view: b"view",
     style: b"style",
 };
 
 /// What a progress is called.
-fn progress_name(progress: Progress) -> &'static str {
+fn progress_name(progress: ReplyProgress) -> &'static str {
     match progress {
-        Progress::More => "more",
-        Progress::Whole => "whole",
-        Progress::Busy => "busy",
-        Progress::Broken => "broken",
+        ReplyProgress::Partial => "partial",
+        ReplyProgress::Complete => "complete",
+        ReplyProgress::Busy => "busy",
+        ReplyProgress::Malformed => "malformed",
     }
 }
 
-/// Whether a response has this status, and this text behind it.
-fn is_answer(response: &[u8], wanted: &str) -> Option<bool> {
+/// Whether a response has this status, and after it this text.
+fn is_response(response: &[u8], wanted: &str) -> Option<bool> {
     let text = str::from_utf8(response).ok()?;
     let (status, part) = wanted.split_once(" ")?;
     let rest = text.strip_prefix("HTTP/1.1 ")?;
     Some(rest.starts_with(status) && rest.contains(part))
 }
 
-/// Gives a request to a connection.
 fn give(connection: &mut Connection, request: &[u8]) -> Option<()> {
     let mut rest = request;
     for _ in 0..16 {
@@ -81,79 +81,81 @@ fn respond<S: Service>(
     Some(())
 }
 
-/// What hears requests to a page at this port.
-fn hearing_at(alloc: Global, port: u16) -> Result<Hearing, AllocError> {
+fn router_at(alloc: Global, port: u16) -> Result<Router, AllocError> {
     let address = SocketAddr::from(([127, 0, 0, 1], port));
-    Ok(Hearing {
+    Ok(Router {
         alloc,
-        site: Site::at(alloc, address, Vec::from_slice(alloc, b"secret")?)?,
-        files: FILES,
-        wanted: None,
+        site: Site::new(alloc, address, Vec::from_slice(alloc, b"secret")?)?,
+        assets: ASSETS,
+        line: None,
     })
 }
 
-/// Whether a request asked the bridge this line, or was answered so.
-fn is_heard(hearing: &Hearing, response: &[u8], wanted: &str) -> Option<bool> {
-    match (&hearing.wanted, wanted.strip_prefix("asks ")) {
+/// Whether a request has this line for the bridge, or got this response.
+fn is_routed(router: &Router, response: &[u8], wanted: &str) -> Option<bool> {
+    match (&router.line, wanted.strip_prefix("sends ")) {
         (Some(line), Some(wanted)) => Some(line.as_slice() == wanted.as_bytes()),
-        (None, None) => is_answer(response, wanted),
+        (None, None) => is_response(response, wanted),
         _ => Some(false),
     }
 }
 
-/// What the bridge said.
-fn told_of(alloc: Global, text: &str) -> Option<Told> {
+/// The reply that a text names.
+fn reply_of(alloc: Global, text: &str) -> Option<BridgeReply> {
     match text {
-        "busy" => Some(Told::Busy),
-        "gone" => Some(Told::Gone),
-        "lost" => Some(Told::Lost),
-        _ => Some(Told::Said(spoken(alloc, text.strip_prefix("said ")?)?)),
+        "busy" => Some(BridgeReply::Busy),
+        "gone" => Some(BridgeReply::Gone),
+        "lost" => Some(BridgeReply::Lost),
+        _ => Some(BridgeReply::Text(spoken(alloc, text.strip_prefix("text ")?)?)),
     }
 }
 
-/// Gives a piece of an answer to an exchange.
-fn feed(alloc: Global, exchange: &mut Exchange, piece: &str) -> Option<Progress> {
+fn feed(alloc: Global, request: &mut BridgeRequest, piece: &str) -> Option<ReplyProgress> {
     let octets = octets_of(alloc, piece)?;
-    exchange.feed(&octets).ok()
+    request.feed(&octets).ok()
 }
 
-/// Gives pieces of an answer to an exchange. What is said of the last.
-fn feed_all(alloc: Global, exchange: &mut Exchange, pieces: Split<'_, &str>) -> Option<Progress> {
-    let mut progress = exchange.progress();
+/// Feeds pieces of a reply. The progress after the last.
+fn feed_all(
+    alloc: Global,
+    request: &mut BridgeRequest,
+    pieces: Split<'_, &str>,
+) -> Option<ReplyProgress> {
+    let mut progress = request.progress();
     for piece in pieces {
-        progress = feed(alloc, exchange, piece)?;
+        progress = feed(alloc, request, piece)?;
     }
     Some(progress)
 }
 
-/// Adds so many calls: `line 1`, which is answered `ok 1`, and so on.
-fn add_calls(alloc: Global, calls: &mut Calls, count: u32) -> Option<()> {
+/// Adds so many calls: `line 1` with the reply `ok 1`, and so on.
+fn add_calls(alloc: Global, log: &mut CallLog, count: u32) -> Option<()> {
     for number in 1..=count {
         let line = format!(in alloc; "line {number}").ok()?.into_bytes();
-        let said = format!(in alloc; "ok {number}\n").ok()?.into_bytes();
-        calls.push(line, said).ok()?;
+        let reply = format!(in alloc; "ok {number}\n").ok()?.into_bytes();
+        log.push(line, reply).ok()?;
     }
     Some(())
 }
 
 /// Whether the text of so many calls has so many lines, and begins with this one: `LINES FIRST`.
-fn keeps(alloc: Global, count: &str, wanted: &str) -> Option<bool> {
+fn logs(alloc: Global, count: &str, wanted: &str) -> Option<bool> {
     let (lines, first) = wanted.split_once(" ")?;
     let lines: usize = lines.parse().ok()?;
-    let mut calls = Calls::new(alloc);
+    let mut log = CallLog::new(alloc);
     let mut text = Vec::new(alloc);
-    add_calls(alloc, &mut calls, count.parse().ok()?)?;
-    calls.append_to(&mut text).ok()?;
+    add_calls(alloc, &mut log, count.parse().ok()?)?;
+    log.append_to(&mut text).ok()?;
     let text = str::from_utf8(&text).ok()?;
     Some(text.lines().count() == lines && text.lines().next()? == first)
 }
 
 /// Whether a page may start with these addresses: `BRIDGE LISTEN`.
-fn starts(text: &str, wanted: &str) -> Option<bool> {
+fn may_start(text: &str, wanted: &str) -> Option<bool> {
     let (bridge, listen) = text.split_once(" ")?;
     let bridge: SocketAddrV4 = bridge.parse().ok()?;
     let listen: SocketAddrV4 = listen.parse().ok()?;
-    Some(addresses_of(bridge, listen).is_some() == (wanted == "yes"))
+    Some(loopback_addresses(bridge, listen).is_some() == (wanted == "yes"))
 }
 
 impl Page {
@@ -162,14 +164,13 @@ impl Page {
         Ok(Self {
             alloc,
             keys,
-            config: limits(),
-            hearing: hearing_at(alloc, 7080)?,
-            hearing_80: hearing_at(alloc, 80)?,
+            config: request_limits(),
+            router: router_at(alloc, 7080)?,
+            router_80: router_at(alloc, 80)?,
         })
     }
 
-    /// The response of a service to a request.
-    fn exchanged<S: Service>(
+    fn response_of<S: Service>(
         alloc: Global,
         keys: RandomState,
         config: Config,
@@ -185,75 +186,86 @@ impl Page {
         Some(written)
     }
 
-    /// Whether a request asks the bridge this line, or is answered so, by this page.
-    fn heard_by(
+    fn routed_by(
         alloc: Global,
         keys: RandomState,
         config: Config,
-        hearing: &mut Hearing,
+        router: &mut Router,
         request: &str,
         wanted: &str,
     ) -> Option<bool> {
-        drop(hearing.wanted.take());
-        let response = Self::exchanged(alloc, keys, config, hearing, request)?;
-        is_heard(hearing, &response, wanted)
+        drop(router.line.take());
+        let response = Self::response_of(alloc, keys, config, router, request)?;
+        is_routed(router, &response, wanted)
     }
 
-    /// Whether a request asks the bridge this line, or is answered so, by the page at this port.
-    fn hears(&mut self, port: u16, request: &str, wanted: &str) -> Option<bool> {
+    /// Whether a request to the page at this port has this line for the bridge, or gets this response.
+    fn routes(&mut self, port: u16, request: &str, wanted: &str) -> Option<bool> {
         let (alloc, keys, config) = (self.alloc, self.keys, self.config);
         if port == 80 {
-            Self::heard_by(alloc, keys, config, &mut self.hearing_80, request, wanted)
+            Self::routed_by(alloc, keys, config, &mut self.router_80, request, wanted)
         } else {
-            Self::heard_by(alloc, keys, config, &mut self.hearing, request, wanted)
+            Self::routed_by(alloc, keys, config, &mut self.router, request, wanted)
         }
     }
 
-    /// Whether a request is answered so, once the bridge was asked a line and said this.
-    fn is_told(&self, line: &[u8], told: &Told, request: &str, wanted: &str) -> Option<bool> {
-        let site = &self.hearing.site;
-        let mut telling = Telling { site, line, told };
-        let response = Self::exchanged(self.alloc, self.keys, self.config, &mut telling, request)?;
-        is_answer(&response, wanted)
+    /// Whether this reply to this line makes this response to a request.
+    fn is_relayed(
+        &self,
+        line: &[u8],
+        reply: &BridgeReply,
+        request: &str,
+        wanted: &str,
+    ) -> Option<bool> {
+        let site = &self.router.site;
+        let mut responder = Responder { site, line, reply };
+        let response = Self::response_of(
+            self.alloc,
+            self.keys,
+            self.config,
+            &mut responder,
+            request,
+        )?;
+        is_response(&response, wanted)
     }
 
-    /// Whether a request is answered so, once the bridge was asked.
-    fn tells(&self, text: &str, wanted: &str) -> Option<bool> {
+    /// Whether a reply to a line makes this response to a request: `LINE ; REPLY ; REQUEST`.
+    fn responds(&self, text: &str, wanted: &str) -> Option<bool> {
         let (line, text) = text.split_once(" ; ")?;
-        let (told, request) = text.split_once(" ; ")?;
+        let (reply, request) = text.split_once(" ; ")?;
         let line = spoken(self.alloc, line)?;
-        let told = told_of(self.alloc, told)?;
-        self.is_told(&line, &told, request, wanted)
+        let reply = reply_of(self.alloc, reply)?;
+        self.is_relayed(&line, &reply, request, wanted)
     }
 
-    /// Whether pieces make this progress.
-    fn pieces(&self, text: &str, wanted: &str) -> Option<bool> {
+    /// Whether pieces of a reply make this progress: `LINE ; PIECE ; ..`.
+    fn receives(&self, text: &str, wanted: &str) -> Option<bool> {
         let mut words = text.split(" ; ");
-        let mut exchange = Exchange::new(self.alloc, spoken(self.alloc, words.next()?)?);
-        let progress = feed_all(self.alloc, &mut exchange, words);
-        drop(exchange);
+        let mut request = BridgeRequest::new(self.alloc, spoken(self.alloc, words.next()?)?);
+        let progress = feed_all(self.alloc, &mut request, words);
+        drop(request);
         Some(progress_name(progress?) == wanted)
     }
 
-    /// Whether a case comes out as it says. `None` is a line that says nothing.
+    /// Whether a case has its result. `None` is a line that is no case.
     fn outcome(&mut self, line: &str) -> Option<bool> {
         let (case, wanted) = line.split_once(" > ")?;
         let (verb, text) = case.split_once(" ")?;
         match verb {
-            "hears" => self.hears(7080, text, wanted),
-            "hears-80" => self.hears(80, text, wanted),
-            "keeps" => keeps(self.alloc, text, wanted),
-            "starts" => starts(text, wanted),
-            "talks" => said_of(self.alloc, text, wanted),
-            "places" => placing_is(self.alloc, text, wanted),
-            "tells" => self.tells(text, wanted),
-            "comes" => self.pieces(text, wanted),
+            "route" => self.routes(7080, text, wanted),
+            "route-80" => self.routes(80, text, wanted),
+            "log" => logs(self.alloc, text, wanted),
+            "start" => may_start(text, wanted),
+            "connection" => reply_is(self.alloc, text, wanted),
+            "admit" => placement_is(self.alloc, text, wanted),
+            "respond" => self.responds(text, wanted),
+            "feed" => self.receives(text, wanted),
             _ => None,
         }
     }
 
-    /// Whether a line is a case, and comes out as it says.
-    pub fn comes_out(&mut self, line: &str) -> bool {
+    /// Whether a line is a case, and has its result.
+    pub fn holds(&mut self, line: &str) -> bool {
         self.outcome(line).unwrap_or(false)
     }
 }

@@ -1,51 +1,50 @@
-//! Cases of the page. A line of standard input is a case: what comes, ` > `, and what has to become of it. The program
-//! prints each line that comes out otherwise, and then the number of lines.
+//! Cases of the page. A line of standard input is a case: what is given, ` > `, and the result that it must have. The
+//! program prints each line with another result, and then the number of lines.
 //!
-//! - `** TEXT`: what the lines behind it show.
-//! - `hears REQUEST > asks LINE`: a page at 127.0.0.1:7080 with the token `secret` asks the bridge this line.
-//! - `hears REQUEST > STATUS TEXT`: it answers at once by this status, and the response has this text.
-//! - `tells LINE ; TOLD ; REQUEST > STATUS TEXT`: the bridge was asked a line, and TOLD is `said TEXT`, `busy`, `gone`
-//!   or `lost`. The request is answered so.
-//! - `comes LINE ; PIECE ; PIECE .. > PROGRESS`: pieces of an answer to a line come, and this is said of the last:
-//!   `more`, `whole`, `busy` or `broken`.
-//!
-//! - `hears-80`: the same of a page at 127.0.0.1:80.
-//! - `talks MS ; LINE ; STEP ; STEP .. > stays TOLD`, or `closes TOLD`: a line is begun at 0 ms over an open
-//!   connection, STEP is `sent N` octets, `came TEXT` or `ended`, and TOLD is as above, or `waits`. `stays` says that
-//!   the connection is used again.
-//! - `places MS ; COUNT STAGE BEGUN MOVED ; .. > free`, `refused` or `place N`: a connection comes beside these, each
-//!   of them `silent`, `sending`, `waiting` or `answered`, and it gets a free place, none, or the place of the
+//! - `** TEXT`: what the lines after it show.
+//! - `route REQUEST > sends LINE`: a page at 127.0.0.1:7080 with the token `secret` has this line for the bridge.
+//! - `route REQUEST > STATUS TEXT`: it responds at once by this status, and the response has this text.
+//! - `route-80`: the same of a page at 127.0.0.1:80.
+//! - `respond LINE ; REPLY ; REQUEST > STATUS TEXT`: the reply to a line is `text TEXT`, `busy`, `gone` or `lost`. The
+//!   response to the request has this status and this text.
+//! - `feed LINE ; PIECE ; PIECE .. > PROGRESS`: pieces of a reply to a line come, and the progress after the last is
+//!   `partial`, `complete`, `busy` or `malformed`.
+//! - `connection MS ; LINE ; STEP ; STEP .. > open REPLY`, or `closed REPLY`: a request begins at 0 ms over an open
+//!   connection, STEP is `sent N` octets, `received TEXT` or `ended`, and REPLY is as above, or `none`. An open
+//!   connection is used again.
+//! - `admit MS ; COUNT STAGE ACCEPTED ACTIVE ; .. > free`, `refused` or `evict N`: a connection comes where these are,
+//!   each of them `idle`, `sending`, `waiting` or `responding`. It gets a free place, none, or the place of the
 //!   connection with this number, from 0.
-//! - `keeps COUNT > LINES FIRST`: so many calls were made, and their text has so many lines, and this is the first.
-//! - `starts BRIDGE LISTEN > yes`, or `no`: the page may start with these addresses.
+//! - `log COUNT > LINES FIRST`: so many calls are logged. The log's text has so many lines, and this is the first.
+//! - `start BRIDGE LISTEN > yes`, or `no`: the page may start with these addresses.
 //!
-//! A REQUEST is `METHOD PATH FIELD=VALUE ..`, and behind ` | ` its body. In all texts `\n` is an LF, and `TEXT*N` is a
+//! A REQUEST is `METHOD PATH FIELD=VALUE ..`, and after ` | ` its body. In all texts `\n` is an LF, and `TEXT*N` is a
 //! PIECE or a body that has a text N times.
 #![tactic(auto)]
 
+mod admissions;
 mod case;
-mod places;
+mod connections;
 mod request;
-mod talks;
 
 use crate::case::Page;
 use std::hash::RandomState;
 use std::io;
 use std::io::Print;
 
-/// Whether a line is a case: the others are empty, or say what the lines behind them show.
+/// Whether a line is a case: the others are empty, or say what the lines after them show.
 fn is_case(line: &str) -> bool {
     !line.is_empty() && !line.starts_with("** ")
 }
 
-/// Prints each case that comes out otherwise, and then how many cases there are.
+/// Prints each case with another result, and then how many cases there are.
 fn run<R: Print>(rt: &R, page: &mut Page, text: &str) -> io::Result<()> {
     let mut tried: u64 = 0;
     let mut differ: u64 = 0;
     for line in text.lines() {
         if is_case(line) {
             tried = tried.saturating_add(1);
-            if !page.comes_out(line) {
+            if !page.holds(line) {
                 differ = differ.saturating_add(1);
                 println!(rt; "{line}")?;
             }

@@ -79,14 +79,14 @@ fn push_body(alloc: Global, octets: &mut Vec<u8>, body: &[u8]) -> Option<()> {
     octets.extend_from_slice(body).ok()
 }
 
-/// Appends a request: `METHOD PATH FIELD=VALUE ..`, and behind ` | ` its body.
+/// Appends a request: `METHOD PATH FIELD=VALUE ..`, and after ` | ` its body.
 fn push_request(alloc: Global, octets: &mut Vec<u8>, text: &str) -> Option<()> {
     let (head, body) = text.split_once(" | ").unwrap_or((text, ""));
     push_head(octets, head)?;
     push_body(alloc, octets, &octets_of(alloc, body)?)
 }
 
-/// The octets of a request: `METHOD PATH FIELD=VALUE ..`, and behind ` | ` its body.
+/// The octets of a request: `METHOD PATH FIELD=VALUE ..`, and after ` | ` its body.
 pub fn request_of(alloc: Global, text: &str) -> Option<Vec<u8>> {
     let mut octets = Vec::new(alloc);
     push_request(alloc, &mut octets, text)?;

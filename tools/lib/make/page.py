@@ -14,15 +14,15 @@ MADE = "`tools/bridge make page` writes this file from {}."
 # Each source with what it is, and its constants: a name, what that is, a web file, and the part of it.
 PARTS = [
     ("markup.rt", "The page in HTML, as far as its token and behind it.", [
-        ("FRONT", "The page as far as its token.", "page.html", 0),
-        ("BACK", "The page behind its token.", "page.html", 1),
+        ("HTML_BEFORE", "The page as far as its token.", "page.html", 0),
+        ("HTML_AFTER", "The page behind its token.", "page.html", 1),
     ]),
-    ("spelling.rt", "What the page makes of the desk's text, and the lines that clicks send.", [
+    ("script_lines.rt", "What the page makes of the desk's text, and the lines that clicks send.", [
         ("LINES", "The first part of the page's script.", "lines.js overview.js", 0),
     ]),
-    ("past.rt", "What undo and redo would take.", [("PAST", "The second part of the page's script.", "past.js", 0)]),
-    ("script.rt", "How the page shows the desk, and what is done at it.", [
-        ("SCRIPT", "The rest of the page's script.", "view.js page.js hands.js", 0),
+    ("script_past.rt", "What undo and redo would take.", [("PAST", "The second part of the page's script.", "past.js", 0)]),
+    ("script_view.rt", "How the page shows the desk, and what is done at it.", [
+        ("VIEW", "The rest of the page's script.", "view.js page.js hands.js", 0),
     ]),
     ("style.rt", "The page's style sheet.", [("STYLE", "The page's style sheet.", "page.css", 0)]),
 ]  # fmt: skip

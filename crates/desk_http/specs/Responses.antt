@@ -1,0 +1,124 @@
+-- The responses to requests (own; the status codes are those of RFC 9110 section 15).
+use Rattle.std.specs.Prelude.{ℕ, List, [], ◌∷◌, ◌++◌, codes}
+use Rattle.http1.specs.Fields.{Header}
+use Rattle.http_server.specs.declared.response.Response.{Response}
+use Rattle.http_server.specs.Response.{IsResponse}
+use Rattle.desk_http.specs.declared.site.Site.{Site}
+use Rattle.desk_http.specs.declared.site.Assets.{Assets}
+use Rattle.desk_http.specs.declared.routing.Route.{Route}
+use Rattle.desk_http.specs.declared.routing.Route.TheVariants as routes
+use Rattle.desk_http.specs.declared.routing.PageRefusal.{PageRefusal}
+use Rattle.desk_http.specs.declared.routing.PageRefusal.TheVariants.{ForeignHost, ForeignOrigin, NotFound, NotAllowed}
+use Rattle.desk_http.specs.declared.routing.PageRefusal.TheVariants.{NoToken, NoLine, Reserved, NoNames}
+use Rattle.desk_http.specs.declared.responding.BridgeReply.{BridgeReply}
+use Rattle.desk_http.specs.declared.responding.BridgeReply.TheVariants.{Text, Busy, Gone, Lost}
+
+-- a status, a content type and a body
+pub record PageResponse : Type 0 where
+  pub status : ℕ
+  pub content_type : List ℕ
+  pub body : List ℕ
+
+-- the page fetches from itself alone, and stands in no frame (Content Security Policy Level 3)
+abbrev pub policy : List ℕ
+policy =
+    codes "default-src 'none'; script-src 'self'; style-src 'self'; connect-src 'self'; "
+    ++ codes "base-uri 'none'; form-action 'none'; frame-ancestors 'none'"
+
+-- the headers of all responses: each is the last one of its connection, and other sites' pages can't load it
+abbrev pub common_headers : List Header
+common_headers =
+    (codes "connection", codes "close") ∷ (codes "cache-control", codes "no-store")
+    ∷ (codes "content-security-policy", policy)
+    ∷ (codes "x-content-type-options", codes "nosniff") ∷ (codes "referrer-policy", codes "no-referrer")
+    ∷ (codes "cross-origin-resource-policy", codes "same-origin") ∷ []
+
+-- the response has this status, content type and body, and the headers of all responses
+abbrev pub IsPageResponse : PageResponse → Response → Type 0
+IsPageResponse page response =
+    IsResponse page.status (common_headers ++ (codes "content-type", page.content_type) ∷ []) page.body response
+
+-- the content types (RFC 9110 section 8.3)
+abbrev pub html_type : List ℕ
+html_type = codes "text/html; charset=utf-8"
+
+abbrev pub script_type : List ℕ
+script_type = codes "text/javascript; charset=utf-8"
+
+abbrev pub style_type : List ℕ
+style_type = codes "text/css; charset=utf-8"
+
+abbrev pub text_type : List ℕ
+text_type = codes "text/plain; charset=utf-8"
+
+-- plain text
+abbrev pub text_response : ℕ → List ℕ → PageResponse
+text_response status text = record { status = status; content_type = text_type; body = text }
+
+-- the page, with its token
+abbrev pub page_response : Assets → List ℕ → PageResponse
+page_response assets token =
+    record { status = 200; content_type = html_type; body = assets.html_before.now ++ token ++ assets.html_after.now }
+
+-- the page's script, from its three parts
+abbrev pub script_of : Assets → List ℕ
+script_of assets = assets.script_lines.now ++ assets.script_past.now ++ assets.script_view.now
+
+abbrev pub script_response : Assets → PageResponse
+script_response assets =
+    record { status = 200; content_type = script_type; body = script_of assets }
+
+-- the status of a refusal
+abbrev pub refusal_status : PageRefusal → ℕ
+refusal_status ForeignHost = 403
+refusal_status ForeignOrigin = 403
+refusal_status NotFound = 404
+refusal_status NotAllowed = 405
+refusal_status NoToken = 403
+refusal_status NoLine = 400
+refusal_status Reserved = 400
+refusal_status NoNames = 400
+
+-- a refusal in words, its name first
+abbrev pub refusal_text : PageRefusal → List ℕ
+refusal_text ForeignHost = codes "ForeignHost: this page answers to its own address alone\n"
+refusal_text ForeignOrigin = codes "ForeignOrigin: this page takes nothing from other pages\n"
+refusal_text NotFound = codes "NotFound: the paths are / and /page.js, /page.css, /desk, /call, /names\n"
+refusal_text NotAllowed = codes "NotAllowed: POST to /call, GET or POST to /names, GET elsewhere\n"
+refusal_text NoToken = codes "NoToken: load the page again, its token is of an earlier run\n"
+refusal_text NoLine = codes "NoLine: a call is one line of 1 to 4096 printed octets\n"
+refusal_text Reserved = codes "Reserved: show, quit, stop and names are not for the page\n"
+refusal_text NoNames =
+    codes "NoNames: a change is the word names, the version that was seen, and a JSON object of texts\n"
+
+-- the response to a request that is refused
+abbrev pub refusal_response : PageRefusal → PageResponse
+refusal_response refusal = text_response (refusal_status refusal) (refusal_text refusal)
+
+-- a placeholder while the bridge or the store of names is asked, which no browser gets
+abbrev pub waiting_response : PageResponse
+waiting_response = text_response 503 (codes "Waiting: the bridge is asked\n")
+
+-- the response that needs no bridge
+abbrev pub direct_response : Site → Assets → Route → PageResponse
+direct_response site assets routes.Page = page_response assets site.token.items
+direct_response site assets routes.Script = script_response assets
+direct_response site assets routes.Style =
+    record { status = 200; content_type = style_type; body = assets.style.now }
+direct_response site assets routes.Desk = waiting_response
+direct_response site assets routes.Call = waiting_response
+direct_response site assets routes.Names = waiting_response
+direct_response site assets routes.ChangeNames = waiting_response
+direct_response site assets (routes.Refused refusal) = refusal_response refusal
+
+-- the response by the bridge's reply, or by why there is none
+abbrev pub relayed_response : BridgeReply → PageResponse
+relayed_response (Text text) = text_response 200 text.items
+relayed_response Busy = text_response 503 (codes "Busy: all seats of the bridge are taken, nothing was done\n")
+relayed_response Gone = text_response 502 (codes "Gone: the bridge is not there, nothing was sent\n")
+relayed_response Lost =
+    text_response 504 (codes "Lost: no answer came, look at the desk before sending the line again\n")
+
+-- the response to a request whose line isn't the one that was replied to
+abbrev pub mismatch_response : PageResponse
+mismatch_response = text_response 500 (codes "Other: the bridge was asked for another request\n")

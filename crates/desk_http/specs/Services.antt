@@ -1,0 +1,48 @@
+-- How the page's two services respond (own).
+use Rattle.std.specs.Prelude.{◌≡◌, ℕ, Bool, false, if◌then◌else◌, List, codes, Option, Some, None, option_map}
+use Rattle.std.specs.Str.{bytes_eq}
+use Rattle.http.specs.declared.request.Request.{Request}
+use Rattle.http.specs.Request.{body_of}
+use Rattle.http_server.specs.declared.response.Response.{Response}
+use Rattle.desk_http.specs.declared.services.Router.{Router}
+use Rattle.desk_http.specs.declared.services.Responder.{Responder}
+use Rattle.desk_http.specs.declared.routing.Route.{Route}
+use Rattle.desk_http.specs.declared.routing.Route.TheVariants as routes
+use Rattle.desk_http.specs.Routes.{route_of}
+use Rattle.desk_http.specs.Responses.{IsPageResponse, direct_response, relayed_response, mismatch_response}
+
+-- the line that a route hands to the bridge or to the store of names: that of a call is the body, octet by octet
+abbrev pub bridge_line : Route → List ℕ → Option (List ℕ)
+bridge_line routes.Page body = None
+bridge_line routes.Script body = None
+bridge_line routes.Style body = None
+bridge_line routes.Desk body = Some (codes "show")
+bridge_line routes.Call body = Some body
+bridge_line routes.Names body = Some (codes "names")
+bridge_line routes.ChangeNames body = Some body
+bridge_line (routes.Refused refusal) body = None
+
+-- the line of the request that a router was called with
+abbrev pub wanted_line : Router → Option (List ℕ)
+wanted_line router = option_map (λ line. line.items) router.line
+
+-- a request is responded to at once, or its line is named
+pub record RoutesRequest (old : Router) (request : Request (List ℕ)) (response : Response) (new : Router)
+    : Type 0 where
+  pub content : IsPageResponse (direct_response old.site old.assets (route_of old.site request)) response
+  pub line : wanted_line new ≡ bridge_line (route_of old.site request) (body_of request)
+  pub site : new.site ≡ old.site
+  pub assets : new.assets ≡ old.assets
+
+-- the line is the one that was wanted
+abbrev pub is_line_wanted : List ℕ → Option (List ℕ) → Bool
+is_line_wanted line None = false
+is_line_wanted line (Some wanted) = bytes_eq line wanted
+
+-- a request is responded to by the reply to its own line, and to no other
+pub record Responds (old : Responder) (request : Request (List ℕ)) (response : Response) (new : Responder)
+    : Type 0 where
+  pub kept : new ≡ old
+  pub content : IsPageResponse
+      (if is_line_wanted old.line.now (bridge_line (route_of old.site.now request) (body_of request))
+      then relayed_response old.reply.now else mismatch_response) response

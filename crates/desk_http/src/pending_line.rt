@@ -1,0 +1,116 @@
+//! A request's line until it is handed to the bridge.
+
+ghost use Rattle.std.specs.Prelude.{◌≡◌, option_map};
+ghost use Rattle.desk_http.specs.PendingLines.{
+  stage_of,
+  after_queue,
+  after_take,
+  after_take_if,
+  has_show,
+  has_call,
+  has_names_line,
+  line_at,
+  line_if,
+};
+
+use crate::routing::is_names_line;
+use std::mem;
+
+/// The line of a connection, on its way to the bridge. A connection has one request, and so at most one line.
+///
+/// Call [`queue`](Self::queue) once a request is whole. Then [`take_show`](Self::take_show) or
+/// [`take_call`](Self::take_call) hands the line to the bridge.
+#[derive(Drop)]
+pub enum PendingLine {
+    /// No request is whole yet.
+    Reading,
+    /// This line is to be handed to the bridge, or to the store of names.
+    Queued(Vec<u8>),
+    /// The line was handed over, which happens once.
+    Dispatched,
+}
+
+impl PendingLine {
+    /// The request has this line. A second one is ignored.
+    pub fn queue(&mut self, line: Vec<u8>)
+        ensures { stage_of self.new ≡ after_queue line.items (stage_of self.old) }
+    {
+        if let PendingLine::Reading = self {
+            *self = PendingLine::Queued(line);
+        }
+    }
+
+    /// Whether the line asks for the desk.
+    fn has_show(&self) -> bool
+        ensures { result ≡ has_show (stage_of self.now) }
+    {
+        match self {
+            PendingLine::Queued(line) => line.as_slice() == b"show".as_slice(),
+            PendingLine::Reading | PendingLine::Dispatched => false,
+        }
+    }
+
+    fn has_names_line(&self) -> bool
+        ensures { result ≡ has_names_line (stage_of self.now) }
+    {
+        match self {
+            PendingLine::Queued(line) => is_names_line(line),
+            PendingLine::Reading | PendingLine::Dispatched => false,
+        }
+    }
+
+    /// Whether a line is queued that neither asks for the desk nor is about names.
+    fn has_call(&self) -> bool
+        ensures { result ≡ has_call (stage_of self.now) }
+    {
+        match self {
+            PendingLine::Queued(line) => line.as_slice() != b"show".as_slice()
+                && !is_names_line(line),
+            PendingLine::Reading | PendingLine::Dispatched => false,
+        }
+    }
+
+    /// Takes the queued line, whatever it is.
+    pub fn take(&mut self) -> Option<Vec<u8>>
+        ensures line { option_map (λ v. v.items) result ≡ line_at (stage_of self.old) }
+        ensures stage { stage_of self.new ≡ after_take (stage_of self.old) }
+    {
+        match mem::replace(self, PendingLine::Dispatched) {
+            PendingLine::Queued(line) => Some(line),
+            PendingLine::Reading => {
+                *self = PendingLine::Reading;
+                None
+            }
+            PendingLine::Dispatched => None,
+        }
+    }
+
+    /// Takes the line if it asks for the desk. A call stays queued.
+    pub fn take_show(&mut self) -> Option<Vec<u8>>
+        ensures line { option_map (λ v. v.items) result ≡ line_if (has_show (stage_of self.old)) (stage_of self.old) }
+        ensures stage { stage_of self.new ≡ after_take_if (has_show (stage_of self.old)) (stage_of self.old) }
+    {
+        if self.has_show() { self.take() } else { None }
+    }
+
+    /// Takes the line if it is a call. One that asks for the desk stays queued.
+    pub fn take_call(&mut self) -> Option<Vec<u8>>
+        ensures line { option_map (λ v. v.items) result ≡ line_if (has_call (stage_of self.old)) (stage_of self.old) }
+        ensures stage { stage_of self.new ≡ after_take_if (has_call (stage_of self.old)) (stage_of self.old) }
+    {
+        if self.has_call() { self.take() } else { None }
+    }
+
+    /// Takes the line if it is about names, which the page keeps: the bridge never gets it.
+    pub fn take_names(&mut self) -> Option<Vec<u8>>
+        ensures line { option_map (λ v. v.items) result
+            ≡ line_if (has_names_line (stage_of self.old)) (stage_of self.old) }
+        ensures stage { stage_of self.new ≡ after_take_if (has_names_line (stage_of self.old)) (stage_of self.old) }
+    {
+        if self.has_names_line() {
+            self.take()
+        } else {
+            None
+        }
+    }
+}

@@ -1,0 +1,285 @@
+//! Which route a request takes, by its host, origin, path, method, token and body.
+
+ghost use Rattle.std.specs.Prelude.{◌≡◌, ◌≤◌, length};
+ghost use Rattle.std.specs.List.{list_all, prefix_len};
+ghost use Rattle.desk_http.specs.Routes.{
+  change_route,
+  post_names_route,
+  names_route,
+  resource_at,
+  line_route,
+  call_route,
+  get_only,
+  resource_route,
+  route_of,
+  has_own_host,
+  has_own_origin,
+  has_token,
+};
+ghost use Rattle.desk_http.specs.Lines.{
+  is_printable,
+  is_not_space,
+  first_word,
+  is_names_line,
+  is_change,
+  is_reserved,
+  is_line,
+};
+
+use crate::Site;
+use bytes::Bytes;
+use http::{Request, header};
+
+/// The most octets of a line for the bridge.
+pub const MAX_LINE: usize = 4_096;
+/// The most octets of a change of names.
+pub const MAX_CHANGE: usize = 262_144;
+
+/// What a request is for.
+#[derive(Clone, Copy)]
+pub enum Route {
+    /// The page in HTML.
+    Page,
+    /// The page's script.
+    Script,
+    /// The page's style sheet.
+    Style,
+    /// The rows of the desk as they are now.
+    Desk,
+    /// A call: the line in its body goes to the bridge.
+    Call,
+    /// The names that operators gave.
+    Names,
+    /// A change of these names: its body has all of them.
+    ChangeNames,
+    /// It is refused.
+    Refused(PageRefusal),
+}
+
+/// Why a request is refused. The first reason that holds is reported.
+#[derive(Clone, Copy)]
+pub enum PageRefusal {
+    /// It names another host, or none.
+    ForeignHost,
+    /// A page of another origin sends it.
+    ForeignOrigin,
+    /// There is nothing at its path.
+    NotFound,
+    /// Its method isn't the one of its path.
+    NotAllowed,
+    /// It doesn't have the page's token.
+    NoToken,
+    /// Its body isn't 1 to 4,096 octets from 32 to 126.
+    NoLine,
+    /// Its body begins with `show`, `quit`, `stop` or `names`.
+    Reserved,
+    /// Its body doesn't begin with the word `names`, or has over 262,144 octets.
+    NoNames,
+}
+
+/// What the page has at a path.
+#[derive(Clone, Copy)]
+pub(crate) enum Resource {
+    Page,
+    Script,
+    Style,
+    Desk,
+    Call,
+    Names,
+}
+
+fn resource_at(path: &str) -> Option<Resource>
+    ensures { result ≡ resource_at path.now }
+{
+    if path == "/" {
+        Some(Resource::Page)
+    } else if path == "/page.js" {
+        Some(Resource::Script)
+    } else if path == "/page.css" {
+        Some(Resource::Style)
+    } else if path == "/desk" {
+        Some(Resource::Desk)
+    } else if path == "/call" {
+        Some(Resource::Call)
+    } else if path == "/names" {
+        Some(Resource::Names)
+    } else {
+        None
+    }
+}
+
+/// Whether each octet is one from a space to `~`.
+fn is_printable(body: &[u8]) -> bool
+    ensures { result ≡ list_all is_printable body.now }
+{
+    body.iter().all(|octet| 32 <= *octet && *octet <= 126)
+}
+
+/// Whether a body is a line: 1 to 4,096 printable octets.
+fn is_line(body: &[u8]) -> bool
+    ensures { result ≡ is_line body.now }
+{
+    0 < body.len() && body.len() <= MAX_LINE && is_printable(body)
+}
+
+fn first_word_length(line: &[u8]) -> usize
+    ensures value { result ≡ prefix_len is_not_space line.now }
+    ensures within { result ≤ length line.now }
+{
+    line.iter().take_while(|octet| **octet != b' ').count()
+}
+
+fn first_word(line: &[u8]) -> &[u8]
+    ensures { result.now ≡ first_word line.now }
+{
+    &line[..first_word_length(line)]
+}
+
+/// Whether the first word of a line is `names`. Such a line never goes to the bridge, which has no names.
+pub(crate) fn is_names_line(line: &[u8]) -> bool
+    ensures { result ≡ is_names_line line.now }
+{
+    first_word(line) == b"names".as_slice()
+}
+
+/// Whether a body is a change of names: it begins with that word, and isn't too long.
+fn is_change(body: &[u8]) -> bool
+    ensures { result ≡ is_change body.now }
+{
+    body.len() <= MAX_CHANGE && is_names_line(body)
+}
+
+/// Whether a line begins with a word that the page's operators may not send.
+fn is_reserved(line: &[u8]) -> bool
+    ensures { result ≡ is_reserved line.now }
+{
+    let word = first_word(line);
+    word == b"show".as_slice()
+        || word == b"quit".as_slice()
+        || word == b"stop".as_slice()
+        || is_names_line(line)
+}
+
+fn line_route(body: &[u8]) -> Route
+    ensures { result ≡ line_route body.now }
+{
+    if !is_line(body) {
+        Route::Refused(PageRefusal::NoLine)
+    } else if is_reserved(body) {
+        Route::Refused(PageRefusal::Reserved)
+    } else {
+        Route::Call
+    }
+}
+
+fn has_own_host(site: &Site, request: &Request<Bytes>) -> bool
+    ensures { result ≡ has_own_host site.now request.now }
+{
+    match request.headers().get(header::HOST) {
+        Some(value) => site.is_host(value.as_bytes()),
+        None => false,
+    }
+}
+
+/// Whether a request comes from the page itself, or from no web page.
+fn has_own_origin(site: &Site, request: &Request<Bytes>) -> bool
+    ensures { result ≡ has_own_origin site.now request.now }
+{
+    match request.headers().get(header::ORIGIN) {
+        Some(value) => site.is_origin(value.as_bytes()),
+        None => true,
+    }
+}
+
+fn has_token(site: &Site, request: &Request<Bytes>) -> bool
+    ensures { result ≡ has_token site.now request.now }
+{
+    match request.headers().get("x-desk-token") {
+        Some(value) => value.as_bytes() == site.token.as_slice(),
+        None => false,
+    }
+}
+
+/// The route of a request to `/call`.
+fn call_route(site: &Site, request: &Request<Bytes>) -> Route
+    ensures { result ≡ call_route site.now request.now }
+{
+    if request.method().as_str() != "POST" {
+        Route::Refused(PageRefusal::NotAllowed)
+    } else if !has_token(site, request) {
+        Route::Refused(PageRefusal::NoToken)
+    } else {
+        line_route(request.body().as_slice())
+    }
+}
+
+/// The route if the method is GET; other methods are refused.
+fn get_only(request: &Request<Bytes>, route: Route) -> Route
+    ensures { result ≡ get_only request.now route }
+{
+    if request.method().as_str() == "GET" {
+        route
+    } else {
+        Route::Refused(PageRefusal::NotAllowed)
+    }
+}
+
+fn change_route(body: &[u8]) -> Route
+    ensures { result ≡ change_route body.now }
+{
+    if is_change(body) {
+        Route::ChangeNames
+    } else {
+        Route::Refused(PageRefusal::NoNames)
+    }
+}
+
+/// The route of a POST to `/names`.
+fn post_names_route(site: &Site, request: &Request<Bytes>) -> Route
+    ensures { result ≡ post_names_route site.now request.now }
+{
+    if has_token(site, request) {
+        change_route(request.body().as_slice())
+    } else {
+        Route::Refused(PageRefusal::NoToken)
+    }
+}
+
+/// The route of a request to `/names`.
+fn names_route(site: &Site, request: &Request<Bytes>) -> Route
+    ensures { result ≡ names_route site.now request.now }
+{
+    if request.method().as_str() == "POST" {
+        post_names_route(site, request)
+    } else {
+        get_only(request, Route::Names)
+    }
+}
+
+/// The route to what the page has at a path. Host and origin were checked.
+fn resource_route(site: &Site, request: &Request<Bytes>, resource: Option<Resource>) -> Route
+    ensures { result ≡ resource_route site.now request.now resource }
+{
+    match resource {
+        Some(Resource::Page) => get_only(request, Route::Page),
+        Some(Resource::Script) => get_only(request, Route::Script),
+        Some(Resource::Style) => get_only(request, Route::Style),
+        Some(Resource::Desk) => get_only(request, Route::Desk),
+        Some(Resource::Call) => call_route(site, request),
+        Some(Resource::Names) => names_route(site, request),
+        None => Route::Refused(PageRefusal::NotFound),
+    }
+}
+
+/// The route of a request, or the first reason to refuse it.
+pub fn route_of(site: &Site, request: &Request<Bytes>) -> Route
+    ensures { result ≡ route_of site.now request.now }
+{
+    if !has_own_host(site, request) {
+        Route::Refused(PageRefusal::ForeignHost)
+    } else if !has_own_origin(site, request) {
+        Route::Refused(PageRefusal::ForeignOrigin)
+    } else {
+        resource_route(site, request, resource_at(request.uri().path()))
+    }
+}

@@ -1,0 +1,105 @@
+//! The page as a service, in two steps. A [`Router`] responds to what needs no bridge, and otherwise names the line for
+//! the bridge. Once the bridge has replied, a [`Responder`] responds to that same request.
+
+ghost use Rattle.std.specs.Prelude.{◌≡◌, IfOk, option_map};
+ghost use Rattle.http.specs.Request.{body_of};
+ghost use Rattle.desk_http.specs.Routes.{route_of};
+ghost use Rattle.desk_http.specs.Services.{bridge_line, is_line_wanted, RoutesRequest, Responds};
+
+use crate::responding::{relay, respond, respond_mismatch};
+use crate::{Assets, BridgeReply, Route, Site, route_of};
+use bytes::Bytes;
+use http::Request;
+use http_server::{Response, Service};
+use std::alloc::{AllocError, Global};
+
+/// The line that a route hands to the bridge or to the store of names, if it has one.
+fn bridge_line(route: Route, body: &[u8]) -> Option<&[u8]>
+    ensures { option_map (λ x. x.now) result ≡ bridge_line route body.now }
+{
+    match route {
+        Route::Desk => Some(b"show"),
+        Route::Call => Some(body),
+        Route::Names => Some(b"names"),
+        Route::ChangeNames => Some(body),
+        Route::Page | Route::Script | Route::Style | Route::Refused(_) => None,
+    }
+}
+
+fn copy_of(alloc: Global, line: Option<&[u8]>) -> Result<Option<Vec<u8>>, AllocError>
+    ensures { IfOk result (λ copy. option_map (λ v. v.items) copy ≡ option_map (λ x. x.now) line.entry) }
+{
+    match line {
+        Some(line) => Ok(Some(Vec::from_slice(alloc, line)?)),
+        None => Ok(None),
+    }
+}
+
+/// Finds the route of a request, and responds to it if that takes no bridge.
+#[derive(Drop)]
+pub struct Router {
+    /// Where the lines are allocated.
+    pub alloc: Global,
+    /// How browsers name the page, and its token.
+    pub site: Site,
+    /// The page's files.
+    pub assets: Assets,
+    /// The request's line for the bridge. While there is one, what the connection would send is a placeholder.
+    pub line: Option<Vec<u8>>,
+}
+
+impl Service for Router {
+    ghost answers = { λ old request response new. RoutesRequest old request response new };
+
+    fn call(
+        &mut self,
+        request: &Request<Bytes>,
+        response: &mut Response,
+    ) -> Result<(), AllocError> {
+        let route = route_of(&self.site, request);
+        respond(response, &self.site, self.assets, route)?;
+        self.line = copy_of(self.alloc, bridge_line(route, request.body().as_slice()))?;
+        Ok(())
+    }
+}
+
+/// Responds to a request with the bridge's reply to its line, and to a request with another line with an error.
+#[derive(Clone, Copy)]
+pub struct Responder<'a> {
+    /// How browsers name the page, and its token.
+    pub site: &'a Site,
+    /// The line that was replied to.
+    pub line: &'a [u8],
+    /// The reply to that line.
+    pub reply: &'a BridgeReply,
+}
+
+impl<'a> Responder<'a> {
+    /// Whether the request has this line.
+    fn is_for(&self, request: &Request<Bytes>) -> bool
+        ensures { result
+            ≡ is_line_wanted self.now.line.now
+            (bridge_line (route_of self.now.site.now request.now) (body_of request.now)) }
+    {
+        match bridge_line(route_of(self.site, request), request.body().as_slice()) {
+            Some(line) => self.line == line,
+            None => false,
+        }
+    }
+}
+
+impl<'a> Service for Responder<'a> {
+    ghost answers = { λ old request response new. Responds old request response new };
+
+    fn call(
+        &mut self,
+        request: &Request<Bytes>,
+        response: &mut Response,
+    ) -> Result<(), AllocError> {
+        if self.is_for(request) {
+            relay(response, self.reply)
+        } else {
+            respond_mismatch(response)
+        }
+    }
+}

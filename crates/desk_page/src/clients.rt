@@ -1,0 +1,150 @@
+//! The browsers' connections.
+
+use crate::client::Client;
+use crate::names_store::NamesStore;
+use crate::server_config::ServerConfig;
+use desk_http::{BridgeReply, ClientActivity, Placement, Responder, Router, Site, admit};
+use mio::net::TcpStream;
+use std::alloc::{AllocError, Global};
+use std::fs::Files;
+use std::io;
+
+/// The browsers' connections.
+#[derive(Drop)]
+pub(crate) struct Clients {
+    /// The oldest is the first.
+    connected: Vec<Client>,
+    /// The number of the next connection.
+    next_id: usize,
+}
+
+impl Clients {
+    /// No connections. The first one gets this number.
+    pub(crate) fn new(alloc: Global, first: usize) -> Self {
+        Self {
+            connected: Vec::new(alloc),
+            next_id: first,
+        }
+    }
+
+    pub(crate) fn next_id(&self) -> usize {
+        self.next_id
+    }
+
+    /// Notes that the socket of the connection with this number may be readable or writable.
+    pub(crate) fn set_ready(&mut self, id: usize) {
+        for client in &mut self.connected {
+            if client.id() == id {
+                client.set_ready();
+            }
+        }
+    }
+
+    /// What decides which connection keeps its place, the oldest first.
+    fn activities(&self, alloc: Global) -> Result<Vec<ClientActivity>, AllocError> {
+        let mut activities = Vec::new(alloc);
+        for client in &self.connected {
+            activities.push(client.activity())?;
+        }
+        Ok(activities)
+    }
+
+    /// Makes sure of a place for a new connection, if one can be had. Returns whether there is one.
+    fn ensure_place(&mut self, alloc: Global, now: u64) -> Result<bool, AllocError> {
+        let activities = self.activities(alloc)?;
+        Ok(match admit(&activities, now) {
+            Placement::Free => true,
+            Placement::Evict(at) if at < self.connected.len() => {
+                drop(self.connected.remove(at));
+                true
+            }
+            Placement::Evict(_) | Placement::Refused => false,
+        })
+    }
+
+    /// Adds a connection, or closes it where there is no place.
+    pub(crate) fn accept(&mut self, config: ServerConfig, stream: TcpStream, now: u64) {
+        if self.ensure_place(config.alloc, now).unwrap_or(false) {
+            let client = Client::new(config, stream, self.next_id, now);
+            self.next_id = self.next_id.saturating_add(1);
+            drop(self.connected.push(client));
+        }
+    }
+
+    /// Lets each connection do what its socket allows.
+    pub(crate) fn poll(&mut self, router: &mut Router, chunk: &mut [u8], now: u64) {
+        for client in &mut self.connected {
+            client.poll(router, chunk, now);
+        }
+    }
+
+    /// Takes the oldest connection's call, for the bridge.
+    pub(crate) fn next_call(&mut self) -> Option<Vec<u8>> {
+        for client in &mut self.connected {
+            if let Some(line) = client.dispatch_call() {
+                return Some(line);
+            }
+        }
+        None
+    }
+
+    /// Takes one line that asks for the desk, for the bridge. All who ask for the desk get the reply to it.
+    pub(crate) fn next_show(&mut self) -> Option<Vec<u8>> {
+        let mut show = None;
+        for client in &mut self.connected {
+            if let Some(line) = client.dispatch_show() {
+                show = Some(line);
+            }
+        }
+        show
+    }
+
+    /// Responds to all who await a reply.
+    pub(crate) fn complete(&mut self, config: ServerConfig, responder: Responder<'_>, now: u64) {
+        for client in &mut self.connected {
+            if client.awaits_reply() {
+                client.complete(config, responder, now);
+            }
+        }
+    }
+
+    /// Responds to lines about names, the oldest connection's first.
+    pub(crate) fn serve_names<R: Files>(
+        &mut self,
+        rt: &R,
+        config: ServerConfig,
+        site: &Site,
+        store: &mut NamesStore,
+        now: u64,
+    ) -> io::Result<()> {
+        for client in &mut self.connected {
+            if let Some(line) = client.take_names() {
+                let reply = &store.reply_to(rt, config.alloc, &line)?;
+                let line = line.as_slice();
+                client.complete(config, Responder { site, line, reply }, now);
+            }
+        }
+        Ok(())
+    }
+
+    /// Responds by this reply to all whose lines are still queued. The bridge doesn't get the lines.
+    pub(crate) fn complete_queued(
+        &mut self,
+        config: ServerConfig,
+        site: &Site,
+        reply: &BridgeReply,
+        now: u64,
+    ) {
+        for client in &mut self.connected {
+            if let Some(line) = client.take_line() {
+                let line = line.as_slice();
+                client.complete(config, Responder { site, line, reply }, now);
+            }
+        }
+    }
+
+    /// Closes the connections that have ended.
+    pub(crate) fn remove_closed(&mut self, now: u64) {
+        self.connected.retain(|client| !client.is_finished(now));
+    }
+}
