@@ -13,7 +13,14 @@ import time
 
 from lib.shared import fail
 
-FLAGS = ["--headless=new", "--disable-gpu", "--no-sandbox", "--disable-dev-shm-usage", "--no-first-run", "--remote-debugging-port=0"]
+FLAGS = [
+    "--headless=new",
+    "--disable-gpu",
+    "--no-sandbox",
+    "--disable-dev-shm-usage",
+    "--no-first-run",
+    "--remote-debugging-port=0",
+]
 
 
 class Browser:
@@ -22,7 +29,9 @@ class Browser:
     def __init__(self, command, folder, flags=()):
         profile = pathlib.Path(folder) / f"profile{time.monotonic_ns()}"
         words = [command, *FLAGS, *flags, f"--user-data-dir={profile}", "about:blank"]
-        self.process = subprocess.Popen(words, stdin=subprocess.DEVNULL, stdout=subprocess.DEVNULL, stderr=subprocess.DEVNULL)
+        self.process = subprocess.Popen(
+            words, stdin=subprocess.DEVNULL, stdout=subprocess.DEVNULL, stderr=subprocess.DEVNULL
+        )
         self.stream = self.connected(profile / "DevToolsActivePort")
         self.count = 0
 
@@ -103,12 +112,20 @@ class Browser:
         return told["result"].get("value")
 
     def press(self, key, code, modifiers=0):
-        """Presses a key and lets it go: its name, and its code of the keyboard (UI Events KeyboardEvent, `keyCode`). Of the modifiers
-        Ctrl is 2 and Shift 8."""
+        """Presses a key and lets it go: its name, and its code of the keyboard (UI Events KeyboardEvent, `keyCode`). Of
+        the modifiers Ctrl is 2 and Shift 8."""
         text = {"text": "\r" if key == "Enter" else key} if key == "Enter" or len(key) == 1 and not modifiers else {}
         for kind in "keyDown", "keyUp":
             more = text if kind == "keyDown" else {}
-            self.ask("Input.dispatchKeyEvent", type=kind, key=key, code=key, windowsVirtualKeyCode=code, modifiers=modifiers, **more)
+            self.ask(
+                "Input.dispatchKeyEvent",
+                type=kind,
+                key=key,
+                code=key,
+                windowsVirtualKeyCode=code,
+                modifiers=modifiers,
+                **more,
+            )
 
     def mouse(self, kind, x, y):
         """Presses, moves or releases the pointer's left button."""
@@ -117,7 +134,10 @@ class Browser:
 
     def place(self, selector):
         """Where an element is: its left and upper edge, its width and its height."""
-        return self.run(f"(() => {{ const r = document.querySelector({json.dumps(selector)}).getBoundingClientRect(); return [r.x, r.y, r.width, r.height]; }})()")
+        return self.run(
+            f"(() => {{ const r = document.querySelector({json.dumps(selector)}).getBoundingClientRect(); "
+            "return [r.x, r.y, r.width, r.height]; })()"
+        )
 
     def click(self, selector):
         """Clicks in the middle of an element."""

@@ -1,8 +1,9 @@
 """Starts a bridge, its page and two members, and holds a call until it is stopped.
 
-The bridge has the settings of examples/serve.toml, and the page is at http://127.0.0.1:7080/. Member 10 sends a tone of 440 Hz and
-frames of a test picture, member 11 a tone of 1000 Hz. Both read what they are sent. The desk is made through the page, which so
-names each change that **Undo** takes back. Where a port is taken the demo changes nothing. Ctrl-C ends all of it.
+The bridge has the settings of examples/serve.toml, and the page is at http://127.0.0.1:7080/. Member 10 sends a tone of
+440 Hz and frames of a test picture, member 11 a tone of 1000 Hz. Both read what they are sent. The desk is made through
+the page, which so names each change that **Undo** takes back. Where a port is taken the demo changes nothing. Ctrl-C
+ends all of it.
 """
 
 import http.client

@@ -13,7 +13,11 @@ window.fill = (id, fields) => {
   for (const [name, value] of Object.entries(fields)) form.elements[name].value = value;
   form.requestSubmit();
 };
-window.press = (line) => { const b = document.querySelector(`[data-key="${CSS.escape(line)}"]`); if (!b) throw new Error(`no ${line}`); b.click(); };
+window.press = (line) => {
+  const button = document.querySelector(`[data-key="${CSS.escape(line)}"]`);
+  if (!button) throw new Error(`no ${line}`);
+  button.click();
+};
 window.opens = (member) => { if (opened !== member) acts.open(member); };
 window.choose = (key, value) => {
   const select = document.querySelector(`select[data-key="${CSS.escape(key)}"]`);
@@ -23,29 +27,37 @@ window.choose = (key, value) => {
 };
 window.dragged = (from, to) => {
   const data = new DataTransfer(), a = document.querySelector(from), b = document.querySelector(to);
-  const fire = (node, type) => node.dispatchEvent(new DragEvent(type, { bubbles: true, cancelable: true, dataTransfer: data }));
+  const fire = (node, type) =>
+    node.dispatchEvent(new DragEvent(type, { bubbles: true, cancelable: true, dataTransfer: data }));
   fire(a, "dragstart"); fire(b, "dragover"); fire(b, "drop"); fire(a, "dragend");
 };
 window.version = () => (desk ? desk.version : -1);
 window.panel = (member) => {
   opened = member;
   renderDetail();
-  const detail = document.getElementById("detail"), all = (selector, row) => [...detail.querySelectorAll(selector)].map(row);
+  const detail = document.getElementById("detail");
+  const all = (selector, row) => [...detail.querySelectorAll(selector)].map(row);
+  const source = (n) => n.closest(".row").querySelector("bdi").textContent;
   return [
     `${member} ${detail.querySelector(".address").textContent}`,
     ...all("[data-slot]", (n) => `slot ${n.dataset.slot} ${member}`),
-    ...all('[data-key^="unsubscribe "]', (n) => `sub ${n.dataset.key.split(" ")[1]} ${n.closest(".row").querySelector("bdi").textContent}`),
+    ...all('[data-key^="unsubscribe "]', (n) => `sub ${n.dataset.key.split(" ")[1]} ${source(n)}`),
     ...all("input[type=range]", (n) => `${n.dataset.key} ${n.value}`),
   ];
 };
 window.drawn = () => {
-  const all = (selector, row, from = document) => [...from.querySelectorAll(`#board ${selector}`)].map(row), was = opened;
-  const of = (node, what) => node.closest(`[data-${what}]`).dataset[what], is = (node, name) => (node.classList.contains(name) ? ` ${name}` : "");
-  const rooms = [...document.querySelectorAll("#board [data-room]")].map((n) =>
-    `${[n.querySelector("h3"), n.querySelector(".rate")].map((one) => one?.textContent ?? "").join(" ").trim()}: ${[...n.querySelectorAll("[data-member]")].map((m) => m.dataset.member)}`);
+  const all = (selector, row, from = document) => [...from.querySelectorAll(`#board ${selector}`)].map(row);
+  const was = opened;
+  const of = (node, what) => node.closest(`[data-${what}]`).dataset[what];
+  const is = (node, name) => (node.classList.contains(name) ? ` ${name}` : "");
+  const head = (n) => [n.querySelector("h3"), n.querySelector(".rate")].map((one) => one?.textContent ?? "").join(" ");
+  const members = (n) => [...n.querySelectorAll("[data-member]")].map((m) => m.dataset.member);
+  const rooms = [...document.querySelectorAll("#board [data-room]")].map((n) => `${head(n).trim()}: ${members(n)}`);
+  const source = (n) => `source ${n.dataset.source} ${of(n, "member")} ${n.textContent.split(" ")[0]}`;
+  const isFloor = (at) => document.querySelectorAll("#board .member .tag")[at].textContent.startsWith("floor");
   const lines = [...rooms,
-    ...all(".member .source", (n) => `source ${n.dataset.source} ${of(n, "member")} ${n.textContent.split(" ")[0]}${is(n, "muted")}`),
-    ...all(".member .tag", (n) => `floor ${n.closest("[data-room]").dataset.room} ${of(n, "member")}`).filter((row, at) => document.querySelectorAll("#board .member .tag")[at].textContent.startsWith("floor")),
+    ...all(".member .source", (n) => `${source(n)}${is(n, "muted")}`),
+    ...all(".member .tag", (n) => `floor ${of(n, "room")} ${of(n, "member")}`).filter((row, at) => isFloor(at)),
     ...all('[data-key^="unpin "]', (n) => `pin ${of(n, "room")} ${n.previousElementSibling.textContent.split(" ")[0]}`),
     ...desk.members.flatMap(({ member }) => panel(member))].sort();
   opened = was;
@@ -88,14 +100,21 @@ CODES = {"Enter": 13, "ArrowDown": 40}
 
 
 def drawn_of(rows):
-    """What the page draws of these rows of `show`: the overview, with each room's members by place, and the panel of each member."""
+    """What the page draws of these rows of `show`: the overview, with each room's members by place, and the panel of
+    each member."""
     words = [row.split() for row in rows]
     rooms = {one[2]: one[3] for one in words if one[0] == "member"}
-    found = [f"{' '.join(one)}{' Hz' * (len(one) > 2)}: {','.join(m for m in rooms if rooms[m] == one[1])}" for one in words if one[0] == "room"]
+    found = [
+        f"{' '.join(one)}{' Hz' * (len(one) > 2)}: {','.join(m for m in rooms if rooms[m] == one[1])}"
+        for one in words if one[0] == "room"
+    ]
     found += [row + " muted" * (f"mute {one[1]}" in rows) for row, one in zip(rows, words) if one[0] == "source"]
     found += [f"{one[2]} in room {one[3]}, {one[4]} {one[5]}, mix {one[6]}" for one in words if one[0] == "member"]
     found += [f"slot {one[1]} {one[2]}" for one in words if one[0] == "slot"]
-    found += [row for row, one in zip(rows, words) if one[0] in ("floor", "pin", "sub") or one[0] == "gain" and one[3] != "256"]
+    found += [
+        row
+        for row, one in zip(rows, words) if one[0] in ("floor", "pin", "sub") or one[0] == "gain" and one[3] != "256"
+    ]
     return sorted(found)
 
 
@@ -124,8 +143,8 @@ def by_keys(browser, shown):
 
 
 def undoes_others(browser, shown, ask):
-    """The buttons name another operator's change, and once it is undone what the page has done before. Behind a call without an
-    answer the page can't know whose the change is, and names its version alone."""
+    """The buttons name another operator's change, and once it is undone what the page has done before. Behind a call
+    without an answer the page can't know whose the change is, and names its version alone."""
     words = [f"document.getElementById('{name}').textContent" for name in ("undo", "redo")]
     version, before = browser.run("version()") + 1, browser.run(words[0])
     is_known = not browser.run("desk.calls.some((call) => call.said === 'lost')")
@@ -133,7 +152,9 @@ def undoes_others(browser, shown, ask):
     if ask("add-room 9") != f"ok {version}":
         fail("another operator's change is refused")
     browser.wait(f"version() === {version}")
-    for script, wanted in [("true", [f"Undo: {change}", "Redo"]), ("document.getElementById('undo').click()", [before, f"Redo: {change}"])]:
+    for script, wanted in [
+        ("true", [f"Undo: {change}", "Redo"]), ("document.getElementById('undo').click()", [before, f"Redo: {change}"])
+    ]:
         browser.run(f"{script}; true")
         browser.wait(f"version() === {version}")
         version += 1
@@ -152,7 +173,8 @@ def is_told(browser, looks):
 
 
 def adds_music(browser, shown):
-    """Adds a music room and a member there, whose codec the page chooses, and is refused a member with another codec."""
+    """Adds a music room and a member there, whose codec the page chooses, and is refused a member with another
+    codec."""
     version = browser.run("version()")
     before = browser.run("desk.rows")
     for script, row in [
@@ -172,7 +194,9 @@ def adds_music(browser, shown):
         ("choices['move-member'].options(12).length", 0),
         ("opened = null, render(), true", True),
     ])  # fmt: skip
-    browser.run('fill("add-member", { member: "13", room: "3", address: "127.0.0.1:6006", codec: "pcmu", ssrc: "9004" }); true')
+    browser.run(
+        'fill("add-member", { member: "13", room: "3", address: "127.0.0.1:6006", codec: "pcmu", ssrc: "9004" }); true'
+    )
     browser.wait("document.getElementById('notice').textContent.includes('the room has another rate')")
     if browser.run("version()") != version:
         fail("a refused member has changed the desk")
@@ -213,8 +237,8 @@ def opened(command, folder, address):
 
 
 def drive(command, folder, address, shown, ask, pictures=None):
-    """Goes through a session. `shown` tells what the bridge's `show` says, and `ask` what it answers to another operator. How long
-    each change took to the second browser."""
+    """Goes through a session. `shown` tells what the bridge's `show` says, and `ask` what it answers to another
+    operator. How long each change took to the second browser."""
     one, two = opened(command, folder, address), opened(command, folder, address)
     times = []
     try:
@@ -252,17 +276,23 @@ def look(browser, version):
         ("document.querySelectorAll('#calls li.undone').length", 2),
         ("document.querySelector('#detail [title=\"unmute 201\"]') !== null", True),
     ])  # fmt: skip
-    browser.run('document.getElementById("line").value = "subscribe 501 999"; document.getElementById("line-form").requestSubmit(); true')
+    browser.run(
+        'document.getElementById("line").value = "subscribe 501 999"; '
+        'document.getElementById("line-form").requestSubmit(); true'
+    )
     browser.wait("document.getElementById('notice').textContent.includes('there is no such source')")
     if browser.run("version()") != version:
         fail("a refused line has changed the desk")
 
 
 def look_at_sizes(browser, folder):
-    """The page, wide and narrow, light and dark: it fits the window, and its text stands out. With a folder, pictures of it."""
+    """The page, wide and narrow, light and dark: it fits the window, and its text stands out. With a folder, pictures
+    of it."""
     if folder:
         folder.mkdir(parents=True, exist_ok=True)
-    for name, width, dark in [("desk", 1280, False), ("desk_dark", 1280, True), ("desk_narrow", 400, False), ("desk_narrow_dark", 400, True)]:
+    for name, width, dark in [
+        ("desk", 1280, False), ("desk_dark", 1280, True), ("desk_narrow", 400, False), ("desk_narrow_dark", 400, True)
+    ]:
         browser.shows(width, 900, dark)
         time.sleep(0.3)
         if browser.run("document.documentElement.scrollWidth > window.innerWidth"):

@@ -10,7 +10,8 @@ def add_member(m):
 
 
 def full_desk(gains, short=0):
-    """The lines that make a full desk, with this many gains for each member, and so many members, sources and slots short."""
+    """The lines that make a full desk, with this many gains for each member, and so many members, sources and slots
+    short."""
     members = 1024 - short
     yield "add-room 1"
     for m in range(short, 1024):

@@ -1,4 +1,5 @@
-"""What operators do at the page by hand, each tried in two browsers: sliders, keys, names, many members, and large desks."""
+"""What operators do at the page by hand, each tried in two browsers: sliders, keys, names, many members, and large
+desks."""
 
 import json
 import statistics
@@ -11,15 +12,25 @@ REST = 0.4
 MOST_TIMES = 4
 # Two screens of 1280 by 900.
 TWO_SCREENS = 1800
-NAMES = {"member 10": "Alice", "member 11": "بوب 🎤", "room 1": "<script>document.title = 'no'</script>", "source 201": "n" * 200}
+NAMES = {
+    "member 10": "Alice",
+    "member 11": "بوب 🎤",
+    "room 1": "<script>document.title = 'no'</script>",
+    "source 201": "n" * 200,
+}
 # Numbers that each control's label has to have, unless it stands for the whole page.
 UNNAMED = """[...document.querySelectorAll("main button, main input, main select")].filter((n) => n.offsetParent &&
   !(n.ariaLabel || n.labels?.length || n.textContent.trim())).map((n) => n.outerHTML)"""
-TWINS = """(() => { const all = [...document.querySelectorAll("#board button, #detail button, #board input, #detail select")]
-  .filter((n) => n.offsetParent).map((n) => n.ariaLabel); return all.filter((one, at) => all.indexOf(one) !== at); })()"""
+TWINS = """(() => {
+  const all = [...document.querySelectorAll("#board button, #detail button, #board input, #detail select")]
+    .filter((n) => n.offsetParent).map((n) => n.ariaLabel);
+  return all.filter((one, at) => all.indexOf(one) !== at);
+})()"""
 SMALL = """[...document.querySelectorAll("button, select, input")].filter((n) => n.offsetParent).filter((n) => {
   const { width, height } = n.getBoundingClientRect(); return height < 24 || width < 16; }).map((n) => n.outerHTML)"""
-LEVELS = '[...document.querySelectorAll("h1, h2, h3, h4")].filter((n) => n.offsetParent).map((n) => Number(n.tagName[1]))'
+LEVELS = (
+    '[...document.querySelectorAll("h1, h2, h3, h4")].filter((n) => n.offsetParent).map((n) => Number(n.tagName[1]))'
+)
 
 
 def check(holds, text):
@@ -58,7 +69,9 @@ def slides(browser, other):
     browser.mouse("mouseReleased", x + width * 3 / 4, y + 60)
     reaches(browser, before + 1, "a slider that is dragged")
     check(last_line(browser).startswith("set-gain 10 202 "), f"a dragged slider sends {last_line(browser)}")
-    check(browser.run("desk.rows.filter((row) => row.startsWith('member '))") == rooms, "a dragged slider moves a member")
+    check(
+        browser.run("desk.rows.filter((row) => row.startsWith('member '))") == rooms, "a dragged slider moves a member"
+    )
     browser.run(f"document.querySelector({json.dumps(slider)}).focus(), true")
     for _ in range(5):
         browser.press("ArrowLeft", 37)
@@ -69,15 +82,23 @@ def slides(browser, other):
 
 def keeps_what_is_typed(browser, ask):
     """Another operator's change overwrites no field that is typed into, and leaves focus and scrolling as they are."""
-    browser.run("document.getElementById('search').blur(), window.scrollTo(0, 120), document.querySelector('#add-member [name=member]').focus({ preventScroll: true }), true")
+    browser.run(
+        "document.getElementById('search').blur(), window.scrollTo(0, 120), document.querySelector('#add-member "
+        "[name=member]').focus({ preventScroll: true }), true"
+    )
     browser.run("document.activeElement.select(), true")
     browser.types("77")
     browser.run("document.querySelector('#add-member [name=address]').focus({ preventScroll: true }), true")
     before, scrolled = version(browser), browser.run("window.scrollY")
     check(ask("mute 202") == f"ok {before + 1}", "another operator's mute is refused")
     browser.wait(f"desk.version === {before + 1}")
-    said = browser.run("[document.querySelector('#add-member [name=member]').value, document.activeElement.name, window.scrollY]")
-    check(said == ["77", "address", scrolled], f"after another operator's change the field, the focus and the scrolling are {said}")
+    said = browser.run(
+        "[document.querySelector('#add-member [name=member]').value, document.activeElement.name, window.scrollY]"
+    )
+    check(
+        said == ["77", "address", scrolled],
+        f"after another operator's change the field, the focus and the scrolling are {said}",
+    )
     check(ask("unmute 202") == f"ok {before + 2}", "another operator's unmute is refused")
     browser.wait(f"desk.version === {before + 2}")
     browser.run("document.querySelector('#add-member [name=member]').value = '', true")
@@ -98,20 +119,29 @@ def presses_keys(browser):
     browser.wait("document.getElementById('notice').textContent.startsWith('Redo: mute 202: accepted')")
     browser.press("/", 191)
     browser.types("202")
-    browser.wait("document.querySelectorAll('#board .member').length === 1 && document.querySelector('#board [data-member=\"11\"]') !== null")
+    browser.wait(
+        "document.querySelectorAll('#board .member').length === 1 && document.querySelector('#board "
+        "[data-member=\"11\"]') !== null"
+    )
     browser.press("Escape", 27)
     browser.wait("document.querySelectorAll('#board .member').length > 1")
     browser.run("document.activeElement.blur(), true")
 
 
 def acts_on_many(browser):
-    """Members that are selected move as one group, all but one are muted as one, and a room of five asks before it goes."""
+    """Members that are selected move as one group, all but one are muted as one, and a room of five asks before it
+    goes."""
     before = version(browser)
     for member in 10, 11:
         browser.click(f'[data-select="{member}"]')
-    browser.run("const many = document.querySelector('[data-choice=\"move-chosen\"]'); offer(many); many.value = '2'; many.dispatchEvent(new Event('change', { bubbles: true })); true")
+    browser.run(
+        "const many = document.querySelector('[data-choice=\"move-chosen\"]'); offer(many); many.value = '2'; "
+        "many.dispatchEvent(new Event('change', { bubbles: true })); true"
+    )
     reaches(browser, before + 1, "a move of two members")
-    check(last_line(browser) == "group move-member 10 2 / move-member 11 2", f"two members move by {last_line(browser)}")
+    check(
+        last_line(browser) == "group move-member 10 2 / move-member 11 2", f"two members move by {last_line(browser)}"
+    )
     browser.run("document.getElementById('undo').click(), acts.clear(), true")
     reaches(browser, before + 2, "an undo")
     browser.run("acts['mute-others'](11), true")
@@ -124,23 +154,32 @@ def acts_on_many(browser):
 def asks_before(browser, ask):
     """A room of more than four members goes only once it was asked what goes along."""
     before = version(browser)
-    parts = ["add-room 9"] + [f"add-member {it} 9 10.9.0.{it - 900}:5000 pcmu {9900 + it} 0 0" for it in range(901, 906)]
+    parts = (
+        ["add-room 9"] + [f"add-member {it} 9 10.9.0.{it - 900}:5000 pcmu {9900 + it} 0 0" for it in range(901, 906)]
+    )
     check(ask("group " + " / ".join(parts)) == f"ok {before + 1}", "a group is refused")
     browser.wait(f"desk.version === {before + 1}")
     for choice, wanted in ("ask-no", before + 1), ("ask-yes", before + 2):
         browser.run("acts['remove-room'](9), true")
-        browser.wait("document.getElementById('ask').open && document.getElementById('ask-text').textContent.startsWith('5 members, 0 sources, 0 slots go along')")
+        browser.wait(
+            "document.getElementById('ask').open && document.getElementById('ask-text').textContent.startsWith('5 "
+            "members, 0 sources, 0 slots go along')"
+        )
         browser.run(f"document.getElementById('{choice}').click(), true")
         reaches(browser, wanted, "the removal of a room")
 
 
 def shows_stale(browser, go, come):
-    """Once the bridge is gone, the desk is shown as stale and nothing of it can be pressed. `go` and `come` take the bridge away and back."""
+    """Once the bridge is gone, the desk is shown as stale and nothing of it can be pressed. `go` and `come` take the
+    bridge away and back."""
     before = version(browser)
     go()
     browser.wait("document.body.classList.contains('gone') && document.getElementById('main').inert")
     told = browser.run("document.getElementById('status').textContent")
-    check(told.startswith("The bridge is gone.") and "as it was at" in told, f"once the bridge is gone the page says {told}")
+    check(
+        told.startswith("The bridge is gone.") and "as it was at" in told,
+        f"once the bridge is gone the page says {told}",
+    )
     browser.click('[data-key="open 10"]')
     browser.run("document.getElementById('undo').click(), true")
     come()
@@ -154,13 +193,24 @@ def names_things(one, other):
         kind, number = what.split()
         one.run(f"rename('{kind}', {number}, {json.dumps(name)}), true")
         other.wait(f"names[{json.dumps(what)}] === {json.dumps(name)}")
-    check(other.run("document.title") != "no" and other.run("document.querySelector('#board script')") is None, "a name is run as a script")
-    check("بوب 🎤" in other.run("document.querySelector('[data-key=\"open 11\"]').textContent"), "a member's name isn't shown")
-    check(other.run("document.documentElement.scrollWidth <= innerWidth"), "a name of 200 characters makes the page wider than the window")
+    check(
+        other.run("document.title") != "no" and other.run("document.querySelector('#board script')") is None,
+        "a name is run as a script",
+    )
+    check(
+        "بوب 🎤" in other.run("document.querySelector('[data-key=\"open 11\"]').textContent"),
+        "a member's name isn't shown",
+    )
+    check(
+        other.run("document.documentElement.scrollWidth <= innerWidth"),
+        "a name of 200 characters makes the page wider than the window",
+    )
     for browser, number, name in (one, 101, "camera"), (other, 202, "microphone"):
         browser.run(f"rename('source', {number}, '{name}'), true")
     for browser in one, other:
-        browser.wait("names['source 101'] === 'camera' && names['source 202'] === 'microphone' && names['member 10'] === 'Alice'")
+        browser.wait(
+            "names['source 101'] === 'camera' && names['source 202'] === 'microphone' && names['member 10'] === 'Alice'"
+        )
     one.run("rename('source', 201, ''), rename('room', 1, 'Sales'), true")
     other.wait("!('source 201' in names) && names['room 1'] === 'Sales'")
     check("Sales" in other.run("document.querySelector('#room-1').textContent"), "a room's name isn't shown")
@@ -178,13 +228,17 @@ def is_for_everyone(browser):
 
 
 def costs(browser, ask, ssrc):
-    """What a change costs the tab, in milliseconds of processor time: the median of some mutes and unmutes by another operator."""
+    """What a change costs the tab, in milliseconds of processor time: the median of some mutes and unmutes by another
+    operator."""
     times = []
     for at in range(10):
         browser.run("clearTimeout(timer), asking = true, true")
         said = ask(f"{'un' * (at % 2)}mute {ssrc}")
         check(said.startswith("ok "), f"another operator's change is told {said}")
-        browser.run("window.got = ask('/desk').then((reply) => reply.text()).then((text) => { window.got = text; return true; })")
+        browser.run(
+            "window.got = ask('/desk').then((reply) => reply.text()).then((text) => { window.got = text; return true; "
+            "})"
+        )
         begun = browser.used()
         browser.run("take(got).then(() => document.body.offsetHeight)")
         times.append(browser.used() - begun)
@@ -198,13 +252,15 @@ def opens(browser, port):
 
 
 def stays_small(browser, desks):
-    """A room of 64 fits two screens, and a change of 64 rooms of 16 costs little more than one of a room of two. `desks` has for
-    each of the three a port, another operator's call, and a source."""
+    """A room of 64 fits two screens, and a change of 64 rooms of 16 costs little more than one of a room of two.
+    `desks` has for each of the three a port, another operator's call, and a source."""
     (two, ask_two, in_two), (room, _, _), (many, ask_many, in_many) = desks
     opens(browser, room)
     browser.run("acts.close(), true")
     height = browser.run("document.getElementById('rooms').getBoundingClientRect().bottom + scrollY")
-    check(browser.run("document.querySelectorAll('#board .member').length") == 64, "a room of 64 doesn't show 64 members")
+    check(
+        browser.run("document.querySelectorAll('#board .member').length") == 64, "a room of 64 doesn't show 64 members"
+    )
     check(height <= TWO_SCREENS, f"a room of 64 is {height} pixels high")
     opens(browser, two)
     least = costs(browser, ask_two, in_two)
@@ -216,8 +272,14 @@ def stays_small(browser, desks):
     browser.run("document.getElementById('search').value = '64015', render(), true")
     browser.wait("document.querySelectorAll('#board .member').length === 1")
     browser.run("document.getElementById('search').value = '', render(), true")
-    print(f"a room of 64 is {height:.0f} pixels high; a change costs {least:.1f} ms with a room of two, {folded:.1f} ms with 64 rooms of 16, {unfolded:.1f} ms unfolded")
-    check(max(folded, unfolded) <= MOST_TIMES * least, f"a change of 64 rooms of 16 costs over {MOST_TIMES} times one of a room of two")
+    print(
+        f"a room of 64 is {height:.0f} pixels high; a change costs {least:.1f} ms with a room of two, {folded:.1f} ms "
+        f"with 64 rooms of 16, {unfolded:.1f} ms unfolded"
+    )
+    check(
+        max(folded, unfolded) <= MOST_TIMES * least,
+        f"a change of 64 rooms of 16 costs over {MOST_TIMES} times one of a room of two",
+    )
 
 
 def handle(one, other, ask):

@@ -1,8 +1,8 @@
 """Gives a sending and a receiving program one address.
 
-The member's address is 127.0.0.1:PORT. What comes to 127.0.0.1:SPEAK goes from there to the bridge, at 127.0.0.1:BRIDGE. The RTP
-packets that the bridge sends there go on to 127.0.0.1:HEAR. It runs until it is stopped. A program that receives at the port that
-it sends from needs no such help.
+The member's address is 127.0.0.1:PORT. What comes to 127.0.0.1:SPEAK goes from there to the bridge, at
+127.0.0.1:BRIDGE. The RTP packets that the bridge sends there go on to 127.0.0.1:HEAR. It runs until it is stopped. A
+program that receives at the port that it sends from needs no such help.
 """
 
 import select

@@ -7,7 +7,13 @@ def number(octets):
 
 def rtp(seq, ts, ssrc, payload, marker=0, pt=100):
     """The octets of an RTP packet; its numbers wrap."""
-    return bytes([0x80, marker << 7 | pt]) + (seq % 65536).to_bytes(2, "big") + (ts % 2**32).to_bytes(4, "big") + ssrc.to_bytes(4, "big") + payload
+    return (
+        bytes([0x80, marker << 7 | pt])
+        + (seq % 65536).to_bytes(2, "big")
+        + (ts % 2**32).to_bytes(4, "big")
+        + ssrc.to_bytes(4, "big")
+        + payload
+    )
 
 
 def is_rtcp(octets):
@@ -38,7 +44,12 @@ def has_no_gap(packets):
 
 def nack(ssrc, asked, blp=0):
     """A receiver report without blocks, and a NACK for a number of a stream and for those after it that a BLP names."""
-    return bytes.fromhex("80c900010000000981cd000300000009") + ssrc.to_bytes(4, "big") + asked.to_bytes(2, "big") + blp.to_bytes(2, "big")
+    return (
+        bytes.fromhex("80c900010000000981cd000300000009")
+        + ssrc.to_bytes(4, "big")
+        + asked.to_bytes(2, "big")
+        + blp.to_bytes(2, "big")
+    )
 
 
 def pli(ssrc):

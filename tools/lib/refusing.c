@@ -1,6 +1,8 @@
-/* Stands before the C library's requests for memory, and refuses one of a thread. `tools/bridge check refused` loads it.
+/* Stands before the C library's requests for memory, and refuses one of a thread. `tools/bridge check refused` loads
+ * it.
  *
- * CONFBRIDGE_REFUSED names a file that holds a struct control. The tool (refusing.py) maps it too, and says there which request is refused.
+ * CONFBRIDGE_REFUSED names a file that holds a struct control. The tool (refusing.py) maps it too, and says there which
+ * request is refused.
  */
 #define _GNU_SOURCE
 #include <errno.h>

@@ -37,7 +37,8 @@ def settings(folder, udp=0, tcp=0, operators=2, lanes=1):
 
 
 def started(program, path, under=(), environment=None):
-    """A bridge with these settings, once it says where it listens, and the ports of its sockets. It runs under another program, if one is named."""
+    """A bridge with these settings, once it says where it listens, and the ports of its sockets. It runs under another
+    program, if one is named."""
     words = [*under, program, "serve", path]
     bridge = subprocess.Popen(words, stdin=subprocess.DEVNULL, stderr=subprocess.PIPE, text=True, env=environment)
     # A tool that fails leaves no bridge behind.
@@ -53,7 +54,8 @@ DROPPED = re.compile(r"confbridge: lane ([0-9]+): ([0-9]+) items dropped")
 
 
 def said_at_the_end(text):
-    """The calls of each operator that were accepted, and the items that were dropped for each lane, as a bridge says at its end."""
+    """The calls of each operator that were accepted, and the items that were dropped for each lane, as a bridge says at
+    its end."""
     calls, dropped = {}, {}
     for line in text.splitlines():
         for form, found in (CALLS, calls), (DROPPED, dropped):

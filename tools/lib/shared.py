@@ -29,7 +29,8 @@ def crates():
 
 
 def bridge_crates():
-    """The crates of the bridge itself, lowest first. Cases, examples and tests follow the second comment of crates.txt."""
+    """The crates of the bridge itself, lowest first. Cases, examples and tests follow the second comment of
+    crates.txt."""
     text = (ROOT / "crates.txt").read_text()
     before = re.split(r"^#", text, flags=re.M)[1]
     return [line.partition(":")[0] for line in before.splitlines()[1:] if ":" in line]
@@ -51,13 +52,17 @@ def crates_below(crate):
 
 def add_program(parser, crate="confbridge"):
     """Adds the argument that names a program."""
-    parser.add_argument("binary", nargs="?", metavar="BINARY", help=f"the program (crates/{crate}/out/{crate} if not given)")
+    parser.add_argument(
+        "binary", nargs="?", metavar="BINARY", help=f"the program (crates/{crate}/out/{crate} if not given)"
+    )
 
 
 def add_program_or_build(parser):
     """Adds the arguments of a subcommand that can build the program without its proofs."""
     add_program(parser)
-    parser.add_argument("--seconds", type=int, default=SECONDS, help="how long a program built without proofs may run (%(default)s)")
+    parser.add_argument(
+        "--seconds", type=int, default=SECONDS, help="how long a program built without proofs may run (%(default)s)"
+    )
 
 
 def is_current(program):
@@ -67,7 +72,8 @@ def is_current(program):
 
 
 def found_program(given, crate="confbridge"):
-    """The path of the program that is named, or of the one that `rt run` or `rt ci` built from these sources, or None."""
+    """The path of the program that is named, or of the one that `rt run` or `rt ci` built from these sources, or
+    None."""
     if given:
         return pathlib.Path(given).resolve()
     program = CRATES / crate / "out" / crate
@@ -87,7 +93,9 @@ def release_program(given, crate="confbridge"):
 def try_command(words, seconds=None):
     """The command that builds a crate's program without proofs and runs it, to be started in the crate's folder."""
     if not shutil.which("rt"):
-        fail("there is no command `rt`: install the Rattle toolchain that README.md names, and put its bin/ on the path")
+        fail(
+            "there is no command `rt`: install the Rattle toolchain that README.md names, and put its bin/ on the path"
+        )
     limit = ["--seconds", str(seconds)] if seconds else []
     return ["rt", "try", *limit, *(["--", *words] if words else [])]
 
@@ -116,7 +124,8 @@ def replay(lines, given, seconds=SECONDS):
 
 
 def first_difference(script, printed):
-    """Compares what was printed with a script of (text, lines wanted). The number of lines, or None with the first difference told."""
+    """Compares what was printed with a script of (text, lines wanted). The number of lines, or None with the first
+    difference told."""
     at = 0
     for number, (text, wanted) in enumerate(script, 1):
         got = printed[at : at + len(wanted)]
@@ -163,5 +172,7 @@ def instructions(command, given, told=subprocess.DEVNULL):
 
 def add_measuring(parser, runs):
     """Adds the options that benches share."""
-    parser.add_argument("--runs", type=int, default=runs, help="how many runs of each, of which the least counts (%(default)s)")
+    parser.add_argument(
+        "--runs", type=int, default=runs, help="how many runs of each, of which the least counts (%(default)s)"
+    )
     parser.add_argument("--only", default="", metavar="WORD", help="only the rows with this word in their names")

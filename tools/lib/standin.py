@@ -1,4 +1,5 @@
-"""A page without a build: it answers HTTP as desk_page does, over the plain desk of the models in the place of a bridge."""
+"""A page without a build: it answers HTTP as desk_page does, over the plain desk of the models in the place of a
+bridge."""
 
 import http.server
 import json
@@ -20,7 +21,10 @@ def is_names(text):
         found = json.loads(text)
     except ValueError:
         return False
-    return isinstance(found, dict) and all(isinstance(name, str) and len(name.encode()) <= LONGEST_NAME for name in found.values())
+    return (
+        isinstance(found, dict)
+        and all(isinstance(name, str) and len(name.encode()) <= LONGEST_NAME for name in found.values())
+    )
 
 
 class Standin:
@@ -81,7 +85,12 @@ class Standin:
         if path == "/page.css":
             return (WEB / "page.css").read_text(), "text/css"
         if path == "/page.js":
-            files = [name for _, _, constants in PARTS for _, _, names, _ in constants for name in names.split() if name.endswith(".js")]
+            files = [
+                name
+                for _, _, constants in PARTS
+                for _, _, names, _ in constants
+                for name in names.split() if name.endswith(".js")
+            ]
             return "\n".join((WEB / name).read_text() for name in files), "text/javascript"
         return None
 
@@ -95,7 +104,12 @@ def handler_of(standin):
             body = text.encode()
             self.send_response(status)
             policy = "default-src 'none'; script-src 'self'; style-src 'self'; connect-src 'self'"
-            fields = {"Content-Type": f"{kind}; charset=utf-8", "Content-Length": len(body), "Cache-Control": "no-store", "Content-Security-Policy": policy}
+            fields = {
+                "Content-Type": f"{kind}; charset=utf-8",
+                "Content-Length": len(body),
+                "Cache-Control": "no-store",
+                "Content-Security-Policy": policy,
+            }
             for name, value in fields.items():
                 self.send_header(name, value)
             self.end_headers()
@@ -117,7 +131,9 @@ def handler_of(standin):
             if self.headers["X-Desk-Token"] != standin.token:
                 return self.tell(403, "NoToken: load the page again, its token is of an earlier run\n")
             if self.path == "/names" and body.split(" ")[0] != "names":
-                return self.tell(400, "NoNames: a change is the word names, the version that was seen, and a JSON object of texts\n")
+                return self.tell(
+                    400, "NoNames: a change is the word names, the version that was seen, and a JSON object of texts\n"
+                )
             if self.path == "/names":
                 return self.tell(200, standin.rename(body) + "\n")
             if body.split(" ")[0] in RESERVED:
@@ -140,15 +156,20 @@ def serve(standin, port=0):
 
 
 def fill(standin, rooms, size):
-    """Makes so many rooms of so many members, each with sound, a picture and a slot, in one step that no operator made."""
+    """Makes so many rooms of so many members, each with sound, a picture and a slot, in one step that no operator
+    made."""
     desk = standin.log.desk
     for room in range(1, rooms + 1):
         desk.rooms.append({"room": room, "rate": 8000})
         for place in range(size):
             m = 1000 * room + place
             address = f"10.{room}.0.{place + 1}:5000"
-            desk.members.append(dict(member=m, room=room, address=address, codec="pcmu", out_audio=900_000 + m, seq=0, ts=0))
-            desk.sources += [dict(ssrc=200_000 + m, member=m, media="audio"), dict(ssrc=300_000 + m, member=m, media="video")]
+            desk.members.append(
+                dict(member=m, room=room, address=address, codec="pcmu", out_audio=900_000 + m, seq=0, ts=0)
+            )
+            desk.sources += [
+                dict(ssrc=200_000 + m, member=m, media="audio"), dict(ssrc=300_000 + m, member=m, media="video")
+            ]
             desk.slots.append(dict(out=500_000 + m, member=m, index=0, seq=0, ts=0))
         desk.floors.append({"room": room, "member": 1000 * room})
     standin.log.version += 1

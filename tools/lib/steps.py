@@ -58,8 +58,14 @@ class Call:
         """An operator makes the desk."""
         self.threads = own_threads(self.bridge, lanes)
         self.operator = Operator(socket.create_connection(("127.0.0.1", self.tcp), timeout=PATIENCE))
-        self.ask("add-room 1", *(f"add-member {it} 1 127.0.0.1:{port_of(one)} pcmu {9000 + it} 0 0" for it, one in self.members.items()))
-        self.ask(f"add-source {VIDEO} 10 video", *(f"add-slot {slot} {it} 0 {FIRST_SEQ} {FIRST_TS}" for it, slot in SLOTS.items()))
+        self.ask(
+            "add-room 1",
+            *(f"add-member {it} 1 127.0.0.1:{port_of(one)} pcmu {9000 + it} 0 0" for it, one in self.members.items()),
+        )
+        self.ask(
+            f"add-source {VIDEO} 10 video",
+            *(f"add-slot {slot} {it} 0 {FIRST_SEQ} {FIRST_TS}" for it, slot in SLOTS.items()),
+        )
 
     def ask(self, *lines):
         for line in lines:
@@ -70,7 +76,8 @@ class Call:
         self.members[member].sendto(octets, self.udp)
 
     def take(self, seconds=0.005):
-        """Takes what has come to the members, or comes within a moment. Reports are dropped unless the step has them."""
+        """Takes what has come to the members, or comes within a moment. Reports are dropped unless the step has
+        them."""
         ready, seconds = select.select(self.members.values(), [], [], seconds)[0], 0
         while ready:
             for member, one in self.members.items():
@@ -84,7 +91,9 @@ class Call:
     def frame(self, *payloads):
         """The packets of the next frame of the video."""
         first, self.seq, self.ts = self.seq, self.seq + len(payloads), self.ts + 3000
-        return [rtp(first + at, self.ts, VIDEO, payload, at + 1 == len(payloads)) for at, payload in enumerate(payloads)]
+        return [
+            rtp(first + at, self.ts, VIDEO, payload, at + 1 == len(payloads)) for at, payload in enumerate(payloads)
+        ]
 
     def show(self):
         """Sends video until two slots show it and have two packets at least, the last one among them."""
@@ -97,7 +106,9 @@ class Call:
             end, shown = time.monotonic() + 0.05 * self.seq, False
             while not shown and time.monotonic() < end:
                 self.take()
-                shown = all(len(self.got[it]) > 1 and payload_of(self.got[it][-1]) == payload_of(packet) for it in (11, 12))
+                shown = all(
+                    len(self.got[it]) > 1 and payload_of(self.got[it][-1]) == payload_of(packet) for it in (11, 12)
+                )
             return shown
 
         until(is_shown, "no video comes")
@@ -154,7 +165,10 @@ def mixes(call, member, others, kind):
     pt, _, count = kind
     behind = b"".join(word(200 + it) for it in others) + tone(kind, others)
     seq, ts = seq_of(call.got[member][-1]), number(call.got[member][-1][4:8])
-    return [bytes([0x80 + len(others), pt]) + rtp(seq + at, ts + count * at, 9000 + member, behind)[2:] for at in range(1, 40)]
+    return [
+        bytes([0x80 + len(others), pt]) + rtp(seq + at, ts + count * at, 9000 + member, behind)[2:]
+        for at in range(1, 40)
+    ]
 
 
 def next_mixes(call, heard, kinds):

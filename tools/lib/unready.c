@@ -1,6 +1,8 @@
-/* Stands before the C library's `sendto`. It lists the datagrams that are tried, and refuses some with media. `tools/bridge check wire` loads it.
+/* Stands before the C library's `sendto`. It lists the datagrams that are tried, and refuses some with media.
+ * `tools/bridge check wire` loads it.
  *
- * CONFBRIDGE_UNREADY names a file that holds a struct control. The tool (unready.py) maps it too, and says there which calls are refused.
+ * CONFBRIDGE_UNREADY names a file that holds a struct control. The tool (unready.py) maps it too, and says there which
+ * calls are refused.
  */
 #define _GNU_SOURCE
 #include <dlfcn.h>

@@ -25,7 +25,9 @@ FOREVER = 2**62
 class Try(ctypes.Structure):
     """A call of `sendto`: `struct try` of unready.c."""
 
-    _fields_ = [("thread", ctypes.c_int32), ("error", ctypes.c_int32), ("port", ctypes.c_uint32), ("head", ctypes.c_uint8 * 12)]
+    _fields_ = [
+        ("thread", ctypes.c_int32), ("error", ctypes.c_int32), ("port", ctypes.c_uint32), ("head", ctypes.c_uint8 * 12)
+    ]
 
     def name(self):
         """Where a datagram went, and its first octets: of media its stream and number."""
@@ -61,7 +63,8 @@ class Wire:
         self.control.thread = NONE
 
     def refuse(self, thread, error, before=0, count=FOREVER, each=0):
-        """Refuses so many calls of a thread with media, behind so many that are let through. Of EACH calls the last one is let through."""
+        """Refuses so many calls of a thread with media, behind so many that are let through. Of EACH calls the last one
+        is let through."""
         self.count = count
         self.control.error, self.control.before, self.control.left, self.control.each = error, before, count, each
         self.control.thread = thread
@@ -84,8 +87,9 @@ class Wire:
 class Sent:
     """What a lane sent and what it didn't, by the tries of its thread.
 
-    A try that found the socket not ready is followed by one of the same datagram, until it has been tried 21 times; behind a datagram that
-    was given up so, the next ones are tried once, until one is taken. All else is tried once, and never again.
+    A try that found the socket not ready is followed by one of the same datagram, until it has been tried 21 times;
+    behind a datagram that was given up so, the next ones are tried once, until one is taken. All else is tried once,
+    and never again.
     """
 
     def __init__(self, tries, what):
@@ -95,7 +99,10 @@ class Sent:
             last, most = errors[-1], 1 if is_stuck else MOST_TRIES
             check(UNREADY.issuperset(errors[:-1]), f"{what}: {name} is tried again behind {errors}")
             is_stuck = last in UNREADY
-            check(len(errors) == most if is_stuck else len(errors) <= most, f"{what}: {name} is tried {len(errors)} times, {errors}")
+            check(
+                len(errors) == most if is_stuck else len(errors) <= most,
+                f"{what}: {name} is tried {len(errors)} times, {errors}",
+            )
             if last:
                 self.unsent[CAUSES[last]] += 1
             else:

@@ -77,11 +77,20 @@ class Voice:
 
     def lateness(self, span):
         """When each packet of sound came, by its timestamp, that came in a time: the lower, the earlier. Sorted."""
-        return sorted(moment - number(octets[4:8]) / SAMPLES * EACH for moment, octets in self.got[MIX] if span[0] <= moment < span[1])
+        return sorted(
+            moment - number(octets[4:8]) / SAMPLES * EACH
+            for moment, octets in self.got[MIX] if span[0] <= moment < span[1]
+        )
 
     def age(self, moment, sample):
         """How long before a moment the latest packet with this sample was sent."""
-        return next((moment - sent for at, sent in reversed(list(enumerate(self.sent))) if sent <= moment and 0x80 + at % TONES == sample), 0)
+        return next(
+            (
+                moment - sent
+                for at, sent in reversed(list(enumerate(self.sent))) if sent <= moment and 0x80 + at % TONES == sample
+            ),
+            0,
+        )
 
 
 def heard_worse(before, behind, seconds, allowed=0.04):

@@ -191,7 +191,8 @@ static void set_desk(int with_fan, int with_room)
     if (with_fan) {
         accepted("add-room 1");
         for (int i = 0; i <= RECEIVERS; i++) {
-            snprintf(line, sizeof line, "add-member %d 1 127.0.0.1:%d pcmu %d 0 0", 100 + i, ntohs(fan_at[i].sin_port), 9000 + i);
+            snprintf(line, sizeof line, "add-member %d 1 127.0.0.1:%d pcmu %d 0 0", 100 + i, ntohs(fan_at[i].sin_port),
+                     9000 + i);
             accepted(line);
         }
         accepted("add-source 101 100 video");
@@ -205,7 +206,8 @@ static void set_desk(int with_fan, int with_room)
     if (with_room) {
         accepted("add-room 2");
         for (int i = 0; i < ROOM; i++) {
-            snprintf(line, sizeof line, "add-member %d 2 127.0.0.1:%d pcmu %d 0 0", 200 + i, ntohs(room_at[i].sin_port), 20000 + i);
+            snprintf(line, sizeof line, "add-member %d 2 127.0.0.1:%d pcmu %d 0 0", 200 + i,
+                     ntohs(room_at[i].sin_port), 20000 + i);
             accepted(line);
             snprintf(line, sizeof line, "add-source %d %d audio", 30000 + i, 200 + i);
             accepted(line);
@@ -246,10 +248,12 @@ static void send_sound(const struct sockaddr_in *to, int member, unsigned tick)
     sounds_sent++;
 }
 
-/* What the room sends in a step that begins at a moment, the first of five of a tick: all at once, or each its own part of 20 ms later. */
+/* What the room sends in a step that begins at a moment, the first of five of a tick: all at once, or each its own part
+ * of 20 ms later. */
 static void send_sounds(const struct sockaddr_in *to, long step, struct timespec begin)
 {
-    int part = step % 5, first = is_spread ? ROOM * part / 5 : 0, last = is_spread ? ROOM * (part + 1) / 5 : part ? 0 : ROOM;
+    int part = step % 5, first = is_spread ? ROOM * part / 5 : 0;
+    int last = is_spread ? ROOM * (part + 1) / 5 : part ? 0 : ROOM;
     for (int i = first; i < last; i++) {
         if (is_spread && i > first) {
             begin.tv_nsec += 4000000 / (last - first);
@@ -261,9 +265,9 @@ static void send_sounds(const struct sockaddr_in *to, long step, struct timespec
     }
 }
 
-/* Both kinds of sending for so many seconds, in steps of 4 ms; a line each minute where it is asked for. A step that is more than
- * 20 ms late is left out, so that no burst follows where this program stood still; timestamps and steps go on by the clock from the
- * first one on, so that a source never comes later than it began. */
+/* Both kinds of sending for so many seconds, in steps of 4 ms; a line each minute where it is asked for. A step that is
+ * more than 20 ms late is left out, so that no burst follows where this program stood still; timestamps and steps go on
+ * by the clock from the first one on, so that a source never comes later than it began. */
 static void talk(const struct sockaddr_in *to, double seconds, int with_fan, int with_room, pid_t watched)
 {
     static unsigned seq;

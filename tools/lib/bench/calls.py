@@ -1,13 +1,13 @@
 """Measures what an operator's call takes in a bridge on sockets, beside the same call in a script on one thread.
 
-One operator of `serve` makes many calls of one row, and as many calls that are refused. `replay` reads the same calls as a script.
-What an accepted call takes more than a refused one is what the change itself takes: reading, judging and answering are in both.
-The ratio is that of `serve` to `replay`. It is measured at a desk of two members, and at a full one: a room with 1,024 members,
-2,048 sources, 4,096 slots and subscriptions, and 65,536 gains.
+One operator of `serve` makes many calls of one row, and as many calls that are refused. `replay` reads the same calls
+as a script. What an accepted call takes more than a refused one is what the change itself takes: reading, judging and
+answering are in both. The ratio is that of `serve` to `replay`. It is measured at a desk of two members, and at a full
+one: a room with 1,024 members, 2,048 sources, 4,096 slots and subscriptions, and 65,536 gains.
 
-The cost is the processor time of the program, of which the least of N runs counts; or, with --instructions, what callgrind counts
-in one run. Of `serve` it is the cost of the thread that has the operator's connection. What all others take in the same time is
-told beside it: above all the front, which each accepted call wakes.
+The cost is the processor time of the program, of which the least of N runs counts; or, with --instructions, what
+callgrind counts in one run. Of `serve` it is the cost of the thread that has the operator's connection. What all others
+take in the same time is told beside it: above all the front, which each accepted call wakes.
 """
 
 import pathlib
@@ -27,7 +27,9 @@ NEEDS = "the program, a minute; valgrind to count instructions"
 def options(parser):
     add_program(parser)
     add_measuring(parser, 5)
-    parser.add_argument("--calls", type=int, default=2000, help="how many calls a run makes, an even number from 1000 on (%(default)s)")
+    parser.add_argument(
+        "--calls", type=int, default=2000, help="how many calls a run makes, an even number from 1000 on (%(default)s)"
+    )
     parser.add_argument("--instructions", action="store_true", help="count instructions by callgrind, in one run")
 
 
@@ -69,11 +71,22 @@ class Meter:
     def __init__(self, program, counts):
         self.folder, self.counts, self.dumps = tempfile.TemporaryDirectory(), counts, 0
         out, log = f"{self.folder.name}/out", f"{self.folder.name}/log"
-        words = ["--tool=callgrind", "--instr-atstart=no", "--separate-threads=yes", f"--callgrind-out-file={out}", f"--log-file={log}"]
+        words = [
+            "--tool=callgrind",
+            "--instr-atstart=no",
+            "--separate-threads=yes",
+            f"--callgrind-out-file={out}",
+            f"--log-file={log}",
+        ]
         self.run = self.begin(program, ["valgrind", *words] if counts else [])
 
     def control(self, *words):
-        subprocess.run(["callgrind_control", *words, str(self.run.pid)], check=True, stdout=subprocess.DEVNULL, stderr=subprocess.DEVNULL)
+        subprocess.run(
+            ["callgrind_control", *words, str(self.run.pid)],
+            check=True,
+            stdout=subprocess.DEVNULL,
+            stderr=subprocess.DEVNULL,
+        )
 
     def answers(self, lines):
         """The answers to lines, one each."""
@@ -116,7 +129,9 @@ class Replay(Meter):
     """A script on one thread."""
 
     def begin(self, program, under):
-        return subprocess.Popen([*under, program, "replay"], stdin=subprocess.PIPE, stdout=subprocess.PIPE, stderr=subprocess.DEVNULL)
+        return subprocess.Popen(
+            [*under, program, "replay"], stdin=subprocess.PIPE, stdout=subprocess.PIPE, stderr=subprocess.DEVNULL
+        )
 
     def give(self, text):
         self.run.stdin.write(re.sub(rb"^", b"desk 0 ", text[:-1], flags=re.M) + b"\n")
@@ -166,7 +181,14 @@ def told_row(name, kind, costs):
     (script, _), (script_refused, _) = costs[0]
     (own, others), (own_refused, _) = costs[1]
     change, floor = own - own_refused, script - script_refused
-    cells = [f"{kind}, {name}", f"{script:,.0f}", f"{script_refused:,.0f}", f"{own:,.0f}", f"{own_refused:,.0f}", f"{others:,.0f}"]
+    cells = [
+        f"{kind}, {name}",
+        f"{script:,.0f}",
+        f"{script_refused:,.0f}",
+        f"{own:,.0f}",
+        f"{own_refused:,.0f}",
+        f"{others:,.0f}",
+    ]
     print(f"| {' | '.join(cells)} | {change / floor:.2f} |", flush=True)
 
 
@@ -174,7 +196,10 @@ def run(args):
     if args.calls < 1000 or args.calls % 2:
         fail("--calls is an even number from 1000 on: of fewer, the front's own rounds cost more than the calls")
     program, unit = release_program(args.binary), "instructions" if args.instructions else "ns"
-    print(f"| Call, {unit} | replay | refused | serve | refused | others | Ratio of what the change takes |\n|---|---|---|---|---|---|---|")
+    print(
+        f"| Call, {unit} | replay | refused | serve | refused | others | Ratio of what the change takes "
+        "|\n|---|---|---|---|---|---|---|"
+    )
     for name, lines, members, sources, audio in DESKS:
         asked = [kind for kind in kinds(members, sources, audio) if args.only in f"{kind[0]}, {name}"]
         meters = [kind(program, args.instructions) for kind in (Replay, Serve)] if asked else []

@@ -1,14 +1,15 @@
 """Times operators' commands on a full desk.
 
-The desk has one room with 1,024 members, 64 audio and 1,984 video sources, 4,096 slots with a subscription each, all 65,536
-gains, a pin and a floor. Where a member, a source or a slot comes and goes, the desk is one short of each of these.
+The desk has one room with 1,024 members, 64 audio and 1,984 video sources, 4,096 slots with a subscription each, all
+65,536 gains, a pin and a floor. Where a member, a source or a slot comes and goes, the desk is one short of each of
+these.
 
-A command's time is the processor time of a script with many of it, less that of the script that makes the desk, over their
-number. The scripts take turns, and the least of N runs counts.
+A command's time is the processor time of a script with many of it, less that of the script that makes the desk, over
+their number. The scripts take turns, and the least of N runs counts.
 
-With --groups it counts the instructions of the same commands one by one and in groups of these sizes, and of their undos, on
-the desk that isn't short, in one run of one program. For a group it also prints what this is more than its commands one by one,
-as a difference and as a ratio: with two commands or more it is above all the copy of the rows.
+With --groups it counts the instructions of the same commands one by one and in groups of these sizes, and of their
+undos, on the desk that isn't short, in one run of one program. For a group it also prints what this is more than its
+commands one by one, as a difference and as a ratio: with two commands or more it is above all the copy of the rows.
 """
 
 import pathlib
@@ -28,7 +29,9 @@ def options(parser):
     add_measuring(parser, 3)
     how = parser.add_mutually_exclusive_group()
     how.add_argument("--instructions", action="store_true", help="count instructions by callgrind, one run each")
-    how.add_argument("--groups", metavar="SIZES", help="count the instructions of groups, as 1,2,8,64; 0 for a program that has none")
+    how.add_argument(
+        "--groups", metavar="SIZES", help="count the instructions of groups, as 1,2,8,64; 0 for a program that has none"
+    )
 
 
 # Rows: a name, the lines that make the desk, and the lines to be timed
@@ -49,11 +52,15 @@ def rows_of_full_desk():
     calls = len(full)
     one_row = {
         "set-gain over another": [f"set-gain {i % 1024} 200000 {i // 1024 % 2 + 1}" for i in range(20000)],
-        "subscribe over another": [f"subscribe {300000 + i % 4096} {200064 + (i + 1 + i // 4096) % 1984}" for i in range(20000)],
+        "subscribe over another": [
+            f"subscribe {300000 + i % 4096} {200064 + (i + 1 + i // 4096) % 1984}" for i in range(20000)
+        ],
         "pin over another": [f"pin 1 {200065 + i % 1900}" for i in range(20000)],
         "give-floor over another": [f"give-floor 1 {1 + i % 1000}" for i in range(20000)],
         "mute, unmute": in_turn(10000, lambda i: f"mute {200000 + i % 2048}", lambda i: f"unmute {200000 + i % 2048}"),
-        "unsubscribe, subscribe": in_turn(10000, lambda i: f"unsubscribe {300000 + i % 4096}", lambda i: f"subscribe {300000 + i % 4096} 200064"),
+        "unsubscribe, subscribe": in_turn(
+            10000, lambda i: f"unsubscribe {300000 + i % 4096}", lambda i: f"subscribe {300000 + i % 4096} 200064"
+        ),
         "unpin, undo": undone(10000, calls, lambda i: "unpin 1"),
         "add-room, remove-room": in_turn(5000, lambda i: f"add-room {2 + i}", lambda i: f"remove-room {2 + i}"),
         "remove-slot with its sub, undo": undone(2000, calls, lambda i: f"remove-slot {300000 + i}"),
@@ -129,7 +136,14 @@ class Counted:
 
     def __init__(self, program, first):
         self.folder, self.dumps = tempfile.TemporaryDirectory(), 0
-        counting = ["valgrind", "--tool=callgrind", "--instr-atstart=no", f"--callgrind-out-file={self.folder.name}/out", program, "replay"]
+        counting = [
+            "valgrind",
+            "--tool=callgrind",
+            "--instr-atstart=no",
+            f"--callgrind-out-file={self.folder.name}/out",
+            program,
+            "replay",
+        ]
         self.run = subprocess.Popen(counting, stdin=subprocess.PIPE, stdout=subprocess.PIPE, stderr=subprocess.DEVNULL)
         self.answers(first)
         self.control("-i", "on")
@@ -173,8 +187,12 @@ def commands_for_groups():
     yield "set-gain over another", [f"set-gain {m} 200000 7" for m in range(512)]
     yield "subscribe over another", [f"subscribe {300000 + s} {200065 + s}" for s in range(512)]
     yield "mute, unmute", [f"{word} {200000 + s}" for s in range(256) for word in ("mute", "unmute")]
-    yield "remove-slot with its sub, add-slot, subscribe", [line for s in slots for line in (f"remove-slot {s}", *again(s))]
-    yield "remove-member with 64 gains, add-member", [line for m in members for line in (f"remove-member {m}", add_member(m))]
+    yield "remove-slot with its sub, add-slot, subscribe", [
+        line for s in slots for line in (f"remove-slot {s}", *again(s))
+    ]
+    yield "remove-member with 64 gains, add-member", [
+        line for m in members for line in (f"remove-member {m}", add_member(m))
+    ]
 
 
 def count_groups(program, sizes, only):
@@ -197,7 +215,10 @@ def count_groups(program, sizes, only):
             print(f"{name}: {alone[0]:,.0f} a command, {alone[1]:,.0f} its undo", flush=True)
             for size in sizes:
                 took = costs(in_groups(commands, size))
-                told = [f"{cost:,.0f} ({cost - size * one:+,.0f}, {cost / (size * one):.3f})" for cost, one in zip(took, alone)]
+                told = [
+                    f"{cost:,.0f} ({cost - size * one:+,.0f}, {cost / (size * one):.3f})"
+                    for cost, one in zip(took, alone)
+                ]
                 print(f"{name}, in groups of {size}: {told[0]} a group, {told[1]} its undo", flush=True)
     counted.end()
 

@@ -1,12 +1,14 @@
-"""Measures an hour of a voice whose clock is slow or fast: how much of it is missing, for how long at once, and its delay.
+"""Measures an hour of a voice whose clock is slow or fast: how much of it is missing, for how long at once, and its
+delay.
 
-A member sends sound to another through `replay`, with `renew`, over a path of 50 ms with jitter and no losses. Jitter is none, up
-to 30 ms with all values alike, or half of a normal distribution. Packets don't overtake one another. Each 10 ms of sound are told
-by their value, so that what is heard shows when it was sent. The delay is that of the sound of a tick, from the sending of its
-packet to the tick. A beginning is a place where the sound that is heard goes on with another delay.
+A member sends sound to another through `replay`, with `renew`, over a path of 50 ms with jitter and no losses. Jitter
+is none, up to 30 ms with all values alike, or half of a normal distribution. Packets don't overtake one another. Each
+10 ms of sound are told by their value, so that what is heard shows when it was sent. The delay is that of the sound of
+a tick, from the sending of its packet to the tick. A beginning is a place where the sound that is heard goes on with
+another delay.
 
-The first second is left out. The status is 1 where a goal is missed: at most 0.1 percent missing, 1 percent from 300 millionths
-on, never over 0.7 s at once, and a delay of at most 250 ms.
+The first second is left out. The status is 1 where a goal is missed: at most 0.1 percent missing, 1 percent from 300
+millionths on, never over 0.7 s at once, and a delay of at most 250 ms.
 """
 
 import random
@@ -38,7 +40,8 @@ DRIFTS = (0, -50, 50, -100, 100, -300, 300)
 
 @dataclass(frozen=True)
 class Call:
-    """A call: by how many millionths the clock is fast, the jitter, the clock rate, and how long a packet's sound is."""
+    """A call: by how many millionths the clock is fast, the jitter, the clock rate, and how long a packet's sound
+    is."""
 
     fast: int
     jitter: str
@@ -143,7 +146,8 @@ def delay_of(call, tick, piece):
 
 
 def measured(call, minutes, program):
-    """Of a call: the share that is missing, the longest gap and the longest delay in s, and how many beginnings there were."""
+    """Of a call: the share that is missing, the longest gap and the longest delay in s, and how many beginnings there
+    were."""
     missing = total = longest = gap = begins = latest = 0
     first, before = first_tick(call), None
     for place, piece in enumerate(heard(call, minutes, program)):
@@ -180,7 +184,9 @@ def run(args):
             continue
         missing, longest, delay, begins = measured(call, args.minutes, program)
         verdict = "" if is_good(call, missing, longest, delay) else "  a goal is missed"
-        figures = f"{100 * missing:.3f} % missing, {longest:.2f} s at once, {1000 * delay:.0f} ms late, {begins} beginnings"
+        figures = (
+            f"{100 * missing:.3f} % missing, {longest:.2f} s at once, {1000 * delay:.0f} ms late, {begins} beginnings"
+        )
         print(f"{call}: {figures}{verdict}", flush=True)
         status |= bool(verdict)
     return status

@@ -1,7 +1,7 @@
 """Measures how soon a mute takes effect in a room of 64 members, and its undo.
 
-From the `ok` of a mute on the operator's socket to the first mix that a listener is sent without the muted member; and the same
-for its undo. The status is 0 where the 99th percentile of each is at most 30 ms. Mixes leave every 20 ms.
+From the `ok` of a mute on the operator's socket to the first mix that a listener is sent without the muted member; and
+the same for its undo. The status is 0 where the 99th percentile of each is at most 30 ms. Mixes leave every 20 ms.
 """
 
 import select
@@ -29,8 +29,8 @@ def options(parser):
 
 
 class Speakers(threading.Thread):
-    """All members, who send a packet every 20 ms: the first one is loud, the others are silent. What comes to all but the
-    listener is let go."""
+    """All members, who send a packet every 20 ms: the first one is loud, the others are silent. What comes to all but
+    the listener is let go."""
 
     def __init__(self, port, sockets):
         super().__init__(daemon=True)
@@ -77,7 +77,10 @@ def measured(operator, listener, ssrc, line, is_heard):
 def told(name, times):
     times.sort()
     late = times[int(len(times) * 0.99)]
-    print(f"{name}: {times[len(times) // 2] * 1e3:.1f} ms (median), {late * 1e3:.1f} ms (99th percentile), {times[-1] * 1e3:.1f} ms (all)")
+    print(
+        f"{name}: {times[len(times) // 2] * 1e3:.1f} ms (median), {late * 1e3:.1f} ms (99th percentile), "
+        f"{times[-1] * 1e3:.1f} ms (all)"
+    )
     return late <= ALLOWED
 
 

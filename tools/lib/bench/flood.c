@@ -1,5 +1,5 @@
-/* Floods `confbridge serve` over loopback beside a call of two members, and measures that call. `tools/bridge bench floods --help`
- * says more.
+/* Floods `confbridge serve` over loopback beside a call of two members, and measures that call. `tools/bridge bench
+ * floods --help` says more.
  *
  * flood BINARY FLOOD SECONDS RATE    RATE is how many datagrams the flood sends a second; 0 sends none
  */
@@ -23,7 +23,8 @@
 
 enum { STRANGERS = 16, OPEN = 2044, RING = 512, PICTURE = 300, MOST_TICKS = 1 << 20 };
 
-/* The call: a speaker with video 101 and audio 201, and a listener. Beside it two members that the flood may come from. */
+/* The call: a speaker with video 101 and audio 201, and a listener. Beside it two members that the flood may come
+ * from. */
 static int speaker, listener, floods[2], strangers[STRANGERS];
 static struct sockaddr_in speaker_at, listener_at, floods_at[2], strangers_at[STRANGERS];
 
@@ -59,7 +60,8 @@ static size_t unknown_sources(uint8_t *at, int *from)
     return 112;
 }
 
-/* A receiver report with 31 blocks, then lost pictures and lost numbers as many as fit. Half of the numbers are in the window. */
+/* A receiver report with 31 blocks, then lost pictures and lost numbers as many as fit. Half of the numbers are in the
+ * window. */
 static size_t asks(uint8_t *at, int *from)
 {
     size_t size = 8 + 31 * 24;
@@ -183,7 +185,8 @@ static size_t gaps(uint8_t *at, int *from)
 }
 
 static const struct { const char *name; size_t (*next)(uint8_t *, int *); } kinds[] = {
-    {"strangers", from_strangers}, {"noise", from_member}, {"sources", unknown_sources}, {"asks", asks}, {"nacks", nacks},
+    {"strangers", from_strangers}, {"noise", from_member}, {"sources", unknown_sources},
+    {"asks", asks}, {"nacks", nacks},
     {"blocks", blocks}, {"pictures", pictures}, {"restarts", restarts}, {"open-frames", open_frames},
     {"large-frames", large_frames}, {"gaps", gaps},
 };
@@ -236,7 +239,8 @@ static void speak(unsigned tick)
 
 static uint32_t get32(const uint8_t *at) { return (uint32_t)at[0] << 24 | at[1] << 16 | at[2] << 8 | at[3]; }
 
-/* What the bridge asks the speaker for, and how many of its packets it says have come. A lost picture is one that the flood tells of. */
+/* What the bridge asks the speaker for, and how many of its packets it says have come. A lost picture is one that the
+ * flood tells of. */
 static void speaker_hears(const uint8_t *at, ssize_t size)
 {
     const ssize_t whole = size;
@@ -395,21 +399,26 @@ static int held(double seconds)
             minute = seconds_now();
             now = resident(server);
             early = early ? early : now;
-            printf("after %.0f s: VmRSS %ld kB, processor %.2f s, the last mix %.1f ms late, %ld datagrams of the flood, %ld lost before the "
-                   "bridge\n",
+            printf("after %.0f s: VmRSS %ld kB, processor %.2f s, the last mix %.1f ms late, %ld datagrams of the "
+                   "flood, %ld lost before the bridge\n",
                    minute - begun, now, processor(server, 0), late_now(), shared->datagrams, dropped());
             fflush(stdout);
         }
     }
     qsort(late, ticks, sizeof *late, by_size);
-    double share = reached ? 100.0 * came_then / reached : 0, up = shared->octets ? (double)up_octets / shared->octets : 0;
-    printf("call: %u packets sent, %ld reached the bridge by its last report, %ld of them came (%.2f%%)\n", next_number, reached, came_then,
-           share);
-    printf("ticks: %ld, late by %.1f ms (median), %.1f (99th percentile), %.1f (most)\n", ticks, lateness(0.5), lateness(0.99), lateness(1));
-    printf("flood: %ld octets in; out for it %ld octets of control (%.3f for one) and %ld of packets (%.3f); beside it %ld of reports\n",
-           shared->octets, up_octets, up, down_octets, shared->octets ? (double)down_octets / shared->octets : 0, report_octets);
+    double share = reached ? 100.0 * came_then / reached : 0;
+    double up = shared->octets ? (double)up_octets / shared->octets : 0;
+    printf("call: %u packets sent, %ld reached the bridge by its last report, %ld of them came (%.2f%%)\n",
+           next_number, reached, came_then, share);
+    printf("ticks: %ld, late by %.1f ms (median), %.1f (99th percentile), %.1f (most)\n", ticks, lateness(0.5),
+           lateness(0.99), lateness(1));
+    printf("flood: %ld octets in; out for it %ld octets of control (%.3f for one) and %ld of packets (%.3f); beside it "
+           "%ld of reports\n",
+           shared->octets, up_octets, up, down_octets, shared->octets ? (double)down_octets / shared->octets : 0,
+           report_octets);
     /* A mix comes for each packet of sound, 60 ms after it. */
-    return share >= 99 && sounds > 0 && mixed + 3 >= 0.99 * sounds && lateness(0.99) <= 10 && up_octets <= 1.5 * shared->octets + 256 * (2 + STRANGERS) && now <= early * 1.05 + 1024;
+    return share >= 99 && sounds > 0 && mixed + 3 >= 0.99 * sounds && lateness(0.99) <= 10
+        && up_octets <= 1.5 * shared->octets + 256 * (2 + STRANGERS) && now <= early * 1.05 + 1024;
 }
 
 int main(int count, char **words)

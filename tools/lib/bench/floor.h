@@ -75,7 +75,8 @@ static long lost_at(int port)
     while (file && fgets(text, sizeof text, file)) {
         unsigned at;
         long drops;
-        if (sscanf(text, " %*d: %*x:%x %*x:%*x %*x %*x:%*x %*s %*s %*s %*s %*s %*s %*s %ld", &at, &drops) == 2 && (int)at == port)
+        if (sscanf(text, " %*d: %*x:%x %*x:%*x %*x %*x:%*x %*s %*s %*s %*s %*s %*s %*s %ld", &at, &drops) == 2
+            && (int)at == port)
             lost = drops;
     }
     if (file)
@@ -99,7 +100,8 @@ static void machine(double *all, double *taken)
     double part[8] = {0};
     FILE *file = fopen("/proc/stat", "r");
     *all = 0;
-    if (file && fscanf(file, "cpu %lf %lf %lf %lf %lf %lf %lf %lf", part, part + 1, part + 2, part + 3, part + 4, part + 5, part + 6, part + 7) == 8)
+    if (file && fscanf(file, "cpu %lf %lf %lf %lf %lf %lf %lf %lf", part, part + 1, part + 2, part + 3, part + 4,
+                       part + 5, part + 6, part + 7) == 8)
         for (int i = 0; i < 8; i++)
             *all += part[i];
     *taken = part[7];
@@ -120,12 +122,14 @@ static double measured(const char *what, const struct sockaddr_in *to, pid_t pid
     double spent = processor(pid, &within_after) - before;
     long came = fan_got + room_got - had;
     double each = with_fan ? spent / came : spent / (seconds * 50);
-    printf("%s: %.2f s of processor time, %.0f %% of it in the system, %ld packets came of %.0f, %.2f us a %s\n", what, spent,
-           100 * (within_after - within) / spent, came, with_fan ? (double)pictures_sent * RECEIVERS : seconds * 50 * ROOM, each * 1e6,
+    printf("%s: %.2f s of processor time, %.0f %% of it in the system, %ld packets came of %.0f, %.2f us a %s\n", what,
+           spent, 100 * (within_after - within) / spent, came,
+           with_fan ? (double)pictures_sent * RECEIVERS : seconds * 50 * ROOM, each * 1e6,
            with_fan ? "packet out" : "tick");
-    printf("%s: %ld packets sent, %ld lost before it, %ld behind it, %ld steps of 4 ms left out, %.1f %% of the machine taken away\n", what,
-           pictures_sent + sounds_sent, lost_at(ntohs(to->sin_port)) - front, lost_behind() - behind, steps_left_out,
-           100 * (taken_after - taken) / (all_after - all));
+    printf("%s: %ld packets sent, %ld lost before it, %ld behind it, %ld steps of 4 ms left out, %.1f %% of the "
+           "machine taken away\n",
+           what, pictures_sent + sounds_sent, lost_at(ntohs(to->sin_port)) - front, lost_behind() - behind,
+           steps_left_out, 100 * (taken_after - taken) / (all_after - all));
     fflush(stdout);
     return each;
 }
@@ -216,8 +220,9 @@ static int all_traced(void)
     return is_traced;
 }
 
-/* A room whose members send each at its own moment, while `strace` counts system calls and writes them to a file. Neither what fills
- * the desk nor the end is counted: an operator's call yields while a lane is at the desk's last version. */
+/* A room whose members send each at its own moment, while `strace` counts system calls and writes them to a file.
+ * Neither what fills the desk nor the end is counted: an operator's call yields while a lane is at the desk's last
+ * version. */
 static void counted(const char *binary, double seconds, const char *file)
 {
     char pid[16];

@@ -1,8 +1,9 @@
 #!/usr/bin/env python3
 """The floor of load.c in Python, without the sum: the socket calls of a bridge, and nothing between them.
 
-load.c starts it on a socket of its own: floor.py SOCKET PORT.., the ports of 16 receivers and of a room of 64. What comes
-from the fan's source goes to the 16; each 20 ms each of the room is sent as many octets as a mix for it would have.
+load.c starts it on a socket of its own: floor.py SOCKET PORT.., the ports of 16 receivers and of a room of 64. What
+comes from the fan's source goes to the 16; each 20 ms each of the room is sent as many octets as a mix for it would
+have.
 """
 import select
 import socket

@@ -1,7 +1,9 @@
-"""A key frame of 100 packets to 30 receivers over a link of 1 Gbit/s, which `ip` and `tc` make: a pair of devices with a token bucket.
+"""A key frame of 100 packets to 30 receivers over a link of 1 Gbit/s, which `ip` and `tc` make: a pair of devices with
+a token bucket.
 
-The bridge is at one end, and its members are in a network namespace at the other. The bridge's packets wait in its socket's send buffer and
-in the link's queue, which is longer than that buffer: so nothing is dropped behind the socket. Where a socket isn't ready, a lane waits.
+The bridge is at one end, and its members are in a network namespace at the other. The bridge's packets wait in its
+socket's send buffer and in the link's queue, which is longer than that buffer: so nothing is dropped behind the socket.
+Where a socket isn't ready, a lane waits.
 """
 
 import contextlib
@@ -86,14 +88,25 @@ class Fan:
         self.source, *self.receivers = link.sockets(1 + RECEIVERS)
         path = pathlib.Path(folder) / "serve.toml"
         path.write_text(f'udp = "{HERE}:0"\ntcp = "127.0.0.1:0"\nlanes = {lanes}\n')
-        self.bridge = subprocess.Popen([program, "serve", path], stdin=subprocess.DEVNULL, stderr=subprocess.PIPE, text=True)
+        self.bridge = subprocess.Popen(
+            [program, "serve", path], stdin=subprocess.DEVNULL, stderr=subprocess.PIPE, text=True
+        )
         words = self.bridge.stderr.readline().split()
-        self.udp, tcp = ((host, int(port)) for host, _, port in (word.partition(":") for word in words if word[:1].isdigit()))
+        self.udp, tcp = (
+            (host, int(port)) for host, _, port in (word.partition(":") for word in words if word[:1].isdigit())
+        )
         self.operator, self.seq, self.ts = Operator(socket.create_connection(tcp, timeout=PATIENCE)), 0, 0
-        self.ask("add-room 1", f"add-member 100 1 {THERE}:{port_of(self.source)} pcmu 9000 0 0", f"add-source {VIDEO} 100 video")
+        self.ask(
+            "add-room 1",
+            f"add-member 100 1 {THERE}:{port_of(self.source)} pcmu 9000 0 0",
+            f"add-source {VIDEO} 100 video",
+        )
         for at, one in enumerate(self.receivers):
             number = 101 + at
-            self.ask(f"add-member {number} 1 {THERE}:{port_of(one)} pcmu {9001 + at} 0 0", f"add-slot {501 + at} {number} 0 0 0")
+            self.ask(
+                f"add-member {number} 1 {THERE}:{port_of(one)} pcmu {9001 + at} 0 0",
+                f"add-slot {501 + at} {number} 0 0 0",
+            )
             self.ask(f"subscribe {501 + at} {VIDEO}")
 
     def ask(self, *lines):
@@ -103,7 +116,8 @@ class Fan:
                 fail(f"`{line}` is answered `{answer}`")
 
     def take(self):
-        """How many packets of the video have come to each receiver since the last time, with payloads of a frame's size."""
+        """How many packets of the video have come to each receiver since the last time, with payloads of a frame's
+        size."""
         counts = []
         for at, one in enumerate(self.receivers):
             count = 0
@@ -115,7 +129,8 @@ class Fan:
         return counts
 
     def frame(self, count, octets):
-        """Sends a frame, at the pace of a camera: ten packets a millisecond, so that the bridge's receive buffer holds them."""
+        """Sends a frame, at the pace of a camera: ten packets a millisecond, so that the bridge's receive buffer holds
+        them."""
         self.ts += 3000
         for at in range(count):
             self.source.sendto(rtp(self.seq, self.ts, VIDEO, bytes(octets), at + 1 == count), self.udp)
@@ -161,7 +176,10 @@ def measured(program, link, count, lanes):
             for _ in range(count):
                 came, seconds = fan.key_frame()
                 is_whole = is_whole and came == RECEIVERS * FRAME
-                print(f"{came} of {RECEIVERS * FRAME} packets came in {seconds * 1000:.0f} ms; the link's queue dropped {link.dropped()}")
+                print(
+                    f"{came} of {RECEIVERS * FRAME} packets came in {seconds * 1000:.0f} ms; the link's queue dropped "
+                    f"{link.dropped()}"
+                )
             print(fan.end(), end="")
         finally:
             fan.bridge.kill()

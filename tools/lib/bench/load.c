@@ -34,7 +34,8 @@
 int main(int count, char **words)
 {
     if (count < 4)
-        die("usage: load BINARY fan|room SECONDS [FLOOR] | load BINARY spread|both SECONDS | load BINARY calls SECONDS FILE"
+        die("usage: load BINARY fan|room SECONDS [FLOOR] | load BINARY spread|both SECONDS"
+            " | load BINARY calls SECONDS FILE"
             " | load BINARY most SECONDS LANES | load BINARY storm DATAGRAMS LINES");
     const char *what = words[2];
     if (!strcmp(what, "fan") || !strcmp(what, "room"))

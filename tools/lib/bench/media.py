@@ -1,10 +1,10 @@
 """Times frames, NACKs, datagrams and sound in the core, or counts their instructions.
 
-A case is run N times as often as fills S seconds, and as many times twice as often. Its time is the least of the longer runs
-less the least of the shorter ones, over the times between them, in processor time: making the desk and filling the windows is
-in both. The cases take turns, so that a busy moment meets all of them. In the same run the yardstick is timed: the copy of as
-many octets into fresh vectors. So is the floor of ticks, tick.c: a program in C that only adds up, takes off, clamps, encodes and
-writes headers, for members who all speak and samples that are there.
+A case is run N times as often as fills S seconds, and as many times twice as often. Its time is the least of the longer
+runs less the least of the shorter ones, over the times between them, in processor time: making the desk and filling the
+windows is in both. The cases take turns, so that a busy moment meets all of them. In the same run the yardstick is
+timed: the copy of as many octets into fresh vectors. So is the floor of ticks, tick.c: a program in C that only adds
+up, takes off, clamps, encodes and writes headers, for members who all speak and samples that are there.
 
 With --instructions callgrind counts one run of each length, and a case is run often enough for 20 million of them.
 """
@@ -32,8 +32,8 @@ def row(words, units=1):
 
 
 def tick(case, unheard, silent, members):
-    """A tick alone: sound and ticks in a room of so many, less the same sound where nobody is in the room, plus the silent ticks that
-    this takes off too much."""
+    """A tick alone: sound and ticks in a room of so many, less the same sound where nobody is in the room, plus the
+    silent ticks that this takes off too much."""
     return {f"{case} {members} 1": 1, f"{unheard} {members} 1": -1, f"{silent} {members} 1": 1}, 1
 
 
@@ -128,7 +128,9 @@ def costs(measure, programs, cases, runs, least):
 
 
 def run(args):
-    measure, unit, runs, least = (counted, "instructions", 1, ENOUGH) if args.instructions else (timed, "ns", args.runs, args.seconds * 1e9)
+    measure, unit, runs, least = (
+        (counted, "instructions", 1, ENOUGH) if args.instructions else (timed, "ns", args.runs, args.seconds * 1e9)
+    )
     rows = {name: made for name, made in ROWS.items() if args.only in name or name == YARDSTICK}
     floors = {name: case for name, case in FLOORS.items() if name in rows}
     cases = list(dict.fromkeys([case for made, _ in rows.values() for case in made] + list(floors.values())))

@@ -31,7 +31,8 @@ static void threads_now(struct threads *now)
     closedir(folder);
 }
 
-/* Loads a new bridge for so many seconds with frames of so many packets, 250 a second, and tells what came of it. Whether all came. */
+/* Loads a new bridge for so many seconds with frames of so many packets, 250 a second, and tells what came of it.
+ * Whether all came. */
 static int all_came(const char *binary, int packets, double seconds)
 {
     struct threads before, after;
@@ -62,11 +63,14 @@ static void largest_of(const char *binary, double seconds, int octets)
 {
     int good = 0, packets = 4;
     video = octets;
-    while (packets <= 250 && (all_came(binary, packets, seconds) || all_came(binary, packets, seconds) || all_came(binary, packets, seconds))) {
+    while (packets <= 250
+           && (all_came(binary, packets, seconds) || all_came(binary, packets, seconds)
+               || all_came(binary, packets, seconds))) {
         good = packets;
         packets += packets / 4;
     }
-    printf("%d lanes, packets of %d octets: at most %d packets/s out without loss\n", lanes, octets, good * 250 * RECEIVERS);
+    printf("%d lanes, packets of %d octets: at most %d packets/s out without loss\n", lanes, octets,
+           good * 250 * RECEIVERS);
 }
 
 /* The largest fan of large packets, and of small ones: more of these fit into the receive buffers. */

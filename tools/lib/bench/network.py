@@ -1,17 +1,21 @@
-"""Measures calls over a path that loses, delays and reorders packets: how long the picture stands still, and sound is missing.
+"""Measures calls over a path that loses, delays and reorders packets: how long the picture stands still, and sound is
+missing.
 
-Each call has a sender, a relay in the place of the path, the bridge, and a receiver that measures. The senders are GStreamer, ffmpeg
-and one of the tool's own. GStreamer answers NACKs and PLIs, and ffmpeg neither: it sends a key frame every 0.48 s. The own one
-answers PLIs, and NACKs unless it is called silent. With the same seed the same packets are lost. A second line has the same call
-through Janus, where that is installed: its AudioBridge and its VideoRoom, without encryption.
+Each call has a sender, a relay in the place of the path, the bridge, and a receiver that measures. The senders are
+GStreamer, ffmpeg and one of the tool's own. GStreamer answers NACKs and PLIs, and ffmpeg neither: it sends a key frame
+every 0.48 s. The own one answers PLIs, and NACKs unless it is called silent. With the same seed the same packets are
+lost. A second line has the same call through Janus, where that is installed: its AudioBridge and its VideoRoom, without
+encryption.
 
-The picture stands still while a frame is shown for over 100 ms. A frame is shown if all its packets came, and those of all frames
-back to a key frame. It is shown a little behind the fastest frame, as --buffer says, or later where it comes later. Sound is missing
-in each tick of 20 ms without the sender's tone. Control up is what the bridge sends to the sender, beside the octets that came.
+The picture stands still while a frame is shown for over 100 ms. A frame is shown if all its packets came, and those of
+all frames back to a key frame. It is shown a little behind the fastest frame, as --buffer says, or later where it comes
+later. Sound is missing in each tick of 20 ms without the sender's tone. Control up is what the bridge sends to the
+sender, beside the octets that came.
 
-What isn't installed is left out, which is said. The status is 1 where the bridge misses a goal. On a busy machine the figures are too
-high, and a line that this may have disturbed says `busy`: run it under `nice -n -10`, with fewer calls --beside one another. On Debian
-the packages are gstreamer1.0-tools, gstreamer1.0-plugins-base, -good and -bad, ffmpeg, and janus.
+What isn't installed is left out, which is said. The status is 1 where the bridge misses a goal. On a busy machine the
+figures are too high, and a line that this may have disturbed says `busy`: run it under `nice -n -10`, with fewer calls
+--beside one another. On Debian the packages are gstreamer1.0-tools, gstreamer1.0-plugins-base, -good and -bad, ffmpeg,
+and janus.
 """
 
 import multiprocessing
@@ -38,9 +42,17 @@ def options(parser):
     parser.add_argument("--no-janus", action="store_true", help="leave Janus out")
     parser.add_argument("--list", action="store_true", help="only print the names of the rows")
     parser.add_argument("--seconds", type=float, default=20, help="how long a call is measured (%(default)s)")
-    parser.add_argument("--beside", type=int, default=8, metavar="CALLS", help="how many calls are held at a time (%(default)s)")
+    parser.add_argument(
+        "--beside", type=int, default=8, metavar="CALLS", help="how many calls are held at a time (%(default)s)"
+    )
     parser.add_argument("--seed", type=int, default=1, help="which packets are lost (%(default)s)")
-    parser.add_argument("--buffer", type=float, default=0.1, metavar="SECONDS", help="how long the receiver waits before it shows a frame (%(default)s)")
+    parser.add_argument(
+        "--buffer",
+        type=float,
+        default=0.1,
+        metavar="SECONDS",
+        help="how long the receiver waits before it shows a frame (%(default)s)",
+    )
     parser.add_argument("--lanes", type=int, default=1, help="how many lanes the bridge has (%(default)s)")
 
 
@@ -72,7 +84,9 @@ def text_of(name, it):
 
 def held(calls, middles, args):
     """Each row with what was measured through each of the middles, in their order, as soon as it is known."""
-    with tempfile.TemporaryDirectory() as folder, multiprocessing.get_context("fork").Pool(args.beside, ends_with_parent) as pool:
+    with tempfile.TemporaryDirectory() as folder, multiprocessing.get_context("fork").Pool(
+        args.beside, ends_with_parent
+    ) as pool:
         measured = pool.imap(hold, [(row, program, args, folder) for row in calls for program in middles])
         for row in calls:
             yield row, *(checked(next(measured)) for _ in middles)

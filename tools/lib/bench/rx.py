@@ -1,17 +1,17 @@
 """Times an accepted video packet.
 
-A packet has 1,200 octets. A script makes a desk of one room, and its sources send in turn, by `rx` lines: a packet each, or 16
-in a row, as the packets of a frame come. The script is written to the program part by part. When the program has answered a
-part and waits for the next one, its processor time is read, and divided by the packets of that part. The least of all parts
-and runs counts. Packets from an address without a member are timed too, and their time is taken off: such a line is parsed
-and answered, and nothing is taken in.
+A packet has 1,200 octets. A script makes a desk of one room, and its sources send in turn, by `rx` lines: a packet
+each, or 16 in a row, as the packets of a frame come. The script is written to the program part by part. When the
+program has answered a part and waits for the next one, its processor time is read, and divided by the packets of that
+part. The least of all parts and runs counts. Packets from an address without a member are timed too, and their time is
+taken off: such a line is parsed and answered, and nothing is taken in.
 
-Frames have 250 packets, or 16, and the last one closes its frame. Or they go on, so that each packet stays in memory that
-the system has to give first. Or they go on in memory that closed frames gave back: this is what a packet that closes no
-frame takes in a bridge that runs.
+Frames have 250 packets, or 16, and the last one closes its frame. Or they go on, so that each packet stays in memory
+that the system has to give first. Or they go on in memory that closed frames gave back: this is what a packet that
+closes no frame takes in a bridge that runs.
 
-With --instructions it counts the instructions of a script with 5,000 packets more than another, in place of time. Runs agree
-then, but an octet that is cleared counts as one, and waiting for memory as nothing.
+With --instructions it counts the instructions of a script with 5,000 packets more than another, in place of time. Runs
+agree then, but an octet that is cleared counts as one, and waiting for memory as nothing.
 
 The program starts as ./confbridge starts it, with large pages, unless GLIBC_TUNABLES is set, even to nothing.
 """
@@ -93,7 +93,8 @@ def waits(process):
 
 
 def parts(sources, row, frame):
-    """The numbers of the packets with which the first part begins and the last one ends, and how many a part has of each source.
+    """The numbers of the packets with which the first part begins and the last one ends, and how many a part has of
+    each source.
 
     A gate gives up at 256 packets, so few of a frame that goes on are timed. A part of short frames has whole ones."""
     if frame == ENDLESS:

@@ -7,14 +7,15 @@ A floor is a program that makes the same socket calls and no more. LOAD is one o
   calls  such a room, while `strace` counts system calls from its first datagram on: how many one takes
   link   a key frame of 100 packets to 30 receivers, over a link of 1 Gbit/s that this shapes, COUNT times
   both   both together, with the resident memory each minute
-  most   the largest fan without loss: 250 frames a second, which grow by a quarter until packets are lacking in three runs; of packets of
+  most the largest fan without loss: 250 frames a second, which grow by a quarter until packets are lacking in three
+  runs; of packets of
          1,100 octets, of which few fit into a receive buffer, and then of 100 octets
   storm  random datagrams and operators' lines, and then a call
 
-`fan` and `room` run the bridge, then a floor in C, then one in Python, COUNT seconds each. Processor time is the user and
-system time of /proc/PID/stat. The output also says where packets were lost: before the bridge (its own socket was full) or
-behind it (a member's was); and whether this tool or the machine stood still: steps of 4 ms that it left out, and the share
-of processor time that the host took away. The status is 0 where the bridge answered to its end.
+`fan` and `room` run the bridge, then a floor in C, then one in Python, COUNT seconds each. Processor time is the user
+and system time of /proc/PID/stat. The output also says where packets were lost: before the bridge (its own socket was
+full) or behind it (a member's was); and whether this tool or the machine stood still: steps of 4 ms that it left out,
+and the share of processor time that the host took away. The status is 0 where the bridge answered to its end.
 """
 
 import pathlib
@@ -31,7 +32,9 @@ HERE = pathlib.Path(__file__).resolve().parent
 
 
 def options(parser):
-    parser.add_argument("load", choices=["fan", "room", "spread", "calls", "link", "both", "most", "storm"], metavar="LOAD")
+    parser.add_argument(
+        "load", choices=["fan", "room", "spread", "calls", "link", "both", "most", "storm"], metavar="LOAD"
+    )
     parser.add_argument("count", metavar="COUNT", help="how many seconds; for `storm` how many datagrams")
     parser.add_argument("--lanes", default="1", help="how many lanes the bridge of `most` and `link` has (%(default)s)")
     parser.add_argument("--lines", default="10000", help="how many operators' lines `storm` sends (%(default)s)")

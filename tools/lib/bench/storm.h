@@ -33,7 +33,8 @@ static size_t random_datagram(uint8_t *at)
         header(at, kind < 4 ? 100 | drawn(2) << 7 : 0, number, seq * 160, kind < 4 ? 101 : 30000 + drawn(8));
         size = 12 + drawn(160);
     } else {
-        static const uint8_t nack[] = {0x80, 0xc9, 0, 1, 0, 0, 0, 9, 0x81, 0xcd, 0, 3, 0, 0, 0, 9, 0, 0, 1, 0xf5, 0, 0, 0, 0};
+        static const uint8_t nack[] = {0x80, 0xc9, 0, 1, 0, 0, 0, 9, 0x81, 0xcd, 0, 3, 0, 0, 0, 9, 0, 0, 1, 0xf5,
+            0, 0, 0, 0};
         memcpy(at, nack, sizeof nack);
         put16(at + 18, 501 + drawn(RECEIVERS));
         put32(at + 20, drawn(1 << 30));
@@ -65,15 +66,16 @@ static void storm_datagrams(long count)
             drain(room, ROOM, &room_got);
         }
     }
-    printf("%ld random datagrams, of which %ld were lost before the bridge; VmRSS %ld kB\n", count, lost, resident(server));
+    printf("%ld random datagrams, of which %ld were lost before the bridge; VmRSS %ld kB\n", count, lost,
+           resident(server));
     fflush(stdout);
 }
 
 static size_t random_line(char *at)
 {
-    static const char *names[] = {"add-room", "add-member", "add-source", "add-slot", "subscribe", "unsubscribe", "pin", "unpin", "mute",
-        "unmute", "set-gain", "give-floor", "take-floor", "move-member", "remove-room", "remove-member", "remove-source", "remove-slot",
-        "undo", "redo", "show", "quit"};
+    static const char *names[] = {"add-room", "add-member", "add-source", "add-slot", "subscribe", "unsubscribe",
+        "pin", "unpin", "mute", "unmute", "set-gain", "give-floor", "take-floor", "move-member", "remove-room",
+        "remove-member", "remove-source", "remove-slot", "undo", "redo", "show", "quit"};
     size_t size = 0;
     if (drawn(4) == 0) {
         size = drawn(2000) ? drawn(80) : drawn(5000);
@@ -105,14 +107,15 @@ static size_t reach(const char *text, size_t at, size_t size, int *ends)
     while (at < size && !*ends) {
         const char *line = text + at;
         size_t length = (const char *)memchr(line, '\n', size - at) - line;
-        *ends = length > 4096 || (length == 4 && !memcmp(line, "quit", 4)) || (length == 5 && !memcmp(line, "quit\r", 5));
+        *ends = length > 4096 || (length == 4 && !memcmp(line, "quit", 4))
+            || (length == 5 && !memcmp(line, "quit\r", 5));
         at += length + 1;
     }
     return at;
 }
 
-/* Lines go out as the bridge takes them, and its answers are read meanwhile. Behind a line that ends its connection the bridge
- * closes it, and no other; what follows goes out on a new one. */
+/* Lines go out as the bridge takes them, and its answers are read meanwhile. Behind a line that ends its connection the
+ * bridge closes it, and no other; what follows goes out on a new one. */
 static void storm_lines(long count)
 {
     static char text[1 << 16], told[1 << 16];
@@ -161,7 +164,8 @@ static void storm_lines(long count)
             }
         }
     }
-    printf("%ld random lines, %ld lines of answers, %ld connections ended by a line; VmRSS %ld kB\n", count, answers, closed,
+    printf("%ld random lines, %ld lines of answers, %ld connections ended by a line; VmRSS %ld kB\n", count, answers,
+           closed,
            resident(server));
     fflush(stdout);
 }

@@ -1,15 +1,17 @@
 """Measures desks and lanes on threads, each beside a floor in the same run.
 
 The program x_bench_threads runs N times. It measures each figure and its floor in turn, some rounds each, and tells the
-least times as a ratio. A row has the median ratio, in brackets the least and the most, and the median time. The floors are
+least times as a ratio. A row has the median ratio, in brackets the least and the most, and the median time. The floors
+are
   a call at a shared desk       the same call at the desk of a core on one thread
   16 seats of a full desk       as many calls of one seat: how many times as many calls a second
   enter and leave               a lock and an unlock of a mutex that nobody else wants
     while an operator calls     the same while nobody calls
   an egress of a lane           the same items on one thread, by the core, in processor time of all threads
   four lanes                    one lane with the same items: how many times as many egresses a second
-Four lanes want four cores: other programs that run meanwhile, and processor time that the host takes away, make the last figure worse.
-The program starts as ./confbridge starts it, with large pages, unless GLIBC_TUNABLES is set, even to nothing.
+Four lanes want four cores: other programs that run meanwhile, and processor time that the host takes away, make the
+last figure worse. The program starts as ./confbridge starts it, with large pages, unless GLIBC_TUNABLES is set, even to
+nothing.
 """
 
 import os

@@ -1,10 +1,11 @@
-/* The floor of a tick: what a room whose members all speak makes necessary, and no more. `tools/bridge bench media` counts it.
+/* The floor of a tick: what a room whose members all speak makes necessary, and no more. `tools/bridge bench media`
+ * counts it.
  *
  * tick TIMES MEMBERS SAMPLES    a tick so often: PCMU where a source has 160 samples in a tick, else L16
  *
- * The samples of each source are there. A tick adds them up. For each member it takes the member's own off, clamps the rest, and
- * writes a header, the SSRCs of the first 15 others, and the encoded samples into the member's packet. It prints how many packets
- * there were, how many octets, and their sum, so that no work is left out.
+ * The samples of each source are there. A tick adds them up. For each member it takes the member's own off, clamps the
+ * rest, and writes a header, the SSRCs of the first 15 others, and the encoded samples into the member's packet. It
+ * prints how many packets there were, how many octets, and their sum, so that no work is left out.
  */
 #include <stdint.h>
 #include <stdio.h>
@@ -40,7 +41,8 @@ static void take_off(const int16_t *own, int samples)
     }
 }
 
-/* ITU-T G.711 in a form that becomes vectors: of a float, the exponent and the first four digits are the segment and the step. */
+/* ITU-T G.711 in a form that becomes vectors: of a float, the exponent and the first four digits are the segment and
+ * the step. */
 static void encode_pcmu(uint8_t *out, int samples)
 {
     for (int j = 0; j < samples; j++) {

@@ -1,4 +1,5 @@
-"""Frames of a capture: pcap (of microseconds and of nanoseconds) and pcapng, in both orders of octets, packed by gzip or not.
+"""Frames of a capture: pcap (of microseconds and of nanoseconds) and pcapng, in both orders of octets, packed by gzip
+or not.
 
 The file is read from its beginning to its end and nothing is looked for twice, so a pipe serves as well.
 """
@@ -20,7 +21,8 @@ ENDS = "the capture ends in the middle of a packet"
 
 @dataclasses.dataclass(frozen=True)
 class Frame:
-    """What was captured of a frame: its moment in nanoseconds since 1970, its link type, its octets, and how many it had."""
+    """What was captured of a frame: its moment in nanoseconds since 1970, its link type, its octets, and how many it
+    had."""
 
     moment: int
     link: int
@@ -30,7 +32,8 @@ class Frame:
 
 @dataclasses.dataclass(frozen=True)
 class Interface:
-    """An interface of a pcapng section: its link type, the units of its moments a second, and what is added, in seconds."""
+    """An interface of a pcapng section: its link type, the units of its moments a second, and what is added, in
+    seconds."""
 
     link: int
     units: int = 10**6

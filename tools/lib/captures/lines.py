@@ -3,7 +3,8 @@
 import dataclasses
 
 FIN, SYN, RST = 1, 2, 4
-# A hole that so many octets lie behind was never captured. So it is, where later segments have come for so many nanoseconds.
+# A hole that so many octets lie behind was never captured. So it is, where later segments have come for so many
+# nanoseconds.
 MOST_BEHIND, LONGEST = 1 << 20, 3 * 10**9
 
 
@@ -24,7 +25,8 @@ class Direction:
     def __init__(self, source, target, notes):
         self.source, self.target, self.notes = source, target, notes
         self.next, self.behind, self.text = None, {}, b""
-        # A line isn't whole that stands behind a hole. A connection that was there before is taken to begin with a whole line.
+        # A line isn't whole that stands behind a hole. A connection that was there before is taken to begin with a
+        # whole line.
         self.is_whole, self.waits_since = True, None
 
     def take(self, packet):
@@ -65,7 +67,9 @@ class Direction:
         """Goes on behind a hole that isn't filled. The rest of the line is lost."""
         first = min(self.behind, key=lambda seq: (seq - self.next) % 2**32)
         lost = (first - self.next) % 2**32
-        self.notes.add(f"{lost} octets of TCP from {self.source} to {self.target} are missing: calls or answers are lost", moment)
+        self.notes.add(
+            f"{lost} octets of TCP from {self.source} to {self.target} are missing: calls or answers are lost", moment
+        )
         self.next, self.text, self.is_whole = first, b"", False
         yield from self.follow(moment)
 

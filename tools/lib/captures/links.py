@@ -10,7 +10,9 @@ NAMES = {
     NULL: "null loopback", ETHERNET: "Ethernet", RAW: "raw IP", COOKED: "Linux cooked v1", LOOP: "loopback",
     IPV4: "raw IPv4", COOKED_2: "Linux cooked v2", 12: "raw IP", 14: "raw IP",
 }  # fmt: skip
-OTHERS = {105: "802.11", 127: "802.11 with radiotap", 9: "PPP", 50: "PPP", 147: "a user's own", 189: "USB", 187: "Bluetooth"}
+OTHERS = {
+    105: "802.11", 127: "802.11 with radiotap", 9: "PPP", 50: "PPP", 147: "a user's own", 189: "USB", 187: "Bluetooth"
+}
 IP, VLANS = 0x0800, (0x8100, 0x88A8)
 UDP, TCP = 17, 6
 # So many packets may wait for the rest of their fragments.
@@ -49,7 +51,8 @@ def link_name(link):
 
 @dataclasses.dataclass(frozen=True)
 class Packet:
-    """A UDP datagram or a TCP segment: its moment, its protocol, its two addresses, its octets, and for TCP its header."""
+    """A UDP datagram or a TCP segment: its moment, its protocol, its two addresses, its octets, and for TCP its
+    header."""
 
     moment: int
     protocol: int
@@ -75,7 +78,9 @@ class Packets:
         """The packets of frames, one after another."""
         for frame in frames:
             if not is_read(frame.link):
-                self.notes.add(f"link type {link_name(frame.link)} isn't read: capture on Ethernet, `any` or `lo`", frame.moment)
+                self.notes.add(
+                    f"link type {link_name(frame.link)} isn't read: capture on Ethernet, `any` or `lo`", frame.moment
+                )
                 continue
             packet = packet_in(frame.link, frame.octets)
             if packet and len(packet) >= 20 and packet[0] >> 4 == 4:
@@ -92,7 +97,10 @@ class Packets:
         body = ip[head : size or None]
         if size and len(ip) < size:
             is_cut = frame.length > len(frame.octets)
-            self.notes.add("packets are cut short, by `-s` of tcpdump: they are left out" if is_cut else "broken IP packets", frame.moment)
+            self.notes.add(
+                "packets are cut short, by `-s` of tcpdump: they are left out" if is_cut else "broken IP packets",
+                frame.moment,
+            )
             return None
         if part & 0x3FFF:
             body = self.joined((ip[12:20], protocol, ip[4:6]), part, body, frame.moment)

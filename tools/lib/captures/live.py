@@ -1,4 +1,5 @@
-"""Frames as they pass an interface of this machine (Linux packet sockets, packet(7)). It takes leave: root, or CAP_NET_RAW."""
+"""Frames as they pass an interface of this machine (Linux packet sockets, packet(7)). It takes leave: root, or
+CAP_NET_RAW."""
 
 import socket
 import struct
@@ -8,7 +9,8 @@ from lib.captures.files import Frame
 from lib.captures.links import RAW
 
 ALL, OUTGOING = 0x0003, 4
-# Names that Python lacks: the kernel's stamp of a datagram in nanoseconds, a receive buffer beyond the limit, and counts of losses.
+# Names that Python lacks: the kernel's stamp of a datagram in nanoseconds, a receive buffer beyond the limit, and
+# counts of losses.
 SO_TIMESTAMPNS, SO_RCVBUFFORCE, SOL_PACKET, PACKET_STATISTICS = 35, 33, 263, 6
 BUFFER = 1 << 24
 

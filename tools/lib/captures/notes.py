@@ -23,5 +23,9 @@ class Notes:
         """A line for each fault. Times are seconds since a moment."""
         for text, (count, first) in self.found.items():
             times = f"{count} times, " if count > 1 else ""
-            where = f" ({times}{'first ' if count > 1 else ''}at {(first - begin) / 1e9:.3f} s)" if first is not None else ""
+            where = (
+                f" ({times}{'first ' if count > 1 else ''}at {(first - begin) / 1e9:.3f} s)"
+                if first is not None
+                else ""
+            )
             yield text + where

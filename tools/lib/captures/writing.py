@@ -48,7 +48,9 @@ def pcap(packets, link=ETHERNET, order="<", units=10**6, head=None, most=None):
     for moment, packet in packets:
         frame = (HEADS.get(link, b"") if head is None else head) + packet
         kept = frame[:most] if most else frame
-        parts += [struct.pack(order + "IIII", moment // 10**9, moment % 10**9 * units // 10**9, len(kept), len(frame)), kept]
+        parts += [
+            struct.pack(order + "IIII", moment // 10**9, moment % 10**9 * units // 10**9, len(kept), len(frame)), kept
+        ]
     return b"".join(parts)
 
 

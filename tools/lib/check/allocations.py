@@ -1,13 +1,13 @@
 """Checks that something runs each public function that allocates.
 
-A body that always gives up for lack of memory meets any contract. So each public function of the libraries that takes an
-allocator has to run once where memory is ample: from a test, from a program of cases, or from the program itself on its stored
-input. Each such function has a line with what runs it, or NOWHERE; the status is 1 where one has nothing. Those of a crate that
-nothing uses yet read "not yet".
+A body that always gives up for lack of memory meets any contract. So each public function of the libraries that takes
+an allocator has to run once where memory is ample: from a test, from a program of cases, or from the program itself on
+its stored input. Each such function has a line with what runs it, or NOWHERE; the status is 1 where one has nothing.
+Those of a crate that nothing uses yet read "not yet".
 
-Calls are found in the text, by names: `Type::name(..)`, `module::name(..)`, `name(..)`, and `x.name(..)` where the type of x is
-told nearby or one type alone has such a method. A trait's method that is called calls that of each type. What can't be told counts as
-no call.
+Calls are found in the text, by names: `Type::name(..)`, `module::name(..)`, `name(..)`, and `x.name(..)` where the type
+of x is told nearby or one type alone has such a method. A trait's method that is called calls that of each type. What
+can't be told counts as no call.
 """
 
 import re
@@ -28,7 +28,10 @@ NO_LIBRARY = ("worked_", "x_tests_", "x_bench_")
 NOT_YET = {"call_history::CallLists::new"}
 
 FN = re.compile(r"(?P<vis>pub(?:\(crate\))? |)(?:const )?fn (?P<name>\w+)\s*(?:<[^(]*>)?\(")
-IMPL = re.compile(r"^(?:impl|pub trait|trait)\b(?:<[^{]*?>)?\s*(?:(?:\w+::)*(?P<trait>\w+)(?:<[^{]*>)? for )?(?P<owner>\w+)[^{]*\{", re.M)
+IMPL = re.compile(
+    r"^(?:impl|pub trait|trait)\b(?:<[^{]*?>)?\s*(?:(?:\w+::)*(?P<trait>\w+)(?:<[^{]*>)? for )?(?P<owner>\w+)[^{]*\{",
+    re.M,
+)
 ENUM = re.compile(r"enum (\w+)(?:<[^{;]*>)?\s*\{")
 STRUCT = re.compile(r"struct (\w+)(?:<[^{;]*>)?\s*\{([^}]*)\}")
 EXPORT = re.compile(r"pub use (?:self::)?\w+::(\w+|\{[^}]*\})")

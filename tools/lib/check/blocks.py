@@ -1,9 +1,11 @@
-"""Runs the command blocks of README, OPERATING, DEBUGGING and the examples, and compares what appears with what they show.
+"""Runs the command blocks of README, OPERATING, DEBUGGING and the examples, and compares what appears with what they
+show.
 
-A block of commands is run at the top of a clone, which is a folder of its own with links to the tree. The blocks of text behind it have to
-appear on standard output or standard error: as the whole of it, or in DEBUGGING as lines one after the other. A bridge that a block starts
-goes on for the blocks behind it. A block of Rattle has to stand in a source, and what `./confbridge` says while it builds in that script.
-Blocks that nobody can compare here are listed in this tool with their reasons, and named.
+A block of commands is run at the top of a clone, which is a folder of its own with links to the tree. The blocks of
+text behind it have to appear on standard output or standard error: as the whole of it, or in DEBUGGING as lines one
+after the other. A bridge that a block starts goes on for the blocks behind it. A block of Rattle has to stand in a
+source, and what `./confbridge` says while it builds in that script. Blocks that nobody can compare here are listed in
+this tool with their reasons, and named.
 """
 
 import contextlib
@@ -48,7 +50,12 @@ def options(_parser):
 
 
 def documents():
-    return [ROOT / "README.md", ROOT / "docs/OPERATING.md", ROOT / "docs/DEBUGGING.md", *sorted(ROOT.glob("examples/*/README.md"))]
+    return [
+        ROOT / "README.md",
+        ROOT / "docs/OPERATING.md",
+        ROOT / "docs/DEBUGGING.md",
+        *sorted(ROOT.glob("examples/*/README.md")),
+    ]
 
 
 def blocks(path):
@@ -86,7 +93,9 @@ class Folder:
             self.write_nc()
 
     def has(self, command):
-        return subprocess.run(["sh", "-c", f"command -v {command}"], stdout=subprocess.DEVNULL, check=False).returncode == 0
+        return subprocess.run(
+            ["sh", "-c", f"command -v {command}"], stdout=subprocess.DEVNULL, check=False
+        ).returncode == 0
 
     def write_nc(self):
         """A netcat, where the machine has none."""

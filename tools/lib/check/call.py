@@ -1,9 +1,9 @@
 """Holds a call over sockets, with members and an operator of its own.
 
-While nobody is there the bridge sleeps. Then two members send PCMU tones, and one of them video, which is lost in part. An operator mutes a source, unsubscribes a slot and
-undoes both. The checks: each stream's numbers have no gap; each member hears the other's tone and not its own; a NACK is
-answered; lost packets are asked for; a PLI is passed on; reports come. The bridge's socket of the operator waits for no
-acknowledgement before it sends an answer's end.
+While nobody is there the bridge sleeps. Then two members send PCMU tones, and one of them video, which is lost in part.
+An operator mutes a source, unsubscribes a slot and undoes both. The checks: each stream's numbers have no gap; each
+member hears the other's tone and not its own; a NACK is answered; lost packets are asked for; a PLI is passed on;
+reports come. The bridge's socket of the operator waits for no acknowledgement before it sends an answer's end.
 """
 
 import ctypes
@@ -24,7 +24,8 @@ NEEDS = "a program, twelve seconds"
 # How many seconds the bridge may take for what has to come. It takes none; a busy machine may.
 PATIENCE = 60
 
-# The share of a processor that a bridge without members takes at most. It takes under a hundredth; a lane that doesn't sleep takes all.
+# The share of a processor that a bridge without members takes at most. It takes under a hundredth; a lane that doesn't
+# sleep takes all.
 IDLE = 0.4
 
 # The number of the system call that copies a descriptor of another process (pidfd_getfd(2)).
@@ -54,7 +55,8 @@ def check(holds, text):
 
 
 def start(args, folder):
-    """The bridge, and the ports of its sockets. A program built without proofs may not say them, so they are chosen here."""
+    """The bridge, and the ports of its sockets. A program built without proofs may not say them, so they are chosen
+    here."""
     udp, tcp = free_port(socket.SOCK_DGRAM), free_port(socket.SOCK_STREAM)
     words, program = ["serve", settings(folder, udp, tcp)], found_program(args.binary)
     command = [program, *words] if program else try_command(words, args.seconds)
@@ -76,7 +78,9 @@ def connected(bridge, port, folder):
             return socket.create_connection(("127.0.0.1", port), timeout=PATIENCE)
         except ConnectionRefusedError:
             time.sleep(0.1)
-    return fail(f"the bridge ended with status {bridge.returncode} before it listened\n{said_in(folder).read_text()[-2000:]}")
+    return fail(
+        f"the bridge ended with status {bridge.returncode} before it listened\n{said_in(folder).read_text()[-2000:]}"
+    )
 
 
 def member():
@@ -112,7 +116,8 @@ class Call:
         self.members[ssrc].sendto(octets, self.udp)
 
     def turn(self):
-        """Each member sends a packet for each 20 ms that have passed, and the first one a frame of one packet too, but for each tenth."""
+        """Each member sends a packet for each 20 ms that have passed, and the first one a frame of one packet too, but
+        for each tenth."""
         self.begun = self.begun or time.monotonic()
         # By the clock, or the bridge drops what comes as late.
         while time.monotonic() - self.begun >= self.seq * 0.02:
@@ -138,7 +143,8 @@ class Call:
             self.turn()
 
     def asks(self, octets, holds, text):
-        """The second member asks until something holds: once, but where a lane is behind, since it drops what it is asked then."""
+        """The second member asks until something holds: once, but where a lane is behind, since it drops what it is
+        asked then."""
         end = time.monotonic() + PATIENCE
         while not holds():
             check(time.monotonic() < end, text)
@@ -255,7 +261,9 @@ def check_video(call):
     check(all(packet == last for packet in again()), "a NACK isn't answered with the same octets")
     before = len(passed())
     call.asks(pli(501), lambda: len(passed()) > before, "a PLI isn't passed on")
-    call.talk_until(lambda: any(b"\x81\xcd" in packet for packet in call.control(201, 201)), "lost packets aren't asked for")
+    call.talk_until(
+        lambda: any(b"\x81\xcd" in packet for packet in call.control(201, 201)), "lost packets aren't asked for"
+    )
     return len(shown)
 
 

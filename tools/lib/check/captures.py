@@ -1,9 +1,9 @@
 """Reads and explains captures that it makes, good ones and bad ones.
 
-A model of the bridge holds a call, whose packets are written in each form that `explain` reads: pcap of microseconds and of
-nanoseconds, pcapng, both orders of octets, each link type, in fragments, behind a VLAN's tag, packed by gzip. All have to be read
-alike, and explained without a difference. Then it writes captures that are cut, short, out of order, incomplete, of two bridges or
-of another link type. Each fault has to be named, and the rest be explained.
+A model of the bridge holds a call, whose packets are written in each form that `explain` reads: pcap of microseconds
+and of nanoseconds, pcapng, both orders of octets, each link type, in fragments, behind a VLAN's tag, packed by gzip.
+All have to be read alike, and explained without a difference. Then it writes captures that are cut, short, out of
+order, incomplete, of two bridges or of another link type. Each fault has to be named, and the rest be explained.
 """
 
 import gzip
@@ -64,7 +64,10 @@ def check_forms():
     check(len(parts) == 3, "there are no fragments")
     for order in (0, 1, 2), (2, 0, 1), (1, 2, 0):
         octets = pcap([(n, parts[at]) for n, at in enumerate(order)])
-        check(packets_in(octets)[0] == packets_in(pcap([(0, whole[0])]))[0], f"fragments in the order {order} aren't joined")
+        check(
+            packets_in(octets)[0] == packets_in(pcap([(0, whole[0])]))[0],
+            f"fragments in the order {order} aren't joined",
+        )
     print(f"{count} forms of a capture are read alike, and fragments in each order")
 
 
@@ -106,7 +109,9 @@ def check_bad(packets):
     """What is wrong with a capture is named, and what can be explained is."""
     whole, text = pcap(packets, units=10**9), "\n{}"
     other_link = pcapng(packets[:3], 0).replace(b"\x01\0\0\0\x20\0\0\0\0\0", b"\x01\0\0\0\x20\0\0\0\x7f\0")
-    is_swapped, is_lost = (pcap(some, units=10**9) for some in (swapped(packets, b"undo 9\n"), without_segment(packets, b"mute 202\n")))
+    is_swapped, is_lost = (
+        pcap(some, units=10**9) for some in (swapped(packets, b"undo 9\n"), without_segment(packets, b"mute 202\n"))
+    )
     cases = [
         ("cut in mid-packet", whole[:-30], "the capture ends in the middle of a packet", 0),
         ("of two link types", pcapng(packets) + other_link, "link type 127 (802.11 with radiotap) isn't read", 0),
@@ -148,7 +153,8 @@ def check_two(packets):
 
 
 def check_middle():
-    """A capture that begins in mid-call is explained from a `show` on, or with the desk's rows; without them it is named."""
+    """A capture that begins in mid-call is explained from a `show` on, or with the desk's rows; without them it is
+    named."""
     call = Made(80, shows=40)
     middle = [(moment, packet) for moment, packet in call.packets if moment >= call.packets[0][0] + 790_000_000]
     said, found, it = told(pcap(middle, units=10**9))
@@ -157,7 +163,10 @@ def check_middle():
     check(found <= 12 and it.run.cursor.equal > 80, f"in mid-call {found} media packets differ, {kinds}\n{said}")
     datagrams = pcap([(moment, packet) for moment, packet in middle if packet[9] == 17], units=10**9)
     said, _, it = told(datagrams)
-    check(it.run is None and "the desk isn't in it" in said and f"{OTHER}" in said, f"without the desk it is told:\n{said}")
+    check(
+        it.run is None and "the desk isn't in it" in said and f"{OTHER}" in said,
+        f"without the desk it is told:\n{said}",
+    )
     rows = rows_in("\n".join(Made(1).bridge.desk.shown(8)))
     said, found, it = told(datagrams, rows=rows)
     check(it.run and it.run.cursor.equal > 20, f"with the desk's rows it is told:\n{said}")

@@ -5,9 +5,9 @@ too long are left out: those that fill the desk's tables and its log, and those 
 program that doesn't answer within the toolchain's time, as on a busy machine, says nothing of its cases: this is
 printed, and is no failure.
 
-Cases by sums are scripts too long to be kept. Each is a line of sums.txt beside this tool, as `tools/bridge make script --sum` prints
-it: the SHA-256 of the output, its octets, and the arguments with which `make script` makes the script. They are tried where there is
-a program, since one without proofs prints too little.
+Cases by sums are scripts too long to be kept. Each is a line of sums.txt beside this tool, as `tools/bridge make script
+--sum` prints it: the SHA-256 of the output, its octets, and the arguments with which `make script` makes the script.
+They are tried where there is a program, since one without proofs prints too little.
 
 The program of x_cases_front is one that `rt ci` built. It runs the same cases on bridges of 1, 2, 4 and 16 lanes and
 has to print the same each time. Where it is named, its cases alone are tried.
@@ -69,7 +69,9 @@ def said_on_lanes(program, lanes):
     """What x_cases_front prints where bridges have so many lanes."""
     with (CRATES / "x_cases_front" / "stdin").open() as cases:
         try:
-            run = subprocess.run([program, str(lanes)], stdin=cases, capture_output=True, text=True, timeout=SECONDS, check=False)
+            run = subprocess.run(
+                [program, str(lanes)], stdin=cases, capture_output=True, text=True, timeout=SECONDS, check=False
+            )
         except subprocess.TimeoutExpired:
             return f"no answer in {SECONDS} s\n"
     return run.stdout + run.stderr
@@ -106,7 +108,10 @@ def has_its_sum(program, case):
     lines = replay(script.lines_of(parser.parse_args(words)), program)
     printed = "".join(f"{line}\n" for line in lines).encode()
     got = hashlib.sha256(printed).hexdigest()
-    print(f"make script {' '.join(words)}: {'its sum' if got == wanted else f'{got} {len(printed)}, wanted {wanted} {size}'}")
+    print(
+        f"make script {' '.join(words)}: "
+        f"{'its sum' if got == wanted else f'{got} {len(printed)}, wanted {wanted} {size}'}"
+    )
     return got == wanted
 
 

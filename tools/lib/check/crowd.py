@@ -8,10 +8,11 @@ CROWD is one of
   half      connections that close in mid-line, one after another
   busy      15 connections that call as fast as they can: each has up to 128 calls that aren't answered yet
 
-Beside each crowd two members talk with each other. Beside `unread` the honest operator asks for the rows, too; how long that takes is
-told, and not judged. Behind the crowd the honest operator's calls and the others' accepted calls have the numbers from 1 to the desk's
-version, each once, and as many calls are accepted of all operators as the bridge says at its end. The packets that each member heard
-have no gap, and no item was dropped for a lane. The status is 0 where all is so.
+Beside each crowd two members talk with each other. Beside `unread` the honest operator asks for the rows, too; how long
+that takes is told, and not judged. Behind the crowd the honest operator's calls and the others' accepted calls have the
+numbers from 1 to the desk's version, each once, and as many calls are accepted of all operators as the bridge says at
+its end. The packets that each member heard have no gap, and no item was dropped for a lane. The status is 0 where all
+is so.
 """
 
 import contextlib
@@ -33,7 +34,8 @@ NEEDS = "the program, a minute"
 
 SEATS = 16
 ALLOWED = 0.05
-# How many calls the busy send at a time, and how often. The log has 1,048,576 calls, of which the honest operator needs some.
+# How many calls the busy send at a time, and how often. The log has 1,048,576 calls, of which the honest operator needs
+# some.
 BATCH = 64
 BATCHES = 15_000
 
@@ -46,7 +48,8 @@ def options(parser):
 
 
 class Crowd:
-    """The connections of a crowd to a bridge, until a moment. Another process has them, so that this one has time for the honest operator."""
+    """The connections of a crowd to a bridge, until a moment. Another process has them, so that this one has time for
+    the honest operator."""
 
     def __init__(self, name, port, seconds):
         self.port = port
@@ -217,7 +220,8 @@ def told_of(name, took, rows, accepted, crowd, heard, sent):
     is_whole = numbers == list(range(1, len(numbers) + 1))
     late = took[int(len(took) * 0.99)]
     told = [
-        f"{name}: {len(took)} lines of the honest operator, answered within {late * 1e3:.1f} ms (99th percentile), {took[-1] * 1e3:.1f} ms (all)",
+        f"{name}: {len(took)} lines of the honest operator, answered within {late * 1e3:.1f} ms (99th percentile), "
+        f"{took[-1] * 1e3:.1f} ms (all)",
         *[f"the rows {len(rows)} times, within {rows[-1] * 1e3:.1f} ms" for _ in rows[:1]],
         f"{len(crowd.accepted)} calls of the crowd",
         "each number once" if is_whole else "NUMBERS LOST",
@@ -238,7 +242,10 @@ def ended(name, bridge, count):
         return False
     calls, dropped = said_at_the_end(bridge.stderr.read())
     if sum(calls.values()) != count or dropped:
-        print(f"{name}: {count} calls were told as accepted, and the bridge says {calls}; dropped items of lanes: {dropped}")
+        print(
+            f"{name}: {count} calls were told as accepted, and the bridge says {calls}; dropped items of lanes: "
+            f"{dropped}"
+        )
         return False
     return True
 

@@ -1,9 +1,9 @@
 """Compares random desk calls with a model of the desk.
 
-Each call is drawn from few numbers, so that rows meet, cascades are deep and every refusal comes. About one call in four is
-an undo or a redo. The whole desk is shown after each call. A program built without proofs prints no more than some 100 calls
-take. With --groups one call in three is a group of 1 to 65 commands, mostly 2 to 5: most are accepted, some are refused at a
-part, and some undo what they do.
+Each call is drawn from few numbers, so that rows meet, cascades are deep and every refusal comes. About one call in
+four is an undo or a redo. The whole desk is shown after each call. A program built without proofs prints no more than
+some 100 calls take. With --groups one call in three is a group of 1 to 65 commands, mostly 2 to 5: most are accepted,
+some are refused at a part, and some undo what they do.
 
 With --cases nothing is compared. The calls are printed with the model's answers, in the form of x_cases_scripts.
 """
@@ -22,7 +22,9 @@ def options(parser):
     parser.add_argument("--calls", type=int, default=10_000, help="how many calls (%(default)s)")
     parser.add_argument("--seed", type=int, default=1, help="what the random numbers begin with (%(default)s)")
     parser.add_argument("--groups", action="store_true", help="draw groups too")
-    parser.add_argument("--cases", type=int, default=0, metavar="SHOWN", help="print cases, with the whole desk after every SHOWN calls")
+    parser.add_argument(
+        "--cases", type=int, default=0, metavar="SHOWN", help="print cases, with the whole desk after every SHOWN calls"
+    )
     add_program_or_build(parser)
 
 
@@ -68,7 +70,9 @@ def removals(room, member, source, slot):
 
 def draw(r, version):
     """A call, of few numbers."""
-    room, member, video, audio, slot = r.randrange(1, 5), r.randrange(10, 20), r.randrange(100, 112), r.randrange(200, 212), r.randrange(300, 316)
+    room, member, video, audio, slot = r.randrange(1, 5), r.randrange(10, 20), r.randrange(100, 112), r.randrange(
+        200, 212
+    ), r.randrange(300, 316)
     source, adding = additions(r, room, member, video, audio, slot)
     last = r.choice([version] * 9 + [max(0, version - 1)])
     kind = r.random()
@@ -118,11 +122,17 @@ def draw_group(r, desk):
         return "group " + " / ".join(parts + [f"{OPPOSITES[words[0]]} {words[1]}" for words in back])
     count = r.randrange(2, 6) if kind < 0.9 else r.choice([1, r.randrange(6, 65), 64, 65])
     any_at = r.randrange(count) if r.random() < 0.5 else count
-    return "group " + " / ".join(draw_command(r) if at == any_at else draw_part(lambda: draw_command(r), desk) for at in range(count))
+    return (
+        "group "
+        + " / ".join(
+            draw_command(r) if at == any_at else draw_part(lambda: draw_command(r), desk) for at in range(count)
+        )
+    )
 
 
 def group_with(r, desk, words, drawn):
-    """A group of commands that are accepted one after another, at times with the given one behind them. An undo, a redo or a group stays alone."""
+    """A group of commands that are accepted one after another, at times with the given one behind them. An undo, a redo
+    or a group stays alone."""
     if words.split(" ")[0] in ("undo", "redo", "group"):
         return words
     later = copy.deepcopy(desk)

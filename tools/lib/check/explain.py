@@ -1,9 +1,10 @@
 """Explains a call that it holds over sockets: no media packet on the wire may differ from the models'.
 
-Two members send sound and one of them video, with packets lost, overtaken and doubled. The second one asks again for packets and for
-pictures. Wrong senders send beside them. An operator mutes, gives groups, removes a slot and undoes. The call is captured by a packet
-socket, and explained: each media packet is the model's, octet by octet, the program answers the script as the models do, and each
-wrong sender is named. From its middle on the capture is explained by a `show`. Where this process may not capture, it is skipped.
+Two members send sound and one of them video, with packets lost, overtaken and doubled. The second one asks again for
+packets and for pictures. Wrong senders send beside them. An operator mutes, gives groups, removes a slot and undoes.
+The call is captured by a packet socket, and explained: each media packet is the model's, octet by octet, the program
+answers the script as the models do, and each wrong sender is named. From its middle on the capture is explained by a
+`show`. Where this process may not capture, it is skipped.
 """
 
 import io
@@ -31,8 +32,10 @@ NEEDS = "the program, leave to capture on `lo`"
 EACH = 0.02
 # What the operator says, by the second at which it does. A `V` is the number of the last call.
 CALLS = {
-    1.5: "mute 202", 2: "undo V", 2.5: "group set-gain 10 202 128 / mute 101", 3: "undo V", 3.5: "remove-slot 501", 3.7: "undo V",
-    4: "show", 4.4: "unsubscribe 501", 4.6: "undo V", 4.8: "redo V", 5: "subscribe 501 101", 5.5: "remove-member 11", 5.7: "undo V",
+    1.5: "mute 202", 2: "undo V", 2.5: "group set-gain 10 202 128 / mute 101", 3: "undo V", 3.5: "remove-slot 501",
+    3.7: "undo V",
+    4: "show", 4.4: "unsubscribe 501", 4.6: "undo V", 4.8: "redo V", 5: "subscribe 501 101", 5.5: "remove-member 11",
+    5.7: "undo V",
 }  # fmt: skip
 # The capture is cut at the `show`, and explained from there on.
 MIDDLE = 4
@@ -42,7 +45,9 @@ ALL = (0, float("inf"))
 def options(parser):
     parser.add_argument("--seconds", type=float, default=7, help="how long the call lasts (%(default)s)")
     parser.add_argument("--lanes", type=int, default=1, help="how many lanes the bridge has (%(default)s)")
-    parser.add_argument("--tries", type=int, default=3, help="how many calls are tried where the machine is busy (%(default)s)")
+    parser.add_argument(
+        "--tries", type=int, default=3, help="how many calls are tried where the machine is busy (%(default)s)"
+    )
     parser.add_argument("--seed", type=int, default=1, help="what is lost and overtaken (%(default)s)")
     parser.add_argument("--keep", metavar="FILE", help="leave the capture there")
     add_program(parser)
@@ -100,7 +105,9 @@ class Call:
     def setup(self):
         yield from ("add-room 1", f"add-member 10 1 {self.one.address()} pcmu 9001 0 0")
         yield from (f"add-member 11 1 {self.other.address()} l16 9002 65530 4294967000", "add-source 201 10 audio")
-        yield from ("add-source 202 11 audio", "add-source 101 10 video", "add-slot 501 11 0 65500 1000", "subscribe 501 101")
+        yield from (
+            "add-source 202 11 audio", "add-source 101 10 video", "add-slot 501 11 0 65500 1000", "subscribe 501 101"
+        )
 
     def say(self, line):
         """Says a line, and counts the call."""
@@ -167,12 +174,16 @@ def told(octets):
 
 
 def check_whole(octets, call, program):
-    """The whole call has no difference, and names the wrong senders. Returns what is explained, or None where media differ."""
+    """The whole call has no difference, and names the wrong senders. Returns what is explained, or None where media
+    differ."""
     it, text = told(octets)
     if it.run.cursor.found or not it.run.cursor.equal:
         slowest = max(one.until - one.moment for one in it.calls) / 1e6
         found = len(it.run.cursor.found)
-        print(f"{found} media packets differ, in a call whose slowest answer took {slowest:.0f} ms\n{text}", file=sys.stderr)
+        print(
+            f"{found} media packets differ, in a call whose slowest answer took {slowest:.0f} ms\n{text}",
+            file=sys.stderr,
+        )
         return None
     for sentence in [
         f"{call.stranger.address()} sends SSRC 77 as type 0 (PCMU): ",
@@ -192,11 +203,16 @@ def check_parts(octets, it):
     _, text = told(octets[:-10])
     check("the capture ends in the middle of a packet" in text, f"a capture that is cut isn't named\n{text}")
     begin, at = it.wire.begin + int(MIDDLE * 0.95e9), 24
-    while int.from_bytes(octets[at : at + 4], "little") * 10**9 + int.from_bytes(octets[at + 4 : at + 8], "little") < begin:
+    while int.from_bytes(octets[at : at + 4], "little") * 10**9 + int.from_bytes(
+        octets[at + 4 : at + 8], "little"
+    ) < begin:
         at += 16 + int.from_bytes(octets[at + 8 : at + 12], "little")
     middle, text = told(octets[:24] + octets[at:])
     equal, total = middle.run.cursor.equal, sum(map(len, middle.streams.firsts.values()))
-    check("begins in mid-call" in text and equal > 0.8 * total, f"in mid-call {equal} of {total} media packets are the models'\n{text}")
+    check(
+        "begins in mid-call" in text and equal > 0.8 * total,
+        f"in mid-call {equal} of {total} media packets are the models'\n{text}",
+    )
     print(f"from its middle on {equal} of {total} media packets are the models'")
 
 

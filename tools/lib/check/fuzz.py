@@ -1,14 +1,15 @@
 """Compares what the bridge says of mutated input with readers of its own.
 
 INPUT is one of
-  datagrams   RTP packets and RTCP compounds, by `rx` lines of `replay`, with waits between them: whether each is read, or its first fault
-  fields      these, by the program of crates/x_cases_codecs: each field that is read, and what compounds are written as
-  lines       operators' lines, over a connection to a served bridge
+  datagrams RTP packets and RTCP compounds, by `rx` lines of `replay`, with waits between them: whether each is read, or
+  its first fault fields these, by the program of crates/x_cases_codecs: each field that is read, and what compounds are
+  written as lines       operators' lines, over a connection to a served bridge
   scripts     lines of scripts, besides frames, each by a `replay` of its own: some hundred a second
   settings    TOML texts, by the program of crates/x_cases_front
 
-Each input is a case of the repository that is changed at one to four places, or joined with another. The readers are plain: those
-of tools/lib/models, and Python's `tomllib`. The first differences are printed. The status is 0 where there is none.
+Each input is a case of the repository that is changed at one to four places, or joined with another. The readers are
+plain: those of tools/lib/models, and Python's `tomllib`. The first differences are printed. The status is 0 where there
+is none.
 """
 
 import concurrent.futures
@@ -110,7 +111,11 @@ def fields(draw, count, program):
             *said, last = run.stdout.splitlines() or [""]
             if run.returncode or not last.startswith(f"{len(data)} cases, "):
                 fail(f"status {run.returncode} after {len(data)} cases, and last {last!r}; the first: {data[0].hex()}")
-            got = {int(at): text for text in "\n".join(said).split(f"{cases.name}:") for at in re.findall(r"^([0-9]+): ", text)}
+            got = {
+                int(at): text
+                for text in "\n".join(said).split(f"{cases.name}:")
+                for at in re.findall(r"^([0-9]+): ", text)
+            }
             yield [it.hex() for it in data], wanted, [got.get(at, says) for at, says in enumerate(wanted, 1)]
 
 
@@ -172,7 +177,9 @@ def said_of_script(program, line):
 def scripts(draw, count, program):
     texts = [it.removeprefix("-- ") for it in (CRATES / "x_cases_scripts" / "stdin").read_text().splitlines()]
     words = ("desk ", "rx ", "wait ", "tick ", "report ", "show", "#")
-    corpus = list({it.encode() for it in texts if it.startswith(words) and len(it) < 200 and it.isascii() and "{" not in it})
+    corpus = list(
+        {it.encode() for it in texts if it.startswith(words) and len(it) < 200 and it.isascii() and "{" not in it}
+    )
     corpus += len(corpus) // 6 * [
         b"wait 18446744073709551615 255.255.255.255:65535 4294967295", b"wait 0 10.0.0.1:5000 101",
         b"bridge 4294967295 " + 255 * b"c" + b" renew", b"bridge 0 a", b"bridge 7 conf renew",
@@ -185,7 +192,9 @@ def scripts(draw, count, program):
                 return found
 
     for data in batches(count, line, 500):
-        yield [repr(it) for it in data], [fault_of_script_line(it) for it in data], [said_of_script(program, it) for it in data]
+        yield [repr(it) for it in data], [fault_of_script_line(it) for it in data], [
+            said_of_script(program, it) for it in data
+        ]
 
 
 # Settings
@@ -193,14 +202,19 @@ def scripts(draw, count, program):
 ADDRESSES = 'udp = "127.0.0.1:5004"\ntcp = "127.0.0.1:7000"\n'
 # Forms of TOML that no case has.
 FORMS = [
-    "lanes = 0x1_0", "lanes = +2", "lanes = 0b10", "operators = 0o17", "operators = 1_6", "report_ms = 1_000", "lanes = 1e1", "lanes = -inf", "lanes = nan",
-    "cname = 'a b'", 'cname = """\na\\\n  b"""', "cname = '''\na'b'''", 'cname = "\\u0061\\U00000062\\t"', '"cname" = "a"', "'lanes' = 2",
-    "lanes = true", "lanes = [1, 2,]", "lanes = { a = 1 }", "more.lanes = 1", "[more]\nlanes = 1", "[[more]]\n[[more]]", "[a.b]\n[a]", "\tlanes\t=\t2 # two",
+    "lanes = 0x1_0", "lanes = +2", "lanes = 0b10", "operators = 0o17", "operators = 1_6", "report_ms = 1_000",
+    "lanes = 1e1", "lanes = -inf", "lanes = nan",
+    "cname = 'a b'", 'cname = """\na\\\n  b"""', "cname = '''\na'b'''", 'cname = "\\u0061\\U00000062\\t"',
+    '"cname" = "a"', "'lanes' = 2",
+    "lanes = true", "lanes = [1, 2,]", "lanes = { a = 1 }", "more.lanes = 1", "[more]\nlanes = 1", "[[more]]\n[[more]]",
+    "[a.b]\n[a]", "\tlanes\t=\t2 # two",
 ]  # fmt: skip
-# What is not judged: what a float past all floats is, TOML doesn't say. tomllib reads TOML 1.0, and some escapes, times without seconds,
-# and line ends and last commas in inline tables are of 1.1. Python alone takes some other characters for line ends.
+# What is not judged: what a float past all floats is, TOML doesn't say. tomllib reads TOML 1.0, and some escapes, times
+# without seconds, and line ends and last commas in inline tables are of 1.1. Python alone takes some other characters
+# for line ends.
 NOT_JUDGED = re.compile(
-    r" > |[\x85\u2028\u2029\x0b\x0c\x1c-\x1e]|[eE][+]?[0-9_]{3}|\\[ex]|\{(?:(?s:.*)\n(?s:.*)\}|[^}]*,\s*\})|(?<![0-9:+.-])[0-9]{2}:[0-9]{2}(?![0-9:])"
+    r" > |[\x85\u2028\u2029\x0b\x0c\x1c-\x1e]|[eE][+]?[0-9_]{3}|\\[ex]|\{(?:(?s:.*)\n(?s:.*)\}|[^}]*,\s*\})"
+    r"|(?<![0-9:+.-])[0-9]{2}:[0-9]{2}(?![0-9:])"
 )
 
 
@@ -268,8 +282,12 @@ def run(args):
     program = release_program(args.binary, PROGRAMS.get(args.input, "confbridge"))
     counts = [args.count // args.jobs + (job < args.count % args.jobs) for job in range(args.jobs)]
     with concurrent.futures.ProcessPoolExecutor(args.jobs) as pool:
-        parts = [pool.submit(tried, args.input, f"{args.seed} {job}", count, program) for job, count in enumerate(counts)]
+        parts = [
+            pool.submit(tried, args.input, f"{args.seed} {job}", count, program) for job, count in enumerate(counts)
+        ]
         results = [part.result() for part in parts]
     differ = sum(found for _, found in results)
-    print(*[line for told, _ in results for line in told][:MOST_SHOWN], f"{args.count} inputs, {differ} differ", sep="\n")
+    print(
+        *[line for told, _ in results for line in told][:MOST_SHOWN], f"{args.count} inputs, {differ} differ", sep="\n"
+    )
     return 1 if differ else 0

@@ -203,7 +203,8 @@ class Call(Refusals):
 
 
 BEFORE = [
-    "try_bad_answers", "try_two_with_one_ssrc", "try_phones_with_one_ssrc", "try_full_and_busy", "try_without_rtpengine",
+    "try_bad_answers", "try_two_with_one_ssrc", "try_phones_with_one_ssrc", "try_full_and_busy",
+    "try_without_rtpengine",
 ]  # fmt: skip
 STEPS = ["step_mutes", "step_pins", "step_floor", "step_removals", "step_history", "step_losses", "step_deaths"]
 

@@ -1,11 +1,12 @@
 """Runs a bridge under limits on its memory, while operators fill a desk, with and without members who send.
 
-Sixteen operators add members and gains, and 64 members send sound. Under each limit the bridge refuses calls by 13 OutOfMemory,
-closes a connection, or ends with status 2; it never ends by a signal. While it runs, `show` shows just the rows that the accepted
-calls lead to: rooms, members in their order, sources and gains. A call whose answer never came, since its connection was closed,
-may be carried out or not. Where a connection was closed, another operator is still answered. Under a limit at which the bridge
-doesn't start it ends with status 2, or with 3 where a thread can't be started. There are limits at which it runs without memory for an
-operator's thread. A line is printed for each limit, and last a table of how the limits ended.
+Sixteen operators add members and gains, and 64 members send sound. Under each limit the bridge refuses calls by 13
+OutOfMemory, closes a connection, or ends with status 2; it never ends by a signal. While it runs, `show` shows just the
+rows that the accepted calls lead to: rooms, members in their order, sources and gains. A call whose answer never came,
+since its connection was closed, may be carried out or not. Where a connection was closed, another operator is still
+answered. Under a limit at which the bridge doesn't start it ends with status 2, or with 3 where a thread can't be
+started. There are limits at which it runs without memory for an operator's thread. A line is printed for each limit,
+and last a table of how the limits ended.
 """
 
 import contextlib
@@ -36,7 +37,9 @@ def options(parser):
     parser.add_argument("--least", type=int, default=8, help="the first limit, in MiB (%(default)s)")
     parser.add_argument("--most", type=int, default=320, help="the last limit, in MiB (%(default)s)")
     parser.add_argument("--lanes", type=int, default=2, help="how many lanes the bridge has (%(default)s)")
-    parser.add_argument("--members", choices=["send", "silent", "both"], default="both", help="whether members send (%(default)s)")
+    parser.add_argument(
+        "--members", choices=["send", "silent", "both"], default="both", help="whether members send (%(default)s)"
+    )
     add_program(parser)
 
 
@@ -104,7 +107,10 @@ def compare(mib, shown, fillers):
     got = without_places(shown)
     if set(wanted) - set(got) or set(got) - set(wanted) - may:
         lost, more = set(wanted) - set(got), set(got) - set(wanted) - may
-        fail(f"{mib} MiB: `show` lacks {len(lost)} rows that are accepted, as {sorted(lost)[:3]}, and has {len(more)} more, as {sorted(more)[:3]}")
+        fail(
+            f"{mib} MiB: `show` lacks {len(lost)} rows that are accepted, as {sorted(lost)[:3]}, and has {len(more)} "
+            f"more, as {sorted(more)[:3]}"
+        )
     members = lambda rows: [row for row in rows if row.startswith("member ") and row not in may]
     if members(got) != members(wanted):
         fail(f"{mib} MiB: `show` has the members in another order than they were accepted")
@@ -127,7 +133,9 @@ class Bridge:
     def __init__(self, program, folder, mib, lanes):
         words = [program, "serve", settings(folder, operators=SEATS, lanes=lanes)]
         self.mib, self.tcp = mib, None
-        self.process = subprocess.Popen(words, stdin=subprocess.DEVNULL, stderr=subprocess.PIPE, text=True, preexec_fn=limited(mib))
+        self.process = subprocess.Popen(
+            words, stdin=subprocess.DEVNULL, stderr=subprocess.PIPE, text=True, preexec_fn=limited(mib)
+        )
         listens = LISTENS.fullmatch(self.process.stderr.readline())
         if listens:
             self.udp, self.tcp = int(listens[1]), int(listens[2])
@@ -236,7 +244,9 @@ def outcome(bridge, fillers):
     status = bridge.stop(fillers)
     if status:
         return f"it ends with status {status}", counts
-    kinds = [text for count, text in ((refused, "calls are refused by 13"), (closed, "connections are closed")) if count]
+    kinds = [
+        text for count, text in ((refused, "calls are refused by 13"), (closed, "connections are closed")) if count
+    ]
     return " and ".join(kinds) or "nothing is refused", counts + ("" if rows is not None else "; `show` had no memory")
 
 

@@ -1,9 +1,10 @@
 """Compares what members hear with a model of the mixer.
 
-Members of three rooms, one of them for music, send audio in both codecs that is reordered, lost, doubled, and jumps in time. Some of
-it comes late, or while much sound waits, for so long that its buffer may begin anew, or nearly so long. Most scripts begin with a line
-that has buffers begin anew by that. Ticks and waits come in between, and operators mute, set gains, move, remove and undo, with
---groups mostly in groups. A member that is removed comes back in any of the rooms, also at another clock rate.
+Members of three rooms, one of them for music, send audio in both codecs that is reordered, lost, doubled, and jumps in
+time. Some of it comes late, or while much sound waits, for so long that its buffer may begin anew, or nearly so long.
+Most scripts begin with a line that has buffers begin anew by that. Ticks and waits come in between, and operators mute,
+set gains, move, remove and undo, with --groups mostly in groups. A member that is removed comes back in any of the
+rooms, also at another clock rate.
 
 With --cases nothing is compared. The lines are printed with the model's answers, in the form of x_cases_scripts.
 """
@@ -25,7 +26,8 @@ ROOMS = [1, 1, 1, 1, 1, 2, 2, 3, 3, 3]
 SETUP = (
     ["desk 0 add-room 1", "desk 0 add-room 2", "desk 0 add-room 3 44100"]
     + [
-        f"desk 0 add-member {10 + n} {ROOMS[n]} {a} {'l16' if n % 2 or n > 6 else 'pcmu'} {9001 + n} {(0, 65530, 7)[n % 3]} {(0, 4294960000)[n % 2]}"
+        f"desk 0 add-member {10 + n} {ROOMS[n]} {a} {'l16' if n % 2 or n > 6 else 'pcmu'} {9001 + n} "
+        f"{(0, 65530, 7)[n % 3]} {(0, 4294960000)[n % 2]}"
         for n, a in enumerate(ADDRESSES)
     ]
     + [f"desk 0 add-source {201 + n} {10 + n} audio" for n in range(len(ADDRESSES))]
@@ -46,7 +48,9 @@ class Voice:
 
     def __init__(self, r, address, ssrc):
         self.r, self.address, self.ssrc = r, address, ssrc
-        self.seq, self.ts, self.way = r.choice([0, 65500, r.randrange(65536)]), r.choice([0, 2**32 - 900, r.randrange(2**32)]), []
+        self.seq, self.ts, self.way = r.choice([0, 65500, r.randrange(65536)]), r.choice(
+            [0, 2**32 - 900, r.randrange(2**32)]
+        ), []
 
     def more(self, rate):
         """Sends a packet on its way, which in most cases is audio in a room of this clock rate."""
@@ -60,7 +64,9 @@ class Voice:
         self.way.append(rtp(self.seq, self.ts, self.ssrc, payload, pt=pt))
         self.seq, self.ts = self.seq + 1, self.ts + count
         if r.random() < 0.02:
-            self.ts += r.choice([rate // 10, rate, rate - 3 * tick, rate - 3 * tick + 1, 2**31, -(rate // 20), -9 * rate // 8])
+            self.ts += r.choice(
+                [rate // 10, rate, rate - 3 * tick, rate - 3 * tick + 1, 2**31, -(rate // 20), -9 * rate // 8]
+            )
 
     def sound(self, rate, count):
         """A payload type, and a payload of so many samples at a clock rate."""
@@ -80,7 +86,8 @@ class Voice:
         return octets
 
     def late(self, playout):
-        """A packet that is late, in whole or in part. Some are just as late as begins the buffer anew, or a sample less."""
+        """A packet that is late, in whole or in part. Some are just as late as begins the buffer anew, or a sample
+        less."""
         r, tick = self.r, playout.tick
         left = WEIGHT * playout.samples_in(LATE) - playout.late
         late = -(-left // WEIGHT)
@@ -93,7 +100,8 @@ class Voice:
         return self.aimed(playout, -late, count)
 
     def full(self, playout):
-        """A packet that comes while about as much waits as may for some time. Some are just as long as begins the buffer anew."""
+        """A packet that comes while about as much waits as may for some time. Some are just as long as begins the
+        buffer anew."""
         r, most = self.r, min(10 * playout.tick, MOST_L16)
         far = playout.samples_in(DEEP) + r.choice([1, 1, 2, playout.tick, 0 if r.random() < 0.03 else 1])
         left = playout.samples_in(FULL) - playout.full
@@ -111,20 +119,29 @@ class Voice:
 def addition(r, n):
     """The command that adds a member again, to any room."""
     codec, out_audio = r.choice(["l16", "l16", "pcmu"]), 9001 + n
-    return f"add-member {10 + n} {r.choice([1, 1, 2, 3, 3])} {ADDRESSES[n]} {codec} {out_audio} {r.randrange(65536)} {r.randrange(2**32)}"
+    return (
+        f"add-member {10 + n} {r.choice([1, 1, 2, 3, 3])} {ADDRESSES[n]} {codec} {out_audio} {r.randrange(65536)} "
+        f"{r.randrange(2**32)}"
+    )
 
 
 def draw_words(r, version):
     """The words of an operator's call."""
-    n, member, source = r.randrange(len(ADDRESSES)), 10 + r.randrange(len(ADDRESSES)), r.choice([*range(201, 201 + len(ADDRESSES)), 301])
+    n, member, source = r.randrange(len(ADDRESSES)), 10 + r.randrange(len(ADDRESSES)), r.choice(
+        [*range(201, 201 + len(ADDRESSES)), 301]
+    )
     # The member and its source change the room, which may have another clock rate.
     change = f"group remove-member {10 + n} / {addition(r, n)} / add-source {201 + n} {10 + n} audio"
     return r.choice([
-        f"mute {source}", f"unmute {source}", f"unmute {source}", f"set-gain {member} {source} {r.choice([0, 1, 128, 255, 256, 257, 1024])}",
-        f"set-gain {member} {source} 256", f"move-member {member} {r.choice([1, 1, 2, 3])}", change, change, change, addition(r, n),
-        f"remove-member {member}" if r.random() < 0.3 else f"mute {source}", f"remove-source {source}" if r.random() < 0.3 else f"unmute {source}",
+        f"mute {source}", f"unmute {source}", f"unmute {source}",
+        f"set-gain {member} {source} {r.choice([0, 1, 128, 255, 256, 257, 1024])}",
+        f"set-gain {member} {source} 256", f"move-member {member} {r.choice([1, 1, 2, 3])}", change, change, change,
+        addition(r, n),
+        f"remove-member {member}" if r.random() < 0.3 else f"mute {source}",
+        f"remove-source {source}" if r.random() < 0.3 else f"unmute {source}",
         f"add-room 3{r.choice(['', ' 44100', ' 44100'])}", "remove-room 3" if r.random() < 0.1 else change,
-        f"add-source {201 + n} {10 + n} audio", f"add-source {201 + n} {10 + n} audio", f"undo {version}", f"undo {version}", f"redo {version}",
+        f"add-source {201 + n} {10 + n} audio", f"add-source {201 + n} {10 + n} audio", f"undo {version}",
+        f"undo {version}", f"redo {version}",
     ])  # fmt: skip
 
 
@@ -189,7 +206,11 @@ def draw_script(r, count, groups):
         moment += r.randrange(20_000_000)
         burst = burst or (Burst(r, voices) if r.random() < 0.02 else None)
         octets = burst.next(bridge) if burst and r.random() < 0.97 else None
-        line = f"rx {moment} {burst.voice.address} {octets.hex()}" if octets else draw_line(r, bridge, voices, moment, groups)
+        line = (
+            f"rx {moment} {burst.voice.address} {octets.hex()}"
+            if octets
+            else draw_line(r, bridge, voices, moment, groups)
+        )
         burst = burst if burst and burst.left else None
         script.append((line, bridge.answer(line)))
     return script, bridge.seen

@@ -1,13 +1,15 @@
 """Has operators call at once while media flows, replays the list of their calls, and stops a bridge in mid-work.
 
-Two, four and sixteen operators make random calls, undos and redos among them. Behind it the accepted calls have the numbers from 1 to the desk's
-version, each once. The bridge says how many calls of each operator it accepted, and these are the calls that it told that
-operator. The list is then replayed in the order of its numbers, each call by its operator: each line is accepted with the same
-number, and the rows are those that `show` showed. Meanwhile two members send audio, and each hears packets without a gap.
+Two, four and sixteen operators make random calls, undos and redos among them. Behind it the accepted calls have the
+numbers from 1 to the desk's version, each once. The bridge says how many calls of each operator it accepted, and these
+are the calls that it told that operator. The list is then replayed in the order of its numbers, each call by its
+operator: each line is accepted with the same number, and the rows are those that `show` showed. Meanwhile two members
+send audio, and each hears packets without a gap.
 
-Last, one of sixteen operators stops a bridge with a full desk. Another leaves `show` unread, one has sent half a line, and the
-others go on calling. The bridge has to end with status 0 within four seconds of the line `stop`: what waits to be written is given a
-second. It says how many calls of each operator it accepted: all that were told to that operator, and at most the one whose answer was lost.
+Last, one of sixteen operators stops a bridge with a full desk. Another leaves `show` unread, one has sent half a line,
+and the others go on calling. The bridge has to end with status 0 within four seconds of the line `stop`: what waits to
+be written is given a second. It says how many calls of each operator it accepted: all that were told to that operator,
+and at most the one whose answer was lost.
 """
 
 import contextlib
@@ -27,8 +29,8 @@ from lib.shared import add_program, fail, release_program
 NEEDS = "the program, half a minute"
 
 SEATS = 16
-# How many seconds a bridge may take to end. Answers that nobody reads are given up after one; a busy machine has the others. They are
-# fewer than the five of a connection that is left by `quit`.
+# How many seconds a bridge may take to end. Answers that nobody reads are given up after one; a busy machine has the
+# others. They are fewer than the five of a connection that is left by `quit`.
 ALLOWED = 4
 # How many seconds an answer may take.
 PATIENCE = 60
@@ -87,8 +89,12 @@ class Caller(threading.Thread):
         self.odd = []
 
     def next_call(self, last):
-        """A random call that takes back no more than this operator did, so that what was there at the beginning stays."""
-        return next(call for call in iter(lambda: call_of(self.random, last), None) if self.done > 0 or not call.startswith("undo "))
+        """A random call that takes back no more than this operator did, so that what was there at the beginning
+        stays."""
+        return next(
+            call
+            for call in iter(lambda: call_of(self.random, last), None) if self.done > 0 or not call.startswith("undo ")
+        )
 
     def run(self):
         last = 0
@@ -174,7 +180,8 @@ def compare(program, callers, calls, rows, version):
 
 
 class Turning(threading.Thread):
-    """An operator who adds a room and removes it until the connection ends, and how many of these calls were accepted."""
+    """An operator who adds a room and removes it until the connection ends, and how many of these calls were
+    accepted."""
 
     def __init__(self, port, room):
         super().__init__(daemon=True)

@@ -1,13 +1,14 @@
 """Goes through a call at the page, over HTTP, against a bridge that runs.
 
-An operator adds rooms, one of them for music, and members, subscribes, mutes, moves a member, undoes three times and does one
-again. After each line the page's desk is what the bridge's `show` says. A second operator's change is there within half a
-second. Bad requests are refused by name and change nothing. A silent bridge keeps nobody waiting, and a bridge that comes back
-is found again. In node, the page's functions choose the lines of clicks as they should. In chromium, two browsers go through a
-call by clicks, forms and a drag: after each step both draw what `show` says, and the second one within half a second. Sliders, keys,
-names, many members at once, a bridge that is gone, a room of 64 and 64 rooms of 16 are tried by hand. Names are kept in a file, and
-bad ones are told. With --http-only neither node nor chromium is needed, and nothing tries the page's script. With --model no program
-is needed: the page is served over the plain desk of the models.
+An operator adds rooms, one of them for music, and members, subscribes, mutes, moves a member, undoes three times and
+does one again. After each line the page's desk is what the bridge's `show` says. A second operator's change is there
+within half a second. Bad requests are refused by name and change nothing. A silent bridge keeps nobody waiting, and a
+bridge that comes back is found again. In node, the page's functions choose the lines of clicks as they should. In
+chromium, two browsers go through a call by clicks, forms and a drag: after each step both draw what `show` says, and
+the second one within half a second. Sliders, keys, names, many members at once, a bridge that is gone, a room of 64 and
+64 rooms of 16 are tried by hand. Names are kept in a file, and bad ones are told. With --http-only neither node nor
+chromium is needed, and nothing tries the page's script. With --model no program is needed: the page is served over the
+plain desk of the models.
 """
 
 import concurrent.futures
@@ -60,7 +61,9 @@ REFUSED = [
 
 def options(parser):
     add_program_or_build(parser)
-    parser.add_argument("--page", metavar="PROGRAM", help="the page's program (crates/desk_page/out/desk_page if not given)")
+    parser.add_argument(
+        "--page", metavar="PROGRAM", help="the page's program (crates/desk_page/out/desk_page if not given)"
+    )
     parser.add_argument("--browser", default="chromium", metavar="COMMAND", help="the browser (%(default)s)")
     parser.add_argument("--http-only", action="store_true", help="try neither the page's functions nor a browser")
     parser.add_argument("--model", action="store_true", help="serve the page over a plain desk, without a program")
@@ -125,7 +128,10 @@ class Page:
     def load(self):
         status, response, text = self.ask("GET", "/")
         check(status == 200, f"the page's status is {status}")
-        check("default-src 'none'" in (response.getheader("content-security-policy") or ""), "the page has no strict policy")
+        check(
+            "default-src 'none'" in (response.getheader("content-security-policy") or ""),
+            "the page has no strict policy",
+        )
         self.token = MARKUP_TOKEN.search(text.encode())[1].decode()
         for path in "/page.js", "/page.css":
             check(self.ask("GET", path)[0] == 200, f"{path} isn't there")
@@ -165,7 +171,8 @@ def shown(operator):
 
 
 def seated(bridge, port):
-    """An operator of a bridge, once it answers. It listens before all of its memory is there, and frees a seat some time after its operator left."""
+    """An operator of a bridge, once it answers. It listens before all of its memory is there, and frees a seat some
+    time after its operator left."""
     for _ in range(100):
         operator = Operator(connected(bridge, port))
         with contextlib.suppress(ConnectionError):
@@ -204,7 +211,9 @@ def sees_others(page, operator, version):
     while f"end {version + 1}" not in page.desk()[0]:
         check(time.monotonic() < end, "the page doesn't see another operator's change within half a second")
         time.sleep(0.05)
-    check(page.call(f"undo {version}")[1].startswith(f"no {version + 1} 14 "), "an undo of an older version isn't refused")
+    check(
+        page.call(f"undo {version}")[1].startswith(f"no {version + 1} 14 "), "an undo of an older version isn't refused"
+    )
     return version + 1
 
 
@@ -234,7 +243,9 @@ def refuses(page, operator, version):
         (413, "", "POST", "/names", b"names 0\n" + b" " * 262_144, good),
     ]:
         status, _, text = page.ask(method, path, body, fields)
-        check(status == wanted and text.startswith(name), f"{method} {path} {body}: {status} {text}, not {wanted} {name}")
+        check(
+            status == wanted and text.startswith(name), f"{method} {path} {body}: {status} {text}, not {wanted} {name}"
+        )
     refuses_long(page, good)
     check(page.ask("GET", "/")[0] == 200, "behind a body of 1 MiB the page isn't there")
     check(shown(operator)[-1] == f"end {version}", "a bad request has reached the bridge")
@@ -242,7 +253,10 @@ def refuses(page, operator, version):
 
 def refuses_long(page, fields):
     """A body of 1 MiB is refused before it is whole, and what still comes of it is dropped."""
-    lines = [f"{name}: {value}" for name, value in {"Host": f"127.0.0.1:{page.port}", "Content-Length": 1_048_576, **fields}.items()]
+    lines = [
+        f"{name}: {value}"
+        for name, value in {"Host": f"127.0.0.1:{page.port}", "Content-Length": 1_048_576, **fields}.items()
+    ]
     with socket.create_connection(("127.0.0.1", page.port), timeout=20) as one:
         one.sendall("\r\n".join(["POST /call HTTP/1.1", *lines, "", "a" * 4_096]).encode())
         with one.makefile("rb") as answer:
@@ -253,11 +267,14 @@ def refuses_long(page, fields):
 
 
 def keeps_names(page, path):
-    """Names go to the file by a change of those that were seen. What is no names, comes too late or can't be written changes nothing."""
+    """Names go to the file by a change of those that were seen. What is no names, comes too late or can't be written
+    changes nothing."""
     first, _ = page.names()
     text = '{"member 10": "Bob", "room 1": "<script>"}'
     check(page.rename(f"names {first}\n{text}") == (200, f"ok {first + 1}"), "new names are refused")
-    check(page.names() == (first + 1, text) and path.read_text() == text, "new names aren't told, or aren't in the file")
+    check(
+        page.names() == (first + 1, text) and path.read_text() == text, "new names aren't told, or aren't in the file"
+    )
     head = f"names {first + 1}\n"
     longest = '{"a": "' + "n" * 800 + '"}'
     for body, reason in [
@@ -316,14 +333,19 @@ def stands_silence(page, bridge, version):
             waits = pool.submit(page.call, "add-room 8")
             time.sleep(0.2)
             begun = time.monotonic()
-            check(page.ask("GET", "/page.js")[0] == 200 and time.monotonic() - begun < 0.5, "a silent bridge keeps the page waiting")
+            check(
+                page.ask("GET", "/page.js")[0] == 200 and time.monotonic() - begun < 0.5,
+                "a silent bridge keeps the page waiting",
+            )
             status, text = waits.result()
             check(status == 504 and text.startswith("Lost"), f"a call without an answer is told {status} {text}")
     finally:
         signal_all(bridge, signal.SIGCONT)
     time.sleep(0.5)
     rows, calls = page.desk()
-    check(rows.count("room 8") <= 1 and rows[-1] in (f"end {version}", f"end {version + 1}"), "a lost call was sent again")
+    check(
+        rows.count("room 8") <= 1 and rows[-1] in (f"end {version}", f"end {version + 1}"), "a lost call was sent again"
+    )
     check(calls[-2:] == ["call add-room 8", "said lost"], f"the lost call isn't told: {calls[-2:]}")
 
 
@@ -343,7 +365,10 @@ def find_commands(browser):
     """Ends where a command isn't there that runs the page's script."""
     for command, package in ("node", "nodejs"), (browser, "chromium"):
         if not shutil.which(command):
-            fail(f"there is no command `{command}`: install Debian's package {package}, or leave the page's script untried with --http-only")
+            fail(
+                f"there is no command `{command}`: install Debian's package {package}, or leave the page's script "
+                "untried with --http-only"
+            )
 
 
 def try_functions():
@@ -370,7 +395,13 @@ def browse(args, folder, page, operator):
 DESK = [
     *("add-room 1", "add-room 2"),
     *(f"add-member {it} 1 10.8.0.{it}:6000 pcmu {9000 + it} 0 0" for it in (10, 11)),
-    *("add-source 201 10 audio", "add-source 202 11 audio", "add-source 101 10 video", "add-slot 501 11 0 0 0", "give-floor 1 10"),
+    *(
+        "add-source 201 10 audio",
+        "add-source 202 11 audio",
+        "add-source 101 10 video",
+        "add-slot 501 11 0 0 0",
+        "give-floor 1 10",
+    ),
 ]
 
 
@@ -390,7 +421,8 @@ def try_by_hand(args, folder, address, ask, go, come):
 
 
 def standing(rooms, size):
-    """A page over a plain desk with so many rooms of so many members: its port, another operator's call, and a source of a member."""
+    """A page over a plain desk with so many rooms of so many members: its port, another operator's call, and a source
+    of a member."""
     one = standin.Standin()
     standin.fill(one, rooms, size)
     return standin.serve(one).server_port, one.ask, 201_000
@@ -428,7 +460,10 @@ def refuses_bad_names(args, folder):
     bad.write_text('{"member 10":')
     words = ["--listen", "127.0.0.1:0", "--names", str(bad)]
     program = started("desk_page", args.page, words, args.seconds, folder)
-    check(program.wait(timeout=600) == 4 and bad.read_text() == '{"member 10":', "a file without names isn't refused, or not kept")
+    check(
+        program.wait(timeout=600) == 4 and bad.read_text() == '{"member 10":',
+        "a file without names isn't refused, or not kept",
+    )
 
 
 def session(args, folder):
@@ -437,7 +472,10 @@ def session(args, folder):
     udp, tcp, port = free_port(socket.SOCK_DGRAM), free_port(socket.SOCK_STREAM), free_port(socket.SOCK_STREAM)
     words = ["serve", settings(folder, udp, tcp)]
     addresses = ["--bridge", f"127.0.0.1:{tcp}", "--listen", f"127.0.0.1:{port}", "--names", str(names)]
-    programs = [started("confbridge", args.binary, words, args.seconds, folder), started("desk_page", args.page, addresses, args.seconds, folder)]
+    programs = [
+        started("confbridge", args.binary, words, args.seconds, folder),
+        started("desk_page", args.page, addresses, args.seconds, folder),
+    ]
     try:
         page, operator = Page(port), seated(programs[0], tcp)
         connected(programs[1], port).close()
@@ -457,7 +495,9 @@ def session(args, folder):
             operator = seated(programs[-1], tcp)
             browse(args, folder, page, operator)
             clean(operator.ask, lambda: shown(operator))
-            stop = [lambda number=number: signal_all(programs[-1], number) for number in (signal.SIGSTOP, signal.SIGCONT)]
+            stop = [
+                lambda number=number: signal_all(programs[-1], number) for number in (signal.SIGSTOP, signal.SIGCONT)
+            ]
             try_by_hand(args, folder, f"http://127.0.0.1:{page.port}/", operator.ask, *stop)
             operator.tell("quit")
         check(page.call("add-room 9")[1].startswith("ok "), "the page doesn't find the bridge that came back")

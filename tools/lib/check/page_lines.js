@@ -63,7 +63,8 @@ same(page.dropped(desk, { source: 102 }, { slot: 502 }), null);
 same(page.dropped(desk, { source: 102 }, { room: 2 }), null);
 
 const { lines } = page;
-same(lines.addMember({ member: "13", room: "1", address: "10.0.0.1:5000", codec: "pcmu", ssrc: "9004" }), "add-member 13 1 10.0.0.1:5000 pcmu 9004 0 0");
+same(lines.addMember({ member: "13", room: "1", address: "10.0.0.1:5000", codec: "pcmu", ssrc: "9004" }),
+  "add-member 13 1 10.0.0.1:5000 pcmu 9004 0 0");
 same(lines.addSlot({ ssrc: "504", member: "10", index: "1" }), "add-slot 504 10 1 0 0");
 same(lines.addSource({ ssrc: "104", member: "10", kind: "video" }), "add-source 104 10 video");
 same(lines.setGain(11, 201, 512), "set-gain 11 201 512");
@@ -74,7 +75,8 @@ same(page.free(desk, "room", 1), 3);
 same(page.suggested(desk)[0], ["add-room", "room", 3]);
 same(page.videosFor(desk, slot(502)), [101, 103]);
 
-// A music room: its rate is told beside its number, its members have l16 where nothing was chosen, and moves stay at a rate.
+// A music room: its rate is told beside its number, its members have l16 where nothing was chosen, and moves stay at a
+// rate.
 const music = page.parseDesk(text.replace("room 2\n", "room 2 44100\nroom 3 44100\n").replace("pcmu 9003", "l16 9003"));
 same([music.rooms, music.rows.length, music.rows[1]], [[1, 2, 3], 19, "room 2 44100"]);
 same(music.rooms.map((room) => page.isMusic(music, room)), [false, true, true]);
@@ -83,7 +85,8 @@ same(desk.members.map((member) => page.roomsFor(desk, member)), [[2], [2], [1]])
 same(["1", "2", "3"].map((room) => page.codecOf(music, { room, codec: "" })), ["pcmu", "l16", "l16"]);
 same(page.codecOf(music, { room: "2", codec: "pcmu" }), "pcmu");
 same(page.codecOf(music, { room: "1", codec: "l16" }), "l16");
-same([lines.addRoom("4", "44100"), lines.addRoom("5", "8000"), lines.addRoom(6)], ["add-room 4 44100", "add-room 5", "add-room 6"]);
+same([lines.addRoom("4", "44100"), lines.addRoom("5", "8000"), lines.addRoom(6)],
+  ["add-room 4 44100", "add-room 5", "add-room 6"]);
 const player = { member: "13", room: "2", address: "10.0.0.1:5000", codec: "", ssrc: "9004" };
 same(lines.addMember(player, page.codecOf(music, player)), "add-member 13 2 10.0.0.1:5000 l16 9004 0 0");
 
@@ -91,8 +94,11 @@ same(page.inWords("ok 3").good, true);
 same(page.inWords("no 7 14 NewerCommand 9").text.includes("another change came first"), true);
 same(page.inWords("no 6 20 PartRefused 1 2 NoRoom").text.includes("Command 2 of it: there is no such room"), true);
 same(page.inWords("fault 2 6 BadNumber").text.includes("at word 2"), true);
-same(page.inWords("no 4 21 RateMismatch").text, "refused (21 RateMismatch): the room has another rate: a room of 44100 Hz takes l16 alone, and a member moves between rooms of one rate.");
-same(page.inWords("no 4 20 PartRefused 0 21 RateMismatch").text.includes("Command 1 of it: the room has another rate"), true);
+same(page.inWords("no 4 21 RateMismatch").text,
+  "refused (21 RateMismatch): the room has another rate: a room of 44100 Hz takes l16 alone, and a member moves "
+    + "between rooms of one rate.");
+same(page.inWords("no 4 20 PartRefused 0 21 RateMismatch").text.includes("Command 1 of it: the room has another rate"),
+  true);
 same(page.inWords("no 4 9 BadValue").text.includes("rate 8000 or 44100"), true);
 same(page.inWords("lost").good, false);
 same(page.replyInWords(200, "ok 3"), page.inWords("ok 3"));
@@ -110,7 +116,8 @@ past = page.history(calls(["add-room 1", "ok 1"], ["add-room 2", "ok 2"], ["undo
 same(page.named("Undo", past.undo), "Undo: add-room 1");
 same(page.named("Redo", past.redo), "Redo: add-room 2");
 same(past.entries[1].undone, true);
-past = page.history(calls(["add-room 1", "ok 1"], ["add-room 2", "ok 2"], ["undo 2", "ok 3"], ["undo 3", "ok 4"], ["redo 4", "ok 5"]), 5);
+past = page.history(
+  calls(["add-room 1", "ok 1"], ["add-room 2", "ok 2"], ["undo 2", "ok 3"], ["undo 3", "ok 4"], ["redo 4", "ok 5"]), 5);
 same(page.named("Undo", past.undo), "Undo: add-room 1");
 same(page.named("Redo", past.redo), "Redo: add-room 2");
 past = page.history(calls(["add-room 1", "ok 1"], ["undo 1", "ok 2"], ["add-room 3", "ok 3"]), 3);
@@ -132,9 +139,13 @@ const told = (made, version, looks) => {
 const inForce = "Undo: the last change in force", wasUndone = "Redo: the last change that was undone";
 const other = (word, version) => `${word}: the change of another connection (version ${version})`;
 const one = ["add-room 1", "ok 1"], two = ["add-room 2", "ok 2"];
-const shown = () => past.entries.map((e) => (e.foreign ? page.foreignWords(e) : `${e.line}${{ true: " -", false: "", null: " ?" }[e.undone]}`));
+const shown = () =>
+  past.entries.map((e) => (
+    e.foreign ? page.foreignWords(e) : `${e.line}${{ true: " -", false: "", null: " ?" }[e.undone]}`
+  ));
 
-// A call of the page, a version of another connection, and the undo and redo of each. Had it been an undo, nothing were left to undo.
+// A call of the page, a version of another connection, and the undo and redo of each. Had it been an undo, nothing were
+// left to undo.
 const made = [one];
 same(told(made, 2), [inForce, wasUndone]);
 same(shown(), ["add-room 1 ?", "version 2 came over another connection"]);
@@ -167,7 +178,8 @@ same(told(pair, 4), [inForce, wasUndone]);
 pair.push(["undo 4", "ok 5"]);
 same(told(pair, 5), ["Undo: add-room 1", other("Redo", 2)]);
 same(shown()[1], "versions 2 to 3 came over another connection; undone: 2, 3");
-same(told([...pair, ["undo 5", "ok 6"], ["redo 6", "ok 7"], ["redo 7", "ok 8"]], 8), [other("Undo", 2), other("Redo", 3)]);
+same(told([...pair, ["undo 5", "ok 6"], ["redo 6", "ok 7"], ["redo 7", "ok 8"]], 8),
+  [other("Undo", 2), other("Redo", 3)]);
 
 // What the desk looked like tells more: a command, or else an undo or the command of the same effect.
 const looks = new Map([[0, 0], [1, 1], [2, 2], [3, 3]]);
@@ -179,7 +191,8 @@ same(told([one, two, ["redo 3", "ok 4"]], 4, looks), ["Undo: add-room 2", "Redo"
 same(told([one, two, ["redo 3", "no 3 16 NothingToRedo"]], 3, looks), [other("Undo", 3), "Redo"]);
 same(told([one, two, ["undo 3", "ok 4"]], 4, looks.set(4, 0)), ["Undo", "Redo: add-room 1"]);
 same(told([one, two], 2, new Map([[0, 0], [1, 1], [2, 1]])), ["Undo: add-room 2", "Redo"]);
-same(told([one, ["undo 1", "ok 2"], ["add-room 2", "ok 3"]], 3, new Map([[0, 0], [2, 5]])), ["Undo: add-room 2", "Redo"]);
+same(told([one, ["undo 1", "ok 2"], ["add-room 2", "ok 3"]], 3, new Map([[0, 0], [2, 5]])),
+  ["Undo: add-room 2", "Redo"]);
 same(shown(), ["add-room 1 ?", "undo 1", "add-room 2"]);
 same(page.lookOf(["room 1"]) !== page.lookOf(["room 2"]), true);
 
@@ -199,7 +212,10 @@ same([past.undo, past.redo, past.entries], [null, null, []]);
 // A bridge, the page and another operator who do what a seed says.
 function walk(seed, steps, page_part, looks_part) {
   let state = seed, rooms = [], version = 0;
-  const chance = (below) => { state = (Math.imul(state, 1103515245) + 12345) & 0x7fffffff; return (state >>> 8) % below; };
+  const chance = (below) => {
+    state = (Math.imul(state, 1103515245) + 12345) & 0x7fffffff;
+    return (state >>> 8) % below;
+  };
   const stacks = { done: [], undone: [] }, made = [], seen = new Map();
   const see = () => { if (chance(100) < looks_part) seen.set(version, page.lookOf([...rooms].sort())); };
   const tell = (own, line, said) => { if (own) made.push({ line, said }); };
@@ -222,7 +238,8 @@ function walk(seed, steps, page_part, looks_part) {
   see();
   for (let step = 0; step < steps; step += 1) {
     const own = chance(100) < page_part, before = version;
-    [command, command, (o) => move(o, "undo", "done", "undone"), (o) => move(o, "redo", "undone", "done")][chance(4)](own);
+    const undo = (o) => move(o, "undo", "done", "undone"), redo = (o) => move(o, "redo", "undone", "done");
+    [command, command, undo, redo][chance(4)](own);
     if (version > before) see();
     judge(page.history(made, version, seen), stacks, page_part === 100);
   }
@@ -233,16 +250,19 @@ function judge(told, stacks, knows) {
   for (const [change, stack] of [[told.undo, stacks.done], [told.redo, stacks.undone]]) {
     const top = stack[stack.length - 1];
     if (change && change.unknown) assert(!knows);
-    else assert.strictEqual(change ? change.number ?? `other ${change.other}` : undefined, top && (top.own ? top.version : `other ${top.version}`));
+    else assert.strictEqual(change ? change.number ?? `other ${change.other}` : undefined,
+      top && (top.own ? top.version : `other ${top.version}`));
   }
   const isIn = (number) => stacks.done.some((change) => change.version === number);
   for (const entry of told.entries) {
     if (entry.foreign) assert(!entry.undone.some(isIn));
-    else if (entry.number !== null && !/^(undo|redo) /.test(entry.line) && entry.undone !== null) assert.strictEqual(entry.undone, !isIn(entry.number));
+    else if (entry.number !== null && !/^(undo|redo) /.test(entry.line) && entry.undone !== null)
+      assert.strictEqual(entry.undone, !isIn(entry.number));
   }
 }
 
-for (const [page_part, looks_part] of [[100, 0], [100, 100], [90, 0], [60, 0], [90, 100], [60, 100], [40, 60], [5, 50]]) {
+const parts = [[100, 0], [100, 100], [90, 0], [60, 0], [90, 100], [60, 100], [40, 60], [5, 50]];
+for (const [page_part, looks_part] of parts) {
   for (let seed = 1; seed <= 20; seed += 1) walk(seed, 40, page_part, looks_part);
   tried += 20;
 }
@@ -252,21 +272,26 @@ same([13, 20].map((count) => page.moreWords(Array(count))), ["and 1 more row", "
 // Names: an SSRC has its source's name, or else its member's.
 const named = page.parseNames('names 3\n{"member 10":"Bob","source 102":"camera","room 1":"Sales","odd":7}');
 same(named, { version: 3, names: { "member 10": "Bob", "source 102": "camera", "room 1": "Sales" } });
-same([201, 102, 103].map((ssrc) => page.labelled(page.sourceName(named.names, desk, ssrc), ssrc)), ["Bob (201)", "camera (102)", "103"]);
+same([201, 102, 103].map((ssrc) => page.labelled(page.sourceName(named.names, desk, ssrc), ssrc)),
+  ["Bob (201)", "camera (102)", "103"]);
 same(page.renamed({ "member 10": "Bob" }, "member", 10, "  "), {});
 same(page.renamed({ "member 10": "Bob" }, "room", 2, " بوب 🎤 "), { "member 10": "Bob", "room 2": "بوب 🎤" });
 same([...page.cut("🎤".repeat(201))].length, 200);
-same(["no 3 Unsaved", "no 3 NoNames"].map((said) => page.nameRefusal(200, said).slice(0, 17)), ["the file of names", "that is no name."]);
+same(["no 3 Unsaved", "no 3 NoNames"].map((said) => page.nameRefusal(200, said).slice(0, 17)),
+  ["the file of names", "that is no name."]);
 
 // The overview: what a line says, what is found, and in which order.
 const line = page.memberLine(desk, named.names, desk.members[0]);
-same([line.name, line.floor, line.muted, line.odd, line.sends.map((s) => s.ssrc)], ["Bob", true, false, false, [101, 102, 201]]);
+same([line.name, line.floor, line.muted, line.odd, line.sends.map((s) => s.ssrc)],
+  ["Bob", true, false, false, [101, 102, 201]]);
 same(page.memberLine(desk, named.names, desk.members[1]).sees.map((s) => s.label), ["Bob (101)", "camera (102)"]);
 const silent = { ...desk, mutes: new Set([201]) };
 same(page.memberLine(silent, {}, desk.members[0]).odd, true);
 same(page.roomLine(silent, named.names, 1).odd, true);
-same([page.roomLine(desk, named.names, 1).members, page.roomLine(desk, named.names, 1).muted, page.roomLine(desk, named.names, 1).odd], [2, 1, false]);
-const found = (search, sort = "number") => page.overview(desk, named.names, search, sort).map(({ room, members }) => [room, members.map((m) => m.member)]);
+same([page.roomLine(desk, named.names, 1).members, page.roomLine(desk, named.names, 1).muted,
+  page.roomLine(desk, named.names, 1).odd], [2, 1, false]);
+const found = (search, sort = "number") =>
+  page.overview(desk, named.names, search, sort).map(({ room, members }) => [room, members.map((m) => m.member)]);
 same(found(""), [[1, [10, 11]], [2, [12]]]);
 same(found("bob"), [[1, [10]]]);
 same(found("SALES"), [[1, [10, 11]]]);
@@ -275,20 +300,26 @@ same(page.overview({ ...desk, rooms: [2, 1] }, {}, "", "members").map(({ room })
 same(page.overview(desk, { "room 2": "a", "room 1": "b" }, "", "name").map(({ room }) => room), [2, 1]);
 
 // Many members at once: one call, and only what it takes.
-same([page.grouped([]), page.grouped(["mute 1"]), page.grouped(["mute 1", "mute 2"])], [null, "mute 1", "group mute 1 / mute 2"]);
-same([page.toggled(desk, [10, 11]), page.toggled(desk, [11]), page.toggled(desk, [12])], [["mute 201"], ["unmute 202"], []]);
+same([page.grouped([]), page.grouped(["mute 1"]), page.grouped(["mute 1", "mute 2"])],
+  [null, "mute 1", "group mute 1 / mute 2"]);
+same([page.toggled(desk, [10, 11]), page.toggled(desk, [11]), page.toggled(desk, [12])],
+  [["mute 201"], ["unmute 202"], []]);
 same([page.othersMuted(desk, 11), page.othersMuted(desk, 10)], [["mute 201"], []]);
 same(page.movedAll(desk, [10, 12, 99], 2), ["move-member 10 2"]);
 same(page.goesAlong(desk, 1), "2 members, 5 sources, 3 slots");
 
 // A change touches the rooms of its rows alone, and one of places none.
-const after = (lines) => { const next = page.parseDesk(lines); return [...page.changedRooms(desk, next, page.changes(desk.rows, next.rows))]; };
+const after = (lines) => {
+  const next = page.parseDesk(lines);
+  return [...page.changedRooms(desk, next, page.changes(desk.rows, next.rows))];
+};
 same(after(text.replace("mute 202\n", "mute 201\n")), [1]);
 same(after(text.replace("member 2 12 2", "member 1 12 2").replace("member 1 11 1", "member 2 11 1")), []);
 same(after(text.replace("member 2 12 2", "member 2 12 1")).sort(), [1, 2]);
 same(after(text.replace("sub 502 102\n", "")), [1]);
 same(after(text.replace("gain 11 201 128", "gain 11 201 129")), [1]);
-for (const next of [text.replace("mute 202\n", ""), text.replace("room 2\n", "room 2\nroom 3\n"), ""].map(page.parseDesk)) {
+const without = [text.replace("mute 202\n", ""), text.replace("room 2\n", "room 2\nroom 3\n"), ""];
+for (const next of without.map(page.parseDesk)) {
   same(page.lookAfter(page.lookOf(desk.rows), page.changes(desk.rows, next.rows)), page.lookOf(next.rows));
 }
 

@@ -1,8 +1,8 @@
 """Lets a bridge stand still for a while, as a machine that is paused does, and looks at what members hear afterwards.
 
-The bridge is stopped and continued by signals, for each of some times, while a member goes on sending sound. Two seconds after it
-goes on, another member has to hear all sound again, no later than before the pause. Behind pauses of one to three seconds it is heard
-later, so that the status is 1 where these are tried.
+The bridge is stopped and continued by signals, for each of some times, while a member goes on sending sound. Two
+seconds after it goes on, another member has to hear all sound again, no later than before the pause. Behind pauses of
+one to three seconds it is heard later, so that the status is 1 where these are tried.
 """
 
 import os
@@ -22,13 +22,16 @@ RECOVERY, LOOKED_AT = 2, 2
 
 
 def options(parser):
-    parser.add_argument("--pauses", default="0.3,0.9,1.2,1.5,3,10", metavar="SECONDS", help="how long it stands still (%(default)s)")
+    parser.add_argument(
+        "--pauses", default="0.3,0.9,1.2,1.5,3,10", metavar="SECONDS", help="how long it stands still (%(default)s)"
+    )
     parser.add_argument("--lanes", type=int, default=1, help="how many lanes the bridge has (%(default)s)")
     add_program(parser)
 
 
 def paused(program, seconds, lanes):
-    """What is wrong with what is heard behind a pause of a bridge, and how late it was heard before and is heard now."""
+    """What is wrong with what is heard behind a pause of a bridge, and how late it was heard before and is heard
+    now."""
     with tempfile.TemporaryDirectory() as folder:
         bridge, udp, tcp = started(program, settings(folder, lanes=lanes))
         voice = Voice(udp)

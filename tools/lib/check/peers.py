@@ -1,10 +1,12 @@
 """Holds a call between GStreamer and ffmpeg, and another in a room for music.
 
-Both send to relays, one for each member: a relay has the member's one address, passes on to the bridge what its programs send,
-and passes on to the receiving program what the bridge sends. In the room for music both send and hear L16 at 44100 Hz, of which the tones
-are measured: their frequency and their level. Each check prints a line, `ok` or `FAILED`.
+Both send to relays, one for each member: a relay has the member's one address, passes on to the bridge what its
+programs send, and passes on to the receiving program what the bridge sends. In the room for music both send and hear
+L16 at 44100 Hz, of which the tones are measured: their frequency and their level. Each check prints a line, `ok` or
+`FAILED`.
 
-It installs nothing. On Debian the packages are gstreamer1.0-tools, gstreamer1.0-plugins-base, -good and -bad, ffmpeg, tshark.
+It installs nothing. On Debian the packages are gstreamer1.0-tools, gstreamer1.0-plugins-base, -good and -bad, ffmpeg,
+tshark.
 """
 
 import math
@@ -30,7 +32,8 @@ NEEDED = ("gst-launch-1.0", "ffmpeg", "tshark")
 RATE = 8000
 WIDTH, HEIGHT = 320, 240
 TONES = (440, 1000, 2000)
-# In the room for music: its clock rate, the tones of GStreamer and ffmpeg, and the level of each. A room of 8000 Hz can't carry the second.
+# In the room for music: its clock rate, the tones of GStreamer and ffmpeg, and the level of each. A room of 8000 Hz
+# can't carry the second.
 MUSIC, TICK = 44100, 882
 LEVELS = {440: 0.3 * 32767, 6000: 32767 / 8}
 
@@ -109,13 +112,16 @@ def level(sound, hertz):
 
 
 def are_music(sound, wanted):
-    """Whether half a second of music has the wanted tones at their levels, the others not, and each at its frequency. What it has."""
+    """Whether half a second of music has the wanted tones at their levels, the others not, and each at its frequency.
+    What it has."""
     half = sound[-MUSIC // 2 :]
     levels = {hertz: round(level(half, hertz)) for hertz in LEVELS}
     peaks = {hertz: max(range(hertz - 6, hertz + 7, 2), key=lambda near: level(half, near)) for hertz in wanted}
     near = all(abs(levels[hertz] - LEVELS[hertz]) < LEVELS[hertz] / 10 for hertz in wanted)
     quiet = all(levels[hertz] < 50 for hertz in LEVELS if hertz not in wanted)
-    return len(half) == MUSIC // 2 and near and quiet and all(abs(peak - hertz) <= 2 for hertz, peak in peaks.items()), levels, peaks
+    return len(half) == MUSIC // 2 and near and quiet and all(
+        abs(peak - hertz) <= 2 for hertz, peak in peaks.items()
+    ), levels, peaks
 
 
 def are_tones(sound, own):
@@ -158,21 +164,24 @@ def gst_tone(hertz, relay, stream, codec):
         "l16": f"audioconvert ! audio/x-raw,format=S16BE ! rtpL16pay ssrc={stream} pt=97",
     }[codec]
     return gst(
-        f"audiotestsrc is-live=true samplesperbuffer=160 freq={hertz} volume=0.3 ! audio/x-raw,rate=8000,channels=1 ! {pay}",
+        f"audiotestsrc is-live=true samplesperbuffer=160 freq={hertz} volume=0.3 ! audio/x-raw,rate=8000,channels=1 ! "
+        f"{pay}",
         f"min-ptime=20000000 max-ptime=20000000 ! udpsink host=127.0.0.1 port={relay.inner_port}",
     )
 
 
 def gst_music(hertz, relay, stream):
     return gst(
-        f"audiotestsrc is-live=true samplesperbuffer=441 freq={hertz} volume=0.3 ! audio/x-raw,rate={MUSIC},channels=1 ! audioconvert !",
+        f"audiotestsrc is-live=true samplesperbuffer=441 freq={hertz} volume=0.3 ! audio/x-raw,rate={MUSIC},channels=1 "
+        "! audioconvert !",
         f"audio/x-raw,format=S16BE ! rtpL16pay ssrc={stream} pt=11 ! udpsink host=127.0.0.1 port={relay.inner_port}",
     )
 
 
 def gst_video(relay, stream):
     return gst(
-        f"videotestsrc is-live=true ! video/x-raw,width={WIDTH},height={HEIGHT},framerate=25/1 ! vp8enc deadline=1 keyframe-max-dist=25 !",
+        f"videotestsrc is-live=true ! video/x-raw,width={WIDTH},height={HEIGHT},framerate=25/1 ! vp8enc deadline=1 "
+        "keyframe-max-dist=25 !",
         f"rtpvp8pay pt=100 ssrc={stream} mtu=1100 ! udpsink host=127.0.0.1 port={relay.inner_port}",
     )
 
@@ -192,12 +201,17 @@ def ffmpeg_music(hertz, relay, stream):
 
 
 def ffmpeg_video(relay, stream):
-    return ffmpeg_sends(relay, stream, f"testsrc=size={WIDTH}x{HEIGHT}:rate=25", "-c:v libvpx -deadline realtime -g 25", 100, 1100)
+    return ffmpeg_sends(
+        relay, stream, f"testsrc=size={WIDTH}x{HEIGHT}:rate=25", "-c:v libvpx -deadline realtime -g 25", 100, 1100
+    )
 
 
 def gst_hears(port, path, rate=RATE, kind=97):
     caps = f"application/x-rtp,media=audio,encoding-name=L16,clock-rate={rate},channels=1,payload={kind}"
-    return gst(f"-e udpsrc port={port} caps={caps} ! rtpjitterbuffer ! rtpL16depay ! audioconvert ! wavenc ! filesink location={path}")
+    return gst(
+        f"-e udpsrc port={port} caps={caps} ! rtpjitterbuffer ! rtpL16depay ! audioconvert ! wavenc ! filesink "
+        f"location={path}"
+    )
 
 
 def gst_sees(port, path):
@@ -211,7 +225,20 @@ def gst_sees(port, path):
 def ffmpeg_hears(port, path, kind=0):
     sdp = path.with_suffix(".sdp")
     sdp.write_text(f"v=0\no=- 0 0 IN IP4 127.0.0.1\ns=mix\nc=IN IP4 127.0.0.1\nt=0 0\nm=audio {port} RTP/AVP {kind}\n")
-    return ["ffmpeg", "-v", "error", "-protocol_whitelist", "file,udp,rtp", "-i", str(sdp), "-c:a", "pcm_s16le", "-f", "s16le", str(path)]
+    return [
+        "ffmpeg",
+        "-v",
+        "error",
+        "-protocol_whitelist",
+        "file,udp,rtp",
+        "-i",
+        str(sdp),
+        "-c:a",
+        "pcm_s16le",
+        "-f",
+        "s16le",
+        str(path),
+    ]
 
 
 def even_port():
@@ -236,37 +263,61 @@ def stopped(program):
 
 
 def capturing(port, capture):
-    shark = subprocess.Popen(["tshark", "-q", "-i", "lo", "-f", f"udp port {port}", "-w", capture], stderr=subprocess.DEVNULL)
+    shark = subprocess.Popen(
+        ["tshark", "-q", "-i", "lo", "-f", f"udp port {port}", "-w", capture], stderr=subprocess.DEVNULL
+    )
     time.sleep(2)
     return shark
 
 
 def is_warning(severities):
-    """Whether one is a warning or an error. tshark notes each VP8 payload that it understands in part; a note is none."""
+    """Whether one is a warning or an error. tshark notes each VP8 payload that it understands in part; a note is
+    none."""
     return any(int(severity) >= 0x600000 for severity in severities.split(",") if severity)
 
 
 def dissected(capture, port):
     """How many datagrams of the bridge tshark has seen, and those that it complains of."""
     fields = ["frame.protocols", "_ws.malformed", "_ws.expert.severity", "_ws.expert.message"]
-    command = ["tshark", "-r", capture, "-d", f"udp.port=={port},rtp", "-d", "rtp.pt==100,vp8", "-Y", f"udp.srcport=={port}", "-T", "fields"]
+    command = [
+        "tshark",
+        "-r",
+        capture,
+        "-d",
+        f"udp.port=={port},rtp",
+        "-d",
+        "rtp.pt==100,vp8",
+        "-Y",
+        f"udp.srcport=={port}",
+        "-T",
+        "fields",
+    ]
     command += [word for field in fields for word in ("-e", field)] + ["-E", "separator=|"]
     told = subprocess.run(command, capture_output=True, text=True, check=False).stdout.splitlines()
     cells = [line.split("|") for line in told]
-    return len(told), [line for line, cell in zip(told, cells) if cell[1] or is_warning(cell[2]) or not ("rtp" in line or "rtcp" in line)]
+    return len(told), [
+        line
+        for line, cell in zip(told, cells) if cell[1] or is_warning(cell[2]) or not ("rtp" in line or "rtcp" in line)
+    ]
 
 
 # The checks of the checks
 
 
 def check_checks(check, folder):
-    """Makes sure that the checks refuse a gap, a number twice, the own tone, a tone that is missing, soft or too high, and a report cut off."""
+    """Makes sure that the checks refuse a gap, a number twice, the own tone, a tone that is missing, soft or too high,
+    and a report cut off."""
     packets = [rtp(n, 160 * n, 9001, b"\xff" * 160, pt=0) for n in range(65530, 65540)]
     wave = {hertz: [8000 * math.sin(2 * math.pi * hertz * n / RATE) for n in range(RATE)] for hertz in TONES}
     mixed = [a + b for a, b in zip(wave[1000], wave[2000])]
-    numbers = has_no_gap(packets) and not has_no_gap(packets[:4] + packets[5:]) and not has_no_gap(packets[:4] + packets[3:])
+    numbers = (
+        has_no_gap(packets) and not has_no_gap(packets[:4] + packets[5:]) and not has_no_gap(packets[:4] + packets[3:])
+    )
     tones = are_tones(mixed, 440)[0] and not are_tones(mixed, 1000)[0] and not are_tones(wave[1000], 440)[0]
-    music = {hertz: [most * math.sin(2 * math.pi * hertz * n / MUSIC) for n in range(MUSIC // 2)] for hertz, most in LEVELS.items()}
+    music = {
+        hertz: [most * math.sin(2 * math.pi * hertz * n / MUSIC) for n in range(MUSIC // 2)]
+        for hertz, most in LEVELS.items()
+    }
     both, soft, low = [a + b for a, b in zip(*music.values())], [v / 2 for v in music[440]], music[6000][::2] * 2
     levels = are_music(both, [440, 6000])[0] and are_music(music[440], [440])[0] and not are_music(both, [440])[0]
     levels = levels and not are_music(soft, [440])[0] and not are_music(low, [6000])[0]
@@ -303,8 +354,10 @@ class Call:
     def set_desk(self):
         p, q, r = (relay.port for relay in (self.p, self.q, self.r))
         lines = [
-            "add-room 1", f"add-member 10 1 127.0.0.1:{p} pcmu 9001 65500 0", f"add-member 11 1 127.0.0.1:{q} pcmu 9002 0 0",
-            f"add-member 12 1 127.0.0.1:{r} l16 9003 0 0", "add-source 201 10 audio", "add-source 202 11 audio", "add-source 203 12 audio",
+            "add-room 1", f"add-member 10 1 127.0.0.1:{p} pcmu 9001 65500 0",
+            f"add-member 11 1 127.0.0.1:{q} pcmu 9002 0 0",
+            f"add-member 12 1 127.0.0.1:{r} l16 9003 0 0", "add-source 201 10 audio", "add-source 202 11 audio",
+            "add-source 203 12 audio",
             "add-source 101 10 video", "add-source 102 11 video", "add-slot 501 12 0 65535 1000", "pin 1 101",
         ]  # fmt: skip
         told = [self.desk.ask(line) for line in lines]
@@ -314,7 +367,11 @@ class Call:
         """Starts the programs that receive, and then those that send. The former."""
         p, q, r = self.p, self.q, self.r
         r.to[9003], r.to[501], q.to[9002] = even_port(), even_port(), even_port()
-        hearing = (gst_hears(r.to[9003], self.heard), gst_sees(r.to[501], self.seen), ffmpeg_hears(q.to[9002], self.heard_by_ffmpeg))
+        hearing = (
+            gst_hears(r.to[9003], self.heard),
+            gst_sees(r.to[501], self.seen),
+            ffmpeg_hears(q.to[9002], self.heard_by_ffmpeg),
+        )
         receivers = [self.start(command, stdin=subprocess.DEVNULL) for command in hearing]
         tones = gst_tone(440, p, 201, "pcmu"), ffmpeg_tone(1000, q, 202), gst_tone(2000, r, 203, "l16")
         for command in (*tones, gst_video(p, 101), ffmpeg_video(q, 102)):
@@ -345,7 +402,8 @@ class Call:
         self.check(has_no_gap(video), "the video's numbers have no gap")
         self.check(self.answers_nack(), "a NACK is answered with the same octets")
         for relay, out, own, name in (
-            (self.p, 9001, 440, "PCMU to GStreamer's member"), (self.q, 9002, 1000, "PCMU to ffmpeg's member"), (self.r, 9003, 2000, "L16"),
+            (self.p, 9001, 440, "PCMU to GStreamer's member"), (self.q, 9002, 1000, "PCMU to ffmpeg's member"),
+            (self.r, 9003, 2000, "L16"),
         ):  # fmt: skip
             mixes = relay.media(out)
             self.check(has_no_gap(mixes), f"{name}: numbers have no gap", [seq_of(mix) for mix in mixes[:5]])
@@ -377,11 +435,18 @@ class Call:
     def set_music(self):
         """Sets the room for music: GStreamer's and ffmpeg's members send, and a third one hears them."""
         members = zip((20, 21, 22), self.players)
-        lines = [f"add-room 2 {MUSIC}", *(f"add-member {n} 2 127.0.0.1:{relay.port} l16 {9000 + n} 0 0" for n, relay in members)]
+        lines = [
+            f"add-room 2 {MUSIC}",
+            *(f"add-member {n} 2 127.0.0.1:{relay.port} l16 {9000 + n} 0 0" for n, relay in members),
+        ]
         told = [self.desk.ask(line) for line in [*lines, "add-source 220 20 audio", "add-source 221 21 audio"]]
         self.check(all(answer.startswith("ok") for answer in told), "the room for music is set", told)
         refused = self.desk.ask("add-member 23 2 127.0.0.1:1 pcmu 9023 0 0"), self.desk.ask("move-member 10 2")
-        self.check(all(answer.endswith(" 21 RateMismatch") for answer in refused), "PCMU and another room's member have no place in it", refused)
+        self.check(
+            all(answer.endswith(" 21 RateMismatch") for answer in refused),
+            "PCMU and another room's member have no place in it",
+            refused,
+        )
 
     def check_music(self):
         """Holds the call in the room for music and checks it."""
@@ -396,14 +461,19 @@ class Call:
         time.sleep(6)
         for relay, out, wanted in (s, 9020, [6000]), (t, 9021, [440]), (u, 9022, [440, 6000]):
             mixes = relay.media(out)[-100:]
-            self.check(has_no_gap(mixes) and are_ticks_of_music(mixes), f"member {out - 9000} gets 882 samples a packet, of type 11")
+            self.check(
+                has_no_gap(mixes) and are_ticks_of_music(mixes),
+                f"member {out - 9000} gets 882 samples a packet, of type 11",
+            )
             good, *seen = are_music(samples(mixes), wanted)
             self.check(good, f"member {out - 9000} hears {wanted} Hz at their levels, and nothing of its own", seen)
         for program in receivers:
             stopped(program)
         for path, wanted, name in (by_gst, [440, 6000], "GStreamer"), (by_ffmpeg, [440], "ffmpeg"):
             octets = path.read_bytes()[44:] if path.exists() else b""
-            good, *seen = are_music([sample for sample, in struct.iter_unpack("<h", octets[len(octets) % 2 :][-2 * MUSIC :])], wanted)
+            good, *seen = are_music(
+                [sample for sample, in struct.iter_unpack("<h", octets[len(octets) % 2 :][-2 * MUSIC :])], wanted
+            )
             self.check(good, f"{name} hears the music: {wanted} Hz", seen)
 
     def hold(self):
@@ -421,7 +491,9 @@ class Call:
         self.check_music()
         stopped(shark)
         count, wrong = dissected(capture, self.udp)
-        self.check(count > 100 and not wrong, f"tshark dissects {count} datagrams of the bridge without a complaint", wrong[:3])
+        self.check(
+            count > 100 and not wrong, f"tshark dissects {count} datagrams of the bridge without a complaint", wrong[:3]
+        )
         self.desk.ask("quit")
 
 

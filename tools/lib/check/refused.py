@@ -1,21 +1,27 @@
 """Refuses each request for memory in turn, on a bridge that runs.
 
-A library in C stands before `malloc` and its kin. It counts the requests of one thread of the bridge, and refuses one of them.
+A library in C stands before `malloc` and its kin. It counts the requests of one thread of the bridge, and refuses one
+of them.
 
-Calls: two operators share a desk. For each line of a list, request 1, 2, .. of one operator's thread is refused, until the line makes
-no more. The line is then refused by `13 OutOfMemory`, with the number of the last accepted call, and `show` shows the rows from before.
-Or that connection alone is closed. Its call may have been accepted: `show` shows the rows from before or from after it. In the end the
-line is answered, and the rows are those of a plain desk in Python. A connection is tried in the same way, by requests of the front.
+Calls: two operators share a desk. For each line of a list, request 1, 2, .. of one operator's thread is refused, until
+the line makes no more. The line is then refused by `13 OutOfMemory`, with the number of the last accepted call, and
+`show` shows the rows from before. Or that connection alone is closed. Its call may have been accepted: `show` shows the
+rows from before or from after it. In the end the line is answered, and the rows are those of a plain desk in Python. A
+connection is tried in the same way, by requests of the front.
 
-Media: for each step of a list a bridge is started anew, and request 1, 2, .. of its front or of a lane is refused. The bridge ends with
-status 2 and `confbridge: out of memory`. Until then it sends packets of the step and no others. In the end all of them come.
+Media: for each step of a list a bridge is started anew, and request 1, 2, .. of its front or of a lane is refused. The
+bridge ends with status 2 and `confbridge: out of memory`. Until then it sends packets of the step and no others. In the
+end all of them come.
 
-Starts: request 1, 2, .. of all threads of a starting bridge is refused. It ends with status 2, or with 3 where a thread can't be started.
+Starts: request 1, 2, .. of all threads of a starting bridge is refused. It ends with status 2, or with 3 where a thread
+can't be started.
 Ends: request 1, 2, .. of the front is refused behind `stop`. The bridge ends with status 2.
 
-Fault, alone: while an operator is connected, request 1, 2, .. of a lane for a frame is refused, until one ends the bridge.
+Fault, alone: while an operator is connected, request 1, 2, .. of a lane for a frame is refused, until one ends the
+bridge.
 
-Memory that an attempt took and kept is asked for no more. The requests for that line are then refused from the first one on again.
+Memory that an attempt took and kept is asked for no more. The requests for that line are then refused from the first
+one on again.
 """
 
 import collections
@@ -42,9 +48,16 @@ OUT_OF_MEMORY, FAILED = "confbridge: out of memory\n", "confbridge: input or out
 
 def options(parser):
     parser.add_argument("--lanes", type=int, default=2, help="how many lanes a bridge has (%(default)s)")
-    parser.add_argument("--jobs", type=int, default=4, help="how many bridges run side by side, but for calls (%(default)s)")
+    parser.add_argument(
+        "--jobs", type=int, default=4, help="how many bridges run side by side, but for calls (%(default)s)"
+    )
     names = [*PARTS, *ALONE]
-    parser.add_argument("--only", choices=names, metavar="PART", help=f"{', '.join(names)}: this one alone; the first four if none is given")
+    parser.add_argument(
+        "--only",
+        choices=names,
+        metavar="PART",
+        help=f"{', '.join(names)}: this one alone; the first four if none is given",
+    )
     add_program(parser)
 
 
@@ -90,7 +103,8 @@ def status_of(bridge, wanted, what):
 # Calls
 
 
-# Each request for a line behind `! ` is refused in turn. An `undo` and a `redo` get the number of the last accepted call.
+# Each request for a line behind `! ` is refused in turn. An `undo` and a `redo` get the number of the last accepted
+# call.
 LINES = """
 ! add-room 1
 add-room 2
@@ -187,7 +201,8 @@ class Desk:
             self.call("redo" if line.startswith("undo") else "undo")
 
     def attempt(self, line, nth):
-        """An operator sends a line, and a request for it is refused. What comes of it, and how many octets each request asked for."""
+        """An operator sends a line, and a request for it is refused. What comes of it, and how many octets each request
+        asked for."""
         operator, thread = self.seated()
         self.heap.refuse(thread, nth)
         answer = told(operator, line)
@@ -245,7 +260,10 @@ class Desk:
             answer = told(operator, "show")
             _, is_refused = self.heap.release()
             wanted = "" if is_refused else "\n".join(rows_of(self.log))
-            check(answer == wanted, f"a connection, request {nth} of the front: refused: {is_refused}, and `show` is answered `{answer}`")
+            check(
+                answer == wanted,
+                f"a connection, request {nth} of the front: refused: {is_refused}, and `show` is answered `{answer}`",
+            )
             self.left(operator, answer)
             if not is_refused:
                 return nth - 1
@@ -255,7 +273,9 @@ class Desk:
 def counted(counts):
     closed, behind = counts["closed"], counts["closed behind the call"]
     closing = f"{closed + behind} closed the connection, {behind} of these behind an accepted call"
-    return f"{counts['refused']} refused by 13, {counts['carried out all the same']} carried out all the same, {closing}"
+    return (
+        f"{counts['refused']} refused by 13, {counts['carried out all the same']} carried out all the same, {closing}"
+    )
 
 
 def check_calls(bridges):
@@ -274,7 +294,10 @@ def check_calls(bridges):
             else:
                 desk.call(line)
         calls = stopped(bridge, desk.watcher)
-        check(sum(calls.values()) == desk.log.version, f"the bridge says that it accepted {calls} calls, and not {desk.log.version} in all")
+        check(
+            sum(calls.values()) == desk.log.version,
+            f"the bridge says that it accepted {calls} calls, and not {desk.log.version} in all",
+        )
     finally:
         bridge.kill()
     print(f"all lines: {counted(total)}", flush=True)
@@ -285,7 +308,8 @@ def check_calls(bridges):
 
 
 def do_step(call, heap, step, thread, nth, what):
-    """Does a step while a request of a thread is refused. What came of the request: "ended" the bridge, "done" without it, or None."""
+    """Does a step while a request of a thread is refused. What came of the request: "ended" the bridge, "done" without
+    it, or None."""
     packets, may, least = step(call)
     call.got = {it: [] for it in call.got}
     heap.refuse(thread, nth)
@@ -298,7 +322,9 @@ def do_step(call, heap, step, thread, nth, what):
         if all(len(call.got[it]) >= least for it in may) and is_asleep(call.bridge, thread):
             come.append(time.monotonic())
         # It makes the requests that were refused before, if the packets that came weren't on their way already.
-        return call.bridge.poll() is not None or come and (heap.requests() >= nth - 1 or time.monotonic() > come[0] + 0.5)
+        return (
+            call.bridge.poll() is not None or come and (heap.requests() >= nth - 1 or time.monotonic() > come[0] + 0.5)
+        )
 
     until(is_over, f"{what}: the packets don't come, and the bridge doesn't end")
     _, is_refused = heap.release()
@@ -382,7 +408,10 @@ def check_fault(bridges):
         nth += 1
         came = try_fault(bridges, nth)
     check(came == "ended", "no request of a lane for a frame ends the bridge")
-    print(f"request {nth} of a lane for a frame: the bridge ended with status 2, beside an operator who says nothing", flush=True)
+    print(
+        f"request {nth} of a lane for a frame: the bridge ended with status 2, beside an operator who says nothing",
+        flush=True,
+    )
     return nth
 
 
@@ -390,7 +419,8 @@ def check_fault(bridges):
 
 
 def came_of(bridge, heap, what, statuses, goes_on, check_it):
-    """Waits until a bridge ends or goes on. The status with which it ended by a refused request, or None where none was refused and all is well."""
+    """Waits until a bridge ends or goes on. The status with which it ended by a refused request, or None where none was
+    refused and all is well."""
     try:
         until(lambda: bridge.poll() is not None or goes_on(), f"{what}: the bridge neither ends nor goes on")
         if heap.release()[1]:
@@ -413,18 +443,25 @@ def try_start(bridges, nth):
         check(listens, f"{what}: none is refused, and the bridge doesn't say where it listens")
         stopped(bridge, Operator(socket.create_connection(("127.0.0.1", int(listens[2])), timeout=PATIENCE)))
 
-    return came_of(bridge, heap, what, {2: OUT_OF_MEMORY, 3: FAILED}, lambda: is_started(bridge, bridges.lanes), is_served)
+    return came_of(
+        bridge, heap, what, {2: OUT_OF_MEMORY, 3: FAILED}, lambda: is_started(bridge, bridges.lanes), is_served
+    )
 
 
 def check_starts(bridges):
     """Refuses each request for a start. How many were refused."""
     statuses = bridges.last(lambda nth: try_start(bridges, nth))
-    print(f"a start: {len(statuses)} requests; {statuses.count(2)} ended it with status 2, {statuses.count(3)} with status 3", flush=True)
+    print(
+        f"a start: {len(statuses)} requests; {statuses.count(2)} ended it with status 2, {statuses.count(3)} with "
+        "status 3",
+        flush=True,
+    )
     return len(statuses)
 
 
 def try_end(bridges, nth):
-    """Stops a bridge while a request of the front is refused. The status with which it ended, or None where it made fewer."""
+    """Stops a bridge while a request of the front is refused. The status with which it ended, or None where it made
+    fewer."""
     heap, what = bridges.heap(), f"request {nth} of the end"
     bridge, _, port = started(bridges.program, bridges.path, environment=heap.environment)
     front = own_threads(bridge, bridges.lanes)["front"]
@@ -436,7 +473,9 @@ def try_end(bridges, nth):
     def are_counted():
         calls, _ = said_at_the_end(bridge.stderr.read())
         is_good = bridge.returncode == 0 and calls == {0: 1, 1: 0}
-        check(is_good, f"{what}: none is refused, and the bridge ends with status {bridge.returncode} and {calls} calls")
+        check(
+            is_good, f"{what}: none is refused, and the bridge ends with status {bridge.returncode} and {calls} calls"
+        )
 
     return came_of(bridge, heap, what, {2: OUT_OF_MEMORY}, lambda: False, are_counted)
 

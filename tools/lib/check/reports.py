@@ -1,7 +1,8 @@
 """Compares sender and receiver reports with a model of them.
 
-Senders of video and audio send as in `check rx`, one of them in a room for music, and sender reports too. Receivers send report
-blocks, NACKs and PLIs. Waits, ticks, reports and operators' calls come in between, with --groups mostly in groups.
+Senders of video and audio send as in `check rx`, one of them in a room for music, and sender reports too. Receivers
+send report blocks, NACKs and PLIs. Waits, ticks, reports and operators' calls come in between, with --groups mostly in
+groups.
 
 With --cases nothing is compared. The lines are printed with the model's answers, in the form of x_cases_scripts.
 """
@@ -24,7 +25,13 @@ def block_of(r, bridge):
     stream = bridge.streams.get(out)
     highest = r.randrange(3) * 65536 + ((stream.next if stream else 0) - r.choice([0, 1, 2, 511, 512, 513])) % 65536
     lost = r.choice([0, 1, -1, r.randrange(-(2**23), 2**23)]) % 2**24
-    return out.to_bytes(4, "big") + bytes([r.randrange(256)]) + lost.to_bytes(3, "big") + highest.to_bytes(4, "big") + bytes(12)
+    return (
+        out.to_bytes(4, "big")
+        + bytes([r.randrange(256)])
+        + lost.to_bytes(3, "big")
+        + highest.to_bytes(4, "big")
+        + bytes(12)
+    )
 
 
 def feedback_of(r, bridge):

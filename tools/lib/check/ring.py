@@ -1,10 +1,11 @@
 """Makes the ring of a lane full, and looks at what a member gets meanwhile and afterwards.
 
-A member sends sound, and video that 32 members see 16 times each. For some seconds it sends more frames than the bridge can send
-on, so that the rings fill and items are dropped. Another member sees the video once and hears the sound. At its end the bridge
-has to say of a lane that items were dropped. All that this member was sent has to be in order, without a gap in a stream's
-numbers. Behind the load it has to see each frame and hear all sound again, no later than before the load, by when it was sent and by
-its timestamps. Last, the bridge is stopped under the load, and the tool prints how long it takes to end.
+A member sends sound, and video that 32 members see 16 times each. For some seconds it sends more frames than the bridge
+can send on, so that the rings fill and items are dropped. Another member sees the video once and hears the sound. At
+its end the bridge has to say of a lane that items were dropped. All that this member was sent has to be in order,
+without a gap in a stream's numbers. Behind the load it has to see each frame and hear all sound again, no later than
+before the load, by when it was sent and by its timestamps. Last, the bridge is stopped under the load, and the tool
+prints how long it takes to end.
 """
 
 import socket
@@ -69,7 +70,8 @@ class Room(Voice):
 
 
 def held(room, args):
-    """Sends before, under and behind the load. The times before and behind it that are looked at, and how long the rings took to empty."""
+    """Sends before, under and behind the load. The times before and behind it that are looked at, and how long the
+    rings took to empty."""
     room.go_on(1)
     before = room.go_on(LOOKED_AT)
     _, end = room.go_on(args.seconds, args.rate)
@@ -82,7 +84,8 @@ def held(room, args):
 
 
 def fallen_behind(before, behind):
-    """How many seconds sound comes later than before, by its timestamps: 20 ms for each tick that its lane has missed."""
+    """How many seconds sound comes later than before, by its timestamps: 20 ms for each tick that its lane has
+    missed."""
     return behind[len(behind) // 2] - before[len(before) // 2] if before and behind else 0
 
 

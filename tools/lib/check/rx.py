@@ -1,9 +1,10 @@
 """Compares random datagrams with a model of the bridge.
 
-Two video senders and two audio senders, one of them in a room for music, send packets that are reordered, lost, doubled, cut short
-and changed, with wraps and restarts. Lost packets may come after all. Time passes for sources, mostly for those of video. Receivers
-send NACKs. Operators mute, unsubscribe, remove and undo in between, with --groups mostly in groups. They also have the second audio
-sender come back in the other room, or as a source of video. Every second script names its bridge.
+Two video senders and two audio senders, one of them in a room for music, send packets that are reordered, lost,
+doubled, cut short and changed, with wraps and restarts. Lost packets may come after all. Time passes for sources,
+mostly for those of video. Receivers send NACKs. Operators mute, unsubscribe, remove and undo in between, with --groups
+mostly in groups. They also have the second audio sender come back in the other room, or as a source of video. Every
+second script names its bridge.
 
 With --cases nothing is compared. The lines are printed with the model's answers, in the form of x_cases_scripts.
 """
@@ -39,15 +40,21 @@ SETUP = [
     "desk 0 add-source 301 13 audio",
 ]
 CALLS = [
-    "mute 101", "unmute 101", "mute 102", "unmute 102", "unsubscribe 501", "subscribe 501 101", "subscribe 502 102", "unsubscribe 502",
-    "pin 1 102", "pin 1 101", "unpin 1", "give-floor 1 10", "take-floor 1", "remove-slot 501", "add-slot 501 12 2 5 5", "remove-source 101",
+    "mute 101", "unmute 101", "mute 102", "unmute 102", "unsubscribe 501", "subscribe 501 101", "subscribe 502 102",
+    "unsubscribe 502",
+    "pin 1 102", "pin 1 101", "unpin 1", "give-floor 1 10", "take-floor 1", "remove-slot 501", "add-slot 501 12 2 5 5",
+    "remove-source 101",
     "add-source 101 10 video", "remove-member 12", f"add-member 12 1 {R} l16 9003 0 0", "add-slot 502 12 0 7 7",
-    "remove-source 301", "remove-source 301", "add-source 301 13 video", "add-source 301 13 audio", "remove-member 13", "move-member 13 1",
+    "remove-source 301", "remove-source 301", "add-source 301 13 video", "add-source 301 13 audio", "remove-member 13",
+    "move-member 13 1",
     f"add-member 13 1 {S} l16 9004 0 0", f"add-member 13 2 {S} l16 9004 0 0", f"add-member 13 2 {S} pcmu 9004 0 0",
 ]  # fmt: skip
 # Calls by which the second audio sender comes back in the other room, or as a source of video.
 CHANGES = [
-    *(f"group remove-member 13 / add-member 13 {room} {S} l16 9004 0 0 / add-source 301 13 audio" for room in (1, 1, 2)),
+    *(
+        f"group remove-member 13 / add-member 13 {room} {S} l16 9004 0 0 / add-source 301 13 audio"
+        for room in (1, 1, 2)
+    ),
     *(f"group remove-source 301 / add-source 301 13 {media}" for media in ("video", "audio")),
 ]
 # Commands that add again what most packets are sent by or to.
@@ -107,7 +114,11 @@ def senders_of(r):
 
 def draw_call(r, bridge, groups):
     """The line of an operator's call."""
-    words = r.choice(CALLS + 5 * MENDS + 3 * CHANGES) if r.random() < 0.8 else f"{r.choice(['undo', 'redo'])} {bridge.version}"
+    words = (
+        r.choice(CALLS + 5 * MENDS + 3 * CHANGES)
+        if r.random() < 0.8
+        else f"{r.choice(['undo', 'redo'])} {bridge.version}"
+    )
     words = group_with(r, bridge.desk, words, lambda: r.choice(CALLS)) if groups else words
     return f"desk {r.randrange(16)} {words}"
 
@@ -120,7 +131,9 @@ def draw_nacks(r, bridge):
         base = (stream.next if stream else 0) - r.choice([1, 3, 20, 511, 512, 513])
         word = (base % 65536).to_bytes(2, "big") + r.choice([0, 1, 0x8001, r.randrange(65536)]).to_bytes(2, "big")
         packets += bytes.fromhex("81cd000300000009") + out.to_bytes(4, "big") + word
-    octets = bytes.fromhex("80c9000100000009") + packets + r.choice([b"", b"", bytes.fromhex("81ce000200000009000001f5")])
+    octets = (
+        bytes.fromhex("80c9000100000009") + packets + r.choice([b"", b"", bytes.fromhex("81ce000200000009000001f5")])
+    )
     if r.random() < 0.1:
         octets = octets[: r.randrange(1, len(octets) + 1)]
     return r.choice([P, Q, Q, R, R, "10.0.0.9:5000"]), octets
@@ -136,8 +149,14 @@ def draw_first(r):
 
 def draw_waits(r, moment):
     """The lines of some waits for a source, which may be one of audio, or none."""
-    address, ssrc = r.choice([(P, 101), (P, 101), (P, 101), (Q, 102), (Q, 102), (S, 301), (P, 201), r.choice([(R, 101), (P, 102), (P, 9)])])
-    return [f"wait {max(0, moment - r.choice([0, 0, 0, 10**9]))} {address} {ssrc}"] * r.choice([1, 1, 1, 1, 1, 2, 3, 4, 30])
+    address, ssrc = r.choice(
+        [(P, 101), (P, 101), (P, 101), (Q, 102), (Q, 102), (S, 301), (P, 201), r.choice([(R, 101), (P, 102), (P, 9)])]
+    )
+    return (
+        [f"wait {max(0, moment - r.choice([0, 0, 0, 10**9]))} {address} {ssrc}"] * r.choice(
+            [1, 1, 1, 1, 1, 2, 3, 4, 30]
+        )
+    )
 
 
 def draw_packet(r, senders):
@@ -190,7 +209,8 @@ def kind_of(answer):
 
 
 def compare_script(args, script, seen):
-    """Compares the program's answers with those of a script, or prints the script as cases. Tells what happens in it. The exit status."""
+    """Compares the program's answers with those of a script, or prints the script as cases. Tells what happens in it.
+    The exit status."""
     if args.cases:
         print("\n".join(text for line, answers in script for text in [line, *("> " + answer for answer in answers)]))
         return 0

@@ -1,16 +1,21 @@
 """Checks how documents and sources are written.
 
-Documents are README.md, CONTRIBUTING.md and docs/. The status is 1 where one has a median sentence of over 16 words, a sentence
-of over 38, a line over 120 columns, or a link that leads nowhere. Code, tables, headings and lists of names are no sentences, and
-a piece of code within a sentence counts as one word. Tables and code may be wider. How many lines a document has doesn't matter.
+Documents are README.md, CONTRIBUTING.md and docs/. The status is 1 where one has a median sentence of over 16 words, a
+sentence of over 38, a line over 120 columns, or a link that leads nowhere. Code, tables, headings and lists of names
+are no sentences, and a piece of code within a sentence counts as one word. Tables and code may be wider. How many lines
+a document has doesn't matter.
 
-Of sources the status is 1 where a function of crates/*/src has over 30 lines or over five parameters beside `self`, `rt` and `alloc`,
-a line over 120 columns, or a file over 300 lines (of the page its web files count, not what is made of them), and where a name of the bridge's crates is doubled: a type with two homes, a word
-of definitions with three. Types are structs, enums, traits and aliases, public or not; those of cases, examples and tests don't
-count. It is 1 as well where the lib.rt of a crate of the bridge has no example, or where a lib.rt names a function of another crate
-("`NAME` of CRATE") that isn't there. And it is 1 where a source of desk_page isn't what `make page` writes from the page's web files,
-or where a text that an edit of edits/ or must-fail/ replaces doesn't stand once in its file, or where a crate that is there to
-check sorts before one of the product.
+Of sources the status is 1 where a function of crates/*/src has over 30 lines or over five parameters beside `self`,
+`rt` and `alloc`, or a file over 300 lines (of the page its web files count, not what is made of them), and where a name
+of the bridge's crates is doubled: a type with two homes, a word of definitions with three. Types are structs, enums,
+traits and aliases, public or not; those of cases, examples and tests don't count. It is 1 as well where the lib.rt of a
+crate of the bridge has no example, or where a lib.rt names a function of another crate ("`NAME` of CRATE") that isn't
+there. And it is 1 where a source of desk_page isn't what `make page` writes from the page's web files, or where a text
+that an edit of edits/ or must-fail/ replaces doesn't stand once in its file, or where a crate that is there to check
+sorts before one of the product.
+
+A line of src/, specs/, proofs/, the page's web files and tools/ has at most 120 columns, if it is more than one text in
+quotes. `make layout` breaks those of specs/ and proofs/.
 """
 
 import collections
@@ -31,6 +36,10 @@ MOST_LINES_OF_FUNCTION = 30
 MOST_PARAMETERS = 5
 MOST_COLUMNS = 120
 MOST_LINES_OF_FILE = 300
+
+TOOLS = ROOT / "tools"
+# A line that is a text in quotes.
+ONE_TEXT = re.compile(r'\s*"[^"]*"[,;]?')
 
 
 def options(parser):
@@ -200,26 +209,47 @@ def print_longest(found):
 
 
 def check_sources():
-    """Prints how long functions, lines and files of src/ are. Whether none is too long."""
-    all_functions, long_files, long_lines = [], [], 0
+    """Prints how long functions and files of src/ are. Whether none is too long."""
+    all_functions, long_files = [], []
     made = [SOURCES / name for name, *_ in PARTS]
     for path in [*sorted(CRATES.glob("*/src/**/*.rt")), *sorted(WEB.iterdir())]:
         lines, where = path.read_text().splitlines(), str(path.relative_to(ROOT))
         if len(lines) > MOST_LINES_OF_FILE and path not in made:
             long_files.append((len(lines), where))
-        long_lines += sum(len(line) > MOST_COLUMNS for line in lines)
         all_functions += [(length, count, f"{where}: {name}") for name, length, count in functions(lines)]
     long_functions = [(length, where) for length, _, where in all_functions if length > MOST_LINES_OF_FUNCTION]
     wide_functions = [(count, where) for _, count, where in all_functions if count > MOST_PARAMETERS]
     median = statistics.median(length for length, _, _ in all_functions)
-    print(f"{len(all_functions)} functions, median {median:g} lines of body, {len(long_functions)} over {MOST_LINES_OF_FUNCTION}")
+    print(
+        f"{len(all_functions)} functions, median {median:g} lines of body, {len(long_functions)} over "
+        f"{MOST_LINES_OF_FUNCTION}"
+    )
     print_longest(long_functions)
     print(f"{len(wide_functions)} functions with over {MOST_PARAMETERS} parameters")
     print_longest(wide_functions)
-    print(f"{long_lines} lines over {MOST_COLUMNS} columns")
     print(f"{len(long_files)} files over {MOST_LINES_OF_FILE} lines")
     print_longest(long_files)
-    return not (long_functions or wide_functions or long_lines or long_files)
+    return not (long_functions or wide_functions or long_files)
+
+
+def files_with_lines():
+    """The files of which a line may not be too long."""
+    for pattern in ("src/**/*.rt", "specs/**/*.antt", "proofs/**/*.antt"):
+        yield from sorted(CRATES.glob(f"*/{pattern}"))
+    yield from sorted(path for path in TOOLS.glob("**/*") if path.is_file() and "__pycache__" not in path.parts)
+    yield from [*sorted(WEB.iterdir()), ROOT / "confbridge", ROOT / ".ci" / "run"]
+
+
+def check_lines():
+    """Prints which lines are too long. Whether there are none."""
+    found = []
+    for path in files_with_lines():
+        for number, line in enumerate(path.read_text().split("\n"), 1):
+            if len(line) > MOST_COLUMNS and not ONE_TEXT.fullmatch(line):
+                found.append(f"{path.relative_to(ROOT)}:{number}: {len(line)} columns")
+    print(f"{len(found)} lines over {MOST_COLUMNS} columns")
+    print("".join(f"       {fault}\n" for fault in found), end="")
+    return not found
 
 
 def homes_of(pairs, least):
@@ -248,7 +278,9 @@ def definition_names():
 
 def check_names():
     """Prints which names have more homes than one meaning needs. Whether none has."""
-    doubled = {"types with two homes": homes_of(type_names(), 2), "words with three homes": homes_of(definition_names(), 3)}
+    doubled = {
+        "types with two homes": homes_of(type_names(), 2), "words with three homes": homes_of(definition_names(), 3)
+    }
     for what, found in doubled.items():
         print(f"{len(found)} {what} or more")
         for name, homes in found.items():
@@ -270,7 +302,11 @@ def opening_of(path):
 
 def functions_of(crate):
     """The names of all functions of a crate."""
-    return {name for path in (CRATES / crate / "src").glob("**/*.rt") for name in re.findall(r"\bfn (\w+)", path.read_text())}
+    return {
+        name
+        for path in (CRATES / crate / "src").glob("**/*.rt")
+        for name in re.findall(r"\bfn (\w+)", path.read_text())
+    }
 
 
 def missing_calls(path):
@@ -282,7 +318,8 @@ def missing_calls(path):
 
 
 def check_examples():
-    """Prints which lib.rt has no example, and which functions of other crates it names in vain. Whether there are none."""
+    """Prints which lib.rt has no example, and which functions of other crates it names in vain. Whether there are
+    none."""
     faults = []
     for path in sorted(CRATES.glob("*/src/lib.rt")):
         if path.parts[-3] in bridge_crates() and "```rust" not in opening_of(path):
@@ -322,5 +359,6 @@ def run(args):
     good = [args.sources or check_documents()]
     if not args.docs:
         print()
-        good += [check_sources(), check_names(), check_examples(), check_made(), check_edits(), check_order()]
+        good += [check_sources(), check_lines(), check_names(), check_examples(), check_made(), check_edits()]
+        good += [check_order()]
     return 0 if all(good) else 1

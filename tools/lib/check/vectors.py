@@ -3,9 +3,11 @@
 FOLDER holds .txt files in the form that crates/x_cases_codecs/README.md describes, as crates/x_cases_codecs/data does.
 
 With --rx it holds what other programs sent. The bridge gets each packet as an `rx` line, and its answer is compared:
-  rtp-*.txt    a datagram a line, then its dissection (HEX by=.. marker= pt= seq= ts= ssrc= ..). A packet made of the number
+  rtp-*.txt a datagram a line, then its dissection (HEX by=.. marker= pt= seq= ts= ssrc= ..). A packet made of the
+  number
                before it comes first, and ends its probation.
-  trace-*.txt  the numbers of a stream, with what RFC 3550 A.1 says of each (rtp NS seq= ts= expect=). Its packets are made
+  trace-*.txt the numbers of a stream, with what RFC 3550 A.1 says of each (rtp NS seq= ts= expect=). Its packets are
+  made
                from its numbers.
 """
 
@@ -76,7 +78,8 @@ class Script:
         self.wanted.append((place, answers))
 
     def add_datagram(self, path, number, line):
-        """A datagram with its dissection, behind a packet of the number before it. That has no payload, so that its kind takes it."""
+        """A datagram with its dissection, behind a packet of the number before it. That has no payload, so that its
+        kind takes it."""
         f, place = fields_of(line), f"{path.name} line {number}"
         if line.startswith("#") or not line.strip() or f.get("class") != "Rtp" or "fault" in f:
             return
@@ -125,7 +128,10 @@ def check_rx(folder, binary, seconds):
     got = replay(script.lines, binary, seconds)
     refused = [line for line in got if line.startswith("no ")]
     got = [line for line in got if line.startswith("rx ")]
-    differ = [f"{place}: {text}, wanted {' or '.join(sorted(good))}" for (place, good), text in zip(script.wanted, got) if text not in good]
+    differ = [
+        f"{place}: {text}, wanted {' or '.join(sorted(good))}"
+        for (place, good), text in zip(script.wanted, got) if text not in good
+    ]
     print(*refused, *differ, *(f"{name}: {count} packets" for name, count in sorted(script.counts.items())), sep="\n")
     print(f"{len(script.wanted)} lines wanted, {len(got)} got, {len(differ)} differ")
     return 1 if refused or differ or len(got) != len(script.wanted) else 0

@@ -1,19 +1,22 @@
 """Has the socket of a bridge refuse datagrams, on a bridge that runs.
 
-A library in C stands before `sendto`. It lists each datagram that is tried, by which thread, and what came of it, and refuses some.
+A library in C stands before `sendto`. It lists each datagram that is tried, by which thread, and what came of it, and
+refuses some.
 
-Frames: in the middle of a frame the socket refuses some packets of a lane, by each of four errors in turn. Where it isn't ready (EAGAIN,
-ENOBUFS) for a short time, all of them come; where for longer, packets are given up until it is. By EPERM and ECONNREFUSED just the refused
-ones are lacking. The other lane's receiver gets every packet.
+Frames: in the middle of a frame the socket refuses some packets of a lane, by each of four errors in turn. Where it
+isn't ready (EAGAIN, ENOBUFS) for a short time, all of them come; where for longer, packets are given up until it is. By
+EPERM and ECONNREFUSED just the refused ones are lacking. The other lane's receiver gets every packet.
 Slow: for one lane the socket is ready at each 20th call. All its packets come, and meanwhile those of the other lane.
-Stuck: the socket is never ready for a lane. The other lane's receiver gets each of twenty frames before the next one is sent. Then it is
-never ready for any lane, and the bridge is stopped.
-Stops: the bridge is stopped while a frame is refused in its middle, by each error, and while a lane waits for the socket.
+Stuck: the socket is never ready for a lane. The other lane's receiver gets each of twenty frames before the next one is
+sent. Then it is never ready for any lane, and the bridge is stopped.
+Stops: the bridge is stopped while a frame is refused in its middle, by each error, and while a lane waits for the
+socket.
 Ends: a lane is refused memory while the other one waits for the socket. The bridge ends with status 2.
 
-Each time each stream's numbers go on, also over what was not sent. Nothing is tried again but what found the socket not ready. Each
-receiver gets what the system took, and nothing else. The bridge ends within 20 s, where twenty frames would take 40 s if a lane waited
-for each packet. At its end it says how many packets of which lane it didn't send for which cause, as the list has them.
+Each time each stream's numbers go on, also over what was not sent. Nothing is tried again but what found the socket not
+ready. Each receiver gets what the system took, and nothing else. The bridge ends within 20 s, where twenty frames would
+take 40 s if a lane waited for each packet. At its end it says how many packets of which lane it didn't send for which
+cause, as the list has them.
 """
 
 import errno
@@ -34,7 +37,14 @@ NEEDS = "the program, `cc`, half a minute"
 # How many packets a frame has, and how many of them are sent before the first that is refused.
 FRAME, BEFORE = 12, 4
 # Errors, and how many calls are refused by each: a lane tries a datagram 21 times, and then the next ones once.
-REFUSALS = [(errno.EAGAIN, 5), (errno.ENOBUFS, 5), (errno.EAGAIN, 24), (errno.ENOBUFS, 24), (errno.EPERM, 3), (errno.ECONNREFUSED, 3)]
+REFUSALS = [
+    (errno.EAGAIN, 5),
+    (errno.ENOBUFS, 5),
+    (errno.EAGAIN, 24),
+    (errno.ENOBUFS, 24),
+    (errno.EPERM, 3),
+    (errno.ECONNREFUSED, 3),
+]
 # The frames that a lane can't send. If it waited 20 ms for each packet, it would take 40 s.
 FRAMES, LARGE = 20, 100
 # Of so many calls on a slow socket one finds it ready: each packet takes some 20 ms.
@@ -53,7 +63,9 @@ class Bridges:
     """How bridges are started: with two lanes, a receiver in each, and both libraries before their own calls."""
 
     def __init__(self, args, folder):
-        self.program, self.folder, self.path = release_program(args.binary), folder, settings(folder, lanes=len(RECEIVERS))
+        self.program, self.folder, self.path = release_program(args.binary), folder, settings(
+            folder, lanes=len(RECEIVERS)
+        )
         self.libraries = [library(folder, "unready.c"), library(folder, "refusing.c")]
 
     def call(self):
@@ -107,7 +119,10 @@ class Shown(Call):
         except subprocess.TimeoutExpired:
             ended = "none"
         said = self.bridge.stderr.read() if ended != "none" else ""
-        check(ended == status, f"the bridge ends with status {ended} in {PATIENCE} s, not with {status}, and says {said!r}")
+        check(
+            ended == status,
+            f"the bridge ends with status {ended} in {PATIENCE} s, not with {status}, and says {said!r}",
+        )
         return {(int(lane), cause): int(count) for lane, count, cause in UNSENT.findall(said)}
 
     def stop(self, what):
@@ -186,14 +201,19 @@ def check_stuck(bridges):
         call.send_frame(LARGE)
         unsent = call.stop(what)
         check(unsent >= FRAMES * LARGE, f"{what}: the bridge gives up {unsent} packets, and not {FRAMES * LARGE}")
-        print(f"{what}: {unsent} packets are given up; the other lane sent {come} meanwhile; the bridge stopped", flush=True)
+        print(
+            f"{what}: {unsent} packets are given up; the other lane sent {come} meanwhile; the bridge stopped",
+            flush=True,
+        )
     finally:
         call.close()
 
 
 def check_stops(bridges):
     """Stops bridges in the middle of a frame that is refused, or for which a lane waits."""
-    for error, before, count, each in [*((error, BEFORE, count, 0) for error, count in REFUSALS), (errno.EAGAIN, 0, SLOW * FRAME, SLOW)]:
+    for error, before, count, each in [
+        *((error, BEFORE, count, 0) for error, count in REFUSALS), (errno.EAGAIN, 0, SLOW * FRAME, SLOW)
+    ]:
         call, what = bridges.call(), f"a stop while {count} calls of a lane are refused by {errno.errorcode[error]}"
         try:
             call.wire.refuse(call.lane(0), error, before, count, each)

@@ -1,13 +1,13 @@
 """Explains a capture of a bridge's call: who was dropped, muted or late, and which packet differs from the rules.
 
-CAPTURE is a file of tcpdump or Wireshark, pcap or pcapng, or `-` for standard input. It has to hold the datagrams of the bridge
-and the lines of its operators:
+CAPTURE is a file of tcpdump or Wireshark, pcap or pcapng, or `-` for standard input. It has to hold the datagrams of
+the bridge and the lines of its operators:
 
     tcpdump -i any -w call.pcap 'udp port 5004 or tcp port 7000'
 
-From these it makes a script for `confbridge replay`, and answers it by the models in tools/lib/models, which answer as the program
-does. A capture that begins in mid-call needs the desk: a `show` while it was made, or --desk. The status is 1 where a media packet
-differs from the model's, and 2 where nothing can be read.
+From these it makes a script for `confbridge replay`, and answers it by the models in tools/lib/models, which answer as
+the program does. A capture that begins in mid-call needs the desk: a `show` while it was made, or --desk. The status is
+1 where a media packet differs from the model's, and 2 where nothing can be read.
 """
 
 import contextlib
@@ -27,10 +27,20 @@ COLUMNS = 118
 
 def options(parser):
     parser.add_argument("capture", metavar="CAPTURE", help="a pcap or pcapng file, or - for standard input")
-    parser.add_argument("--of", metavar="MEMBER", help="tell of this member alone: its number, its address, or an SSRC of it")
-    parser.add_argument("--between", nargs=2, type=float, metavar=("A", "B"), help="tell of these seconds of the capture alone")
-    parser.add_argument("--script", metavar="FILE", help="write the script to a file, or with - to standard output, and tell nothing else")
-    parser.add_argument("--udp", metavar="ADDRESS", help="the bridge's `udp`, as an address or a port, where there are several")
+    parser.add_argument(
+        "--of", metavar="MEMBER", help="tell of this member alone: its number, its address, or an SSRC of it"
+    )
+    parser.add_argument(
+        "--between", nargs=2, type=float, metavar=("A", "B"), help="tell of these seconds of the capture alone"
+    )
+    parser.add_argument(
+        "--script",
+        metavar="FILE",
+        help="write the script to a file, or with - to standard output, and tell nothing else",
+    )
+    parser.add_argument(
+        "--udp", metavar="ADDRESS", help="the bridge's `udp`, as an address or a port, where there are several"
+    )
     parser.add_argument("--tcp", metavar="ADDRESS", help="the bridge's `tcp`, as an address or a port")
     parser.add_argument("--desk", metavar="FILE", help="the lines that `show` told when the capture began")
     parser.add_argument("--program", metavar="PROGRAM", help="compare the models' answers with those of this program")
@@ -64,7 +74,11 @@ def moments(wire, between):
 def folded(line):
     """A line in as many as its columns take, but for one that has an empty line before it."""
     indent = " " * (len(line) - len(line.lstrip(" ")) + 4)
-    return line if line.startswith("\n") else textwrap.fill(line, COLUMNS, subsequent_indent=indent, replace_whitespace=False)
+    return (
+        line
+        if line.startswith("\n")
+        else textwrap.fill(line, COLUMNS, subsequent_indent=indent, replace_whitespace=False)
+    )
 
 
 def write_script(run, name):

@@ -1,7 +1,7 @@
 """Looks for the order of what happened that explains the wire.
 
-A capture has the moments at which datagrams and lines came, not those at which the bridge took them. Where what the model sends
-differs from the wire, a tick or a call nearby may have been taken before or behind its neighbours.
+A capture has the moments at which datagrams and lines came, not those at which the bridge took them. Where what the
+model sends differs from the wire, a tick or a call nearby may have been taken before or behind its neighbours.
 """
 
 import dataclasses
@@ -38,7 +38,11 @@ class Search:
             self.states = [*self.states[-BACK:], (at, self.run.state())]
             found = len(self.run.cursor.found)
             self.run.go(self.events[at:end])
-            if len(self.run.cursor.found) > found and self.vain < VAIN and self.events[end - 1].place > self.run.settled:
+            if (
+                len(self.run.cursor.found) > found
+                and self.vain < VAIN
+                and self.events[end - 1].place > self.run.settled
+            ):
                 end = self.mend(end, found)
             at = end
 
@@ -47,7 +51,8 @@ class Search:
         return next((n + 1 for n in range(at, len(self.events)) if self.events[n].kind == TICK), len(self.events))
 
     def mend(self, end, goal):
-        """Tries other orders until no more than so many differences are left, and keeps the best. The place behind the last tick."""
+        """Tries other orders until no more than so many differences are left, and keeps the best. The place behind the
+        last tick."""
         least, best, last = len(self.run.cursor.found), None, self.events[end - 1]
         first, states = self.states[0][0], self.states
         usual = self.events[first:end]
@@ -67,8 +72,8 @@ class Search:
         return self.end
 
     def again(self, states, usual, order, last):
-        """Goes through events again in another order than the usual one, of which there are states, up to a tick. How many differences
-        there are then."""
+        """Goes through events again in another order than the usual one, of which there are states, up to a tick. How
+        many differences there are then."""
         first = states[0][0]
         same = next((n for n, (one, other) in enumerate(zip(usual, order)) if one is not other), len(usual) - 1)
         self.states = [state for state in states if state[0] <= first + same]
@@ -140,7 +145,8 @@ class Search:
         return sorted(order, key=Event.key)
 
     def other_moments(self, first, end):
-        """Orders in which a datagram or a tick that a run of a stream begins with has the moment that its timestamp tells."""
+        """Orders in which a datagram or a tick that a run of a stream begins with has the moment that its timestamp
+        tells."""
         for difference in self.run.cursor.found[-AT_ONCE:]:
             if difference.kind not in ("numbers", "octets") or not 0 < abs(difference.ahead) <= MOST_UNITS:
                 continue

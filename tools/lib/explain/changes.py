@@ -9,7 +9,8 @@ from lib.models.mix import MixBridge
 
 @dataclasses.dataclass(frozen=True)
 class Change:
-    """From a moment on a stream has a source or no longer has it, by a call, or by the desk with which a capture begins."""
+    """From a moment on a stream has a source or no longer has it, by a call, or by the desk with which a capture
+    begins."""
 
     moment: int
     member: int
@@ -34,7 +35,9 @@ def shown_by(bridge):
     """Each stream of a desk with its member and the sources that it may have."""
     desk, found = bridge.desk, {}
     for member in desk.members:
-        found[member["out_audio"]] = member["member"], {ssrc for ssrc, _, gain in bridge.sources_for(member) if gain > 0}
+        found[member["out_audio"]] = member["member"], {
+            ssrc for ssrc, _, gain in bridge.sources_for(member) if gain > 0
+        }
     for slot in desk.slots:
         choice = bridge.choice(slot)
         found[slot["out"]] = slot["member"], {choice} - {None}

@@ -21,8 +21,8 @@ class Sent:
 
 @dataclasses.dataclass(frozen=True)
 class Difference:
-    """What differs at a moment in a stream, by its kind, and how: the event of which the packet came, and by how much the wire's
-    timestamp is ahead."""
+    """What differs at a moment in a stream, by its kind, and how: the event of which the packet came, and by how much
+    the wire's timestamp is ahead."""
 
     moment: int
     stream: int
@@ -56,7 +56,8 @@ class Streams:
 def header_differences(wire, model):
     """The fields in which two RTP packets differ, in words."""
     fields = [
-        ("marker", wire[1] >> 7, model[1] >> 7), ("type", wire[1] & 127, model[1] & 127), ("number", seq_of(wire), seq_of(model)),
+        ("marker", wire[1] >> 7, model[1] >> 7), ("type", wire[1] & 127, model[1] & 127),
+        ("number", seq_of(wire), seq_of(model)),
         ("timestamp", number(wire[4:8]), number(model[4:8])),
         ("sources", sources_of(wire), sources_of(model)),
     ]  # fmt: skip
@@ -100,8 +101,8 @@ class Cursor:
         self.found.append(Difference(moment, out, kind, text, cause, ahead))
 
     def take(self, event, out, to, octets, tick=None):
-        """Compares a packet that the model sends, as an event has it do, with the wire. The kind of their difference, or None, and
-        the packet on the wire that it became."""
+        """Compares a packet that the model sends, as an event has it do, with the wire. The kind of their difference,
+        or None, and the packet on the wire that it became."""
         ahead = self.places_ahead(out, octets, tick)
         for _ in range(ahead or 0):
             self.extra(out)
@@ -115,12 +116,19 @@ class Cursor:
         told = header_differences(due.octets, octets) or [f"sent to {due.to}, not to {to}"]
         is_marker = told[0].startswith("marker") and len(told) == 1
         kind = "numbers" if is_but_numbers(due.octets, octets) else "marker" if is_marker else "octets"
-        self.note(due.moment, out, kind, f"number {seq_of(due.octets)}: {'; '.join(told)}", event, ahead_of(due.octets, octets))
+        self.note(
+            due.moment,
+            out,
+            kind,
+            f"number {seq_of(due.octets)}: {'; '.join(told)}",
+            event,
+            ahead_of(due.octets, octets),
+        )
         return kind, due
 
     def places_ahead(self, out, octets, tick):
-        """How many packets of the wire stand before the one that a packet of the model became, or None if it isn't there: that of its
-        tick, or one with its sources and payload."""
+        """How many packets of the wire stand before the one that a packet of the model became, or None if it isn't
+        there: that of its tick, or one with its sources and payload."""
         packets, at = self.streams.firsts.get(out, ()), self.at[out]
         for n, sent in enumerate(packets[at : at + AHEAD]):
             if (sent.tick == tick) if tick is not None and sent.tick is not None else sent.octets[12:] == octets[12:]:
@@ -128,7 +136,8 @@ class Cursor:
         return None
 
     def missing(self, event, out, octets, due):
-        """Notes that the wire lacks a packet of the model: the bridge goes on with its number, or the capture lacks it."""
+        """Notes that the wire lacks a packet of the model: the bridge goes on with its number, or the capture lacks
+        it."""
         seq = seq_of(octets)
         if due and (seq - seq_of(due.octets)) % 65536 < AHEAD:
             self.note(event.place, out, "unsent", f"number {seq}: the bridge didn't send what the model sends", event)
@@ -144,8 +153,8 @@ class Cursor:
         self.note(due.moment, out, "extra", f"number {seq_of(due.octets)}, of {named}: the model sends no such packet")
 
     def extras_before(self, moment, tick):
-        """Notes all packets that were on the wire before a moment, and all mixes up to a tick, that the model doesn't send. The
-        streams that have such packets."""
+        """Notes all packets that were on the wire before a moment, and all mixes up to a tick, that the model doesn't
+        send. The streams that have such packets."""
         behind = []
         for out in self.streams.firsts:
             while True:

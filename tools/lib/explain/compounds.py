@@ -1,4 +1,5 @@
-"""The compounds of a bridge on the wire, beside those of the model: reports, what senders are asked for, and pictures."""
+"""The compounds of a bridge on the wire, beside those of the model: reports, what senders are asked for, and
+pictures."""
 
 import collections
 import dataclasses
@@ -8,12 +9,13 @@ from lib.explain.events import RX, Event
 from lib.models.codec import Dropped, nack_numbers, read_rtcp
 from lib.packets import number
 
-# A picture is asked for so soon behind the call that gave a slot its source, in nanoseconds; where nothing had come yet, later.
+# A picture is asked for so soon behind the call that gave a slot its source, in nanoseconds; where nothing had come
+# yet, later.
 SOON = 700_000_000
 # The same behind the datagram that ended a source's probation.
 AT_ONCE = 70_000_000
-# Reports are equal but for the moment of reading a clock, if their numbers differ by no more than so much: units of jitter, of
-# 1/65,536 s and of timestamps.
+# Reports are equal but for the moment of reading a clock, if their numbers differ by no more than so much: units of
+# jitter, of 1/65,536 s and of timestamps.
 JITTER, DELAY, UNITS = 200, 3300, 9000
 # So many packets may a sender report count that left in its round, and so late may a compound leave, in nanoseconds.
 PACKETS, LATEST = 8, 2_000_000_000
@@ -21,7 +23,8 @@ PACKETS, LATEST = 8, 2_000_000_000
 
 @dataclasses.dataclass
 class Compared:
-    """How compounds compare: equal ones, those that differ by moments alone, pictures by themselves, and others, in words."""
+    """How compounds compare: equal ones, those that differ by moments alone, pictures by themselves, and others, in
+    words."""
 
     equal: int = 0
     near: int = 0
@@ -39,13 +42,17 @@ def told_of(octets):
     for pt, count, body in packets:
         if pt == 205 and count == 1:
             asked = nack_numbers(body[8:])
-            parts.append(f"NACK of {number(body[4:8])} for {', '.join(map(str, asked[:8]))}{' ..' if len(asked) > 8 else ''}")
+            parts.append(
+                f"NACK of {number(body[4:8])} for {', '.join(map(str, asked[:8]))}{' ..' if len(asked) > 8 else ''}"
+            )
         elif pt == 206 and count == 1:
             parts.append(f"PLI of {number(body[4:8])}")
         elif pt == 200:
             parts.append(f"sender report of {number(body[:4])}")
         elif pt == 201 and count:
-            parts.append(f"receiver report of {', '.join(str(number(body[at : at + 4])) for at in range(4, 4 + 24 * count, 24))}")
+            parts.append(
+                f"receiver report of {', '.join(str(number(body[at : at + 4])) for at in range(4, 4 + 24 * count, 24))}"
+            )
     return " and ".join(parts) or "an empty receiver report"
 
 
@@ -68,7 +75,10 @@ def is_close(wire, model, in_middle):
         one, other = wire[at : at + 24], model[at : at + 24]
         if one[:12] != other[:12] or one[16:20] != other[16:20]:
             return False
-        if abs(number(one[12:16]) - number(other[12:16])) > JITTER or abs(number(one[20:]) - number(other[20:])) > DELAY:
+        if (
+            abs(number(one[12:16]) - number(other[12:16])) > JITTER
+            or abs(number(one[20:]) - number(other[20:])) > DELAY
+        ):
             return False
     return True
 
@@ -80,7 +90,9 @@ def model_compounds(run):
         for line in done.said:
             words = line.split(" ")
             if words[0] in ("up", "ct"):
-                found[words[1] if words[0] == "up" else words[3]].append((done.event.place if done.event else 0, bytes.fromhex(words[-1])))
+                found[words[1] if words[0] == "up" else words[3]].append(
+                    (done.event.place if done.event else 0, bytes.fromhex(words[-1]))
+                )
     return found
 
 
@@ -101,7 +113,11 @@ def ended_probations(run):
 
 def cause_of_picture(desks, ssrc, moment):
     """The call by which a slot was given a source shortly before."""
-    near = [c for c in desks.changes if c.ssrc == ssrc and c.is_there and c.moment <= moment + SOON // 10 and desks.outs[c.out][0] != "mix"]
+    near = [
+        c
+        for c in desks.changes
+        if c.ssrc == ssrc and c.is_there and c.moment <= moment + SOON // 10 and desks.outs[c.out][0] != "mix"
+    ]
     return near[-1] if near else None
 
 
@@ -115,7 +131,10 @@ def compare(explained, desks):
         mine = model[datagram.peer]
         far = [abs(place - datagram.moment) for place, _ in mine]
         same = next((n for n, (_, octets) in enumerate(mine) if octets == datagram.octets and far[n] < LATEST), None)
-        close = next((n for n, (_, octets) in enumerate(mine) if far[n] < SOON and is_close(datagram.octets, octets, in_middle)), None)
+        close = next(
+            (n for n, (_, octets) in enumerate(mine) if far[n] < SOON and is_close(datagram.octets, octets, in_middle)),
+            None,
+        )
         ssrc = picture_of(datagram.octets)
         change = cause_of_picture(desks, ssrc, datagram.moment) if ssrc is not None else None
         if same is not None:
@@ -128,11 +147,15 @@ def compare(explained, desks):
             why = f"{datagram.peer} is asked for a picture of {ssrc}, which was accepted for the first time"
             compared.pictures.append((datagram.moment, why))
         elif change:
-            compared.pictures.append((datagram.moment, f"{datagram.peer} is asked for a picture of {ssrc}, which stream {change.out} shows "
-                                      f"since {by_call(change.call)}"))  # fmt: skip
+            stream = f"which stream {change.out} shows since {by_call(change.call)}"
+            compared.pictures.append((datagram.moment, f"{datagram.peer} is asked for a picture of {ssrc}, {stream}"))
         else:
-            compared.others.append((datagram.moment, f"to {datagram.peer}: {told_of(datagram.octets)}; the model sends no such compound"))
+            why = f"to {datagram.peer}: {told_of(datagram.octets)}; the model sends no such compound"
+            compared.others.append((datagram.moment, why))
     for peer, left in model.items():
-        compared.others += [(place, f"to {peer}: {told_of(octets)}, by the model alone: the limit on control, or the capture lacks it")
-                            for place, octets in left if place < explained.wire.end - 30_000_000]  # fmt: skip
+        compared.others += [
+            (place, f"to {peer}: {told_of(octets)}, by the model alone: the limit on control, or the capture lacks it")
+            for place, octets in left
+            if place < explained.wire.end - 30_000_000
+        ]
     return compared

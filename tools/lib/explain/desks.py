@@ -2,9 +2,11 @@
 
 from lib.models.desk import MOST_PARTS
 
-# The commands that put the rows of a kind, in the order in which rows may name each other, and the first word of a row that counts.
+# The commands that put the rows of a kind, in the order in which rows may name each other, and the first word of a row
+# that counts.
 PUTTING = [
-    ("room", "add-room", 1), ("member", "add-member", 2), ("source", "add-source", 1), ("slot", "add-slot", 1), ("sub", "subscribe", 1),
+    ("room", "add-room", 1), ("member", "add-member", 2), ("source", "add-source", 1), ("slot", "add-slot", 1),
+    ("sub", "subscribe", 1),
     ("mute", "mute", 1), ("gain", "set-gain", 1), ("pin", "pin", 1), ("floor", "give-floor", 1),
 ]  # fmt: skip
 
@@ -26,7 +28,10 @@ def with_firsts(command, firsts):
 
 def calls_for(desk, rows, firsts):
     """The calls that make one desk out of another. Sources and streams go on."""
-    commands = [f"remove-room {room['room']}" for room in desk.rooms] + [with_firsts(one, firsts) for one in commands_for(rows)]
+    commands = (
+        [f"remove-room {room['room']}" for room in desk.rooms]
+        + [with_firsts(one, firsts) for one in commands_for(rows)]
+    )
     return ["group " + " / ".join(commands[at : at + MOST_PARTS]) for at in range(0, len(commands), MOST_PARTS)]
 
 

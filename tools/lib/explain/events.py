@@ -19,9 +19,9 @@ LATE = 400_000_000
 
 @dataclasses.dataclass
 class Event:
-    """What happened: its kind, the place in time at which it seems to have been taken, its moment in a script, and what it is: a
-    datagram, a call, what `show` told, or a tick's number. Of ticks and calls, when it was taken at the latest. A tick of a round in
-    which another one follows has no wait."""
+    """What happened: its kind, the place in time at which it seems to have been taken, its moment in a script, and what
+    it is: a datagram, a call, what `show` told, or a tick's number. Of ticks and calls, when it was taken at the
+    latest. A tick of a round in which another one follows has no wait."""
 
     kind: int
     place: int
@@ -48,13 +48,20 @@ def report_moments(wire, control):
                 groups.append([])
             groups[-1].append(datagram)
     for group in groups:
-        moments = [moment_of_ntp(datagram.octets[8:16]) for datagram in group if datagram.octets[1] == 200 and len(datagram.octets) >= 28]
-        yield (group[0].moment, max(set(moments), key=moments.count)) if moments else (group[0].moment, group[0].moment - SENT)
+        moments = [
+            moment_of_ntp(datagram.octets[8:16])
+            for datagram in group if datagram.octets[1] == 200 and len(datagram.octets) >= 28
+        ]
+        yield (
+            (group[0].moment, max(set(moments), key=moments.count))
+            if moments
+            else (group[0].moment, group[0].moment - SENT)
+        )
 
 
 def latency_of(wire, control):
-    """How long after a datagram the bridge asks its sender for something, as a rule. What comes until then it takes in the same
-    round, before a tick."""
+    """How long after a datagram the bridge asks its sender for something, as a rule. What comes until then it takes in
+    the same round, before a tick."""
     arrivals = collections.defaultdict(list)
     for datagram in wire.into:
         arrivals[datagram.peer].append(datagram.moment)
@@ -91,7 +98,10 @@ def set_waits(ticks):
 def events_of(wire, calls, shown, grid, control, begin):
     """All that happened from a moment on, in order."""
     events = [Event(RX, d.moment, d.moment, d) for d in wire.into if d.moment >= begin]
-    events += [Event(CALL, call.at, call.at, call, call.until or call.at) for call in calls if call.is_call() and call.at >= begin]
+    events += [
+        Event(CALL, call.at, call.at, call, call.until or call.at)
+        for call in calls if call.is_call() and call.at >= begin
+    ]
     events += [Event(SHOWN, one.until, one.until, one) for one in shown if one.until > begin]
     ticks = tick_events(wire, grid, begin, int(latency_of(wire, control)))
     events += ticks

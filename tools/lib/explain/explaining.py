@@ -12,7 +12,8 @@ from lib.explain.running import Run, ticks_late
 from lib.explain.ticks import GAP, grid_of
 from lib.explain.wire import wire_of
 
-# A source whose first packet comes so soon after the beginning of a capture in mid-call was heard before, in nanoseconds.
+# A source whose first packet comes so soon after the beginning of a capture in mid-call was heard before, in
+# nanoseconds.
 SOON = 200_000_000
 # What would be sent so shortly before the end may come behind it, in nanoseconds.
 TAIL = 40_000_000
@@ -33,7 +34,8 @@ class Explained:
 
 
 def beginning(wire, calls, shown, rows):
-    """The desk with which a capture begins: None for an empty one. The moment from which on it is known, or None if it isn't."""
+    """The desk with which a capture begins: None for an empty one. The moment from which on it is known, or None if it
+    isn't."""
     if rows is not None:
         return Shown(wire.begin, wire.begin, tuple(rows[:-1]), int(rows[-1].split(" ")[1])), wire.begin
     first = min((call.number for call in calls if call.number), default=0)
@@ -46,7 +48,10 @@ def beginning(wire, calls, shown, rows):
 
 def running_sources(wire, begin):
     """The sources that seem to have been heard before a moment, as they are named by their packets."""
-    near = [d for d in wire.into if begin <= d.moment < begin + SOON and len(d.octets) >= 12 and not 192 <= d.octets[1] <= 223]
+    near = [
+        d
+        for d in wire.into if begin <= d.moment < begin + SOON and len(d.octets) >= 12 and not 192 <= d.octets[1] <= 223
+    ]
     return {(d.peer, d.octets[8:12]): 1 for d in near}
 
 
@@ -72,17 +77,24 @@ def explained(stream, udp=None, tcp=None, rows=None):
     run = Run(wire, streams, who_speaks(streams.control), base)
     run.tail = wire.end - TAIL - grid.lateness()
     if base:
-        wire.notes.add("the capture begins in mid-call: the desk is that of a `show`, and what waited in buffers is unknown", begin)
+        wire.notes.add(
+            "the capture begins in mid-call: the desk is that of a `show`, and what waited in buffers is unknown", begin
+        )
         run.running.update(running_sources(wire, begin))
         for packets in streams.firsts.values():
             packets[:] = [sent for sent in packets if sent.moment >= begin]
     later = [one for one in shown if one is not base]
     if not base:
-        late = ticks_late(Run(wire, streams, who_speaks(streams.control)), events_of(wire, calls, later, grid, streams.control, begin))
+        late = ticks_late(
+            Run(wire, streams, who_speaks(streams.control)), events_of(wire, calls, later, grid, streams.control, begin)
+        )
         if LATE <= late <= MOST_LATE:
             grid.base -= late * GAP
             run.tail = grid.moment(max(grid.mixes)) + 1
-            wire.notes.add(f"the bridge was late from the beginning, by {late * GAP // 10**6} ms or more: its machine is busy", begin)
+            wire.notes.add(
+                f"the bridge was late from the beginning, by {late * GAP // 10**6} ms or more: its machine is busy",
+                begin,
+            )
     Search(run, events_of(wire, calls, later, grid, streams.control, begin)).go()
     for text, moment in run.odd:
         wire.notes.add(text, moment)

@@ -26,7 +26,9 @@ class Findings:
     """Collects sentences, each with the members that it concerns."""
 
     def __init__(self, explained, desks, senders, outgoing, seconds):
-        self.explained, self.desks, self.senders, self.outgoing, self.seconds = explained, desks, senders, outgoing, seconds
+        self.explained, self.desks, self.senders, self.outgoing, self.seconds = (
+            explained, desks, senders, outgoing, seconds
+        )
         self.found = []
 
     def add(self, text, *members):
@@ -50,15 +52,24 @@ class Findings:
         name = f"{source.address} sends SSRC {source.ssrc} as {type_name(source.pt)}"
         for outcome, count in source.outcomes.items():
             if outcome.startswith("dropped"):
-                self.add(f"{name}: {counted(count)} {outcome}{self.why_dropped(source, outcome, member)}", member, owner)
-        taken = sum(count for outcome, count in source.outcomes.items() if outcome in ("accepted", "late", "duplicate", "restarted"))
+                self.add(
+                    f"{name}: {counted(count)} {outcome}{self.why_dropped(source, outcome, member)}", member, owner
+                )
+        taken = sum(
+            count
+            for outcome, count in source.outcomes.items() if outcome in ("accepted", "late", "duplicate", "restarted")
+        )
         if not taken:
             if source.outcomes["probation"]:
                 self.add(f"{name}: no two of its numbers follow one another, so it stays on probation", member)
             return
         if source.lost() > MUCH * source.expected():
             share = 100 * source.lost() / source.expected()
-            self.add(f"{source.ssrc}: {counted(source.lost())} of {source.expected():,} ({share:.0f} %) are lost before the bridge", member)
+            self.add(
+                f"{source.ssrc}: {counted(source.lost())} of {source.expected():,} ({share:.0f} %) are lost before the "
+                "bridge",
+                member,
+            )
         if source.outcomes["restarted"]:
             self.add(f"{source.ssrc} begins anew {times(source.outcomes['restarted'])}: its numbers jump", member)
         self.of_sound(source, member)
@@ -73,14 +84,21 @@ class Findings:
             worst = [one for one in late if one > 60]
             counts = f"{source.late():,} of {len(late):,} packets come more than 60 ms late"
             half = f" (half of all are {middle:.0f} ms late or more)" if middle > 20 else ""
-            text = f"{source.ssrc}: {counts}, the middle one of them {worst[len(worst) // 2]:.0f} ms: what is so late isn't heard"
+            text = (
+                f"{source.ssrc}: {counts}, the middle one of them {worst[len(worst) // 2]:.0f} ms: what is so late "
+                "isn't heard"
+            )
             self.add(text + half, member)
         if source.renewed:
             why = "since its sound was late or full for too long"
             self.add(f"{source.ssrc}: its jitter buffer began anew {times(source.renewed)}, {why}", member)
         early = sum(one < -60 for one in late)
         if early > len(late) / 4:
-            self.add(f"{source.ssrc} is heard late: over 120 ms of its sound wait in {100 * early / len(late):.0f} % of the time", member)
+            self.add(
+                f"{source.ssrc} is heard late: over 120 ms of its sound wait in {100 * early / len(late):.0f} % of the "
+                "time",
+                member,
+            )
         if source.level() is not None and source.level() < QUIET:
             self.add(f"{source.ssrc} sends silence, or nearly so: {source.level():.0f} dBFS", member)
 
@@ -107,7 +125,9 @@ class Findings:
         """What is no RTP, and was dropped."""
         for (address, kind, outcome), count in self.senders.others.items():
             if outcome and outcome.startswith("dropped"):
-                self.add(f"{address} sends {kind}: {counted(count, 'datagram')} {outcome}", self.desks.member_at(address))
+                self.add(
+                    f"{address} sends {kind}: {counted(count, 'datagram')} {outcome}", self.desks.member_at(address)
+                )
 
     def of_marks(self):
         """Mutes and gains of 0."""
@@ -115,8 +135,14 @@ class Findings:
             ssrc = int(mark.what.split(" ")[0] if mark.what.endswith("muted") else mark.what.split(" ")[3])
             owner = self.desks.sources.get(ssrc, {}).get("member")
             others = [int(mark.what.split(" ")[5])] if mark.what.startswith("the gain") else []
-            since = f"since {by_call(mark.call)} at {self.seconds(mark.since):.3f} s" if mark.call else "since before the capture"
-            until = f", until {by_call(mark.ended)} at {self.seconds(mark.until):.3f} s" if mark.until is not None else ""
+            since = (
+                f"since {by_call(mark.call)} at {self.seconds(mark.since):.3f} s"
+                if mark.call
+                else "since before the capture"
+            )
+            until = (
+                f", until {by_call(mark.ended)} at {self.seconds(mark.until):.3f} s" if mark.until is not None else ""
+            )
             text = mark.what.replace(" is ", " was ") if until else mark.what
             self.add(f"{text} {since}{until}", owner, *others)
 
@@ -126,9 +152,14 @@ class Findings:
         for ssrc, row in self.desks.sources.items():
             if ssrc not in heard and row["member"] in self.desks.members:
                 address = self.desks.members[row["member"]]["address"]
-                others = [source.address for source in self.senders.sources.values() if self.is_stranger_near(source.address, address)]
+                others = [
+                    source.address
+                    for source in self.senders.sources.values() if self.is_stranger_near(source.address, address)
+                ]
                 more = f", but packets come from {others[0]}" if others else ""
-                self.add(f"no packet of {ssrc} came: member {row['member']} has to send from {address}{more}", row["member"])
+                self.add(
+                    f"no packet of {ssrc} came: member {row['member']} has to send from {address}{more}", row["member"]
+                )
         rooms = collections.Counter(member["room"] for member in self.desks.members.values())
         for number, member in self.desks.members.items():
             if rooms[member["room"]] == 1 and len(self.desks.members) > 1:
@@ -145,24 +176,44 @@ class Findings:
             if bridge.choice(slot) is None:
                 wanted = bridge.wanted(slot)
                 source = bridge.desk.source(wanted)
-                why = "it has no subscription, and its room no pin and no floor" if wanted is None else f"{wanted} is muted"
+                why = (
+                    "it has no subscription, and its room no pin and no floor"
+                    if wanted is None
+                    else f"{wanted} is muted"
+                )
                 if slot["index"] and wanted is None:
                     why = "it has no subscription"
                 if source and source["member"] == slot["member"]:
                     why = f"{wanted} is its own member's"
-                self.add(f"stream {slot['out']} of member {slot['member']} shows nothing at the end: {why}", slot["member"])
+                self.add(
+                    f"stream {slot['out']} of member {slot['member']} shows nothing at the end: {why}", slot["member"]
+                )
 
     def of_pauses(self):
         """Pictures that stood still."""
-        videos = {s.ssrc: s for s in self.senders.sources.values() if self.desks.sources.get(s.ssrc, {}).get("media") == "video"}
+        videos = {
+            s.ssrc: s
+            for s in self.senders.sources.values() if self.desks.sources.get(s.ssrc, {}).get("media") == "video"
+        }
         for stream in self.outgoing:
             shown = videos.get(stream.spans[-1].ssrc) if stream.spans else None
-            if self.desks.outs.get(stream.out, ("mix",))[0] == "mix" or stream.pause < STILL or not shown or shown.pause > stream.pause:
+            if (
+                self.desks.outs.get(stream.out, ("mix",))[0] == "mix"
+                or stream.pause < STILL
+                or not shown
+                or shown.pause > stream.pause
+            ):
                 continue
-            changed = [c for c in self.desks.changes if c.out == stream.out and 0 <= c.moment - stream.paused_at <= stream.pause]
+            changed = [
+                c
+                for c in self.desks.changes if c.out == stream.out and 0 <= c.moment - stream.paused_at <= stream.pause
+            ]
             if not changed:
                 member = self.desks.outs[stream.out][1]
-                when = f"for {stream.pause / 1e9:.2f} s at {self.seconds(stream.paused_at):.3f} s, while packets of {shown.ssrc} came"
+                when = (
+                    f"for {stream.pause / 1e9:.2f} s at {self.seconds(stream.paused_at):.3f} s, while packets of "
+                    f"{shown.ssrc} came"
+                )
                 text = f"stream {stream.out} of member {member} stood still {when}: {self.asked_for(shown, stream)}"
                 self.add(text, member, self.desks.sources[shown.ssrc]["member"])
 
@@ -178,7 +229,10 @@ class Findings:
         """What the bridge asked a source for in a pause."""
         nacks = plis = 0
         for datagram in self.explained.streams.control:
-            if datagram.peer == source.address and stream.paused_at <= datagram.moment <= stream.paused_at + stream.pause:
+            if (
+                datagram.peer == source.address
+                and stream.paused_at <= datagram.moment <= stream.paused_at + stream.pause
+            ):
                 nacks += b"\x81\xcd" in datagram.octets
                 plis += b"\x81\xce" in datagram.octets
         return f"the bridge asked for lost packets {times(nacks)}, and for a picture {times(plis)}"

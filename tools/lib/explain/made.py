@@ -27,12 +27,15 @@ CALLS = {24: "mute 202", 34: "undo 9", 50: "group set-gain 10 202 128 / mute 101
 
 
 class Made:
-    """A call of so many ticks. Member 10 sends sound of wrong types too, and a stranger sends something; video loses packets."""
+    """A call of so many ticks. Member 10 sends sound of wrong types too, and a stranger sends something; video loses
+    packets."""
 
     setup = SETUP
 
     def __init__(self, ticks=80, shows=None, bridge=(BRIDGE, DESK), members=(ONE, OTHER)):
-        self.packets, self.bridge, self.moment, (self.one, self.other), (udp, tcp) = [], ReportBridge(), BEGIN, members, bridge
+        self.packets, self.bridge, self.moment, (self.one, self.other), (
+            udp, tcp
+        ) = [], ReportBridge(), BEGIN, members, bridge
         self.udp, self.tcp, self.seqs, self.seq = udp, tcp, {OPERATOR: 1000, tcp: 5000}, 0
         # The packets of video, and those that were asked for, with the tick at which they are sent again.
         self.video, self.again = {}, []
@@ -70,7 +73,9 @@ class Made:
                     self.put(packet, after)
                 after += 10_000
             if words[0] == "up":
-                self.again += [(self.tick + 2, seq) for seq in asked_numbers(bytes.fromhex(words[2]))[0] if seq != NEVER_AGAIN]
+                self.again += [
+                    (self.tick + 2, seq) for seq in asked_numbers(bytes.fromhex(words[2]))[0] if seq != NEVER_AGAIN
+                ]
 
     def comes(self, address, octets):
         """A datagram, and what the bridge answers."""

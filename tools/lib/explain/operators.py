@@ -10,8 +10,8 @@ SEATS = 16
 
 @dataclasses.dataclass
 class Call:
-    """A line of an operator: when it came, the connection and the seat, its words, the answer and when that left. A call that was
-    accepted has its number. `at` is the moment at which it counts."""
+    """A line of an operator: when it came, the connection and the seat, its words, the answer and when that left. A
+    call that was accepted has its number. `at` is the moment at which it counts."""
 
     moment: int
     client: str
@@ -24,7 +24,10 @@ class Call:
 
     def is_call(self):
         """Whether it is a call of the desk, which a script can say."""
-        return self.text.split(" ")[0] not in ("show", "quit", "stop", "") and fault_of_line(self.text.encode("latin-1")) is None
+        return (
+            self.text.split(" ")[0] not in ("show", "quit", "stop", "")
+            and fault_of_line(self.text.encode("latin-1")) is None
+        )
 
 
 @dataclasses.dataclass(frozen=True)

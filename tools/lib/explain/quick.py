@@ -11,7 +11,8 @@ class QuickGate(Gate):
 
     def __init__(self):
         super().__init__()
-        # Where the pieces begin that aren't forgotten, whether a piece since the cut is, and the cut for which this is so.
+        # Where the pieces begin that aren't forgotten, whether a piece since the cut is, and the cut for which this is
+        # so.
         self.base, self.has_forgotten, self.known_cut = None, False, None
 
     def pieces(self):

@@ -1,4 +1,5 @@
-"""What each receiver got: its streams on the wire, when each source was heard or seen in them, and by which call that changed."""
+"""What each receiver got: its streams on the wire, when each source was heard or seen in them, and by which call that
+changed."""
 
 import collections
 import dataclasses
@@ -28,7 +29,8 @@ class Span:
 
 @dataclasses.dataclass
 class Outgoing:
-    """A stream on the wire: to whom, its packets, the gaps of its numbers, the longest pause and when that began, and its spans."""
+    """A stream on the wire: to whom, its packets, the gaps of its numbers, the longest pause and when that began, and
+    its spans."""
 
     out: int
     to: str
@@ -67,7 +69,9 @@ def outgoing_of(streams, is_mix, between):
             lost = sum((seq_of(b.octets) - seq_of(a.octets) - 1) % 65536 for a, b in zip(packets, packets[1:]))
             mix = is_mix(out)
             spans = spans_of(packets, MIX_GAP if mix else VIDEO_GAP, 20_000_000 if mix else STILL)
-            found.append(Outgoing(out, packets[-1].to, len(packets), lost, *max(gaps, default=(0, packets[0].moment)), spans))
+            found.append(
+                Outgoing(out, packets[-1].to, len(packets), lost, *max(gaps, default=(0, packets[0].moment)), spans)
+            )
     return found
 
 
@@ -82,7 +86,10 @@ class Causes:
 
     def change(self, out, ssrc, is_there, moment, slack):
         """The change of the desk by which a source begins or ends in a stream, if one came shortly before."""
-        of_it = [change for change in self.desks.changes if (change.out, change.ssrc, change.is_there) == (out, ssrc, is_there)]
+        of_it = [
+            change
+            for change in self.desks.changes if (change.out, change.ssrc, change.is_there) == (out, ssrc, is_there)
+        ]
         near = [change for change in of_it if moment - slack <= change.moment <= moment + SOON]
         return near[-1] if near else None
 

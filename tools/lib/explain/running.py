@@ -17,7 +17,8 @@ SETTLED = 700_000_000
 
 @dataclasses.dataclass(frozen=True)
 class Done:
-    """A line of the script: what it is of, what the model answered, the desk's version and how far ahead its sound came."""
+    """A line of the script: what it is of, what the model answered, the desk's version and how far ahead its sound
+    came."""
 
     line: str
     said: tuple
@@ -33,12 +34,13 @@ class Run:
         self.wire, self.bridge, self.cursor, self.done = wire, QuickBridge(), Cursor(streams), []
         # What the model sends from here on may come behind the end of the capture.
         self.tail = wire.end
-        # Of a capture that begins in mid-call: by how much numbers of calls differ, the first numbers of streams, how many undos
-        # lead back to the beginning.
+        # Of a capture that begins in mid-call: by how much numbers of calls differ, the first numbers of streams, how
+        # many undos lead back to the beginning.
         self.shown, self.shift, self.firsts, self.floor = shown, 0, {}, 0
         # From here on what waited in buffers before such a capture no longer counts.
         self.settled = shown.until + SETTLED if shown else 0
-        # The sources that seem to have been heard before a capture that begins in mid-call, and what is odd about the desk.
+        # The sources that seem to have been heard before a capture that begins in mid-call, and what is odd about the
+        # desk.
         self.running, self.odd = collections.Counter(), []
         ssrc, cname = speaker
         self.say(f"bridge {ssrc} {cname.replace(' ', '_')} renew", None)
@@ -64,7 +66,9 @@ class Run:
         rows = self.bridge.desk.shown(0)[:-1]
         if without_firsts(rows) != without_firsts(shown.rows):
             lost = sorted(set(shown.rows) ^ set(rows))
-            self.odd.append((f"the desk isn't what the calls made it: it is taken from `show` ({', '.join(lost[:3])})", shown.until))
+            self.odd.append(
+                (f"the desk isn't what the calls made it: it is taken from `show` ({', '.join(lost[:3])})", shown.until)
+            )
             self.make(shown)
 
     def call(self, event):
@@ -79,7 +83,12 @@ class Run:
             words[1] = str(max(0, int(words[1]) - self.shift))
         said = self.say(f"desk {min(call.seat, 15)} {' '.join(words)}", event)[0].split(" ")
         if call.number and said != ["ok", str(call.number - self.shift)]:
-            self.odd.append((f"`{call.text}` is answered `{call.answer}` by the bridge, and `{' '.join(said)}` by the model", call.moment))
+            self.odd.append(
+                (
+                    f"`{call.text}` is answered `{call.answer}` by the bridge, and `{' '.join(said)}` by the model",
+                    call.moment,
+                )
+            )
             if said[0] == "no":
                 self.shift += 1
 
@@ -119,7 +128,8 @@ class Run:
             self.compare(event, self.say(f"wait {moment} {addresses[source['member']]} {source['ssrc']}", event))
 
     def compare(self, event, said, tick=None):
-        """Compares packets that the model sends with the wire. Where the bridge's numbers are others, the model takes them over."""
+        """Compares packets that the model sends with the wire. Where the bridge's numbers are others, the model takes
+        them over."""
         for line in said:
             words = line.split(" ")
             if words[0] != "tx":
@@ -150,7 +160,9 @@ class Run:
     # Going through events
 
     def state(self):
-        return self.bridge.state(), self.cursor.state(), len(self.done), +self.running, self.shift, self.floor, len(self.odd)
+        return self.bridge.state(), self.cursor.state(), len(self.done), +self.running, self.shift, self.floor, len(
+            self.odd
+        )
 
     def go_back(self, state):
         bridge, cursor, done, running, self.shift, self.floor, odd = state
@@ -160,7 +172,8 @@ class Run:
         del self.done[done:], self.odd[odd:]
 
     def go(self, events):
-        """Goes through some events, of which the last may be a tick. In mid-call, streams that begin are given their first numbers."""
+        """Goes through some events, of which the last may be a tick. In mid-call, streams that begin are given their
+        first numbers."""
         before = self.state()
         while True:
             try:
@@ -180,21 +193,26 @@ class Run:
         """Puts the first numbers of a stream into its row, in each desk that undo and redo lead to."""
         log = self.bridge.log
         for desk in (log.desk, *(desk for _, desk in (*log.done, *log.undone))):
-            for row in (*(s for s in desk.slots if s["out"] == out), *(m for m in desk.members if m["out_audio"] == out)):
+            for row in (
+                *(s for s in desk.slots if s["out"] == out), *(m for m in desk.members if m["out_audio"] == out)
+            ):
                 row["seq"], row["ts"] = self.firsts[out]
 
     def script(self):
         """The lines of the script. Streams of a capture that begins in mid-call have their first numbers."""
         for done in self.done:
             if self.shown and done.line.startswith("desk 0 group ") and done.event is self.shown:
-                commands = [with_firsts(part, self.firsts) for part in done.line.removeprefix("desk 0 group ").split(" / ")]
+                commands = [
+                    with_firsts(part, self.firsts) for part in done.line.removeprefix("desk 0 group ").split(" / ")
+                ]
                 yield "desk 0 group " + " / ".join(commands)
             else:
                 yield done.line
 
 
 def ticks_late(run, events):
-    """By how many ticks the first mix of the model is before that on the wire: a bridge that is always late hides when it ticks."""
+    """By how many ticks the first mix of the model is before that on the wire: a bridge that is always late hides when
+    it ticks."""
     for event in events:
         if event.kind == RX:
             run.say(f"rx {event.moment} {event.what.peer} {event.what.octets.hex()}", event)

@@ -9,7 +9,17 @@ from lib.models.mix import expanded, samples_of
 from lib.packets import number
 
 # The payload types that are known by their numbers (RFC 3551), and what the bridge takes 97 for.
-TYPES = {0: "PCMU", 3: "GSM", 4: "G723", 8: "PCMA", 9: "G722", 11: "L16 at 44100 Hz", 13: "comfort noise", 18: "G729", 97: "L16"}
+TYPES = {
+    0: "PCMU",
+    3: "GSM",
+    4: "G723",
+    8: "PCMA",
+    9: "G722",
+    11: "L16 at 44100 Hz",
+    13: "comfort noise",
+    18: "G729",
+    97: "L16",
+}
 AUDIO = {0: 8000, 97: 8000, 11: 44100}
 # Sound of over -40 dBFS counts as speech.
 SPEECH = (32768 / 100) ** 2
@@ -51,8 +61,8 @@ class Source:
         self.packets = self.octets = self.swapped = self.speaking = 0
         self.first = self.last = self.least = self.greatest = None
         self.jitter, self.transit, self.power, self.samples = 0.0, None, 0, 0
-        # What became of the packets; how far ahead of the next sample they came, in units of 8000 Hz; the longest time without one.
-        # How often its jitter buffer began anew.
+        # What became of the packets; how far ahead of the next sample they came, in units of 8000 Hz; the longest time
+        # without one. How often its jitter buffer began anew.
         self.outcomes, self.far, self.pause, self.renewed = collections.Counter(), [], 0, 0
 
     def take(self, moment, octets):

@@ -21,7 +21,8 @@ REASONS = {
 
 
 def telling(explained, name, wanted, between):
-    """The lines that tell of a capture. `wanted` is a member, an SSRC or an address, or None for all; `between` two moments."""
+    """The lines that tell of a capture. `wanted` is a member, an SSRC or an address, or None for all; `between` two
+    moments."""
     return Telling(explained, wanted, between).lines(name)
 
 
@@ -74,7 +75,10 @@ class Telling:
         for line in self.wire.notes.lines(self.wire.begin):
             yield f"note: {line}"
         if not self.it.run:
-            yield "note: the desk isn't in it, so nobody knows what the bridge did with a datagram. Capture from the bridge's start"
+            yield (
+                "note: the desk isn't in it, so nobody knows what the bridge did with a datagram. Capture from the "
+                "bridge's start"
+            )
             yield "      on, give `show` while you capture, or name a file with the lines of `show` by --desk"
 
     # Parts
@@ -127,31 +131,45 @@ class Telling:
                 last = stream.to
                 yield f"  {stream.to}  {f'member {member}' if member is not None else ''}".rstrip()
             gaps = f"{stream.lost:,} numbers missing" if stream.lost else "no number missing"
-            yield f"    {stream.out}, {kind}: {counted(stream.packets)}, {gaps}, longest pause {stream.pause / 1e6:.0f} ms"
+            yield (
+                f"    {stream.out}, {kind}: {counted(stream.packets)}, {gaps}, longest pause {stream.pause / 1e6:.0f} "
+                "ms"
+            )
             for span in spans:
                 yield f"      {self.span(causes, stream, span)}"
 
     def span(self, causes, stream, span):
         """When a source was in a stream, and why it began and ended."""
-        verb, begin, end = "hears" if self.is_mix(stream.out) else "sees", self.seconds(span.begin), self.seconds(span.end)
+        verb, begin, end = (
+            "hears" if self.is_mix(stream.out) else "sees", self.seconds(span.begin), self.seconds(span.end)
+        )
         text = f"{verb} {span.ssrc} from {begin:.3f} to {end:.3f} s"
         if not causes:
             return text
         longest = MIX_GAP if self.is_mix(stream.out) else VIDEO_GAP
-        text += "".join(f", {why}" for why in (causes.of_begin(stream.out, span), causes.of_end(stream.out, span, longest)) if why)
+        text += "".join(
+            f", {why}" for why in (causes.of_begin(stream.out, span), causes.of_end(stream.out, span, longest)) if why
+        )
         return text + (f" ({span.pauses} short pauses, {span.missing / 1e6:.0f} ms)" if span.pauses else "")
 
     def calls(self):
         yield "\ncalls"
         for call in self.it.calls:
-            changes = [change for change in self.desks.changes_by(call) if self.concerns(change.member, self.owner(change.ssrc))]
+            changes = [
+                change
+                for change in self.desks.changes_by(call) if self.concerns(change.member, self.owner(change.ssrc))
+            ]
             if not call.is_call() or not self.is_within(call.moment) or (self.members is not None and not changes):
                 continue
             name = f"call {call.number}" if call.number else "refused" if call.answer.startswith("no ") else "a call"
             answer = "" if call.number else f" > {call.answer or 'no answer in the capture'}"
             yield f"  {self.seconds(call.moment):8.3f} s  operator {call.seat}, {name}: {call.text}{answer}"
             for member, out, is_there, ssrcs in grouped(changes):
-                verb = ("hears" if is_there else "no longer hears") if self.is_mix(out) else ("sees" if is_there else "no longer sees")
+                verb = (
+                    ("hears" if is_there else "no longer hears")
+                    if self.is_mix(out)
+                    else ("sees" if is_there else "no longer sees")
+                )
                 where = "" if self.is_mix(out) else f" in {out}"
                 yield f"              {member} {verb} {', '.join(map(str, ssrcs))}{where}"
 
@@ -162,7 +180,11 @@ class Telling:
         """How the wire compares with the model."""
         cursor, compared = self.it.run.cursor, compounds.compare(self.it, self.desks)
         total = sum(map(len, cursor.streams.firsts.values()))
-        found = [one for one in cursor.found if self.is_within(one.moment) and self.concerns(self.desks.outs.get(one.stream, (0, None))[1])]
+        found = [
+            one
+            for one in cursor.found
+            if self.is_within(one.moment) and self.concerns(self.desks.outs.get(one.stream, (0, None))[1])
+        ]
         yield "\nthe wire beside the model"
         yield f"  media: {cursor.equal:,} of {total:,} packets are the model's, octet by octet"
         for one in found[:MOST_TOLD]:
@@ -170,7 +192,11 @@ class Telling:
         if len(found) > MOST_TOLD:
             yield f"    and {len(found) - MOST_TOLD:,} more"
         count = len([d for d in self.it.streams.control if d.moment >= self.it.begin]) - len(compared.pictures)
-        but = "what was counted before the capture" if self.it.run.shown else "the moment at which the bridge read its clock"
+        but = (
+            "what was counted before the capture"
+            if self.it.run.shown
+            else "the moment at which the bridge read its clock"
+        )
         near = f", {compared.near:,} but for {but}" if compared.near else ""
         pictures = f", and {len(compared.pictures):,} for pictures that no script has" if compared.pictures else ""
         yield f"  control: {compared.equal:,} of {count:,} compounds are the model's{near}{pictures}"
@@ -178,13 +204,20 @@ class Telling:
             if self.is_within(moment):
                 yield f"    {self.seconds(moment):8.3f} s  {text}"
         if self.it.streams.again:
-            yield f"  sent again for NACKs: {counted(len(self.it.streams.again))}, of which the model sends {self.resent():,}"
+            yield (
+                f"  sent again for NACKs: {counted(len(self.it.streams.again))}, of which the model sends "
+                f"{self.resent():,}"
+            )
 
     def reason(self, one):
         """Why a packet differs, as far as that is known."""
         if self.it.run.shown:
             is_early = one.moment < self.it.run.settled
-            return "the capture begins in mid-call" if is_early else f"{REASONS[one.kind]}, or what came before the capture"
+            return (
+                "the capture begins in mid-call"
+                if is_early
+                else f"{REASONS[one.kind]}, or what came before the capture"
+            )
         return REASONS[one.kind]
 
     def resent(self):

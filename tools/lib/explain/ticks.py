@@ -10,7 +10,8 @@ SECONDS_TO_1970 = 2208988800
 SAMPLES = {11: 882}
 # A bridge is no later than this; else its clock is another one, in nanoseconds.
 OTHER_CLOCK = 5_000_000_000
-# A mix leaves about so long after its tick, and a tick comes so late at most where nothing wakes the bridge, in nanoseconds.
+# A mix leaves about so long after its tick, and a tick comes so late at most where nothing wakes the bridge, in
+# nanoseconds.
 ANSWERED, LONGEST = 150_000, 5_000_000
 
 
@@ -24,7 +25,8 @@ def moment_of_ntp(octets):
 
 
 class Grid:
-    """The ticks of a bridge. `base` is the moment of tick 0, and `mixes` has the first and the last mix of each tick on the wire."""
+    """The ticks of a bridge. `base` is the moment of tick 0, and `mixes` has the first and the last mix of each tick on
+    the wire."""
 
     def __init__(self, base, mixes):
         self.base, self.mixes = base, mixes
@@ -43,7 +45,8 @@ def unwrapped(before, ts):
 
 
 def counted(packets):
-    """Each mix of a stream with its tick, counted from that of the first one, or None where timestamps aren't whole ticks apart."""
+    """Each mix of a stream with its tick, counted from that of the first one, or None where timestamps aren't whole
+    ticks apart."""
     found, ts, place = [], None, 0
     for datagram in packets:
         now = number(datagram.octets[4:8])
@@ -63,8 +66,8 @@ def earliest(found):
 
 
 def report_bounds(reports, found):
-    """The bounds of the moment of a stream's first mix that its sender reports give. A sender report's RTP timestamp is that of the
-    last tick, and the time since (docs/FORMATS.md, Reports)."""
+    """The bounds of the moment of a stream's first mix that its sender reports give. A sender report's RTP timestamp is
+    that of the last tick, and the time since (docs/FORMATS.md, Reports)."""
     first, rate = found[0][0].octets, 44100 if found[0][0].octets[1] & 127 == 11 else 8000
     for octets in reports:
         units = (number(octets[16:20]) - number(first[4:8])) % 2**32
@@ -73,12 +76,14 @@ def report_bounds(reports, found):
 
 
 def narrowed(base, bounds):
-    """The moment of tick 0 that as many bounds allow as possible, as late as they allow. A bridge whose clock isn't that of the
-    capture gives its place within 20 ms alone, and so it is near the moment by the mixes."""
+    """The moment of tick 0 that as many bounds allow as possible, as late as they allow. A bridge whose clock isn't
+    that of the capture gives its place within 20 ms alone, and so it is near the moment by the mixes."""
     if not bounds:
         return base - ANSWERED
     if any(abs(base - high) > OTHER_CLOCK for _, high in bounds):
-        bounds = [(bound[0] + ahead, bound[1] + ahead) for bound in bounds for ahead in [round((base - bound[1]) / GAP) * GAP]]
+        bounds = [
+            (bound[0] + ahead, bound[1] + ahead) for bound in bounds for ahead in [round((base - bound[1]) / GAP) * GAP]
+        ]
     tries = sorted({high for _, high in bounds} | {low + 1 for low, _ in bounds}, reverse=True)
     return max(tries, key=lambda moment: sum(low < moment <= high for low, high in bounds))
 
@@ -113,9 +118,9 @@ def grid_of(wire, outs):
 
 
 def position(grid, tick, arrival, latency):
-    """When a tick was given, as it seems, and at the latest: shortly before its first mix. Where that leaves late, or there is none, it
-    was behind the first datagram that woke the bridge, after 5 ms at most. `arrival` is that of the first datagram from the tick's
-    moment on, or None. The bridge takes it so much later."""
+    """When a tick was given, as it seems, and at the latest: shortly before its first mix. Where that leaves late, or
+    there is none, it was behind the first datagram that woke the bridge, after 5 ms at most. `arrival` is that of the
+    first datagram from the tick's moment on, or None. The bridge takes it so much later."""
     moment = grid.moment(tick)
     woken = min(arrival + latency if arrival else moment + LONGEST, moment + LONGEST)
     if tick not in grid.mixes:

@@ -69,7 +69,10 @@ def peers_in(datagrams):
 
 def told_of(desks, peers):
     """The bridges of a capture, in words."""
-    parts = [f"tcp {tcp} (udp {media_of(members, peers) or 'unknown'}, {len(members)} members)" for tcp, members in sorted(desks.items())]
+    parts = [
+        f"tcp {tcp} (udp {media_of(members, peers) or 'unknown'}, {len(members)} members)"
+        for tcp, members in sorted(desks.items())
+    ]
     return ", ".join(parts)
 
 
@@ -85,10 +88,15 @@ def desk_named(desks, peers, udp, tcp):
     if tcp:
         found = [address for address in desks if is_port_of(address, tcp)]
         if not found:
-            raise BadCapture(f"no operator's line goes to {tcp} in it" + (f": there are {told_of(desks, peers)}" if desks else ""))
+            raise BadCapture(
+                f"no operator's line goes to {tcp} in it" + (f": there are {told_of(desks, peers)}" if desks else "")
+            )
         return found[0]
     if udp:
-        desks = {address: members for address, members in desks.items() if is_port_of(media_of(members, peers) or "", udp)} or desks
+        desks = (
+            {address: members for address, members in desks.items() if is_port_of(media_of(members, peers) or "", udp)}
+            or desks
+        )
     if len(desks) > 1:
         raise BadCapture(f"several bridges are in it: {told_of(desks, peers)}; choose one by --tcp or --udp")
     return next(iter(desks), None)

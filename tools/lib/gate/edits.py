@@ -1,12 +1,12 @@
 """Tries wrong bodies, each of which the prover has to refuse.
 
-An edit is a file crates/CRATE/edits/NAME.edit, in the form of crates/CRATE/must-fail/*.edit: a line 'file: src/lib.rt' and pairs of
-lines 'old: TEXT' and 'new: TEXT'. Each old text stands once in that file. Without names all edits of all crates are tried.
-Crates are tried side by side, each in a copy of the repository that is removed afterwards, over what earlier checks kept in
-out/. An edit takes 10 to 80 seconds of a processor, and its crate's first one a whole proof.
+An edit is a file crates/CRATE/edits/NAME.edit, in the form of crates/CRATE/must-fail/*.edit: a line 'file: src/lib.rt'
+and pairs of lines 'old: TEXT' and 'new: TEXT'. Each old text stands once in that file. Without names all edits of all
+crates are tried. Crates are tried side by side, each in a copy of the repository that is removed afterwards, over what
+earlier checks kept in out/. An edit takes 10 to 80 seconds of a processor, and its crate's first one a whole proof.
 
-Each edit has a line: 'refused' with the first goal that fails; 'refused by form' where only a proof file fails, which names
-what the edit removed; 'NOT REFUSED'; or 'BAD EDIT' where its text can't be found or read.
+Each edit has a line: 'refused' with the first goal that fails; 'refused by form' where only a proof file fails, which
+names what the edit removed; 'NOT REFUSED'; or 'BAD EDIT' where its text can't be found or read.
 """
 
 import pathlib

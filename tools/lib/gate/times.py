@@ -1,12 +1,12 @@
 """Runs the gate, and prints where its time goes.
 
-It runs COMMAND (`rt ci` if none is given) at the top of the repository, looks at its processes until it ends, and then prints
-a table: for each crate its lines of code, the processor seconds of its first proof, its tests and its must-fail edits, and the
-seconds of first proof a line. A program's proof includes what both compilers take. The last rows are what belongs to no crate
-(the tool itself, runs of programs) and the sum.
+It runs COMMAND (`rt ci` if none is given) at the top of the repository, looks at its processes until it ends, and then
+prints a table: for each crate its lines of code, the processor seconds of its first proof, its tests and its must-fail
+edits, and the seconds of first proof a line. A program's proof includes what both compilers take. The last rows are
+what belongs to no crate (the tool itself, runs of programs) and the sum.
 
-Seconds are what the kernel counts for a process, read every quarter of a second, so each process may have taken that much
-more. The command prints to standard error, and its status is the status.
+Seconds are what the kernel counts for a process, read every quarter of a second, so each process may have taken that
+much more. The command prints to standard error, and its status is the status.
 """
 
 import os

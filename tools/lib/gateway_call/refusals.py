@@ -1,4 +1,5 @@
-"""What can't be had of the gateway: it is told in words, and leaves nothing behind. Neither browser nor phone is needed."""
+"""What can't be had of the gateway: it is told in words, and leaves nothing behind. Neither browser nor phone is
+needed."""
 
 import re
 import signal

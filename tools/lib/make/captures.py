@@ -1,4 +1,5 @@
-"""Makes the captures that DEBUGGING explains, of calls that nobody held: what a bridge would have on the wire, by the model.
+"""Makes the captures that DEBUGGING explains, of calls that nobody held: what a bridge would have on the wire, by the
+model.
 
 In each call member 10 sends the sound 201 and the video 101, and Bob, who is member 11, the sound 202.
   call.pcap     all is well
@@ -52,7 +53,9 @@ class Shown(Made):
         """Bob's packet of a tick."""
         is_pcma = self.wrong == "pcma"
         octets = bytes([0xD5]) * 160 if is_pcma else tone(1000, tick)
-        self.comes(STRANGER if self.wrong == "port" else OTHER, rtp(tick, tick * 160, 202, octets, pt=8 if is_pcma else 0))
+        self.comes(
+            STRANGER if self.wrong == "port" else OTHER, rtp(tick, tick * 160, 202, octets, pt=8 if is_pcma else 0)
+        )
 
     def frame(self, tick):
         for part, payload in enumerate(picture(tick)):
@@ -83,7 +86,9 @@ class Shown(Made):
 def is_lacking(packet):
     """Whether an IPv4 packet has the sound of Bob that a capture lacks."""
     octets = packet[28:]
-    return packet[9] == 17 and octets[:2] == b"\x80\0" and number(octets[2:4]) == LACKING and number(octets[8:12]) == 202
+    return (
+        packet[9] == 17 and octets[:2] == b"\x80\0" and number(octets[2:4]) == LACKING and number(octets[8:12]) == 202
+    )
 
 
 def made():

@@ -1,7 +1,7 @@
 """Writes docs/DEFINITIONS.md from the comments in specs/.
 
-A file of definitions begins with a comment that says what it is, and which section of which standard it states. The proofs of
-laws (specs/laws/), the words of private contracts (specs/inner/) and the specs of examples are left out.
+A file of definitions begins with a comment that says what it is, and which section of which standard it states. The
+proofs of laws (specs/laws/), the words of private contracts (specs/inner/) and the specs of examples are left out.
 """
 
 import re

@@ -1,10 +1,10 @@
 """Makes the script of a call in which the clock of a sender is slow, and tells the sum of its output by the model.
 
-A member sends sound to another for some minutes, over a path with jitter and losses. A tick comes every 20 ms, and buffers begin anew
-after late sound. The script is the same for the same arguments. It goes to standard output.
+A member sends sound to another for some minutes, over a path with jitter and losses. A tick comes every 20 ms, and
+buffers begin anew after late sound. The script is the same for the same arguments. It goes to standard output.
 
-With --sum its case goes there instead, a line of tools/lib/check/sums.txt: the SHA-256 of the output by the model, how many octets
-that has, and the arguments. `tools/bridge check cases` runs such cases.
+With --sum its case goes there instead, a line of tools/lib/check/sums.txt: the SHA-256 of the output by the model, how
+many octets that has, and the arguments. `tools/bridge check cases` runs such cases.
 """
 
 import hashlib

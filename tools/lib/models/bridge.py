@@ -26,7 +26,8 @@ class Bridge:
         self.seen = collections.Counter()
 
     def opened(self, ssrc, cname, renews):
-        """What is the first line of a script: who its bridge is, and whether its first item is that buffers begin anew."""
+        """What is the first line of a script: who its bridge is, and whether its first item is that buffers begin
+        anew."""
         self.ssrc, self.cname, self.items = ssrc, cname, int(renews)
         self.log.desk.bridge = ssrc
 
@@ -54,7 +55,9 @@ class Bridge:
         if pin:
             return pin["source"]
         if floor:
-            return min((s["ssrc"] for s in d.sources if s["member"] == floor["member"] and s["media"] == "video"), default=None)
+            return min(
+                (s["ssrc"] for s in d.sources if s["member"] == floor["member"] and s["media"] == "video"), default=None
+            )
         return None
 
     def choice(self, slot):
@@ -159,7 +162,10 @@ class Bridge:
         octets = self.front()
         if nacks:
             words = nack_words(nacks)
-            octets += f"81cd{2 + len(words):04x}{self.ssrc:08x}{ssrc:08x}" + "".join(f"{pid:04x}{blp:04x}" for pid, blp in words)
+            octets += (
+                f"81cd{2 + len(words):04x}{self.ssrc:08x}{ssrc:08x}"
+                + "".join(f"{pid:04x}{blp:04x}" for pid, blp in words)
+            )
         if pli:
             octets += f"81ce0002{self.ssrc:08x}{ssrc:08x}"
         return [f"up {address} {octets}"]
@@ -186,7 +192,11 @@ class Bridge:
                 self.noted(moment, address, body)
             if pt in (200, 201):
                 first = 24 if pt == 200 else 4
-                lines += [line for at in range(first, first + 24 * count, 24) for line in self.block(address, body[at : at + 24])]
+                lines += [
+                    line
+                    for at in range(first, first + 24 * count, 24)
+                    for line in self.block(address, body[at : at + 24])
+                ]
             if (pt, count) == (205, 1):
                 lines += self.nack(address, body)
             if (pt, count) == (206, 1):
@@ -214,7 +224,8 @@ class Bridge:
         return (self.audio if is_audio else self.video)(moment, address, p, source, verdict, ext)
 
     def source_at(self, address, ssrc, rate):
-        """The source with this number at this address, which is now the last one heard. At another clock rate it begins anew."""
+        """The source with this number at this address, which is now the last one heard. At another clock rate it begins
+        anew."""
         source = self.kept.get((address, ssrc))
         if not source or source.rate != rate:
             source = self.kept[address, ssrc] = Source(rate)
@@ -286,12 +297,16 @@ class Bridge:
         if words[0] == "rx":
             return self.rx(int(words[1]), words[2], bytes.fromhex(words[3]))
         packets = [part.split("/") for part in words[6:]]
-        packets = [(int(e), dict(marker=int(m), pt=int(pt), ts=int(words[5]), payload=bytes.fromhex(h))) for e, m, pt, h in packets]
+        packets = [
+            (int(e), dict(marker=int(m), pt=int(pt), ts=int(words[5]), payload=bytes.fromhex(h)))
+            for e, m, pt, h in packets
+        ]
         return self.frame(int(words[1]), words[2], int(words[3]), int(words[4]), packets)
 
 
 def check_audio(p, rate):
-    """Drops what is no audio in a room of this clock rate, or over 200 ms: PCMU and L16 of type 97, or in a room for music L16 of type 11."""
+    """Drops what is no audio in a room of this clock rate, or over 200 ms: PCMU and L16 of type 97, or in a room for
+    music L16 of type 11."""
     octets, width = len(p["payload"]), WIDTHS[rate].get(p["pt"])
     if not width or octets % width or octets // width > rate // 5:
         raise Dropped("BadPayload")

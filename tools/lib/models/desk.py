@@ -44,7 +44,12 @@ class Desk:
 
     def ssrcs(self):
         """All SSRCs in use, the bridge's own included."""
-        return [self.bridge] + [s["ssrc"] for s in self.sources] + [s["out"] for s in self.slots] + [m["out_audio"] for m in self.members]
+        return (
+            [self.bridge]
+            + [s["ssrc"] for s in self.sources]
+            + [s["out"] for s in self.slots]
+            + [m["out_audio"] for m in self.members]
+        )
 
     def audio_in(self, room):
         return sum(s["media"] == "audio" and self.room_of(s["member"]) == room for s in self.sources)
@@ -76,7 +81,10 @@ class Desk:
             ordered = sorted(rows, key=lambda row: [row[key] for key in keys]) if keys else rows
             return [" ".join([word] + [str(row[field]) for field in fields.split()]) for row in ordered]
 
-        rooms = [{"room": row["room"], "shown": f"{row['room']} {MUSIC}" if row["rate"] == MUSIC else row["room"]} for row in self.rooms]
+        rooms = [
+            {"room": row["room"], "shown": f"{row['room']} {MUSIC}" if row["rate"] == MUSIC else row["room"]}
+            for row in self.rooms
+        ]
         members = [{"place": place, **row} for place, row in enumerate(self.members)]
         return [
             *lines("room", rooms, "shown", "room"),
@@ -120,7 +128,8 @@ def parts_of(words):
 
 
 class Log:
-    """A desk with its version, and the desks that undo and redo lead to, each with the name of the call that it undoes."""
+    """A desk with its version, and the desks that undo and redo lead to, each with the name of the call that it
+    undoes."""
 
     def __init__(self):
         self.desk, self.version, self.done, self.undone = Desk(), 0, [], []

@@ -4,7 +4,16 @@ import re
 import tomllib
 
 NUMBER, NAMES = "number", ("pcmu", "l16", "audio", "video")
-FAULTS = {1: "LineTooLong", 2: "BadByte", 3: "UnknownWord", 4: "MissingWord", 5: "ExtraWord", 6: "BadNumber", 7: "BadAddress", 8: "BadHex"}
+FAULTS = {
+    1: "LineTooLong",
+    2: "BadByte",
+    3: "UnknownWord",
+    4: "MissingWord",
+    5: "ExtraWord",
+    6: "BadNumber",
+    7: "BadAddress",
+    8: "BadHex",
+}
 # What each word behind a command's name is: the greatest number, an address, or one of some words.
 U32, U16, U64 = 2**32 - 1, 2**16 - 1, 2**64 - 1
 CODEC, KIND, ADDRESS, HEX, CNAME = ("pcmu", "l16"), ("audio", "video"), "address", "hex", "cname"
@@ -139,7 +148,8 @@ def fault_of_script_line(line):
 
 
 def fault_of_line(line):
-    """What an operator is told of the fault of a line (bytes, without LF), or None where it is a call or a word of its own."""
+    """What an operator is told of the fault of a line (bytes, without LF), or None where it is a call or a word of its
+    own."""
     if any(not 32 <= octet <= 126 for octet in line):
         return "fault 0 2 BadByte"
     words = line.decode().split(" ") if line else []

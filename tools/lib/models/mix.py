@@ -8,8 +8,8 @@ from lib.models.desk import MUSIC
 
 # A tick is this part of a second. Samples wait three ticks before they are heard.
 TICKS, DELAY = 50, 3
-# A buffer may begin anew once 300 ms of sound were late, where so many samples in time make up for a late one, or once 20 s of sound
-# came while over 120 ms waited.
+# A buffer may begin anew once 300 ms of sound were late, where so many samples in time make up for a late one, or once
+# 20 s of sound came while over 120 ms waited.
 WEIGHT, LATE, FULL, DEEP = 1000, 300, 20_000, 120
 
 
@@ -67,14 +67,16 @@ class Playout:
         return (ts - self.position + 2**31) % 2**32 - 2**31
 
     def tally(self, far, count):
-        """Counts samples that come so far ahead. Whether sound was late for too long, and whether it was full for too long."""
+        """Counts samples that come so far ahead. Whether sound was late for too long, and whether it was full for too
+        long."""
         late = max(0, min(count, -far))
         self.late = max(0, self.late + WEIGHT * late - (count - late))
         self.full = self.full + count if far > self.samples_in(DEEP) else 0
         return self.late >= WEIGHT * self.samples_in(LATE), self.full >= self.samples_in(FULL)
 
     def put(self, ts, samples, renews=False):
-        """Puts samples at a timestamp, where the buffer may begin anew after late or full sound. Why it began anew by them."""
+        """Puts samples at a timestamp, where the buffer may begin anew after late or full sound. Why it began anew by
+        them."""
         why = "begins"
         if self.position is not None:
             far = self.ahead(ts)
@@ -139,7 +141,10 @@ class MixBridge(Bridge):
         for other in d.members:
             if other is member or other["room"] != member["room"]:
                 continue
-            for source in sorted((s for s in d.sources if s["member"] == other["member"] and s["media"] == "audio"), key=lambda s: s["ssrc"]):
+            for source in sorted(
+                (s for s in d.sources if s["member"] == other["member"] and s["media"] == "audio"),
+                key=lambda s: s["ssrc"],
+            ):
                 if not d.one("mutes", source=source["ssrc"]):
                     gain = d.one("gains", member=member["member"], source=source["ssrc"])
                     yield source["ssrc"], other["address"], gain["q8"] if gain else 256

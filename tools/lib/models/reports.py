@@ -23,7 +23,10 @@ class Came:
         lsr = dlsr = 0
         if source.report:
             lsr, dlsr = source.report[0], min(2**32 - 1, max(0, moment - source.report[1]) * 65536 // 10**9)
-        return f"{ssrc:08x}{fraction:02x}{lost % 2**24:06x}{source.greatest % 2**32:08x}{(self.jitter >> 4) % 2**32:08x}{lsr:08x}{dlsr:08x}"
+        return (
+            f"{ssrc:08x}{fraction:02x}{lost % 2**24:06x}{source.greatest % 2**32:08x}"
+            f"{(self.jitter >> 4) % 2**32:08x}{lsr:08x}{dlsr:08x}"
+        )
 
 
 class ReportBridge(MixBridge):
@@ -78,8 +81,13 @@ class ReportBridge(MixBridge):
         """The line of a stream's sender report (RFC 3550 section 6.4.1)."""
         seconds, rest = divmod(moment, 10**9)
         packets, octets = self.went[kind, ssrc]
-        numbers = ssrc, (seconds + 2208988800) % 2**32, rest * 2**32 // 10**9, ts % 2**32, packets % 2**32, octets % 2**32
-        return f"ct {self.version} {self.items} {member['address']} 80c80006{''.join(f'{n:08x}' for n in numbers)}{self.named(ssrc)}"
+        numbers = ssrc, (
+            seconds + 2208988800
+        ) % 2**32, rest * 2**32 // 10**9, ts % 2**32, packets % 2**32, octets % 2**32
+        return (
+            f"ct {self.version} {self.items} {member['address']} "
+            f"80c80006{''.join(f'{n:08x}' for n in numbers)}{self.named(ssrc)}"
+        )
 
     def sender_reports(self, member, moment):
         """The lines of all sender reports to a member."""

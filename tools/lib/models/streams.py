@@ -30,8 +30,8 @@ class Source:
         return "jump", None
 
 
-# A missing number is asked for again when it was missing at so many waits, and given up when at so many, or at so few where the
-# source answers nobody.
+# A missing number is asked for again when it was missing at so many waits, and given up when at so many, or at so few
+# where the source answers nobody.
 ASKED_AT, PATIENCE, LITTLE_PATIENCE = (2, 5, 11, 21), 25, 5
 
 
@@ -40,7 +40,8 @@ class Gate:
 
     def __init__(self):
         self.taken, self.cut, self.greatest, self.given = {}, None, None, 0
-        # The greatest number that had come at each wait, whether the source is thought to answer, and what waits gave up.
+        # The greatest number that had come at each wait, whether the source is thought to answer, and what waits gave
+        # up.
         self.waits, self.answers, self.lost = [], True, set()
 
     def pieces(self):
@@ -67,7 +68,8 @@ class Gate:
         return [[(n, p) for n, p in piece if p["payload"]] for piece in new]
 
     def skip(self, n):
-        """Gives up what is incomplete until the number is less than 256 ahead. The frames that this closes, and whether it gave up."""
+        """Gives up what is incomplete until the number is less than 256 ahead. The frames that this closes, and whether
+        it gave up."""
         frames, gave_up = [], False
         while n >= self.pieces()[1] + 256:
             after = [m for m in self.taken if m >= self.pieces()[1]]
@@ -88,7 +90,8 @@ class Gate:
         return [n for n in range(self.pieces()[1], self.greatest) if n not in self.taken]
 
     def wait(self):
-        """What comes of a wait: the frames that it frees, the numbers to ask for again, and whether one was given up."""
+        """What comes of a wait: the frames that it frees, the numbers to ask for again, and whether one was given
+        up."""
         if self.cut is None:
             # A gate begins with its first packet.
             return [], [], False
@@ -102,7 +105,8 @@ class Gate:
         return frames, again, gave_up
 
     def admit(self, n, p):
-        """What becomes of a packet, the frames that it closes, the numbers to ask for, and whether a frame was given up."""
+        """What becomes of a packet, the frames that it closes, the numbers to ask for, and whether a frame was given
+        up."""
         self.answers = self.answers or self.age(n) > 0
         place, frames, nacks, gave_up = self.placed(n, p)
         self.answers = self.answers and not gave_up

@@ -1,4 +1,5 @@
-"""What crates/x_cases_codecs tells of a datagram, in the words of its README: its class, and each field that is read."""
+"""What crates/x_cases_codecs tells of a datagram, in the words of its README: its class, and each field that is
+read."""
 
 from lib.models.codec import Dropped, read_rtcp, read_rtp
 from lib.packets import number
@@ -21,10 +22,14 @@ def rtp_text(data):
     p = read_rtp(data)
     extension = f"{p['extension'][:2].hex()}:{octets_text(p['extension'][4:])}" if p["extension"] else "-"
     told = " ".join(f"{name}={p[name]}" for name in ("marker", "pt", "seq", "ts", "ssrc"))
-    return f"{told} csrcs={numbers_text(p['csrcs'])} extension={extension} payload={octets_text(p['payload'])} padding={p['padding']}"
+    return (
+        f"{told} csrcs={numbers_text(p['csrcs'])} extension={extension} payload={octets_text(p['payload'])} "
+        f"padding={p['padding']}"
+    )
 
 
-# Each kind of RTCP packet is told, and written again: its body without padding, null behind texts, and nothing behind the named parts.
+# Each kind of RTCP packet is told, and written again: its body without padding, null behind texts, and nothing behind
+# the named parts.
 
 
 def blocks_text(body, count):
@@ -37,7 +42,10 @@ def blocks_text(body, count):
 
 def sender(count, body):
     ssrc, _, _, ts, packets, octets = numbers_in(body[:24])
-    told = f"sender ssrc={ssrc} ntp={body[4:12].hex()} rtp={ts} packets={packets} octets={octets}{blocks_text(body[24:], count)}"
+    told = (
+        f"sender ssrc={ssrc} ntp={body[4:12].hex()} rtp={ts} packets={packets} "
+        f"octets={octets}{blocks_text(body[24:], count)}"
+    )
     return told, body[: 24 + 24 * count]
 
 

@@ -1,4 +1,5 @@
-"""A call over a path: a sender, the path, what is in the middle, and a receiver that measures what it sees and hears."""
+"""A call over a path: a sender, the path, what is in the middle, and a receiver that measures what it sees and
+hears."""
 
 import dataclasses
 import tempfile
@@ -42,9 +43,9 @@ class Row:
 
 @dataclasses.dataclass
 class Measured:
-    """What was measured: shares of the time, the longest gaps in seconds, octets of control for each octet that came, packets sent
-    again for each first one, whether control kept its bound; and what a busy machine did: by how many seconds the relay was late at
-    worst, and so the mixes of what is in the middle."""
+    """What was measured: shares of the time, the longest gaps in seconds, octets of control for each octet that came,
+    packets sent again for each first one, whether control kept its bound; and what a busy machine did: by how many
+    seconds the relay was late at worst, and so the mixes of what is in the middle."""
 
     still: float
     longest: float
@@ -128,7 +129,8 @@ def held(row, middle, args):
 
 
 def hold(job):
-    """Holds a call of a row through a bridge of its own, or through Janus where no program is told. A fault of either is told as a text."""
+    """Holds a call of a row through a bridge of its own, or through Janus where no program is told. A fault of either
+    is told as a text."""
     row, program, args, folder = job
     folder = tempfile.mkdtemp(dir=folder)
     try:

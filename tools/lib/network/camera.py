@@ -24,8 +24,8 @@ def tone():
 
 
 def head(picture, is_first, is_key):
-    """What a packet of a frame begins with: a VP8 payload descriptor with a picture number of 15 bits (RFC 7741 section 4.2), and
-    at the first one the frame header (RFC 6386 section 9.1)."""
+    """What a packet of a frame begins with: a VP8 payload descriptor with a picture number of 15 bits (RFC 7741 section
+    4.2), and at the first one the frame header (RFC 6386 section 9.1)."""
     descriptor = bytes([0x90 if is_first else 0x80, 0x80, 0x80 | picture >> 8 & 127, picture & 255])
     if not is_first:
         return descriptor

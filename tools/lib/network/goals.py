@@ -39,10 +39,20 @@ def is_usual(row):
 
 
 GOALS = [
-    Goal("1 % lost, 100 ms, a sender that answers NACKs: the picture stands still at most 2 % of the time", is_usual, lambda it: it.still <= 0.02),
-    Goal("the picture never stands still for over 1.2 s, unless the path itself got longer", lambda row: not row.path.shift, lambda it: it.longest <= 1.2),
+    Goal(
+        "1 % lost, 100 ms, a sender that answers NACKs: the picture stands still at most 2 % of the time",
+        is_usual,
+        lambda it: it.still <= 0.02,
+    ),
+    Goal(
+        "the picture never stands still for over 1.2 s, unless the path itself got longer",
+        lambda row: not row.path.shift,
+        lambda it: it.longest <= 1.2,
+    ),
     Goal("a longer path: sound is back within 1.5 s", lambda row: row.path.shift > 0, lambda it: it.silence <= 1.5),
-    Goal("control has at most 1.5 octets for each octet that came, and 256", lambda row: True, lambda it: it.is_bounded),
+    Goal(
+        "control has at most 1.5 octets for each octet that came, and 256", lambda row: True, lambda it: it.is_bounded
+    ),
 ]
 
 # What may be worse than elsewhere without being told: a share, and a time in seconds.
@@ -55,5 +65,10 @@ def worse_than(bridge, other):
         return ["nothing is seen or heard"] if other else []
     shares = {"picture": (bridge.still, other.still), "sound": (bridge.missing, other.missing)}
     times = {"picture's longest": (bridge.longest, other.longest), "sound's longest": (bridge.silence, other.silence)}
-    said = [f"{what} {100 * here:.1f} and {100 * there:.1f} %" for what, (here, there) in shares.items() if here > there + SHARE]
-    return said + [f"{what} {here:.2f} and {there:.2f} s" for what, (here, there) in times.items() if here > there + TIME]
+    said = [
+        f"{what} {100 * here:.1f} and {100 * there:.1f} %"
+        for what, (here, there) in shares.items() if here > there + SHARE
+    ]
+    return (
+        said + [f"{what} {here:.2f} and {there:.2f} s" for what, (here, there) in times.items() if here > there + TIME]
+    )

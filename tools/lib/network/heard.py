@@ -21,8 +21,8 @@ def loudness(payload):
 
 
 class Heard:
-    """The receiver's sound. A tick has the tone if that is half as loud as the loudest one before packets are lost. It knows how
-    late a mix was at worst behind the one of the tick before."""
+    """The receiver's sound. A tick has the tone if that is half as loud as the loudest one before packets are lost. It
+    knows how late a mix was at worst behind the one of the tick before."""
 
     def __init__(self):
         self.ticks, self.ts, self.begun, self.latest, self.last = {}, None, None, 0.0, (None, 0)

@@ -1,7 +1,9 @@
-"""Janus, a WebRTC server, in the bridge's place: its AudioBridge mixes the sound, and its VideoRoom forwards the picture as RTP.
+"""Janus, a WebRTC server, in the bridge's place: its AudioBridge mixes the sound, and its VideoRoom forwards the
+picture as RTP.
 
-The sender takes part in the AudioBridge by plain RTP, and in the VideoRoom as a browser does: by ICE, and without encryption, which Janus
-can leave out. So Janus asks it for what is lost. What the VideoRoom forwards goes to the receiver as it comes.
+The sender takes part in the AudioBridge by plain RTP, and in the VideoRoom as a browser does: by ICE, and without
+encryption, which Janus can leave out. So Janus asks it for what is lost. What the VideoRoom forwards goes to the
+receiver as it comes.
 """
 
 import itertools
@@ -21,7 +23,9 @@ from lib.packets import is_rtcp, rtp
 from lib.serving import port_of
 from lib.shared import fail
 
-PLUGINS = ["duktape", "echotest", "lua", "nosip", "recordplay", "sip", "streaming", "textroom", "videocall", "voicemail"]
+PLUGINS = [
+    "duktape", "echotest", "lua", "nosip", "recordplay", "sip", "streaming", "textroom", "videocall", "voicemail"
+]
 TRANSPORTS = ["http", "mqtt", "nanomsg", "rabbitmq", "websockets"]
 HOME = pathlib.Path("/usr/lib/x86_64-linux-gnu/janus")
 USER, PASSWORD = "own1", "own1own1own1own1own1own1"
@@ -87,8 +91,19 @@ class Janus:
             fail(f"janus doesn't start: {pathlib.Path(folder, 'log').read_text()[-500:]}")
 
     def starts(self, folder):
-        """Starts Janus and begins a session. False where it ends: its thread for the socket may end before it has begun."""
-        words = ["janus", "-F", folder, "-C", f"{folder}/janus.jcfg", "-P", HOME / "plugins", "--no-webrtc-encryption", "--ice-lite"]
+        """Starts Janus and begins a session. False where it ends: its thread for the socket may end before it has
+        begun."""
+        words = [
+            "janus",
+            "-F",
+            folder,
+            "-C",
+            f"{folder}/janus.jcfg",
+            "-P",
+            HOME / "plugins",
+            "--no-webrtc-encryption",
+            "--ice-lite",
+        ]
         words = [*under(), *words]
         with open(f"{folder}/log", "w", encoding="utf-8") as log:
             self.process = subprocess.Popen(words, stdin=subprocess.DEVNULL, stdout=log, stderr=log)
@@ -125,7 +140,9 @@ class Janus:
     def attached(self, plugin):
         """A function that asks a plugin."""
         handle = self.ask("attach", plugin=f"janus.plugin.{plugin}")["data"]["id"]
-        return lambda request, **parts: self.ask("message", handle_id=handle, body={"request": request, "room": 1, **parts.pop("body", {})}, **parts)
+        return lambda request, **parts: self.ask(
+            "message", handle_id=handle, body={"request": request, "room": 1, **parts.pop("body", {})}, **parts
+        )
 
     def close(self):
         self.process.kill()
@@ -144,19 +161,27 @@ class Janus:
         sender, hearer = port_of(relay.out), port_of(receiver.socket)
         self.joins_sound(sender, receiver)
         ask, user, password = self.joins_picture(sender)
-        relay.hears_others = lambda octets: relay.takes_up(answer(octets, self.picture, PASSWORD)) if is_request(octets) else None
+        relay.hears_others = lambda octets: relay.takes_up(answer(octets, self.picture, PASSWORD)) if is_request(
+            octets
+        ) else None
         checks(loop, relay, user, password)
         self.waits_until_up(loop)
         stream = {"mid": "0", "host": "127.0.0.1", "port": hearer, "pt": VIDEO_PT, "ssrc": SLOT, "rtcp_port": hearer}
-        told = ask("rtp_forward", body={"publisher_id": 1, "host": "127.0.0.1", "host_family": "ipv4", "streams": [stream]})
+        told = ask(
+            "rtp_forward", body={"publisher_id": 1, "host": "127.0.0.1", "host_family": "ipv4", "streams": [stream]}
+        )
         receiver.asks_at = "127.0.0.1", told["plugindata"]["data"]["forwarders"][0]["local_rtcp_port"]
 
     def joins_sound(self, sender, receiver):
-        """Puts both into the AudioBridge. A participant is given sound once it has sent some, so the receiver sends silence once."""
+        """Puts both into the AudioBridge. A participant is given sound once it has sent some, so the receiver sends
+        silence once."""
         speaker, listener = self.attached("audiobridge"), self.attached("audiobridge")
         speaker("create", body={"sampling_rate": 8000, "allow_rtp_participants": True})
         told = [
-            ask("join", body={"id": at, "codec": "pcmu", "rtp": {"ip": "127.0.0.1", "port": port, "payload_type": AUDIO_PT}})
+            ask(
+                "join",
+                body={"id": at, "codec": "pcmu", "rtp": {"ip": "127.0.0.1", "port": port, "payload_type": AUDIO_PT}},
+            )
             for at, (ask, port) in enumerate([(speaker, sender), (listener, port_of(receiver.socket))], 1)
         ]
         self.sound, to_listener = (("127.0.0.1", one["plugindata"]["data"]["rtp"]["port"]) for one in told)
@@ -167,7 +192,9 @@ class Janus:
         ask = self.attached("videoroom")
         ask("create", body={"publishers": 2, "videocodec": "vp8", "bitrate": 0})
         ask("join", body={"ptype": "publisher", "id": 1})
-        offer = OFFER.format(pt=VIDEO_PT, ssrc=VIDEO, user=USER, password=PASSWORD, port=sender, fingerprint=":".join(["00"] * 32))
+        offer = OFFER.format(
+            pt=VIDEO_PT, ssrc=VIDEO, user=USER, password=PASSWORD, port=sender, fingerprint=":".join(["00"] * 32)
+        )
         answered = ask("publish", jsep={"type": "offer", "sdp": offer.replace("\n", "\r\n")})["jsep"]["sdp"]
         user, password = (re.search(rf"a=ice-{name}:(\S+)", answered)[1] for name in ("ufrag", "pwd"))
         ip, port = re.search(r"a=candidate:\S+ 1 udp \d+ (\S+) (\d+) typ host", answered, re.I).groups()

@@ -1,7 +1,7 @@
 """A path between a sender and the bridge: what is lost on it, and how long the rest takes.
 
-All that is random comes from generators with a seed, one for each kind of packet in each direction. The nth packet of a kind
-has the same fate in each run with one seed, whoever sends it and whoever it is sent to.
+All that is random comes from generators with a seed, one for each kind of packet in each direction. The nth packet of a
+kind has the same fate in each run with one seed, whoever sends it and whoever it is sent to.
 """
 
 import collections
@@ -16,11 +16,12 @@ OVERTAKEN = (0.005, 0.03)
 
 @dataclasses.dataclass(frozen=True)
 class Path:
-    """What a path does. Losses and the round trip are those of both directions; only what goes up is overtaken or shifted.
+    """What a path does. Losses and the round trip are those of both directions; only what goes up is overtaken or
+    shifted.
 
-    loss: the share of packets that is lost. burst: how many are lost in a row, on average; 1 where each is lost by itself.
-    trip: the round trip in seconds. overtaken: the share of packets that others overtake. shift: by how many seconds the way up
-    gets longer for good, a quarter of the time after losses begin.
+    loss: the share of packets that is lost. burst: how many are lost in a row, on average; 1 where each is lost by
+    itself. trip: the round trip in seconds. overtaken: the share of packets that others overtake. shift: by how many
+    seconds the way up gets longer for good, a quarter of the time after losses begin.
     """
 
     loss: float = 0
@@ -73,7 +74,8 @@ class Direction:
         return not 0 < ahead < 32768
 
     def kind(self, octets):
-        """What has losses of its own: control, and each payload type, apart what is sent again. None is what sets up a connection."""
+        """What has losses of its own: control, and each payload type, apart what is sent again. None is what sets up a
+        connection."""
         if len(octets) < 12 or octets[0] >> 6 != 2:
             return None
         return "control" if is_rtcp(octets) else f"{octets[1] & 127} {'again' if self.is_again(octets) else 'first'}"

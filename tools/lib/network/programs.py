@@ -22,11 +22,14 @@ def gst_commands(ssrcs, port, hearing):
     size = f"width={WIDTH},height={HEIGHT},framerate={RATE}/1"
     yield " ".join([
         "gst-launch-1.0 -q rtpbin name=b rtp-profile=avpf",
-        f"videotestsrc is-live=true pattern=snow ! video/x-raw,{size} ! vp8enc deadline=1 cpu-used=8 target-bitrate={BITS} keyframe-max-dist={GST_KEY} !",
-        f"rtpvp8pay pt={VIDEO_PT} ssrc={video} mtu=1100 picture-id-mode=15-bit ! rtprtxqueue max-size-time=1000 ! b.send_rtp_sink_0",
+        f"videotestsrc is-live=true pattern=snow ! video/x-raw,{size} ! vp8enc deadline=1 cpu-used=8 "
+        f"target-bitrate={BITS} keyframe-max-dist={GST_KEY} !",
+        f"rtpvp8pay pt={VIDEO_PT} ssrc={video} mtu=1100 picture-id-mode=15-bit ! rtprtxqueue max-size-time=1000 ! "
+        "b.send_rtp_sink_0",
         f"b.send_rtp_src_0 ! {sink} b.send_rtcp_src_0 ! {sink}",
         f"udpsrc address=127.0.0.1 port={hearing} caps=application/x-rtcp ! b.recv_rtcp_sink_0",
-        f"audiotestsrc is-live=true samplesperbuffer=160 freq={TONE} volume=0.25 ! audio/x-raw,rate=8000,channels=1 ! mulawenc !",
+        f"audiotestsrc is-live=true samplesperbuffer=160 freq={TONE} volume=0.25 ! audio/x-raw,rate=8000,channels=1 ! "
+        "mulawenc !",
         f"rtppcmupay ssrc={audio} pt={AUDIO_PT} min-ptime=20000000 max-ptime=20000000 ! {sink}",
     ]).split()  # fmt: skip
 
@@ -59,4 +62,7 @@ def started(name, relay, ssrcs):
     hearing = free_port(socket.SOCK_DGRAM)
     port = relay.serves(hearing)
     null = subprocess.DEVNULL
-    return [subprocess.Popen([*under(), *words], stdin=null, stdout=null, stderr=null) for words in PROGRAMS[name][1](ssrcs, port, hearing)]
+    return [
+        subprocess.Popen([*under(), *words], stdin=null, stdout=null, stderr=null)
+        for words in PROGRAMS[name][1](ssrcs, port, hearing)
+    ]

@@ -1,7 +1,9 @@
-"""What a receiver sees: which frames of VP8 are whole and can be decoded, when they are shown, and how long the picture stands still.
+"""What a receiver sees: which frames of VP8 are whole and can be decoded, when they are shown, and how long the picture
+stands still.
 
-Each frame has a picture number (RFC 7741 section 4.2). A frame can be decoded if it is a key frame, or if the one before it was
-decoded. It is shown by its timestamp, so many milliseconds behind the fastest frame, or as soon as it can be where it is later.
+Each frame has a picture number (RFC 7741 section 4.2). A frame can be decoded if it is a key frame, or if the one
+before it was decoded. It is shown by its timestamp, so many milliseconds behind the fastest frame, or as soon as it can
+be where it is later.
 """
 
 import dataclasses

@@ -1,4 +1,5 @@
-"""What ICE needs towards a peer at one known address: a binding request, and the answer to one (RFC 8489, RFC 8445 section 7)."""
+"""What ICE needs towards a peer at one known address: a binding request, and the answer to one (RFC 8489, RFC 8445
+section 7)."""
 
 import hashlib
 import hmac
@@ -9,7 +10,9 @@ import zlib
 COOKIE = bytes.fromhex("2112a442")
 REQUEST, SUCCESS = 0x0001, 0x0101
 # Attributes.
-USERNAME, INTEGRITY, XOR_ADDRESS, PRIORITY, USE, FINGERPRINT, CONTROLLING = 0x0006, 0x0008, 0x0020, 0x0024, 0x0025, 0x8028, 0x802A
+USERNAME, INTEGRITY, XOR_ADDRESS, PRIORITY, USE, FINGERPRINT, CONTROLLING = (
+    0x0006, 0x0008, 0x0020, 0x0024, 0x0025, 0x8028, 0x802A
+)
 
 
 def is_request(octets):
@@ -41,5 +44,7 @@ def answer(request, source, password):
     """The answer to a request that came from an address, signed with the own password."""
     ip, port = source
     key = int.from_bytes(COOKIE, "big")
-    address = b"\x00\x01" + (port ^ key >> 16).to_bytes(2, "big") + (int(ipaddress.IPv4Address(ip)) ^ key).to_bytes(4, "big")
+    address = (
+        b"\x00\x01" + (port ^ key >> 16).to_bytes(2, "big") + (int(ipaddress.IPv4Address(ip)) ^ key).to_bytes(4, "big")
+    )
     return signed(SUCCESS, request[8:20], attribute(XOR_ADDRESS, address), password)

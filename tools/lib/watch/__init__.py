@@ -1,12 +1,13 @@
-"""Watches a running bridge from outside: packets, loss, jitter and level of each source, who speaks, and who is unknown.
+"""Watches a running bridge from outside: packets, loss, jitter and level of each source, who speaks, and who is
+unknown.
 
 It captures by a packet socket, which takes root or CAP_NET_RAW, or reads a capture that another program writes:
 
     tcpdump -i any -U -w - 'udp port 5004 or tcp port 7000' | tools/bridge watch -
 
-The desk is known from the lines that pass, or from `show`, for which --ask connects for a moment every five seconds; it needs a free
-seat. With --listen it answers GET /metrics in the text format of Prometheus. The bridge itself measures no level: the levels are of
-PCMU and L16, in dBFS, and of the time since the table before.
+The desk is known from the lines that pass, or from `show`, for which --ask connects for a moment every five seconds; it
+needs a free seat. With --listen it answers GET /metrics in the text format of Prometheus. The bridge itself measures no
+level: the levels are of PCMU and L16, in dBFS, and of the time since the table before.
 """
 
 import contextlib
@@ -34,11 +35,19 @@ CLEAR = "\x1b[H\x1b[2J"
 def options(parser):
     parser.add_argument("capture", nargs="?", metavar="-", help="read a pcap or pcapng stream from standard input")
     parser.add_argument("--interface", metavar="NAME", help="capture on this interface alone")
-    parser.add_argument("--udp", default="5004", metavar="ADDRESS", help="the bridge's `udp`, as an address or a port (%(default)s)")
-    parser.add_argument("--tcp", default="7000", metavar="ADDRESS", help="the bridge's `tcp`, as an address or a port (%(default)s)")
-    parser.add_argument("--ask", metavar="ADDRESS", help="ask the desk at this address for its rows, such as 127.0.0.1:7000")
+    parser.add_argument(
+        "--udp", default="5004", metavar="ADDRESS", help="the bridge's `udp`, as an address or a port (%(default)s)"
+    )
+    parser.add_argument(
+        "--tcp", default="7000", metavar="ADDRESS", help="the bridge's `tcp`, as an address or a port (%(default)s)"
+    )
+    parser.add_argument(
+        "--ask", metavar="ADDRESS", help="ask the desk at this address for its rows, such as 127.0.0.1:7000"
+    )
     parser.add_argument("--listen", metavar="ADDRESS", help="answer Prometheus at this address, such as 127.0.0.1:9100")
-    parser.add_argument("--every", type=float, default=2, metavar="SECONDS", help="how often the table is told (%(default)s)")
+    parser.add_argument(
+        "--every", type=float, default=2, metavar="SECONDS", help="how often the table is told (%(default)s)"
+    )
     parser.add_argument("--seconds", type=float, default=float("inf"), help="how long it watches")
 
 
@@ -72,7 +81,9 @@ def frames_from(args, notes):
     try:
         return Live(args.interface).frames()
     except PermissionError:
-        raise BadCapture("this process may not capture: run it as root, or give it a capture by `tcpdump -U -w - .. |`") from None
+        raise BadCapture(
+            "this process may not capture: run it as root, or give it a capture by `tcpdump -U -w - .. |`"
+        ) from None
 
 
 def watch(args, seen, lock):

@@ -58,7 +58,10 @@ def text_of(seen):
     found = {}
     for name, labels, value in samples(seen):
         found.setdefault(name, []).append(f"{name}{labels} {value}\n")
-    return "".join(f"# HELP {name} {HELP[name][1]}\n# TYPE {name} {HELP[name][0]}\n" + "".join(lines) for name, lines in found.items())
+    return "".join(
+        f"# HELP {name} {HELP[name][1]}\n# TYPE {name} {HELP[name][0]}\n" + "".join(lines)
+        for name, lines in found.items()
+    )
 
 
 def serve(address, seen, lock):

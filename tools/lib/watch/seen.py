@@ -25,7 +25,8 @@ class Judge(Bridge):
 
 
 class Said:
-    """What a report block says of a stream: the share that is lost, how many packets in all, and the jitter in its units."""
+    """What a report block says of a stream: the share that is lost, how many packets in all, and the jitter in its
+    units."""
 
     def __init__(self, block):
         self.fraction, self.lost = block[4] / 256, int.from_bytes(block[5:8], "big", signed=True)
@@ -42,7 +43,9 @@ def blocks_in(octets):
     for pt, count, body in packets:
         first = {200: 24, 201: 4}.get(pt)
         if first:
-            found |= {number(body[at : at + 4]): Said(body[at : at + 24]) for at in range(first, first + 24 * count, 24)}
+            found |= {
+                number(body[at : at + 4]): Said(body[at : at + 24]) for at in range(first, first + 24 * count, 24)
+            }
     return found
 
 

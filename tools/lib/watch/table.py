@@ -5,7 +5,8 @@ import time
 from lib.explain.senders import AUDIO, decibels, type_name
 from lib.watch.seen import Intervals
 
-# `reports` is what the bridge's last report says: the share that was lost since the one before, and how many packets in all.
+# `reports` is what the bridge's last report says: the share that was lost since the one before, and how many packets in
+# all.
 HEAD = ("member", "address", "ssrc", "type", "packets", "lost", "jitter ms", "dBFS", "speaks", "reports", "became")
 # So many seconds without a packet, and a source is silent.
 SILENT = 2
@@ -26,10 +27,19 @@ class Table:
             is_audio = source.pt in AUDIO
             is_silent = seen.now - source.last > SILENT * 10**9
             level = f"{decibels(power, samples):.0f}" if is_audio and samples and power else "-"
-            speaks = "gone" if is_silent else "yes" if is_audio and packets and speaking * 2 > packets else "no" if is_audio else ""
+            speaks = (
+                "gone"
+                if is_silent
+                else "yes"
+                if is_audio and packets and speaking * 2 > packets
+                else "no"
+                if is_audio
+                else ""
+            )
             became = ", ".join(f"{count} {what}" for what, count in source.outcomes.most_common(2))
             yield (
-                "-" if member is None else str(member), source.address, str(source.ssrc), type_name(source.pt), str(source.packets),
+                "-" if member is None else str(member), source.address, str(source.ssrc), type_name(source.pt),
+                str(source.packets),
                 str(max(0, source.lost())), f"{source.jitter_ms():.1f}", level, speaks,
                 f"{100 * said.fraction:.0f} %, {said.lost}" if said else "-", became,
             )  # fmt: skip
@@ -37,7 +47,11 @@ class Table:
     def lines(self):
         """The table, the receivers, and who is unknown."""
         seen = self.seen
-        desk = f"desk {seen.judge.log.version}" if seen.is_known else "desk unknown: say `show` at it, or let --ask name its `tcp`"
+        desk = (
+            f"desk {seen.judge.log.version}"
+            if seen.is_known
+            else "desk unknown: say `show` at it, or let --ask name its `tcp`"
+        )
         yield f"{time.strftime('%H:%M:%S', time.localtime(seen.now / 1e9))}  udp {seen.udp}, {desk}"
         rows = [HEAD, *self.rows()]
         widths = [max(len(row[at]) for row in rows) for at in range(len(HEAD))]
