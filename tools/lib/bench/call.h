@@ -1,7 +1,14 @@
 /* A bridge, its desk, its members and what they send. */
-enum { RECEIVERS = 16, ROOM = 64, VIDEO = 1100, SAMPLES = 160, MIX = 12 + 15 * 4 + SAMPLES };
+enum {
+    RECEIVERS = 16,
+    ROOM = 64,
+    LARGE = 256,
+    SPEAKERS = 16,
+    VIDEO = 1100,
+    SAMPLES = 160,
+    MIX = 12 + 15 * 4 + SAMPLES
+};
 
-static pid_t server;
 /* What the bridge says on its standard error. */
 static int told_at = -1;
 static struct sockaddr_in udp, tcp;
@@ -9,16 +16,10 @@ static int desk = -1;
 
 /* How many lanes a bridge has, how many packets a frame of the fan, and how many octets each of these. */
 static int lanes = 1, burst = 4, video = VIDEO;
+/* How many members the room has, and how many of them send. Whether each has a gain for each that sends. */
+static int listening = ROOM, speaking = ROOM, has_gains;
 /* Whether the members of the room send each at its own moment, and not all at once. */
 static int is_spread;
-
-static void die(const char *text)
-{
-    fprintf(stderr, "load: %s\n", text);
-    if (server > 0)
-        kill(server, SIGKILL);
-    exit(1);
-}
 
 static struct sockaddr_in loopback(int port)
 {
@@ -27,17 +28,24 @@ static struct sockaddr_in loopback(int port)
     return a;
 }
 
-/* A UDP socket of the system's choice of port, which never waits, with much room where the system lets it have any. */
-static int udp_socket(struct sockaddr_in *at)
+/* A UDP socket at an address of this machine and a port of the system's choice, which never waits, with much room where
+ * the system lets it have any. It is told to others as one of loopback. */
+static int udp_socket_at(in_addr_t host, struct sockaddr_in *at)
 {
     int one = socket(AF_INET, SOCK_DGRAM | SOCK_NONBLOCK, 0), room = 8 << 20;
     socklen_t size = sizeof *at;
     if (setsockopt(one, SOL_SOCKET, SO_RCVBUFFORCE, &room, sizeof room))
         setsockopt(one, SOL_SOCKET, SO_RCVBUF, &room, sizeof room);
-    *at = loopback(0);
+    *at = (struct sockaddr_in){.sin_family = AF_INET, .sin_addr.s_addr = htonl(host)};
     if (one < 0 || bind(one, (void *)at, sizeof *at) || getsockname(one, (void *)at, &size))
         die("no socket");
+    *at = loopback(ntohs(at->sin_port));
     return one;
+}
+
+static int udp_socket(struct sockaddr_in *at)
+{
+    return udp_socket_at(INADDR_LOOPBACK, at);
 }
 
 static void start_bridge(const char *binary)
@@ -119,35 +127,6 @@ static void stop_bridge(void)
         die("the bridge didn't end well");
 }
 
-/* Seconds of processor time that a process has had, and how many of them in the system. */
-static double processor(pid_t pid, double *within)
-{
-    char path[64], text[1024], *at;
-    unsigned long user, sys;
-    snprintf(path, sizeof path, "/proc/%d/stat", pid);
-    FILE *file = fopen(path, "r");
-    if (!file || !fgets(text, sizeof text, file) || !(at = strrchr(text, ')')))
-        die("the process is gone");
-    fclose(file);
-    sscanf(at + 2, "%*c %*d %*d %*d %*d %*d %*u %*u %*u %*u %*u %lu %lu", &user, &sys);
-    if (within)
-        *within = (double)sys / sysconf(_SC_CLK_TCK);
-    return (double)(user + sys) / sysconf(_SC_CLK_TCK);
-}
-
-static long resident(pid_t pid)
-{
-    char path[64], text[256];
-    long kb = -1;
-    snprintf(path, sizeof path, "/proc/%d/status", pid);
-    FILE *file = fopen(path, "r");
-    while (file && fgets(text, sizeof text, file))
-        sscanf(text, "VmRSS: %ld", &kb);
-    if (file)
-        fclose(file);
-    return kb;
-}
-
 /* xorshift64*, so that a run can be had again. */
 static uint64_t state = 88172645463325252ull;
 
@@ -172,58 +151,79 @@ static void header(uint8_t *at, unsigned pt, unsigned seq, uint32_t ts, uint32_t
 }
 
 /* The members: those of the fan (a source, then receivers) and those of the room. */
-static int fan[RECEIVERS + 1], room[ROOM];
-static struct sockaddr_in fan_at[RECEIVERS + 1], room_at[ROOM];
+static int fan[RECEIVERS + 1], room[LARGE];
+static struct sockaddr_in fan_at[RECEIVERS + 1], room_at[LARGE];
 static long fan_got, room_got;
 
 static void members(void)
 {
-    for (int i = 0; i <= RECEIVERS; i++)
+    fan[0] = udp_socket_at(INADDR_ANY, &fan_at[0]); /* Janus isn't reached from the address of loopback */
+    for (int i = 1; i <= RECEIVERS; i++)
         fan[i] = udp_socket(&fan_at[i]);
-    for (int i = 0; i < ROOM; i++)
+    for (int i = 0; i < listening; i++)
         room[i] = udp_socket(&room_at[i]);
+}
+
+/* An operator's line with some numbers, which has to be accepted. */
+static void call(const char *form, ...)
+{
+    char line[200];
+    va_list numbers;
+    va_start(numbers, form);
+    vsnprintf(line, sizeof line, form, numbers);
+    va_end(numbers);
+    accepted(line);
+}
+
+static void set_fan(void)
+{
+    call("add-room 1");
+    for (int i = 0; i <= RECEIVERS; i++)
+        call("add-member %d 1 127.0.0.1:%d pcmu %d 0 0", 100 + i, ntohs(fan_at[i].sin_port), 9000 + i);
+    call("add-source 101 100 video");
+    for (int i = 1; i <= RECEIVERS; i++) {
+        call("add-slot %d %d 0 0 0", 500 + i, 100 + i);
+        call("subscribe %d 101", 500 + i);
+    }
+}
+
+static void set_room(void)
+{
+    call("add-room 2");
+    for (int i = 0; i < listening; i++)
+        call("add-member %d 2 127.0.0.1:%d pcmu %d 0 0", 200 + i, ntohs(room_at[i].sin_port), 20000 + i);
+    for (int i = 0; i < speaking; i++)
+        call("add-source %d %d audio", 30000 + i, 200 + i);
+    for (int i = 0; has_gains && i < listening * speaking; i++)
+        call("set-gain %d %d 100", 200 + i / speaking, 30000 + i % speaking);
 }
 
 static void set_desk(int with_fan, int with_room)
 {
-    char line[200];
     desk = connected();
-    if (with_fan) {
-        accepted("add-room 1");
-        for (int i = 0; i <= RECEIVERS; i++) {
-            snprintf(line, sizeof line, "add-member %d 1 127.0.0.1:%d pcmu %d 0 0", 100 + i, ntohs(fan_at[i].sin_port),
-                     9000 + i);
-            accepted(line);
-        }
-        accepted("add-source 101 100 video");
-        for (int i = 1; i <= RECEIVERS; i++) {
-            snprintf(line, sizeof line, "add-slot %d %d 0 0 0", 500 + i, 100 + i);
-            accepted(line);
-            snprintf(line, sizeof line, "subscribe %d 101", 500 + i);
-            accepted(line);
-        }
-    }
-    if (with_room) {
-        accepted("add-room 2");
-        for (int i = 0; i < ROOM; i++) {
-            snprintf(line, sizeof line, "add-member %d 2 127.0.0.1:%d pcmu %d 0 0", 200 + i,
-                     ntohs(room_at[i].sin_port), 20000 + i);
-            accepted(line);
-            snprintf(line, sizeof line, "add-source %d %d audio", 30000 + i, 200 + i);
-            accepted(line);
-        }
-    }
+    if (with_fan)
+        set_fan();
+    if (with_room)
+        set_room();
 }
 
+/* Takes what has come to some sockets, and counts what is RTP. Of each datagram only the header is read. */
 static void drain(int *some, int count, long *got)
 {
-    uint8_t octets[9000];
+    enum { HEAD = 12, BATCH = 32 };
+    uint8_t heads[BATCH][HEAD];
+    struct iovec parts[BATCH];
+    struct mmsghdr found[BATCH];
+    for (int i = 0; i < BATCH; i++) {
+        parts[i] = (struct iovec){heads[i], HEAD};
+        found[i] = (struct mmsghdr){.msg_hdr = {.msg_iov = &parts[i], .msg_iovlen = 1}};
+    }
     for (int i = 0; i < count; i++)
-        while (1) {
-            ssize_t n = recv(some[i], octets, sizeof octets, 0);
-            if (n < 0)
-                break;
-            *got += n >= 12 && !(octets[1] >= 192 && octets[1] <= 223);
+        for (int n = BATCH; n == BATCH;) {
+            n = recvmmsg(some[i], found, BATCH, 0, 0);
+            for (int j = 0; j < n; j++)
+                *got +=
+                    found[j].msg_len == HEAD && heads[j][0] >> 6 == 2 && !(heads[j][1] >= 192 && heads[j][1] <= 223);
         }
 }
 
@@ -235,6 +235,22 @@ static double seconds_now(void)
     struct timespec now;
     clock_gettime(CLOCK_MONOTONIC, &now);
     return now.tv_sec + now.tv_nsec * 1e-9;
+}
+
+/* How many seconds ago a moment was. */
+static double passed(const struct timespec *moment)
+{
+    return seconds_now() - (moment->tv_sec + moment->tv_nsec * 1e-9);
+}
+
+/* 4 ms later. */
+static void pass_step(struct timespec *moment)
+{
+    moment->tv_nsec += 4000000;
+    if (moment->tv_nsec >= 1000000000) {
+        moment->tv_nsec -= 1000000000;
+        moment->tv_sec++;
+    }
 }
 
 /* A packet of the room's sound, by its member and its place in the stream. */
@@ -252,8 +268,10 @@ static void send_sound(const struct sockaddr_in *to, int member, unsigned tick)
  * of 20 ms later. */
 static void send_sounds(const struct sockaddr_in *to, long step, struct timespec begin)
 {
-    int part = step % 5, first = is_spread ? ROOM * part / 5 : 0;
-    int last = is_spread ? ROOM * (part + 1) / 5 : part ? 0 : ROOM;
+    int part = step % 5, all = speaking, first = is_spread ? all * part / 5 : 0,
+        last = is_spread ? all * (part + 1) / 5
+               : part    ? 0
+                         : all;
     for (int i = first; i < last; i++) {
         if (is_spread && i > first) {
             begin.tv_nsec += 4000000 / (last - first);
@@ -276,8 +294,10 @@ static void talk(const struct sockaddr_in *to, double seconds, int with_fan, int
     uint8_t octets[12 + VIDEO] = {0};
     if (!next.tv_sec)
         clock_gettime(CLOCK_MONOTONIC, &next);
+    for (; passed(&next) > 0.02; step++) /* nothing was due since the last talk */
+        pass_step(&next);
     for (long until = step + seconds * 250; step < until; step++) {
-        int is_late = seconds_now() - (next.tv_sec + next.tv_nsec * 1e-9) > 0.02;
+        int is_late = passed(&next) > 0.02;
         steps_left_out += is_late;
         if (with_fan && !is_late)
             for (int i = 0; i < burst; i++, seq++, pictures_sent++) {
@@ -291,13 +311,9 @@ static void talk(const struct sockaddr_in *to, double seconds, int with_fan, int
                    resident(watched), processor(watched, 0), fan_got, room_got);
             fflush(stdout);
         }
-        next.tv_nsec += 4000000;
-        if (next.tv_nsec >= 1000000000) {
-            next.tv_nsec -= 1000000000;
-            next.tv_sec++;
-        }
+        pass_step(&next);
         clock_nanosleep(CLOCK_MONOTONIC, TIMER_ABSTIME, &next, 0);
         drain(fan, RECEIVERS + 1, &fan_got);
-        drain(room, ROOM, &room_got);
+        drain(room, listening, &room_got);
     }
 }

@@ -5,12 +5,17 @@ A member sends sound to another through `replay`, with `renew`, over a path of 5
 is none, up to 30 ms with all values alike, or half of a normal distribution. Packets don't overtake one another. Each
 10 ms of sound are told by their value, so that what is heard shows when it was sent. The delay is that of the sound of
 a tick, from the sending of its packet to the tick. A beginning is a place where the sound that is heard goes on with
-another delay.
+another delay: with a longer one because too much sound was late, with a shorter one because too much waited.
+--beginnings tells each.
+
+With --rule the tool runs no program. It simulates the buffer by playout's definitions, with other numbers for the sound
+that waits.
 
 The first second is left out. The status is 1 where a goal is missed: at most 0.1 percent missing, 1 percent from 300
 millionths on, never over 0.7 s at once, and a delay of at most 250 ms.
 """
 
+import itertools
 import random
 import subprocess
 import threading
@@ -29,6 +34,9 @@ PIECE, TICK = 10 * MILLI, 20 * MILLI
 PATH = 50 * MILLI
 # So many pieces are left out at the beginning.
 SKIPPED = 100
+# The rule's other numbers, in pieces: how much waits where a buffer begins, how much late sound begins it anew, and a
+# late piece's weight.
+WAIT, LATE, LATE_WEIGHT = 6, 30, 1000
 JITTERS = {
     "none": lambda r: 0,
     "up to 30 ms": lambda r: r.randrange(30 * MILLI),
@@ -131,9 +139,42 @@ def heard(call, minutes, program):
         yield from (known.get(payload[at : at + size]) for at in (0, size))
 
 
+def is_overdue(position, place, tally, rule):
+    """Whether a buffer begins anew: by the tallies of late sound and of too much, or a second from what comes."""
+    return abs(place - position) > 100 or tally[0] >= LATE_WEIGHT * LATE or tally[1] >= 100 * rule[1]
+
+
+def tallied(tally, late, ahead, each, rule):
+    """The tallies after a packet of which so many pieces are late, and before which so many wait."""
+    return max(0, tally[0] + LATE_WEIGHT * late - (each - late)), tally[1] + each if 10 * ahead > rule[0] else 0
+
+
+def simulated(call, minutes, rule):
+    """As `heard`, by playout's definitions in pieces of 10 ms.
+
+    A buffer begins anew where more than so many ms wait for so many seconds.
+    """
+    position, pieces, tally, at, each = None, {}, (0, 0), 0, call.packet // 10
+    for k, (came, _) in enumerate(packets(call, minutes)):
+        while at <= came:
+            if position is not None:
+                yield from (pieces.pop(position, None), pieces.pop(position + 1, None))
+                position += 2
+            at += TICK
+        # The first packet is on probation.
+        place = each * k
+        if k and position is not None:
+            tally = tallied(tally, min(each, max(0, position - place)), place - position, each, rule)
+        if k and (position is None or is_overdue(position, place, tally, rule)):
+            position, pieces, tally = place - WAIT, {}, (0, 0)
+        for n in range(place, place + each) if k else []:
+            if n >= position:
+                pieces.setdefault(n, n % len(CODES))
+
+
 def first_tick(call):
-    """The tick in which the first sound is heard: the fourth one after its packet came."""
-    came = next(at for at, _ in packets(call, 1))
+    """The tick in which the first sound is heard: the fourth after the second packet, which ends probation."""
+    came, _ = next(itertools.islice(packets(call, 1), 1, None))
     return (came // TICK + 4) * TICK
 
 
@@ -145,24 +186,27 @@ def delay_of(call, tick, piece):
     return tick - sent_at(call, each * (number // each + 1))
 
 
-def measured(call, minutes, program):
-    """Of a call: the share that is missing, the longest gap and the longest delay in s, and how many beginnings there
-    were."""
-    missing = total = longest = gap = begins = latest = 0
-    first, before = first_tick(call), None
-    for place, piece in enumerate(heard(call, minutes, program)):
+def measured(call, pieces):
+    """Of a call by what is heard: the share that is missing, the longest gap and the longest delay in s.
+
+    And the beginnings: for each the moment, and the delays before it and from it on, in s.
+    """
+    missing = total = longest = gap = latest = delay = 0
+    first, before, begins = first_tick(call), None, []
+    for place, piece in enumerate(itertools.dropwhile(lambda piece: piece is None, pieces)):
         if place < SKIPPED:
             continue
         total, gap = total + 1, 0 if piece is not None else gap + 1
         longest, missing = max(longest, gap), missing + (piece is None)
         if piece is not None:
-            offset = (place - piece) % len(CODES)
-            begins += before not in (None, offset)
-            before = offset
-            latest = max(latest, delay_of(call, first + place // 2 * TICK, piece))
+            offset, tick = (place - piece) % len(CODES), first + place // 2 * TICK
+            last, delay = delay, delay_of(call, tick, piece) / 1e9
+            if before not in (None, offset):
+                begins.append((tick / 1e9, last, delay))
+            before, latest = offset, max(latest, delay)
     if before is None:
         fail(f"{call}: nothing is heard")
-    return missing / total, longest / 100, latest / 1e9, begins
+    return missing / total, longest / 100, latest, begins
 
 
 def is_good(call, missing, longest, delay):
@@ -174,19 +218,25 @@ def options(parser):
     add_program(parser)
     parser.add_argument("--minutes", type=int, default=60, help="how long a call is (%(default)s)")
     parser.add_argument("--only", default="", metavar="WORD", help="only the calls with this word in their names")
+    what = "simulate: how much may wait, and for how long more may"
+    parser.add_argument("--rule", type=int, nargs=2, metavar=("MS", "SECONDS"), help=what)
+    what = "tell each beginning, and the delays before it and from it on"
+    parser.add_argument("--beginnings", action="store_true", help=what)
 
 
 def run(args):
-    program = release_program(args.binary)
+    program = None if args.rule else release_program(args.binary)
     status = 0
     for call in calls():
         if args.only not in str(call):
             continue
-        missing, longest, delay, begins = measured(call, args.minutes, program)
+        pieces = simulated(call, args.minutes, args.rule) if args.rule else heard(call, args.minutes, program)
+        missing, longest, delay, begins = measured(call, pieces)
         verdict = "" if is_good(call, missing, longest, delay) else "  a goal is missed"
-        figures = (
-            f"{100 * missing:.3f} % missing, {longest:.2f} s at once, {1000 * delay:.0f} ms late, {begins} beginnings"
-        )
+        figures = f"{100 * missing:.3f} % missing, {longest:.2f} s at once, {1000 * delay:.0f} ms late"
+        figures += f", {len(begins)} beginnings"
         print(f"{call}: {figures}{verdict}", flush=True)
+        for moment, before, after in begins if args.beginnings else []:
+            print(f"  {moment:7.1f} s: {1000 * before:.0f} ms became {1000 * after:.0f} ms", flush=True)
         status |= bool(verdict)
     return status

@@ -5,9 +5,11 @@
  */
 #define _GNU_SOURCE
 #include <arpa/inet.h>
+#include <dirent.h>
 #include <errno.h>
 #include <fcntl.h>
 #include <signal.h>
+#include <stdarg.h>
 #include <stdint.h>
 #include <stdio.h>
 #include <stdlib.h>
@@ -19,6 +21,7 @@
 #include <time.h>
 #include <unistd.h>
 
+#include "machine.h"
 #include "call.h"
 
 enum { STRANGERS = 16, OPEN = 2044, RING = 512, PICTURE = 300, MOST_TICKS = 1 << 20 };

@@ -1,8 +1,8 @@
 """Measures what bridges without members cost on one machine: memory, and time of the processor.
 
-So many bridges run side by side, each with one lane and the settings of a fleet's bridge. Their memory is the sum of
-their proportional set sizes: what the system would get back if they ended. Their time is that of all their threads, as
-a share of one core. A count for which the machine has no memory is skipped.
+So many bridges run side by side, each with one lane, or as many as are asked for, and the settings of a fleet's
+bridge. Their memory is the sum of their proportional set sizes: what the system would get back if they ended. Their
+time is that of all their threads, as a share of one core. A count for which the machine has no memory is skipped.
 """
 
 import os
@@ -23,6 +23,7 @@ REST = 3
 
 def options(parser):
     parser.add_argument("--bridges", type=int, nargs="+", default=[1, 10, 100], help="how many (1, 10 and 100)")
+    parser.add_argument("--lanes", type=int, default=1, help="how many lanes each has (%(default)s)")
     parser.add_argument("--seconds", type=int, default=30, help="how long their time is taken (%(default)s)")
     add_program(parser)
 
@@ -39,9 +40,9 @@ def seconds_of(bridge):
     return (int(words[11]) + int(words[12])) / os.sysconf("SC_CLK_TCK")
 
 
-def measure(program, count, seconds):
+def measure(program, count, lanes, seconds):
     with tempfile.TemporaryDirectory() as folder:
-        path, bridges = settings(folder, operators=4), []
+        path, bridges = settings(folder, operators=4, lanes=lanes), []
         try:
             for _ in range(count):
                 bridges.append(started(program, path)[0])
@@ -64,4 +65,4 @@ def run(args):
         if free < count * MOST_KB:
             print(f"skipped: {count} bridges ({free / 1000:.0f} MB of memory are free)")
             continue
-        measure(program, count, args.seconds)
+        measure(program, count, args.lanes, args.seconds)

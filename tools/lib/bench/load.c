@@ -1,14 +1,16 @@
-/* Loads `confbridge serve` over loopback, and beside it a floor. `tools/bridge bench sockets --help` says more.
+/* Loads `confbridge serve` over loopback, and beside it floors. `tools/bridge bench sockets --help` says what each load
+ * is.
  *
- * load BINARY fan SECONDS [FLOOR]    1 video source to 16 receivers, 1,000 packets/s in frames of 4
- * load BINARY room SECONDS [FLOOR]   64 members with PCMU of 160 samples each 20 ms
- * load BINARY spread SECONDS         the same room in bursts, and each member at its own moment
- * load BINARY calls SECONDS FILE     that, while strace counts system calls and writes them to a file
- * load BINARY both SECONDS           both together, with the resident memory each minute
- * load BINARY most SECONDS LANES     the largest fan without loss, on so many lanes
- * load BINARY storm DATAGRAMS LINES  random datagrams and operators' lines, and then a call
+ * load BINARY fan SECONDS LANES FLOOR JANUS    1 video source to 16 receivers, 1,000 packets/s in frames of 4
+ * load BINARY room SECONDS LANES FLOOR         64 members with PCMU of 160 samples each 20 ms
+ * load BINARY spread SECONDS LANES             the same room in bursts, and each member at its own moment
+ * load BINARY gains SECONDS LANES              256 members with gains, of whom 16 speak, on one lane and on four
+ * load BINARY calls SECONDS LANES FILE         that room, while strace counts system calls and writes them to a file
+ * load BINARY both SECONDS LANES               fan and room together, with the resident memory each minute
+ * load BINARY most SECONDS LANES               the largest fan without loss
+ * load BINARY storm DATAGRAMS LANES LINES      random datagrams and operators' lines, and then a call
  *
- * FLOOR is the floor in Python, floor.py.
+ * FLOOR is the floor in Python, floor.py, and JANUS the module that starts Janus. An empty one is left out.
  */
 #define _GNU_SOURCE
 #include <arpa/inet.h>
@@ -17,6 +19,7 @@
 #include <fcntl.h>
 #include <poll.h>
 #include <signal.h>
+#include <stdarg.h>
 #include <stdint.h>
 #include <stdio.h>
 #include <stdlib.h>
@@ -26,44 +29,54 @@
 #include <time.h>
 #include <unistd.h>
 
+#include "machine.h"
 #include "call.h"
 #include "floor.h"
+#include "beside.h"
+#include "calls.h"
 #include "most.h"
 #include "storm.h"
 
+static void both(const char *binary, const char *count, char **more)
+{
+    (void)more;
+    members();
+    start_bridge(binary);
+    set_desk(1, 1);
+    talk(&udp, atof(count), 1, 1, server);
+    printf("end: VmRSS %ld kB, processor %.2f s\n", resident(server), processor(server, 0));
+    stop_bridge();
+}
+
+static void storm(const char *binary, const char *count, char **more)
+{
+    members();
+    start_bridge(binary);
+    set_desk(1, 1);
+    storm_datagrams(atol(count));
+    storm_lines(atol(more[0]));
+    call_after();
+    stop_bridge();
+}
+
+/* A load: its name, and how many words it is told behind the lanes. */
+static const struct load {
+    const char *name;
+    int more;
+    void (*run)(const char *binary, const char *count, char **more);
+} loads[] = {
+    {"fan", 2, fan_beside}, {"room", 1, room_beside}, {"spread", 0, beside_bursts}, {"gains", 0, beside_one_lane},
+    {"calls", 1, counted},  {"both", 0, both},        {"most", 0, largest},         {"storm", 1, storm},
+};
+
 int main(int count, char **words)
 {
-    if (count < 4)
-        die("usage: load BINARY fan|room SECONDS [FLOOR] | load BINARY spread|both SECONDS"
-            " | load BINARY calls SECONDS FILE"
-            " | load BINARY most SECONDS LANES | load BINARY storm DATAGRAMS LINES");
-    const char *what = words[2];
-    if (!strcmp(what, "fan") || !strcmp(what, "room"))
-        beside_floor(words[1], atof(words[3]), what[0] == 'f', count > 4 ? words[4] : 0);
-    else if (!strcmp(what, "spread"))
-        beside_bursts(words[1], atof(words[3]));
-    else if (!strcmp(what, "calls") && count == 5)
-        counted(words[1], atof(words[3]), words[4]);
-    else if (!strcmp(what, "both")) {
-        members();
-        start_bridge(words[1]);
-        set_desk(1, 1);
-        talk(&udp, atof(words[3]), 1, 1, server);
-        printf("end: VmRSS %ld kB, processor %.2f s\n", resident(server), processor(server, 0));
-        stop_bridge();
-    } else if (!strcmp(what, "most") && count == 5) {
-        lanes = atoi(words[4]);
-        members();
-        largest(words[1], atof(words[3]));
-    } else if (!strcmp(what, "storm") && count == 5) {
-        members();
-        start_bridge(words[1]);
-        set_desk(1, 1);
-        storm_datagrams(atol(words[3]));
-        storm_lines(atol(words[4]));
-        call_after();
-        stop_bridge();
-    } else
-        die("no such case");
-    return 0;
+    for (size_t i = 0; count > 4 && i < sizeof loads / sizeof *loads; i++)
+        if (!strcmp(words[2], loads[i].name) && count == 5 + loads[i].more) {
+            lanes = atoi(words[4]);
+            loads[i].run(words[1], words[3], words + 5);
+            return 0;
+        }
+    die("usage: load BINARY LOAD COUNT LANES [MORE ..]");
+    return 1;
 }

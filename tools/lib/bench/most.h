@@ -1,81 +1,90 @@
-/* The largest fan that a bridge sends on without loss. */
-enum { MOST_THREADS = 64, SMALL = 100 };
+/* The largest fan that a bridge sends on without loss, and where packets are lost beyond it. */
+enum { SMALL = 100 };
 
-/* The threads of the bridge, its first one before the others, and the seconds of processor time that each has had. */
-struct threads {
-    int count;
-    double had[MOST_THREADS];
+/* Where packets were lost, and how many of what was to come were lacking. */
+struct losses {
+    long lacking, before, behind, left_out;
 };
 
-static void threads_now(struct threads *now)
+/* What a run lost, in words. */
+static const char *bound_of(const struct losses *lost)
 {
-    char path[64], text[1024], *at;
-    unsigned long user, sys;
-    snprintf(path, sizeof path, "/proc/%d/task", server);
-    DIR *folder = opendir(path);
-    if (!folder)
-        die("the process is gone");
-    now->count = 0;
-    for (struct dirent *one; (one = readdir(folder)) && now->count < MOST_THREADS;) {
-        char name[384];
-        snprintf(name, sizeof name, "%s/%s/stat", path, one->d_name);
-        FILE *file = one->d_name[0] == '.' ? 0 : fopen(name, "r");
-        if (!file)
-            continue;
-        if (fgets(text, sizeof text, file) && (at = strrchr(text, ')'))) {
-            sscanf(at + 2, "%*c %*d %*d %*d %*d %*d %*u %*u %*u %*u %*u %lu %lu", &user, &sys);
-            now->had[now->count++] = (double)(user + sys) / sysconf(_SC_CLK_TCK);
-        }
-        fclose(file);
-    }
-    closedir(folder);
+    if (lost->left_out)
+        return "this tool stood still";
+    if (lost->before)
+        return "the receive buffer of the bridge's socket";
+    return lost->behind ? "the receive buffers of the receivers" : "the bridge";
 }
 
-/* Loads a new bridge for so many seconds with frames of so many packets, 250 a second, and tells what came of it.
- * Whether all came. */
-static int all_came(const char *binary, int packets, double seconds)
+static void tell_shares(const struct work *before, const struct work *after, double own, double seconds)
 {
-    struct threads before, after;
+    printf("  of a core, front first:");
+    for (int i = 0; i < after->threads.count && i < before->threads.count; i++)
+        printf(" %.0f %%", 100 * (after->threads.had[i] - before->threads.had[i]) / seconds);
+    printf("; this tool: %.0f %%\n", 100 * own / seconds);
+    fflush(stdout);
+}
+
+/* Loads a new bridge for so many seconds with frames of so many packets, 250 a second, and tells what came of it. */
+static struct losses lost_with(const char *binary, int packets, double seconds)
+{
+    struct work before, after;
+    struct losses lost;
     burst = packets;
     start_bridge(binary);
     set_desk(1, 0);
     talk(&udp, 0.5, 1, 0, 0);
-    long left_out = steps_left_out, sent = pictures_sent, got = fan_got;
-    threads_now(&before);
+    lost = (struct losses){.before = lost_at(&udp, 1), .behind = lost_behind(), .left_out = steps_left_out};
+    long sent = pictures_sent, got = fan_got;
+    double own = processor(getpid(), 0);
+    work_now(server, &before);
     talk(&udp, seconds, 1, 0, 0);
-    threads_now(&after);
+    work_now(server, &after);
+    own = processor(getpid(), 0) - own;
     talk(&udp, 0.5, 0, 0, 0);
     sent = pictures_sent - sent;
-    got = fan_got - got;
-    long lacking = sent * RECEIVERS - got;
-    printf("%d lanes, %.0f packets/s out: %ld of %ld lacking, %ld steps left out; of a core, front first:", lanes,
-           sent * RECEIVERS / seconds, lacking > 0 ? lacking : 0, sent * RECEIVERS, steps_left_out - left_out);
-    for (int i = 0; i < after.count && i < before.count; i++)
-        printf(" %.0f %%", 100 * (after.had[i] - before.had[i]) / seconds);
-    printf("\n");
-    fflush(stdout);
+    lost = (struct losses){sent * RECEIVERS - (fan_got - got), lost_at(&udp, 1) - lost.before,
+                           lost_behind() - lost.behind, steps_left_out - lost.left_out};
+    printf("%d lanes, %.0f packets/s out in frames of %d: %ld of %ld lacking, %ld lost before it, %ld behind it, %ld "
+           "steps left out\n",
+           lanes, sent * RECEIVERS / seconds, packets, lost.lacking > 0 ? lost.lacking : 0, sent * RECEIVERS,
+           lost.before, lost.behind, lost.left_out);
+    tell_shares(&before, &after, own, seconds);
     stop_bridge();
-    return lacking <= 0 && steps_left_out == left_out;
+    return lost;
+}
+
+/* Whether all came in one of three runs; of the last that failed, what was lost. */
+static int all_came(const char *binary, int packets, double seconds, struct losses *lost)
+{
+    for (int tries = 0; tries < 3; tries++) {
+        struct losses now = lost_with(binary, packets, seconds);
+        if (now.lacking <= 0 && !now.left_out)
+            return 1;
+        *lost = now;
+    }
+    return 0;
 }
 
 /* Frames of packets of so many octets grow by a quarter until packets are lacking in three runs of so many seconds. */
 static void largest_of(const char *binary, double seconds, int octets)
 {
     int good = 0, packets = 4;
+    struct losses lost = {0};
     video = octets;
-    while (packets <= 250
-           && (all_came(binary, packets, seconds) || all_came(binary, packets, seconds)
-               || all_came(binary, packets, seconds))) {
+    while (packets <= 250 && all_came(binary, packets, seconds, &lost)) {
         good = packets;
         packets += packets / 4;
     }
-    printf("%d lanes, packets of %d octets: at most %d packets/s out without loss\n", lanes, octets,
-           good * 250 * RECEIVERS);
+    printf("%d lanes, packets of %d octets: at most %d packets/s out without loss; the bound: %s\n", lanes, octets,
+           good * 250 * RECEIVERS, packets > 250 ? "a frame has no more packets" : bound_of(&lost));
 }
 
 /* The largest fan of large packets, and of small ones: more of these fit into the receive buffers. */
-static void largest(const char *binary, double seconds)
+static void largest(const char *binary, const char *count, char **more)
 {
-    largest_of(binary, seconds, VIDEO);
-    largest_of(binary, seconds, SMALL);
+    (void)more;
+    members();
+    largest_of(binary, atof(count), VIDEO);
+    largest_of(binary, atof(count), SMALL);
 }

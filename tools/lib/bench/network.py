@@ -10,7 +10,10 @@ encryption.
 The picture stands still while a frame is shown for over 100 ms. A frame is shown if all its packets came, and those of
 all frames back to a key frame. It is shown a little behind the fastest frame, as --buffer says, or later where it comes
 later. Sound is missing in each tick of 20 ms without the sender's tone. Control up is what the bridge sends to the
-sender, beside the octets that came.
+sender, beside the octets that came. The path's picture is what a receiver would see where the path ends, in the place
+of the bridge: of a sender that answers nothing, nobody can show more. After is how long the sender takes to send again
+what it is asked for; with --at-once the relay takes that time off the way of what is sent again, as if the sender had
+answered at once.
 
 What isn't installed is left out, which is said. The status is 1 where the bridge misses a goal. On a busy machine the
 figures are too high, and a line that this may have disturbed says `busy`: run it under `nice -n -10`, with fewer calls
@@ -31,9 +34,11 @@ NEEDS = "the program, some four minutes; GStreamer, ffmpeg and janus for their r
 
 # A machine on which the relay or a mix is late by more seconds has disturbed the call.
 LATE = 0.04
-HEAD = """\
-                                                       picture still       sound missing     control     sent
-sender      path                                    share    longest    share    longest          up    again"""
+SHARE = f"{'share':>9}{'longest':>11}"
+HEAD = (
+    f"{'':51}{'picture still':>20}{'of the path':>20}{'sound missing':>20}{'control':>12}{'sent':>9}\n"
+    f"{'sender':12}{'path':39}{3 * SHARE}{'up':>12}{'again':>9}{'after':>8}"
+)
 
 
 def options(parser):
@@ -46,13 +51,9 @@ def options(parser):
         "--beside", type=int, default=8, metavar="CALLS", help="how many calls are held at a time (%(default)s)"
     )
     parser.add_argument("--seed", type=int, default=1, help="which packets are lost (%(default)s)")
-    parser.add_argument(
-        "--buffer",
-        type=float,
-        default=0.1,
-        metavar="SECONDS",
-        help="how long the receiver waits before it shows a frame (%(default)s)",
-    )
+    what = "how long the receiver waits before it shows a frame (%(default)s)"
+    parser.add_argument("--buffer", type=float, default=0.1, metavar="SECONDS", help=what)
+    parser.add_argument("--at-once", action="store_true", help="as if senders answered NACKs at once")
     parser.add_argument("--lanes", type=int, default=1, help="how many lanes the bridge has (%(default)s)")
 
 
@@ -78,8 +79,9 @@ def text_of(name, it):
         return f"{name:50}  nothing is seen or heard"
     late = max(it.late, it.stood)
     busy = f"  busy: {1e3 * late:.0f} ms late" if late > LATE else ""
-    shares = f"{100 * it.still:8.1f} %{it.longest:9.2f} s{100 * it.missing:7.1f} %{it.silence:9.2f} s"
-    return f"{name:50}{shares}{100 * it.control:10.3f} %{100 * it.again:7.1f} %{busy}"
+    pairs = [(it.still, it.longest), (it.path_still, it.path_longest), (it.missing, it.silence)]
+    shares = "".join(f"{100 * share:7.1f} %{longest:9.2f} s" for share, longest in pairs)
+    return f"{name:51}{shares}{100 * it.control:10.3f} %{100 * it.again:7.1f} %{1e3 * it.after:5.0f} ms{busy}"
 
 
 def held(calls, middles, args):

@@ -63,7 +63,7 @@ static void storm_datagrams(long count)
         }
         if (i % 4096 == 0) {
             drain(fan, RECEIVERS + 1, &fan_got);
-            drain(room, ROOM, &room_got);
+            drain(room, listening, &room_got);
         }
     }
     printf("%ld random datagrams, of which %ld were lost before the bridge; VmRSS %ld kB\n", count, lost,

@@ -2,6 +2,7 @@
 hears."""
 
 import dataclasses
+import statistics
 import tempfile
 import time
 
@@ -43,16 +44,23 @@ class Row:
 
 @dataclasses.dataclass
 class Measured:
-    """What was measured: shares of the time, the longest gaps in seconds, octets of control for each octet that came,
-    packets sent again for each first one, whether control kept its bound; and what a busy machine did: by how many
-    seconds the relay was late at worst, and so the mixes of what is in the middle."""
+    """What was measured.
+
+    These are shares of the time, the longest gaps in seconds, octets of control for each octet that came, packets sent
+    again for each first one, the median of the seconds from asking to sending again, and whether control kept its
+    bound. And what a busy machine did: by how many seconds the relay was late at worst, and so the mixes of what is in
+    the middle. The picture is also measured where the path ends, before what is in the middle.
+    """
 
     still: float
     longest: float
+    path_still: float
+    path_longest: float
     missing: float
     silence: float
     control: float
     again: float
+    after: float
     is_bounded: bool
     late: float
     stood: float
@@ -101,11 +109,13 @@ def measured(loop, relay, receiver, seconds):
     end = begin + seconds
     # What is shown later is known a little later.
     loop.run(end + 0.5)
-    still, silent = receiver.seen.gaps(begin, end), receiver.heard.gaps(begin, end)
+    still, path, silent = (of.gaps(begin, end) for of in (receiver.seen, relay.seen, receiver.heard))
     since, sent = relay.octets - before, relay.up.counts
     return Measured(
-        sum(still) / seconds, max(still, default=0), sum(silent) / seconds, max(silent, default=0),
+        sum(still) / seconds, max(still, default=0), sum(path) / seconds, max(path, default=0),
+        sum(silent) / seconds, max(silent, default=0),
         since.control / max(1, since.came), sent["again"] / max(1, sent["first"]),
+        statistics.median(relay.waits or [0]),
         relay.octets.control <= 1.5 * relay.octets.came + 256, loop.latest, receiver.heard.latest,
     )  # fmt: skip
 
@@ -113,7 +123,7 @@ def measured(loop, relay, receiver, seconds):
 def held(row, middle, args):
     """Holds a call of a row. What was measured, or None where nothing is seen or heard."""
     loop = Loop()
-    relay, receiver = Relay(loop, row.path, args.seed, middle.goal_of, middle.HOST), Receiver(loop, args.buffer)
+    relay, receiver = Relay(loop, row.path, args, middle.goal_of, middle.HOST), Receiver(loop, args.buffer)
     middle.joins(loop, relay, receiver)
     running = starts(row, loop, relay)
     try:

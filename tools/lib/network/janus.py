@@ -158,19 +158,23 @@ class Janus:
 
     def joins(self, loop, relay, receiver):
         """Puts the sender behind a relay and a receiver into a room of each plugin."""
-        sender, hearer = port_of(relay.out), port_of(receiver.socket)
-        self.joins_sound(sender, receiver)
-        ask, user, password = self.joins_picture(sender)
-        relay.hears_others = lambda octets: relay.takes_up(answer(octets, self.picture, PASSWORD)) if is_request(
-            octets
-        ) else None
-        checks(loop, relay, user, password)
+        self.joins_sound(port_of(relay.out), receiver)
+        receiver.asks_at = self.forwards(loop, relay, port_of(relay.out), {SLOT: port_of(receiver.socket)})
+
+    def forwards(self, loop, sender, port, receivers):
+        """Forwards the picture of a sender at a port to receivers, by SSRC and port. The first asks for key frames."""
+        ask, user, password = self.joins_picture(port)
+
+        def hear(octets):
+            return sender.takes_up(answer(octets, self.picture, PASSWORD)) if is_request(octets) else None
+
+        sender.hears_others = hear
+        checks(loop, sender, user, password)
         self.waits_until_up(loop)
-        stream = {"mid": "0", "host": "127.0.0.1", "port": hearer, "pt": VIDEO_PT, "ssrc": SLOT, "rtcp_port": hearer}
-        told = ask(
-            "rtp_forward", body={"publisher_id": 1, "host": "127.0.0.1", "host_family": "ipv4", "streams": [stream]}
-        )
-        receiver.asks_at = "127.0.0.1", told["plugindata"]["data"]["forwarders"][0]["local_rtcp_port"]
+        way = {"mid": "0", "host": "127.0.0.1", "pt": VIDEO_PT}
+        to = [way | {"port": at, "ssrc": ssrc, "rtcp_port": at} for ssrc, at in receivers.items()]
+        told = ask("rtp_forward", body={"publisher_id": 1, "host": "127.0.0.1", "host_family": "ipv4", "streams": to})
+        return "127.0.0.1", told["plugindata"]["data"]["forwarders"][0]["local_rtcp_port"]
 
     def joins_sound(self, sender, receiver):
         """Puts both into the AudioBridge. A participant is given sound once it has sent some, so the receiver sends
@@ -211,9 +215,9 @@ class Janus:
             fail("janus doesn't take what the sender sends")
 
 
-def checks(loop, relay, user, password):
-    """Asks Janus to take what comes from the relay, now and again."""
-    relay.takes_up(binding_request(user, password))
-    loop.at(time.monotonic() + BETWEEN_CHECKS, checks, loop, relay, user, password)
+def checks(loop, sender, user, password):
+    """Asks Janus to take what comes from a sender, now and again."""
+    sender.takes_up(binding_request(user, password))
+    loop.at(time.monotonic() + BETWEEN_CHECKS, checks, loop, sender, user, password)
 
 

@@ -4,8 +4,10 @@ import dataclasses
 import socket
 import time
 
+from lib.network.camera import VIDEO_PT, asked_numbers
 from lib.network.path import Direction
-from lib.packets import is_rtcp
+from lib.network.seen import Seen
+from lib.packets import is_rtcp, seq_of
 from lib.serving import port_of
 
 # Octets that the sockets of a relay hold while they wait for their turn.
@@ -31,14 +33,23 @@ class Octets:
         return Octets(self.came - before.came, self.control - before.control)
 
 
-class Relay:
-    """A relay. A sender gives it datagrams, and is given the control that comes down."""
+def is_picture(octets):
+    """Whether a datagram is a packet of the picture."""
+    return len(octets) >= 12 and octets[0] >> 6 == 2 and octets[1] & 127 == VIDEO_PT
 
-    def __init__(self, loop, path, seed, goal_of, host="127.0.0.1"):
+
+class Relay:
+    """A relay. A sender gives it datagrams, and is given the control that comes down.
+
+    It knows what would be seen where its way ends, and how long the sender took to send again what it was asked for.
+    """
+
+    def __init__(self, loop, path, args, goal_of, host="127.0.0.1"):
         """A relay that sends each datagram to a goal, from an address of a host."""
         self.loop, self.goal_of, self.out, self.inner = loop, goal_of, roomy_socket(host), None
-        self.up, self.down = Direction("up", path, seed), Direction("down", path, seed)
+        self.up, self.down = Direction("up", path, args.seed), Direction("down", path, args.seed)
         self.octets, self.hears, self.hears_others = Octets(), lambda octets: None, lambda octets: None
+        self.seen, self.is_at_once, self.asked, self.waits = Seen(args.buffer), args.at_once, {}, []
         loop.reads(self.out, self.takes_down)
 
     def serves(self, hearing):
@@ -58,13 +69,28 @@ class Relay:
     def takes_up(self, octets):
         """Takes a datagram of the sender."""
         now = time.monotonic()
+        waited = self.waited(octets, now)
         seconds = self.up.seconds(octets, now)
         if seconds is not None:
-            self.loop.at(now + seconds, self.gives_up, octets)
+            self.loop.at(now + max(0.0, seconds - waited * self.is_at_once), self.gives_up, octets)
+
+    def waited(self, octets, now):
+        """How long the sender took to send a packet again since it was asked for it; none where it wasn't."""
+        if not is_picture(octets) or seq_of(octets) not in self.asked:
+            return 0.0
+        self.waits.append(now - self.asked.pop(seq_of(octets)))
+        return self.waits[-1]
 
     def gives_up(self, octets):
         self.octets.came += len(octets)
+        if is_picture(octets):
+            self.seen.takes(octets, time.monotonic())
         self.out.sendto(octets, self.goal_of(octets))
+
+    def gives_down(self, octets):
+        for seq in asked_numbers(octets)[0]:
+            self.asked.setdefault(seq, time.monotonic())
+        self.hears(octets)
 
     def takes_down(self, octets):
         """Takes a datagram of the bridge."""
@@ -75,4 +101,4 @@ class Relay:
         self.octets.control += len(octets)
         seconds = self.down.seconds(octets, now)
         if seconds is not None:
-            self.loop.at(now + seconds, self.hears, octets)
+            self.loop.at(now + seconds, self.gives_down, octets)
