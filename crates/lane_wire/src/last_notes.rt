@@ -50,8 +50,9 @@ impl LastNotes {
     pub fn note(&mut self, note: &LossNote)
         ensures { IsNoted note.now self.old self.new }
     {
-        if self.cache.put(note.out_ssrc, *note).is_err() {
-            self.lost = self.lost.saturating_add(1);
+        match self.cache.put(note.out_ssrc, *note) {
+            Ok(_) => {}
+            Err(_) => self.lost = self.lost.saturating_add(1),
         }
     }
 
