@@ -5,7 +5,7 @@ use Rattle.std.proofs.lemmas.Grind.{flat_map-append}
 use Rattle.operator_lines.specs.Operators.{Replying, Showing}
 use Rattle.operator_threads.specs.Connection.{Connection}
 use Rattle.operator_threads.specs.Deeds.{Deed, SeatedDeed, AreDeeds, AreSeatedDeeds}
-use Rattle.operator_threads.specs.Talks.{IsRoundAlone, HasWaitedFor, IsRoundSeated, HasSat, IsStep}
+use Rattle.operator_threads.specs.Talks.{IsRoundAlone, HasWaitedFor, HasHadRounds, IsRoundSeated, HasSat, IsStep}
 use Rattle.operator_threads.proofs.CallerLemmas.{deeds_both, seated_both}
 
 all_both : {X : Type 0} (P : X → Type 0) (xs ys : List X) → AllByRecursion P xs → AllByRecursion P ys → AllByRecursion P (xs ++ ys)
@@ -24,6 +24,19 @@ waited_both a b c g h = (
   all_both IsRoundAlone g.0 h.0 g.1 h.1,
   subst (λ (deeds : List Deed). AreDeeds deeds a c) (sym (flat_map-append (λ deeds. deeds) g.0 h.0))
       (deeds_both (flat_map (λ deeds. deeds) g.0) (flat_map (λ deeds. deeds) h.0) a b c g.2 h.2),
+)
+
+pub had_one : (deeds : List Deed) (a b : Connection) → IsRoundAlone deeds → AreDeeds deeds a b → HasHadRounds a b
+had_one deeds a b is done = (deeds, [], is, tt, deeds_both deeds [] a b b done refl)
+
+pub had_more : (a b c : Connection) → HasHadRounds a b → HasWaitedFor b c → HasHadRounds a c
+had_more a b c g h = (
+  g.0,
+  g.1 ++ h.0,
+  g.2,
+  all_both IsRoundAlone g.1 h.0 g.3 h.1,
+  subst (λ (deeds : List Deed). AreDeeds deeds a c) (sym (flat_map-append (λ deeds. deeds) (g.0 ∷ g.1) h.0))
+      (deeds_both (flat_map (λ deeds. deeds) (g.0 ∷ g.1)) (flat_map (λ deeds. deeds) h.0) a b c g.4 h.2),
 )
 
 pub sat_none : {D : Type 0} (replies : Replying D) (shows : Showing D) (a : D × Connection) → HasSat replies shows a a

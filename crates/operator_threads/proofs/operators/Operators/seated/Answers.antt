@@ -5,10 +5,10 @@ pub loop-init : goal.loop-init
 loop-init g c = waited_none _
 
 pub loop-preserved : goal.loop-preserved
-loop-preserved g c = waited_both _ _ _ c.loop.invariant c.greet.ensures
+loop-preserved g c = waited_both _ _ _ c.loop.invariant c.greet.ensures.waited
 
 pub returns-in-Over : goal.returns-in-Over
-returns-in-Over g c = waited_both _ _ _ c.loop.invariant c.greet.ensures
+returns-in-Over g c = waited_both _ _ _ c.loop.invariant c.greet.ensures.waited
 
 pub returns-in-Seated : goal.returns-in-Seated
-returns-in-Seated g c = waited_both _ _ _ c.loop.invariant c.greet.ensures
+returns-in-Seated g c = waited_both _ _ _ c.loop.invariant c.greet.ensures.waited
