@@ -68,7 +68,9 @@ def check(holds, text):
 
 def ended(program, words):
     """The exit status and the standard error of a program that ends by itself."""
-    done = subprocess.run([program, *words], stdin=subprocess.DEVNULL, capture_output=True, text=True, timeout=20, check=False)
+    done = subprocess.run(
+        [program, *words], stdin=subprocess.DEVNULL, capture_output=True, text=True, timeout=20, check=False
+    )
     check(done.stdout == "", f"{words}: standard output is not empty")
     return done.returncode, done.stderr
 
@@ -80,7 +82,9 @@ def check_end(program, words, status, text):
 
 def check_start(program, path):
     """Starts a bridge with good settings, and stops it."""
-    with subprocess.Popen([program, "serve", path], stdin=subprocess.DEVNULL, stderr=subprocess.PIPE, text=True) as bridge:
+    with subprocess.Popen(
+        [program, "serve", path], stdin=subprocess.DEVNULL, stderr=subprocess.PIPE, text=True
+    ) as bridge:
         listens = LISTENS.fullmatch(bridge.stderr.readline())
         check(listens and "0" not in listens.groups(), "the bridge doesn't say where it listens")
         with socket.create_connection(("127.0.0.1", int(listens[2])), timeout=20) as desk:

@@ -14,8 +14,8 @@ there. And it is 1 where a source of desk_page isn't what `make page` writes fro
 that an edit of edits/ or must-fail/ replaces doesn't stand once in its file, or where a crate that is there to check
 sorts before one of the product.
 
-A line of src/, specs/, proofs/, the page's web files and tools/ has at most 120 columns, if it is more than one text in
-quotes. `make layout` breaks those of specs/ and proofs/.
+A line of src/, the page's web files and tools/ has at most 120 columns, if it is more than one text in quotes. Those of
+specs/ and proofs/ may be longer; `make layout` breaks them.
 """
 
 import collections
@@ -234,8 +234,7 @@ def check_sources():
 
 def files_with_lines():
     """The files of which a line may not be too long."""
-    for pattern in ("src/**/*.rt", "specs/**/*.antt", "proofs/**/*.antt"):
-        yield from sorted(CRATES.glob(f"*/{pattern}"))
+    yield from sorted(CRATES.glob("*/src/**/*.rt"))
     yield from sorted(path for path in TOOLS.glob("**/*") if path.is_file() and "__pycache__" not in path.parts)
     yield from [*sorted(WEB.iterdir()), ROOT / "confbridge", ROOT / ".ci" / "run"]
 

@@ -20,7 +20,10 @@ PARTS = [
     ("script_lines.rt", "What the page makes of the desk's text, and the lines that clicks send.", [
         ("LINES", "The first part of the page's script.", "lines.js overview.js", 0),
     ]),
-    ("script_past.rt", "What undo and redo would take.", [("PAST", "The second part of the page's script.", "past.js", 0)]),
+    (
+        "script_past.rt", "What undo and redo would take.",
+        [("PAST", "The second part of the page's script.", "past.js", 0)],
+    ),
     ("script_view.rt", "How the page shows the desk, and what is done at it.", [
         ("VIEW", "The rest of the page's script.", "view.js page.js hands.js", 0),
     ]),
