@@ -5,17 +5,20 @@ static long lost_behind(void)
     return lost_at(fan_at, RECEIVERS + 1) + lost_at(room_at, listening);
 }
 
-/* What a process was given in a measurement: its threads' processor time in seconds, and what of all threads' was in
- * the system. */
+/* What a process has been given: its threads' processor time and that of all together in seconds; and by the system's
+ * ticks, which are coarse, all together and how much of it in the system. */
 struct work {
     struct threads threads;
-    double all, within;
+    double all, ticks, within;
 };
 
 static void work_now(pid_t pid, struct work *now)
 {
-    now->all = processor(pid, &now->within);
+    now->ticks = processor(pid, &now->within);
+    now->all = 0;
     threads_now(pid, &now->threads);
+    for (int i = 0; i < now->threads.count; i++)
+        now->all += now->threads.had[i];
 }
 
 /* The seconds of the busiest thread but the first, which in a bridge is the front. */
@@ -44,8 +47,8 @@ static double measured(const char *what, const struct sockaddr_in *to, pid_t pid
     machine(&all_after, &taken_after);
     work_now(pid, &after);
     double spent = after.all - before.all, count = with_fan ? fan_got + room_got - had : seconds * 50;
-    printf("%s: %.2f s of processor time, %.0f %% of it in the system, %ld packets came of %.0f, %.2f us a %s\n", what,
-           spent, 100 * (after.within - before.within) / spent, fan_got + room_got - had,
+    printf("%s: %.3f s of processor time, %.0f %% of it in the system, %ld packets came of %.0f, %.2f us a %s\n", what,
+           spent, 100 * (after.within - before.within) / (after.ticks - before.ticks), fan_got + room_got - had,
            with_fan ? (double)pictures_sent * RECEIVERS : seconds * 50 * listening, spent / count * 1e6,
            with_fan ? "packet out" : "tick");
     printf("%s: %.0f packets/s came, %ld packets sent, %ld lost before it, %ld behind it, %ld steps of 4 ms left out, "

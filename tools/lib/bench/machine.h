@@ -49,23 +49,20 @@ struct threads {
 
 static void threads_now(pid_t pid, struct threads *now)
 {
-    char path[64], text[1024], *at;
-    unsigned long user, sys;
+    char path[64], name[384];
+    unsigned long long nanoseconds;
     snprintf(path, sizeof path, "/proc/%d/task", pid);
     DIR *folder = opendir(path);
     if (!folder)
         die("the process is gone");
     now->count = 0;
     for (struct dirent *one; (one = readdir(folder)) && now->count < MOST_THREADS;) {
-        char name[384];
-        snprintf(name, sizeof name, "%s/%s/stat", path, one->d_name);
+        snprintf(name, sizeof name, "%s/%s/schedstat", path, one->d_name);
         FILE *file = one->d_name[0] == '.' ? 0 : fopen(name, "r");
         if (!file)
             continue;
-        if (fgets(text, sizeof text, file) && (at = strrchr(text, ')'))) {
-            sscanf(at + 2, "%*c %*d %*d %*d %*d %*d %*u %*u %*u %*u %*u %lu %lu", &user, &sys);
-            now->had[now->count++] = (double)(user + sys) / sysconf(_SC_CLK_TCK);
-        }
+        if (fscanf(file, "%llu", &nanoseconds) == 1)
+            now->had[now->count++] = nanoseconds * 1e-9;
         fclose(file);
     }
     closedir(folder);

@@ -15,10 +15,10 @@ A floor is a program that makes the same socket calls and no more. LOAD is one o
 
 `fan` and `room` run the bridge, then a floor in C, then one in Python, COUNT seconds each; `fan` also Janus, where that
 is installed: its VideoRoom takes the source's packets by ICE without encryption, and forwards them to the receivers as
-plain RTP. Processor time is the user and system time of /proc/PID/stat. The output also says where packets were lost:
-before the bridge (its own socket was full) or behind it (a member's was); and whether this tool or the machine stood
-still: steps of 4 ms that it left out, and the share of processor time that the host took away. The status is 0 where
-the bridge answered to its end.
+plain RTP. Processor time is that of all threads, by /proc/PID/task/*/schedstat. The output also says where packets were
+lost: before the bridge (its own socket was full) or behind it (a member's was); and whether this tool or the machine
+stood still: steps of 4 ms that it left out, and the share of processor time that the host took away. The status is 0
+where the bridge answered to its end.
 """
 
 import os
